@@ -1,0 +1,4 @@
+pub mod Opened
+pub mod Questions
+pub mod Tried
+pub mod Edges

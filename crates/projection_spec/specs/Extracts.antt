@@ -1,0 +1,4 @@
+pub mod Cut
+pub mod Fields
+pub mod Reading
+pub mod Conditions

@@ -1,0 +1,4 @@
+pub mod Inference
+pub mod Extracts
+pub mod Library
+pub mod Cases

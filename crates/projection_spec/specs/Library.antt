@@ -1,0 +1,5 @@
+pub mod Lent
+pub mod Records
+pub mod Hosts
+pub mod Listing
+pub mod Conditions

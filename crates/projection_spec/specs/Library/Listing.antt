@@ -1,0 +1,98 @@
+-- The whole of `listing`: from three files' bytes, a missing one as empty, to the bytes printed. Assumes nothing.
+use mathlib.Core.Bool.{Bool, true, false, cond, not, _&&_, _||_}
+use mathlib.Core.List.{List, [], _∷_, _++_, map}
+use mathlib.Core.Option.{Option, none, some}
+use Prim.Native.Nat.{ℕ, zero, suc, _+_, _/_, _%_}
+use lib.Dec.{eqb, ltb}
+use lib.ListN.{length}
+use Rattle.projection_spec.specs.Extracts.Cut.{cut}
+use Rattle.journal_spec.specs.Reading.{readJournal}
+use Rattle.projection_spec.specs.Library.Lent.{tooSmall}
+use Rattle.path_spec.specs.Paths.{Path}
+use Rattle.path_spec.specs.Reading.{readBundle}
+use Rattle.path_spec.specs.Selection.{select}
+use Rattle.schema_spec.specs.Names.{Name, element, text}
+use Rattle.schema_spec.specs.Reading.{readSchema}
+use Rattle.schema_spec.specs.Schemas.{Schema, nameAt}
+use Rattle.schema_spec.specs.Types.{typesOf}
+use Rattle.table_spec.specs.Nodes.{Node, top, under, numberOf, nodesOf}
+use Rattle.table_spec.specs.Rows.{Row}
+use Rattle.text_spec.specs.Limits.{listingJournalBytes, listingRows}
+use Rattle.text_spec.specs.Lists.{bytes, anyOf, filterBy, gather}
+use Rattle.text_spec.specs.Refusals.{Refusal, Outcome, accepted, refused, judged, andThen, numberOf as refusalNumber, at, given, tooFewCells}
+use Rattle.projection_spec.specs.Inference.Needed.{needed}
+
+-- a number in decimal; 20 digits are enough for 64 bits
+abbrev pub decimalIn : ℕ → ℕ → List ℕ
+decimalIn zero n = []
+decimalIn (suc digits) n =
+    let high = decimalIn digits (n / 10) in
+    cond (ltb n 10) ((48 + n) ∷ []) (high ++ ((48 + (n % 10)) ∷ []))
+
+abbrev pub decimal : ℕ → List ℕ
+decimal n = decimalIn 20 n
+
+abbrev pub lineFeed : List ℕ
+lineFeed = bytes "\n"
+
+-- what is listed: the schema, the nodes of the journal, the rows kept, and the numbers that each path selects
+pub record Listed : Type 0 where
+  pub schema : Schema
+  pub nodes : List Node
+  pub kept : ℕ
+  pub selections : List (List ℕ)
+
+abbrev pub listed : Schema → List (Path ℕ) → List ℕ → List Row → Listed
+listed s ps journal rows =
+    let doc = nodesOf journal rows in
+    record { schema = s; nodes = doc; kept = length (cut (needed (typesOf s) ps) rows); selections = map (select doc) ps }
+
+-- "It lends 4,096 rows for the whole journal, reads at most 32,768 bytes of journal"
+unfoldable pub judgeFiles : List ℕ → List ℕ → List ℕ → Outcome Listed
+judgeFiles schema bundle journal =
+    andThen (readSchema schema) (λ s.
+    andThen (readBundle s bundle) (λ ps.
+    andThen (readJournal listingJournalBytes s journal) (λ rows.
+    judged (given (tooSmall listingRows rows) (at tooFewCells 0)) (listed s ps journal rows))))
+
+abbrev pub isIn : ℕ → List ℕ → Bool
+isIn k ks = anyOf (eqb k) ks
+
+-- the nodes that some path selects, each once, in document order
+abbrev pub selectedNodes : Listed → List Node
+selectedNodes l = filterBy (λ y. anyOf (isIn (numberOf y)) (l .selections)) (l .nodes)
+
+-- "place in the bundle (from 1) of the first path that selects it"
+abbrev pub firstSelecting : ℕ → ℕ → List (List ℕ) → ℕ
+firstSelecting i k [] = i
+firstSelecting i k (ks ∷ kss) = cond (isIn k ks) i (firstSelecting (suc i) k kss)
+
+-- "the chain of tags from the root down to it, a text ending in `text()`"
+abbrev pub tag : Schema → Name → List ℕ
+tag s (element e) = nameAt s e
+tag s (text e) = bytes "text()"
+
+abbrev pub chain : Schema → Node → List ℕ
+chain s (top k n) = bytes "/" ++ tag s n
+chain s (under k n w p) = chain s p ++ (bytes "/" ++ tag s n)
+
+-- "number, place in the bundle .., and the chain"
+unfoldable pub lineOf : Listed → Node → List ℕ
+lineOf l y =
+    decimal (numberOf y) ++ (bytes " " ++ (decimal (firstSelecting 1 (numberOf y) (l .selections)) ++ (bytes " " ++ (chain (l .schema) y ++ lineFeed))))
+
+-- "a header: nodes selected, rows kept, rows in all"
+unfoldable pub headerOf : Listed → List ℕ
+headerOf l =
+    bytes "selected " ++ (decimal (length (selectedNodes l)) ++ (bytes " kept " ++ (decimal (l .kept) ++ (bytes " of " ++ (decimal (length (l .nodes)) ++ lineFeed)))))
+
+-- "the first file refused prints `refused N at P` alone"
+unfoldable pub refusedLine : Refusal → List ℕ
+refusedLine f = bytes "refused " ++ (decimal (refusalNumber (f .reason)) ++ (bytes " at " ++ (decimal (f .place) ++ lineFeed)))
+
+abbrev pub printed : Outcome Listed → List ℕ
+printed (refused f) = refusedLine f
+printed (accepted l) = headerOf l ++ gather (lineOf l) (selectedNodes l)
+
+unfoldable pub listing : List ℕ → List ℕ → List ℕ → List ℕ
+listing schema bundle journal = printed (judgeFiles schema bundle journal)

@@ -1,0 +1,11 @@
+pub mod Models
+pub mod Declarations
+pub mod Grammar
+pub mod Machine
+pub mod Schemas
+pub mod Names
+pub mod Closure
+pub mod Types
+pub mod Reading
+pub mod Conditions
+pub mod Records

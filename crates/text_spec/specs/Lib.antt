@@ -1,0 +1,5 @@
+pub mod Lists
+pub mod Bytes
+pub mod Limits
+pub mod Refusals
+pub mod Texts

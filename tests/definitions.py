@@ -1,0 +1,189 @@
+#!/usr/bin/env python3
+"""Evaluates the definitions of crates/*_spec on the cases of tests/vectors.
+
+Each case becomes a theorem `definition(texts) = outcome`, closed by computation alone, in a scratch crate outside the repository that
+stands over a copy of the definitions. A case that disagrees is an error of the prover's, and fails this test.
+"""
+import json
+import os
+import shutil
+import subprocess
+import sys
+import tempfile
+
+HERE = os.path.dirname(os.path.abspath(__file__))
+CRATES = os.path.join(HERE, "..", "crates")
+SPECS = ["text_spec", "schema_spec", "table_spec", "journal_spec", "path_spec", "projection_spec"]
+JOURNAL_LIMIT = 1048576
+
+# The prover's limit of steps for one declaration does not suffice for the nodes of 4,096 rows.
+NOT_EVALUATED = {"listing-4096-rows"}
+
+HEAD = """-- Written by tests/definitions.py.
+use mathlib.Core.Bool.{cond, true}
+use mathlib.Core.List.{List, [], _∷_, map}
+use mathlib.Core.Path.{_≡_, refl}
+use Prim.Native.Nat.{ℕ}
+use lib.Dec.{ltb}
+use lib.ListN.{length}
+use Rattle.journal_spec.specs.Reading.{readJournal}
+use Rattle.path_spec.specs.Reading.{readBundle}
+use Rattle.path_spec.specs.Selection.{selectRows}
+use Rattle.projection_spec.specs.Cases.Opened.{computing}
+use Rattle.projection_spec.specs.Extracts.Cut.{cut}
+use Rattle.projection_spec.specs.Extracts.Reading.{readExtract}
+use Rattle.projection_spec.specs.Inference.Needed.{needed, neededByPath, neededWord}
+use Rattle.projection_spec.specs.Library.Hosts.{extractOf}
+use Rattle.projection_spec.specs.Library.Listing.{listing}
+use Rattle.projection_spec.specs.Library.Records.{passesTable}
+use Rattle.schema_spec.specs.Names.{codeOf, wordOfSet}
+use Rattle.schema_spec.specs.Reading.{readSchema}
+use Rattle.schema_spec.specs.Records.{schemaIn}
+use Rattle.schema_spec.specs.Types.{typesOf}
+use Rattle.table_spec.specs.Rows.{Row}
+use Rattle.text_spec.specs.Lists.{bytes}
+use Rattle.text_spec.specs.Refusals.{Outcome, accepted, refused, andThen, numberOf, at, badRecord, tooFewCells}
+
+data Seen : Type 0 where
+  ok : List (List ℕ) → Seen
+  no : ℕ → ℕ → Seen
+
+abbrev seen : {A : Type 0} → (A → List (List ℕ)) → Outcome A → Seen
+seen f (accepted a) = ok (f a)
+seen f (refused r) = no (numberOf (r .reason)) (r .place)
+
+abbrev counted : {A : Type 0} → List A → List (List ℕ)
+counted l = (length l ∷ []) ∷ []
+
+abbrev row : Row → List ℕ
+row r = r .number ∷ codeOf (r .name) ∷ r .parent ∷ r .start ∷ r .length ∷ []
+
+abbrev rowButStart : Row → List ℕ
+rowButStart r = r .number ∷ codeOf (r .name) ∷ r .parent ∷ r .length ∷ []
+
+abbrev lent : ℕ → List Row → Outcome (List Row)
+lent n rows = cond (ltb n (length rows)) (refused (at tooFewCells 0)) (accepted rows)
+
+abbrev words : List ℕ → List ℕ → Outcome (List (List ℕ))
+words s b =
+    andThen (readSchema s) (λ e.
+    andThen (readBundle e b) (λ ps.
+    accepted ((neededWord (typesOf e) ps ∷ map (λ p. wordOfSet (typesOf e .names) (neededByPath (typesOf e) p)) ps) ∷ [])))
+
+abbrev selections : List ℕ → List ℕ → List ℕ → Outcome (List (List ℕ))
+selections s b j =
+    andThen (readSchema s) (λ e. andThen (readBundle e b) (λ ps. andThen (readJournal JOURNAL_LIMIT e j) (λ rows. accepted (map (selectRows j rows) ps))))
+
+abbrev extracts : List ℕ → List ℕ → List ℕ → Outcome (List (List ℕ))
+extracts s b j =
+    andThen (readSchema s) (λ e.
+    andThen (readBundle e b) (λ ps.
+    andThen (readJournal JOURNAL_LIMIT e j) (λ rows.
+    accepted ((length (cut (needed (typesOf e) ps) rows) ∷ []) ∷ extractOf e ps j rows ∷ []))))
+
+abbrev same : {A : Type 0} → A → A
+same a = a
+""".replace("JOURNAL_LIMIT", str(JOURNAL_LIMIT))
+
+
+def text(s):
+    """A text as a quoted literal of bytes."""
+    def escaped(ch):
+        if ch in '"\\':
+            return "\\" + ch
+        return ch if " " <= ch <= "~" else "\\u{%x}" % ord(ch)
+    return '(bytes "%s")' % "".join(map(escaped, s))
+
+
+def numbers(values):
+    return "(%s[])" % "".join("%d ∷ " % v for v in values)
+
+
+def lists(rows):
+    return "ok (%s[])" % "".join(numbers(r) + " ∷ " for r in rows)
+
+
+def decimals(lines):
+    return [[int(word) for word in line.split()] for line in lines]
+
+
+def expected(case):
+    """What the case gives, as a value of Seen."""
+    does, gives = case["does"], case["gives"]
+    lines = gives.split("\n")
+    if does == "listing":
+        return "ok (%s ∷ [])" % text(gives)
+    if lines[0].startswith("refused"):
+        words = lines[0].split()
+        return "no %s %s" % (words[1], words[3])
+    if does in ("schema", "bundle", "table"):
+        return lists([[int(lines[0].split()[1])]])
+    if does in ("journal", "read-extract"):
+        return lists(decimals(filter(None, lines[1:])))
+    if does == "needed":
+        return lists([[int(line, 16) for line in lines if line]])
+    if does == "select":
+        return lists(decimals(lines[:-1]))
+    head, rest = gives.split("\n", 1)
+    return lists([[int(head.split()[1])], [ord(ch) for ch in rest]])
+
+
+def asked(case):
+    """The definition applied to the case's texts, as a value of Seen."""
+    does, texts, limits = case["does"], case["texts"], case["limits"]
+    t = [text(s) for s in texts]
+    if does == "schema":
+        return "seen counted (readSchema %s)" % t[0]
+    if does == "bundle":
+        return "seen counted (readBundle (schemaIn %s) %s)" % (t[0], t[1])
+    if does == "journal":
+        limit = limits[0] if limits else JOURNAL_LIMIT
+        rows = limits[1] if len(limits) > 1 else JOURNAL_LIMIT
+        return "seen (map row) (andThen (readJournal %d (schemaIn %s) %s) (lent %d))" % (limit, t[0], t[1], rows)
+    if does == "needed":
+        return "seen same (words %s %s)" % (t[0], t[1])
+    if does == "select":
+        return "seen same (selections %s %s %s)" % tuple(t)
+    if does == "extract":
+        return "seen same (extracts %s %s %s)" % tuple(t)
+    if does == "read-extract":
+        return "seen (map rowButStart) (readExtract (typesOf (schemaIn %s)) %s)" % (t[0], t[1])
+    if does == "listing":
+        return "ok (listing %s %s %s ∷ [])" % tuple(t)
+    rows = decimals(filter(None, texts[1].split("\n")))
+    columns = [numbers([r[i] for r in rows]) for i in range(5)]
+    return (
+        "cond (passesTable (schemaIn %s) (record { numbers = %s; names = %s; parents = %s; starts = %s; lengths = %s }) %d %s) (ok ((%d ∷ []) ∷ [])) (no 1 0)"
+        % (t[0], *columns, len(rows), t[2], len(rows))
+    )
+
+
+def main():
+    with open(os.path.join(HERE, "vectors", "edge.jsonl")) as lines:
+        cases = [json.loads(line) for line in lines]
+    chosen = [c for c in cases if c["case"] not in NOT_EVALUATED]
+    body = [HEAD]
+    for i, case in enumerate(chosen):
+        body += ["-- %s" % ascii(case["case"]), "case-%d : %s ≡ %s" % (i, asked(case), expected(case)), "unfolding computing neededWord wordOfSet", "case-%d = refl" % i, ""]
+    with tempfile.TemporaryDirectory() as scratch:
+        for name in SPECS:
+            shutil.copytree(os.path.join(CRATES, name), os.path.join(scratch, "crates", name), ignore=shutil.ignore_patterns("must-fail"))
+        crate = os.path.join(scratch, "crates", "vectors")
+        os.makedirs(os.path.join(crate, "src"))
+        os.makedirs(os.path.join(crate, "specs"))
+        files = {"src/lib.rt": "// Theorems alone.\n", "specs/Lib.antt": "pub mod Vectors\n", "specs/Vectors.antt": "\n".join(body)}
+        for path, content in files.items():
+            with open(os.path.join(crate, path), "w") as out:
+                out.write(content)
+        with open(os.path.join(CRATES, "..", "crates.txt")) as listed:
+            lines = [line for line in listed if line.split(":")[0] in SPECS]
+        with open(os.path.join(scratch, "crates.txt"), "w") as out:
+            out.write("".join(lines) + "vectors: %s\n" % " ".join(SPECS))
+        run = subprocess.run(["rt", "check"], cwd=scratch, capture_output=True, text=True)
+    if run.returncode != 0:
+        sys.stdout.write(run.stdout + run.stderr)
+        sys.exit("definitions: some case of tests/vectors disagrees")
+    print("definitions: %d of %d cases agree, %d not evaluated" % (len(chosen), len(cases), len(cases) - len(chosen)))
+
+
+main()
