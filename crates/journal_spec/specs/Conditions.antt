@@ -46,9 +46,14 @@ pub record NestedBeginning (ts : List Token) : Type 0 where
   pub content : Forest
   pub nested : Nested (ts ++ more) place name content
 
--- no tag of these opens depth 65
+-- a tag that begins an element of this name
+pub data Begins : Token → List ℕ → Type 0 where
+  by-start-tag : {n a : List ℕ} → Begins (startTag n a) n
+  by-empty-tag : {n a : List ℕ} → Begins (emptyTag n a) n
+
+-- no tag of these opens depth 65; an empty tag opens the depth of its element too
 abbrev pub Shallow : List Token → Type 0
-Shallow ts = (us vs : List Token) → ts ≡ us ++ vs → openAfter 0 us ≤ maxDepth
+Shallow ts = (us vs : List Token) (t : Token) (n : List ℕ) → ts ≡ us ++ (t ∷ vs) → Begins t n → openAfter 0 us < maxDepth
 
 -- where a token offends: a tag at its `<`, character data at its first byte that is not a blank
 pub data OffendsAt : Token → ℕ → Type 0 where
@@ -63,11 +68,6 @@ pub data Misnested (text : List ℕ) : ℕ → Type 0 where
       → (NestedBeginning (us ++ (t ∷ [])) → ⊥) → OffendsAt t j → Misnested text (length (spell us) + j)
   ends-early : {ts : List Token} → Tokens text ts → NestedBeginning ts → Shallow ts
       → ((k : ℕ) (n : List ℕ) (c : Forest) → Nested ts k n c → ⊥) → Misnested text (length text)
-
--- a tag that begins an element of this name
-pub data Begins : Token → List ℕ → Type 0 where
-  by-start-tag : {n a : List ℕ} → Begins (startTag n a) n
-  by-empty-tag : {n a : List ℕ} → Begins (emptyTag n a) n
 
 -- 13. "Depth 65 is reached (its start tag)."
 pub data TooDeep (text : List ℕ) : ℕ → Type 0 where

@@ -1,0 +1,145 @@
+-- Laws of lists as finite sets: tests over all elements, filters, joined lists, equal lists. Assumes nothing.
+use mathlib.Core.Bool.{Bool, true, false, cond, _&&_, _||_}
+use mathlib.Core.List.{List, [], _∷_, _++_, map, List·Memᴰ as In, List·Memᴰ·head as here, List·Memᴰ·tail as there, List·Memᴰ·append-cases as append-cases, Memᴰ·append-left as append-left, Memᴰ·append-right as append-right}
+use mathlib.Core.Logic.{_⊎_, inl, inr, ⊎-elim}
+use mathlib.Core.Path.{_≡_, refl, sym, ap, subst, _∙_}
+use Prim.Native.Nat.{ℕ}
+use lib.Dec.{T, eqb, eqb→eq, eqb-refl}
+use Rattle.text_laws.specs.Tests.{or-left, or-right, or-cases, and-intro, and-cases}
+use Rattle.text_spec.specs.Lists.{anyOf, allOf, filterBy, gather, sameBy, sameBytes, isEmpty}
+
+module _ {A : Type 0} where
+  pub any-in : (f : A → Bool) {xs : List A} {y : A} → In y xs → T (f y) → T (anyOf f xs)
+  any-in f (here {x = x} {xs = xs} e) t = or-left (f x) (anyOf f xs) (subst (λ (z : A). T (f z)) e t)
+  any-in f (there {x = x} {xs = xs} i) t = or-right (f x) (anyOf f xs) (any-in f i t)
+
+  pub in-any : (f : A → Bool) (xs : List A) → T (anyOf f xs) → (y : A) × In y xs × T (f y)
+  in-any f [] t = absurd t
+  in-any f (x ∷ xs) t =
+      ⊎-elim (λ h. (x, here refl, h))
+      (λ h.
+      let r = in-any f xs h in
+      (r .0, there (r .1), r .2)) (or-cases (f x) (anyOf f xs) t)
+
+  pub all-in : (f : A → Bool) {xs : List A} {y : A} → T (allOf f xs) → In y xs → T (f y)
+  all-in f t (here {x = x} {xs = xs} e) = subst (λ (z : A). T (f z)) (sym e) (and-cases (f x) (allOf f xs) t .0)
+  all-in f t (there {x = x} {xs = xs} i) = all-in f (and-cases (f x) (allOf f xs) t .1) i
+
+  pub in-all : (f : A → Bool) (xs : List A) → ((y : A) → In y xs → T (f y)) → T (allOf f xs)
+  in-all f [] h = tt
+  in-all f (x ∷ xs) h = and-intro (f x) (allOf f xs) (h x (here refl)) (in-all f xs (λ y i. h y (there i)))
+
+  chosen : (b : Bool) (x y : A) (r : List A) → T b → y ≡ x → In y (cond b (x ∷ r) r)
+  chosen true x y r t e = here e
+  chosen false x y r t e = absurd t
+
+  passed-over : (b : Bool) (x y : A) (r : List A) → In y r → In y (cond b (x ∷ r) r)
+  passed-over true x y r i = there i
+  passed-over false x y r i = i
+
+  chosen-or-later : (b : Bool) (x y : A) (r : List A) → In y (cond b (x ∷ r) r) → (T b × (y ≡ x)) ⊎ In y r
+  chosen-or-later true x y r (here e) = inl (tt, e)
+  chosen-or-later true x y r (there i) = inr i
+  chosen-or-later false x y r i = inr i
+
+  pub in-filter : (f : A → Bool) {xs : List A} {y : A} → In y xs → T (f y) → In y (filterBy f xs)
+  in-filter f {y} (here {x = x} {xs = xs} e) t = chosen (f x) x y (filterBy f xs) (subst (λ (z : A). T (f z)) e t) e
+  in-filter f {y} (there {x = x} {xs = xs} i) t = passed-over (f x) x y (filterBy f xs) (in-filter f i t)
+
+  pub filter-in : (f : A → Bool) (xs : List A) {y : A} → In y (filterBy f xs) → In y xs × T (f y)
+  filter-in f [] {y} i = elim i [ ]
+  filter-in f (x ∷ xs) {y} i =
+      ⊎-elim (λ h. (here (h .1), subst (λ (z : A). T (f z)) (sym (h .1)) (h .0)))
+      (λ j.
+      let r = filter-in f xs j in
+      (there (r .0), r .1)) (chosen-or-later (f x) x y (filterBy f xs) i)
+
+  -- tests that agree on the elements of a list filter it alike
+  pub filter-cong : (f g : A → Bool) (xs : List A) → ((y : A) → In y xs → f y ≡ g y) → filterBy f xs ≡ filterBy g xs
+  filter-cong f g [] h = refl
+  filter-cong f g (x ∷ xs) h =
+      ap (λ (b : Bool). cond b (x ∷ filterBy f xs) (filterBy f xs)) (h x (here refl))
+      ∙ ap (λ (r : List A). cond (g x) (x ∷ r) r) (filter-cong f g xs (λ y i. h y (there i)))
+
+  -- one filter is two, one after the other, where a test passes exactly if both do
+  pub filter-filter : (f g k : A → Bool) (xs : List A) → ((y : A) → In y xs → T (f y) → T (k y) × T (g y)) → ((y : A) → In y xs → T (k y) → T (g y) → T (f y))
+      → filterBy f xs ≡ filterBy g (filterBy k xs)
+  filter-filter f g k [] p q = refl
+  filter-filter f g k (x ∷ xs) p q =
+      pick (f x) (k x) (g x) refl (p x (here refl)) (q x (here refl)) (filter-filter f g k xs (λ y i. p y (there i)) (λ y i. q y (there i)))
+    where
+      pick : (a b c : Bool) → g x ≡ c → (T a → T b × T c) → (T b → T c → T a) → filterBy f xs ≡ filterBy g (filterBy k xs)
+          → cond a (x ∷ filterBy f xs) (filterBy f xs) ≡ filterBy g (cond b (x ∷ filterBy k xs) (filterBy k xs))
+      pick true true true e u v h = rw (e, filterBy) (ap {B = List A} (λ l. x ∷ l) h)
+      pick true true false e u v h = absurd (u tt .1)
+      pick true false c e u v h = absurd (u tt .0)
+      pick false true true e u v h = absurd (v tt tt)
+      pick false true false e u v h = rw (e, filterBy) h
+      pick false false c e u v h = h
+
+  pub filter-append : (f : A → Bool) (xs ys : List A) → filterBy f (xs ++ ys) ≡ filterBy f xs ++ filterBy f ys
+  filter-append f [] ys = refl
+  filter-append f (x ∷ xs) ys = pick (f x) (filter-append f xs ys)
+    where
+      pick : (b : Bool) → filterBy f (xs ++ ys) ≡ filterBy f xs ++ filterBy f ys
+          → cond b (x ∷ filterBy f (xs ++ ys)) (filterBy f (xs ++ ys)) ≡ cond b (x ∷ filterBy f xs) (filterBy f xs) ++ filterBy f ys
+      pick true h = ap {B = List A} (λ l. x ∷ l) h
+      pick false h = h
+
+  pub empty-of : {xs : List A} → T (isEmpty xs) → xs ≡ []
+  empty-of {xs = []} t = refl
+  empty-of {xs = x ∷ xs} t = absurd t
+
+  pub member-fills : {xs : List A} {y : A} → In y xs → T (isEmpty xs) → ⊥
+  member-fills (here e) t = t
+  member-fills (there i) t = t
+
+  -- two lists that join to nothing are empty
+  pub append-empty : (xs ys : List A) → xs ++ ys ≡ [] → (xs ≡ []) × (ys ≡ [])
+  append-empty [] ys e = (refl, e)
+  append-empty (x ∷ xs) ys e =
+      let z : _≡_ {A = Bool} (isEmpty {A = A} (x ∷ (xs ++ ys))) (isEmpty {A = A} []) = ap isEmpty e in
+      absurd (subst T (sym z) tt)
+
+  -- a test for elements that tells equal ones tells equal lists
+  pub same-lists : (same : A → A → Bool) → ((x y : A) → T (same x y) → x ≡ y) → (xs ys : List A) → T (sameBy same xs ys) → xs ≡ ys
+  same-lists same h [] [] t = refl
+  same-lists same h [] (y ∷ ys) t = absurd t
+  same-lists same h (x ∷ xs) [] t = absurd t
+  same-lists same h (x ∷ xs) (y ∷ ys) t =
+      let c = and-cases (same x y) (sameBy same xs ys) t in
+      ap (λ (z : A). z ∷ xs) (h x y (c .0)) ∙ ap (λ (l : List A). y ∷ l) (same-lists same h xs ys (c .1))
+
+  pub same-itself : (same : A → A → Bool) → ((x : A) → T (same x x)) → (xs : List A) → T (sameBy same xs xs)
+  same-itself same h [] = tt
+  same-itself same h (x ∷ xs) = and-intro (same x x) (sameBy same xs xs) (h x) (same-itself same h xs)
+
+pub bytes-equal : (u v : List ℕ) → T (sameBytes u v) → u ≡ v
+bytes-equal u v t = same-lists eqb eqb→eq u v t
+
+pub bytes-same : (u : List ℕ) → T (sameBytes u u)
+bytes-same u = same-itself eqb eqb-refl u
+
+module _ {A B : Type 0} where
+  pub in-gather : (f : A → List B) {xs : List A} {x : A} {y : B} → In x xs → In y (f x) → In y (gather f xs)
+  in-gather f {y} (here {xs = xs} e) j = append-left (gather f xs) (subst (λ (z : A). In y (f z)) e j)
+  in-gather f (there {x = x} i) j = append-right (f x) (in-gather f i j)
+
+  pub gather-in : (f : A → List B) (xs : List A) {y : B} → In y (gather f xs) → (x : A) × In x xs × In y (f x)
+  gather-in f [] {y} i = elim i [ ]
+  gather-in f (x ∷ xs) {y} i =
+      ⊎-elim (λ j. (x, here refl, j))
+      (λ j.
+      let r = gather-in f xs j in
+      (r .0, there (r .1), r .2)) (append-cases (f x) i)
+
+  pub in-map : (f : A → B) {xs : List A} {x : A} → In x xs → In (f x) (map f xs)
+  in-map f (here e) = here (ap f e)
+  in-map f (there i) = there (in-map f i)
+
+  pub map-in : (f : A → B) (xs : List A) {y : B} → In y (map f xs) → (x : A) × In x xs × (y ≡ f x)
+  map-in f [] {y} i = elim i [ ]
+  map-in f (x ∷ xs) {y} (here e) = (x, here refl, e)
+  map-in f (x ∷ xs) {y} (there i) =
+      let r = map-in f xs i in
+      (r .0, there (r .1), r .2)

@@ -1,0 +1,30 @@
+-- Laws of the order of refusals: the first of what was found, and what an accepted text was free of. Assumes nothing.
+use mathlib.Core.Bool.{Bool, true, false, cond, _&&_, _||_}
+use mathlib.Core.List.{List, [], _∷_, _++_, map, List·Memᴰ as In, List·Memᴰ·head as here, List·Memᴰ·tail as there}
+use mathlib.Core.Logic.{_⊎_, inl, inr, ⊎-elim}
+use mathlib.Core.Option.{Option, none, some}
+use mathlib.Core.Path.{_≡_, refl, sym, ap, subst, _∙_}
+use Prim.Native.Nat.{ℕ, _≤_, _<_}
+use native.Mathlib.Omega.{arith}
+use lib.Dec.{T, eqb, ltb, eqb→eq, ltb→lt, nltb→le}
+use Rattle.text_laws.specs.Tests.{or-left, or-right, or-cases, and-intro, and-cases, decided, not-intro}
+use Rattle.text_spec.specs.Refusals.{Reason, Refusal, at, allAt, given, numberOf, before, firstFrom, firstOf, Outcome, accepted, refused, judged, byFirst}
+
+-- what an accepted text gives, and that nothing was found against it
+pub judged-accepted : {A : Type 0} (fs : List Refusal) (a b : A) → judged fs a ≡ accepted b → (fs ≡ []) × (a ≡ b)
+unfolding firstOf
+judged-accepted [] a b e = (refl, cc)
+judged-accepted (f ∷ fs) a b e =
+    let z : _≡_ {A = ℕ} 0 1 = cc in
+    absurd (omega arith)
+
+pub judged-free : {A : Type 0} (fs : List Refusal) (a : A) → fs ≡ [] → judged fs a ≡ accepted a
+unfolding firstOf
+judged-free fs a e = rw e
+
+-- a test found nothing only if it failed
+pub given-free : (b : Bool) (f : Refusal) → given b f ≡ [] → T b → ⊥
+given-free true f e t =
+    let z : _≡_ {A = ℕ} 0 1 = cc in
+    omega arith
+given-free false f e t = t
