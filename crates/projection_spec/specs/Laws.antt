@@ -1,0 +1,3 @@
+pub mod Documents
+pub mod Soundness
+pub mod Agreement
