@@ -66,7 +66,7 @@ not-text-from (x ∷ s) k e (here q) =
 not-text-from (x ∷ s) k e (there i) = not-text-from s (suc k) e i
 
 -- an element with character data is one of the schema's
-pcdata-declared : (s : Schema) (i : ℕ) → T (isPcdata (contentAt s i)) → i < length s
+pub pcdata-declared : (s : Schema) (i : ℕ) → T (isPcdata (contentAt s i)) → i < length s
 pcdata-declared [] i t = absurd t
 pcdata-declared (e ∷ s) zero t = omega arith
 pcdata-declared (e ∷ s) (suc i) t =
