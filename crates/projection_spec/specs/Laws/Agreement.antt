@@ -5,9 +5,10 @@ use mathlib.Core.Bool.{Bool, true, false}
 use mathlib.Core.List.{List, [], _∷_, _++_, List·Memᴰ as In, List·Memᴰ·head as here, List·Memᴰ·tail as there, Memᴰ·append-left as append-left, Memᴰ·append-right as append-right}
 use mathlib.Core.Path.{_≡_, refl, sym, ap, subst, _∙_}
 use Prim.Native.Nat.{ℕ}
-use lib.Dec.{T, eqb-refl}
-use Rattle.path_spec.specs.Paths.{Axis, WrittenAxis, along, NodeTest, named, anyNode, anyText, WrittenStep, Step, expandStep, expand}
-use Rattle.path_spec.specs.Selection.{NodeSet, Passes, passes-name, passes-node, passes-text, passes, OnAxis, OnWritten, on-along, StepSet, PathSet}
+use lib.Dec.{T}
+use Rattle.path_laws.specs.Selection.{test-passes}
+use Rattle.path_spec.specs.Paths.{Axis, WrittenAxis, along, NodeTest, WrittenStep, Step, expandStep, expand}
+use Rattle.path_spec.specs.Selection.{NodeSet, Passes, passes, OnAxis, OnWritten, on-along, StepSet, PathSet}
 use Rattle.projection_spec.specs.Inference.Needed.{linked, between, complete, need}
 use Rattle.projection_spec.specs.Inference.Types.{Env, env, cutTo, move, narrow, infer, inferAll}
 use Rattle.projection_spec.specs.Laws.Documents.{Subset, Within, Valid, AllValid, Lawful}
@@ -32,11 +33,6 @@ pub record Fair {C : Type 0} (s : Types) (Meets : List Node → C → Node → T
   pub keeps-name : (doc : List Node) → AllValid s doc → (c : C) (k : Names) (y : Node) → Valid s y → Within k y → Meets doc c y → T (keeps k c (nameOf y))
   pub agrees : (r : Names) (d e : List Node) → AllValid s d → AllValid s e → Alike r d e → (c : C) (k : Names) (y : Node) → Valid s y → Within k y
       → Within r y → Subset (wants k c (nameOf y)) r → Meets d c y → Meets e c y
-
-pub test-passes : {t : NodeTest ℕ} {n : Name} → Passes t n → T (passes t n)
-test-passes (passes-name {e = e}) = eqb-refl e
-test-passes passes-node = tt
-test-passes passes-text = tt
 
 module _ {C : Type 0} (s : Types) (Meets : List Node → C → Node → Type 0) (doc : List Node) where
   -- an analysed step from one node to another; the nodes are valid, and need not be in the document
