@@ -1,3 +1,5 @@
 pub mod Documents
 pub mod Soundness
 pub mod Agreement
+pub mod Conditions
+pub mod Nodes
