@@ -3,3 +3,5 @@ pub mod Soundness
 pub mod Agreement
 pub mod Conditions
 pub mod Nodes
+pub mod Rows
+pub mod Cutting

@@ -46,8 +46,8 @@ module _ (s : Types) (law : Lawful s) where
   condition-agrees r d e dv ev al c k y v w u sub (alternative q z i p) =
       let start = env (nameOf y ∷ []) k in
       let t =
-            trip-alike s law Free keepsAll wantsNothing (free-fair s) r d e dv ev al start v (here refl, w) u
-            (λ n j. sub n (in-gather (λ l. need s keepsAll wantsNothing (expand l) start) i j)) (alternative-trip s d q y z p) in
+      trip-alike s law Free keepsAll wantsNothing (free-fair s) r d e dv ev al start v (here refl, w) u
+      (λ n j. sub n (in-gather (λ l. need s keepsAll wantsNothing (expand l) start) i j)) (alternative-trip s d q y z p) in
       alternative q z i (of-trip s Free e (Only y) refl (t .0))
 
   pub condition-fair : Fair s Holds (keepsName s) (wantsNames s)

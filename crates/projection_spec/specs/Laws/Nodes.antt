@@ -76,9 +76,9 @@ module _ (s : Types) (law : Lawful s) (p : Path ℕ) where
       let v : Valid s x = dv x (t .1 .0) in
       let f : Typed (atRoot s) x = root-typed s x (t .1 .1) v in
       let w : Within r x =
-            root-within r x (t .1 .1)
-            (complete-needed s law Holds keeps wants fair (expand p) (atRoot s) (nameOf x)
-            (track-complete s law Holds keeps wants fair d dv (atRoot s) v f (trip-track s Holds d dv (t .2)))) in
+      root-within r x (t .1 .1)
+      (complete-needed s law Holds keeps wants fair (expand p) (atRoot s) (nameOf x)
+      (track-complete s law Holds keeps wants fair d dv (atRoot s) v f (trip-track s Holds d dv (t .2)))) in
       of-trip s Holds e (Roots e) (al .forth x w (t .1 .0), t .1 .1)
       (trip-alike s law Holds keeps wants fair r d e dv ev al (atRoot s) v f w (λ n j. j) (t .2) .0)
 
@@ -94,7 +94,7 @@ module _ (s : Types) (law : Lawful s) (p : Path ℕ) where
     cut-alike =
         record {
           forth = λ y w i. in-filter (kept a) i (within-kept a y (wider (neededByPath s p) a enough y (filtered-within s law (neededBeforeFilter s p) y (ok y i) w)));
-          back = λ y w i. filter-in (kept a) doc i .0
+          back = λ y w i. filter-in (kept a) doc i .0;
         }
 
     -- THE THEOREM on nodes: the same nodes, in the same order
