@@ -5,3 +5,5 @@ pub mod Conditions
 pub mod Nodes
 pub mod Rows
 pub mod Cutting
+pub mod Lawful
+pub mod Walks
