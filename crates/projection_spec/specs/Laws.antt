@@ -7,3 +7,4 @@ pub mod Rows
 pub mod Cutting
 pub mod Lawful
 pub mod Walks
+pub mod Tables
