@@ -1,13 +1,14 @@
 -- Laws of lists that the reading of a schema needs: parts that are empty, lists with no element twice, elements by index. Assumes nothing.
-use mathlib.Core.Bool.{Bool, true, false}
-use mathlib.Core.List.{List, [], _∷_, _++_, map, List·Memᴰ as In, List·Memᴰ·head as here, List·Memᴰ·tail as there}
+use mathlib.Core.Bool.{Bool, true, false, cond}
+use mathlib.Core.List.{List, [], _∷_, _++_, map, List·Memᴰ as In, List·Memᴰ·head as here, List·Memᴰ·tail as there, List·Memᴰ·append-cases as append-cases}
+use mathlib.Core.Logic.{⊎-elim}
 use mathlib.Core.Option.{Option, none, some}
 use mathlib.Core.Path.{_≡_, refl, sym, ap, subst, _∙_}
 use Prim.Native.Nat.{ℕ, zero, suc, _≤_, _<_}
 use native.Mathlib.Omega.{arith}
 use lib.Dec.{T}
 use lib.ListN.{length, drop, getElem?}
-use Rattle.text_laws.specs.Lists.{in-filter, append-empty}
+use Rattle.text_laws.specs.Lists.{in-filter, filter-in, append-empty, map-in}
 use Rattle.text_spec.specs.Lists.{filterBy, gather}
 
 module _ {A : Type 0} where
@@ -55,7 +56,29 @@ module _ {A : Type 0} where
       absurd (n (subst (λ (w : A). In w xs) z (at-in xs i e)))
   at-distinct (next n d) (suc i) (suc j) e q = ap suc (at-distinct d i j e q)
 
+  pub distinct-filter : (f : A → Bool) {xs : List A} → Distinct xs → Distinct (filterBy f xs)
+  distinct-filter f none-twice = none-twice
+  distinct-filter f (next {x = x} {xs = xs} n d) = pick (f x) (distinct-filter f d)
+    where
+      pick : (b : Bool) → Distinct (filterBy f xs) → Distinct (cond b (x ∷ filterBy f xs) (filterBy f xs))
+      pick true h = next (λ i. n (filter-in f xs i .0)) h
+      pick false h = h
+
+  pub distinct-append : {xs ys : List A} → Distinct xs → Distinct ys → ((x : A) → In x xs → In x ys → ⊥) → Distinct (xs ++ ys)
+  distinct-append none-twice e h = e
+  distinct-append (next {x = x} {xs = xs} n d) e h =
+      next (λ i. ⊎-elim n (λ j. h x (here refl) j) (append-cases xs i)) (distinct-append d e (λ y i j. h y (there i) j))
+
 module _ {A B : Type 0} where
+  -- a function that tells the elements of a list apart keeps them distinct
+  pub distinct-map : (f : A → B) {xs : List A} → Distinct xs → ((x y : A) → In x xs → In y xs → f x ≡ f y → x ≡ y) → Distinct (map f xs)
+  distinct-map f none-twice h = none-twice
+  distinct-map f (next {x = x} {xs = xs} n d) h =
+      next (λ i.
+      let r = map-in f xs i in
+      n (subst (λ (z : A). In z xs) (sym (h x (r .0) (here refl) (there (r .1)) (r .2))) (r .1)))
+      (distinct-map f d (λ y z i j. h y z (there i) (there j)))
+
   pub map-empty : (f : A → B) (xs : List A) → map f xs ≡ [] → xs ≡ []
   map-empty f [] e = refl
   map-empty f (x ∷ xs) e = absurd (in-nothing e (here refl))

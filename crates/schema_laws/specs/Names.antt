@@ -9,6 +9,7 @@ use native.Mathlib.Nat.{add-suc, add-zero}
 use native.Mathlib.Omega.{arith}
 use lib.Dec.{T, eqb, eqb→eq, eqb-refl}
 use lib.ListN.{length, getElem?}
+use Rattle.schema_laws.specs.Lists.{Distinct, none-twice, next, distinct-append}
 use Rattle.schema_spec.specs.Names.{Name, Names, element, text, sameName, has, within, elementsFrom, textsFrom, namesOf}
 use Rattle.schema_spec.specs.Schemas.{Schema, Element, contentOr, contentAt, isPcdata}
 use Rattle.text_laws.specs.Lists.{any-in, in-any, in-filter, filter-in}
@@ -138,3 +139,30 @@ in-text s e i = ⊎-elim (λ j. absurd (not-text-from s 0 e j)) known (append-ca
         let q : r .0 ≡ e = omega arith in
         let t = subst (λ (i : ℕ). T (isPcdata (contentAt s i))) q (r .2) in
         (pcdata-declared s e t, t)
+
+-- no name stands twice among those of a schema
+elements-distinct : (s : Schema) (k : ℕ) → Distinct (elementsFrom k s)
+elements-distinct [] k = none-twice
+elements-distinct (e ∷ s) k =
+    next (λ i.
+    let r = from-element s (suc k) k i in
+    omega arith) (elements-distinct s (suc k))
+
+texts-distinct : (s : Schema) (k : ℕ) → Distinct (textsFrom k s)
+texts-distinct [] k = none-twice
+texts-distinct (e ∷ s) k = pick (isPcdata (e .content)) (texts-distinct s (suc k))
+  where
+    pick : (b : Bool) → Distinct (textsFrom (suc k) s) → Distinct (cond b (text k ∷ textsFrom (suc k) s) (textsFrom (suc k) s))
+    pick true h =
+        next (λ i.
+        let r = from-text s (suc k) k i in
+        omega arith) h
+    pick false h = h
+
+pub names-distinct : (s : Schema) → Distinct (namesOf s)
+unfolding namesOf
+names-distinct s = distinct-append (elements-distinct s 0) (texts-distinct s 0) apart
+  where
+    apart : (n : Name) → In n (elementsFrom 0 s) → In n (textsFrom 0 s) → ⊥
+    apart (element e) i j = not-element-from s 0 e j
+    apart (text e) i j = not-text-from s 0 e i
