@@ -1,1 +1,3 @@
 pub mod Progress
+pub mod Events
+pub mod Derivations
