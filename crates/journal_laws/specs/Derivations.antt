@@ -183,10 +183,11 @@ module _ (s : Schema) (size : ℕ) (final : List Row) where
   begin-tests w k es os rs n e a =
       let all = faultless-so-far es (opening w k n (fillingFor s e) ∷ refill (withChild e) os) true (beginFaults os e k n) (elementRow n (orElse 0 e) (parentRow os) ∷ rs) (suc n) a in
       let late = given (leb maxNodes n) (at overNodeLimit k) ++ [] in
-      let later = rest-free (isNone e) (at undeclaredElement k) (given (wrongRoot os e) (at badContent k) ++ late) all in
-      (test-free (isNone e) (at undeclaredElement k) (given (wrongRoot os e) (at badContent k) ++ late) all,
-      test-free (wrongRoot os e) (at badContent k) late later,
-      below-limit n (test-free (leb maxNodes n) (at overNodeLimit k) [] (rest-free (wrongRoot os e) (at badContent k) late later)))
+      let later = rest-free (isNone e) (at undeclaredElement k) (given (wrongRoot os e) (at badContent k) ++ late) all in (
+        test-free (isNone e) (at undeclaredElement k) (given (wrongRoot os e) (at badContent k) ++ late) all,
+        test-free (wrongRoot os e) (at badContent k) late later,
+        below-limit n (test-free (leb maxNodes n) (at overNodeLimit k) [] (rest-free (wrongRoot os e) (at badContent k) late later)),
+      )
 
   derive-root : (w : List ℕ) (k : ℕ) (es : List Event) (t : Bool) (rs : List Row) (n : ℕ) (e : Option ℕ) → elementNamed s w ≡ e → Rest false es
       → Accepts final (build s es (begun w k [] e rs n)) → Derives s size final t (starts w k ∷ es) [] false rs n
@@ -197,6 +198,7 @@ module _ (s : Schema) (size : ℕ) (final : List Row) where
       is-zero : (t : Bool) → eqb x 0 ≡ t → x ≡ 0
       is-zero true e = eqb→eq x 0 (passed e)
       is-zero false e = absurd (begin-tests w k es [] rs n (some x) a .1 (rw e tt))
+
       at-zero : x ≡ 0 → Derives s size final t (starts w k ∷ es) [] false rs n
       at-zero z =
           root-begins (h ∙ ap (λ (y : ℕ). some y) z) (begin-tests w k es [] rs n (some x) a .2)
@@ -233,9 +235,11 @@ module _ (s : Schema) (size : ℕ) (final : List Row) where
     where
       misfits : List Refusal
       misfits = given (not (fitsAtEnd (o .filling))) (at badContent (o .place)) ++ []
+
       fitting : (f : Bool) → (T (not f) → ⊥) → T f
       fitting true h = tt
       fitting false h = absurd (h tt)
+
       by : (d : Bool) → sameBytes w (o .name) ≡ d
           → Accepts final (build s es (cond d (building os rt misfits rs n) (breaks (at badNesting k) (building (o ∷ os) rt [] rs n))))
           → Derives s size final t (ends w k ∷ es) (o ∷ os) rt rs n
@@ -256,10 +260,13 @@ module _ (s : Schema) (size : ℕ) (final : List Row) where
     where
       refilled : List Open
       refilled = refill (withRun (isNone (r .solid))) (o ∷ os)
+
       too-much : Bool
       too-much = ltb maxTextBytes l || leb maxNodes n
+
       small : (T (ltb maxTextBytes l) → ⊥) → l ≤ maxTextBytes
       small h = nltb→le maxTextBytes l (not-intro (ltb maxTextBytes l) h)
+
       by : (f : Filling) → o .filling ≡ f → Accepts final (build s es (textNode f r l (o .row) (building refilled rt [] rs n)))
           → Derives s size final false (runs r l ∷ es) (o ∷ os) rt rs n
       by unjudged e a = run-inside {o = o} (rw e no-text-unjudged) (rest refilled rt rs n a)

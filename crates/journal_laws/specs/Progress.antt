@@ -53,9 +53,11 @@ marked-before b (sequence p q) a t =
     keep : T b ⊎ T (anyMark p) → T b ⊎ T (anyMark p || anyMark q)
     keep (inl h) = inl h
     keep (inr h) = inr (or-left (anyMark p) (anyMark q) h)
+
     begun : T (final p) ⊎ T (b && nullable p) → T b ⊎ T (anyMark p || anyMark q)
     begun (inl h) = inr (or-left (anyMark p) (anyMark q) (final-marked p h))
     begun (inr h) = inl (and-cases b (nullable p) h .0)
+
     later : T (final p || (b && nullable p)) ⊎ T (anyMark q) → T b ⊎ T (anyMark p || anyMark q)
     later (inl h) = begun (or-cases (final p) (b && nullable p) h)
     later (inr h) = inr (or-right (anyMark p) (anyMark q) h)
@@ -65,6 +67,7 @@ marked-before b (choice p q) a t =
     left : T b ⊎ T (anyMark p) → T b ⊎ T (anyMark p || anyMark q)
     left (inl h) = inl h
     left (inr h) = inr (or-left (anyMark p) (anyMark q) h)
+
     right : T b ⊎ T (anyMark q) → T b ⊎ T (anyMark p || anyMark q)
     right (inl h) = inl h
     right (inr h) = inr (or-right (anyMark p) (anyMark q) h)
@@ -73,6 +76,7 @@ marked-before b (repeated m n p) a t = again (marked-before (b || (m && final p)
     begun : T b ⊎ T (m && final p) → T b ⊎ T (anyMark p)
     begun (inl h) = inl h
     begun (inr h) = inr (final-marked p (and-cases m (final p) h .1))
+
     again : T (b || (m && final p)) ⊎ T (anyMark p) → T b ⊎ T (anyMark p)
     again (inl h) = begun (or-cases b (m && final p) h)
     again (inr h) = inr h
