@@ -1,0 +1,5 @@
+pub mod Progress
+pub mod Events
+pub mod Derivations
+pub mod Fillings
+pub mod Accepted
