@@ -2,3 +2,4 @@ pub mod Inference
 pub mod Extracts
 pub mod Library
 pub mod Cases
+pub mod Laws
