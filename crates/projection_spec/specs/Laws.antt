@@ -8,3 +8,6 @@ pub mod Cutting
 pub mod Lawful
 pub mod Walks
 pub mod Tables
+pub mod Fields
+pub mod Opens
+pub mod RoundTrip
