@@ -3,3 +3,4 @@ pub mod Extracts
 pub mod Library
 pub mod Cases
 pub mod Laws
+pub mod Demand3
