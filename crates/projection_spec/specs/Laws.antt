@@ -5,6 +5,7 @@ pub mod Conditions
 pub mod Nodes
 pub mod Rows
 pub mod Cutting
+pub mod Kept
 pub mod Lawful
 pub mod Walks
 pub mod Tables
