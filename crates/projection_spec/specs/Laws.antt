@@ -9,6 +9,8 @@ pub mod Kept
 pub mod Lawful
 pub mod Walks
 pub mod Tables
+pub mod Numbers
+pub mod Listing
 pub mod Fields
 pub mod Opens
 pub mod RoundTrip
