@@ -52,7 +52,7 @@ bare (closed p fs h) = closed (renameIn bareUse p) (map bareFrame fs) (bareHead 
 bare (past p fs h) = past (renameIn bareUse p) (map bareFrame fs) (bareHead h)
 bare (afterContent c h) = afterContent (renameContent bareUse c) (bareHead h)
 
-abbrev isBetween : State → Bool
+abbrev pub isBetween : State → Bool
 isBetween dead = false
 isBetween (between ds) = true
 isBetween (inKeyword w o) = false
@@ -191,8 +191,8 @@ spells-goes q (b ∷ bs) k ds e = pick (isDead (step q k b)) e (spells-goes (ste
         let r = h e in
         (r .0, r .1, r .2, subst (λ (x : State). goes x bs ≡ between (bareAll (r .0 ∷ r .1))) (bare-step q k b) (r .3))
 
--- and the other way round
-astray : {A : Type 0} (q : State) {ds : List Declaration} → isBetween q ≡ false → q ≡ between ds → A
+-- a state that is not between declarations
+pub astray : {A : Type 0} (q : State) {ds : List Declaration} → isBetween q ≡ false → q ≡ between ds → A
 astray q n e =
     let z : isBetween q ≡ true = ap isBetween e in
     untrue (sym n ∙ z)
@@ -218,6 +218,7 @@ end-spells (closed c fs h) k d es e = astray (bare (closed c fs h)) refl e
 end-spells (past c fs h) k d es e = astray (bare (past c fs h)) refl e
 end-spells (afterContent c h) k d es e = astray (bare (afterContent c h)) refl e
 
+-- and the other way round
 pub goes-spells : (q : State) (bs : List ℕ) (k : ℕ) (d : Declaration) (es : List Declaration) → goes (bare q) bs ≡ between (d ∷ es)
     → (ds : List Declaration) × (run q bs k ≡ spells ds) × (bareAll ds ≡ reverse (d ∷ es))
 unfolding run
