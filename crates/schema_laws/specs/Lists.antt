@@ -1,6 +1,6 @@
 -- Laws of lists that the reading of a schema needs: parts that are empty, lists with no element twice, elements by index. Assumes nothing.
 use mathlib.Core.Bool.{Bool, true, false, cond}
-use mathlib.Core.List.{List, [], _∷_, _++_, map, List·Memᴰ as In, List·Memᴰ·head as here, List·Memᴰ·tail as there, List·Memᴰ·append-cases as append-cases}
+use mathlib.Core.List.{List, [], _∷_, _++_, map, reverse, reverseAux, List·Memᴰ as In, List·Memᴰ·head as here, List·Memᴰ·tail as there, List·Memᴰ·append-cases as append-cases}
 use mathlib.Core.Logic.{⊎-elim}
 use mathlib.Core.Option.{Option, none, some}
 use mathlib.Core.Path.{_≡_, refl, sym, ap, subst, _∙_}
@@ -93,3 +93,10 @@ module _ {A B : Type 0} where
       let z : x ≡ y = cc in
       cc
   at-map f (y ∷ xs) (suc i) e = at-map f xs i e
+
+  map-reverseAux : (f : A → B) (xs r : List A) → map f (reverseAux xs r) ≡ reverseAux (map f xs) (map f r)
+  map-reverseAux f [] r = refl
+  map-reverseAux f (x ∷ xs) r = map-reverseAux f xs (x ∷ r)
+
+  pub map-reverse : (f : A → B) (xs : List A) → map f (reverse xs) ≡ reverse (map f xs)
+  map-reverse f xs = map-reverseAux f xs []

@@ -27,7 +27,7 @@ not-spelt : {A : Type 0} {k : ℕ} {ds : List Declaration} → departs k ≡ spe
 not-spelt e = absurd (let z : _≡_ {A = ℕ} 0 1 = cc in omega arith)
 
 module _ (P : State → Type 0) (ds : List Declaration) where
-  end-ended : (q : State) (k : ℕ) → P q → atEnd q k ≡ spells ds → Ended P ds
+  pub end-ended : (q : State) (k : ℕ) → P q → atEnd q k ≡ spells ds → Ended P ds
   end-ended (between []) k p e = not-spelt e
   end-ended (between (d ∷ es)) k p e = record { last = d; before = es; holds = p; reversed = cc }
   end-ended dead k p e = not-spelt e
