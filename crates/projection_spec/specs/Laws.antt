@@ -1,3 +1,7 @@
 pub mod Fields
+pub mod Items
 pub mod Opens
+pub mod Moved
+pub mod Written
+pub mod ReadBack
 pub mod RoundTrip
