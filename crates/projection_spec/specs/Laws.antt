@@ -12,5 +12,9 @@ pub mod Tables
 pub mod Numbers
 pub mod Listing
 pub mod Fields
+pub mod Items
 pub mod Opens
+pub mod Moved
+pub mod Written
+pub mod ReadBack
 pub mod RoundTrip

@@ -5,11 +5,12 @@ use Prim.Native.Nat.{ℕ, zero, suc, _+_, _/_, _%_, _<_, _≤_}
 use native.Mathlib.Omega.{arith}
 use lib.Dec.{leb, le→leb, lit<}
 use lib.ListN.{length, length-append}
-use lib.Seq.{take-append-seam, drop-append-seam}
+use lib.Seq.{drop-append-add, take-at, take-append-seam, drop-append-seam}
 use Rattle.projection_spec.specs.Extracts.Fields.{elementTag, textTag, countTag, twoBytes, field, rowField}
 use Rattle.projection_spec.specs.Extracts.Reading.{elementItem, textItem, countItem, noItem, inTwo, itemOf, itemsFrom}
 use Rattle.schema_spec.specs.Names.{element, text}
 use Rattle.text_laws.specs.Tests.{cond-true}
+use Rattle.text_spec.specs.Lists.{part}
 
 -- a number written in two bytes is read back, and two bytes read are written back
 pub two-bytes-read : (n : ℕ) → n < 65536 → inTwo (n / 256 % 256) (n % 256) ≡ n
@@ -47,3 +48,10 @@ nothing-read (suc fuel) k = refl
 
 pub count-read : (fuel k n : ℕ) → n < 65536 → itemsFrom (suc fuel) k (field countTag (twoBytes n)) ≡ countItem n ∷ []
 count-read fuel k n h = field-read fuel k countTag (twoBytes n) [] (lit< tt) ∙ rw (two-bytes-read n h, nothing-read)
+
+-- a text's bytes stand seven bytes after its field's first
+pub text-cut : (pre w rest : List ℕ) (tag high low a b c d k size : ℕ) → length pre ≡ k → length w ≡ size
+    → part (k + 3 + 4) size (pre ++ (tag ∷ high ∷ low ∷ a ∷ b ∷ c ∷ d ∷ (w ++ rest))) ≡ w
+text-cut pre w rest tag high low a b c d k size e l =
+    let place : k + 3 + 4 ≡ length pre + 7 = omega arith in
+    rw (place, drop-append-add pre (tag ∷ high ∷ low ∷ a ∷ b ∷ c ∷ d ∷ (w ++ rest)) 7) (take-at w rest size l)

@@ -1,17 +1,17 @@
 -- The rows that a later row may stand under, as the reader of an extract keeps them: the row before and those above it, each found by
 -- its number. Assumes nothing.
 use mathlib.Core.Bool.{false, _&&_, _||_}
-use mathlib.Core.List.{List, [], _∷_, _++_, map, map-append}
+use mathlib.Core.List.{List, [], _∷_, _++_, map, List·Memᴰ·head as here, map-append}
 use mathlib.Core.Logic.{_⊎_, inl, inr, ⊎-elim}
 use mathlib.Core.Option.{some}
 use mathlib.Core.Path.{_≡_, refl, sym, ap, ap₂, subst, _∙_}
 use Prim.Native.Nat.{ℕ, zero, suc, _<_, _≤_}
-use native.Mathlib.Omega.{arith}
 use native.Mathlib.Nat.{le-of-eq}
+use native.Mathlib.Omega.{arith}
 use lib.Dec.{T, eqb, eqb→eq, eqb-refl}
 use lib.ListN.{length, getElem?, length-map}
 use Rattle.projection_spec.specs.Extracts.Reading.{Placed, openFrom}
-use Rattle.schema_spec.specs.Names.{Name, element, text, isText, sameName}
+use Rattle.schema_spec.specs.Names.{element, text, Name, isText, sameName}
 use Rattle.table_spec.specs.Nodes.{Node, top, under, numberOf, nameOf, same, isAbove}
 use Rattle.table_spec.specs.Rows.{Row}
 use Rattle.text_laws.specs.Lists.{bytes-equal}
