@@ -20,7 +20,7 @@ use Rattle.schema_spec.specs.Reading.{usesOf, limitPlaces, twicePlaces, undecla
 use Rattle.schema_spec.specs.Schemas.{Schema, Element, schemaOf, declaredNames, resolved, indexFrom, modelAt}
 use Rattle.schema_spec.specs.Types.{holds, Below, typesOf, isBelow}
 use Rattle.text_laws.specs.Lists.{append-empty, any-in, in-any, in-gather, map-in, bytes-equal, bytes-same}
-use Rattle.text_laws.specs.Refusals.{judged-accepted}
+use Rattle.text_laws.specs.Refusals.{judged-accepted, judged-free}
 use Rattle.text_laws.specs.Tests.{failed}
 use Rattle.text_spec.specs.Bytes.{isName}
 use Rattle.text_spec.specs.Limits.{maxDeclarations, maxModelNames, maxSchemaBytes}
@@ -62,6 +62,27 @@ accepted-spelt text s e =
           declared-once = map-empty (at declaredTwice) (twicePlaces [] ds) (y .0);
           all-declared = map-empty (at undeclaredInModel) (undeclaredPlaces ds) (y .1);
         }
+
+-- and a text that spells such declarations is accepted
+pub spelt-accepted : (text : List ℕ) (s : Schema) → Spelt text s → readSchema text ≡ accepted s
+unfolding readSchema schemaRefusals
+spelt-accepted text s p =
+    judged-free (schemaRefusals text) (parsedSchema (parse text)) nothing-found
+    ∙ ap (λ (x : Schema). accepted x) (ap parsedSchema (p .spelt) ∙ p .gives)
+  where
+    join-empty : (u v : List Refusal) → u ≡ [] → v ≡ [] → u ++ v ≡ []
+    join-empty u v e f = ap (λ (l : List Refusal). l ++ v) e ∙ f
+
+    nothing-found : schemaRefusals text ≡ []
+    nothing-found =
+        let ds = p .declarations in
+        join-empty (lengthRefusals maxSchemaBytes text) (byteRefusals text ++ parsedRefusals (parse text)) (p .right-length)
+        (join-empty (byteRefusals text) (parsedRefusals (parse text)) (p .right-bytes)
+        (ap parsedRefusals (p .spelt)
+        ∙ join-empty (allAt overSchemaLimit (limitPlaces ds)) (allAt declaredTwice (twicePlaces [] ds) ++ allAt undeclaredInModel (undeclaredPlaces ds))
+        (ap (allAt overSchemaLimit) (p .within-limits))
+        (join-empty (allAt declaredTwice (twicePlaces [] ds)) (allAt undeclaredInModel (undeclaredPlaces ds)) (ap (allAt declaredTwice) (p .declared-once))
+        (ap (allAt undeclaredInModel) (p .all-declared)))))
 
 -- the names in a model that is written with other names
 uses-rename : {A B : Type 0} (f : A → B) (p : Particle A) → uses (renameIn f p) ≡ map f (uses p)

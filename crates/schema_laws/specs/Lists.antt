@@ -9,7 +9,8 @@ use native.Mathlib.Omega.{arith}
 use lib.Dec.{T}
 use lib.ListN.{length, drop, getElem?}
 use Rattle.text_laws.specs.Lists.{in-filter, filter-in, append-empty, map-in}
-use Rattle.text_spec.specs.Lists.{filterBy, gather}
+use Rattle.text_laws.specs.Tests.{cond-true, cond-false}
+use Rattle.text_spec.specs.Lists.{filterBy, gather, placesFrom}
 
 module _ {A : Type 0} where
   pub in-nothing : {xs : List A} {y : A} → xs ≡ [] → In y xs → ⊥
@@ -100,3 +101,19 @@ module _ {A B : Type 0} where
 
   pub map-reverse : (f : A → B) (xs : List A) → map f (reverse xs) ≡ reverse (map f xs)
   map-reverse f xs = map-reverseAux f xs []
+
+module _ {A : Type 0} where
+  -- no places are found exactly if no element passes the test
+  pub places-none : (f : A → Bool) (k : ℕ) {xs : List A} {x : A} → placesFrom k f xs ≡ [] → In x xs → T (f x) → ⊥
+  places-none f k e (here {x = y} {xs = xs} q) t =
+      in-nothing (sym (cond-true (f y) (k ∷ placesFrom (suc k) f xs) (placesFrom (suc k) f xs) (subst (λ (z : A). T (f z)) q t)) ∙ e) (here refl)
+  places-none f k e (there {x = y} {xs = xs} i) t = pick (f y) e (λ h. places-none f (suc k) h i t)
+    where
+      pick : (b : Bool) → cond b (k ∷ placesFrom (suc k) f xs) (placesFrom (suc k) f xs) ≡ [] → (placesFrom (suc k) f xs ≡ [] → ⊥) → ⊥
+      pick true e h = in-nothing e (here refl)
+      pick false e h = h e
+
+  pub none-places : (f : A → Bool) (k : ℕ) (xs : List A) → ((x : A) → In x xs → T (f x) → ⊥) → placesFrom k f xs ≡ []
+  none-places f k [] h = refl
+  none-places f k (x ∷ xs) h =
+      cond-false (f x) (k ∷ placesFrom (suc k) f xs) (placesFrom (suc k) f xs) (h x (here refl)) ∙ none-places f (suc k) xs (λ y i. h y (there i))
