@@ -394,7 +394,7 @@ path-completes stay s = declares (end none) refl
 path-completes {last} (go {w = w} g p) s = goes-completes last w g s (path-completes p (goes-sane g s))
 
 -- Each text that is read is of the grammar, with the declarations that it was read as.
-path-grammatical : {text : List ℕ} {done : List Declaration} → Path (between []) 0 text (between done) → (done ≡ [] → ⊥) → SchemaText text (reverse done)
+pub path-grammatical : {text : List ℕ} {done : List Declaration} → Path (between []) 0 text (between done) → (done ≡ [] → ⊥) → SchemaText text (reverse done)
 path-grammatical {text} {done} p n = of-schema (path-completes p tt)
   where
     of-schema : Declares done [] 0 text → SchemaText text (reverse done)
