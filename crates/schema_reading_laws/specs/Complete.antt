@@ -1,18 +1,18 @@
 -- The machine reads each text of the grammar, and spells what its derivation declares, places included. Assumes nothing.
-use mathlib.Core.Bool.{Bool, true, false, _&&_}
+use mathlib.Core.Bool.{_&&_}
 use mathlib.Core.List.{List, [], _∷_, _++_, append-assoc, append-nil, reverse, reverseAux, reverse-reverse}
 use mathlib.Core.Path.{_≡_, refl, sym, ap, subst, _∙_}
 use Prim.Native.Nat.{ℕ, suc, _+_, _≤_, _<_}
 use native.Mathlib.Omega.{arith}
 use lib.Dec.{T, leb, leb→le}
 use lib.ListN.{length, length-append}
-use Rattle.schema_reading_laws.specs.Steps.{Skips, skip-between, skip-name, skip-content, skip-open, skip-pcdata, skip-particle, Spelling, in-element, in-empty, in-pcdata, Due, due-first, due-next, Ended, at-name, at-closed, Over, unmarked, at-past, Finished, at-model, at-content, Holds, holds-one, holds-bar, holds-comma, Marks, mark-optional, mark-any, mark-oneOrMore, Goes, idle, begin-declaration, spell, spelt, keyword-blank, begin-name, grow-name, name-blank, begin-empty, open-content, begin-pcdata, close-pcdata, begin-use, grow-use, open-group, mark, over-blank, over-part, over-close, finish-blank, finish, Path, stay, go, path-append, run-path}
-use Rattle.schema_spec.specs.Declarations.{Use, Declaration, elementKeyword, emptyKeyword, pcdataKeyword, Indicator, once, optional, any, oneOrMore, spellIndicator, indicated, Separator, unparted, byBar, byComma, joinBy}
-use Rattle.schema_spec.specs.Grammar.{Blanks, none, blank, Space, space, Parts, first-bar, next-bar, first-comma, next-comma, Kind, particle, group, rest, Model, a-name, a-group, opened, close, more, ContentText, is-empty, is-pcdata, is-children, DeclarationText, declaration, DeclarationsText, end, next, SchemaText, schema-text}
-use Rattle.schema_spec.specs.Machine.{Frame, fresh, holding, Opening, Head, State, between, beforeName, inName, beforeContent, afterOpen, afterPcdata, expecting, inUse, closed, past, afterContent, declared, join, headed, atEnd, run, parse, Parsed, spells, departs}
-use Rattle.schema_spec.specs.Models.{Particle, named, Content, empty, pcdata, children}
+use Rattle.schema_reading_laws.specs.Steps.{Skips, skip-between, skip-name, skip-content, skip-open, skip-pcdata, skip-particle, Spelling, in-element, in-empty, in-pcdata, Due, due-first, due-next, Ended, at-name, at-closed, Over, unmarked, at-past, Finished, at-model, at-content, Holds, holds-one, holds-bar, holds-comma, mark-optional, mark-any, mark-oneOrMore, Goes, idle, begin-declaration, spell, spelt, keyword-blank, begin-name, grow-name, name-blank, begin-empty, open-content, begin-pcdata, close-pcdata, begin-use, grow-use, open-group, mark, over-blank, over-part, over-close, finish-blank, finish, Path, stay, go, path-append, run-path}
+use Rattle.schema_spec.specs.Declarations.{Use, Declaration, elementKeyword, pcdataKeyword, Indicator, once, optional, any, oneOrMore, spellIndicator, indicated, Separator, joinBy}
+use Rattle.schema_spec.specs.Grammar.{Blanks, none, blank, space, Parts, first-bar, next-bar, first-comma, next-comma, Kind, particle, group, rest, Model, a-name, a-group, opened, close, more, ContentText, is-empty, is-pcdata, is-children, DeclarationText, declaration, DeclarationsText, end, next, SchemaText, schema-text}
+use Rattle.schema_spec.specs.Machine.{Frame, fresh, holding, Opening, Head, State, between, beforeName, inName, beforeContent, afterOpen, expecting, inUse, closed, past, afterContent, join, headed, atEnd, run, parse, spells}
+use Rattle.schema_spec.specs.Models.{Particle, named, Content}
 use Rattle.text_laws.specs.Tests.{and-cases}
-use Rattle.text_spec.specs.Bytes.{isBlank, startsName, continuesName, isName}
+use Rattle.text_spec.specs.Bytes.{startsName, continuesName, isName}
 use Rattle.text_spec.specs.Limits.{maxNameBytes, maxGroups}
 use Rattle.text_spec.specs.Lists.{bytes, allOf}
 

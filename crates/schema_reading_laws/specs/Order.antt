@@ -1,15 +1,15 @@
 -- The order of refusals: where a list of refusals agrees with the conditions, the outcome is judged by the first that applies.
 -- It serves every reader. Assumes nothing.
-use mathlib.Core.Bool.{Bool, true, false, cond, not, _&&_, _||_}
+use mathlib.Core.Bool.{Bool, true, false, cond, _&&_}
 use mathlib.Core.List.{List, [], _∷_, _++_, List·Memᴰ as In, List·Memᴰ·head as here, List·Memᴰ·tail as there, List·Memᴰ·append-cases as append-cases, Memᴰ·append-left as append-left, Memᴰ·append-right as append-right}
-use mathlib.Core.Logic.{_⊎_, inl, inr, ⊎-elim}
-use mathlib.Core.Path.{_≡_, refl, sym, ap, subst, _∙_}
+use mathlib.Core.Logic.{⊎-elim}
+use mathlib.Core.Path.{_≡_, refl, sym, subst}
 use Prim.Native.Nat.{ℕ, _≤_, _<_}
 use native.Mathlib.Omega.{arith}
 use lib.Dec.{T, eqb, ltb, eqb→eq, eqb-refl, ltb→lt, lt→ltb}
 use Rattle.text_laws.specs.Lists.{in-map, map-in}
 use Rattle.text_laws.specs.Tests.{or-left, or-right, or-cases, and-intro, and-cases}
-use Rattle.text_spec.specs.Refusals.{Reason, numberOf, Refusal, at, allAt, given, before, firstFrom, firstOf, Outcome, judged, IsFirst, Judged, turned-back, taken}
+use Rattle.text_spec.specs.Refusals.{Reason, numberOf, Refusal, at, allAt, given, before, firstFrom, firstOf, judged, Judged, turned-back, taken}
 
 -- f comes no later than g: by number, then by place
 record NoLater (f g : Refusal) : Type 0 where

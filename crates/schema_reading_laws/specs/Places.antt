@@ -1,20 +1,19 @@
 -- The place at which the machine breaks off is the place at which the text departs from the grammar. Assumes nothing.
-use mathlib.Core.Bool.{Bool, true, false}
-use mathlib.Core.List.{List, [], _∷_, _++_, append-assoc, append-nil}
+use mathlib.Core.List.{List, [], _∷_, _++_, append-assoc}
 use mathlib.Core.Path.{_≡_, refl, sym, ap, subst, _∙_}
-use Prim.Native.Nat.{ℕ, suc, _+_, _≤_, _<_}
+use Prim.Native.Nat.{ℕ, suc, _+_, _<_}
 use native.Mathlib.Omega.{arith}
 use lib.ListN.{length, take, length-append}
 use lib.Seq.{take-at}
 use Rattle.schema_reading_laws.specs.Complete.{schema-complete, keyword-path}
 use Rattle.schema_reading_laws.specs.Departures.{departs-once, departs-not}
 use Rattle.schema_reading_laws.specs.Runs.{Ran, ends-well, ends-early, breaks-off, ran}
-use Rattle.schema_reading_laws.specs.Sound.{Sane, goes-sane, path-grammatical, schema-sound}
+use Rattle.schema_reading_laws.specs.Sound.{Invariant, goes-invariant, path-grammatical, schema-sound}
 use Rattle.schema_reading_laws.specs.Steps.{Spelling, in-element, in-empty, in-pcdata, Due, due-first, due-next, at-name, at-closed, Over, unmarked, at-past, Finished, at-model, at-content, Goes, begin-declaration, keyword-blank, begin-name, name-blank, begin-empty, close-pcdata, begin-use, over-close, finish, Path, stay, go, path-append, run-path}
 use Rattle.schema_spec.specs.Conditions.{Grammatical}
 use Rattle.schema_spec.specs.Declarations.{Use, Declaration}
 use Rattle.schema_spec.specs.Grammar.{SchemaText}
-use Rattle.schema_spec.specs.Machine.{Frame, Opening, Head, State, dead, between, inKeyword, afterKeyword, beforeName, inName, beforeContent, inEmpty, afterOpen, inPcdata, afterPcdata, expecting, inUse, closed, past, afterContent, isDead, step, run, parse, Parsed, spells, departs}
+use Rattle.schema_spec.specs.Machine.{Frame, Opening, Head, State, dead, between, inKeyword, afterKeyword, beforeName, inName, beforeContent, inEmpty, afterOpen, inPcdata, afterPcdata, expecting, inUse, closed, past, afterContent, step, run, parse, Parsed, spells, departs}
 use Rattle.schema_spec.specs.Models.{Particle, Content}
 use Rattle.text_spec.specs.Lists.{bytes}
 use Rattle.text_spec.specs.Texts.{Beginning, Departs, at-byte, stops-short}
@@ -58,7 +57,7 @@ pcdata-completable = on close-pcdata (finished-completable at-content)
 keyword-completable : {o : Opening} {k : ℕ} → Completable (afterKeyword o) k
 keyword-completable = on (keyword-blank {b = 0x20} tt) name-completable
 
-completable : (q : State) (k : ℕ) → Sane q → Completable q k
+completable : (q : State) (k : ℕ) → Invariant q → Completable q k
 completable dead k s = absurd s
 completable (between ds) k s = on begin-declaration (spelling-completable (bytes "ELEMENT") in-element keyword-completable)
 completable (inKeyword [] o) k s = absurd s
@@ -79,14 +78,14 @@ completable (closed p fs h) k s = over-completable fs (unmarked at-closed)
 completable (past p fs h) k s = over-completable fs at-past
 completable (afterContent c h) k s = finished-completable at-content
 
-path-sane : {q r : State} {k : ℕ} {w : List ℕ} → Path q k w r → Sane q → Sane r
-path-sane stay s = s
-path-sane (go g p) s = path-sane p (goes-sane g s)
+path-invariant : {q r : State} {k : ℕ} {w : List ℕ} → Path q k w r → Invariant q → Invariant r
+path-invariant stay s = s
+path-invariant (go g p) s = path-invariant p (goes-invariant g s)
 
 -- what has been read without a fault begins a text of the grammar
 path-beginning : {r : State} {u : List ℕ} → Path (between []) 0 u r → Beginning Grammatical u
 path-beginning {r} {u} p =
-    let c = completable r (0 + length u) (path-sane p tt) in (
+    let c = completable r (0 + length u) (path-invariant p tt) in (
       c .rest,
       (
         _,

@@ -1,7 +1,7 @@
 -- Reading a schema text means what the grammar and the conditions say: the first refusal that applies, or the schema that the
 -- text's derivation gives. Assumes nothing.
 use mathlib.Core.List.{List, [], _∷_, _++_, List·Memᴰ as In, List·Memᴰ·head as here}
-use mathlib.Core.Path.{_≡_, refl, sym, ap, subst, _∙_}
+use mathlib.Core.Path.{_≡_, refl, sym, subst}
 use Prim.Native.Nat.{ℕ}
 use native.Mathlib.Omega.{arith}
 use Rattle.schema_reading_laws.specs.Complete.{schema-complete}
@@ -11,12 +11,11 @@ use Rattle.schema_reading_laws.specs.Places.{schema-departs, departs-sch
 use Rattle.schema_reading_laws.specs.Sound.{schema-sound}
 use Rattle.schema_reading_laws.specs.Texts.{length-found, length-listed, bytes-found, bytes-listed}
 use Rattle.schema_spec.specs.Conditions.{SchemaApplies, length-2, byte-3, grammar-4, limit-5, twice-6, undeclared-7, SchemaGives, gives}
-use Rattle.schema_spec.specs.Declarations.{Declaration}
 use Rattle.schema_spec.specs.Grammar.{SchemaText}
 use Rattle.schema_spec.specs.Machine.{Parsed, spells, departs, parse}
 use Rattle.schema_spec.specs.Reading.{limitPlaces, twicePlaces, undeclaredPlaces, parsedRefusals, parsedSchema, schemaRefusals, readSchema}
 use Rattle.text_spec.specs.Limits.{maxSchemaBytes}
-use Rattle.text_spec.specs.Refusals.{Reason, badSchema, overSchemaLimit, declaredTwice, undeclaredInModel, Refusal, at, allAt, Judged}
+use Rattle.text_spec.specs.Refusals.{Reason, badSchema, overSchemaLimit, declaredTwice, undeclaredInModel, allAt, Judged}
 use Rattle.text_spec.specs.Texts.{lengthRefusals, byteRefusals}
 
 module _ (text : List ℕ) where

@@ -1,16 +1,16 @@
 -- Each text that the machine reads is of the grammar, and declares what the machine spells. Assumes nothing.
-use mathlib.Core.Bool.{Bool, true, false, not, _&&_}
+use mathlib.Core.Bool.{Bool, true, not, _&&_}
 use mathlib.Core.List.{List, [], _∷_, _++_, append-assoc, append-nil, reverse, reverseAux, reverse-reverse}
 use mathlib.Core.Path.{_≡_, refl, sym, ap, subst, _∙_}
 use Prim.Native.Nat.{ℕ, suc, _+_, _-_, _≤_, _<_}
 use native.Mathlib.Omega.{arith}
-use lib.Dec.{T, leb, leb→le, le→leb}
+use lib.Dec.{T, leb, le→leb}
 use lib.ListN.{length, length-append}
-use Rattle.schema_reading_laws.specs.Steps.{Skips, skip-between, skip-name, skip-content, skip-open, skip-pcdata, skip-particle, Spelling, in-element, in-empty, in-pcdata, Due, due-first, due-next, Ended, at-name, at-closed, Over, unmarked, at-past, Finished, at-model, at-content, Holds, holds-one, holds-bar, holds-comma, Marks, mark-optional, mark-any, mark-oneOrMore, Goes, idle, begin-declaration, spell, spelt, keyword-blank, begin-name, grow-name, name-blank, begin-empty, open-content, begin-pcdata, close-pcdata, begin-use, grow-use, open-group, mark, over-blank, over-part, over-close, finish-blank, finish, Path, stay, go, path-append, run-path}
+use Rattle.schema_reading_laws.specs.Steps.{skip-between, skip-name, skip-content, skip-open, skip-pcdata, skip-particle, in-element, in-empty, in-pcdata, Due, due-first, due-next, Ended, at-name, at-closed, Over, unmarked, at-past, Finished, at-model, at-content, Holds, holds-one, holds-bar, holds-comma, Marks, mark-optional, mark-any, mark-oneOrMore, Goes, idle, begin-declaration, spell, spelt, keyword-blank, begin-name, grow-name, name-blank, begin-empty, open-content, begin-pcdata, close-pcdata, begin-use, grow-use, open-group, mark, over-blank, over-part, over-close, finish-blank, finish, Path, stay, go}
 use Rattle.schema_reading_laws.specs.Runs.{Ran, ends-well, ends-early, breaks-off, ran}
-use Rattle.schema_spec.specs.Declarations.{Use, Declaration, elementKeyword, emptyKeyword, pcdataKeyword, Indicator, once, optional, any, oneOrMore, spellIndicator, indicated, Separator, unparted, byBar, byComma, joinBy}
-use Rattle.schema_spec.specs.Grammar.{Blanks, none, blank, Space, space, Parts, first-bar, next-bar, first-comma, next-comma, Kind, particle, group, rest, Model, a-name, a-group, opened, close, more, ContentText, is-empty, is-pcdata, is-children, DeclarationText, declaration, DeclarationsText, end, next, SchemaText, schema-text}
-use Rattle.schema_spec.specs.Machine.{Frame, fresh, holding, Opening, Head, State, dead, between, inKeyword, afterKeyword, beforeName, inName, beforeContent, inEmpty, afterOpen, inPcdata, afterPcdata, expecting, inUse, closed, past, afterContent, declared, join, headed, atEnd, run, parse, Parsed, spells, departs}
+use Rattle.schema_spec.specs.Declarations.{Use, Declaration, elementKeyword, pcdataKeyword, Indicator, once, optional, any, oneOrMore, spellIndicator, indicated, Separator, unparted}
+use Rattle.schema_spec.specs.Grammar.{Blanks, none, blank, space, Parts, Kind, particle, group, rest, Model, a-name, a-group, opened, close, more, ContentText, is-empty, is-pcdata, is-children, DeclarationText, declaration, DeclarationsText, end, next, SchemaText, schema-text}
+use Rattle.schema_spec.specs.Machine.{Frame, fresh, holding, Opening, Head, State, dead, between, inKeyword, afterKeyword, beforeName, inName, beforeContent, inEmpty, afterOpen, inPcdata, afterPcdata, expecting, inUse, closed, past, afterContent, declared, join, headed, parse, Parsed, spells}
 use Rattle.schema_spec.specs.Models.{Particle, named, Content, empty, pcdata, children}
 use Rattle.text_laws.specs.Tests.{and-cases, and-intro}
 use Rattle.text_spec.specs.Bytes.{isBlank, startsName, continuesName, isName}
@@ -92,28 +92,28 @@ Completes last (past p fs h) k w = Follows last p fs h k w
 Completes last (afterContent c h) k w = Finishes last c h k w
 
 -- what holds of each state that is reached: names are names, and at most eight groups are open
-abbrev pub Sane : State → Type 0
-Sane dead = ⊥
-Sane (between ds) = Unit {0}
-Sane (inKeyword w o) = T (not (isEmpty w))
-Sane (afterKeyword o) = Unit {0}
-Sane (beforeName o) = Unit {0}
-Sane (inName j n o) = T (isName n)
-Sane (beforeContent h) = Unit {0}
-Sane (inEmpty w h) = T (not (isEmpty w))
-Sane (afterOpen h) = Unit {0}
-Sane (inPcdata w h) = T (not (isEmpty w))
-Sane (afterPcdata h) = Unit {0}
-Sane (expecting f fs h) = length fs < maxGroups
-Sane (inUse j n f fs h) = T (isName n) × (length fs < maxGroups)
-Sane (closed p fs h) = length fs ≤ maxGroups
-Sane (past p fs h) = length fs ≤ maxGroups
-Sane (afterContent c h) = Unit {0}
+abbrev pub Invariant : State → Type 0
+Invariant dead = ⊥
+Invariant (between ds) = Unit {0}
+Invariant (inKeyword w o) = T (not (isEmpty w))
+Invariant (afterKeyword o) = Unit {0}
+Invariant (beforeName o) = Unit {0}
+Invariant (inName j n o) = T (isName n)
+Invariant (beforeContent h) = Unit {0}
+Invariant (inEmpty w h) = T (not (isEmpty w))
+Invariant (afterOpen h) = Unit {0}
+Invariant (inPcdata w h) = T (not (isEmpty w))
+Invariant (afterPcdata h) = Unit {0}
+Invariant (expecting f fs h) = length fs < maxGroups
+Invariant (inUse j n f fs h) = T (isName n) × (length fs < maxGroups)
+Invariant (closed p fs h) = length fs ≤ maxGroups
+Invariant (past p fs h) = length fs ≤ maxGroups
+Invariant (afterContent c h) = Unit {0}
 
-over-sane : {q : State} {p : Particle Use} {fs : List Frame} {h : Head} → Over q p fs h → Sane q → length fs ≤ maxGroups
-over-sane (unmarked at-name) s = s .1
-over-sane (unmarked at-closed) s = s
-over-sane at-past s = s
+over-bounded : {q : State} {p : Particle Use} {fs : List Frame} {h : Head} → Over q p fs h → Invariant q → length fs ≤ maxGroups
+over-bounded (unmarked at-name) s = s .1
+over-bounded (unmarked at-closed) s = s
+over-bounded at-past s = s
 
 begun-name : (b : ℕ) → T (startsName b) → T (isName (b ∷ []))
 begun-name b t = and-intro (startsName b) true t tt
@@ -134,40 +134,40 @@ grown-name (c ∷ n) b s t l =
     (all-append continuesName n (b ∷ []) (y .0) (and-intro (continuesName b) true t tt))
     (le→leb (length (c ∷ (n ++ (b ∷ [])))) maxNameBytes (simp length-append (omega arith))))
 
-due-sane : {q : State} {f : Frame} {fs : List Frame} {h : Head} → Due q f fs h → Sane q → length fs < maxGroups
-due-sane due-first s = omega arith
-due-sane due-next s = s
+due-bounded : {q : State} {f : Frame} {fs : List Frame} {h : Head} → Due q f fs h → Invariant q → length fs < maxGroups
+due-bounded due-first s = omega arith
+due-bounded due-next s = s
 
-pub goes-sane : {q : State} {k b : ℕ} {r : State} → Goes q k b r → Sane q → Sane r
-goes-sane (idle v t) s = s
-goes-sane begin-declaration s = tt
-goes-sane (spell v in-element) s = tt
-goes-sane (spell v in-empty) s = tt
-goes-sane (spell v in-pcdata) s = tt
-goes-sane (spelt in-element) s = tt
-goes-sane (spelt in-empty) s = tt
-goes-sane (spelt in-pcdata) s = tt
-goes-sane (keyword-blank t) s = tt
-goes-sane (begin-name {b = b} t) s = begun-name b t
-goes-sane (grow-name {b = b} {n = n} t l) s = grown-name n b s t l
-goes-sane (name-blank t) s = tt
-goes-sane begin-empty s = tt
-goes-sane open-content s = tt
-goes-sane begin-pcdata s = tt
-goes-sane close-pcdata s = tt
-goes-sane (begin-use {b = b} v t) s = (begun-name b t, due-sane v s)
-goes-sane (grow-use {b = b} {n = n} t l) s = (grown-name n b (s .0) t l, s .1)
-goes-sane (open-group v l) s = l
-goes-sane (mark v m) s = over-sane (unmarked v) s
-goes-sane (over-blank v t) s = over-sane v s
-goes-sane (over-part v f x) s =
-    let l = over-sane v s in
+pub goes-invariant : {q : State} {k b : ℕ} {r : State} → Goes q k b r → Invariant q → Invariant r
+goes-invariant (idle v t) s = s
+goes-invariant begin-declaration s = tt
+goes-invariant (spell v in-element) s = tt
+goes-invariant (spell v in-empty) s = tt
+goes-invariant (spell v in-pcdata) s = tt
+goes-invariant (spelt in-element) s = tt
+goes-invariant (spelt in-empty) s = tt
+goes-invariant (spelt in-pcdata) s = tt
+goes-invariant (keyword-blank t) s = tt
+goes-invariant (begin-name {b = b} t) s = begun-name b t
+goes-invariant (grow-name {b = b} {n = n} t l) s = grown-name n b s t l
+goes-invariant (name-blank t) s = tt
+goes-invariant begin-empty s = tt
+goes-invariant open-content s = tt
+goes-invariant begin-pcdata s = tt
+goes-invariant close-pcdata s = tt
+goes-invariant (begin-use {b = b} v t) s = (begun-name b t, due-bounded v s)
+goes-invariant (grow-use {b = b} {n = n} t l) s = (grown-name n b (s .0) t l, s .1)
+goes-invariant (open-group v l) s = l
+goes-invariant (mark v m) s = over-bounded (unmarked v) s
+goes-invariant (over-blank v t) s = over-bounded v s
+goes-invariant (over-part v f x) s =
+    let l = over-bounded v s in
     omega arith
-goes-sane (over-close v) s =
-    let l = over-sane v s in
+goes-invariant (over-close v) s =
+    let l = over-bounded v s in
     omega arith
-goes-sane (finish-blank v t) s = tt
-goes-sane (finish v) s = tt
+goes-invariant (finish-blank v t) s = tt
+goes-invariant (finish v) s = tt
 
 -- A byte in front: what may follow after the byte gives what may follow before it.
 declares-blank : {last done : List Declaration} {k b : ℕ} {w : List ℕ} → T (isBlank b) → Declares last done (suc k) w → Declares last done k (b ∷ w)
@@ -339,17 +339,17 @@ keywords-blank : {last : List Declaration} {o : Opening} {k b : ℕ} {w : List �
 keywords-blank {k} {b} t r = keywords {k = k} {u = []} b t r (omega arith)
 
 -- in a state after a name, a group, a particle or the content
-ended-completes : {last : List Declaration} {q : State} {p : Particle Use} {fs : List Frame} {h : Head} {k : ℕ} {w : List ℕ} → Ended q p fs h → Sane q → Closes last p fs h k w
+ended-completes : {last : List Declaration} {q : State} {p : Particle Use} {fs : List Frame} {h : Head} {k : ℕ} {w : List ℕ} → Ended q p fs h → Invariant q → Closes last p fs h k w
     → Completes last q k w
 ended-completes at-name s r = uses-end (s .0) r
 ended-completes at-closed s r = r
 
-over-completes : {last : List Declaration} {q : State} {p : Particle Use} {fs : List Frame} {h : Head} {k : ℕ} {w : List ℕ} → Over q p fs h → Sane q → Follows last p fs h k w
+over-completes : {last : List Declaration} {q : State} {p : Particle Use} {fs : List Frame} {h : Head} {k : ℕ} {w : List ℕ} → Over q p fs h → Invariant q → Follows last p fs h k w
     → Completes last q k w
 over-completes (unmarked v) s r = ended-completes v s (closes-unmarked r)
 over-completes at-past s r = r
 
-finished-completes : {last : List Declaration} {q : State} {c : Content Use} {h : Head} {k : ℕ} {w : List ℕ} → Finished q c h → Sane q → Finishes last c h k w → Completes last q k w
+finished-completes : {last : List Declaration} {q : State} {c : Content Use} {h : Head} {k : ℕ} {w : List ℕ} → Finished q c h → Invariant q → Finishes last c h k w → Completes last q k w
 finished-completes (at-model v) s r = over-completes v s (outside r)
 finished-completes at-content s r = r
 
@@ -357,7 +357,7 @@ due-completes : {last : List Declaration} {q : State} {f : Frame} {fs : List Fra
 due-completes due-first r = with-model r
 due-completes due-next r = r
 
-goes-completes : (last : List Declaration) {q : State} {k b : ℕ} {r : State} (w : List ℕ) → Goes q k b r → Sane q → Completes last r (suc k) w → Completes last q k (b ∷ w)
+goes-completes : (last : List Declaration) {q : State} {k b : ℕ} {r : State} (w : List ℕ) → Goes q k b r → Invariant q → Completes last r (suc k) w → Completes last q k (b ∷ w)
 goes-completes last w (idle skip-between t) s c = declares-blank t c
 goes-completes last w (idle skip-name t) s c = heads-blank t c
 goes-completes last w (idle skip-content t) s c = contains-blank t c
@@ -379,19 +379,19 @@ goes-completes last w begin-empty s c = contains-empty c
 goes-completes last w open-content s c = contains-open c
 goes-completes last w begin-pcdata s c = opens-pcdata c
 goes-completes last w close-pcdata s c = pcdata-close c
-goes-completes last w (begin-use v t) s c = due-completes v (wants-name (due-sane v s) c)
+goes-completes last w (begin-use v t) s c = due-completes v (wants-name (due-bounded v s) c)
 goes-completes last w (grow-use t l) s c = uses-grow c
 goes-completes last w (open-group v l) s c = due-completes v (wants-group (groups-open c))
 goes-completes last w (mark v m) s c = ended-completes v s (closes-mark m c)
 goes-completes last w (over-blank v t) s c = over-completes v s (follows-blank t c)
 goes-completes last w (over-part v f x) s c = over-completes v s (follows-part f x c)
-goes-completes last w (over-close v) s c = over-completes v s (follows-close (over-sane v s) c)
+goes-completes last w (over-close v) s c = over-completes v s (follows-close (over-bounded v s) c)
 goes-completes last w (finish-blank v t) s c = finished-completes v s (finishes-blank t c)
 goes-completes last w (finish v) s c = finished-completes v s (finishes-end c)
 
-path-completes : {last : List Declaration} {q : State} {k : ℕ} {w : List ℕ} → Path q k w (between last) → Sane q → Completes last q k w
+path-completes : {last : List Declaration} {q : State} {k : ℕ} {w : List ℕ} → Path q k w (between last) → Invariant q → Completes last q k w
 path-completes stay s = declares (end none) refl
-path-completes {last} (go {w = w} g p) s = goes-completes last w g s (path-completes p (goes-sane g s))
+path-completes {last} (go {w = w} g p) s = goes-completes last w g s (path-completes p (goes-invariant g s))
 
 -- Each text that is read is of the grammar, with the declarations that it was read as.
 pub path-grammatical : {text : List ℕ} {done : List Declaration} → Path (between []) 0 text (between done) → (done ≡ [] → ⊥) → SchemaText text (reverse done)

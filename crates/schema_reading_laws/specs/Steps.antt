@@ -1,17 +1,17 @@
 -- The live steps of the machine as a relation between states, what the machine computes by it, and chains of steps. Assumes nothing.
 use mathlib.Core.Bool.{Bool, true, false, cond, _&&_, _||_}
 use mathlib.Core.List.{List, [], _∷_, _++_}
-use mathlib.Core.Logic.{_⊎_, inl, inr, ⊎-elim}
+use mathlib.Core.Logic.{⊎-elim}
 use mathlib.Core.Path.{_≡_, refl, sym, ap, subst, _∙_}
-use Prim.Native.Nat.{ℕ, suc, _+_, _≤_, _<_}
+use Prim.Native.Nat.{ℕ, suc, _+_, _<_}
 use native.Mathlib.Omega.{arith}
 use lib.Dec.{T, eqb, ltb, eqb→eq, eqb-refl, ltb→lt, lt→ltb}
 use lib.ListN.{length}
-use Rattle.schema_spec.specs.Declarations.{Use, Declaration, Indicator, once, optional, any, oneOrMore, indicated, Separator, unparted, byBar, byComma, joinBy}
+use Rattle.schema_spec.specs.Declarations.{Use, Declaration, Indicator, optional, any, oneOrMore, indicated, Separator, unparted, byBar, byComma}
 use Rattle.schema_spec.specs.Grammar.{Parts, first-bar, next-bar, first-comma, next-comma}
-use Rattle.schema_spec.specs.Machine.{Frame, fresh, holding, Opening, Head, State, dead, between, inKeyword, afterKeyword, beforeName, inName, beforeContent, inEmpty, afterOpen, inPcdata, afterPcdata, expecting, inUse, closed, past, afterContent, isDead, declared, closing, join, separated, following, indicating, beginning, longer, headed, matching, step, run, Parsed, departs}
+use Rattle.schema_spec.specs.Machine.{Frame, fresh, holding, Opening, Head, State, dead, between, inKeyword, afterKeyword, beforeName, inName, beforeContent, inEmpty, afterOpen, inPcdata, afterPcdata, expecting, inUse, closed, past, afterContent, isDead, declared, closing, join, separated, following, indicating, beginning, longer, headed, matching, step, run, departs}
 use Rattle.schema_spec.specs.Models.{Particle, named, Content, empty, pcdata, children}
-use Rattle.text_laws.specs.Tests.{cond-true, cond-false, or-cases, and-cases, and-intro}
+use Rattle.text_laws.specs.Tests.{cond-true, cond-false, or-cases, and-cases}
 use Rattle.text_spec.specs.Bytes.{isBlank, startsName, continuesName}
 use Rattle.text_spec.specs.Limits.{maxNameBytes, maxGroups}
 use Rattle.text_spec.specs.Lists.{bytes}
@@ -94,9 +94,12 @@ pub data Live (q : State) (k b : ℕ) : State → Type 0 where
   dies : Live q k b dead
   goes : {r : State} → Goes q k b r → Live q k b r
 
+by-cases : {q : State} {k b : ℕ} (t : Bool) {x y : State} → (T t → Live q k b x) → ((T t → ⊥) → Live q k b y) → Live q k b (cond t x y)
+by-cases true l m = l tt
+by-cases false l m = m (λ z. z)
+
 by-test : {q : State} {k b : ℕ} (t : Bool) {x y : State} → (T t → Live q k b x) → Live q k b y → Live q k b (cond t x y)
-by-test true l m = l tt
-by-test false l m = m
+by-test t l m = by-cases t l (λ n. m)
 
 by-byte : {q : State} {k : ℕ} (b c : ℕ) {x y : State} → Live q k c x → Live q k b y → Live q k b (cond (eqb b c) x y)
 by-byte {q} {k} b c {x} l m = by-test (eqb b c) (λ t. subst (λ (i : ℕ). Live q k i x) (sym (eqb→eq b c t)) l) m
@@ -141,52 +144,28 @@ live-beginning {q} {f} {fs} {h} k b v blank =
         let c = and-cases (eqb b 0x28) (ltb (suc (length fs)) maxGroups) t in
         subst (λ (i : ℕ). Live q k i (expecting fresh (f ∷ fs) h)) (sym (eqb→eq b 0x28 (c .0))) (goes (open-group v (ltb→lt (suc (length fs)) maxGroups (c .1))))
 
-live-open : (h : Head) (k b : ℕ) → Live (afterOpen h) k b (step (afterOpen h) k b)
-unfolding step
-live-open h k b = go (isBlank b) refl
-  where
-    rest : (T (isBlank b) → ⊥) → Live (afterOpen h) k b (cond (eqb b 0x23) (matching (bytes "#PCDATA") b dead (λ w. inPcdata w h)) (beginning fresh [] h k b))
-    rest n = go₂ (eqb b 0x23) refl
-      where
-        go₂ : (t : Bool) → eqb b 0x23 ≡ t → Live (afterOpen h) k b (cond t (matching (bytes "#PCDATA") b dead (λ w. inPcdata w h)) (beginning fresh [] h k b))
-        go₂ true e = by-byte b 0x23 (goes begin-pcdata) dies
-        go₂ false e = live-beginning k b due-first (λ t. absurd (n t))
-
-    go : (t : Bool) → isBlank b ≡ t
-        → Live (afterOpen h) k b (cond t (afterOpen h) (cond (eqb b 0x23) (matching (bytes "#PCDATA") b dead (λ w. inPcdata w h)) (beginning fresh [] h k b)))
-    go true e = goes (idle skip-open (subst T (sym e) tt))
-    go false e = rest (λ t. subst T e t)
-
 -- the rest of a keyword, which matches byte by byte
-live-element : (w : List ℕ) (o : Opening) (k b : ℕ) → Live (inKeyword w o) k b (matching w b (afterKeyword o) (λ v. inKeyword v o))
-live-element [] o k b = dies
-live-element (c ∷ []) o k b = by-byte b c (goes (spelt in-element)) dies
-live-element (c ∷ d ∷ w) o k b = by-byte b c (goes (spell in-element in-element)) dies
-
-live-empty : (w : List ℕ) (h : Head) (k b : ℕ) → Live (inEmpty w h) k b (matching w b (afterContent empty h) (λ v. inEmpty v h))
-live-empty [] h k b = dies
-live-empty (c ∷ []) h k b = by-byte b c (goes (spelt in-empty)) dies
-live-empty (c ∷ d ∷ w) h k b = by-byte b c (goes (spell in-empty in-empty)) dies
-
-live-pcdata : (w : List ℕ) (h : Head) (k b : ℕ) → Live (inPcdata w h) k b (matching w b (afterPcdata h) (λ v. inPcdata v h))
-live-pcdata [] h k b = dies
-live-pcdata (c ∷ []) h k b = by-byte b c (goes (spelt in-pcdata)) dies
-live-pcdata (c ∷ d ∷ w) h k b = by-byte b c (goes (spell in-pcdata in-pcdata)) dies
+live-spelling : {q z : State} {k b : ℕ} (w : List ℕ) (part : List ℕ → State) → Spelling q w z → ((v : List ℕ) → Spelling (part v) v z) → Live q k b (matching w b z part)
+live-spelling [] part s r = dies
+live-spelling {b} (c ∷ []) part s r = by-byte b c (goes (spelt s)) dies
+live-spelling {b} (c ∷ d ∷ w) part s r = by-byte b c (goes (spell s (r (d ∷ w)))) dies
 
 pub live : (q : State) (k b : ℕ) → Live q k b (step q k b)
 unfolding step
 live dead k b = dies
 live (between ds) k b = by-test (isBlank b) (λ t. goes (idle skip-between t)) (by-byte b 0x3C (goes begin-declaration) dies)
-live (inKeyword w o) k b = live-element w o k b
+live (inKeyword w o) k b = live-spelling w (λ v. inKeyword v o) in-element (λ v. in-element)
 live (afterKeyword o) k b = by-test (isBlank b) (λ t. goes (keyword-blank t)) dies
 live (beforeName o) k b = by-test (isBlank b) (λ t. goes (idle skip-name t)) (by-test (startsName b) (λ t. goes (begin-name t)) dies)
 live (inName j n o) k b =
     by-test (continuesName b) (λ t. live-longer n (λ l. grow-name t l)) (by-test (isBlank b) (λ t. goes (name-blank t)) dies)
 live (beforeContent h) k b =
     by-test (isBlank b) (λ t. goes (idle skip-content t)) (by-byte b 0x28 (goes open-content) (by-byte b 0x45 (goes begin-empty) dies))
-live (inEmpty w h) k b = live-empty w h k b
-live (afterOpen h) k b = live-open h k b
-live (inPcdata w h) k b = live-pcdata w h k b
+live (inEmpty w h) k b = live-spelling w (λ v. inEmpty v h) in-empty (λ v. in-empty)
+live (afterOpen h) k b =
+    by-cases (isBlank b) (λ t. goes (idle skip-open t))
+    (λ n. by-test (eqb b 0x23) (λ t. by-byte b 0x23 (goes begin-pcdata) dies) (live-beginning k b due-first (λ t. absurd (n t))))
+live (inPcdata w h) k b = live-spelling w (λ v. inPcdata v h) in-pcdata (λ v. in-pcdata)
 live (afterPcdata h) k b = by-test (isBlank b) (λ t. goes (idle skip-pcdata t)) (by-byte b 0x29 (goes close-pcdata) dies)
 live (expecting f fs h) k b = live-beginning k b due-next (λ t. idle skip-particle t)
 live (inUse j n f fs h) k b = by-test (continuesName b) (λ t. live-longer n (λ l. grow-use t l)) (live-indicating (f ∷ fs) k b at-name)

@@ -13,7 +13,7 @@ use Rattle.text_laws.specs.Lists.{empty-of}
 use Rattle.text_laws.specs.Tests.{or-left, or-right, or-cases}
 use Rattle.text_spec.specs.Bytes.{isForeign}
 use Rattle.text_spec.specs.Lists.{isEmpty, placesFrom}
-use Rattle.text_spec.specs.Refusals.{Reason, badLength, badByte, at, allAt}
+use Rattle.text_spec.specs.Refusals.{Reason, badLength, badByte, at}
 use Rattle.text_spec.specs.Texts.{lengthRefusals, byteRefusals, SplitAt, LengthApplies, ByteApplies}
 
 module _ {A : Type 0} where
