@@ -3,13 +3,13 @@
 use mathlib.Core.Bool.{Bool, true, false, cond, _&&_}
 use mathlib.Core.List.{List, [], _∷_, _++_, List·Memᴰ as In, List·Memᴰ·head as here, List·Memᴰ·tail as there, List·Memᴰ·append-cases as append-cases, Memᴰ·append-left as append-left, Memᴰ·append-right as append-right}
 use mathlib.Core.Logic.{⊎-elim}
-use mathlib.Core.Path.{_≡_, refl, sym, subst}
+use mathlib.Core.Path.{_≡_, refl, sym, ap, ap₂, subst, _∙_}
 use Prim.Native.Nat.{ℕ, _≤_, _<_}
 use native.Mathlib.Omega.{arith}
 use lib.Dec.{T, eqb, ltb, eqb→eq, eqb-refl, ltb→lt, lt→ltb}
 use Rattle.text_laws.specs.Lists.{in-map, map-in}
 use Rattle.text_laws.specs.Tests.{or-left, or-right, or-cases, and-intro, and-cases}
-use Rattle.text_spec.specs.Refusals.{Reason, numberOf, Refusal, at, allAt, given, before, firstFrom, firstOf, judged, Judged, turned-back, taken}
+use Rattle.text_spec.specs.Refusals.{Reason, badRecord, badLength, badByte, badSchema, overSchemaLimit, declaredTwice, undeclaredInModel, badPath, overPathLimit, undeclaredInPath, misspelt, badNesting, overDepth, undeclaredElement, badContent, overNodeLimit, badExtract, tooFewCells, numberOf, Refusal, at, allAt, given, before, firstFrom, firstOf, Outcome, accepted, refused, judged, IsFirst, Judged, turned-back, taken}
 
 -- f comes no later than g: by number, then by place
 record NoLater (f g : Refusal) : Type 0 where
@@ -118,6 +118,67 @@ judged-first Applies Gives (f ∷ fs) a found listed gives =
           let p = first-no-later f fs (at (firstFrom f fs .reason) (l .0)) (l .1) .by-place refl in
           omega (arith, l .2, p);
     })
+
+-- the reason with a number
+abbrev reasonOf : ℕ → Reason
+reasonOf n =
+    cond (eqb n 1) badRecord
+    (cond (eqb n 2) badLength
+    (cond (eqb n 3) badByte
+    (cond (eqb n 4) badSchema
+    (cond (eqb n 5) overSchemaLimit
+    (cond (eqb n 6) declaredTwice
+    (cond (eqb n 7) undeclaredInModel
+    (cond (eqb n 8) badPath
+    (cond (eqb n 9) overPathLimit
+    (cond (eqb n 10) undeclaredInPath
+    (cond (eqb n 11) misspelt
+    (cond (eqb n 12) badNesting
+    (cond (eqb n 13) overDepth
+    (cond (eqb n 14) undeclaredElement
+    (cond (eqb n 15) badContent
+    (cond (eqb n 16) overNodeLimit
+    (cond (eqb n 17) badExtract tooFewCells))))))))))))))))
+
+reason-numbered : (r : Reason) → reasonOf (numberOf r) ≡ r
+reason-numbered badRecord = refl
+reason-numbered badLength = refl
+reason-numbered badByte = refl
+reason-numbered badSchema = refl
+reason-numbered overSchemaLimit = refl
+reason-numbered declaredTwice = refl
+reason-numbered undeclaredInModel = refl
+reason-numbered badPath = refl
+reason-numbered overPathLimit = refl
+reason-numbered undeclaredInPath = refl
+reason-numbered misspelt = refl
+reason-numbered badNesting = refl
+reason-numbered overDepth = refl
+reason-numbered undeclaredElement = refl
+reason-numbered badContent = refl
+reason-numbered overNodeLimit = refl
+reason-numbered badExtract = refl
+reason-numbered tooFewCells = refl
+
+-- a number has one reason
+pub number-injective : (q r : Reason) → numberOf q ≡ numberOf r → q ≡ r
+number-injective q r e = sym (reason-numbered q) ∙ ap reasonOf e ∙ reason-numbered r
+
+-- the first refusal is one
+pub first-once : (Applies : Reason → ℕ → Type 0) {q r : Reason} {j k : ℕ} → IsFirst Applies q j → IsFirst Applies r k → (q ≡ r) × (j ≡ k)
+first-once Applies {q} {r} {j} {k} x y =
+    let e : q ≡ r = number-injective q r (omega (arith, x .lowest r k (y .applies), y .lowest q j (x .applies))) in
+    (e, omega (arith, x .earliest k (subst (λ (p : Reason). Applies p k) (sym e) (y .applies)), y .earliest j (subst (λ (p : Reason). Applies p j) e (x .applies))))
+
+-- So the conditions determine a reader's outcome, where they determine what a text gives.
+pub judged-once : {A : Type 0} (Applies : Reason → ℕ → Type 0) (Gives : A → Type 0) → ((a b : A) → Gives a → Gives b → a ≡ b) → {o p : Outcome A} → Judged Applies Gives o
+    → Judged Applies Gives p → o ≡ p
+judged-once Applies Gives same (turned-back {f = f} x) (turned-back {f = g} y) =
+    let e = first-once Applies x y in
+    ap refused (ap₂ at (e .0) (e .1))
+judged-once Applies Gives same (turned-back {f = f} x) (taken n g) = absurd (n (f .reason) (f .place) (x .applies))
+judged-once Applies Gives same (taken n g) (turned-back {f = f} x) = absurd (n (f .reason) (f .place) (x .applies))
+judged-once Applies Gives same (taken {a = a} n g) (taken {a = b} m h) = ap accepted (same a b g h)
 
 -- lists of refusals put together
 module _ (Applies : Reason → ℕ → Type 0) where

@@ -1,12 +1,12 @@
 -- Reading a schema text means what the grammar and the conditions say: the first refusal that applies, or the schema that the
 -- text's derivation gives. Assumes nothing.
 use mathlib.Core.List.{List, [], _∷_, _++_, List·Memᴰ as In, List·Memᴰ·head as here}
-use mathlib.Core.Path.{_≡_, refl, sym, subst}
+use mathlib.Core.Path.{_≡_, refl, sym, ap, subst}
 use Prim.Native.Nat.{ℕ}
 use native.Mathlib.Omega.{arith}
-use Rattle.schema_reading_laws.specs.Complete.{schema-complete}
+use Rattle.schema_reading_laws.specs.Complete.{schema-complete, schema-unique}
 use Rattle.schema_reading_laws.specs.Conditions.{limit-found, limit-listed, twice-found, twice-listed, undeclared-found, undeclared-listed}
-use Rattle.schema_reading_laws.specs.Order.{Found, Listed, judged-first, found-append, found-all, listed-left, listed-right, listed-all}
+use Rattle.schema_reading_laws.specs.Order.{Found, Listed, judged-first, judged-once, found-append, found-all, listed-left, listed-right, listed-all}
 use Rattle.schema_reading_laws.specs.Places.{schema-departs, departs-schema}
 use Rattle.schema_reading_laws.specs.Sound.{schema-sound}
 use Rattle.schema_reading_laws.specs.Texts.{length-found, length-listed, bytes-found, bytes-listed}
@@ -14,8 +14,9 @@ use Rattle.schema_spec.specs.Conditions.{SchemaApplies, length-2, byte-3, gramm
 use Rattle.schema_spec.specs.Grammar.{SchemaText}
 use Rattle.schema_spec.specs.Machine.{Parsed, spells, departs, parse}
 use Rattle.schema_spec.specs.Reading.{limitPlaces, twicePlaces, undeclaredPlaces, parsedRefusals, parsedSchema, schemaRefusals, readSchema}
+use Rattle.schema_spec.specs.Schemas.{Schema, schemaOf}
 use Rattle.text_spec.specs.Limits.{maxSchemaBytes}
-use Rattle.text_spec.specs.Refusals.{Reason, badSchema, overSchemaLimit, declaredTwice, undeclaredInModel, allAt, Judged}
+use Rattle.text_spec.specs.Refusals.{Reason, badSchema, overSchemaLimit, declaredTwice, undeclaredInModel, allAt, Outcome, Judged}
 use Rattle.text_spec.specs.Texts.{lengthRefusals, byteRefusals}
 
 module _ (text : List ℕ) where
@@ -78,3 +79,11 @@ pub schema-read : (text : List ℕ) → Judged (SchemaApplies text) (SchemaGives
 unfolding readSchema
 schema-read text =
     judged-first (SchemaApplies text) (SchemaGives text) (schemaRefusals text) (parsedSchema (parse text)) (schema-found text) (schema-listed text) (schema-given text (parse text) refl)
+
+-- a text gives at most one schema
+gives-once : (text : List ℕ) (s t : Schema) → SchemaGives text s → SchemaGives text t → s ≡ t
+gives-once text s t (gives m) (gives n) = ap schemaOf (schema-unique m n)
+
+-- and no other outcome of a text is so
+pub schema-read-once : (text : List ℕ) {o : Outcome Schema} → Judged (SchemaApplies text) (SchemaGives text) o → o ≡ readSchema text
+schema-read-once text j = judged-once (SchemaApplies text) (SchemaGives text) (gives-once text) j (schema-read text)
