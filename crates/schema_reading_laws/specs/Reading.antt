@@ -11,13 +11,24 @@ use Rattle.schema_reading_laws.specs.Places.{schema-departs, departs-sch
 use Rattle.schema_reading_laws.specs.Sound.{schema-sound}
 use Rattle.schema_reading_laws.specs.Texts.{length-found, length-listed, bytes-found, bytes-listed}
 use Rattle.schema_spec.specs.Conditions.{SchemaApplies, length-2, byte-3, grammar-4, limit-5, twice-6, undeclared-7, SchemaGives, gives}
+use Rattle.schema_spec.specs.Declarations.{Declaration}
 use Rattle.schema_spec.specs.Grammar.{SchemaText}
 use Rattle.schema_spec.specs.Machine.{Parsed, spells, departs, parse}
 use Rattle.schema_spec.specs.Reading.{limitPlaces, twicePlaces, undeclaredPlaces, parsedRefusals, parsedSchema, schemaRefusals, readSchema}
 use Rattle.schema_spec.specs.Schemas.{Schema, schemaOf}
 use Rattle.text_spec.specs.Limits.{maxSchemaBytes}
-use Rattle.text_spec.specs.Refusals.{Reason, badSchema, overSchemaLimit, declaredTwice, undeclaredInModel, allAt, Outcome, Judged}
+use Rattle.text_spec.specs.Refusals.{Reason, badSchema, overSchemaLimit, declaredTwice, undeclaredInModel, Refusal, allAt, Outcome, Judged}
 use Rattle.text_spec.specs.Texts.{lengthRefusals, byteRefusals}
+
+-- 5, 6 and 7 as they are found
+abbrev limits : List Declaration → List Refusal
+limits ds = allAt overSchemaLimit (limitPlaces ds)
+
+abbrev repeated : List Declaration → List Refusal
+repeated ds = allAt declaredTwice (twicePlaces [] ds)
+
+abbrev missing : List Declaration → List Refusal
+missing ds = allAt undeclaredInModel (undeclaredPlaces ds)
 
 module _ (text : List ℕ) where
   -- what is found by reading applies
@@ -28,9 +39,9 @@ module _ (text : List ℕ) where
       only j (here i) = subst (SchemaApplies text badSchema) (sym i) (grammar-4 (schema-departs text k e))
   parsed-found (spells ds) e =
       let m : SchemaText text ds = schema-sound text ds e in
-      found-append (SchemaApplies text) (allAt overSchemaLimit (limitPlaces ds)) (allAt declaredTwice (twicePlaces [] ds) ++ allAt undeclaredInModel (undeclaredPlaces ds))
+      found-append (SchemaApplies text) (limits ds) (repeated ds ++ missing ds)
       (found-all (SchemaApplies text) overSchemaLimit (limitPlaces ds) (λ k i. limit-5 m (limit-found ds k i)))
-      (found-append (SchemaApplies text) (allAt declaredTwice (twicePlaces [] ds)) (allAt undeclaredInModel (undeclaredPlaces ds))
+      (found-append (SchemaApplies text) (repeated ds) (missing ds)
       (found-all (SchemaApplies text) declaredTwice (twicePlaces [] ds) (λ k i. twice-6 m (twice-found ds k i)))
       (found-all (SchemaApplies text) undeclaredInModel (undeclaredPlaces ds) (λ k i. undeclared-7 m (undeclared-found ds k i))))
 
@@ -58,16 +69,16 @@ module _ (text : List ℕ) where
   schema-listed r k (grammar-4 d) = parsed-listed (departs k) (departs-schema text k d) (k, here refl, omega arith)
   schema-listed r k (limit-5 {ds = ds} m a) =
       parsed-listed (spells ds) (schema-complete m)
-      (listed-left (allAt overSchemaLimit (limitPlaces ds)) (allAt declaredTwice (twicePlaces [] ds) ++ allAt undeclaredInModel (undeclaredPlaces ds))
+      (listed-left (limits ds) (repeated ds ++ missing ds)
       (listed-all overSchemaLimit (limit-listed ds a)))
   schema-listed r k (twice-6 {ds = ds} m a) =
       parsed-listed (spells ds) (schema-complete m)
-      (listed-right (allAt overSchemaLimit (limitPlaces ds)) (allAt declaredTwice (twicePlaces [] ds) ++ allAt undeclaredInModel (undeclaredPlaces ds))
-      (listed-left (allAt declaredTwice (twicePlaces [] ds)) (allAt undeclaredInModel (undeclaredPlaces ds)) (listed-all declaredTwice (twice-listed ds a))))
+      (listed-right (limits ds) (repeated ds ++ missing ds)
+      (listed-left (repeated ds) (missing ds) (listed-all declaredTwice (twice-listed ds a))))
   schema-listed r k (undeclared-7 {ds = ds} m a) =
       parsed-listed (spells ds) (schema-complete m)
-      (listed-right (allAt overSchemaLimit (limitPlaces ds)) (allAt declaredTwice (twicePlaces [] ds) ++ allAt undeclaredInModel (undeclaredPlaces ds))
-      (listed-right (allAt declaredTwice (twicePlaces [] ds)) (allAt undeclaredInModel (undeclaredPlaces ds)) (listed-all undeclaredInModel (undeclared-listed ds a))))
+      (listed-right (limits ds) (repeated ds ++ missing ds)
+      (listed-right (repeated ds) (missing ds) (listed-all undeclaredInModel (undeclared-listed ds a))))
 
   -- a text against which nothing is found gives its derivation's schema
   schema-given : (x : Parsed) → parse text ≡ x → ((r : Reason) (k : ℕ) → SchemaApplies text r k → ⊥) → SchemaGives text (parsedSchema x)

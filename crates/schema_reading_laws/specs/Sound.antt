@@ -17,62 +17,78 @@ use Rattle.text_spec.specs.Bytes.{isBlank, startsName, continuesName, isName}
 use Rattle.text_spec.specs.Limits.{maxNameBytes, maxGroups}
 use Rattle.text_spec.specs.Lists.{bytes, allOf, isEmpty}
 
+-- what parts an open group
 abbrev partedBy : Frame → Separator
 partedBy fresh = unparted
 partedBy (holding s p) = s
 
 -- What may follow in each state, so that the text ends with the declarations `last`, the last one first: the rest of what is
 -- begun in the grammar's own terms, then the rest of what is around it.
+
+-- declarations to the end of the text
 data Declares (last : List Declaration) : List Declaration → ℕ → List ℕ → Type 0 where
   declares : {done ds : List Declaration} {k : ℕ} {w : List ℕ} → DeclarationsText k w ds → reverseAux ds done ≡ last → Declares last done k w
 
+-- blanks and `>`
 data Finishes (last : List Declaration) : Content Use → Head → ℕ → List ℕ → Type 0 where
   finishes : {c : Content Use} {h : Head} {k j : ℕ} {e z : List ℕ} → Blanks e → Declares last (declared c h ∷ h .opening .done) j z → j ≡ suc (k + length e)
       → Finishes last c h k (e ++ (0x3E ∷ z))
 
+-- after a particle: the end of the content, or the rest of the group around it with its indicator
 data Follows (last : List Declaration) : Particle Use → List Frame → Head → ℕ → List ℕ → Type 0 where
   outside : {p : Particle Use} {h : Head} {k : ℕ} {w : List ℕ} → Finishes last (children p) h k w → Follows last p [] h k w
   inside : {p g : Particle Use} {f : Frame} {fs : List Frame} {h : Head} {d k i j : ℕ} {b r z : List ℕ} → Blanks b → Model (rest (partedBy f) (join f p)) d i r g → (o : Indicator)
       → Follows last (indicated o g) fs h j z → suc (d + length fs) ≡ maxGroups → i ≡ k + length b → j ≡ i + length r + length (spellIndicator o)
       → Follows last p (f ∷ fs) h k (b ++ (r ++ (spellIndicator o ++ z)))
 
+-- after a group or a name: its indicator, if it has one
 data Closes (last : List Declaration) : Particle Use → List Frame → Head → ℕ → List ℕ → Type 0 where
   closes : {p : Particle Use} {fs : List Frame} {h : Head} {k j : ℕ} {z : List ℕ} (o : Indicator) → Follows last (indicated o p) fs h j z → j ≡ k + length (spellIndicator o)
       → Closes last p fs h k (spellIndicator o ++ z)
 
+-- in a name of the model: the rest of the name
 data Uses (last : List Declaration) : ℕ → List ℕ → Frame → List Frame → Head → ℕ → List ℕ → Type 0 where
   uses : {f : Frame} {fs : List Frame} {h : Head} {i j k : ℕ} {m n z : List ℕ} (t : List ℕ) → T (isName m) → m ≡ n ++ t
       → Closes last (named (record { place = j; name = m })) (f ∷ fs) h i z → i ≡ k + length t → Uses last j n f fs h k (t ++ z)
 
+-- blanks and a particle
 data Wants (last : List Declaration) : Frame → List Frame → Head → ℕ → List ℕ → Type 0 where
   wants : {p : Particle Use} {f : Frame} {fs : List Frame} {h : Head} {d i j k : ℕ} {a u z : List ℕ} → Blanks a → Model particle d i u p
       → Follows last p (f ∷ fs) h j z → suc (d + length fs) ≡ maxGroups → i ≡ k + length a → j ≡ i + length u → Wants last f fs h k (a ++ (u ++ z))
 
+-- the rest of `#PCDATA`, blanks and `)`
 data Pcdata (last : List Declaration) : List ℕ → Head → ℕ → List ℕ → Type 0 where
   pcdatas : {h : Head} {j k : ℕ} {u b z : List ℕ} → Blanks b → Finishes last pcdata h j z → j ≡ suc (k + length u + length b) → Pcdata last u h k (u ++ (b ++ (0x29 ∷ z)))
 
+-- after the outermost `(`
 data Opens (last : List Declaration) : Head → ℕ → List ℕ → Type 0 where
   with-model : {h : Head} {k : ℕ} {w : List ℕ} → Wants last fresh [] h k w → Opens last h k w
   with-text : {h : Head} {i k : ℕ} {a z : List ℕ} → Blanks a → Pcdata last pcdataKeyword h i z → i ≡ k + length a → Opens last h k (a ++ z)
 
+-- the rest of `EMPTY`
 data Empties (last : List Declaration) : List ℕ → Head → ℕ → List ℕ → Type 0 where
   empties : {h : Head} {j k : ℕ} {u z : List ℕ} → Finishes last empty h j z → j ≡ k + length u → Empties last u h k (u ++ z)
 
+-- blanks and the content
 data Contains (last : List Declaration) : Head → ℕ → List ℕ → Type 0 where
   contains : {c : Content Use} {h : Head} {i j k : ℕ} {b w z : List ℕ} → Blanks b → ContentText i w c → Finishes last c h j z → i ≡ k + length b → j ≡ i + length w
       → Contains last h k (b ++ (w ++ z))
 
+-- in the declared name: the rest of the name, and a blank
 data Names (last : List Declaration) : ℕ → List ℕ → Opening → ℕ → List ℕ → Type 0 where
   names : {o : Opening} {i j k : ℕ} {m n z : List ℕ} (t : List ℕ) (b : ℕ) → T (isName m) → m ≡ n ++ t → T (isBlank b) → Contains last (headed j m o) i z → i ≡ suc (k + length t)
       → Names last j n o k (t ++ (b ∷ z))
 
+-- blanks, the declared name, and a blank
 data Heads (last : List Declaration) : Opening → ℕ → List ℕ → Type 0 where
   heads : {o : Opening} {i j k : ℕ} {a n z : List ℕ} (b : ℕ) → Blanks a → T (isName n) → T (isBlank b) → Contains last (headed j n o) i z
       → j ≡ k + length a → i ≡ suc (j + length n) → Heads last o k (a ++ (n ++ (b ∷ z)))
 
+-- the rest of `<!ELEMENT`, and a blank
 data Keywords (last : List Declaration) : List ℕ → Opening → ℕ → List ℕ → Type 0 where
   keywords : {o : Opening} {i k : ℕ} {u z : List ℕ} (b : ℕ) → T (isBlank b) → Heads last o i z → i ≡ suc (k + length u) → Keywords last u o k (u ++ (b ∷ z))
 
+-- what may follow in a state
 abbrev Completes : List Declaration → State → ℕ → List ℕ → Type 0
 Completes last dead k w = ⊥
 Completes last (between done) k w = Declares last done k w
@@ -300,7 +316,7 @@ wants-name : {last : List Declaration} {f : Frame} {fs : List Frame} {h : Head} 
     → Wants last f fs h k (b ∷ w)
 wants-name {last} {f} {fs} {h} {k} {b} l (uses {m = m} t s e (closes {z = z} o r e₁) e₂) =
     subst (λ (v : List ℕ). Wants last f fs h k v) (append-assoc m (spellIndicator o) z ∙ ap (λ (v : List ℕ). v ++ (spellIndicator o ++ z)) e)
-    (wants {a = []} none (a-name {d = 7 - length fs} m s o) r (omega arith) (omega arith) (omega (arith, simp length-append at (ap length e), length-append m (spellIndicator o))))
+    (wants {a = []} none (a-name {d = maxGroups - suc (length fs)} m s o) r (omega arith) (omega arith) (omega (arith, simp length-append at (ap length e), length-append m (spellIndicator o))))
 
 holds-parted : {f : Frame} {s : Separator} → Holds f s → s ≡ partedBy f
 holds-parted holds-one = refl
@@ -318,7 +334,7 @@ follows-part {last} {p} {f} {fs} {h} {k} {x} {s} {t} v c (wants {d = d} {a = a} 
 
 follows-close : {last : List Declaration} {p : Particle Use} {f : Frame} {fs : List Frame} {h : Head} {k : ℕ} {w : List ℕ} → length fs < maxGroups → Closes last (join f p) fs h (suc k) w
     → Follows last p (f ∷ fs) h k (0x29 ∷ w)
-follows-close {fs} {k} l (closes o r e) = inside {k = k} none (close {d = 7 - length fs} {k = k}) o r (omega arith) (omega arith) (omega arith)
+follows-close {fs} {k} l (closes o r e) = inside {k = k} none (close {d = maxGroups - suc (length fs)} {k = k}) o r (omega arith) (omega arith) (omega arith)
 
 closes-mark : {last : List Declaration} {p : Particle Use} {fs : List Frame} {h : Head} {k b : ℕ} {o : Indicator} {w : List ℕ} → Marks o b → Follows last (indicated o p) fs h (suc k) w
     → Closes last p fs h k (b ∷ w)
