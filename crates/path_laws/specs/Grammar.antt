@@ -1,2 +1,4 @@
 pub mod Runs
+pub mod Joined
 pub mod Complete
+pub mod Sound

@@ -6,6 +6,7 @@ use Prim.Native.Nat.{ℕ, suc, _+_, _-_, _≤_}
 use native.Mathlib.Omega.{arith}
 use lib.Dec.{T, eqb, leb, ltb, leb→le, lt→ltb}
 use lib.ListN.{length, length-append}
+use Rattle.path_laws.specs.Grammar.Joined.{reversed-filled}
 use Rattle.path_laws.specs.Grammar.Runs.{final, final-append, run-alive}
 use Rattle.path_spec.specs.Grammar.{PathRead, orWord, TestText, a-name, any-node, any-text, PlainText, plain, AlternativeText, one-step, more-steps, ConditionText, one-alternative, more-alternatives, StepText, bare, conditional, PathText, last-step, next-step, BundleText, last-path, next-path}
 use Rattle.path_spec.specs.Machine.{Outer, Inner, Context, outside, inside, State, lineStart, beforeTest, inTest, afterCall, afterBrackets, beginStep, withStep, withPlain, withAlternative, bracketed, tested, isDead, step, spells, atEnd, parse}
@@ -213,10 +214,6 @@ lines-read {k} (next-path {w = w} {r = r} {p = p} t b) qs = line-read t r qs ∙
 spelt : (qs : List PathRead) (k : ℕ) → isEmpty qs ≡ false → atEnd (lineStart qs) k ≡ spells (reverse qs)
 spelt [] k e = cc
 spelt (q ∷ qs) k e = refl
-
-reversed-filled : (ps qs : List PathRead) → isEmpty qs ≡ false → isEmpty (reverseAux ps qs) ≡ false
-reversed-filled [] qs e = e
-reversed-filled (p ∷ ps) qs e = reversed-filled ps (p ∷ qs) refl
 
 bundle-filled : {k : ℕ} {w : List ℕ} {ps : List PathRead} → BundleText k w ps → isEmpty (reverse ps) ≡ false
 bundle-filled (last-path t) = refl
