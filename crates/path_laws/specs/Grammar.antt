@@ -2,3 +2,4 @@ pub mod Runs
 pub mod Joined
 pub mod Complete
 pub mod Sound
+pub mod Places

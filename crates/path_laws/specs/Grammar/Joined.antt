@@ -1,7 +1,7 @@
 -- Parts read from left to right, the last first, make the lists of the grammar: alternatives, conditions, paths, bundles. Assumes nothing.
 use mathlib.Core.List.{List, [], _∷_, _++_, reverse, reverseAux, append-assoc, append-nil}
 use mathlib.Core.Bool.{false}
-use mathlib.Core.Path.{_≡_, refl, subst, sym}
+use mathlib.Core.Path.{_≡_, refl, subst}
 use Prim.Native.Nat.{ℕ, suc, _+_}
 use native.Mathlib.Nat.{add-zero}
 use native.Mathlib.Omega.{arith}

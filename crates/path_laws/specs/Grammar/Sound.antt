@@ -5,13 +5,13 @@ use mathlib.Core.Path.{_≡_, refl, sym, ap, subst, _∙_}
 use Prim.Native.Nat.{ℕ, suc, _+_, _-_, _≤_}
 use native.Mathlib.Nat.{zero-add}
 use native.Mathlib.Omega.{arith}
-use lib.Dec.{T, eqb, leb, ltb, eqb→eq, leb→le, le→leb, ltb→lt}
+use lib.Dec.{T, eqb, leb, ltb, eqb→eq, le→leb, ltb→lt}
 use lib.ListN.{length, length-append}
 use Rattle.path_laws.specs.Grammar.Joined.{Before, none-before, one-more, slash, lineFeed, alternative-joined, condition-joined, path-joined, Line, a-line, Lines, no-lines, some-lines, lines-joined, reversed-filled}
 use Rattle.path_laws.specs.Grammar.Runs.{final, run-spells}
-use Rattle.path_spec.specs.Grammar.{PathRead, nodeCall, textCall, orWord, TestText, a-name, any-node, any-text, PlainText, plain, AlternativeText, ConditionText, StepText, bare, conditional, PathText, BundleText}
+use Rattle.path_spec.specs.Grammar.{PathRead, nodeCall, textCall, orWord, TestText, a-name, any-node, any-text, PlainText, plain, AlternativeText, StepText, bare, conditional, PathText, BundleText}
 use Rattle.path_spec.specs.Machine.{Choice, allChoices, Outer, Inner, Context, outside, inside, State, dead, lineStart, inAxis, beforeTest, inTest, inCall, afterCall, inOr, afterBrackets, goesOn, goingOn, axisBy, beginStep, withStep, withPlain, withAlternative, bracketed, stepDone, tested, callOf, orByte, step, spells, parse}
-use Rattle.path_spec.specs.Paths.{WrittenAxis, spellAxis, NodeTest, named, anyNode, anyText, WrittenStep, PlainStep, Condition, Path}
+use Rattle.path_spec.specs.Paths.{WrittenAxis, spellAxis, NodeTest, named, WrittenStep, PlainStep, Condition, Path}
 use Rattle.schema_spec.specs.Declarations.{Use}
 use Rattle.text_laws.specs.Lists.{bytes-equal}
 use Rattle.text_laws.specs.Tests.{and-cases, and-intro}
