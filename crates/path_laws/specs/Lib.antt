@@ -1,3 +1,4 @@
 pub mod Nodes
 pub mod Selection
+pub mod Order
 pub mod Grammar
