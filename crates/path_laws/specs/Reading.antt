@@ -164,28 +164,31 @@ module _ (s : Schema) (text : List ℕ) where
       let p = n .sound f i in
       subst (λ (q : Reason). BundleApplies s text q (f .place)) (sym (p .0)) (h (f .place) (p .1))
 
-  abbrev Means : Parsed → Type 0
-  Means r = Judged (BundleApplies s text) (BundleGives s text) (judged (lengthRefusals maxBundleBytes text ++ (byteRefusals text ++ parsedRefusals s r)) (parsedPaths s r))
+  -- refusals 2 and 3 before those of the parse
+  abbrev withTextual : List Refusal → List Refusal
+  withTextual fs = lengthRefusals maxBundleBytes text ++ (byteRefusals text ++ fs)
 
-  -- refusals 2 and 3 beside those of the parse
+  abbrev Means : Parsed → Type 0
+  Means r = Judged (BundleApplies s text) (BundleGives s text) (judged (withTextual (parsedRefusals s r)) (parsedPaths s r))
+
   found-sound : (fs : List Refusal) → ((f : Refusal) → In f fs → BundleApplies s text (f .reason) (f .place)) → (f : Refusal)
-      → In f (lengthRefusals maxBundleBytes text ++ (byteRefusals text ++ fs)) → BundleApplies s text (f .reason) (f .place)
+      → In f (withTextual fs) → BundleApplies s text (f .reason) (f .place)
   found-sound fs h f i =
       ⊎-elim (applies-at (length-found maxBundleBytes text) (λ k p. length-2 p) f)
       (λ j. ⊎-elim (applies-at (bytes-found text) (λ k p. byte-3 p) f) (h f) (append-cases (byteRefusals text) j)) (append-cases (lengthRefusals maxBundleBytes text) i)
 
-  length-in : (fs : List Refusal) {k : ℕ} → LengthApplies maxBundleBytes text k → In (at badLength k) (lengthRefusals maxBundleBytes text ++ (byteRefusals text ++ fs))
+  length-in : (fs : List Refusal) {k : ℕ} → LengthApplies maxBundleBytes text k → In (at badLength k) (withTextual fs)
   length-in fs {k} p = append-left (byteRefusals text ++ fs) (length-found maxBundleBytes text .complete k p)
 
-  byte-in : (fs : List Refusal) {k : ℕ} → ByteApplies text k → In (at badByte k) (lengthRefusals maxBundleBytes text ++ (byteRefusals text ++ fs))
+  byte-in : (fs : List Refusal) {k : ℕ} → ByteApplies text k → In (at badByte k) (withTextual fs)
   byte-in fs {k} p = append-right (lengthRefusals maxBundleBytes text) (append-left fs (bytes-found text .complete k p))
 
-  parsed-in : (fs : List Refusal) {f : Refusal} → In f fs → In f (lengthRefusals maxBundleBytes text ++ (byteRefusals text ++ fs))
+  parsed-in : (fs : List Refusal) {f : Refusal} → In f fs → In f (withTextual fs)
   parsed-in fs i = append-right (lengthRefusals maxBundleBytes text) (append-right (byteRefusals text) i)
 
   departed : (k : ℕ) → parse text ≡ departs k → Means (departs k)
   departed k e =
-      judged-means (lengthRefusals maxBundleBytes text ++ (byteRefusals text ++ (at badPath k ∷ []))) []
+      judged-means (withTextual (at badPath k ∷ [])) []
       (found-sound (at badPath k ∷ []) (applies-at (departs-found text k e) (λ k p. grammar-8 p))) (λ r j p. complete p)
       (λ free. absurd (free badPath k (grammar-8 (parse-departs text k e))))
     where
@@ -194,7 +197,7 @@ module _ (s : Schema) (text : List ℕ) where
           let f : departs k ≡ spells ps = sym e ∙ parse-complete b in
           absurd (let z : _≡_ {A = ℕ} 0 1 = cc in omega arith)
 
-      complete : {r : Reason} {j : ℕ} → BundleApplies s text r j → In (at r j) (lengthRefusals maxBundleBytes text ++ (byteRefusals text ++ (at badPath k ∷ [])))
+      complete : {r : Reason} {j : ℕ} → BundleApplies s text r j → In (at r j) (withTextual (at badPath k ∷ []))
       complete (length-2 p) = length-in (at badPath k ∷ []) p
       complete (byte-3 p) = byte-in (at badPath k ∷ []) p
       complete (grammar-8 {k = j} p) = parsed-in (at badPath k ∷ []) (departs-found text k e .complete j p)
@@ -203,7 +206,7 @@ module _ (s : Schema) (text : List ℕ) where
 
   spelt : (ps : List PathRead) → parse text ≡ spells ps → Means (spells ps)
   spelt ps e =
-      judged-means (lengthRefusals maxBundleBytes text ++ (byteRefusals text ++ found)) (parsedPaths s (spells ps)) (found-sound found sound) (λ r j p. complete p)
+      judged-means (withTextual found) (parsedPaths s (spells ps)) (found-sound found sound) (λ r j p. complete p)
       (λ free. gives bundle)
     where
       bundle : BundleText 0 text ps
@@ -216,7 +219,7 @@ module _ (s : Schema) (text : List ℕ) where
       sound f i =
           ⊎-elim (applies-at (limits-found ps) (λ k p. limit-9 bundle p) f) (applies-at (undeclared-found s ps) (λ k p. undeclared-10 bundle p) f) (append-cases (limitRefusals 0 ps) i)
 
-      complete : {r : Reason} {j : ℕ} → BundleApplies s text r j → In (at r j) (lengthRefusals maxBundleBytes text ++ (byteRefusals text ++ found))
+      complete : {r : Reason} {j : ℕ} → BundleApplies s text r j → In (at r j) (withTextual found)
       complete (length-2 p) = length-in found p
       complete (byte-3 p) = byte-in found p
       complete (grammar-8 {k = j} p) = absurd (grammatical-stays Grammatical text j (ps, bundle) p)
