@@ -1,2 +1,4 @@
 pub mod Nodes
 pub mod Selection
+pub mod Grammar
+pub mod Reading

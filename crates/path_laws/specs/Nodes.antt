@@ -1,9 +1,7 @@
 -- The tests on nodes mean what they say: `same` equality, `isParent` an edge, `isAbove` the edges' closure. Assumes nothing.
-use mathlib.Core.Bool.{Bool, true, false, _&&_, _||_}
-use mathlib.Core.List.{List}
-use mathlib.Core.Logic.{_⊎_, inl, inr, ⊎-elim}
-use mathlib.Core.Path.{_≡_, refl, sym, ap, subst}
-use Prim.Native.Nat.{ℕ}
+use mathlib.Core.Bool.{_&&_}
+use mathlib.Core.Logic.{⊎-elim}
+use mathlib.Core.Path.{_≡_, sym, ap, subst}
 use lib.Dec.{T, eqb, eqb→eq, eqb-refl}
 use Rattle.schema_laws.specs.Names.{same-equal, same-name}
 use Rattle.schema_spec.specs.Names.{Name, sameName}

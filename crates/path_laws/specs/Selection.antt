@@ -1,17 +1,24 @@
 -- What a path selects by computing is what it selects as a set of nodes, given in document order. Assumes nothing.
-use mathlib.Core.Bool.{Bool, true, false, cond, not, _&&_, _||_}
-use mathlib.Core.List.{List, [], _∷_, map, List·Memᴰ as In, List·Memᴰ·head as here, List·Memᴰ·tail as there, List·Memᴰ·eq-of-singleton as of-singleton, Sublistᴰ, Sublistᴰ·slnil, Sublistᴰ·cons, Sublistᴰ·cons-cons, Pairwise, Pairwise·sublistᴰ, List·Nodup}
-use mathlib.Core.Logic.{_⊎_, inl, inr, ⊎-elim}
-use mathlib.Core.Path.{_≡_, refl, sym, ap, subst}
-use Prim.Native.Nat.{ℕ, _<_}
-use lib.Dec.{T, eqb, eqb→eq, eqb-refl}
+use mathlib.Core.Bool.{Bool, true, false, cond, not, _&&_}
+use mathlib.Core.List.{List, [], _∷_, _++_, map, List·Memᴰ as In, List·Memᴰ·head as here, List·Memᴰ·tail as there, List·Memᴰ·eq-of-singleton as of-singleton, Sublistᴰ, Sublistᴰ·slnil, Sublistᴰ·cons, Sublistᴰ·cons-cons, Pairwise, Pairwise·nil, Pairwise·cons, Pairwise·sublistᴰ, List·Nodup}
+use mathlib.Core.Logic.{⊎-elim, ∥∥₁-elim}
+use mathlib.Core.Option.{Option, none, some}
+use mathlib.Core.Path.{_≡_, refl, sym, ap, subst, _∙_}
+use Prim.Native.Nat.{ℕ, suc, _<_}
+use native.Mathlib.Bridge.{le-prop}
+use native.Mathlib.Omega.{arith}
+use lib.Dec.{T, eqb→eq, eqb-refl}
+use lib.ListN.{getElem?}
 use Rattle.path_laws.specs.Nodes.{nodes-equal, nodes-same, parent-edge, edge-parent, test-above, above-test}
 use Rattle.path_spec.specs.Paths.{Axis, self, child, descendant, descendantOrSelf, parent, ancestor, ancestorOrSelf, WrittenAxis, along, NodeTest, named, anyNode, anyText, WrittenStep, PlainStep, Condition, Path}
-use Rattle.path_spec.specs.Selection.{NodeSet, Passes, passes-name, passes-node, passes-text, OnAxis, on-self, on-child, on-descendant, here-or-below, below-or-here, on-parent, on-ancestor, here-or-above, above-or-here, OnWritten, on-along, StepSet, PathSet, Always, Only, Holds, no-condition, alternative, Roots, Selected, passes, onAxis, onWritten, stepFrom, pathFrom, always, holdsAt, selected, select}
+use Rattle.path_spec.specs.Selection.{NodeSet, Passes, passes-name, passes-node, passes-text, OnAxis, on-self, on-child, on-descendant, here-or-below, below-or-here, on-parent, on-ancestor, here-or-above, above-or-here, OnWritten, on-along, StepSet, PathSet, Always, Only, Holds, no-condition, alternative, Selected, passes, onAxis, onWritten, stepFrom, pathFrom, always, holdsAt, selected, select, selectRows}
 use Rattle.schema_spec.specs.Names.{Name, element, text}
-use Rattle.table_spec.specs.Nodes.{Node, numberOf, nameOf, isTop, same, Above, isParent, isAbove}
+use Rattle.schema_spec.specs.Types.{Types}
+use Rattle.table_spec.specs.Conditions.{RowAt, WellFormed}
+use Rattle.table_spec.specs.Nodes.{Node, attach, nodeAt, nodesFrom, nodesOf, numberOf, nameOf, isTop, same, isAbove}
+use Rattle.table_spec.specs.Rows.{Row, textOf}
 use Rattle.text_laws.specs.Lists.{any-in, in-any, in-filter, filter-in, member-fills}
-use Rattle.text_laws.specs.Tests.{or-left, or-right, or-cases, and-intro, and-cases, not-intro, not-elim}
+use Rattle.text_laws.specs.Tests.{or-left, or-right, or-cases, and-intro, and-cases, not-intro}
 use Rattle.text_spec.specs.Lists.{anyOf, filterBy, isEmpty}
 
 -- ---- tests and axes
@@ -58,15 +65,15 @@ pub on-written-test : {a : WrittenAxis} {x y : Node} → OnWritten a x y → T (
 on-written-test (on-along o) = on-axis-test o
 
 -- a list has exactly the members of a set
-pub record Lists (xs : List Node) (S : NodeSet) : Type 0 where
+pub record Members (xs : List Node) (S : NodeSet) : Type 0 where
   pub sound : (y : Node) → In y xs → S y
   pub complete : (y : Node) → S y → In y xs
 
 -- ---- steps and paths, over a condition whose test means what it says
 module _ {C : Type 0} (doc : List Node) (Meets : C → NodeSet) (meets : List Node → C → Node → Bool)
     (met : (c : C) (y : Node) → T (meets doc c y) → Meets c y) (meet : (c : C) (y : Node) → Meets c y → T (meets doc c y)) where
-  pub step-lists : {xs : List Node} {S : NodeSet} (p : WrittenStep ℕ C) → Lists xs S → Lists (stepFrom meets doc p xs) (StepSet doc Meets p S)
-  step-lists {xs} {S} p l = record { sound = to; complete = from }
+  pub step-members : {xs : List Node} {S : NodeSet} (p : WrittenStep ℕ C) → Members xs S → Members (stepFrom meets doc p xs) (StepSet doc Meets p S)
+  step-members {xs} {S} p l = record { sound = to; complete = from }
     where
       reached : Node → Bool
       reached y = anyOf (λ x. onWritten (p .axis) x y) xs
@@ -95,14 +102,14 @@ module _ {C : Type 0} (doc : List Node) (Meets : C → NodeSet) (meets : List No
           (and-intro (reached y) (passed y) (any-in (λ x. onWritten (p .axis) x y) (l .complete (s .from) (s .member)) (on-written-test (s .axis)))
           (and-intro (passes (p .test) (nameOf y)) (meets doc (p .condition) y) (test-passes (s .test)) (meet (p .condition) y (s .condition))))
 
-  pub path-lists : {xs : List Node} {S : NodeSet} (ps : List (WrittenStep ℕ C)) → Lists xs S → Lists (pathFrom meets doc ps xs) (PathSet doc Meets ps S)
-  path-lists [] l = l
-  path-lists (p ∷ ps) l = path-lists ps (step-lists p l)
+  pub path-members : {xs : List Node} {S : NodeSet} (ps : List (WrittenStep ℕ C)) → Members xs S → Members (pathFrom meets doc ps xs) (PathSet doc Meets ps S)
+  path-members [] l = l
+  path-members (p ∷ ps) l = path-members ps (step-members p l)
 
 -- ---- conditions
-pub plain-lists : (doc : List Node) (q : List (PlainStep ℕ)) (y : Node) → Lists (pathFrom always doc q (y ∷ [])) (PathSet doc Always q (Only y))
-plain-lists doc q y =
-    path-lists doc Always always (λ c z t. tt) (λ c z t. tt) q (record { sound = λ z i. sym (of-singleton i); complete = λ z e. here (sym e) })
+pub plain-members : (doc : List Node) (q : List (PlainStep ℕ)) (y : Node) → Members (pathFrom always doc q (y ∷ [])) (PathSet doc Always q (Only y))
+plain-members doc q y =
+    path-members doc Always always (λ c z t. tt) (λ c z t. tt) q (record { sound = λ z i. sym (of-singleton i); complete = λ z e. here (sym e) })
 
 filled : (xs : List Node) → T (not (isEmpty xs)) → (z : Node) × In z xs
 filled [] t = absurd t
@@ -113,27 +120,27 @@ test-holds doc [] y t = no-condition
 test-holds doc (q ∷ c) y t =
     let r = in-any (λ q. not (isEmpty (pathFrom always doc q (y ∷ [])))) (q ∷ c) t in
     let z = filled (pathFrom always doc (r .0) (y ∷ [])) (r .2) in
-    alternative (r .0) (z .0) (r .1) (plain-lists doc (r .0) y .sound (z .0) (z .1))
+    alternative (r .0) (z .0) (r .1) (plain-members doc (r .0) y .sound (z .0) (z .1))
 
 pub holds-test : {doc : List Node} {c : Condition ℕ} {y : Node} → Holds doc c y → T (holdsAt doc c y)
 holds-test no-condition = tt
 holds-test {doc} (alternative {c = c} {y = y} q z i s) =
     or-right (isEmpty c) (anyOf (λ p. not (isEmpty (pathFrom always doc p (y ∷ [])))) c)
     (any-in (λ p. not (isEmpty (pathFrom always doc p (y ∷ [])))) i
-    (not-intro (isEmpty (pathFrom always doc q (y ∷ []))) (member-fills (plain-lists doc q y .complete z s))))
+    (not-intro (isEmpty (pathFrom always doc q (y ∷ []))) (member-fills (plain-members doc q y .complete z s))))
 
 -- ---- a path selects what 000 says
-pub selected-lists : (doc : List Node) (p : Path ℕ) → Lists (selected doc p) (Selected doc p)
+pub selected-members : (doc : List Node) (p : Path ℕ) → Members (selected doc p) (Selected doc p)
 unfolding selected
-selected-lists doc p =
-    path-lists doc (Holds doc) holdsAt (test-holds doc) (λ c y h. holds-test h) p
+selected-members doc p =
+    path-members doc (Holds doc) holdsAt (test-holds doc) (λ c y h. holds-test h) p
     (record { sound = λ y i. filter-in isTop doc i; complete = λ y r. in-filter isTop (r .0) (r .1) })
 
 pub selected-sound : (doc : List Node) (p : Path ℕ) (y : Node) → In y (selected doc p) → Selected doc p y
-selected-sound doc p y i = selected-lists doc p .sound y i
+selected-sound doc p y i = selected-members doc p .sound y i
 
 pub selected-complete : (doc : List Node) (p : Path ℕ) (y : Node) → Selected doc p y → In y (selected doc p)
-selected-complete doc p y s = selected-lists doc p .complete y s
+selected-complete doc p y s = selected-members doc p .complete y s
 
 -- ---- "Selection is a set, given in document order"
 -- what a path leads to is picked from the document by a test, whatever it starts from
@@ -172,3 +179,43 @@ sublist-map f (Sublistᴰ·cons-cons e s) = Sublistᴰ·cons-cons (ap f e) (subl
 pub select-rises : (doc : List Node) (p : Path ℕ) → Pairwise _<_ (map numberOf doc) → Pairwise _<_ (select doc p)
 unfolding select
 select-rises doc p r = Pairwise·sublistᴰ (sublist-map numberOf (selected-in-order doc p)) r
+
+-- ---- on a table
+node-numbered : (k : ℕ) (n : Name) (w : List ℕ) (p : Option Node) → numberOf (attach k n w p) ≡ k
+node-numbered k n w none = refl
+node-numbered k n w (some p) = refl
+
+nodes-from-numbered : (lent : List ℕ) (before : List Node) (rows : List Row) → map numberOf (nodesFrom lent before rows) ≡ map (λ r. r .number) rows
+nodes-from-numbered lent before [] = refl
+nodes-from-numbered lent before (r ∷ rows) =
+    let y = nodeAt lent before r in
+    ap (λ (k : ℕ). k ∷ map numberOf (nodesFrom lent (before ++ (y ∷ [])) rows)) (node-numbered (r .number) (r .name) (textOf lent r) (getElem? before (r .parent)))
+    ∙ ap (λ (l : List ℕ). r .number ∷ l) (nodes-from-numbered lent (before ++ (y ∷ [])) rows)
+
+pub nodes-numbered : (lent : List ℕ) (rows : List Row) → map numberOf (nodesOf lent rows) ≡ map (λ r. r .number) rows
+unfolding nodesOf
+nodes-numbered lent rows = nodes-from-numbered lent [] rows
+
+-- each row's number is above that of the row before
+abbrev RiseByOne : List Row → Type 0
+RiseByOne rows = (i : ℕ) (q r : Row) → RowAt rows i q → RowAt rows (suc i) r → q .number < r .number
+
+later-above : (r : Row) (rows : List Row) → RiseByOne (r ∷ rows) → (k : ℕ) → In k (map (λ q. q .number) rows) → r .number < k
+later-above r [] h k i = elim i [ ]
+later-above r (q ∷ rows) h k (here e) =
+    let l : r .number < q .number = h 0 r q refl refl in
+    omega arith
+later-above r (q ∷ rows) h k (there i) =
+    let l : r .number < q .number = h 0 r q refl refl in
+    let m : q .number < k = later-above q rows (λ j x y a b. h (suc j) x y a b) k i in
+    omega arith
+
+all-rise : (rows : List Row) → RiseByOne rows → Pairwise _<_ (map (λ r. r .number) rows)
+all-rise [] h = Pairwise·nil
+all-rise (r ∷ rows) h =
+    Pairwise·cons (λ k m. ∥∥₁-elim m le-prop (λ i. later-above r rows h k i)) (all-rise rows (λ j x y a b. h (suc j) x y a b))
+
+pub select-rows-rises : (s : Types) (lent : List ℕ) (rows : List Row) (p : Path ℕ) → WellFormed s rows → Pairwise _<_ (selectRows lent rows p)
+unfolding selectRows
+select-rows-rises s lent rows p w =
+    select-rises (nodesOf lent rows) p (rw (nodes-numbered lent rows) (all-rise rows (λ i q r a b. w .laterRow i q r a b .rises)))

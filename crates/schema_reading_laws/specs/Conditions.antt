@@ -7,7 +7,7 @@ use Prim.Native.Nat.{ℕ, suc}
 use native.Mathlib.Omega.{arith}
 use lib.Dec.{T}
 use lib.ListN.{drop}
-use Rattle.schema_reading_laws.specs.Texts.{split-first, split-later, drop-split, split-drop}
+use Rattle.text_laws.specs.Texts.{split-first, split-later, drop-split, split-drop}
 use Rattle.schema_spec.specs.Conditions.{OverLimit, declaration, modelName, Twice, twice, Undeclared, undeclared}
 use Rattle.schema_spec.specs.Declarations.{Use, Declaration}
 use Rattle.schema_spec.specs.Reading.{usesOf, limitPlaces, twicePlaces, undeclaredPlaces}

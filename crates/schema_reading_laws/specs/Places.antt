@@ -6,7 +6,7 @@ use native.Mathlib.Omega.{arith}
 use lib.ListN.{length, take, length-append}
 use lib.Seq.{take-at}
 use Rattle.schema_reading_laws.specs.Complete.{schema-complete, keyword-path}
-use Rattle.schema_reading_laws.specs.Departures.{departs-once, departs-not}
+use Rattle.text_laws.specs.Departures.{departs-once, departs-not}
 use Rattle.schema_reading_laws.specs.Runs.{Ran, ends-well, ends-early, breaks-off, ran}
 use Rattle.schema_reading_laws.specs.Sound.{Invariant, goes-invariant, path-grammatical, schema-sound}
 use Rattle.schema_reading_laws.specs.Steps.{Spelling, in-element, in-empty, in-pcdata, Due, due-first, due-next, at-name, at-closed, Over, unmarked, at-past, Finished, at-model, at-content, Goes, begin-declaration, keyword-blank, begin-name, name-blank, begin-empty, close-pcdata, begin-use, over-close, finish, Path, stay, go, path-append, run-path}

@@ -6,10 +6,10 @@ use Prim.Native.Nat.{ℕ}
 use native.Mathlib.Omega.{arith}
 use Rattle.schema_reading_laws.specs.Complete.{schema-complete, schema-unique}
 use Rattle.schema_reading_laws.specs.Conditions.{limit-found, limit-listed, twice-found, twice-listed, undeclared-found, undeclared-listed}
-use Rattle.schema_reading_laws.specs.Order.{Found, Listed, judged-first, judged-once, found-append, found-all, listed-left, listed-right, listed-all}
+use Rattle.text_laws.specs.Order.{Found, Listed, judged-first, judged-once, found-append, found-all, listed-left, listed-right, listed-all}
 use Rattle.schema_reading_laws.specs.Places.{schema-departs, departs-schema}
 use Rattle.schema_reading_laws.specs.Sound.{schema-sound}
-use Rattle.schema_reading_laws.specs.Texts.{length-found, length-listed, bytes-found, bytes-listed}
+use Rattle.text_laws.specs.Texts.{length-found, length-listed, bytes-found, bytes-listed}
 use Rattle.schema_spec.specs.Conditions.{SchemaApplies, length-2, byte-3, grammar-4, limit-5, twice-6, undeclared-7, SchemaGives, gives}
 use Rattle.schema_spec.specs.Declarations.{Declaration}
 use Rattle.schema_spec.specs.Grammar.{SchemaText}

@@ -8,9 +8,9 @@ use native.Mathlib.Omega.{arith}
 use lib.Dec.{T, ltb, ltb→lt, lt→ltb}
 use lib.ListN.{length, drop}
 use lib.Seq.{drop-append-le}
-use Rattle.schema_reading_laws.specs.Order.{Found, Listed, found-given, found-all, listed-given, listed-all}
+use Rattle.text_laws.specs.Order.{Found, Listed, found-given, found-all, listed-given, listed-all}
 use Rattle.text_laws.specs.Lists.{empty-of}
 use Rattle.text_laws.specs.Tests.{or-left, or-right, or-cases}
 use Rattle.text_spec.specs.Bytes.{isForeign}
 use Rattle.text_spec.specs.Lists.{isEmpty, placesFrom}
 use Rattle.text_spec.specs.Refusals.{Reason, badLength, badByte, at}
