@@ -1,15 +1,15 @@
 -- What is known of a schema that was accepted: its limits, its elements, its names. Assumes nothing.
-use mathlib.Core.Bool.{Bool, true, false, cond, not, _&&_, _||_}
-use mathlib.Core.List.{List, [], _∷_, _++_, map, map-append, reverse, List·Memᴰ as In, List·Memᴰ·head as here, List·Memᴰ·tail as there, List·Memᴰ·cases-cons as cases-cons}
+use mathlib.Core.Bool.{Bool, true, false, cond, not, _||_}
+use mathlib.Core.List.{List, [], _∷_, _++_, map, map-append, List·Memᴰ as In, List·Memᴰ·head as here, List·Memᴰ·tail as there, List·Memᴰ·cases-cons as cases-cons}
 use mathlib.Core.Logic.{_⊎_, inl, inr, ⊎-elim, _↔_}
-use mathlib.Core.Option.{Option, none, some}
+use mathlib.Core.Option.{some}
 use mathlib.Core.Path.{_≡_, refl, sym, ap, subst, _∙_}
 use Prim.Native.Nat.{ℕ, zero, suc, _+_, _≤_, _<_}
 use native.Mathlib.Omega.{arith}
 use lib.Dec.{T}
-use lib.ListN.{length, getElem?, drop, length-map, length-reverse}
+use lib.ListN.{length, drop, length-map}
 use Rattle.schema_laws.specs.Closure.{Closed, holder-in, held-in, isBelow-decides}
-use Rattle.schema_laws.specs.Lists.{in-nothing, drop-empty, filter-empty, map-empty, gather-empty, Distinct, none-twice, next, at-in, at-known, at-distinct, at-map}
+use Rattle.schema_laws.specs.Lists.{in-nothing, drop-empty, filter-empty, map-empty, gather-empty, Distinct, none-twice, next}
 use Rattle.schema_laws.specs.Names.{in-element, in-text}
 use Rattle.schema_laws.specs.Runs.{spelt-named}
 use Rattle.schema_spec.specs.Declarations.{Use, Declaration}
@@ -19,13 +19,13 @@ use Rattle.schema_spec.specs.Names.{Name, element, text as text-name, namesOf}
 use Rattle.schema_spec.specs.Reading.{usesOf, limitPlaces, twicePlaces, undeclaredPlaces, parsedRefusals, parsedSchema, schemaRefusals, readSchema}
 use Rattle.schema_spec.specs.Schemas.{Schema, Element, schemaOf, declaredNames, resolved, indexFrom, modelAt}
 use Rattle.schema_spec.specs.Types.{holds, Below, typesOf, isBelow}
-use Rattle.text_laws.specs.Lists.{append-empty, any-in, in-any, in-gather, map-in, bytes-equal, bytes-same}
+use Rattle.text_laws.specs.Lists.{append-empty, any-in, in-gather, map-in, bytes-same}
 use Rattle.text_laws.specs.Refusals.{judged-accepted, judged-free}
 use Rattle.text_laws.specs.Tests.{failed}
 use Rattle.text_spec.specs.Bytes.{isName}
 use Rattle.text_spec.specs.Limits.{maxDeclarations, maxModelNames, maxSchemaBytes}
 use Rattle.text_spec.specs.Lists.{anyOf, sameBytes, gather, filterBy, orElse}
-use Rattle.text_spec.specs.Refusals.{Refusal, at, allAt, accepted, overSchemaLimit, declaredTwice, undeclaredInModel, badSchema}
+use Rattle.text_spec.specs.Refusals.{Refusal, at, allAt, accepted, overSchemaLimit, declaredTwice, undeclaredInModel}
 use Rattle.text_spec.specs.Texts.{lengthRefusals, byteRefusals}
 
 -- the declarations that an accepted text spells, against which nothing was found

@@ -1,7 +1,7 @@
 -- The closure of a relation relates exactly what a chain of one or more steps does, and 'below' computed is one or more holdings.
 -- Assumes nothing.
-use mathlib.Core.Bool.{Bool, true, false, cond, _&&_, _||_}
-use mathlib.Core.List.{List, [], _∷_, List·Memᴰ as In, List·Memᴰ·head as here, List·Memᴰ·tail as there}
+use mathlib.Core.Bool.{Bool, true, false, cond, _&&_}
+use mathlib.Core.List.{[], _∷_, List·Memᴰ as In, List·Memᴰ·head as here, List·Memᴰ·tail as there}
 use mathlib.Core.Logic.{_⊎_, inl, inr, ⊎-elim, _↔_}
 use mathlib.Core.Path.{_≡_, refl, sym, subst}
 use Prim.Native.Nat.{ℕ, zero, suc, _<_}
@@ -9,7 +9,7 @@ use native.Mathlib.Omega.{arith}
 use lib.Dec.{T, eqb, eqb→eq, eqb-refl}
 use lib.ListN.{length}
 use Rattle.schema_laws.specs.Names.{same-equal, same-name, has-in, in-has, element-in, text-in, pcdata-declared}
-use Rattle.schema_spec.specs.Closure.{Line, Relation, lineOf, related, tableOf, through, byWayOf, closure}
+use Rattle.schema_spec.specs.Closure.{Relation, lineOf, related, tableOf, through, byWayOf, closure}
 use Rattle.schema_spec.specs.Names.{Name, Names, element, text, sameName, has, namesOf}
 use Rattle.schema_spec.specs.Schemas.{Schema, contentAt, modelAt, isPcdata}
 use Rattle.schema_spec.specs.Types.{holds, Below, held, further, typesOf, isBelow}

@@ -1,17 +1,18 @@
 -- An element is found by its name: the index that a name gives is that of the element with this name. Assumes nothing.
 use mathlib.Core.Bool.{Bool, true, false, cond}
-use mathlib.Core.List.{List, [], _∷_, map, List·Memᴰ as In, List·Memᴰ·head as here, List·Memᴰ·tail as there}
+use mathlib.Core.List.{List, [], _∷_, List·Memᴰ as In, List·Memᴰ·head as here, List·Memᴰ·tail as there}
+use mathlib.Core.Logic.{_↔_}
 use mathlib.Core.Option.{Option, none, some}
 use mathlib.Core.Path.{_≡_, refl, sym, ap, subst, _∙_}
 use Prim.Native.Nat.{ℕ, zero, suc, _+_, _<_}
-use native.Mathlib.Nat.{add-zero, add-suc, suc-add}
+use native.Mathlib.Nat.{add-zero}
 use native.Mathlib.Omega.{arith}
 use lib.Dec.{T}
-use lib.ListN.{length, getElem?}
+use lib.ListN.{length}
 use Rattle.schema_laws.specs.Accepted.{elementNames}
-use Rattle.schema_laws.specs.Lists.{Distinct, none-twice, next, at-in, at-map, in-nothing}
+use Rattle.schema_laws.specs.Lists.{Distinct, next}
 use Rattle.schema_spec.specs.Schemas.{Schema, Element, indexFrom, elementNamed, nameAt}
-use Rattle.text_laws.specs.Lists.{bytes-equal, bytes-same, in-map}
+use Rattle.text_laws.specs.Lists.{bytes-equal, bytes-same}
 use Rattle.text_laws.specs.Tests.{passed, failed, true-of, false-of}
 use Rattle.text_spec.specs.Lists.{sameBytes}
 
@@ -72,3 +73,7 @@ finds k (x ∷ s) (suc a) (next n d) h =
 pub at-named : (s : Schema) (a : ℕ) → Distinct (elementNames s) → a < length s → elementNamed s (nameAt s a) ≡ some a
 unfolding elementNamed
 at-named s a d h = finds 0 s a d h ∙ ap {B = Option ℕ} some (omega arith)
+
+-- a name gives an index exactly if the element with this index has the name
+pub named-exactly : (s : Schema) (n : List ℕ) (a : ℕ) → Distinct (elementNames s) → (elementNamed s n ≡ some a) ↔ ((a < length s) × (nameAt s a ≡ n))
+named-exactly s n a d = (named-at s n a, λ h. subst (λ (m : List ℕ). elementNamed s m ≡ some a) (h .1) (at-named s a d (h .0)))

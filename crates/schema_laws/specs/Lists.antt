@@ -1,13 +1,12 @@
--- Laws of lists that the reading of a schema needs: parts that are empty, lists with no element twice, elements by index. Assumes nothing.
+-- Laws of lists that the reading of a schema needs: parts that are empty, lists with no element twice. Assumes nothing.
 use mathlib.Core.Bool.{Bool, true, false, cond}
 use mathlib.Core.List.{List, [], _∷_, _++_, map, reverse, reverseAux, List·Memᴰ as In, List·Memᴰ·head as here, List·Memᴰ·tail as there, List·Memᴰ·append-cases as append-cases}
 use mathlib.Core.Logic.{⊎-elim}
-use mathlib.Core.Option.{Option, none, some}
 use mathlib.Core.Path.{_≡_, refl, sym, ap, subst, _∙_}
-use Prim.Native.Nat.{ℕ, zero, suc, _≤_, _<_}
+use Prim.Native.Nat.{ℕ, zero, suc, _≤_}
 use native.Mathlib.Omega.{arith}
 use lib.Dec.{T}
-use lib.ListN.{length, drop, getElem?}
+use lib.ListN.{length, drop}
 use Rattle.text_laws.specs.Lists.{in-filter, filter-in, append-empty, map-in}
 use Rattle.text_laws.specs.Tests.{cond-true, cond-false}
 use Rattle.text_spec.specs.Lists.{filterBy, gather, placesFrom}
@@ -32,30 +31,6 @@ module _ {A : Type 0} where
   pub data Distinct : List A → Type 0 where
     none-twice : Distinct []
     next : {x : A} {xs : List A} → (In x xs → ⊥) → Distinct xs → Distinct (x ∷ xs)
-
-  -- the element with an index
-  pub at-in : (xs : List A) (i : ℕ) {x : A} → getElem? xs i ≡ some x → In x xs
-  at-in [] i e = absurd (let z : _≡_ {A = ℕ} 0 1 = cc in omega arith)
-  at-in (y ∷ xs) zero {x} e =
-      let z : x ≡ y = cc in
-      here z
-  at-in (y ∷ xs) (suc i) e = there (at-in xs i e)
-
-  pub at-known : (xs : List A) (i : ℕ) → i < length xs → (x : A) × (getElem? xs i ≡ some x)
-  at-known [] i h = absurd (omega arith)
-  at-known (y ∷ xs) zero h = (y, refl)
-  at-known (y ∷ xs) (suc i) h = at-known xs i (omega arith)
-
-  pub at-distinct : {xs : List A} → Distinct xs → (i j : ℕ) {x : A} → getElem? xs i ≡ some x → getElem? xs j ≡ some x → i ≡ j
-  at-distinct none-twice i j e q = absurd (let z : _≡_ {A = ℕ} 0 1 = cc in omega arith)
-  at-distinct (next n d) zero zero e q = refl
-  at-distinct (next {x = y} {xs = xs} n d) zero (suc j) {x} e q =
-      let z : x ≡ y = cc in
-      absurd (n (subst (λ (w : A). In w xs) z (at-in xs j q)))
-  at-distinct (next {x = y} {xs = xs} n d) (suc i) zero {x} e q =
-      let z : x ≡ y = cc in
-      absurd (n (subst (λ (w : A). In w xs) z (at-in xs i e)))
-  at-distinct (next n d) (suc i) (suc j) e q = ap suc (at-distinct d i j e q)
 
   pub distinct-filter : (f : A → Bool) {xs : List A} → Distinct xs → Distinct (filterBy f xs)
   distinct-filter f none-twice = none-twice
@@ -87,13 +62,6 @@ module _ {A B : Type 0} where
   pub gather-empty : (f : A → List B) {xs : List A} {x : A} → gather f xs ≡ [] → In x xs → f x ≡ []
   gather-empty f e (here {x = y} {xs = xs} q) = ap f q ∙ append-empty (f y) (gather f xs) e .0
   gather-empty f e (there {x = y} {xs = xs} i) = gather-empty f (append-empty (f y) (gather f xs) e .1) i
-
-  pub at-map : (f : A → B) (xs : List A) (i : ℕ) {x : A} → getElem? xs i ≡ some x → getElem? (map f xs) i ≡ some (f x)
-  at-map f [] i e = absurd (let z : _≡_ {A = ℕ} 0 1 = cc in omega arith)
-  at-map f (y ∷ xs) zero {x} e =
-      let z : x ≡ y = cc in
-      cc
-  at-map f (y ∷ xs) (suc i) e = at-map f xs i e
 
   map-reverseAux : (f : A → B) (xs r : List A) → map f (reverseAux xs r) ≡ reverseAux (map f xs) (map f r)
   map-reverseAux f [] r = refl

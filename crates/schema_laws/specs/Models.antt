@@ -6,7 +6,7 @@ use mathlib.Core.Path.{_≡_, refl, sym, ap, subst, _∙_}
 use Prim.Native.Nat.{ℕ}
 use native.Mathlib.Omega.{arith}
 use lib.Dec.{T, eqb, eqb→eq, eqb-refl}
-use Rattle.schema_spec.specs.Models.{Particle, named, sequence, choice, repeated, renameIn, Fits, one, both, left, right, absent, once, again, Position, position, unmarked, nullable, final, shift, Progress, atStart, amid, started, advance, complete, advanceAll, fits}
+use Rattle.schema_spec.specs.Models.{Particle, named, sequence, choice, repeated, renameIn, Fits, one, both, left, right, absent, once, again, Position, unmarked, nullable, final, shift, amid, started, complete, advanceAll, fits}
 use Rattle.text_laws.specs.Tests.{or-left, or-right, or-cases, and-intro, and-cases, true-of}
 
 -- the particle without its marks

@@ -1,17 +1,16 @@
 -- Laws of names and of sets of them: equality and membership are decided, and which names a schema has. Assumes nothing.
-use mathlib.Core.Bool.{Bool, true, false, cond, _&&_, _||_}
-use mathlib.Core.List.{List, [], _∷_, _++_, List·Memᴰ as In, List·Memᴰ·head as here, List·Memᴰ·tail as there, List·Memᴰ·append-cases as append-cases, Memᴰ·append-left as append-left, Memᴰ·append-right as append-right}
+use mathlib.Core.Bool.{Bool, true, false, cond}
+use mathlib.Core.List.{[], _∷_, List·Memᴰ as In, List·Memᴰ·head as here, List·Memᴰ·tail as there, List·Memᴰ·append-cases as append-cases, Memᴰ·append-left as append-left, Memᴰ·append-right as append-right}
 use mathlib.Core.Logic.{_⊎_, inl, inr, ⊎-elim}
-use mathlib.Core.Option.{Option, none, some}
-use mathlib.Core.Path.{_≡_, refl, sym, ap, subst, _∙_}
+use mathlib.Core.Path.{_≡_, sym, ap, subst, _∙_}
 use Prim.Native.Nat.{ℕ, zero, suc, _+_, _≤_, _<_}
-use native.Mathlib.Nat.{add-suc, add-zero}
+use native.Mathlib.Nat.{add-zero}
 use native.Mathlib.Omega.{arith}
-use lib.Dec.{T, eqb, eqb→eq, eqb-refl}
-use lib.ListN.{length, getElem?}
+use lib.Dec.{T, eqb→eq, eqb-refl}
+use lib.ListN.{length}
 use Rattle.schema_laws.specs.Lists.{Distinct, none-twice, next, distinct-append}
 use Rattle.schema_spec.specs.Names.{Name, Names, element, text, sameName, has, within, elementsFrom, textsFrom, namesOf}
-use Rattle.schema_spec.specs.Schemas.{Schema, Element, contentOr, contentAt, isPcdata}
+use Rattle.schema_spec.specs.Schemas.{Schema, contentAt, isPcdata}
 use Rattle.text_laws.specs.Lists.{any-in, in-any, in-filter, filter-in}
 
 -- `sameName` tells equal names

@@ -1,19 +1,19 @@
 -- The normal form of a schema text: it leads the machine where the text does, and is its own normal form. Assumes nothing.
 use mathlib.Core.Bool.{Bool, true, false, cond, not, _&&_, _||_}
-use mathlib.Core.List.{List, [], _∷_, _++_, List·Memᴰ as In, List·Memᴰ·head as here, List·Memᴰ·tail as there, List·Memᴰ·cases-cons as cases-cons}
+use mathlib.Core.List.{List, [], _∷_, List·Memᴰ as In, List·Memᴰ·head as here, List·Memᴰ·tail as there, List·Memᴰ·cases-cons as cases-cons}
 use mathlib.Core.Logic.{_⊎_, inl, inr, ⊎-elim}
 use mathlib.Core.Path.{_≡_, refl, sym, ap, subst, _∙_}
-use Prim.Native.Nat.{ℕ, zero, suc, _≤_, _<_}
+use Prim.Native.Nat.{ℕ, zero, suc, _≤_}
 use native.Mathlib.Omega.{arith}
-use lib.Dec.{T, eqb, ltb, eqb→eq, eqb-refl}
+use lib.Dec.{T, eqb, ltb, eqb→eq}
 use lib.ListN.{length}
 use Rattle.schema_laws.specs.Places.{goes, astray}
 use Rattle.schema_laws.specs.Runs.{by-test}
-use Rattle.schema_spec.specs.Declarations.{Use, Declaration, elementKeyword, emptyKeyword, pcdataKeyword, Separator, unparted, byBar, byComma, optional, any, oneOrMore, indicated}
-use Rattle.schema_spec.specs.Machine.{Frame, fresh, holding, Opening, Head, State, dead, between, inKeyword, afterKeyword, beforeName, inName, beforeContent, inEmpty, afterOpen, inPcdata, afterPcdata, expecting, inUse, closed, past, afterContent, declared, closing, join, separated, following, indicating, beginning, longer, headed, matching, step}
-use Rattle.schema_spec.specs.Models.{Particle, named, Content, empty, pcdata, children}
+use Rattle.schema_spec.specs.Declarations.{Use, Declaration, emptyKeyword, pcdataKeyword, Separator, unparted, byBar, byComma}
+use Rattle.schema_spec.specs.Machine.{Frame, fresh, holding, Opening, Head, State, dead, between, inKeyword, afterKeyword, beforeName, inName, beforeContent, inEmpty, afterOpen, inPcdata, afterPcdata, expecting, inUse, closed, past, afterContent, declared, closing, join, separated, following, indicating, beginning, headed, matching, step}
+use Rattle.schema_spec.specs.Models.{Particle, named, Content, empty, children}
 use Rattle.schema_spec.specs.Records.{normalFrom, normal}
-use Rattle.text_laws.specs.Tests.{or-left, or-cases, and-cases, not-elim, decided, true-of, false-of, cond-true, cond-false}
+use Rattle.text_laws.specs.Tests.{or-left, or-cases, and-cases, not-elim, decided, cond-true, cond-false}
 use Rattle.text_spec.specs.Bytes.{isBlank, startsName, continuesName}
 use Rattle.text_spec.specs.Limits.{maxNameBytes, maxGroups}
 use Rattle.text_spec.specs.Lists.{allOf}
@@ -54,8 +54,7 @@ by-written : (d : ℕ) (r : Bool) {u v : List ℕ} → u ≡ v → normalFrom d 
 by-written d r e f = ap (normalFrom d r) e ∙ (f ∙ sym e)
 
 normal-keeps : (d : ℕ) (r : Bool) (bs : List ℕ) → Kept d r bs
-normal-keeps zero r [] = refl
-normal-keeps (suc d) r [] = refl
+normal-keeps d r [] = refl
 normal-keeps zero r (b ∷ bs) = pick (decided (isBlank b)) (decided (eqb b 0x3C)) (normal-keeps zero true bs) (normal-keeps 2 false bs) (normal-keeps zero false bs)
   where
     pick : T (isBlank b) ⊎ (T (isBlank b) → ⊥) → T (eqb b 0x3C) ⊎ (T (eqb b 0x3C) → ⊥) → Kept zero true bs → Kept 2 false bs → Kept zero false bs → Kept zero r (b ∷ bs)

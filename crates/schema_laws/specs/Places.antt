@@ -1,16 +1,16 @@
 -- What a schema text spells but for places: the machine never looks at a place, so it can be run without them. Assumes nothing.
-use mathlib.Core.Bool.{Bool, true, false, cond, _&&_, _||_}
-use mathlib.Core.List.{List, [], _∷_, _++_, map, reverse}
+use mathlib.Core.Bool.{Bool, true, false, cond, _&&_}
+use mathlib.Core.List.{List, [], _∷_, map, reverse}
 use mathlib.Core.Path.{_≡_, refl, sym, ap, subst, _∙_}
-use Prim.Native.Nat.{ℕ, suc, _<_}
+use Prim.Native.Nat.{ℕ, suc}
 use native.Mathlib.Omega.{arith}
-use lib.Dec.{T, eqb, ltb}
-use lib.ListN.{length, length-map, length-reverse}
+use lib.Dec.{eqb, ltb}
+use lib.ListN.{length, length-map}
 use Rattle.schema_laws.specs.Lists.{map-reverse}
-use Rattle.schema_laws.specs.Runs.{Ended, end-ended}
-use Rattle.schema_spec.specs.Declarations.{Use, Declaration, elementKeyword, emptyKeyword, pcdataKeyword, Separator, unparted, byBar, byComma, optional, any, oneOrMore, indicated}
-use Rattle.schema_spec.specs.Machine.{Frame, fresh, holding, Opening, Head, State, dead, between, inKeyword, afterKeyword, beforeName, inName, beforeContent, inEmpty, afterOpen, inPcdata, afterPcdata, expecting, inUse, closed, past, afterContent, isDead, declared, closing, join, separated, following, indicating, beginning, longer, headed, matching, step, Parsed, spells, departs, atEnd, run, parse}
-use Rattle.schema_spec.specs.Models.{Particle, named, Content, empty, pcdata, children, renameIn, renameContent}
+use Rattle.schema_laws.specs.Runs.{end-ended}
+use Rattle.schema_spec.specs.Declarations.{Use, Declaration, elementKeyword, emptyKeyword, pcdataKeyword, Separator, unparted, byBar, byComma}
+use Rattle.schema_spec.specs.Machine.{Frame, fresh, holding, Opening, Head, State, dead, between, inKeyword, afterKeyword, beforeName, inName, beforeContent, inEmpty, afterOpen, inPcdata, afterPcdata, expecting, inUse, closed, past, afterContent, isDead, closing, join, separated, following, indicating, beginning, matching, step, spells, departs, atEnd, run}
+use Rattle.schema_spec.specs.Models.{Particle, named, Content, children, renameIn, renameContent}
 use Rattle.text_spec.specs.Bytes.{isBlank, startsName, continuesName}
 use Rattle.text_spec.specs.Limits.{maxNameBytes, maxGroups}
 

@@ -1,30 +1,30 @@
 -- The record of a schema: the normal form of an accepted text is accepted with the same schema, and the test of records passes exactly
 -- those that an accepted text gives. Assumes nothing.
-use mathlib.Core.Bool.{Bool, true, false, cond, not, _&&_, _||_}
-use mathlib.Core.List.{List, [], _∷_, _++_, map, map-append, reverse, List·Memᴰ as In, List·Memᴰ·head as here, List·Memᴰ·tail as there}
-use mathlib.Core.Logic.{_⊎_, inl, inr, ⊎-elim, _↔_}
+use mathlib.Core.Bool.{Bool, true, false, cond, not, _||_}
+use mathlib.Core.List.{List, [], _∷_, _++_, map, map-append}
+use mathlib.Core.Logic.{⊎-elim, _↔_}
 use mathlib.Core.Path.{_≡_, refl, sym, ap, subst, _∙_}
-use Prim.Native.Nat.{ℕ, zero, suc, _≤_, _<_}
+use Prim.Native.Nat.{ℕ, zero, suc}
 use native.Mathlib.Omega.{arith}
-use lib.Dec.{T, eqb, ltb, ltb→lt, lt→ltb}
-use lib.ListN.{length, drop, length-reverse}
-use Rattle.schema_laws.specs.Accepted.{Spelt, accepted-spelt, spelt-accepted, usesIn-rename, indexIn}
+use lib.Dec.{T, ltb, ltb→lt, lt→ltb}
+use lib.ListN.{length, drop}
+use Rattle.schema_laws.specs.Accepted.{accepted-spelt, spelt-accepted, usesIn-rename, indexIn}
 use Rattle.schema_laws.specs.Lists.{map-empty, map-reverse, places-none, none-places}
 use Rattle.schema_laws.specs.Normal.{normal-goes, normal-twice, normal-byte, normal-length}
 use Rattle.schema_laws.specs.Places.{bareUse, bareDeclaration, bareAll, spells-goes, goes-spells}
 use Rattle.schema_spec.specs.Declarations.{Use, Declaration}
 use Rattle.schema_spec.specs.Machine.{between, parse, spells, run}
-use Rattle.schema_spec.specs.Models.{Particle, named, sequence, choice, repeated, Content, empty, pcdata, children, usesIn, renameIn, renameContent}
-use Rattle.schema_spec.specs.Reading.{usesOf, limitPlaces, twicePlaces, undeclaredPlaces, parsedRefusals, parsedSchema, schemaRefusals, readSchema}
+use Rattle.schema_spec.specs.Models.{Particle, named, sequence, choice, repeated, Content, empty, pcdata, children, renameIn, renameContent}
+use Rattle.schema_spec.specs.Reading.{usesOf, limitPlaces, twicePlaces, undeclaredPlaces, readSchema}
 use Rattle.schema_spec.specs.Records.{normal, schemaIn, recordBy, schemaRecord, SchemaProducible, producible, isSchemaRecord}
-use Rattle.schema_spec.specs.Schemas.{Schema, Element, schemaOf, declaredNames, resolved}
+use Rattle.schema_spec.specs.Schemas.{Schema, schemaOf, declaredNames, resolved}
 use Rattle.text_laws.specs.Lists.{bytes-equal, bytes-same}
-use Rattle.text_laws.specs.Refusals.{judged-free, given-free}
-use Rattle.text_laws.specs.Tests.{and-intro, and-cases, or-cases, or-left, or-right, passed, failed, false-of, decided}
+use Rattle.text_laws.specs.Refusals.{given-free}
+use Rattle.text_laws.specs.Tests.{and-intro, and-cases, or-cases, or-right}
 use Rattle.text_spec.specs.Bytes.{isForeign}
 use Rattle.text_spec.specs.Limits.{maxDeclarations, maxModelNames, maxSchemaBytes}
 use Rattle.text_spec.specs.Lists.{anyOf, filterBy, gather, sameBytes, isEmpty, placesFrom}
-use Rattle.text_spec.specs.Refusals.{Refusal, Outcome, accepted, refused, isAccepted, resultOr, at, allAt, given, badLength, badByte, overSchemaLimit, declaredTwice, undeclaredInModel}
+use Rattle.text_spec.specs.Refusals.{Refusal, Outcome, accepted, refused, isAccepted, resultOr, at, allAt, given, badLength, badByte}
 use Rattle.text_spec.specs.Texts.{lengthRefusals, byteRefusals}
 
 -- Declarations without their places give the same schema.

@@ -1,15 +1,15 @@
 -- A run of the schema machine that spells declarations passes from state to state and ends between declarations; the declared names
 -- are names. Assumes nothing.
-use mathlib.Core.Bool.{Bool, true, false, cond, _&&_, _||_}
-use mathlib.Core.List.{List, [], _∷_, _++_, reverse, reverseAux, List·Memᴰ as In, List·Memᴰ·head as here, List·Memᴰ·tail as there, List·Memᴰ·cases-cons as cases-cons}
+use mathlib.Core.Bool.{Bool, true, false, cond, _&&_}
+use mathlib.Core.List.{List, [], _∷_, _++_, reverse, reverseAux, List·Memᴰ as In, List·Memᴰ·head as here, List·Memᴰ·tail as there}
 use mathlib.Core.Logic.{_⊎_, inl, inr, ⊎-elim}
-use mathlib.Core.Path.{_≡_, refl, sym, ap, subst, _∙_}
-use Prim.Native.Nat.{ℕ, suc, _+_, _≤_, _<_}
+use mathlib.Core.Path.{_≡_, sym, ap, subst, _∙_}
+use Prim.Native.Nat.{ℕ, suc, _<_}
 use native.Mathlib.Omega.{arith}
-use lib.Dec.{T, eqb, ltb, leb, leb→le, le→leb, ltb→lt}
+use lib.Dec.{T, eqb, ltb, leb, le→leb, ltb→lt}
 use lib.ListN.{length, length-append, length-reverse}
 use Rattle.schema_spec.specs.Declarations.{Use, Declaration, elementKeyword, emptyKeyword, pcdataKeyword, Separator, unparted, byBar, byComma, optional, any, oneOrMore, indicated}
-use Rattle.schema_spec.specs.Machine.{Frame, fresh, holding, Opening, Head, State, dead, between, inKeyword, afterKeyword, beforeName, inName, beforeContent, inEmpty, afterOpen, inPcdata, afterPcdata, expecting, inUse, closed, past, afterContent, isDead, declared, closing, join, separated, following, indicating, beginning, longer, headed, matching, step, Parsed, spells, departs, atEnd, run, parse}
+use Rattle.schema_spec.specs.Machine.{Frame, fresh, holding, Head, State, dead, between, inKeyword, afterKeyword, beforeName, inName, beforeContent, inEmpty, afterOpen, inPcdata, afterPcdata, expecting, inUse, closed, past, afterContent, isDead, declared, closing, join, separated, following, indicating, beginning, longer, headed, matching, step, spells, departs, atEnd, run, parse}
 use Rattle.schema_spec.specs.Models.{Particle, named, Content, empty, pcdata, children}
 use Rattle.text_laws.specs.Tests.{and-intro, and-cases}
 use Rattle.text_spec.specs.Bytes.{isBlank, startsName, continuesName, isName}

@@ -1,22 +1,23 @@
 -- Sets of names as 64 bits: a set that is handed back and in again is the same, and bits without a name mean nothing. Assumes nothing.
 use mathlib.Core.Bool.{Bool, true, false, cond}
-use mathlib.Core.List.{List, [], _∷_, map, List·Memᴰ as In, List·Memᴰ·head as here, List·Memᴰ·tail as there, List·Memᴰ·cases-cons as cases-cons}
-use mathlib.Core.Logic.{_⊎_, inl, inr, ⊎-elim, _↔_}
+use mathlib.Core.List.{[], _∷_, map, List·Memᴰ as In, List·Memᴰ·head as here, List·Memᴰ·tail as there, List·Memᴰ·cases-cons as cases-cons}
+use mathlib.Core.Logic.{_⊎_, inl, inr, ⊎-elim}
+use mathlib.Core.Option.{none, some}
 use mathlib.Core.Path.{_≡_, refl, sym, ap, subst, _∙_}
-use Prim.Native.Nat.{ℕ, zero, suc, _+_, _*_, _/_, _%_, _^_, _≤_, _<_}
+use Prim.Native.Nat.{ℕ, zero, suc, _+_, _-_, _*_, _/_, _%_, _^_, _≤_, _<_}
 use native.Mathlib.Nat.{pow-succ', div-div-eq-div-mul, zero-div, div-one}
 use native.Mathlib.Omega.{arith}
-use lib.Dec.{T, eqb, eqb→eq, eqb-refl}
+use lib.Dec.{T, eqb, ltb, eqb→eq, eqb-refl, ltb→lt, lt→ltb, nltb→le, not-T}
 use lib.ListN.{length}
 use lib.Pow.{pow-add}
-use Rattle.schema_laws.specs.Lists.{Distinct, none-twice, next, distinct-filter, distinct-map}
+use Rattle.schema_laws.specs.Lists.{Distinct, next, distinct-filter, distinct-map}
 use Rattle.schema_laws.specs.Names.{has-in, in-has, in-element, in-text, names-distinct}
-use Rattle.schema_spec.specs.Names.{Name, Names, element, text, has, within, namesOf, codeOf, hasBit, setOfWord, total, wordOfSet}
+use Rattle.schema_spec.specs.Names.{Name, Names, element, text, has, within, namesOf, codeOf, nameOfCode, hasBit, setOfWord, total, wordOfSet}
 use Rattle.schema_spec.specs.Schemas.{Schema}
-use Rattle.text_laws.specs.Lists.{in-filter, filter-in, filter-cong, in-map, map-in}
-use Rattle.text_laws.specs.Tests.{decided, true-of, false-of}
+use Rattle.text_laws.specs.Lists.{any-in, in-any, in-filter, filter-in, filter-cong, in-map, map-in}
+use Rattle.text_laws.specs.Tests.{decided, true-of, false-of, failed, cond-true, cond-false}
 use Rattle.text_spec.specs.Limits.{maxDeclarations}
-use Rattle.text_spec.specs.Lists.{filterBy}
+use Rattle.text_spec.specs.Lists.{anyOf}
 
 -- bit i of a number, as a number
 abbrev bit : ℕ → ℕ → ℕ
@@ -103,6 +104,37 @@ code-apart s l (text a) (element b) i j e =
     absurd (omega arith)
 code-apart s l (text a) (text b) i j e = ap text (omega arith)
 
+-- the code of a schema's name gives it back, and a name that a code gives has this code
+pub nameOfCode-codeOf : (s : Schema) → length s ≤ maxDeclarations → (n : Name) → In n (namesOf s) → nameOfCode (codeOf n) ≡ some n
+nameOfCode-codeOf s l (element e) i =
+    let h = in-element s e i in
+    cond-true (ltb e maxDeclarations) (some (element e)) _ (lt→ltb e maxDeclarations (omega arith))
+nameOfCode-codeOf s l (text e) i =
+    let h = in-text s e i .0 in
+    let c = maxDeclarations + e in
+    cond-false (ltb c maxDeclarations) (some (element c)) _
+    (λ t.
+    let g = ltb→lt c maxDeclarations t in
+    omega arith)
+    ∙ (cond-true (ltb c (maxDeclarations + maxDeclarations)) (some (text (c - maxDeclarations))) none (lt→ltb c (maxDeclarations + maxDeclarations) (omega arith))
+    ∙ ap (λ (x : ℕ). some (text x)) (omega arith))
+
+pub codeOf-nameOfCode : (c : ℕ) (n : Name) → nameOfCode c ≡ some n → codeOf n ≡ c
+codeOf-nameOfCode c n e = pick (ltb c maxDeclarations) (ltb c (maxDeclarations + maxDeclarations)) refl e
+  where
+    pick : (u v : Bool) → ltb c maxDeclarations ≡ u → cond u (some (element c)) (cond v (some (text (c - maxDeclarations))) none) ≡ some n → codeOf n ≡ c
+    pick true v q e =
+        let z : n ≡ element c = cc in
+        ap codeOf z
+    pick false true q e =
+        let z : n ≡ text (c - maxDeclarations) = cc in
+        let h = nltb→le c maxDeclarations (not-T (ltb c maxDeclarations) (failed q)) in
+        let back : maxDeclarations + (c - maxDeclarations) ≡ c = omega arith in
+        ap codeOf z ∙ back
+    pick false false q e =
+        let z : _≡_ {A = ℕ} 0 1 = cc in
+        absurd (omega arith)
+
 pub schema-coded : (s : Schema) → length s ≤ maxDeclarations → Coded (namesOf s)
 schema-coded s l = record { once = names-distinct s; apart = code-apart s l }
 
@@ -138,6 +170,20 @@ has-word names s c {n} i t = ⊎-elim (λ h. has-in n s h) (λ h. absurd (unset 
         let f = filter-in (λ m. has m s) names (r .1) in
         h (subst (λ (m : Name). T (has m s)) (sym (c .apart n (r .0) i (f .0) (r .2))) (f .1))) in
         subst (λ (x : ℕ). T (eqb x 1)) clear t
+
+-- no other bit is set
+pub word-named : (names s : Names) → Coded names → (i : ℕ) → T (hasBit (wordOfSet names s) i) → (n : Name) × In n names × In n s × (i ≡ codeOf n)
+unfolding wordOfSet
+word-named names s c i t = pick (decided (anyOf (eqb i) (map codeOf (within names s))))
+  where
+    pick : T (anyOf (eqb i) (map codeOf (within names s))) ⊎ (T (anyOf (eqb i) (map codeOf (within names s))) → ⊥) → (n : Name) × In n names × In n s × (i ≡ codeOf n)
+    pick (inl u) =
+        let a = in-any (eqb i) (map codeOf (within names s)) u in
+        let r = map-in codeOf (within names s) (a .1) in
+        let f = filter-in (λ m. has m s) names (r .1) in
+        (r .0, f .0, has-in (r .0) s (f .1), eqb→eq i (a .0) (a .2) ∙ r .2)
+    pick (inr n) =
+        absurd (subst (λ (x : ℕ). T (eqb x 1)) (set-bits names s c i .1 (λ j. n (any-in (eqb i) j (eqb-refl i)))) t)
 
 -- a set that is handed back and in again is the same, but for what is no name
 pub setOfWord-wordOfSet : (names s : Names) → Coded names → setOfWord names (wordOfSet names s) ≡ within names s
