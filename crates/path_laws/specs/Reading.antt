@@ -1,6 +1,6 @@
 -- Reading a bundle text means what the conditions of refusals 2, 3, 8, 9 and 10 say. Assumes nothing.
 use mathlib.Core.Bool.{Bool, _||_}
-use mathlib.Core.List.{List, [], _∷_, _++_, List·Memᴰ as In, List·Memᴰ·head as here, List·Memᴰ·tail as there, List·Memᴰ·append-cases as append-cases, Memᴰ·append-left as append-left, Memᴰ·append-right as append-right}
+use mathlib.Core.List.{List, [], _∷_, _++_, map, List·Memᴰ as In, List·Memᴰ·head as here, List·Memᴰ·tail as there, List·Memᴰ·append-cases as append-cases, Memᴰ·append-left as append-left, Memᴰ·append-right as append-right}
 use mathlib.Core.Logic.{_⊎_, inl, inr, ⊎-elim}
 use mathlib.Core.Option.{Option, none, some}
 use mathlib.Core.Path.{_≡_, refl, sym, ap, subst, _∙_}
@@ -15,19 +15,19 @@ use Rattle.path_laws.specs.Grammar.Sound.{parse-sound}
 use Rattle.path_spec.specs.Conditions.{Grammatical, TooMuch, paths, steps, pathBytes, alternatives, alternativeSteps, OverLimit, over, Undeclared, undeclared, BundleApplies, length-2, byte-3, grammar-8, limit-9, undeclared-10, BundleGives, gives}
 use Rattle.path_spec.specs.Grammar.{PathRead, BundleText}
 use Rattle.path_spec.specs.Machine.{Parsed, spells, departs, parse}
-use Rattle.path_spec.specs.Paths.{WrittenStep, Condition, pathUses}
-use Rattle.path_spec.specs.Reading.{passesLimit, limitRefusals, undeclaredPlaces, parsedRefusals, parsedPaths, bundleRefusals, readBundle}
+use Rattle.path_spec.specs.Paths.{WrittenStep, Condition, Path, pathUses}
+use Rattle.path_spec.specs.Reading.{passesLimit, limitRefusals, undeclaredPlaces, parsedRefusals, resolvedPath, parsedPaths, bundleRefusals, readBundle}
 use Rattle.schema_spec.specs.Declarations.{Use}
 use Rattle.schema_spec.specs.Schemas.{Schema, elementNamed}
 use Rattle.text_laws.specs.Departures.{departs-once, departs-not}
 use Rattle.text_laws.specs.Lists.{any-in, in-any, in-filter, filter-in, in-gather, gather-in, in-map, map-in}
-use Rattle.text_laws.specs.Order.{Listed, judged-first, listed-left, listed-right}
+use Rattle.text_laws.specs.Order.{Listed, judged-first, judged-once, listed-left, listed-right}
 use Rattle.text_laws.specs.Refusals.{in-given, given-in}
 use Rattle.text_laws.specs.Tests.{or-left, or-right, or-cases}
 use Rattle.text_laws.specs.Texts.{split-first, split-later, length-found, length-listed, bytes-found, bytes-listed}
 use Rattle.text_spec.specs.Limits.{maxSteps, maxAlternatives, maxAlternativeSteps, maxPathBytes, maxPaths, maxBundleBytes}
 use Rattle.text_spec.specs.Lists.{anyOf, filterBy, gather, isNone}
-use Rattle.text_spec.specs.Refusals.{Reason, Refusal, at, allAt, given, badLength, badByte, badPath, overPathLimit, undeclaredInPath, judged, Judged}
+use Rattle.text_spec.specs.Refusals.{Reason, Refusal, at, allAt, given, badLength, badByte, badPath, overPathLimit, undeclaredInPath, Outcome, judged, Judged}
 use Rattle.text_spec.specs.Texts.{SplitAt, LengthApplies, ByteApplies, Departs, lengthRefusals, byteRefusals}
 
 -- a text spells one bundle at most
@@ -255,3 +255,10 @@ module _ (s : Schema) (text : List ℕ) where
   pub bundle-read : Judged (BundleApplies s text) (BundleGives s text) (readBundle s text)
   unfolding readBundle bundleRefusals
   bundle-read = by-parse (parse text) refl
+
+-- So the conditions determine the outcome.
+gives-once : (s : Schema) (text : List ℕ) (a b : List (Path ℕ)) → BundleGives s text a → BundleGives s text b → a ≡ b
+gives-once s text a b (gives c) (gives d) = ap (map (λ (p : PathRead). resolvedPath s (p .steps))) (bundle-unique c d)
+
+pub bundle-read-once : (s : Schema) (text : List ℕ) {o : Outcome (List (Path ℕ))} → Judged (BundleApplies s text) (BundleGives s text) o → o ≡ readBundle s text
+bundle-read-once s text j = judged-once (BundleApplies s text) (BundleGives s text) (gives-once s text) j (bundle-read s text)

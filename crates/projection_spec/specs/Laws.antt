@@ -11,6 +11,8 @@ pub mod Walks
 pub mod Tables
 pub mod Numbers
 pub mod Listing
+pub mod Lent
+pub mod Records
 pub mod Fields
 pub mod Items
 pub mod Opens
