@@ -13,6 +13,7 @@ pub mod Numbers
 pub mod Listing
 pub mod Lent
 pub mod Records
+pub mod Handed
 pub mod Fields
 pub mod Items
 pub mod Opens
