@@ -2,7 +2,7 @@
 use mathlib.Core.Bool.{Bool, false, not, _&&_, _||_}
 use mathlib.Core.List.{List, [], _∷_, _++_, append-assoc, List·Memᴰ as In}
 use mathlib.Core.Logic.{_↔_, _⊎_, inl, inr, ⊎-elim}
-use mathlib.Core.Option.{Option, none, some}
+use mathlib.Core.Option.{some}
 use mathlib.Core.Path.{_≡_, refl, sym, ap, subst, _∙_}
 use Prim.Native.Nat.{ℕ, zero, suc, _+_, _<_, _≤_}
 use native.Mathlib.Omega.{arith}
@@ -10,7 +10,7 @@ use lib.Dec.{T, eqb, leb, eqb→eq, eqb-refl, leb→le, le→leb}
 use lib.ListN.{length, getElem?, length-append, length-take, length-drop}
 use Rattle.schema_spec.specs.Names.{Name, element, text, isText}
 use Rattle.schema_spec.specs.Types.{Types}
-use Rattle.table_laws.specs.Fits.{RowFits, row-fits, fits-row, rooted, rooted-fits}
+use Rattle.table_laws.specs.Fits.{attached-number, parent-found, RowFits, row-fits, fits-row, rooted, rooted-fits}
 use Rattle.table_laws.specs.Nodes.{node-equal, node-same}
 use Rattle.table_laws.specs.Places.{at-end, at-only, at-before-or-end, at-bound, at-some, in-at, at-in}
 use Rattle.table_laws.specs.RowNodes.{NodeOf, root-node, later-node, Rising, node-row, one-node, one-place, row-above, node-above, depth-of, one-depth}
@@ -36,11 +36,6 @@ cells-mean (text e) r q t =
 mean-cells : (r : Row) → TextCells r → T (textFits (r .name) r)
 mean-cells r (of-element q a b) = rw (q, a, b) tt
 mean-cells r (of-text q a b) = rw q (and-intro (leb 1 (r .length)) (leb (r .length) maxTextBytes) (le→leb _ _ a) (le→leb _ _ b))
-
--- a node that some row attaches to, where its parent is found
-parent-found : (previous : Node) (k : ℕ) (n : Name) (w : List ℕ) (o : Option Node) → T (parentOpen previous (attach k n w o)) → (p : Node) × (o ≡ some p)
-parent-found previous k n w none t = absurd t
-parent-found previous k n w (some p) t = (p, refl)
 
 module _ (s : Types) (rows : List Row) (rise : Rising rows) where
   -- the nodes of rows 0 to i
@@ -239,10 +234,6 @@ next-rising rows f i (suc j) q r h g k =
         let apart : i ≡ j → ⊥ = λ u. n (rw u (eqb-refl j)) in
         let v = rec (omega arith) in
         omega arith
-
-attached-number : (k : ℕ) (n : Name) (w : List ℕ) (o : Option Node) → numberOf (attach k n w o) ≡ k
-attached-number k n w none = refl
-attached-number k n w (some p) = refl
 
 test-rises : (s : Types) (before : List Node) (previous : Node) (x : Row) (rs : List Row) → numberOf previous ≡ x .number → T (laterRows s before previous rs)
     → (j : ℕ) (q r : Row) → RowAt (x ∷ rs) j q → RowAt (x ∷ rs) (suc j) r → q .number < r .number

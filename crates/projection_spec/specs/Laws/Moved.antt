@@ -1,68 +1,28 @@
 -- Rows whose texts stand elsewhere: a well-formed table stays well formed, and its texts stay the same. Assumes nothing.
-use mathlib.Core.Bool.{Bool, not, _&&_, _||_}
+use mathlib.Core.Bool.{not, _&&_, _||_}
 use mathlib.Core.List.{List, [], _∷_, _++_, append-assoc}
-use mathlib.Core.Option.{Option, none, some}
+use mathlib.Core.Option.{none}
 use mathlib.Core.Path.{_≡_, refl, sym, ap, _∙_}
-use Prim.Native.Nat.{ℕ, _+_, _<_, _≤_}
+use Prim.Native.Nat.{ℕ, _+_, _≤_}
 use native.Mathlib.Omega.{arith}
-use lib.Dec.{T, eqb, leb, ltb, eqb→eq, eqb-refl, leb→le, le→leb, ltb→lt}
+use lib.Dec.{T, eqb, leb, eqb→eq, eqb-refl, leb→le, le→leb}
 use lib.ListN.{length, getElem?, length-append, length-take, length-drop}
 use lib.Seq.{drop-nil}
 use Rattle.projection_spec.specs.Extracts.Conditions.{SameButStarts, SameTables, no-rows, next-row}
 use Rattle.projection_spec.specs.Extracts.Fields.{rowField, numberAt, fieldOf}
 use Rattle.projection_spec.specs.Laws.Fields.{text-cut}
 use Rattle.projection_spec.specs.Laws.Items.{startAt, sizeAt}
-use Rattle.projection_spec.specs.Laws.Opens.{name-equal}
-use Rattle.schema_spec.specs.Names.{element, text, Name, isText, sameName}
+use Rattle.schema_spec.specs.Names.{element, text, Name, isText}
 use Rattle.schema_spec.specs.Types.{Types}
-use Rattle.table_spec.specs.Nodes.{Node, top, numberOf, nameOf, same, isAbove, depthOf, attach, nodeAt}
+use Rattle.table_laws.specs.Fits.{row-fits, rooted, cellsFit}
+use Rattle.table_spec.specs.Nodes.{Node, top, nodeAt}
 use Rattle.table_spec.specs.Rows.{Row, textOf}
-use Rattle.table_spec.specs.Tables.{wellFormed, parentOpen, parentHolds, firstText, textFits, rowFits, laterRows as laterFit, textInside}
+use Rattle.table_spec.specs.Tables.{wellFormed, textFits, rowFits, laterRows as laterFit, textInside}
 use Rattle.text_laws.specs.Tests.{true-of, and-cases, and-intro, or-right}
 use Rattle.text_spec.specs.Bytes.{isForeign}
-use Rattle.text_spec.specs.Limits.{maxNodes, maxDepth, maxTextBytes}
+use Rattle.text_spec.specs.Limits.{maxTextBytes}
 use Rattle.text_spec.specs.Lists.{allOf, gather, part}
 use Rattle.text_spec.specs.Refusals.{at}
-
--- what a fitting later row says: its parent is among the nodes before it, and is the node before or one above that
-pub record Fitting (s : Types) (before : List Node) (previous : Node) (r : Row) : Type 0 where
-  pub parent : Node
-  pub parentAt : getElem? before (r .parent) ≡ some parent
-  pub rises : numberOf previous < r .number
-  pub small : r .number < maxNodes
-  pub isOpen : T (same parent previous || isAbove parent previous)
-  pub held : T (s .holds (nameOf parent) (r .name))
-  pub cells : T (textFits (r .name) r)
-
-pub fitting : (s : Types) (before : List Node) (previous : Node) (r : Row) → T (rowFits s before previous r (nodeAt [] before r)) → Fitting s before previous r
-fitting s before previous r t = pick (getElem? before (r .parent)) refl (parts (nodeAt [] before r) t)
-  where
-    Parts : Node → Type 0
-    Parts y = T (ltb (numberOf previous) (r .number)) × T (ltb (r .number) maxNodes) × T (parentOpen previous y) × T (parentHolds s y) × T (textFits (r .name) r)
-
-    parts : (y : Node) → T (rowFits s before previous r y) → Parts y
-    parts y t₀ =
-        let rest₅ = textFits (r .name) r in
-        let rest₄ = firstText before y && rest₅ in
-        let rest₃ = leb (depthOf y) maxDepth && rest₄ in
-        let rest₂ = parentHolds s y && rest₃ in
-        let rest₁ = parentOpen previous y && rest₂ in
-        let c₀ = and-cases (ltb (numberOf previous) (r .number)) (ltb (r .number) maxNodes && rest₁) t₀ in
-        let c₁ = and-cases (ltb (r .number) maxNodes) rest₁ (c₀ .1) in
-        let c₂ = and-cases (parentOpen previous y) rest₂ (c₁ .1) in
-        let c₃ = and-cases (parentHolds s y) rest₃ (c₂ .1) in
-        let c₄ = and-cases (leb (depthOf y) maxDepth) rest₄ (c₃ .1) in
-        let c₅ = and-cases (firstText before y) rest₅ (c₄ .1) in
-        (c₀ .0, c₁ .0, c₂ .0, c₃ .0, c₅ .1)
-
-    pick : (o : Option Node) → getElem? before (r .parent) ≡ o → Parts (attach (r .number) (r .name) (textOf [] r) o) → Fitting s before previous r
-    pick none e c = absurd (c .2)
-    pick (some p) e c =
-        record { parent = p; parentAt = e; rises = ltb→lt _ _ (c .0); small = ltb→lt _ _ (c .1); isOpen = c .2; held = c .3; cells = c .4 }
-
-pub attached-number : (k : ℕ) (n : Name) (w : List ℕ) (o : Option Node) → numberOf (attach k n w o) ≡ k
-attached-number k n w none = refl
-attached-number k n w (some p) = refl
 
 -- a row's text has the row's length, at most 4,096
 pub text-size : (n : Name) (lent : List ℕ) (r : Row) → r .name ≡ n → T (textFits n r) → T (textInside lent r) → (length (textOf lent r) ≡ r .length) × (r .length ≤ 4096) × (sizeAt n (r .length) ≡ r .length)
@@ -85,44 +45,6 @@ abbrev pub restarted : (Row → List ℕ) → ℕ → List Row → List Row
 restarted f k [] = []
 restarted f k (r ∷ rs) = restart k r ∷ restarted f (k + length (f r)) rs
 
--- each row has the text cells that its name asks for
-abbrev pub cellsFit : Row → Bool
-cellsFit r = textFits (r .name) r
-
-pub later-cells : (s : Types) (before : List Node) (previous : Node) (rs : List Row) → T (laterFit s before previous rs) → T (allOf cellsFit rs)
-later-cells s before previous [] t = tt
-later-cells s before previous (r ∷ rs) t =
-    let y = nodeAt [] before r in
-    let u = and-cases (rowFits s before previous r y) (laterFit s (before ++ (y ∷ [])) y rs) t in
-    and-intro (cellsFit r) (allOf cellsFit rs) (fitting s before previous r (u .0) .cells) (later-cells s (before ++ (y ∷ [])) y rs (u .1))
-
--- the root of a well-formed table, and the rows after it
-pub record Rooted (s : Types) (r : Row) (rs : List Row) : Type 0 where
-  pub number : r .number ≡ 0
-  pub name : r .name ≡ s .root
-  pub parent : r .parent ≡ 0
-  pub cells : T (cellsFit r)
-  pub later : T (laterFit s (top (r .number) (r .name) ∷ []) (top (r .number) (r .name)) rs)
-
-pub rooted : (s : Types) (r : Row) (rs : List Row) → T (wellFormed s (r ∷ rs)) → Rooted s r rs
-unfolding wellFormed
-rooted s r rs t =
-    let y = top (r .number) (r .name) in
-    let rest₃ = laterFit s (y ∷ []) y rs in
-    let rest₂ = textFits (r .name) r && rest₃ in
-    let rest₁ = eqb (r .parent) 0 && rest₂ in
-    let c₀ = and-cases (eqb (r .number) 0) (sameName (r .name) (s .root) && rest₁) t in
-    let c₁ = and-cases (sameName (r .name) (s .root)) rest₁ (c₀ .1) in
-    let c₂ = and-cases (eqb (r .parent) 0) rest₂ (c₁ .1) in
-    let c₃ = and-cases (textFits (r .name) r) rest₃ (c₂ .1) in
-    record { number = eqb→eq _ _ (c₀ .0); name = name-equal _ _ (c₁ .0); parent = eqb→eq _ _ (c₂ .0); cells = c₃ .0; later = c₃ .1 }
-
-pub all-cells : (s : Types) (rows : List Row) → T (wellFormed s rows) → T (allOf cellsFit rows)
-all-cells s [] t = tt
-all-cells s (r ∷ rs) t =
-    let c = rooted s r rs t in
-    and-intro (cellsFit r) (allOf cellsFit rs) (c .cells) (later-cells s (top (r .number) (r .name) ∷ []) (top (r .number) (r .name)) rs (c .later))
-
 cells-moved : (n : Name) (k : ℕ) (r : Row) → r .name ≡ n → T (textFits n r) → T (textFits n (restart k r))
 cells-moved (element e) k r q t = rw q (and-cases (eqb (r .start) 0) (eqb (r .length) 0) t .1)
 cells-moved (text e) k r q t = t
@@ -137,7 +59,7 @@ later-moved s before previous f k [] t = tt
 later-moved s before previous f k (r ∷ rs) t =
     let y = nodeAt [] before r in
     let u = and-cases (rowFits s before previous r y) (laterFit s (before ++ (y ∷ [])) y rs) t in
-    let cells = fitting s before previous r (u .0) .cells in
+    let cells = row-fits s before previous r y (u .0) .cells in
     let same-cells : cellsFit (restart k r) ≡ cellsFit r = true-of _ (cells-moved (r .name) k r refl cells) ∙ sym (true-of _ cells) in
     rw (node-moved k before r)
     (and-intro (rowFits s before previous (restart k r) y) (laterFit s (before ++ (y ∷ [])) y (restarted f (k + length (f r)) rs)) (rw same-cells (u .0))

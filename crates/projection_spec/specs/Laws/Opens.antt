@@ -1,6 +1,6 @@
 -- The rows that a later row may stand under, as the reader of an extract keeps them: the row before and those above it, each found by
 -- its number. Assumes nothing.
-use mathlib.Core.Bool.{false, _&&_, _||_}
+use mathlib.Core.Bool.{false, _||_}
 use mathlib.Core.List.{List, [], _∷_, _++_, map, List·Memᴰ·head as here, map-append}
 use mathlib.Core.Logic.{_⊎_, inl, inr, ⊎-elim}
 use mathlib.Core.Option.{some}
@@ -11,58 +11,12 @@ use native.Mathlib.Omega.{arith}
 use lib.Dec.{T, eqb, eqb→eq, eqb-refl}
 use lib.ListN.{length, getElem?, length-map}
 use Rattle.projection_spec.specs.Extracts.Reading.{Placed, openFrom}
-use Rattle.schema_spec.specs.Names.{element, text, Name, isText, sameName}
+use Rattle.schema_spec.specs.Names.{element, text, isText}
+use Rattle.table_laws.specs.Nodes.{node-equal}
+use Rattle.table_laws.specs.Places.{at-before, at-only, at-before-or-end}
 use Rattle.table_spec.specs.Nodes.{Node, top, under, numberOf, nameOf, same, isAbove}
 use Rattle.table_spec.specs.Rows.{Row}
-use Rattle.text_laws.specs.Lists.{bytes-equal}
-use Rattle.text_laws.specs.Tests.{and-cases, or-cases, cond-true, cond-false}
-use Rattle.text_spec.specs.Lists.{sameBytes}
-
--- Places in a list that grows at its end.
-module _ {A : Type 0} where
-  pub at-before : (xs ys : List A) (i : ℕ) (x : A) → getElem? xs i ≡ some x → getElem? (xs ++ ys) i ≡ some x
-  at-before [] ys i x e = let z : _≡_ {A = ℕ} 0 1 = cc in absurd (omega arith)
-  at-before (a ∷ xs) ys zero x e = e
-  at-before (a ∷ xs) ys (suc i) x e = at-before xs ys i x e
-
-  pub at-end : (xs : List A) (y : A) (ys : List A) → getElem? (xs ++ y ∷ ys) (length xs) ≡ some y
-  at-end [] y ys = refl
-  at-end (x ∷ xs) y ys = at-end xs y ys
-
-  at-only : (y : A) (i : ℕ) (x : A) → getElem? (y ∷ []) i ≡ some x → (i ≡ 0) × (x ≡ y)
-  at-only y zero x e = (refl, cc)
-  at-only y (suc i) x e = let z : _≡_ {A = ℕ} 0 1 = cc in absurd (omega arith)
-
-  pub at-before-or-end : (xs : List A) (y : A) (i : ℕ) (x : A) → getElem? (xs ++ (y ∷ [])) i ≡ some x
-      → (getElem? xs i ≡ some x) ⊎ ((i ≡ length xs) × (x ≡ y))
-  at-before-or-end [] y i x e = inr (at-only y i x e)
-  at-before-or-end (a ∷ xs) y zero x e = inl e
-  at-before-or-end (a ∷ xs) y (suc i) x e = ⊎-elim (λ h. inl h) (λ h. inr (ap suc (h .0), h .1)) (at-before-or-end xs y i x e)
-
--- names and nodes that pass the tests of sameness are the same
-pub name-equal : (a b : Name) → T (sameName a b) → a ≡ b
-name-equal (element a) (element b) t = ap element (eqb→eq a b t)
-name-equal (element a) (text b) t = absurd t
-name-equal (text a) (element b) t = absurd t
-name-equal (text a) (text b) t = ap text (eqb→eq a b t)
-
-pub node-equal : (x y : Node) → T (same x y) → x ≡ y
-node-equal (top k n) (top l m) t =
-    let c = and-cases (eqb k l) (sameName n m) t in
-    let p = eqb→eq k l (c .0) in
-    let q = name-equal n m (c .1) in
-    cc
-node-equal (top k n) (under l m v q) t = absurd t
-node-equal (under k n w p) (top l m) t = absurd t
-node-equal (under k n w p) (under l m v q) t =
-    let c = and-cases (eqb k l) (sameName n m && (sameBytes w v && same p q)) t in
-    let d = and-cases (sameName n m) (sameBytes w v && same p q) (c .1) in
-    let f = and-cases (sameBytes w v) (same p q) (d .1) in
-    let e₁ = eqb→eq k l (c .0) in
-    let e₂ = name-equal n m (d .0) in
-    let e₃ = bytes-equal w v (f .0) in
-    let e₄ = node-equal p q (f .1) in
-    cc
+use Rattle.text_laws.specs.Tests.{or-cases, cond-true, cond-false}
 
 abbrev pub placed : ℕ → ℕ → ℕ → Placed
 placed i k e = record { row = i; number = k; element = e }

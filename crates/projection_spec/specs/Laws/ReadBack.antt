@@ -12,8 +12,9 @@ use Rattle.projection_spec.specs.Extracts.Fields.{elementTag, textTag, c
 use Rattle.projection_spec.specs.Extracts.Reading.{Item, elementItem, textItem, countItem, noItem, inTwo, elementValue, textValue, countValue, itemOf, itemsFrom, Placed, openFrom, topRow, topElement, consRow, elementRow, textRow, laterRows, rowsOfItems}
 use Rattle.projection_spec.specs.Laws.Fields.{two-bytes-written, text-cut}
 use Rattle.projection_spec.specs.Laws.Items.{opensAfter, rowAt, restWritten}
-use Rattle.projection_spec.specs.Laws.Opens.{at-before, at-end, placed}
+use Rattle.projection_spec.specs.Laws.Opens.{placed}
 use Rattle.schema_spec.specs.Names.{element, text, Name}
+use Rattle.table_laws.specs.Places.{at-before, at-end}
 use Rattle.table_spec.specs.Nodes.{same}
 use Rattle.table_spec.specs.Rows.{Row}
 use Rattle.text_spec.specs.Lists.{gather, isEmpty, part}

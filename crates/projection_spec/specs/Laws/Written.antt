@@ -11,11 +11,13 @@ use Rattle.projection_spec.specs.Extracts.Fields.{countTag, twoBytes, fi
 use Rattle.projection_spec.specs.Extracts.Reading.{itemsFrom, itemsOf, Placed, openFrom, laterRows, rowsOfItems}
 use Rattle.projection_spec.specs.Laws.Fields.{count-read}
 use Rattle.projection_spec.specs.Laws.Items.{sizeAt, opensAfter, field-item, item-row, root-item, restWritten}
-use Rattle.projection_spec.specs.Laws.Moved.{Fitting, fitting, attached-number, text-size, restart, restarted, Rooted, rooted}
-use Rattle.projection_spec.specs.Laws.Opens.{at-before, at-end, placed, Opens, open-element, open-text, opens-grow, Found, opens-found, opens-first, Reached, row-of-node, same-count, reached-first, reached-next}
+use Rattle.projection_spec.specs.Laws.Moved.{text-size, restart, restarted}
+use Rattle.projection_spec.specs.Laws.Opens.{placed, Opens, open-element, open-text, opens-grow, Found, opens-found, opens-first, Reached, row-of-node, same-count, reached-first, reached-next}
 use Rattle.schema_spec.specs.Names.{element, text, Name, isText}
 use Rattle.schema_spec.specs.Schemas.{Schema, contentAt, isPcdata}
 use Rattle.schema_spec.specs.Types.{Types, typesOf, holds}
+use Rattle.table_laws.specs.Fits.{attached-number, RowFits, row-fits, Rooted, rooted, Fitting, fitting}
+use Rattle.table_laws.specs.Places.{at-before, at-end}
 use Rattle.table_spec.specs.Nodes.{Node, top, under, numberOf, nameOf, nodeAt}
 use Rattle.table_spec.specs.Rows.{Row, textOf}
 use Rattle.table_spec.specs.Tables.{wellFormed, rowFits, laterRows as laterFit, textInside}
@@ -51,11 +53,11 @@ opens-after (text e) before number next w p os o h g = open-text h o
 module _ (s : Types) (law : TextNames s) (lent : List ℕ) (all : List Row) where
   -- one row, given that the rows after it are read wherever it leaves the reader
   read-row : (done rs rs′ : List Row) (before : List Node) (previous : Node) (os : List Placed) (r : Row) (next fuel k : ℕ) → Reached done before previous os
-      → all ≡ done ++ r ∷ rs → next ≡ length done → numberOf previous < maxNodes → Fitting s before previous r → T (textInside lent r)
+      → all ≡ done ++ r ∷ rs → next ≡ length done → numberOf previous < maxNodes → RowFits s before previous r (nodeAt [] before r) → Fitting s before previous r → T (textInside lent r)
       → ((os′ : List Placed) → Reached (done ++ (r ∷ [])) (before ++ (nodeAt [] before r ∷ [])) (nodeAt [] before r) os′
       → laterRows (suc next) os′ (itemsFrom fuel (k + length (fieldOf lent all r)) (restWritten lent all rs)) ≡ some rs′)
       → laterRows next os (itemsFrom (suc fuel) k (restWritten lent all (r ∷ rs))) ≡ some (restart k r ∷ rs′)
-  read-row done rs rs′ before previous os r next fuel k c e n b g inside later =
+  read-row done rs rs′ before previous os r next fuel k c e n b fits g inside later =
       ap (λ (l : List ℕ). laterRows next os (itemsFrom (suc fuel) k l)) (append-assoc (fieldOf lent all r) (gather (fieldOf lent all) rs) (field countTag (twoBytes (length all))))
       ∙ ap (laterRows next os) (field-item (r .name) fuel k (r .number) (numberAt (getElem? all (r .parent))) (textOf lent r) (restWritten lent all rs) (omega arith) (omega (arith, up, low)) (omega (arith, size .0, size .1)))
       ∙ item-row (r .name) k (r .number) (numberAt (getElem? all (r .parent))) (length (textOf lent r)) next os first rest (itemsFrom fuel (k + length (fieldOf lent all r)) (restWritten lent all rs)) rs′ found named (later _ reached)
@@ -96,7 +98,7 @@ module _ (s : Types) (law : TextNames s) (lent : List ℕ) (all : List Row) wher
 
       size : (length (textOf lent r) ≡ r .length) × (r .length ≤ 4096) × (sizeAt (r .name) (r .length) ≡ r .length)
           × T (not (isText (r .name)) || allOf (λ b. not (isForeign b)) (textOf lent r))
-      size = text-size (r .name) lent r refl (g .cells) inside
+      size = text-size (r .name) lent r refl (fits .cells) inside
 
       found : openFrom (numberAt (getElem? all (r .parent))) os ≡ first ∷ rest
       found = ap (λ (m : ℕ). openFrom m os) up ∙ above .1 ∙ parentOpened .3
@@ -116,10 +118,10 @@ module _ (s : Types) (law : TextNames s) (lent : List ℕ) (all : List Row) wher
       opened : Opens (before ++ (y ∷ [])) y (opensAfter (r .name) next (r .number) (first ∷ rest))
       opened =
           subst₂ (λ (z : Node) (l : List Placed). Opens (before ++ (y ∷ [])) z (opensAfter (r .name) next (r .number) l)) (sym node) (parentOpened .3)
-          (opens-after (r .name) (before ++ (y ∷ [])) (r .number) next (textOf [] r) p (above .0) (opens-grow y (above .2)) (omega (arith, low, g .rises)) last)
+          (opens-after (r .name) (before ++ (y ∷ [])) (r .number) next (textOf [] r) p (above .0) (opens-grow y (above .2)) (omega (arith, low, fits .rises)) last)
 
       reached : Reached (done ++ (r ∷ [])) (before ++ (y ∷ [])) y (opensAfter (r .name) next (r .number) (first ∷ rest))
-      reached = reached-next c r y (opensAfter (r .name) next (r .number) (first ∷ rest)) (ap numberOf node) (g .rises) opened
+      reached = reached-next c r y (opensAfter (r .name) next (r .number) (first ∷ rest)) (ap numberOf node) (fits .rises) opened
 
   read-later : (done rs : List Row) (before : List Node) (previous : Node) (os : List Placed) (next fuel k : ℕ) → Reached done before previous os → all ≡ done ++ rs
       → next ≡ length done → length all < 65536 → length rs < fuel → numberOf previous < maxNodes → T (laterFit s before previous rs) → T (allOf (textInside lent) rs)
@@ -133,8 +135,8 @@ module _ (s : Types) (law : TextNames s) (lent : List ℕ) (all : List Row) wher
       let y = nodeAt [] before r in
       let u = and-cases (rowFits s before previous r y) (laterFit s (before ++ (y ∷ [])) y rs) t in
       let v = and-cases (textInside lent r) (allOf (textInside lent) rs) i in
-      read-row done rs (restarted (fieldOf lent all) (k + length (fieldOf lent all r)) rs) before previous os r next fuel k c e n b (fitting s before previous r (u .0)) (v .0)
-      (λ os′ c′. read-later (done ++ (r ∷ [])) rs (before ++ (y ∷ [])) y os′ (suc next) fuel (k + length (fieldOf lent all r)) c′ (e ∙ sym (append-assoc done (r ∷ []) rs)) (omega (arith, length-append done (r ∷ []))) h (omega arith) (rw (attached-number (r .number) (r .name) (textOf [] r) (getElem? before (r .parent))) (fitting s before previous r (u .0) .small)) (u .1) (v .1))
+      read-row done rs (restarted (fieldOf lent all) (k + length (fieldOf lent all r)) rs) before previous os r next fuel k c e n b (row-fits s before previous r y (u .0)) (fitting s before previous r (row-fits s before previous r y (u .0))) (v .0)
+      (λ os′ c′. read-later (done ++ (r ∷ [])) rs (before ++ (y ∷ [])) y os′ (suc next) fuel (k + length (fieldOf lent all r)) c′ (e ∙ sym (append-assoc done (r ∷ []) rs)) (omega (arith, length-append done (r ∷ []))) h (omega arith) (rw (attached-number (r .number) (r .name) (textOf [] r) (getElem? before (r .parent))) (row-fits s before previous r y (u .0) .small)) (u .1) (v .1))
 
 -- numbers rise, so there are no more rows than numbers
 count-bound : (s : Types) (before : List Node) (previous : Node) (rs : List Row) (m : ℕ) → T (laterFit s before previous rs) → m ≤ suc (numberOf previous) → numberOf previous < maxNodes
@@ -143,7 +145,7 @@ count-bound s before previous [] m t h b = omega arith
 count-bound s before previous (r ∷ rs) m t h b =
     let y = nodeAt [] before r in
     let u = and-cases (rowFits s before previous r y) (laterFit s (before ++ (y ∷ [])) y rs) t in
-    let g = fitting s before previous r (u .0) in
+    let g = row-fits s before previous r y (u .0) in
     let k : numberOf y ≡ r .number = attached-number (r .number) (r .name) (textOf [] r) (getElem? before (r .parent)) in
     let l = g .rises in
     let d = g .small in
