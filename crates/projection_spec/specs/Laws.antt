@@ -1,5 +1,6 @@
 pub mod Fields
 pub mod Items
+pub mod TextNames
 pub mod Opens
 pub mod Moved
 pub mod Written

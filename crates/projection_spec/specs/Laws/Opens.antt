@@ -1,7 +1,7 @@
 -- The rows that a later row may stand under, as the reader of an extract keeps them: the row before and those above it, each found by
 -- its number. Assumes nothing.
 use mathlib.Core.Bool.{false, _||_}
-use mathlib.Core.List.{List, [], _∷_, _++_, map, List·Memᴰ·head as here, map-append}
+use mathlib.Core.List.{List, [], _∷_, _++_, map, map-append}
 use mathlib.Core.Logic.{_⊎_, inl, inr, ⊎-elim}
 use mathlib.Core.Option.{some}
 use mathlib.Core.Path.{_≡_, refl, sym, ap, ap₂, subst, _∙_}

@@ -13,7 +13,8 @@ use Rattle.projection_spec.specs.Extracts.Fields.{countTag, twoBytes, fi
 use Rattle.projection_spec.specs.Extracts.Reading.{itemsOf, rowsOfItems, readExtract, isTable, rowsOr}
 use Rattle.projection_spec.specs.Laws.Moved.{restarted, same-rows, same-all-inside, root-moved}
 use Rattle.projection_spec.specs.Laws.ReadBack.{AreBytes, fields-back}
-use Rattle.projection_spec.specs.Laws.Written.{TextNames, written-long, table-items}
+use Rattle.projection_spec.specs.Laws.TextNames.{TextNames}
+use Rattle.projection_spec.specs.Laws.Written.{written-long, table-items}
 use Rattle.schema_spec.specs.Types.{Types}
 use Rattle.table_laws.specs.Fits.{rooted, cellsFit, all-cells}
 use Rattle.table_laws.specs.WellFormed.{well-formed-beside}
