@@ -6,3 +6,4 @@ pub mod Moved
 pub mod Written
 pub mod ReadBack
 pub mod RoundTrip
+pub mod SameTables

@@ -99,7 +99,8 @@ pub record Fitting (s : Types) (before : List Node) (previous : Node) (r : Row) 
 pub fitting : (s : Types) (before : List Node) (previous : Node) (r : Row) → RowFits s before previous r (nodeAt [] before r) → Fitting s before previous r
 fitting s before previous r f = pick (getElem? before (r .parent)) refl f
   where
-    pick : (o : Option Node) → getElem? before (r .parent) ≡ o → RowFits s before previous r (attach (r .number) (r .name) (textOf [] r) o) → Fitting s before previous r
+    pick : (o : Option Node) → getElem? before (r .parent) ≡ o → RowFits s before previous r (attach (r .number) (r .name) (textOf [] r) o)
+        → Fitting s before previous r
     pick none e c = absurd (c .isOpen)
     pick (some p) e c = record { parent = p; parentAt = e; isOpen = c .isOpen; held = c .held }
 

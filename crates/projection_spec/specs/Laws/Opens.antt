@@ -37,8 +37,10 @@ opens-grow z (open-text h o) = open-text h (opens-grow z o)
 -- an ancestor has a lower number
 pub above-lower : {before : List Node} {y : Node} {os : List Placed} → Opens before y os → (p : Node) → T (isAbove p y) → numberOf p < numberOf y
 above-lower (open-root g) p t = absurd t
-above-lower (open-element {p = q} g h o) p t = ⊎-elim (λ u. rw (node-equal p q u) h) (λ u. let l = above-lower o p u in omega arith) (or-cases (same p q) (isAbove p q) t)
-above-lower (open-text {p = q} h o) p t = ⊎-elim (λ u. rw (node-equal p q u) h) (λ u. let l = above-lower o p u in omega arith) (or-cases (same p q) (isAbove p q) t)
+above-lower (open-element {p = q} g h o) p t =
+    ⊎-elim (λ u. rw (node-equal p q u) h) (λ u. let l = above-lower o p u in omega arith) (or-cases (same p q) (isAbove p q) t)
+above-lower (open-text {p = q} h o) p t =
+    ⊎-elim (λ u. rw (node-equal p q u) h) (λ u. let l = above-lower o p u in omega arith) (or-cases (same p q) (isAbove p q) t)
 
 -- looked up by its number, an element that is the node or above it is found, with those above it
 abbrev pub Found : List Node → Node → List Placed → Type 0
@@ -54,7 +56,8 @@ pub opens-found : {before : List Node} {y : Node} {os : List Placed} → Opens b
     → Found before p os
 opens-found {before} (open-root {k = k} {e = e} g) p t n =
     ⊎-elim
-    (λ u. subst (λ (z : Node). Found before z (placed 0 k e ∷ [])) (sym (node-equal p (top k (element e)) u)) (placed 0 k e ∷ [], found-first k (placed 0 k e) [] refl, open-root g))
+    (λ u. subst (λ (z : Node). Found before z (placed 0 k e ∷ [])) (sym (node-equal p (top k (element e)) u))
+    (placed 0 k e ∷ [], found-first k (placed 0 k e) [] refl, open-root g))
     (λ u. absurd u) (or-cases (same p (top k (element e))) false t)
 opens-found {before} (open-element {k = k} {e = e} {i = i} {w = w} {p = q} {os = os} g h o) p t n =
     ⊎-elim here (λ u. above u (opens-found o p u n)) (or-cases (same p y) (same p q || isAbove p q) t)
@@ -63,14 +66,17 @@ opens-found {before} (open-element {k = k} {e = e} {i = i} {w = w} {p = q} {os =
     y = under k (element e) w q
 
     here : T (same p y) → Found before p (placed i k e ∷ os)
-    here u = subst (λ (z : Node). Found before z (placed i k e ∷ os)) (sym (node-equal p y u)) (placed i k e ∷ os, found-first k (placed i k e) os refl, open-element g h o)
+    here u =
+        subst (λ (z : Node). Found before z (placed i k e ∷ os)) (sym (node-equal p y u))
+        (placed i k e ∷ os, found-first k (placed i k e) os refl, open-element g h o)
 
     above : T (same p q || isAbove p q) → Found before p os → Found before p (placed i k e ∷ os)
     above u f =
         let l : numberOf p < k = above-lower (open-element g h o) p u in
         (f .0, found-later (numberOf p) (placed i k e) os l ∙ f .1, f .2)
 opens-found {before} (open-text {k = k} {e = e} {w = w} {p = q} {os = os} h o) p t n =
-    ⊎-elim (λ u. absurd (n (rw (node-equal p (under k (text e) w q) u) tt))) (λ u. opens-found o p u n) (or-cases (same p (under k (text e) w q)) (same p q || isAbove p q) t)
+    ⊎-elim (λ u. absurd (n (rw (node-equal p (under k (text e) w q) u) tt))) (λ u. opens-found o p u n)
+    (or-cases (same p (under k (text e) w q)) (same p q || isAbove p q) t)
 
 -- the first of them is the element itself
 pub opens-first : {before : List Node} {y : Node} {os : List Placed} → Opens before y os → (T (isText (nameOf y)) → ⊥)
@@ -100,11 +106,16 @@ row-of-node (r ∷ done) (y ∷ before) e (suc i) x g = row-of-node done before 
 pub same-count : (done : List Row) (before : List Node) → map numberOf before ≡ map numberOfRow done → length before ≡ length done
 same-count done before e = sym (length-map before numberOf) ∙ ap length e ∙ length-map done numberOfRow
 
-pub reached-first : (r : Row) (e : ℕ) → r .name ≡ element e → Reached (r ∷ []) (top (r .number) (r .name) ∷ []) (top (r .number) (r .name)) (placed 0 (r .number) e ∷ [])
-reached-first r e q = record { numbers = refl; opened = rw q (open-root refl); bounded = λ i x g. le-of-eq (ap numberOf (at-only y i x g .1)); distinct = λ i j x z g h n. at-only y i x g .0 ∙ sym (at-only y j z h .0) }
+pub reached-first : (r : Row) (e : ℕ) → r .name ≡ element e
+    → Reached (r ∷ []) (top (r .number) (r .name) ∷ []) (top (r .number) (r .name)) (placed 0 (r .number) e ∷ [])
+reached-first r e q =
+    record { numbers = refl; opened = rw q (open-root refl); bounded = λ i x g. le-of-eq (ap numberOf (at-only y i x g .1)); distinct = apart }
   where
     y : Node
     y = top (r .number) (r .name)
+
+    apart : (i j : ℕ) (x z : Node) → getElem? (y ∷ []) i ≡ some x → getElem? (y ∷ []) j ≡ some z → numberOf x ≡ numberOf z → i ≡ j
+    apart i j x z g h n = at-only y i x g .0 ∙ sym (at-only y j z h .0)
 
 -- one row more, with a higher number
 pub reached-next : {done : List Row} {before : List Node} {previous : Node} {os : List Placed} → Reached done before previous os

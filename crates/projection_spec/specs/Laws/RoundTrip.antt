@@ -24,10 +24,11 @@ use Rattle.text_laws.specs.Lists.{empty-of, append-empty}
 use Rattle.text_laws.specs.Refusals.{judged-accepted, judged-free, given-free}
 use Rattle.text_laws.specs.Tests.{true-of, false-of, and-cases, and-intro, not-intro, decided}
 use Rattle.text_spec.specs.Lists.{allOf, isEmpty}
-use Rattle.text_spec.specs.Refusals.{accepted, refused, at, given, judged, Reason, badLength, badExtract, Judged, turned-back, taken, firstOf, numberOf as reasonNumber}
+use Rattle.text_spec.specs.Refusals.{Outcome, accepted, refused, at, given, judged, Reason, badLength, badExtract, Judged, turned-back, taken, firstOf, numberOf as reasonNumber}
 
 -- what was read is accepted if it is a table
-accept : (s : Types) (bs : List ℕ) (rows : List Row) → 1 ≤ length bs → rowsOfItems (itemsOf bs) ≡ some rows → T (wellFormedWith s bs rows) → readExtract s bs ≡ accepted rows
+accept : (s : Types) (bs : List ℕ) (rows : List Row) → 1 ≤ length bs → rowsOfItems (itemsOf bs) ≡ some rows → T (wellFormedWith s bs rows)
+    → readExtract s bs ≡ accepted rows
 unfolding readExtract
 accept s bs rows h e t =
     let full : isEmpty bs ≡ false = false-of (isEmpty bs) (λ u. let z = ap length (empty-of {xs = bs} u) in omega arith) in
@@ -58,11 +59,13 @@ write-read s law lent rows t = (rows′, accept s bs rows′ (omega (arith, writ
     well = and-intro (wellFormed s rows′) (allOf (textInside bs) rows′) (root-moved s (fieldOf lent rows) 0 rows (parts .0)) (same-all-inside same cells (parts .1))
 
 -- what was accepted was read as a table
-accepted-table : (s : Types) (bs : List ℕ) (rows : List Row) → readExtract s bs ≡ accepted rows → (rowsOfItems (itemsOf bs) ≡ some rows) × T (wellFormedWith s bs rows)
+accepted-table : (s : Types) (bs : List ℕ) (rows : List Row) → readExtract s bs ≡ accepted rows
+    → (rowsOfItems (itemsOf bs) ≡ some rows) × T (wellFormedWith s bs rows)
 unfolding readExtract
 accepted-table s bs rows e = pick (rowsOfItems (itemsOf bs)) refl e
   where
-    pick : (o : Option (List Row)) → rowsOfItems (itemsOf bs) ≡ o → judged (given (isEmpty bs) (at badLength 0) ++ given (not (isTable s bs o)) (at badExtract 0)) (rowsOr o) ≡ accepted rows
+    pick : (o : Option (List Row)) → rowsOfItems (itemsOf bs) ≡ o
+        → judged (given (isEmpty bs) (at badLength 0) ++ given (not (isTable s bs o)) (at badExtract 0)) (rowsOr o) ≡ accepted rows
         → (rowsOfItems (itemsOf bs) ≡ some rows) × T (wellFormedWith s bs rows)
     pick none q u =
         let c = judged-accepted (given (isEmpty bs) (at badLength 0) ++ given true (at badExtract 0)) [] rows u in
@@ -95,7 +98,10 @@ outcome s b bs = pick (isTable s (b ∷ bs) rows)
     rows : Option (List Row)
     rows = rowsOfItems (itemsOf (b ∷ bs))
 
-    pick : (t : Bool) → (judged (given (not t) (at badExtract 0)) (rowsOr rows) ≡ refused (at badExtract 0)) ⊎ ((rs : List Row) × (judged (given (not t) (at badExtract 0)) (rowsOr rows) ≡ accepted rs))
+    found : Bool → Outcome (List Row)
+    found t = judged (given (not t) (at badExtract 0)) (rowsOr rows)
+
+    pick : (t : Bool) → (found t ≡ refused (at badExtract 0)) ⊎ ((rs : List Row) × (found t ≡ accepted rs))
     pick true = inr (rowsOr rows, refl)
     pick false = inl refl
 
@@ -131,14 +137,19 @@ extract-judged s law (b ∷ bs) small = pick (outcome s b bs)
         omega arith
 
     extract : (rows : List Row) → readExtract s all ≡ accepted rows → IsExtract s all
-    extract rows e = record { lent = all; rows = rows; wellFormed = well-formed-beside s all rows .0 (accepted-table s all rows e .1); written = sym (read-write s all rows small e) }
+    extract rows e =
+        let table = accepted-table s all rows e .1 in
+        record { lent = all; rows = rows; wellFormed = well-formed-beside s all rows .0 table; written = sym (read-write s all rows small e) }
 
     free : IsExtract s all → (q : Reason) (j : ℕ) → ExtractApplies s all q j → ⊥
     free x q j (length-2 e) = full e
     free x q j (extract-17 n) = n x
 
-    pick : (readExtract s all ≡ refused (at badExtract 0)) ⊎ ((rows : List Row) × (readExtract s all ≡ accepted rows)) → Judged (ExtractApplies s all) (ExtractGives s all) (readExtract s all)
-    pick (inl e) = subst (Judged (ExtractApplies s all) (ExtractGives s all)) (sym e) (turned-back (record { applies = extract-17 (no-extract e); lowest = low; earliest = λ j a. omega arith }))
+    pick : (readExtract s all ≡ refused (at badExtract 0)) ⊎ ((rows : List Row) × (readExtract s all ≡ accepted rows))
+        → Judged (ExtractApplies s all) (ExtractGives s all) (readExtract s all)
+    pick (inl e) =
+        subst (Judged (ExtractApplies s all) (ExtractGives s all)) (sym e)
+        (turned-back (record { applies = extract-17 (no-extract e); lowest = low; earliest = λ j a. omega arith }))
     pick (inr c) =
         let x = extract (c .0) (c .1) in
         subst (Judged (ExtractApplies s all) (ExtractGives s all)) (sym (c .1)) (taken (free x) (gives x (x .wellFormed) (same-tables all (c .0))))

@@ -44,7 +44,8 @@ module _ (s : Types) (law : TextNames s) (lent : List ℕ) (all : List Row) wher
       let w = textOf lent r in
       let up = parentNumber all r in
       ap (λ (l : List ℕ). laterRows next os (itemsFrom (suc fuel) k l)) (append-assoc f (gather (fieldOf lent all) rs) (field countTag (twoBytes (length all))))
-      ∙ ap (laterRows next os) (field-item (r .name) fuel k (r .number) up w after (omega arith) (omega (arith, parent-number, low)) (omega (arith, held .size, held .short)))
+      ∙ ap (laterRows next os) (field-item (r .name) fuel k (r .number) up w after (omega arith) (omega (arith, parent-number, low))
+      (omega (arith, held .size, held .short)))
       ∙ item-row (r .name) k (r .number) up (length w) next os first rest (itemsFrom fuel (k + length f) after) rs′ found named (later _ reached)
       ∙ ap {B = Option (List Row)} (λ (q : Row). some (q ∷ rs′)) (rw (place, held .size, held .ofName))
     where
@@ -157,13 +158,15 @@ fields-long lent all (r ∷ rs) =
     omega (arith, fields-long lent all rs, length-append (fieldOf lent all r) (gather (fieldOf lent all) rs))
 
 -- a whole well-formed table, written and read
-read-table : (s : Types) → TextNames s → (lent : List ℕ) (r : Row) (rs : List Row) → Rooted s r rs → T (allOf (textInside lent) (r ∷ rs)) → (fuel : ℕ) → length rs < fuel
+read-table : (s : Types) → TextNames s → (lent : List ℕ) (r : Row) (rs : List Row) → Rooted s r rs → T (allOf (textInside lent) (r ∷ rs)) → (fuel : ℕ)
+    → length rs < fuel
     → rowsOfItems (itemsFrom (suc fuel) 0 (restWritten lent (r ∷ rs) (r ∷ rs))) ≡ some (restarted (fieldOf lent (r ∷ rs)) 0 (r ∷ rs))
 read-table s law lent r rs c i fuel h =
     let w = textOf lent r in
     let up = parentNumber all r in
     ap (λ (l : List ℕ). rowsOfItems (itemsFrom (suc fuel) 0 l)) (append-assoc f (gather (fieldOf lent all) rs) (field countTag (twoBytes (length all))))
-    ∙ ap rowsOfItems (field-item (r .name) fuel 0 (r .number) up w after (omega (arith, c .number)) (omega (arith, parent-number)) (omega (arith, held .size, held .short)))
+    ∙ ap rowsOfItems (field-item (r .name) fuel 0 (r .number) up w after (omega (arith, c .number)) (omega (arith, parent-number))
+    (omega (arith, held .size, held .short)))
     ∙ root-item (r .name) root 0 (r .number) up (length w) (itemsFrom fuel (0 + length f) after) rs′ named parent-number later
     ∙ ap {B = Option (List Row)} (λ (q : Row). some (q ∷ rs′)) (rw (c .parent, held .size, held .ofName))
   where
