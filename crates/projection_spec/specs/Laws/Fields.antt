@@ -1,5 +1,5 @@
 -- Fields of an extract, written and read: numbers in two bytes, one field, the fields of rows. Assumes nothing.
-use mathlib.Core.List.{List, [], _∷_, _++_}
+use mathlib.Core.List.{List, [], _∷_, _++_, List·Memᴰ as In}
 use mathlib.Core.Path.{_≡_, refl, _∙_}
 use Prim.Native.Nat.{ℕ, zero, suc, _+_, _/_, _%_, _<_, _≤_}
 use native.Mathlib.Omega.{arith}
@@ -11,6 +11,10 @@ use Rattle.projection_spec.specs.Extracts.Reading.{elementItem, textItem
 use Rattle.schema_spec.specs.Names.{element, text}
 use Rattle.text_laws.specs.Tests.{cond-true}
 use Rattle.text_spec.specs.Lists.{part}
+
+-- each number is a byte
+abbrev pub AreBytes : List ℕ → Type 0
+AreBytes bs = (b : ℕ) → In b bs → b < 256
 
 -- a number written in two bytes is read back, and two bytes read are written back
 pub two-bytes-read : (n : ℕ) → n < 65536 → inTwo (n / 256 % 256) (n % 256) ≡ n

@@ -13,7 +13,7 @@ use lib.ListN.{length, getElem?, length-map}
 use Rattle.projection_spec.specs.Extracts.Reading.{Placed, openFrom}
 use Rattle.schema_spec.specs.Names.{element, text, isText}
 use Rattle.table_laws.specs.Nodes.{node-equal}
-use Rattle.table_laws.specs.Places.{at-before, at-only, at-before-or-end}
+use Rattle.table_laws.specs.Places.{none-some, at-before, at-only, at-before-or-end}
 use Rattle.table_spec.specs.Nodes.{Node, top, under, numberOf, nameOf, same, isAbove}
 use Rattle.table_spec.specs.Rows.{Row}
 use Rattle.text_laws.specs.Tests.{or-cases, cond-true, cond-false}
@@ -98,7 +98,7 @@ pub record Reached (done : List Row) (before : List Node) (previous : Node) (os 
 -- a node stands where its row does
 pub row-of-node : (done : List Row) (before : List Node) → map numberOf before ≡ map numberOfRow done → (i : ℕ) (x : Node) → getElem? before i ≡ some x
     → (q : Row) × (getElem? done i ≡ some q) × (q .number ≡ numberOf x)
-row-of-node done [] e i x g = let z : _≡_ {A = ℕ} 0 1 = cc in absurd (omega arith)
+row-of-node done [] e i x g = none-some g
 row-of-node [] (y ∷ before) e i x g = let z : _≡_ {A = ℕ} 0 1 = cc in absurd (omega arith)
 row-of-node (r ∷ done) (y ∷ before) e zero x g = (r, refl, cc)
 row-of-node (r ∷ done) (y ∷ before) e (suc i) x g = row-of-node done before (cc) i x g

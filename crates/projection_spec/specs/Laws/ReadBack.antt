@@ -10,18 +10,13 @@ use lib.ListN.{length, take, drop, getElem?, length-append, take-append-drop}
 use lib.Seq.{length-take-le}
 use Rattle.projection_spec.specs.Extracts.Fields.{elementTag, textTag, countTag, twoBytes, field, numberAt, fieldOf}
 use Rattle.projection_spec.specs.Extracts.Reading.{Item, elementItem, textItem, countItem, noItem, inTwo, elementValue, textValue, countValue, itemOf, itemsFrom, Placed, openFrom, topRow, topElement, consRow, elementRow, textRow, laterRows, rowsOfItems}
-use Rattle.projection_spec.specs.Laws.Fields.{two-bytes-written, text-cut}
+use Rattle.projection_spec.specs.Laws.Fields.{AreBytes, two-bytes-written, text-cut}
 use Rattle.projection_spec.specs.Laws.Items.{opensAfter, rowAt, restWritten}
 use Rattle.projection_spec.specs.Laws.Opens.{placed}
 use Rattle.schema_spec.specs.Names.{element, text, Name}
-use Rattle.table_laws.specs.Places.{at-before, at-end}
-use Rattle.table_spec.specs.Nodes.{same}
+use Rattle.table_laws.specs.Places.{none-some, at-before, at-end}
 use Rattle.table_spec.specs.Rows.{Row}
 use Rattle.text_spec.specs.Lists.{gather, isEmpty, part}
-
--- each number is a byte
-abbrev pub AreBytes : List ℕ → Type 0
-AreBytes bs = (b : ℕ) → In b bs → b < 256
 
 -- what a tag and a value say
 data Says (tag place : ℕ) (value : List ℕ) : Item → Type 0 where
@@ -118,12 +113,12 @@ under-read nameBy k number parent size next os items rs e = by-open (openFrom pa
     by-later : (q : Placed) (qs : List Placed) (o : Option (List Row)) → openFrom parent os ≡ q ∷ qs
         → laterRows (suc next) (opensAfter (nameBy q) next number (q ∷ qs)) items ≡ o
         → consRow (rowAt (nameBy q) k number (q .row) size) o ≡ some rs → Under nameBy k number parent size next os items rs
-    by-later q qs none f l u = let z : _≡_ {A = ℕ} 0 1 = cc in absurd (omega arith)
+    by-later q qs none f l u = none-some u
     by-later q qs (some rs′) f l u = record { first = q; above = qs; later = rs′; found = f; made = cc; read = l }
 
     by-open : (x : List Placed) → openFrom parent os ≡ x → consedUnder nameBy k number size next items x ≡ some rs
         → Under nameBy k number parent size next os items rs
-    by-open [] f u = let z : _≡_ {A = ℕ} 0 1 = cc in absurd (omega arith)
+    by-open [] f u = none-some u
     by-open (q ∷ qs) f u = by-later q qs (laterRows (suc next) (opensAfter (nameBy q) next number (q ∷ qs)) items) f refl u
 
 element-under : (k number parent size next e : ℕ) (os : List Placed) (items : List Item) (rs : List Row)
@@ -164,8 +159,8 @@ count-last n next os [] rs e =
   where
     pick : (b : Bool) → (T b → n ≡ next) → cond b (some []) none ≡ some rs → (n ≡ next) × (rs ≡ [])
     pick true f u = (f tt, cc)
-    pick false f u = let z : _≡_ {A = ℕ} 0 1 = cc in absurd (omega arith)
-count-last n next os (i ∷ is) rs e = let z : _≡_ {A = ℕ} 0 1 = cc in absurd (omega arith)
+    pick false f u = none-some u
+count-last n next os (i ∷ is) rs e = none-some e
 
 -- One field of a row after the root, given that those after it are written back.
 module _ (full : List ℕ) (all : List Row) where
@@ -222,9 +217,7 @@ module _ (full : List ℕ) (all : List Row) where
       ∙ ap (field countTag) (ap twoBytes count ∙ two-bytes-written a b (bytes a (there (there (here refl)))) (bytes b (there (there (there (here refl))))) ∙ sym v)
       ∙ field-written countTag high low value (bytes high (here refl)) (bytes low (there (here refl))) l
       ∙ rw (t, after, append-nil value)
-  field-back tag high low k pre value rest i no-field l small whole place items ends later done rs os split known read =
-      let z : _≡_ {A = ℕ} 0 1 = cc in
-      absurd (omega arith)
+  field-back tag high low k pre value rest i no-field l small whole place items ends later done rs os split known read = none-some read
 
 -- what bytes that start at a place are cut into: nothing, no field, or a field and the rest
 data Cut (fuel k : ℕ) (cur : List ℕ) : List Item → Type 0 where
@@ -257,9 +250,6 @@ no-items (suc fuel) k cur e = pick (cut-first fuel k cur) e
     pick (ended q) u = q
     pick broken u = let z : _≡_ {A = ℕ} 0 1 = cc in absurd (omega arith)
     pick (cut tag high low value rest q l) u = let z : _≡_ {A = ℕ} 0 1 = cc in absurd (omega arith)
-
-none-some : {A B : Type 0} {a : A} → none ≡ some a → B
-none-some e = let z : _≡_ {A = ℕ} 0 1 = cc in absurd (omega arith)
 
 module _ (full : List ℕ) (all : List Row) where
   -- the bytes after a field, where they are written back wherever they stand
@@ -317,8 +307,8 @@ module _ (full : List ℕ) (all : List Row) (small : AreBytes full) (rootNumber 
       let o = root-read (inTwo a b) (inTwo c d) e items all read in
       let r = elementRow (inTwo a b) 0 e in
       let up : numberAt (getElem? all 0) ≡ inTwo c d = rw (o .2) (rootNumber r (rw (o .2)) ∙ sym (o .1)) in
-      let written : fieldOf full all r ≡ tag ∷ high ∷ low ∷ value =
-      rw t (value-back elementTag high low a b c d (numberAt (getElem? all 0)) value (e ∷ []) v up l (cut-bytes full all full tag high low value rest small q)) in
+      let bytes = cut-bytes full all full tag high low value rest small q in
+      let written : fieldOf full all r ≡ tag ∷ high ∷ low ∷ value = rw t (value-back elementTag high low a b c d (numberAt (getElem? all 0)) value (e ∷ []) v up l bytes) in
       ap (restWritten full all) (o .2) ∙ row-back full all r (o .0) (tag ∷ high ∷ low ∷ value) rest written
       (later (r ∷ []) (o .0) (placed 0 (inTwo a b) e ∷ []) (o .2) (known r e) (o .3))
     where

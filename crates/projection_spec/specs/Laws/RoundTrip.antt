@@ -11,12 +11,14 @@ use lib.ListN.{length, getElem?}
 use Rattle.projection_spec.specs.Extracts.Conditions.{IsExtract, ExtractApplies, length-2, extract-17, SameTables, no-rows, next-row, ExtractGives, gives}
 use Rattle.projection_spec.specs.Extracts.Fields.{countTag, twoBytes, field, fieldOf, writeExtract}
 use Rattle.projection_spec.specs.Extracts.Reading.{itemsOf, rowsOfItems, readExtract, isTable, rowsOr}
+use Rattle.projection_spec.specs.Laws.Fields.{AreBytes}
 use Rattle.projection_spec.specs.Laws.Moved.{restarted, same-rows, same-all-inside, root-moved}
-use Rattle.projection_spec.specs.Laws.ReadBack.{AreBytes, fields-back}
+use Rattle.projection_spec.specs.Laws.ReadBack.{fields-back}
 use Rattle.projection_spec.specs.Laws.TextNames.{TextNames}
 use Rattle.projection_spec.specs.Laws.Written.{written-long, table-items}
 use Rattle.schema_spec.specs.Types.{Types}
 use Rattle.table_laws.specs.Fits.{rooted, cellsFit, all-cells}
+use Rattle.table_laws.specs.Places.{none-some}
 use Rattle.table_laws.specs.WellFormed.{well-formed-beside}
 use Rattle.table_spec.specs.Rows.{Row}
 use Rattle.table_spec.specs.Tables.{wellFormed, wellFormedWith, textInside}
@@ -85,7 +87,7 @@ read-write s bs rows small e =
     fields-back bs rows small (root-number rows (and-cases (wellFormed s rows) (allOf (textInside bs) rows) (c .1) .0)) (length bs) (c .0)
   where
     root-number : (rs : List Row) → T (wellFormed s rs) → (r : Row) → getElem? rs 0 ≡ some r → r .number ≡ 0
-    root-number [] t r g = let z : _≡_ {A = ℕ} 0 1 = cc in absurd (omega arith)
+    root-number [] t r g = none-some g
     root-number (q ∷ rs) t r g =
         let first : q ≡ r = cc in
         rw (← first) (rooted s q rs t .number)
