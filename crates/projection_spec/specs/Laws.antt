@@ -7,3 +7,4 @@ pub mod Written
 pub mod ReadBack
 pub mod RoundTrip
 pub mod SameTables
+pub mod WrittenBytes
