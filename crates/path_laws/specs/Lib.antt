@@ -1,4 +1,3 @@
-pub mod Nodes
 pub mod Selection
 pub mod Grammar
 pub mod Reading

@@ -9,7 +9,7 @@ use native.Mathlib.Bridge.{le-prop}
 use native.Mathlib.Omega.{arith}
 use lib.Dec.{T, eqb→eq, eqb-refl}
 use lib.ListN.{getElem?}
-use Rattle.path_laws.specs.Nodes.{nodes-equal, nodes-same, parent-edge, edge-parent, test-above, above-test}
+use Rattle.table_laws.specs.Nodes.{nodes-equal, nodes-same, parent-edge, edge-parent, test-above, above-test}
 use Rattle.path_spec.specs.Paths.{Axis, self, child, descendant, descendantOrSelf, parent, ancestor, ancestorOrSelf, WrittenAxis, along, NodeTest, named, anyNode, anyText, WrittenStep, PlainStep, Condition, Path}
 use Rattle.path_spec.specs.Selection.{NodeSet, Passes, passes-name, passes-node, passes-text, OnAxis, on-self, on-child, on-descendant, here-or-below, below-or-here, on-parent, on-ancestor, here-or-above, above-or-here, OnWritten, on-along, StepSet, PathSet, Always, Only, Holds, no-condition, alternative, Selected, passes, onAxis, onWritten, stepFrom, pathFrom, always, holdsAt, selected, select, selectRows}
 use Rattle.schema_spec.specs.Names.{Name, element, text}

@@ -23,7 +23,7 @@ use Rattle.projection_spec.specs.Laws.Documents.{Subset, Lawful}
 use Rattle.projection_spec.specs.Laws.Lawful.{types-lawful}
 use Rattle.projection_spec.specs.Laws.RoundTrip.{write-read}
 use Rattle.projection_spec.specs.Laws.Tables.{cut-selects-same, same-tables-select}
-use Rattle.projection_spec.specs.Laws.Written.{text-names}
+use Rattle.projection_spec.specs.Laws.TextNames.{text-names}
 use Rattle.projection_spec.specs.Library.Hosts.{extractOf}
 use Rattle.schema_laws.specs.Accepted.{accepted-filled, accepted-closed, accepted-length}
 use Rattle.schema_laws.specs.Names.{within-in}

@@ -16,8 +16,11 @@ pub mod Records
 pub mod Handed
 pub mod Fields
 pub mod Items
+pub mod TextNames
 pub mod Opens
 pub mod Moved
 pub mod Written
 pub mod ReadBack
 pub mod RoundTrip
+pub mod SameTables
+pub mod WrittenBytes

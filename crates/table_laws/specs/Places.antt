@@ -1,15 +1,18 @@
 -- Places in a list that grows at its end. Assumes nothing.
 use mathlib.Core.List.{List, [], _∷_, _++_, List·Memᴰ as In, List·Memᴰ·head as here, List·Memᴰ·tail as there}
 use mathlib.Core.Logic.{_⊎_, inl, inr, ⊎-elim}
-use mathlib.Core.Option.{Option, some}
+use mathlib.Core.Option.{Option, none, some}
 use mathlib.Core.Path.{_≡_, refl, sym, ap}
 use Prim.Native.Nat.{ℕ, zero, suc, _<_}
 use native.Mathlib.Omega.{arith}
 use lib.ListN.{length, getElem?}
 
+pub none-some : {A B : Type 0} {a : A} → none ≡ some a → B
+none-some e = let z : _≡_ {A = ℕ} 0 1 = cc in absurd (omega arith)
+
 module _ {A : Type 0} where
   pub at-before : (xs ys : List A) (i : ℕ) (x : A) → getElem? xs i ≡ some x → getElem? (xs ++ ys) i ≡ some x
-  at-before [] ys i x e = let z : _≡_ {A = ℕ} 0 1 = cc in absurd (omega arith)
+  at-before [] ys i x e = none-some e
   at-before (a ∷ xs) ys zero x e = e
   at-before (a ∷ xs) ys (suc i) x e = at-before xs ys i x e
 
@@ -19,7 +22,7 @@ module _ {A : Type 0} where
 
   pub at-only : (y : A) (i : ℕ) (x : A) → getElem? (y ∷ []) i ≡ some x → (i ≡ 0) × (x ≡ y)
   at-only y zero x e = (refl, cc)
-  at-only y (suc i) x e = let z : _≡_ {A = ℕ} 0 1 = cc in absurd (omega arith)
+  at-only y (suc i) x e = none-some e
 
   pub at-before-or-end : (xs : List A) (y : A) (i : ℕ) (x : A) → getElem? (xs ++ (y ∷ [])) i ≡ some x → (getElem? xs i ≡ some x) ⊎ ((i ≡ length xs) × (x ≡ y))
   at-before-or-end [] y i x e = inr (at-only y i x e)
@@ -27,7 +30,7 @@ module _ {A : Type 0} where
   at-before-or-end (a ∷ xs) y (suc i) x e = ⊎-elim (λ h. inl h) (λ h. inr (ap suc (h .0), h .1)) (at-before-or-end xs y i x e)
 
   pub at-bound : (xs : List A) (i : ℕ) (x : A) → getElem? xs i ≡ some x → i < length xs
-  at-bound [] i x e = let z : _≡_ {A = ℕ} 0 1 = cc in absurd (omega arith)
+  at-bound [] i x e = none-some e
   at-bound (a ∷ xs) zero x e = omega arith
   at-bound (a ∷ xs) (suc i) x e = let h = at-bound xs i x e in omega arith
 
@@ -41,6 +44,6 @@ module _ {A : Type 0} where
   in-at (there m) = let r = in-at m in (suc (r .0), r .1)
 
   pub at-in : (xs : List A) (i : ℕ) (x : A) → getElem? xs i ≡ some x → In x xs
-  at-in [] i x e = let z : _≡_ {A = ℕ} 0 1 = cc in absurd (omega arith)
+  at-in [] i x e = none-some e
   at-in (a ∷ xs) zero x e = let h : x ≡ a = cc in here h
   at-in (a ∷ xs) (suc i) x e = there (at-in xs i x e)

@@ -6,7 +6,7 @@ use Prim.Native.Nat.{ℕ, suc, _<_, _≤_}
 use native.Mathlib.Omega.{arith}
 use lib.Dec.{T}
 use Rattle.schema_spec.specs.Names.{Name, element, text}
-use Rattle.table_laws.specs.Nodes.{node-equal, node-same}
+use Rattle.table_laws.specs.Nodes.{nodes-equal, nodes-same}
 use Rattle.table_spec.specs.Conditions.{RowAt, RowAbove, parent, higher, DepthAt, root-depth, element-depth, text-depth}
 use Rattle.table_spec.specs.Nodes.{Node, top, under, numberOf, nameOf, same, isAbove, depthOf, deeper}
 use Rattle.table_spec.specs.Rows.{Row, textOf}
@@ -49,7 +49,7 @@ module _ {rows : List Row} where
   pub row-above : {i j : ℕ} {y : Node} → RowAbove rows j i → NodeOf rows i y → (x : Node) × NodeOf rows j x × T (isAbove x y) × (j < i)
   row-above (parent {r = q} g) (later-node {i = i} {r = r} {p = p} h b n) =
       let e : q ≡ r = cc in
-      (p, subst (λ (z : Row). NodeOf rows (z .parent) p) (sym e) n, or-left (same p p) (isAbove p p) (node-same p), rw e (omega arith))
+      (p, subst (λ (z : Row). NodeOf rows (z .parent) p) (sym e) n, or-left (same p p) (isAbove p p) (nodes-same p), rw e (omega arith))
   row-above (higher {r = q} g a) (later-node {i = i} {r = r} {p = p} h b n) =
       let e : q ≡ r = cc in
       let up : q .parent ≡ r .parent = rw e in
@@ -61,7 +61,7 @@ module _ {rows : List Row} where
   pub node-above : {i : ℕ} {y : Node} (x : Node) → NodeOf rows i y → T (isAbove x y) → (j : ℕ) × RowAbove rows j i × NodeOf rows j x
   node-above x (root-node g) t = absurd t
   node-above x (later-node {r = r} {p = p} g b n) t =
-      ⊎-elim (λ u. (r .parent, parent g, subst (λ (z : Node). NodeOf rows (r .parent) z) (sym (node-equal x p u)) n))
+      ⊎-elim (λ u. (r .parent, parent g, subst (λ (z : Node). NodeOf rows (r .parent) z) (sym (nodes-equal x p u)) n))
       (λ u.
       let c = node-above x n u in
       (c .0, higher g (c .1), c .2)) (or-cases (same x p) (isAbove x p) t)

@@ -2,7 +2,7 @@
 use mathlib.Core.Bool.{Bool, false, not, _&&_, _||_}
 use mathlib.Core.List.{List, [], _∷_, _++_, append-assoc, List·Memᴰ as In}
 use mathlib.Core.Logic.{_↔_, _⊎_, inl, inr, ⊎-elim}
-use mathlib.Core.Option.{Option, none, some}
+use mathlib.Core.Option.{some}
 use mathlib.Core.Path.{_≡_, refl, sym, ap, subst, _∙_}
 use Prim.Native.Nat.{ℕ, zero, suc, _+_, _<_, _≤_}
 use native.Mathlib.Omega.{arith}
@@ -10,8 +10,8 @@ use lib.Dec.{T, eqb, leb, eqb→eq, eqb-refl, leb→le, le→leb}
 use lib.ListN.{length, getElem?, length-append, length-take, length-drop}
 use Rattle.schema_spec.specs.Names.{Name, element, text, isText}
 use Rattle.schema_spec.specs.Types.{Types}
-use Rattle.table_laws.specs.Fits.{RowFits, row-fits, fits-row, rooted, rooted-fits}
-use Rattle.table_laws.specs.Nodes.{node-equal, node-same}
+use Rattle.table_laws.specs.Fits.{attached-number, parent-found, RowFits, row-fits, fits-row, rooted, rooted-fits}
+use Rattle.table_laws.specs.Nodes.{nodes-equal, nodes-same}
 use Rattle.table_laws.specs.Places.{at-end, at-only, at-before-or-end, at-bound, at-some, in-at, at-in}
 use Rattle.table_laws.specs.RowNodes.{NodeOf, root-node, later-node, Rising, node-row, one-node, one-place, row-above, node-above, depth-of, one-depth}
 use Rattle.table_spec.specs.Conditions.{RowAt, RowAbove, TextCells, of-element, of-text, LaterRow, WellFormed, WellFormedBeside}
@@ -37,11 +37,6 @@ mean-cells : (r : Row) → TextCells r → T (textFits (r .name) r)
 mean-cells r (of-element q a b) = rw (q, a, b) tt
 mean-cells r (of-text q a b) = rw q (and-intro (leb 1 (r .length)) (leb (r .length) maxTextBytes) (le→leb _ _ a) (le→leb _ _ b))
 
--- a node that some row attaches to, where its parent is found
-parent-found : (previous : Node) (k : ℕ) (n : Name) (w : List ℕ) (o : Option Node) → T (parentOpen previous (attach k n w o)) → (p : Node) × (o ≡ some p)
-parent-found previous k n w none t = absurd t
-parent-found previous k n w (some p) t = (p, refl)
-
 module _ (s : Types) (rows : List Row) (rise : Rising rows) where
   -- the nodes of rows 0 to i
   record Built (before : List Node) (i : ℕ) (previous : Node) : Type 0 where
@@ -51,7 +46,9 @@ module _ (s : Types) (rows : List Row) (rise : Rising rows) where
 
   built-next : (before : List Node) (i : ℕ) (previous : Node) (y : Node) → Built before i previous → NodeOf rows (suc i) y → Built (before ++ (y ∷ [])) (suc i) y
   built-next before i previous y b n =
-      record { count = omega (arith, length-append before (y ∷ []), b .count); nodes = λ j z e. pick j z (at-before-or-end before y j z e); last = ap (getElem? (before ++ (y ∷ []))) (sym (b .count)) ∙ at-end before y [] }
+      let size : length (before ++ (y ∷ [])) ≡ suc (suc i) = omega (arith, length-append before (y ∷ []), b .count) in
+      let end = ap (getElem? (before ++ (y ∷ []))) (sym (b .count)) ∙ at-end before y [] in
+      record { count = size; nodes = λ j z e. pick j z (at-before-or-end before y j z e); last = end }
     where
       pick : (j : ℕ) (z : Node) → (getElem? before j ≡ some z) ⊎ ((j ≡ length before) × (z ≡ y)) → NodeOf rows j z
       pick j z (inl e) = b .nodes j z e
@@ -93,13 +90,14 @@ module _ (s : Types) (rows : List Row) (rise : Rising rows) where
         let first : x ≡ z = cc in
         let up : x .parent ≡ r .parent = rw first a in
         let one : o ≡ p = one-node (subst (λ (m : ℕ). NodeOf rows m o) up n) parent-node in
-        and-intro (isText (x .name)) (same o p) (rw first t) (rw one (node-same p))
+        and-intro (isText (x .name)) (same o p) (rw first t) (rw one (nodes-same p))
 
-    twin-is : (j : ℕ) (w : Node) → NodeOf rows j w → T (twin w) → (k : ℕ) × (z : Row) × (j ≡ suc k) × RowAt rows (suc k) z × T (isText (z .name)) × (z .parent ≡ r .parent)
+    twin-is : (j : ℕ) (w : Node) → NodeOf rows j w → T (twin w)
+        → (k : ℕ) × (z : Row) × (j ≡ suc k) × RowAt rows (suc k) z × T (isText (z .name)) × (z .parent ≡ r .parent)
     twin-is j w (root-node {r = x} k) t = absurd (and-cases (isText (x .name)) false t .1)
     twin-is j w (later-node {i = k} {r = x} {p = o} k′ l n) t =
         let c = and-cases (isText (x .name)) (same o p) t in
-        (k, x, refl, k′, c .0, one-place rise n (subst (λ (z : Node). NodeOf rows (r .parent) z) (sym (node-equal o p (c .1))) parent-node))
+        (k, x, refl, k′, c .0, one-place rise n (subst (λ (z : Node). NodeOf rows (r .parent) z) (sym (nodes-equal o p (c .1))) parent-node))
 
     fits-mean : RowFits s before previous r y → LaterRow s rows i q r
     fits-mean f =
@@ -114,7 +112,7 @@ module _ (s : Types) (rows : List Row) (rise : Rising rows) where
         }
       where
         at-previous : T (same p previous) → (r .parent ≡ i) ⊎ RowAbove rows (r .parent) i
-        at-previous u = inl (one-place rise parent-node (subst (λ (z : Node). NodeOf rows i z) (sym (node-equal p previous u)) previous-node))
+        at-previous u = inl (one-place rise parent-node (subst (λ (z : Node). NodeOf rows i z) (sym (nodes-equal p previous u)) previous-node))
 
         above : T (isAbove p previous) → (r .parent ≡ i) ⊎ RowAbove rows (r .parent) i
         above u =
@@ -142,7 +140,7 @@ module _ (s : Types) (rows : List Row) (rise : Rising rows) where
         at-previous : r .parent ≡ i → T (same p previous || isAbove p previous)
         at-previous u =
             let one : p ≡ previous = one-node (subst (λ (k : ℕ). NodeOf rows k p) u parent-node) previous-node in
-            or-left (same p previous) (isAbove p previous) (rw one (node-same previous))
+            or-left (same p previous) (isAbove p previous) (rw one (nodes-same previous))
 
         above : RowAbove rows (r .parent) i → T (same p previous || isAbove p previous)
         above u =
@@ -184,7 +182,8 @@ module _ (s : Types) (rows : List Row) (rise : Rising rows) where
   laters-mean done [] before i previous b e l t j q r h g k = absurd (omega (arith, at-bound rows (suc j) r k, ap length e, length-append done []))
   laters-mean done (x ∷ rs) before i previous b e l t j q r h g k =
       ⊎-elim (λ u. now (eqb→eq i j u))
-      (λ n. laters-mean (done ++ (x ∷ [])) rs (before ++ (y ∷ [])) (suc i) y (built-next before i previous y b (node (at-some rows i (omega (arith, at-bound rows (suc j) r k))))) (e ∙ sym (append-assoc done (x ∷ []) rs))
+      (λ n. laters-mean (done ++ (x ∷ [])) rs (before ++ (y ∷ [])) (suc i) y
+      (built-next before i previous y b (node (at-some rows i (omega (arith, at-bound rows (suc j) r k))))) (e ∙ sym (append-assoc done (x ∷ []) rs))
       (omega (arith, length-append done (x ∷ []))) (c .1) j q r (later n) g k) (decided (eqb i j))
     where
       y : Node
@@ -219,7 +218,8 @@ module _ (s : Types) (rows : List Row) (rise : Rising rows) where
       let q = at-some rows i (omega (arith, at-bound rows (length done) r g)) in
       let c = later-fits before i previous (q .0) r b (q .1) (rw l at g) (f i (q .0) r (q .1) (rw l at g)) in
       and-intro (rowFits s before previous r y) (laterRows s (before ++ (y ∷ [])) y rs) (fits-row s before previous r y (c .0))
-      (laters-fit (done ++ (r ∷ [])) rs (before ++ (y ∷ [])) (suc i) y (built-next before i previous y b (c .1)) (e ∙ sym (append-assoc done (r ∷ []) rs)) (omega (arith, length-append done (r ∷ []))) f)
+      (laters-fit (done ++ (r ∷ [])) rs (before ++ (y ∷ [])) (suc i) y (built-next before i previous y b (c .1)) (e ∙ sym (append-assoc done (r ∷ []) rs))
+      (omega (arith, length-append done (r ∷ []))) f)
 
 -- numbers that rise from row to next row rise over all rows
 next-rising : (rows : List Row) → ((j : ℕ) (q r : Row) → RowAt rows j q → RowAt rows (suc j) r → q .number < r .number) → Rising rows
@@ -239,10 +239,6 @@ next-rising rows f i (suc j) q r h g k =
         let apart : i ≡ j → ⊥ = λ u. n (rw u (eqb-refl j)) in
         let v = rec (omega arith) in
         omega arith
-
-attached-number : (k : ℕ) (n : Name) (w : List ℕ) (o : Option Node) → numberOf (attach k n w o) ≡ k
-attached-number k n w none = refl
-attached-number k n w (some p) = refl
 
 test-rises : (s : Types) (before : List Node) (previous : Node) (x : Row) (rs : List Row) → numberOf previous ≡ x .number → T (laterRows s before previous rs)
     → (j : ℕ) (q r : Row) → RowAt (x ∷ rs) j q → RowAt (x ∷ rs) (suc j) r → q .number < r .number
@@ -280,7 +276,8 @@ module _ (s : Types) where
       let y = top (x .number) (x .name) in
       let rise = next-rising (x ∷ rs) (λ j q r g k. w .laterRow j q r g k .rises) in
       let c = w .rootRow x refl in
-      rooted-fits s x rs (record { number = c .0; name = c .1; parent = c .2; cells = mean-cells x (c .3); later = laters-fit s (x ∷ rs) rise (x ∷ []) rs (y ∷ []) 0 y (root-built x rs rise) refl refl (w .laterRow) })
+      let later = laters-fit s (x ∷ rs) rise (x ∷ []) rs (y ∷ []) 0 y (root-built x rs rise) refl refl (w .laterRow) in
+      rooted-fits s x rs (record { number = c .0; name = c .1; parent = c .2; cells = mean-cells x (c .3); later = later })
 
 abbrev passes : ℕ → Bool
 passes b = not (isForeign b)
@@ -306,7 +303,8 @@ module _ (lent : List ℕ) (r : Row) where
           let size : length (textOf lent r) ≡ r .length = simp (length-take, length-drop) (omega arith) in
           or-right (not (isText (r .name))) _
           (and-intro (leb (r .start) (length lent)) _ (le→leb (r .start) (length lent) (omega arith))
-          (and-intro (eqb (length (textOf lent r)) (r .length)) _ (rw size (eqb-refl (r .length))) (in-all passes (textOf lent r) (λ b i. not-intro (isForeign b) (c .1 b i)))))
+          (and-intro (eqb (length (textOf lent r)) (r .length)) _ (rw size (eqb-refl (r .length)))
+          (in-all passes (textOf lent r) (λ b i. not-intro (isForeign b) (c .1 b i)))))
 
       other : (T (isText (r .name)) → ⊥) → T (textInside lent r)
       other n = or-left (not (isText (r .name))) _ (not-intro (isText (r .name)) n)
@@ -319,7 +317,8 @@ well-formed-beside s lent rows = (means, tests)
     means : T (wellFormedWith s lent rows) → WellFormedBeside s lent rows
     means t =
         let c = and-cases (wellFormed s rows) (allOf (textInside lent) rows) t in
-        record { table = table-means s rows (c .0); inside = λ r i u. inside-means lent r (all-in (textInside lent) (c .1) i) u .0; passes = λ r i u. inside-means lent r (all-in (textInside lent) (c .1) i) u .1 }
+        let fits : (r : Row) → In r rows → T (textInside lent r) = λ r i. all-in (textInside lent) (c .1) i in
+        record { table = table-means s rows (c .0); inside = λ r i u. inside-means lent r (fits r i) u .0; passes = λ r i u. inside-means lent r (fits r i) u .1 }
 
     tests : WellFormedBeside s lent rows → T (wellFormedWith s lent rows)
     tests w =

@@ -9,9 +9,11 @@ use native.Mathlib.Omega.{arith}
 use lib.Dec.{T, eqb, leb, ltb, ltb→lt, lt→ltb}
 use lib.ListN.{length, length-map, take, getElem?}
 use lib.Seq.{take-nil}
-use Rattle.path_laws.specs.Nodes.{nodes-equal, equal-same, test-above, above-test}
+use Rattle.table_laws.specs.Fits.{RowFits, row-fits, fits-row, Rooted, rooted, rooted-fits}
+use Rattle.table_laws.specs.Nodes.{nodes-equal, equal-same, test-above, above-test}
+use Rattle.table_laws.specs.Places.{at-in}
 use Rattle.projection_spec.specs.Extracts.Cut.{kept, renumbered, cutFrom, cut}
-use Rattle.projection_spec.specs.Laws.Rows.{bare, bare-kept, bare-node, bare-filter, filtered-at, at-in, Fits, row-fits, Rooted, well-rooted, Grown, no-rows, next-row, root-grown}
+use Rattle.projection_spec.specs.Laws.Rows.{bare, bare-kept, bare-node, bare-filter, filtered-at, Grown, no-rows, next-row, root-grown}
 use Rattle.schema_spec.specs.Names.{Name, Names, element, text, has, isText, sameName}
 use Rattle.schema_spec.specs.Types.{Types}
 use Rattle.table_spec.specs.Nodes.{Node, top, under, nameOf, numberOf, depthOf, same, Edge, edge, Above, parent, higher, isAbove, attach, nodeAt, nodesFrom, nodesOf}
@@ -177,7 +179,7 @@ cut-later s set before previous last (r ∷ rs) inv le t =
     c : T (rowFits s before previous r y) × T (laterRows s (before ++ (y ∷ [])) y rs)
     c = and-cases (rowFits s before previous r y) (laterRows s (before ++ (y ∷ [])) y rs) t
 
-    f : Fits s before previous r y
+    f : RowFits s before previous r y
     f = row-fits s before previous r y (c .0)
 
     h : (p : Node) × (getElem? before (r .parent) ≡ some p)
@@ -187,13 +189,13 @@ cut-later s set before previous last (r ∷ rs) inv le t =
     e = ap (attach (r .number) (r .name) (textOf [] r)) (h .1)
 
     opened : OpenAt (h .0) previous
-    opened = test-open (h .0) previous (subst (λ (z : Node). T (parentOpen previous z)) e (f .opened))
+    opened = test-open (h .0) previous (subst (λ (z : Node). T (parentOpen previous z)) e (f .isOpen))
 
     number-y : numberOf y ≡ r .number
     number-y = ap numberOf e
 
     rising : numberOf previous < r .number
-    rising = ltb→lt (numberOf previous) (r .number) (f .rises)
+    rising = f .rises
 
     -- the row is dropped: what is kept and open at its node is open at the row before
     still : kept set y ≡ false → (p : Node) → T (kept set p) → OpenAt p y → OpenAt p last
@@ -217,13 +219,16 @@ cut-later s set before previous last (r ∷ rs) inv le t =
         fits q =
             let pk : T (kept set (h .0)) = kept-parent set (r .number) (r .name) (textOf [] r) (h .0) (getElem? before (r .parent)) (h .1) (passed q) in
             let po : T (parentOpen last y) = subst (λ (z : Node). T (parentOpen last z)) (sym e) (open-test (h .0) last (inv (h .0) pk opened)) in
-            and-intro (ltb (numberOf last) (r .number)) _ (lt→ltb (numberOf last) (r .number) (omega (arith, rising)))
-            (and-intro (ltb (r .number) maxNodes) _ (f .small)
-            (and-intro (parentOpen last y) _ po
-            (and-intro (parentHolds s y) _ (f .held)
-            (and-intro (leb (depthOf y) maxDepth) _ (f .shallow)
-            (and-intro (firstText (filterBy (kept set) before) y) (textFits (r .name) (renumbered set before r)) (first-among (kept set) before y (f .oneText))
-            (renumbered-cells set before r (r .name) (f .cells)))))))
+            fits-row s (filterBy (kept set) before) last (renumbered set before r) y
+            (record {
+              rises = omega (arith, rising);
+              small = f .small;
+              isOpen = po;
+              held = f .held;
+              shallow = f .shallow;
+              oneText = first-among (kept set) before y (f .oneText);
+              cells = renumbered-cells set before r (r .name) (f .cells);
+            })
     pick false q ih dropped =
         subst (λ (l : List Node). T (laterRows s l last rest)) (filtered-last (kept set) before y false q ∙ append-nothing (filterBy (kept set) before)) (dropped q)
 
@@ -259,18 +264,21 @@ cut-well-formed s set (r ∷ rs) t = pick (has (r .name) set) refl
     root = top (r .number) (r .name)
 
     w : Rooted s r rs
-    w = well-rooted s r rs t
+    w = rooted s r rs t
 
     rest : List Row
     rest = cutFrom set (root ∷ []) rs
 
     pick : (b : Bool) → has (r .name) set ≡ b → T (wellFormed s (cond b (renumbered set [] r ∷ rest) rest))
     pick true q =
-        and-intro (eqb (r .number) 0) _ (w .number)
-        (and-intro (sameName (r .name) (s .root)) _ (w .name)
-        (and-intro (eqb (renumbered set [] r .parent) 0) _ (subst (λ (l : List Node). T (eqb (length (filterBy (kept set) l)) 0)) (sym (take-nil (r .parent))) tt)
-        (and-intro (textFits (r .name) (renumbered set [] r)) _ (renumbered-cells set [] r (r .name) (w .cells))
-        (subst (λ (z : Bool). T (laterRows s (cond z (root ∷ []) []) root rest)) q (cut-later s set (root ∷ []) root root rs (λ p k o. o) (omega arith) (w .later))))))
+        rooted-fits s (renumbered set [] r) rest
+        (record {
+          number = w .number;
+          name = w .name;
+          parent = ap (λ (l : List Node). length (filterBy (kept set) l)) (take-nil (r .parent));
+          cells = renumbered-cells set [] r (r .name) (w .cells);
+          later = subst (λ (z : Bool). T (laterRows s (cond z (root ∷ []) []) root rest)) q (cut-later s set (root ∷ []) root root rs (λ p k o. o) (omega arith) (w .later));
+        })
     pick false q = subst (λ (l : List Row). T (wellFormed s l)) (sym (none-kept s set (root ∷ []) rs nowhere (root-grown s [] r rs t))) tt
       where
         nowhere : (z : Node) → In z (root ∷ []) → T (kept set z) → ⊥

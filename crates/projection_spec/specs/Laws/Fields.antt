@@ -1,5 +1,5 @@
 -- Fields of an extract, written and read: numbers in two bytes, one field, the fields of rows. Assumes nothing.
-use mathlib.Core.List.{List, [], _∷_, _++_}
+use mathlib.Core.List.{List, [], _∷_, _++_, List·Memᴰ as In}
 use mathlib.Core.Path.{_≡_, refl, _∙_}
 use Prim.Native.Nat.{ℕ, zero, suc, _+_, _/_, _%_, _<_, _≤_}
 use native.Mathlib.Omega.{arith}
@@ -11,6 +11,10 @@ use Rattle.projection_spec.specs.Extracts.Reading.{elementItem, textItem
 use Rattle.schema_spec.specs.Names.{element, text}
 use Rattle.text_laws.specs.Tests.{cond-true}
 use Rattle.text_spec.specs.Lists.{part}
+
+-- each number is a byte
+abbrev pub AreBytes : List ℕ → Type 0
+AreBytes bs = (b : ℕ) → In b bs → b < 256
 
 -- a number written in two bytes is read back, and two bytes read are written back
 pub two-bytes-read : (n : ℕ) → n < 65536 → inTwo (n / 256 % 256) (n % 256) ≡ n
@@ -31,13 +35,15 @@ field-read fuel k tag value rest h =
     (cond-true (leb (length value) (length (value ++ rest))) (itemOf tag (k + 3) value ∷ itemsFrom fuel (k + 3 + length value) rest) (noItem ∷ []) (le→leb _ _ fits))
 
 pub element-read : (fuel k number parent e : ℕ) (w rest : List ℕ) → number < 65536 → parent < 65536
-    → itemsFrom (suc fuel) k (rowField (element e) number parent w ++ rest) ≡ elementItem number parent e ∷ itemsFrom fuel (k + length (rowField (element e) number parent w)) rest
+    → itemsFrom (suc fuel) k (rowField (element e) number parent w ++ rest)
+    ≡ elementItem number parent e ∷ itemsFrom fuel (k + length (rowField (element e) number parent w)) rest
 element-read fuel k number parent e w rest p q =
     let place : k + 3 + 5 ≡ k + 8 = omega arith in
     field-read fuel k elementTag (twoBytes number ++ (twoBytes parent ++ (e ∷ []))) rest (lit< tt) ∙ rw (two-bytes-read number p, two-bytes-read parent q, place)
 
 pub text-read : (fuel k number parent e : ℕ) (w rest : List ℕ) → number < 65536 → parent < 65536 → length w < 65532
-    → itemsFrom (suc fuel) k (rowField (text e) number parent w ++ rest) ≡ textItem number parent (k + 3 + 4) (length w) ∷ itemsFrom fuel (k + length (rowField (text e) number parent w)) rest
+    → itemsFrom (suc fuel) k (rowField (text e) number parent w ++ rest)
+    ≡ textItem number parent (k + 3 + 4) (length w) ∷ itemsFrom fuel (k + length (rowField (text e) number parent w)) rest
 text-read fuel k number parent e w rest p q h =
     let place : k + 3 + suc (suc (suc (suc (length w)))) ≡ k + suc (suc (suc (suc (suc (suc (suc (length w))))))) = omega arith in
     field-read fuel k textTag (twoBytes number ++ (twoBytes parent ++ w)) rest (omega arith) ∙ rw (two-bytes-read number p, two-bytes-read parent q, place)

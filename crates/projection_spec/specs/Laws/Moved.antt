@@ -1,81 +1,46 @@
 -- Rows whose texts stand elsewhere: a well-formed table stays well formed, and its texts stay the same. Assumes nothing.
-use mathlib.Core.Bool.{Bool, not, _&&_, _||_}
+use mathlib.Core.Bool.{not, _&&_, _||_}
 use mathlib.Core.List.{List, [], _∷_, _++_, append-assoc}
-use mathlib.Core.Option.{Option, none, some}
 use mathlib.Core.Path.{_≡_, refl, sym, ap, _∙_}
-use Prim.Native.Nat.{ℕ, _+_, _<_, _≤_}
+use Prim.Native.Nat.{ℕ, _+_, _≤_}
 use native.Mathlib.Omega.{arith}
-use lib.Dec.{T, eqb, leb, ltb, eqb→eq, eqb-refl, leb→le, le→leb, ltb→lt}
-use lib.ListN.{length, getElem?, length-append, length-take, length-drop}
+use lib.Dec.{T, eqb, leb, eqb→eq, eqb-refl, leb→le, le→leb}
+use lib.ListN.{length, length-append, length-take, length-drop}
 use lib.Seq.{drop-nil}
 use Rattle.projection_spec.specs.Extracts.Conditions.{SameButStarts, SameTables, no-rows, next-row}
-use Rattle.projection_spec.specs.Extracts.Fields.{rowField, numberAt, fieldOf}
+use Rattle.projection_spec.specs.Extracts.Fields.{rowField, fieldOf}
 use Rattle.projection_spec.specs.Laws.Fields.{text-cut}
-use Rattle.projection_spec.specs.Laws.Items.{startAt, sizeAt}
-use Rattle.projection_spec.specs.Laws.Opens.{name-equal}
-use Rattle.schema_spec.specs.Names.{element, text, Name, isText, sameName}
+use Rattle.projection_spec.specs.Laws.Items.{startAt, sizeAt, parentNumber}
+use Rattle.schema_spec.specs.Names.{element, text, Name, isText}
 use Rattle.schema_spec.specs.Types.{Types}
-use Rattle.table_spec.specs.Nodes.{Node, top, numberOf, nameOf, same, isAbove, depthOf, attach, nodeAt}
+use Rattle.table_laws.specs.Fits.{row-fits, rooted, cellsFit}
+use Rattle.table_spec.specs.Nodes.{Node, top, nodeAt}
 use Rattle.table_spec.specs.Rows.{Row, textOf}
-use Rattle.table_spec.specs.Tables.{wellFormed, parentOpen, parentHolds, firstText, textFits, rowFits, laterRows as laterFit, textInside}
+use Rattle.table_spec.specs.Tables.{wellFormed, textFits, rowFits, laterRows as laterFit, textInside}
 use Rattle.text_laws.specs.Tests.{true-of, and-cases, and-intro, or-right}
 use Rattle.text_spec.specs.Bytes.{isForeign}
-use Rattle.text_spec.specs.Limits.{maxNodes, maxDepth, maxTextBytes}
+use Rattle.text_spec.specs.Limits.{maxTextBytes}
 use Rattle.text_spec.specs.Lists.{allOf, gather, part}
-use Rattle.text_spec.specs.Refusals.{at}
 
--- what a fitting later row says: its parent is among the nodes before it, and is the node before or one above that
-pub record Fitting (s : Types) (before : List Node) (previous : Node) (r : Row) : Type 0 where
-  pub parent : Node
-  pub parentAt : getElem? before (r .parent) ≡ some parent
-  pub rises : numberOf previous < r .number
-  pub small : r .number < maxNodes
-  pub isOpen : T (same parent previous || isAbove parent previous)
-  pub held : T (s .holds (nameOf parent) (r .name))
-  pub cells : T (textFits (r .name) r)
+-- the text of a row of a well-formed table: it has the row's length, at most 4,096, which is 0 for an element, and its bytes pass 3
+pub record HasText (n : Name) (lent : List ℕ) (r : Row) : Type 0 where
+  pub size : length (textOf lent r) ≡ r .length
+  pub short : r .length ≤ maxTextBytes
+  pub ofName : sizeAt n (r .length) ≡ r .length
+  pub passes : T (not (isText n) || allOf (λ b. not (isForeign b)) (textOf lent r))
 
-pub fitting : (s : Types) (before : List Node) (previous : Node) (r : Row) → T (rowFits s before previous r (nodeAt [] before r)) → Fitting s before previous r
-fitting s before previous r t = pick (getElem? before (r .parent)) refl (parts (nodeAt [] before r) t)
-  where
-    Parts : Node → Type 0
-    Parts y = T (ltb (numberOf previous) (r .number)) × T (ltb (r .number) maxNodes) × T (parentOpen previous y) × T (parentHolds s y) × T (textFits (r .name) r)
-
-    parts : (y : Node) → T (rowFits s before previous r y) → Parts y
-    parts y t₀ =
-        let rest₅ = textFits (r .name) r in
-        let rest₄ = firstText before y && rest₅ in
-        let rest₃ = leb (depthOf y) maxDepth && rest₄ in
-        let rest₂ = parentHolds s y && rest₃ in
-        let rest₁ = parentOpen previous y && rest₂ in
-        let c₀ = and-cases (ltb (numberOf previous) (r .number)) (ltb (r .number) maxNodes && rest₁) t₀ in
-        let c₁ = and-cases (ltb (r .number) maxNodes) rest₁ (c₀ .1) in
-        let c₂ = and-cases (parentOpen previous y) rest₂ (c₁ .1) in
-        let c₃ = and-cases (parentHolds s y) rest₃ (c₂ .1) in
-        let c₄ = and-cases (leb (depthOf y) maxDepth) rest₄ (c₃ .1) in
-        let c₅ = and-cases (firstText before y) rest₅ (c₄ .1) in
-        (c₀ .0, c₁ .0, c₂ .0, c₃ .0, c₅ .1)
-
-    pick : (o : Option Node) → getElem? before (r .parent) ≡ o → Parts (attach (r .number) (r .name) (textOf [] r) o) → Fitting s before previous r
-    pick none e c = absurd (c .2)
-    pick (some p) e c =
-        record { parent = p; parentAt = e; rises = ltb→lt _ _ (c .0); small = ltb→lt _ _ (c .1); isOpen = c .2; held = c .3; cells = c .4 }
-
-pub attached-number : (k : ℕ) (n : Name) (w : List ℕ) (o : Option Node) → numberOf (attach k n w o) ≡ k
-attached-number k n w none = refl
-attached-number k n w (some p) = refl
-
--- a row's text has the row's length, at most 4,096
-pub text-size : (n : Name) (lent : List ℕ) (r : Row) → r .name ≡ n → T (textFits n r) → T (textInside lent r) → (length (textOf lent r) ≡ r .length) × (r .length ≤ 4096) × (sizeAt n (r .length) ≡ r .length)
-    × T (not (isText n) || allOf (λ b. not (isForeign b)) (textOf lent r))
-text-size (element e) lent r q cells inside =
-    let none : r .length ≡ 0 = eqb→eq (r .length) 0 (and-cases (eqb (r .start) 0) (eqb (r .length) 0) cells .1) in
-    (rw none, omega arith, sym none, tt)
-text-size (text e) lent r q cells inside =
+pub has-text : (n : Name) (lent : List ℕ) (r : Row) → r .name ≡ n → T (textFits n r) → T (textInside lent r) → HasText n lent r
+has-text (element e) lent r q cells inside =
+    let empty : r .length ≡ 0 = eqb→eq (r .length) 0 (and-cases (eqb (r .start) 0) (eqb (r .length) 0) cells .1) in
+    record { size = rw empty; short = omega arith; ofName = sym empty; passes = tt }
+has-text (text e) lent r q cells inside =
     let w = textOf lent r in
-    let i : T (leb (r .start) (length lent) && (eqb (length w) (r .length) && allOf (λ b. not (isForeign b)) w)) = rw q at inside in
-    let c = and-cases (leb (r .start) (length lent)) (eqb (length w) (r .length) && allOf (λ b. not (isForeign b)) w) i in
-    let d = and-cases (eqb (length w) (r .length)) (allOf (λ b. not (isForeign b)) w) (c .1) in
-    (eqb→eq (length w) (r .length) (d .0), leb→le (r .length) maxTextBytes (and-cases (leb 1 (r .length)) (leb (r .length) maxTextBytes) cells .1), refl, d .1)
+    let pass = allOf (λ b. not (isForeign b)) w in
+    let i : T (leb (r .start) (length lent) && (eqb (length w) (r .length) && pass)) = rw q at inside in
+    let c = and-cases (leb (r .start) (length lent)) (eqb (length w) (r .length) && pass) i in
+    let d = and-cases (eqb (length w) (r .length)) pass (c .1) in
+    let few = and-cases (leb 1 (r .length)) (leb (r .length) maxTextBytes) cells .1 in
+    record { size = eqb→eq (length w) (r .length) (d .0); short = leb→le (r .length) maxTextBytes few; ofName = refl; passes = d .1 }
 
 -- a row with its text's place moved, and rows that start so at their fields' places
 abbrev pub restart : ℕ → Row → Row
@@ -85,47 +50,12 @@ abbrev pub restarted : (Row → List ℕ) → ℕ → List Row → List Row
 restarted f k [] = []
 restarted f k (r ∷ rs) = restart k r ∷ restarted f (k + length (f r)) rs
 
--- each row has the text cells that its name asks for
-abbrev pub cellsFit : Row → Bool
-cellsFit r = textFits (r .name) r
-
-pub later-cells : (s : Types) (before : List Node) (previous : Node) (rs : List Row) → T (laterFit s before previous rs) → T (allOf cellsFit rs)
-later-cells s before previous [] t = tt
-later-cells s before previous (r ∷ rs) t =
-    let y = nodeAt [] before r in
-    let u = and-cases (rowFits s before previous r y) (laterFit s (before ++ (y ∷ [])) y rs) t in
-    and-intro (cellsFit r) (allOf cellsFit rs) (fitting s before previous r (u .0) .cells) (later-cells s (before ++ (y ∷ [])) y rs (u .1))
-
--- the root of a well-formed table, and the rows after it
-pub record Rooted (s : Types) (r : Row) (rs : List Row) : Type 0 where
-  pub number : r .number ≡ 0
-  pub name : r .name ≡ s .root
-  pub parent : r .parent ≡ 0
-  pub cells : T (cellsFit r)
-  pub later : T (laterFit s (top (r .number) (r .name) ∷ []) (top (r .number) (r .name)) rs)
-
-pub rooted : (s : Types) (r : Row) (rs : List Row) → T (wellFormed s (r ∷ rs)) → Rooted s r rs
-unfolding wellFormed
-rooted s r rs t =
-    let y = top (r .number) (r .name) in
-    let rest₃ = laterFit s (y ∷ []) y rs in
-    let rest₂ = textFits (r .name) r && rest₃ in
-    let rest₁ = eqb (r .parent) 0 && rest₂ in
-    let c₀ = and-cases (eqb (r .number) 0) (sameName (r .name) (s .root) && rest₁) t in
-    let c₁ = and-cases (sameName (r .name) (s .root)) rest₁ (c₀ .1) in
-    let c₂ = and-cases (eqb (r .parent) 0) rest₂ (c₁ .1) in
-    let c₃ = and-cases (textFits (r .name) r) rest₃ (c₂ .1) in
-    record { number = eqb→eq _ _ (c₀ .0); name = name-equal _ _ (c₁ .0); parent = eqb→eq _ _ (c₂ .0); cells = c₃ .0; later = c₃ .1 }
-
-pub all-cells : (s : Types) (rows : List Row) → T (wellFormed s rows) → T (allOf cellsFit rows)
-all-cells s [] t = tt
-all-cells s (r ∷ rs) t =
-    let c = rooted s r rs t in
-    and-intro (cellsFit r) (allOf cellsFit rs) (c .cells) (later-cells s (top (r .number) (r .name) ∷ []) (top (r .number) (r .name)) rs (c .later))
-
 cells-moved : (n : Name) (k : ℕ) (r : Row) → r .name ≡ n → T (textFits n r) → T (textFits n (restart k r))
 cells-moved (element e) k r q t = rw q (and-cases (eqb (r .start) 0) (eqb (r .length) 0) t .1)
 cells-moved (text e) k r q t = t
+
+same-cells : (k : ℕ) (r : Row) → T (cellsFit r) → cellsFit (restart k r) ≡ cellsFit r
+same-cells k r t = true-of _ (cells-moved (r .name) k r refl t) ∙ sym (true-of _ t)
 
 node-moved : (k : ℕ) (before : List Node) (r : Row) → nodeAt [] before (restart k r) ≡ nodeAt [] before r
 node-moved k before r = rw (drop-nil {A = ℕ} (startAt (r .name) k), drop-nil {A = ℕ} (r .start))
@@ -137,25 +67,23 @@ later-moved s before previous f k [] t = tt
 later-moved s before previous f k (r ∷ rs) t =
     let y = nodeAt [] before r in
     let u = and-cases (rowFits s before previous r y) (laterFit s (before ++ (y ∷ [])) y rs) t in
-    let cells = fitting s before previous r (u .0) .cells in
-    let same-cells : cellsFit (restart k r) ≡ cellsFit r = true-of _ (cells-moved (r .name) k r refl cells) ∙ sym (true-of _ cells) in
     rw (node-moved k before r)
-    (and-intro (rowFits s before previous (restart k r) y) (laterFit s (before ++ (y ∷ [])) y (restarted f (k + length (f r)) rs)) (rw same-cells (u .0))
+    (and-intro (rowFits s before previous (restart k r) y) _ (rw (same-cells k r (row-fits s before previous r y (u .0) .cells)) (u .0))
     (later-moved s (before ++ (y ∷ [])) y f (k + length (f r)) rs (u .1)))
 
 -- a text written is the text of the row read
 text-moved : (n : Name) (lent pre rest : List ℕ) (number parent : ℕ) (r : Row) → r .name ≡ n → T (textFits n r) → T (textInside lent r)
     → textOf (pre ++ (rowField n number parent (textOf lent r) ++ rest)) (restart (length pre) r) ≡ textOf lent r
 text-moved (element e) lent pre rest number parent r q t i =
-    let none : r .length ≡ 0 = sym (text-size (element e) lent r q t i .2) in
-    rw none
+    let empty : r .length ≡ 0 = sym (has-text (element e) lent r q t i .ofName) in
+    rw empty
 text-moved (text e) lent pre rest number parent r q t i =
-    rw q (text-cut pre (textOf lent r) rest _ _ _ _ _ _ _ (length pre) (r .length) refl (text-size (text e) lent r q t i .0))
+    rw q (text-cut pre (textOf lent r) rest _ _ _ _ _ _ _ (length pre) (r .length) refl (has-text (text e) lent r q t i .size))
 
 -- the rows read are the rows written but for text starts, with the same texts
 module _ (lent : List ℕ) (all : List Row) where
-  pub same-rows : (pre rest : List ℕ) (rs : List Row) (bs : List ℕ) (k : ℕ) → length pre ≡ k → bs ≡ pre ++ (gather (fieldOf lent all) rs ++ rest) → T (allOf cellsFit rs)
-      → T (allOf (textInside lent) rs) → SameTables lent bs rs (restarted (fieldOf lent all) k rs)
+  pub same-rows : (pre rest : List ℕ) (rs : List Row) (bs : List ℕ) (k : ℕ) → length pre ≡ k → bs ≡ pre ++ (gather (fieldOf lent all) rs ++ rest)
+      → T (allOf cellsFit rs) → T (allOf (textInside lent) rs) → SameTables lent bs rs (restarted (fieldOf lent all) k rs)
   same-rows pre rest [] bs k l e t i = no-rows
   same-rows pre rest (r ∷ rs) bs k l e t i =
       let u = and-cases (cellsFit r) (allOf cellsFit rs) t in
@@ -163,8 +91,8 @@ module _ (lent : List ℕ) (all : List Row) where
       let f = fieldOf lent all r in
       let later = gather (fieldOf lent all) rs ++ rest in
       let whole : bs ≡ pre ++ (f ++ later) = e ∙ ap (λ (m : List ℕ). pre ++ m) (append-assoc f (gather (fieldOf lent all) rs) rest) in
-      let moved : textOf bs (restart k r) ≡ textOf lent r =
-      rw (whole, ← l) (text-moved (r .name) lent pre later (r .number) (numberAt (getElem? all (r .parent))) r refl (u .0) (v .0)) in
+      let read = text-moved (r .name) lent pre later (r .number) (parentNumber all r) r refl (u .0) (v .0) in
+      let moved : textOf bs (restart k r) ≡ textOf lent r = rw (whole, ← l) read in
       next-row (record { number = refl; name = refl; parent = refl; length = refl }) (sym moved)
       (same-rows (pre ++ f) rest rs bs (k + length f) (length-append pre f ∙ rw l) (whole ∙ sym (append-assoc pre f later)) (u .1) (v .1))
 
@@ -172,23 +100,26 @@ module _ (lent : List ℕ) (all : List Row) where
 start-inside : (l : List ℕ) (start size : ℕ) → 1 ≤ size → length (part start size l) ≡ size → start ≤ length l
 start-inside l start size h e = omega (arith, simp (length-take, length-drop) at e)
 
-same-inside : (n : Name) (lent lent′ : List ℕ) {q r : Row} → SameButStarts q r → textOf lent q ≡ textOf lent′ r → q .name ≡ n → T (textFits n q) → T (textInside lent q)
-    → T (textInside lent′ r)
+same-inside : (n : Name) (lent lent′ : List ℕ) {q r : Row} → SameButStarts q r → textOf lent q ≡ textOf lent′ r → q .name ≡ n → T (textFits n q)
+    → T (textInside lent q) → T (textInside lent′ r)
 same-inside (element e) lent lent′ {q} {r} c w m t i = let named : r .name ≡ element e = sym (c .name) ∙ m in rw named tt
 same-inside (text e) lent lent′ {q} {r} c w m t i =
-    let size = text-size (text e) lent q m t i in
+    let held = has-text (text e) lent q m t i in
     let long = leb→le 1 (q .length) (and-cases (leb 1 (q .length)) (leb (q .length) maxTextBytes) t .0) in
-    let fits : length (textOf lent′ r) ≡ r .length = rw (← w, ← c .length) (size .0) in
+    let fits : length (textOf lent′ r) ≡ r .length = rw (← w, ← c .length) (held .size) in
+    let begins = start-inside lent′ (r .start) (r .length) (rw (← c .length) long) fits in
     or-right (not (isText (r .name))) _
-    (and-intro (leb (r .start) (length lent′)) _ (le→leb _ _ (start-inside lent′ (r .start) (r .length) (rw (← c .length) long) fits))
-    (and-intro (eqb (length (textOf lent′ r)) (r .length)) (allOf (λ b. not (isForeign b)) (textOf lent′ r)) (rw fits (eqb-refl (r .length))) (rw (← w) (size .3))))
+    (and-intro (leb (r .start) (length lent′)) _ (le→leb _ _ begins)
+    (and-intro (eqb (length (textOf lent′ r)) (r .length)) _ (rw fits (eqb-refl (r .length))) (rw (← w) (held .passes))))
 
-pub same-all-inside : {lent lent′ : List ℕ} {qs rs : List Row} → SameTables lent lent′ qs rs → T (allOf cellsFit qs) → T (allOf (textInside lent) qs) → T (allOf (textInside lent′) rs)
+pub same-all-inside : {lent lent′ : List ℕ} {qs rs : List Row} → SameTables lent lent′ qs rs → T (allOf cellsFit qs) → T (allOf (textInside lent) qs)
+    → T (allOf (textInside lent′) rs)
 same-all-inside no-rows t i = tt
 same-all-inside {lent} {lent′} (next-row {q = q} {r = r} {qs = qs} {rs = rs} c w more) t i =
     let u = and-cases (cellsFit q) (allOf cellsFit qs) t in
     let v = and-cases (textInside lent q) (allOf (textInside lent) qs) i in
-    and-intro (textInside lent′ r) (allOf (textInside lent′) rs) (same-inside (q .name) lent lent′ c w refl (u .0) (v .0)) (same-all-inside more (u .1) (v .1))
+    and-intro (textInside lent′ r) (allOf (textInside lent′) rs) (same-inside (q .name) lent lent′ c w refl (u .0) (v .0))
+    (same-all-inside more (u .1) (v .1))
 
 pub root-moved : (s : Types) (f : Row → List ℕ) (k : ℕ) (rows : List Row) → T (wellFormed s rows) → T (wellFormed s (restarted f k rows))
 unfolding wellFormed
@@ -196,7 +127,7 @@ root-moved s f k [] t = tt
 root-moved s f k (r ∷ rs) t =
     let c = rooted s r rs t in
     let y = top (r .number) (r .name) in
-    let same-cells : cellsFit (restart k r) ≡ cellsFit r = true-of _ (cells-moved (r .name) k r refl (c .cells)) ∙ sym (true-of _ (c .cells)) in
-    let same-later : laterFit s (y ∷ []) y (restarted f (k + length (f r)) rs) ≡ laterFit s (y ∷ []) y rs =
-    true-of _ (later-moved s (y ∷ []) y f (k + length (f r)) rs (c .later)) ∙ sym (true-of _ (c .later)) in
-    rw (same-cells, same-later) t
+    let rs′ = restarted f (k + length (f r)) rs in
+    let moved = later-moved s (y ∷ []) y f (k + length (f r)) rs (c .later) in
+    let same-later : laterFit s (y ∷ []) y rs′ ≡ laterFit s (y ∷ []) y rs = true-of _ moved ∙ sym (true-of _ (c .later)) in
+    rw (same-cells k r (c .cells), same-later) t

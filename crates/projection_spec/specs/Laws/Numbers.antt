@@ -1,16 +1,14 @@
 -- Numbers of the nodes of a well-formed table: they rise, so a node is known by its number. Assumes nothing.
 use mathlib.Core.Bool.{Bool, true, false, _&&_}
 use mathlib.Core.List.{List, [], _∷_, _++_, List·Memᴰ as In, List·Memᴰ·head as here, List·Memᴰ·tail as there}
-use mathlib.Core.Option.{Option, none, some}
 use mathlib.Core.Path.{_≡_, refl, sym, ap, subst, _∙_}
 use Prim.Native.Nat.{ℕ, suc, _<_}
 use native.Mathlib.Omega.{arith}
-use lib.Dec.{T, ltb→lt}
+use lib.Dec.{T}
 use lib.ListN.{length, getElem?}
-use Rattle.projection_spec.specs.Laws.Rows.{Fits, row-fits, well-rooted}
-use Rattle.schema_spec.specs.Names.{Name}
 use Rattle.schema_spec.specs.Types.{Types}
-use Rattle.table_spec.specs.Nodes.{Node, top, numberOf, attach, nodeAt, nodesFrom, nodesOf}
+use Rattle.table_laws.specs.Fits.{attached-number, row-fits, rooted}
+use Rattle.table_spec.specs.Nodes.{Node, top, numberOf, nodeAt, nodesFrom, nodesOf}
 use Rattle.table_spec.specs.Rows.{Row, textOf}
 use Rattle.table_spec.specs.Tables.{rowFits, laterRows, wellFormed}
 use Rattle.text_laws.specs.Tests.{and-cases}
@@ -40,10 +38,6 @@ rising-known (next-node h r) (there i) (here f) q =
     absurd (omega arith)
 rising-known (next-node h r) (there i) (there j) q = rising-known r i j q
 
-attached-number : (k : ℕ) (n : Name) (w : List ℕ) (o : Option Node) → numberOf (attach k n w o) ≡ k
-attached-number k n w none = refl
-attached-number k n w (some p) = refl
-
 row-number : (lent : List ℕ) (before : List Node) (r : Row) → numberOf (nodeAt lent before r) ≡ r .number
 row-number lent before r = attached-number (r .number) (r .name) (textOf lent r) (getElem? before (r .parent))
 
@@ -55,7 +49,7 @@ later-rising s lent tested before previous k (r ∷ rs) e t =
     let z = nodeAt [] tested r in
     let y = nodeAt lent before r in
     let c = and-cases (rowFits s tested previous r z) (laterRows s (tested ++ (z ∷ [])) z rs) t in
-    let h = ltb→lt (numberOf previous) (r .number) (row-fits s tested previous r z (c .0) .rises) in
+    let h = row-fits s tested previous r z (c .0) .rises in
     let n = row-number lent before r in
     next-node {k = k} {y = y} (omega (arith, n, h, e)) (later-rising s lent (tested ++ (z ∷ [])) (before ++ (y ∷ [])) z (numberOf y) rs (row-number [] tested r ∙ sym n) (c .1))
 
@@ -69,7 +63,7 @@ node-known s lent (r ∷ rs) t y z i j q = pick i j
     first = top (r .number) (r .name)
 
     rest : Rising (r .number) (nodesFrom lent (first ∷ []) rs)
-    rest = later-rising s lent (first ∷ []) (first ∷ []) first (r .number) rs refl (well-rooted s r rs t .later)
+    rest = later-rising s lent (first ∷ []) (first ∷ []) first (r .number) rs refl (rooted s r rs t .later)
 
     pick : In y (first ∷ nodesFrom lent (first ∷ []) rs) → In z (first ∷ nodesFrom lent (first ∷ []) rs) → y ≡ z
     pick (here e) (here f) = e ∙ sym f

@@ -1,7 +1,7 @@
 -- The rows that a later row may stand under, as the reader of an extract keeps them: the row before and those above it, each found by
 -- its number. Assumes nothing.
-use mathlib.Core.Bool.{false, _&&_, _||_}
-use mathlib.Core.List.{List, [], _∷_, _++_, map, List·Memᴰ·head as here, map-append}
+use mathlib.Core.Bool.{false, _||_}
+use mathlib.Core.List.{List, [], _∷_, _++_, map, map-append}
 use mathlib.Core.Logic.{_⊎_, inl, inr, ⊎-elim}
 use mathlib.Core.Option.{some}
 use mathlib.Core.Path.{_≡_, refl, sym, ap, ap₂, subst, _∙_}
@@ -11,58 +11,12 @@ use native.Mathlib.Omega.{arith}
 use lib.Dec.{T, eqb, eqb→eq, eqb-refl}
 use lib.ListN.{length, getElem?, length-map}
 use Rattle.projection_spec.specs.Extracts.Reading.{Placed, openFrom}
-use Rattle.schema_spec.specs.Names.{element, text, Name, isText, sameName}
+use Rattle.schema_spec.specs.Names.{element, text, isText}
+use Rattle.table_laws.specs.Nodes.{nodes-equal}
+use Rattle.table_laws.specs.Places.{none-some, at-before, at-only, at-before-or-end}
 use Rattle.table_spec.specs.Nodes.{Node, top, under, numberOf, nameOf, same, isAbove}
 use Rattle.table_spec.specs.Rows.{Row}
-use Rattle.text_laws.specs.Lists.{bytes-equal}
-use Rattle.text_laws.specs.Tests.{and-cases, or-cases, cond-true, cond-false}
-use Rattle.text_spec.specs.Lists.{sameBytes}
-
--- Places in a list that grows at its end.
-module _ {A : Type 0} where
-  pub at-before : (xs ys : List A) (i : ℕ) (x : A) → getElem? xs i ≡ some x → getElem? (xs ++ ys) i ≡ some x
-  at-before [] ys i x e = let z : _≡_ {A = ℕ} 0 1 = cc in absurd (omega arith)
-  at-before (a ∷ xs) ys zero x e = e
-  at-before (a ∷ xs) ys (suc i) x e = at-before xs ys i x e
-
-  pub at-end : (xs : List A) (y : A) (ys : List A) → getElem? (xs ++ y ∷ ys) (length xs) ≡ some y
-  at-end [] y ys = refl
-  at-end (x ∷ xs) y ys = at-end xs y ys
-
-  at-only : (y : A) (i : ℕ) (x : A) → getElem? (y ∷ []) i ≡ some x → (i ≡ 0) × (x ≡ y)
-  at-only y zero x e = (refl, cc)
-  at-only y (suc i) x e = let z : _≡_ {A = ℕ} 0 1 = cc in absurd (omega arith)
-
-  pub at-before-or-end : (xs : List A) (y : A) (i : ℕ) (x : A) → getElem? (xs ++ (y ∷ [])) i ≡ some x
-      → (getElem? xs i ≡ some x) ⊎ ((i ≡ length xs) × (x ≡ y))
-  at-before-or-end [] y i x e = inr (at-only y i x e)
-  at-before-or-end (a ∷ xs) y zero x e = inl e
-  at-before-or-end (a ∷ xs) y (suc i) x e = ⊎-elim (λ h. inl h) (λ h. inr (ap suc (h .0), h .1)) (at-before-or-end xs y i x e)
-
--- names and nodes that pass the tests of sameness are the same
-pub name-equal : (a b : Name) → T (sameName a b) → a ≡ b
-name-equal (element a) (element b) t = ap element (eqb→eq a b t)
-name-equal (element a) (text b) t = absurd t
-name-equal (text a) (element b) t = absurd t
-name-equal (text a) (text b) t = ap text (eqb→eq a b t)
-
-pub node-equal : (x y : Node) → T (same x y) → x ≡ y
-node-equal (top k n) (top l m) t =
-    let c = and-cases (eqb k l) (sameName n m) t in
-    let p = eqb→eq k l (c .0) in
-    let q = name-equal n m (c .1) in
-    cc
-node-equal (top k n) (under l m v q) t = absurd t
-node-equal (under k n w p) (top l m) t = absurd t
-node-equal (under k n w p) (under l m v q) t =
-    let c = and-cases (eqb k l) (sameName n m && (sameBytes w v && same p q)) t in
-    let d = and-cases (sameName n m) (sameBytes w v && same p q) (c .1) in
-    let f = and-cases (sameBytes w v) (same p q) (d .1) in
-    let e₁ = eqb→eq k l (c .0) in
-    let e₂ = name-equal n m (d .0) in
-    let e₃ = bytes-equal w v (f .0) in
-    let e₄ = node-equal p q (f .1) in
-    cc
+use Rattle.text_laws.specs.Tests.{or-cases, cond-true, cond-false}
 
 abbrev pub placed : ℕ → ℕ → ℕ → Placed
 placed i k e = record { row = i; number = k; element = e }
@@ -83,8 +37,10 @@ opens-grow z (open-text h o) = open-text h (opens-grow z o)
 -- an ancestor has a lower number
 pub above-lower : {before : List Node} {y : Node} {os : List Placed} → Opens before y os → (p : Node) → T (isAbove p y) → numberOf p < numberOf y
 above-lower (open-root g) p t = absurd t
-above-lower (open-element {p = q} g h o) p t = ⊎-elim (λ u. rw (node-equal p q u) h) (λ u. let l = above-lower o p u in omega arith) (or-cases (same p q) (isAbove p q) t)
-above-lower (open-text {p = q} h o) p t = ⊎-elim (λ u. rw (node-equal p q u) h) (λ u. let l = above-lower o p u in omega arith) (or-cases (same p q) (isAbove p q) t)
+above-lower (open-element {p = q} g h o) p t =
+    ⊎-elim (λ u. rw (nodes-equal p q u) h) (λ u. let l = above-lower o p u in omega arith) (or-cases (same p q) (isAbove p q) t)
+above-lower (open-text {p = q} h o) p t =
+    ⊎-elim (λ u. rw (nodes-equal p q u) h) (λ u. let l = above-lower o p u in omega arith) (or-cases (same p q) (isAbove p q) t)
 
 -- looked up by its number, an element that is the node or above it is found, with those above it
 abbrev pub Found : List Node → Node → List Placed → Type 0
@@ -100,7 +56,8 @@ pub opens-found : {before : List Node} {y : Node} {os : List Placed} → Opens b
     → Found before p os
 opens-found {before} (open-root {k = k} {e = e} g) p t n =
     ⊎-elim
-    (λ u. subst (λ (z : Node). Found before z (placed 0 k e ∷ [])) (sym (node-equal p (top k (element e)) u)) (placed 0 k e ∷ [], found-first k (placed 0 k e) [] refl, open-root g))
+    (λ u. subst (λ (z : Node). Found before z (placed 0 k e ∷ [])) (sym (nodes-equal p (top k (element e)) u))
+    (placed 0 k e ∷ [], found-first k (placed 0 k e) [] refl, open-root g))
     (λ u. absurd u) (or-cases (same p (top k (element e))) false t)
 opens-found {before} (open-element {k = k} {e = e} {i = i} {w = w} {p = q} {os = os} g h o) p t n =
     ⊎-elim here (λ u. above u (opens-found o p u n)) (or-cases (same p y) (same p q || isAbove p q) t)
@@ -109,14 +66,17 @@ opens-found {before} (open-element {k = k} {e = e} {i = i} {w = w} {p = q} {os =
     y = under k (element e) w q
 
     here : T (same p y) → Found before p (placed i k e ∷ os)
-    here u = subst (λ (z : Node). Found before z (placed i k e ∷ os)) (sym (node-equal p y u)) (placed i k e ∷ os, found-first k (placed i k e) os refl, open-element g h o)
+    here u =
+        subst (λ (z : Node). Found before z (placed i k e ∷ os)) (sym (nodes-equal p y u))
+        (placed i k e ∷ os, found-first k (placed i k e) os refl, open-element g h o)
 
     above : T (same p q || isAbove p q) → Found before p os → Found before p (placed i k e ∷ os)
     above u f =
         let l : numberOf p < k = above-lower (open-element g h o) p u in
         (f .0, found-later (numberOf p) (placed i k e) os l ∙ f .1, f .2)
 opens-found {before} (open-text {k = k} {e = e} {w = w} {p = q} {os = os} h o) p t n =
-    ⊎-elim (λ u. absurd (n (rw (node-equal p (under k (text e) w q) u) tt))) (λ u. opens-found o p u n) (or-cases (same p (under k (text e) w q)) (same p q || isAbove p q) t)
+    ⊎-elim (λ u. absurd (n (rw (nodes-equal p (under k (text e) w q) u) tt))) (λ u. opens-found o p u n)
+    (or-cases (same p (under k (text e) w q)) (same p q || isAbove p q) t)
 
 -- the first of them is the element itself
 pub opens-first : {before : List Node} {y : Node} {os : List Placed} → Opens before y os → (T (isText (nameOf y)) → ⊥)
@@ -138,7 +98,7 @@ pub record Reached (done : List Row) (before : List Node) (previous : Node) (os 
 -- a node stands where its row does
 pub row-of-node : (done : List Row) (before : List Node) → map numberOf before ≡ map numberOfRow done → (i : ℕ) (x : Node) → getElem? before i ≡ some x
     → (q : Row) × (getElem? done i ≡ some q) × (q .number ≡ numberOf x)
-row-of-node done [] e i x g = let z : _≡_ {A = ℕ} 0 1 = cc in absurd (omega arith)
+row-of-node done [] e i x g = none-some g
 row-of-node [] (y ∷ before) e i x g = let z : _≡_ {A = ℕ} 0 1 = cc in absurd (omega arith)
 row-of-node (r ∷ done) (y ∷ before) e zero x g = (r, refl, cc)
 row-of-node (r ∷ done) (y ∷ before) e (suc i) x g = row-of-node done before (cc) i x g
@@ -146,11 +106,16 @@ row-of-node (r ∷ done) (y ∷ before) e (suc i) x g = row-of-node done before 
 pub same-count : (done : List Row) (before : List Node) → map numberOf before ≡ map numberOfRow done → length before ≡ length done
 same-count done before e = sym (length-map before numberOf) ∙ ap length e ∙ length-map done numberOfRow
 
-pub reached-first : (r : Row) (e : ℕ) → r .name ≡ element e → Reached (r ∷ []) (top (r .number) (r .name) ∷ []) (top (r .number) (r .name)) (placed 0 (r .number) e ∷ [])
-reached-first r e q = record { numbers = refl; opened = rw q (open-root refl); bounded = λ i x g. le-of-eq (ap numberOf (at-only y i x g .1)); distinct = λ i j x z g h n. at-only y i x g .0 ∙ sym (at-only y j z h .0) }
+pub reached-first : (r : Row) (e : ℕ) → r .name ≡ element e
+    → Reached (r ∷ []) (top (r .number) (r .name) ∷ []) (top (r .number) (r .name)) (placed 0 (r .number) e ∷ [])
+reached-first r e q =
+    record { numbers = refl; opened = rw q (open-root refl); bounded = λ i x g. le-of-eq (ap numberOf (at-only y i x g .1)); distinct = apart }
   where
     y : Node
     y = top (r .number) (r .name)
+
+    apart : (i j : ℕ) (x z : Node) → getElem? (y ∷ []) i ≡ some x → getElem? (y ∷ []) j ≡ some z → numberOf x ≡ numberOf z → i ≡ j
+    apart i j x z g h n = at-only y i x g .0 ∙ sym (at-only y j z h .0)
 
 -- one row more, with a higher number
 pub reached-next : {done : List Row} {before : List Node} {previous : Node} {os : List Placed} → Reached done before previous os

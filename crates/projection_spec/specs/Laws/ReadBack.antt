@@ -10,17 +10,13 @@ use lib.ListN.{length, take, drop, getElem?, length-append, take-append-drop}
 use lib.Seq.{length-take-le}
 use Rattle.projection_spec.specs.Extracts.Fields.{elementTag, textTag, countTag, twoBytes, field, numberAt, fieldOf}
 use Rattle.projection_spec.specs.Extracts.Reading.{Item, elementItem, textItem, countItem, noItem, inTwo, elementValue, textValue, countValue, itemOf, itemsFrom, Placed, openFrom, topRow, topElement, consRow, elementRow, textRow, laterRows, rowsOfItems}
-use Rattle.projection_spec.specs.Laws.Fields.{two-bytes-written, text-cut}
+use Rattle.projection_spec.specs.Laws.Fields.{AreBytes, two-bytes-written, text-cut}
 use Rattle.projection_spec.specs.Laws.Items.{opensAfter, rowAt, restWritten}
-use Rattle.projection_spec.specs.Laws.Opens.{at-before, at-end, placed}
+use Rattle.projection_spec.specs.Laws.Opens.{placed}
 use Rattle.schema_spec.specs.Names.{element, text, Name}
-use Rattle.table_spec.specs.Nodes.{same}
+use Rattle.table_laws.specs.Places.{none-some, at-before, at-end}
 use Rattle.table_spec.specs.Rows.{Row}
 use Rattle.text_spec.specs.Lists.{gather, isEmpty, part}
-
--- each number is a byte
-abbrev pub AreBytes : List ℕ → Type 0
-AreBytes bs = (b : ℕ) → In b bs → b < 256
 
 -- what a tag and a value say
 data Says (tag place : ℕ) (value : List ℕ) : Item → Type 0 where
@@ -67,7 +63,8 @@ field-written tag high low value p q e =
     ap (λ (l : List ℕ). tag ∷ (l ++ value)) (ap twoBytes e ∙ two-bytes-written high low p q)
 
 -- a row's field is written as it was read
-value-back : (tag high low a b c d parent : ℕ) (value w : List ℕ) → value ≡ a ∷ b ∷ c ∷ d ∷ w → parent ≡ inTwo c d → length value ≡ inTwo high low → AreBytes (high ∷ low ∷ value)
+value-back : (tag high low a b c d parent : ℕ) (value w : List ℕ) → value ≡ a ∷ b ∷ c ∷ d ∷ w → parent ≡ inTwo c d → length value ≡ inTwo high low
+    → AreBytes (high ∷ low ∷ value)
     → field tag (twoBytes (inTwo a b) ++ (twoBytes parent ++ w)) ≡ tag ∷ high ∷ low ∷ value
 value-back tag high low a b c d parent value w v p l small =
     let bytes : AreBytes (high ∷ low ∷ a ∷ b ∷ c ∷ d ∷ w) = subst (λ (x : List ℕ). AreBytes (high ∷ low ∷ x)) v small in
@@ -80,7 +77,8 @@ value-back tag high low a b c d parent value w v p l small =
 abbrev Known : List Row → List Placed → Type 0
 Known done os = (q : Placed) → In q os → (r : Row) × (getElem? done (q .row) ≡ some r) × (r .number ≡ q .number)
 
-open-from : (number : ℕ) (os : List Placed) (q : Placed) (qs : List Placed) → openFrom number os ≡ q ∷ qs → (q .number ≡ number) × ((p : Placed) → In p (q ∷ qs) → In p os)
+open-from : (number : ℕ) (os : List Placed) (q : Placed) (qs : List Placed) → openFrom number os ≡ q ∷ qs
+    → (q .number ≡ number) × ((p : Placed) → In p (q ∷ qs) → In p os)
 open-from number [] q qs e = let z : _≡_ {A = ℕ} 0 1 = cc in absurd (omega arith)
 open-from number (o ∷ os) q qs e = pick (eqb (o .number) number) (eqb→eq (o .number) number) e (open-from number os q qs)
   where
@@ -112,16 +110,19 @@ under-read : (nameBy : Placed → Name) (k number parent size next : ℕ) (os : 
     → consedUnder nameBy k number size next items (openFrom parent os) ≡ some rs → Under nameBy k number parent size next os items rs
 under-read nameBy k number parent size next os items rs e = by-open (openFrom parent os) refl e
   where
-    by-later : (q : Placed) (qs : List Placed) (o : Option (List Row)) → openFrom parent os ≡ q ∷ qs → laterRows (suc next) (opensAfter (nameBy q) next number (q ∷ qs)) items ≡ o
+    by-later : (q : Placed) (qs : List Placed) (o : Option (List Row)) → openFrom parent os ≡ q ∷ qs
+        → laterRows (suc next) (opensAfter (nameBy q) next number (q ∷ qs)) items ≡ o
         → consRow (rowAt (nameBy q) k number (q .row) size) o ≡ some rs → Under nameBy k number parent size next os items rs
-    by-later q qs none f l u = let z : _≡_ {A = ℕ} 0 1 = cc in absurd (omega arith)
+    by-later q qs none f l u = none-some u
     by-later q qs (some rs′) f l u = record { first = q; above = qs; later = rs′; found = f; made = cc; read = l }
 
-    by-open : (x : List Placed) → openFrom parent os ≡ x → consedUnder nameBy k number size next items x ≡ some rs → Under nameBy k number parent size next os items rs
-    by-open [] f u = let z : _≡_ {A = ℕ} 0 1 = cc in absurd (omega arith)
+    by-open : (x : List Placed) → openFrom parent os ≡ x → consedUnder nameBy k number size next items x ≡ some rs
+        → Under nameBy k number parent size next os items rs
+    by-open [] f u = none-some u
     by-open (q ∷ qs) f u = by-later q qs (laterRows (suc next) (opensAfter (nameBy q) next number (q ∷ qs)) items) f refl u
 
-element-under : (k number parent size next e : ℕ) (os : List Placed) (items : List Item) (rs : List Row) → laterRows next os (elementItem number parent e ∷ items) ≡ some rs
+element-under : (k number parent size next e : ℕ) (os : List Placed) (items : List Item) (rs : List Row)
+    → laterRows next os (elementItem number parent e ∷ items) ≡ some rs
     → Under (λ q. element e) k number parent size next os items rs
 element-under k number parent size next e os items rs r = under-read (λ q. element e) k number parent size next os items rs (same (openFrom parent os) ∙ r)
   where
@@ -130,7 +131,8 @@ element-under k number parent size next e os items rs r = under-read (λ q. elem
     same [] = refl
     same (q ∷ qs) = refl
 
-text-under : (k number parent size next : ℕ) (os : List Placed) (items : List Item) (rs : List Row) → laterRows next os (textItem number parent (k + 3 + 4) size ∷ items) ≡ some rs
+text-under : (k number parent size next : ℕ) (os : List Placed) (items : List Item) (rs : List Row)
+    → laterRows next os (textItem number parent (k + 3 + 4) size ∷ items) ≡ some rs
     → Under (λ q. text (q .element)) k number parent size next os items rs
 text-under k number parent size next os items rs r = under-read (λ q. text (q .element)) k number parent size next os items rs (same (openFrom parent os) ∙ r)
   where
@@ -149,15 +151,16 @@ known-after (element e) done os r known q (here i) = (r, rw i (at-end done r [])
 known-after (element e) done os r known q (there i) = known-next done os r known q i
 known-after (text e) done os r known q i = known-next done os r known q i
 
-count-last : (n next : ℕ) (os : List Placed) (items : List Item) (rs : List Row) → laterRows next os (countItem n ∷ items) ≡ some rs → (items ≡ []) × (n ≡ next) × (rs ≡ [])
+count-last : (n next : ℕ) (os : List Placed) (items : List Item) (rs : List Row) → laterRows next os (countItem n ∷ items) ≡ some rs
+    → (items ≡ []) × (n ≡ next) × (rs ≡ [])
 count-last n next os [] rs e =
     let c = pick (eqb n next) (eqb→eq n next) e in
     (refl, c .0, c .1)
   where
     pick : (b : Bool) → (T b → n ≡ next) → cond b (some []) none ≡ some rs → (n ≡ next) × (rs ≡ [])
     pick true f u = (f tt, cc)
-    pick false f u = let z : _≡_ {A = ℕ} 0 1 = cc in absurd (omega arith)
-count-last n next os (i ∷ is) rs e = let z : _≡_ {A = ℕ} 0 1 = cc in absurd (omega arith)
+    pick false f u = none-some u
+count-last n next os (i ∷ is) rs e = none-some e
 
 -- One field of a row after the root, given that those after it are written back.
 module _ (full : List ℕ) (all : List Row) where
@@ -166,7 +169,8 @@ module _ (full : List ℕ) (all : List Row) where
       (done rs : List Row) (os : List Placed) → all ≡ done ++ rs → Known done os → laterRows (length done) os items ≡ some rs → restWritten full all rs ≡ rest
 
   row-back : (r : Row) (rs : List Row) (f rest : List ℕ) → fieldOf full all r ≡ f → restWritten full all rs ≡ rest → restWritten full all (r ∷ rs) ≡ f ++ rest
-  row-back r rs f rest e h = append-assoc (fieldOf full all r) (gather (fieldOf full all) rs) (field countTag (twoBytes (length all))) ∙ ap₂ (λ (x y : List ℕ). x ++ y) e h
+  row-back r rs f rest e h =
+      append-assoc (fieldOf full all r) (gather (fieldOf full all) rs) (field countTag (twoBytes (length all))) ∙ ap₂ (λ (x y : List ℕ). x ++ y) e h
 
   number-back : (done rs : List Row) (os : List Placed) (number : ℕ) (q : Placed) (qs : List Placed) → all ≡ done ++ rs → Known done os → openFrom number os ≡ q ∷ qs
       → numberAt (getElem? all (q .row)) ≡ number
@@ -188,20 +192,23 @@ module _ (full : List ℕ) (all : List Row) where
       let count : length (done ++ (r ∷ [])) ≡ suc (length done) = omega (arith, length-append done (r ∷ [])) in
       let split′ : all ≡ (done ++ (r ∷ [])) ++ u .later = split ∙ ap (λ (x : List Row). done ++ x) (u .made) ∙ sym (append-assoc done (r ∷ []) (u .later)) in
       ap (restWritten full all) (u .made)
-      ∙ row-back r (u .later) (tag ∷ high ∷ low ∷ value) rest (written (u .first) ∙ value-back tag high low a b c d (numberAt (getElem? all (u .first .row))) value w v up l small)
+      ∙ row-back r (u .later) (tag ∷ high ∷ low ∷ value) rest
+      (written (u .first) ∙ value-back tag high low a b c d (numberAt (getElem? all (u .first .row))) value w v up l small)
       (later (done ++ (r ∷ [])) (u .later) opened split′ known′ (rw count (u .read)))
 
   field-back : (tag high low k : ℕ) (pre value rest : List ℕ) (i : Item) → Says tag (k + 3) value i → length value ≡ inTwo high low → AreBytes (high ∷ low ∷ value)
       → full ≡ pre ++ (tag ∷ high ∷ low ∷ (value ++ rest)) → length pre ≡ k → (items : List Item) → (items ≡ [] → rest ≡ []) → Written items rest
       → Written (i ∷ items) (tag ∷ high ∷ low ∷ (value ++ rest))
-  field-back tag high low k pre value rest i (an-element {a = a} {b = b} {c = c} {d = d} {e = e} t v) l small whole place items ends later done rs os split known read =
-      under-back (λ q. element e) tag high low a b c d k 0 value (e ∷ []) rest v l small items later done rs os split known (λ q. rw t) (element-under k (inTwo a b) (inTwo c d) 0 (length done) e os items rs read)
-  field-back tag high low k pre value rest i (a-text {a = a} {b = b} {c = c} {d = d} w t v) l small whole place items ends later done rs os split known read =
-      under-back (λ q. text (q .element)) tag high low a b c d k (length w) value w rest v l small items later done rs os split known (λ q. rw (t, cut)) (text-under k (inTwo a b) (inTwo c d) (length w) (length done) os items rs read)
+  field-back tag high low k pre value rest i (an-element {a} {b} {c} {d} {e} t v) l small whole place items ends later done rs os split known read =
+      under-back (λ q. element e) tag high low a b c d k 0 value (e ∷ []) rest v l small items later done rs os split known (λ q. rw t)
+      (element-under k (inTwo a b) (inTwo c d) 0 (length done) e os items rs read)
+  field-back tag high low k pre value rest i (a-text {a} {b} {c} {d} w t v) l small whole place items ends later done rs os split known read =
+      under-back (λ q. text (q .element)) tag high low a b c d k (length w) value w rest v l small items later done rs os split known (λ q. rw (t, cut))
+      (text-under k (inTwo a b) (inTwo c d) (length w) (length done) os items rs read)
     where
       cut : part (k + 3 + 4) (length w) full ≡ w
       cut = rw (whole ∙ ap (λ (x : List ℕ). pre ++ (tag ∷ high ∷ low ∷ (x ++ rest))) v) (text-cut pre w rest tag high low a b c d k (length w) place refl)
-  field-back tag high low k pre value rest i (a-count {a = a} {b = b} t v) l small whole place items ends later done rs os split known read =
+  field-back tag high low k pre value rest i (a-count {a} {b} t v) l small whole place items ends later done rs os split known read =
       let c = count-last (inTwo a b) (length done) os items rs read in
       let after : rest ≡ [] = ends (c .0) in
       let count : length all ≡ inTwo a b = omega (arith, ap length (split ∙ ap (λ (x : List Row). done ++ x) (c .2)), length-append done [], c .1) in
@@ -210,9 +217,7 @@ module _ (full : List ℕ) (all : List Row) where
       ∙ ap (field countTag) (ap twoBytes count ∙ two-bytes-written a b (bytes a (there (there (here refl)))) (bytes b (there (there (there (here refl))))) ∙ sym v)
       ∙ field-written countTag high low value (bytes high (here refl)) (bytes low (there (here refl))) l
       ∙ rw (t, after, append-nil value)
-  field-back tag high low k pre value rest i no-field l small whole place items ends later done rs os split known read =
-      let z : _≡_ {A = ℕ} 0 1 = cc in
-      absurd (omega arith)
+  field-back tag high low k pre value rest i no-field l small whole place items ends later done rs os split known read = none-some read
 
 -- what bytes that start at a place are cut into: nothing, no field, or a field and the rest
 data Cut (fuel k : ℕ) (cur : List ℕ) : List Item → Type 0 where
@@ -230,8 +235,10 @@ cut-first fuel k (tag ∷ high ∷ low ∷ bs) = pick (leb n (length bs)) (leb�
     n : ℕ
     n = inTwo high low
 
-    pick : (b : Bool) → (T b → n ≤ length bs) → Cut fuel k (tag ∷ high ∷ low ∷ bs) (cond b (itemOf tag (k + 3) (take n bs) ∷ itemsFrom fuel (k + 3 + n) (drop n bs)) (noItem ∷ []))
-    pick true fits = cut tag high low (take n bs) (drop n bs) (ap (λ (x : List ℕ). tag ∷ high ∷ low ∷ x) (sym (take-append-drop n bs))) (length-take-le n bs (fits tt))
+    pick : (b : Bool) → (T b → n ≤ length bs)
+        → Cut fuel k (tag ∷ high ∷ low ∷ bs) (cond b (itemOf tag (k + 3) (take n bs) ∷ itemsFrom fuel (k + 3 + n) (drop n bs)) (noItem ∷ []))
+    pick true fits =
+        cut tag high low (take n bs) (drop n bs) (ap (λ (x : List ℕ). tag ∷ high ∷ low ∷ x) (sym (take-append-drop n bs))) (length-take-le n bs (fits tt))
     pick false fits = broken
 
 no-items : (fuel k : ℕ) (cur : List ℕ) → itemsFrom fuel k cur ≡ [] → cur ≡ []
@@ -244,12 +251,10 @@ no-items (suc fuel) k cur e = pick (cut-first fuel k cur) e
     pick broken u = let z : _≡_ {A = ℕ} 0 1 = cc in absurd (omega arith)
     pick (cut tag high low value rest q l) u = let z : _≡_ {A = ℕ} 0 1 = cc in absurd (omega arith)
 
-none-some : {A B : Type 0} {a : A} → none ≡ some a → B
-none-some e = let z : _≡_ {A = ℕ} 0 1 = cc in absurd (omega arith)
-
 module _ (full : List ℕ) (all : List Row) where
   -- the bytes after a field, where they are written back wherever they stand
-  after-cut : (fuel k : ℕ) (pre cur : List ℕ) (tag high low : ℕ) (value rest : List ℕ) → full ≡ pre ++ cur → length pre ≡ k → AreBytes cur → cur ≡ tag ∷ high ∷ low ∷ (value ++ rest)
+  after-cut : (fuel k : ℕ) (pre cur : List ℕ) (tag high low : ℕ) (value rest : List ℕ) → full ≡ pre ++ cur → length pre ≡ k → AreBytes cur
+      → cur ≡ tag ∷ high ∷ low ∷ (value ++ rest)
       → length value ≡ inTwo high low
       → ((k′ : ℕ) (pre′ cur′ : List ℕ) → full ≡ pre′ ++ cur′ → length pre′ ≡ k′ → AreBytes cur′ → Written full all (itemsFrom fuel k′ cur′) cur′)
       → Written full all (itemsFrom fuel (k + 3 + inTwo high low) rest) rest
@@ -268,7 +273,8 @@ module _ (full : List ℕ) (all : List Row) where
   items-back (suc fuel) k pre cur whole place small = by-cut (cut-first fuel k cur) (λ k′ pre′ cur′ w p s. items-back fuel k′ pre′ cur′ w p s)
     where
       by-cut : {items : List Item} → Cut fuel k cur items
-          → ((k′ : ℕ) (pre′ cur′ : List ℕ) → full ≡ pre′ ++ cur′ → length pre′ ≡ k′ → AreBytes cur′ → Written full all (itemsFrom fuel k′ cur′) cur′) → Written full all items cur
+          → ((k′ : ℕ) (pre′ cur′ : List ℕ) → full ≡ pre′ ++ cur′ → length pre′ ≡ k′ → AreBytes cur′ → Written full all (itemsFrom fuel k′ cur′) cur′)
+          → Written full all items cur
       by-cut (ended q) later = λ done rs os split known read. none-some read
       by-cut broken later = λ done rs os split known read. none-some read
       by-cut (cut tag high low value rest q l) later =
@@ -294,22 +300,25 @@ root-read number parent e items all read = by-parent (eqb parent 0) (eqb→eq pa
 
 -- All fields, where the root's number is 0.
 module _ (full : List ℕ) (all : List Row) (small : AreBytes full) (rootNumber : (r : Row) → getElem? all 0 ≡ some r → r .number ≡ 0) where
-  root-back : (tag high low : ℕ) (value rest : List ℕ) {i : Item} (items : List Item) → Says tag (0 + 3) value i → full ≡ tag ∷ high ∷ low ∷ (value ++ rest) → length value ≡ inTwo high low
+  root-back : (tag high low : ℕ) (value rest : List ℕ) {i : Item} (items : List Item) → Says tag (0 + 3) value i → full ≡ tag ∷ high ∷ low ∷ (value ++ rest)
+      → length value ≡ inTwo high low
       → (items ≡ [] → rest ≡ []) → Written full all items rest → rowsOfItems (i ∷ items) ≡ some all → restWritten full all all ≡ tag ∷ high ∷ low ∷ (value ++ rest)
-  root-back tag high low value rest items (an-element {a = a} {b = b} {c = c} {d = d} {e = e} t v) q l ends later read =
+  root-back tag high low value rest items (an-element {a} {b} {c} {d} {e} t v) q l ends later read =
       let o = root-read (inTwo a b) (inTwo c d) e items all read in
       let r = elementRow (inTwo a b) 0 e in
       let up : numberAt (getElem? all 0) ≡ inTwo c d = rw (o .2) (rootNumber r (rw (o .2)) ∙ sym (o .1)) in
-      let written : fieldOf full all r ≡ tag ∷ high ∷ low ∷ value =
-      rw t (value-back elementTag high low a b c d (numberAt (getElem? all 0)) value (e ∷ []) v up l (cut-bytes full all full tag high low value rest small q)) in
-      ap (restWritten full all) (o .2) ∙ row-back full all r (o .0) (tag ∷ high ∷ low ∷ value) rest written (later (r ∷ []) (o .0) (placed 0 (inTwo a b) e ∷ []) (o .2) (known r e) (o .3))
+      let bytes = cut-bytes full all full tag high low value rest small q in
+      let written : fieldOf full all r ≡ tag ∷ high ∷ low ∷ value = rw t (value-back elementTag high low a b c d (numberAt (getElem? all 0)) value (e ∷ []) v up l bytes) in
+      ap (restWritten full all) (o .2) ∙ row-back full all r (o .0) (tag ∷ high ∷ low ∷ value) rest written
+      (later (r ∷ []) (o .0) (placed 0 (inTwo a b) e ∷ []) (o .2) (known r e) (o .3))
     where
       known : (r : Row) (x : ℕ) → Known (r ∷ []) (placed 0 (r .number) x ∷ [])
       known r x p (here j) = (r, rw j, rw j)
       known r x p (there j) = elim j [ ]
   root-back tag high low value rest items (a-text w t v) q l ends later read = none-some read
-  root-back tag high low value rest items (a-count {a = a} {b = b} t v) q l ends later read =
-      field-back full all tag high low 0 [] value rest (countItem (inTwo a b)) (a-count t v) l (cut-bytes full all full tag high low value rest small q) q refl items ends later [] all [] refl
+  root-back tag high low value rest items (a-count {a} {b} t v) q l ends later read =
+      field-back full all tag high low 0 [] value rest (countItem (inTwo a b)) (a-count t v) l
+      (cut-bytes full all full tag high low value rest small q) q refl items ends later [] all [] refl
       (λ p j. elim j [ ]) (same items ∙ read)
     where
       same : (is : List Item) → laterRows 0 [] (countItem (inTwo a b) ∷ is) ≡ rowsOfItems (countItem (inTwo a b) ∷ is)

@@ -1,25 +1,23 @@
 -- The nodes of a table without their texts, rows whose parents stand before them, and places in a filtered list. Assumes nothing.
-use mathlib.Core.Bool.{Bool, true, false, cond, _&&_, _||_}
+use mathlib.Core.Bool.{Bool, true, false, cond, _&&_}
 use mathlib.Core.List.{List, [], _∷_, _++_, map, map-append, List·Memᴰ as In, List·Memᴰ·head as here, List·Memᴰ·tail as there, List·Memᴰ·append-cases as append-cases}
 use mathlib.Core.Logic.{_⊎_, inl, inr, ⊎-elim}
-use mathlib.Core.Option.{Option, none, some, Option·none-ne-some}
+use mathlib.Core.Option.{Option, none, some}
 use mathlib.Core.Path.{_≡_, refl, sym, ap, subst, _∙_}
-use Prim.Native.Nat.{ℕ, zero, suc, _<_, _≤_}
-use native.Mathlib.Omega.{arith}
-use lib.Dec.{T, eqb, eqb→eq, leb, ltb, ltb→lt}
+use Prim.Native.Nat.{ℕ, zero, suc}
+use lib.Dec.{T}
 use lib.ListN.{length, take, drop, getElem?}
 use lib.Seq.{take-nil}
 use Rattle.projection_spec.specs.Extracts.Cut.{kept}
 use Rattle.projection_spec.specs.Laws.Documents.{Valid, AllValid}
-use Rattle.schema_laws.specs.Names.{same-equal}
-use Rattle.schema_spec.specs.Names.{Name, Names, has, sameName}
+use Rattle.schema_spec.specs.Names.{Name, Names, has}
 use Rattle.schema_spec.specs.Types.{Types}
-use Rattle.table_spec.specs.Nodes.{Node, top, under, nameOf, numberOf, depthOf, allNames, attach, nodeAt, nodesFrom, nodesOf}
+use Rattle.table_laws.specs.Fits.{row-fits, rooted}
+use Rattle.table_laws.specs.Places.{at-in}
+use Rattle.table_spec.specs.Nodes.{Node, top, under, nameOf, attach, nodeAt, nodesFrom, nodesOf}
 use Rattle.table_spec.specs.Rows.{Row, textOf}
-use Rattle.table_spec.specs.Tables.{parentOpen, parentHolds, firstText, textFits, rowFits, laterRows, wellFormed}
-use Rattle.text_laws.specs.Lists.{filter-append}
+use Rattle.table_spec.specs.Tables.{parentHolds, rowFits, laterRows, wellFormed}
 use Rattle.text_laws.specs.Tests.{and-cases}
-use Rattle.text_spec.specs.Limits.{maxNodes, maxDepth}
 use Rattle.text_spec.specs.Lists.{filterBy}
 
 -- ---- lists
@@ -34,13 +32,6 @@ module _ {A B : Type 0} (f : A → B) where
   at-map (x ∷ xs) (suc i) = at-map xs i
 
 module _ {A : Type 0} where
-  pub at-in : (xs : List A) (i : ℕ) (x : A) → getElem? xs i ≡ some x → In x xs
-  at-in [] i x e = absurd (Option·none-ne-some x e)
-  at-in (y ∷ xs) zero x e =
-      let h : x ≡ y = cc in
-      here h
-  at-in (y ∷ xs) (suc i) x e = there (at-in xs i x e)
-
   -- an element that passes stands, in the filtered list, at the count of those that pass before it
   pub filtered-at : (k : A → Bool) (xs : List A) (i : ℕ) (p : A) → getElem? xs i ≡ some p → T (k p)
       → getElem? (filterBy k xs) (length (filterBy k (take i xs))) ≡ some p
@@ -96,43 +87,6 @@ bare-filter set (x ∷ xs) =
     pick true h = ap (λ (l : List Node). bare x ∷ l) h
     pick false h = h
 
--- ---- what a later row of a well-formed table meets, part by part
-pub record Fits (s : Types) (before : List Node) (previous : Node) (r : Row) (y : Node) : Type 0 where
-  pub rises : T (ltb (numberOf previous) (r .number))
-  pub small : T (ltb (r .number) maxNodes)
-  pub opened : T (parentOpen previous y)
-  pub held : T (parentHolds s y)
-  pub shallow : T (leb (depthOf y) maxDepth)
-  pub oneText : T (firstText before y)
-  pub cells : T (textFits (r .name) r)
-
-pub row-fits : (s : Types) (before : List Node) (previous : Node) (r : Row) (y : Node) → T (rowFits s before previous r y) → Fits s before previous r y
-row-fits s before previous r y t =
-    let a = and-cases (ltb (numberOf previous) (r .number)) _ t in
-    let b = and-cases (ltb (r .number) maxNodes) _ (a .1) in
-    let c = and-cases (parentOpen previous y) _ (b .1) in
-    let d = and-cases (parentHolds s y) _ (c .1) in
-    let e = and-cases (leb (depthOf y) maxDepth) _ (d .1) in
-    let f = and-cases (firstText before y) (textFits (r .name) r) (e .1) in
-    record { rises = a .0; small = b .0; opened = c .0; held = d .0; shallow = e .0; oneText = f .0; cells = f .1 }
-
--- the first row is the root's, and the later rows follow it
-pub record Rooted (s : Types) (r : Row) (rs : List Row) : Type 0 where
-  pub number : T (eqb (r .number) 0)
-  pub name : T (sameName (r .name) (s .root))
-  pub parent : T (eqb (r .parent) 0)
-  pub cells : T (textFits (r .name) r)
-  pub later : T (laterRows s (top (r .number) (r .name) ∷ []) (top (r .number) (r .name)) rs)
-
-pub well-rooted : (s : Types) (r : Row) (rs : List Row) → T (wellFormed s (r ∷ rs)) → Rooted s r rs
-unfolding wellFormed
-well-rooted s r rs t =
-    let a = and-cases (eqb (r .number) 0) _ t in
-    let b = and-cases (sameName (r .name) (s .root)) _ (a .1) in
-    let c = and-cases (eqb (r .parent) 0) _ (b .1) in
-    let d = and-cases (textFits (r .name) r) _ (c .1) in
-    record { number = a .0; name = b .0; parent = c .0; cells = d .0; later = d .1 }
-
 -- ---- rows each of which stands under one of the nodes before it, which holds its name
 pub data Grown (s : Types) (lent : List ℕ) : List Node → List Row → Type 0 where
   no-rows : {before : List Node} → Grown s lent before []
@@ -179,7 +133,7 @@ grown-valid s lent before (r ∷ rs) ok (next-row p e h g) y i =
 pub root-grown : (s : Types) (lent : List ℕ) (r : Row) (rs : List Row) → T (wellFormed s (r ∷ rs)) → Grown s lent (top (r .number) (r .name) ∷ []) rs
 root-grown s lent r rs t =
     let y = top (r .number) (r .name) in
-    later-grown s lent (y ∷ []) y rs (well-rooted s r rs t .later)
+    later-grown s lent (y ∷ []) y rs (rooted s r rs t .later)
 
 pub rows-valid : (s : Types) (lent : List ℕ) (rows : List Row) → T (wellFormed s rows) → AllValid s (nodesOf lent rows)
 unfolding nodesOf
@@ -187,7 +141,7 @@ rows-valid s lent [] t y i = elim i [ ]
 rows-valid s lent (r ∷ rs) t y i = pick i
   where
     root : r .name ≡ s .root
-    root = same-equal (r .name) (s .root) (well-rooted s r rs t .name)
+    root = rooted s r rs t .name
 
     first : AllValid s (top (r .number) (r .name) ∷ [])
     first z (here e) = subst (λ (w : Node). Valid s w) (sym e) root

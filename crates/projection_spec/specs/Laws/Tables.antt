@@ -2,24 +2,23 @@
 -- bundle's needed names; and tables that are the same but for text starts have the same nodes. Assumes nothing.
 use mathlib.Core.Bool.{Bool, true, false, _&&_}
 use mathlib.Core.List.{List, [], _∷_, _++_, List·Memᴰ as In}
-use mathlib.Core.Option.{Option}
 use mathlib.Core.Path.{_≡_, refl, sym, ap, subst, _∙_}
 use Prim.Native.Nat.{ℕ}
 use lib.Dec.{T}
-use lib.ListN.{getElem?}
 use Rattle.path_spec.specs.Paths.{Path}
 use Rattle.path_spec.specs.Selection.{select, selectRows}
-use Rattle.projection_spec.specs.Extracts.Conditions.{SameButStarts, SameTables, no-rows, next-row}
+use Rattle.projection_spec.specs.Extracts.Conditions.{SameTables}
 use Rattle.projection_spec.specs.Extracts.Cut.{cut}
 use Rattle.projection_spec.specs.Inference.Needed.{needed}
 use Rattle.projection_spec.specs.Laws.Cutting.{rows-cut}
 use Rattle.projection_spec.specs.Laws.Documents.{Subset, Lawful}
 use Rattle.projection_spec.specs.Laws.Nodes.{select-cut, path-needed}
 use Rattle.projection_spec.specs.Laws.Rows.{rows-valid}
-use Rattle.schema_spec.specs.Names.{Name, Names}
+use Rattle.projection_spec.specs.Laws.SameTables.{same-nodes}
+use Rattle.schema_spec.specs.Names.{Names}
 use Rattle.schema_spec.specs.Types.{Types}
-use Rattle.table_spec.specs.Nodes.{Node, attach, nodeAt, nodesFrom, nodesOf}
-use Rattle.table_spec.specs.Rows.{Row, textOf}
+use Rattle.table_spec.specs.Nodes.{Node, nodesOf}
+use Rattle.table_spec.specs.Rows.{Row}
 use Rattle.table_spec.specs.Tables.{wellFormed}
 
 pub cut-selects-same : (s : Types) → Lawful s → (lent : List ℕ) (rows : List Row) → T (wellFormed s rows) → (ps : List (Path ℕ)) (p : Path ℕ) → In p ps
@@ -29,19 +28,6 @@ cut-selects-same s law lent rows ok ps p i set enough =
     ap (λ (doc : List Node). select doc p) (rows-cut s set lent rows ok)
     ∙ sym (select-cut s law p (nodesOf lent rows) (rows-valid s lent rows ok) set (λ n j. enough n (path-needed s ps i n j)))
 
-same-node : (lent lent′ : List ℕ) (before : List Node) {q r : Row} → SameButStarts q r → textOf lent q ≡ textOf lent′ r → nodeAt lent before q ≡ nodeAt lent′ before r
-same-node lent lent′ before {q} {r} b e =
-    ap (λ (k : ℕ). attach k (q .name) (textOf lent q) (getElem? before (q .parent))) (b .number)
-    ∙ (ap (λ (n : Name). attach (r .number) n (textOf lent q) (getElem? before (q .parent))) (b .name)
-    ∙ (ap (λ (w : List ℕ). attach (r .number) (r .name) w (getElem? before (q .parent))) e
-    ∙ ap (λ (i : ℕ). attach (r .number) (r .name) (textOf lent′ r) (getElem? before i)) (b .parent)))
-
-same-nodes-from : (lent lent′ : List ℕ) (before : List Node) {qs rs : List Row} → SameTables lent lent′ qs rs → nodesFrom lent before qs ≡ nodesFrom lent′ before rs
-same-nodes-from lent lent′ before no-rows = refl
-same-nodes-from lent lent′ before (next-row {q = q} {r = r} {qs = qs} {rs = rs} b e t) =
-    ap (λ (y : Node). y ∷ nodesFrom lent (before ++ (y ∷ [])) qs) (same-node lent lent′ before b e)
-    ∙ ap (λ (l : List Node). nodeAt lent′ before r ∷ l) (same-nodes-from lent lent′ (before ++ (nodeAt lent′ before r ∷ [])) t)
-
 pub same-tables-select : {lent lent′ : List ℕ} {qs rs : List Row} → SameTables lent lent′ qs rs → (p : Path ℕ) → selectRows lent qs p ≡ selectRows lent′ rs p
-unfolding selectRows nodesOf
-same-tables-select {lent} {lent′} t p = ap (λ (doc : List Node). select doc p) (same-nodes-from lent lent′ [] t)
+unfolding selectRows
+same-tables-select t p = ap (λ (doc : List Node). select doc p) (same-nodes t)

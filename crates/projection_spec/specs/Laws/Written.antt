@@ -1,46 +1,28 @@
 -- The rows of a well-formed table, written as fields and read again. Assumes nothing.
-use mathlib.Core.Bool.{not, _||_}
 use mathlib.Core.List.{List, [], _∷_, _++_, append-assoc}
 use mathlib.Core.Option.{Option, none, some}
 use mathlib.Core.Path.{_≡_, refl, sym, ap, subst₂, _∙_}
 use Prim.Native.Nat.{ℕ, zero, suc, _+_, _<_, _≤_}
 use native.Mathlib.Omega.{arith}
-use lib.Dec.{T, eqb, eqb→eq, eqb-refl}
+use lib.Dec.{T, eqb, eqb-refl}
 use lib.ListN.{length, getElem?, length-append}
-use Rattle.projection_spec.specs.Extracts.Fields.{countTag, twoBytes, field, rowField, numberAt, fieldOf, writeExtract}
+use Rattle.projection_spec.specs.Extracts.Fields.{countTag, twoBytes, field, rowField, fieldOf, writeExtract}
 use Rattle.projection_spec.specs.Extracts.Reading.{itemsFrom, itemsOf, Placed, openFrom, laterRows, rowsOfItems}
 use Rattle.projection_spec.specs.Laws.Fields.{count-read}
-use Rattle.projection_spec.specs.Laws.Items.{sizeAt, opensAfter, field-item, item-row, root-item, restWritten}
-use Rattle.projection_spec.specs.Laws.Moved.{Fitting, fitting, attached-number, text-size, restart, restarted, Rooted, rooted}
-use Rattle.projection_spec.specs.Laws.Opens.{at-before, at-end, placed, Opens, open-element, open-text, opens-grow, Found, opens-found, opens-first, Reached, row-of-node, same-count, reached-first, reached-next}
+use Rattle.projection_spec.specs.Laws.Items.{opensAfter, field-item, item-row, root-item, parentNumber, restWritten}
+use Rattle.projection_spec.specs.Laws.Moved.{HasText, has-text, restart, restarted}
+use Rattle.projection_spec.specs.Laws.Opens.{placed, Opens, open-element, open-text, opens-grow, Found, opens-found, opens-first, Reached, row-of-node, same-count, reached-first, reached-next}
+use Rattle.projection_spec.specs.Laws.TextNames.{TextNames}
 use Rattle.schema_spec.specs.Names.{element, text, Name, isText}
-use Rattle.schema_spec.specs.Schemas.{Schema, contentAt, isPcdata}
-use Rattle.schema_spec.specs.Types.{Types, typesOf, holds}
+use Rattle.schema_spec.specs.Types.{Types}
+use Rattle.table_laws.specs.Fits.{attached-number, RowFits, row-fits, Rooted, rooted, Fitting, fitting}
+use Rattle.table_laws.specs.Places.{at-before, at-end}
 use Rattle.table_spec.specs.Nodes.{Node, top, under, numberOf, nameOf, nodeAt}
 use Rattle.table_spec.specs.Rows.{Row, textOf}
 use Rattle.table_spec.specs.Tables.{wellFormed, rowFits, laterRows as laterFit, textInside}
 use Rattle.text_laws.specs.Tests.{and-cases, cond-true}
-use Rattle.text_spec.specs.Bytes.{isForeign}
 use Rattle.text_spec.specs.Limits.{maxNodes}
 use Rattle.text_spec.specs.Lists.{allOf, gather}
-use Rattle.text_spec.specs.Refusals.{at}
-
--- What the reading of an extract needs of a schema: a text name is held only by its own element and holds nothing, and the root is an element.
-pub record TextNames (s : Types) : Type 0 where
-  pub heldByOwn : (a : Name) (e : ℕ) → T (s .holds a (text e)) → a ≡ element e
-  pub holdsNothing : (e : ℕ) (b : Name) → T (s .holds (text e) b) → ⊥
-  pub rootElement : (e : ℕ) × (s .root ≡ element e)
-
-pub text-names : (schema : Schema) → TextNames (typesOf schema)
-unfolding typesOf holds
-text-names schema = record { heldByOwn = own; holdsNothing = nothing; rootElement = (0, refl) }
-  where
-    own : (a : Name) (e : ℕ) → T (holds schema a (text e)) → a ≡ element e
-    own (element a) e t = ap element (eqb→eq a e (and-cases (eqb a e) (isPcdata (contentAt schema a)) t .0))
-    own (text a) e t = absurd t
-
-    nothing : (e : ℕ) (b : Name) → T (holds schema (text e) b) → ⊥
-    nothing e b t = t
 
 opens-after : (n : Name) (before : List Node) (number next : ℕ) (w : List ℕ) (p : Node) (os : List Placed) → Opens before p os → numberOf p < number
     → getElem? before next ≡ some (under number n w p) → Opens before (under number n w p) (opensAfter n next number os)
@@ -51,15 +33,21 @@ opens-after (text e) before number next w p os o h g = open-text h o
 module _ (s : Types) (law : TextNames s) (lent : List ℕ) (all : List Row) where
   -- one row, given that the rows after it are read wherever it leaves the reader
   read-row : (done rs rs′ : List Row) (before : List Node) (previous : Node) (os : List Placed) (r : Row) (next fuel k : ℕ) → Reached done before previous os
-      → all ≡ done ++ r ∷ rs → next ≡ length done → numberOf previous < maxNodes → Fitting s before previous r → T (textInside lent r)
+      → all ≡ done ++ r ∷ rs → next ≡ length done → numberOf previous < maxNodes → RowFits s before previous r (nodeAt [] before r) → Fitting s before previous r
+      → T (textInside lent r)
       → ((os′ : List Placed) → Reached (done ++ (r ∷ [])) (before ++ (nodeAt [] before r ∷ [])) (nodeAt [] before r) os′
       → laterRows (suc next) os′ (itemsFrom fuel (k + length (fieldOf lent all r)) (restWritten lent all rs)) ≡ some rs′)
       → laterRows next os (itemsFrom (suc fuel) k (restWritten lent all (r ∷ rs))) ≡ some (restart k r ∷ rs′)
-  read-row done rs rs′ before previous os r next fuel k c e n b g inside later =
-      ap (λ (l : List ℕ). laterRows next os (itemsFrom (suc fuel) k l)) (append-assoc (fieldOf lent all r) (gather (fieldOf lent all) rs) (field countTag (twoBytes (length all))))
-      ∙ ap (laterRows next os) (field-item (r .name) fuel k (r .number) (numberAt (getElem? all (r .parent))) (textOf lent r) (restWritten lent all rs) (omega arith) (omega (arith, up, low)) (omega (arith, size .0, size .1)))
-      ∙ item-row (r .name) k (r .number) (numberAt (getElem? all (r .parent))) (length (textOf lent r)) next os first rest (itemsFrom fuel (k + length (fieldOf lent all r)) (restWritten lent all rs)) rs′ found named (later _ reached)
-      ∙ ap {B = Option (List Row)} (λ (q : Row). some (q ∷ rs′)) (rw (place, size .0, size .2))
+  read-row done rs rs′ before previous os r next fuel k c e n b fits g inside later =
+      let f = fieldOf lent all r in
+      let after = restWritten lent all rs in
+      let w = textOf lent r in
+      let up = parentNumber all r in
+      ap (λ (l : List ℕ). laterRows next os (itemsFrom (suc fuel) k l)) (append-assoc f (gather (fieldOf lent all) rs) (field countTag (twoBytes (length all))))
+      ∙ ap (laterRows next os) (field-item (r .name) fuel k (r .number) up w after (omega arith) (omega (arith, parent-number, low))
+      (omega (arith, held .size, held .short)))
+      ∙ item-row (r .name) k (r .number) up (length w) next os first rest (itemsFrom fuel (k + length f) after) rs′ found named (later _ reached)
+      ∙ ap {B = Option (List Row)} (λ (q : Row). some (q ∷ rs′)) (rw (place, held .size, held .ofName))
     where
       p : Node
       p = g .parent
@@ -74,7 +62,7 @@ module _ (s : Types) (law : TextNames s) (lent : List ℕ) (all : List Row) wher
       above : Found before p os
       above = opens-found (c .opened) p (g .isOpen) (no-text (nameOf p) (g .held))
 
-      parentOpened : (i a : ℕ) × (rest : List Placed) × (above .0 ≡ placed i (numberOf p) a ∷ rest) × (getElem? before i ≡ some p) × (nameOf p ≡ element a)
+      parentOpened : (i a : ℕ) × (higher : List Placed) × (above .0 ≡ placed i (numberOf p) a ∷ higher) × (getElem? before i ≡ some p) × (nameOf p ≡ element a)
       parentOpened = opens-first (above .2) (no-text (nameOf p) (g .held))
 
       first : Placed
@@ -86,20 +74,19 @@ module _ (s : Types) (law : TextNames s) (lent : List ℕ) (all : List Row) wher
       place : parentOpened .0 ≡ r .parent
       place = c .distinct (parentOpened .0) (r .parent) p p (parentOpened .4) (g .parentAt) refl
 
-      up : numberAt (getElem? all (r .parent)) ≡ numberOf p
-      up =
+      parent-number : parentNumber all r ≡ numberOf p
+      parent-number =
           let q = row-of-node done before (c .numbers) (r .parent) p (g .parentAt) in
           rw (e, at-before done (r ∷ rs) (r .parent) (q .0) (q .1)) (q .2)
 
       low : numberOf p ≤ numberOf previous
       low = c .bounded (r .parent) p (g .parentAt)
 
-      size : (length (textOf lent r) ≡ r .length) × (r .length ≤ 4096) × (sizeAt (r .name) (r .length) ≡ r .length)
-          × T (not (isText (r .name)) || allOf (λ b. not (isForeign b)) (textOf lent r))
-      size = text-size (r .name) lent r refl (g .cells) inside
+      held : HasText (r .name) lent r
+      held = has-text (r .name) lent r refl (fits .cells) inside
 
-      found : openFrom (numberAt (getElem? all (r .parent))) os ≡ first ∷ rest
-      found = ap (λ (m : ℕ). openFrom m os) up ∙ above .1 ∙ parentOpened .3
+      found : openFrom (parentNumber all r) os ≡ first ∷ rest
+      found = ap (λ (m : ℕ). openFrom m os) parent-number ∙ above .1 ∙ parentOpened .3
 
       named : (a : ℕ) → r .name ≡ text a → first .element ≡ a
       named a q =
@@ -110,19 +97,23 @@ module _ (s : Types) (law : TextNames s) (lent : List ℕ) (all : List Row) wher
       node : y ≡ under (r .number) (r .name) (textOf [] r) p
       node = rw (g .parentAt)
 
-      last : getElem? (before ++ (y ∷ [])) next ≡ some (under (r .number) (r .name) (textOf [] r) p)
-      last = ap (getElem? (before ++ (y ∷ []))) (n ∙ sym (same-count done before (c .numbers))) ∙ at-end before y [] ∙ ap {B = Option Node} some node
+      grown : List Node
+      grown = before ++ (y ∷ [])
 
-      opened : Opens (before ++ (y ∷ [])) y (opensAfter (r .name) next (r .number) (first ∷ rest))
+      last : getElem? grown next ≡ some (under (r .number) (r .name) (textOf [] r) p)
+      last = ap (getElem? grown) (n ∙ sym (same-count done before (c .numbers))) ∙ at-end before y [] ∙ ap {B = Option Node} some node
+
+      opened : Opens grown y (opensAfter (r .name) next (r .number) (first ∷ rest))
       opened =
-          subst₂ (λ (z : Node) (l : List Placed). Opens (before ++ (y ∷ [])) z (opensAfter (r .name) next (r .number) l)) (sym node) (parentOpened .3)
-          (opens-after (r .name) (before ++ (y ∷ [])) (r .number) next (textOf [] r) p (above .0) (opens-grow y (above .2)) (omega (arith, low, g .rises)) last)
+          subst₂ (λ (z : Node) (l : List Placed). Opens grown z (opensAfter (r .name) next (r .number) l)) (sym node) (parentOpened .3)
+          (opens-after (r .name) grown (r .number) next (textOf [] r) p (above .0) (opens-grow y (above .2)) (omega (arith, low, fits .rises)) last)
 
-      reached : Reached (done ++ (r ∷ [])) (before ++ (y ∷ [])) y (opensAfter (r .name) next (r .number) (first ∷ rest))
-      reached = reached-next c r y (opensAfter (r .name) next (r .number) (first ∷ rest)) (ap numberOf node) (g .rises) opened
+      reached : Reached (done ++ (r ∷ [])) grown y (opensAfter (r .name) next (r .number) (first ∷ rest))
+      reached = reached-next c r y (opensAfter (r .name) next (r .number) (first ∷ rest)) (ap numberOf node) (fits .rises) opened
 
-  read-later : (done rs : List Row) (before : List Node) (previous : Node) (os : List Placed) (next fuel k : ℕ) → Reached done before previous os → all ≡ done ++ rs
-      → next ≡ length done → length all < 65536 → length rs < fuel → numberOf previous < maxNodes → T (laterFit s before previous rs) → T (allOf (textInside lent) rs)
+  read-later : (done rs : List Row) (before : List Node) (previous : Node) (os : List Placed) (next fuel k : ℕ) → Reached done before previous os
+      → all ≡ done ++ rs → next ≡ length done → length all < 65536 → length rs < fuel → numberOf previous < maxNodes → T (laterFit s before previous rs)
+      → T (allOf (textInside lent) rs)
       → laterRows next os (itemsFrom fuel k (restWritten lent all rs)) ≡ some (restarted (fieldOf lent all) k rs)
   read-later done [] before previous os next zero k c e n h f b t i = absurd (omega arith)
   read-later done [] before previous os next (suc fuel) k c e n h f b t i =
@@ -133,17 +124,22 @@ module _ (s : Types) (law : TextNames s) (lent : List ℕ) (all : List Row) wher
       let y = nodeAt [] before r in
       let u = and-cases (rowFits s before previous r y) (laterFit s (before ++ (y ∷ [])) y rs) t in
       let v = and-cases (textInside lent r) (allOf (textInside lent) rs) i in
-      read-row done rs (restarted (fieldOf lent all) (k + length (fieldOf lent all r)) rs) before previous os r next fuel k c e n b (fitting s before previous r (u .0)) (v .0)
-      (λ os′ c′. read-later (done ++ (r ∷ [])) rs (before ++ (y ∷ [])) y os′ (suc next) fuel (k + length (fieldOf lent all r)) c′ (e ∙ sym (append-assoc done (r ∷ []) rs)) (omega (arith, length-append done (r ∷ []))) h (omega arith) (rw (attached-number (r .number) (r .name) (textOf [] r) (getElem? before (r .parent))) (fitting s before previous r (u .0) .small)) (u .1) (v .1))
+      let fits = row-fits s before previous r y (u .0) in
+      let place = k + length (fieldOf lent all r) in
+      let small : numberOf y < maxNodes = rw (attached-number (r .number) (r .name) (textOf [] r) (getElem? before (r .parent))) (fits .small) in
+      read-row done rs (restarted (fieldOf lent all) place rs) before previous os r next fuel k c e n b fits (fitting s before previous r fits) (v .0)
+      (λ os′ c′.
+      read-later (done ++ (r ∷ [])) rs (before ++ (y ∷ [])) y os′ (suc next) fuel place c′ (e ∙ sym (append-assoc done (r ∷ []) rs))
+      (omega (arith, length-append done (r ∷ []))) h (omega arith) small (u .1) (v .1))
 
 -- numbers rise, so there are no more rows than numbers
-count-bound : (s : Types) (before : List Node) (previous : Node) (rs : List Row) (m : ℕ) → T (laterFit s before previous rs) → m ≤ suc (numberOf previous) → numberOf previous < maxNodes
-    → m + length rs ≤ maxNodes
+count-bound : (s : Types) (before : List Node) (previous : Node) (rs : List Row) (m : ℕ) → T (laterFit s before previous rs) → m ≤ suc (numberOf previous)
+    → numberOf previous < maxNodes → m + length rs ≤ maxNodes
 count-bound s before previous [] m t h b = omega arith
 count-bound s before previous (r ∷ rs) m t h b =
     let y = nodeAt [] before r in
     let u = and-cases (rowFits s before previous r y) (laterFit s (before ++ (y ∷ [])) y rs) t in
-    let g = fitting s before previous r (u .0) in
+    let g = row-fits s before previous r y (u .0) in
     let k : numberOf y ≡ r .number = attached-number (r .number) (r .name) (textOf [] r) (getElem? before (r .parent)) in
     let l = g .rises in
     let d = g .small in
@@ -158,45 +154,63 @@ field-long (text e) number parent w = omega arith
 fields-long : (lent : List ℕ) (all rs : List Row) → length rs ≤ length (gather (fieldOf lent all) rs)
 fields-long lent all [] = omega arith
 fields-long lent all (r ∷ rs) =
-    omega (arith, fields-long lent all rs, length-append (fieldOf lent all r) (gather (fieldOf lent all) rs), field-long (r .name) (r .number) (numberAt (getElem? all (r .parent))) (textOf lent r))
+    let one = field-long (r .name) (r .number) (parentNumber all r) (textOf lent r) in
+    omega (arith, fields-long lent all rs, length-append (fieldOf lent all r) (gather (fieldOf lent all) rs))
 
 -- a whole well-formed table, written and read
-read-table : (s : Types) → TextNames s → (lent : List ℕ) (r : Row) (rs : List Row) → Rooted s r rs → T (allOf (textInside lent) (r ∷ rs)) → (fuel : ℕ) → length rs < fuel
+read-table : (s : Types) → TextNames s → (lent : List ℕ) (r : Row) (rs : List Row) → Rooted s r rs → T (allOf (textInside lent) (r ∷ rs)) → (fuel : ℕ)
+    → length rs < fuel
     → rowsOfItems (itemsFrom (suc fuel) 0 (restWritten lent (r ∷ rs) (r ∷ rs))) ≡ some (restarted (fieldOf lent (r ∷ rs)) 0 (r ∷ rs))
 read-table s law lent r rs c i fuel h =
-    ap (λ (l : List ℕ). rowsOfItems (itemsFrom (suc fuel) 0 l)) (append-assoc (fieldOf lent all r) (gather (fieldOf lent all) rs) (field countTag (twoBytes (length all))))
-    ∙ ap rowsOfItems (field-item (r .name) fuel 0 (r .number) (numberAt (getElem? all (r .parent))) (textOf lent r) (restWritten lent all rs) (omega (arith, c .number)) (omega (arith, up)) (omega (arith, size .0, size .1)))
-    ∙ root-item (r .name) (law .rootElement .0) 0 (r .number) (numberAt (getElem? all (r .parent))) (length (textOf lent r)) (itemsFrom fuel (0 + length (fieldOf lent all r)) (restWritten lent all rs)) (restarted (fieldOf lent all) (0 + length (fieldOf lent all r)) rs) named up later
-    ∙ ap {B = Option (List Row)} (λ (q : Row). some (q ∷ restarted (fieldOf lent all) (0 + length (fieldOf lent all r)) rs)) (rw (c .parent, size .0, size .2))
+    let w = textOf lent r in
+    let up = parentNumber all r in
+    ap (λ (l : List ℕ). rowsOfItems (itemsFrom (suc fuel) 0 l)) (append-assoc f (gather (fieldOf lent all) rs) (field countTag (twoBytes (length all))))
+    ∙ ap rowsOfItems (field-item (r .name) fuel 0 (r .number) up w after (omega (arith, c .number)) (omega (arith, parent-number))
+    (omega (arith, held .size, held .short)))
+    ∙ root-item (r .name) root 0 (r .number) up (length w) (itemsFrom fuel (0 + length f) after) rs′ named parent-number later
+    ∙ ap {B = Option (List Row)} (λ (q : Row). some (q ∷ rs′)) (rw (c .parent, held .size, held .ofName))
   where
     all : List Row
     all = r ∷ rs
 
+    f : List ℕ
+    f = fieldOf lent all r
+
+    after : List ℕ
+    after = restWritten lent all rs
+
+    rs′ : List Row
+    rs′ = restarted (fieldOf lent all) (0 + length f) rs
+
     y : Node
     y = top (r .number) (r .name)
 
-    named : r .name ≡ element (law .rootElement .0)
+    root : ℕ
+    root = law .rootElement .0
+
+    named : r .name ≡ element root
     named = c .name ∙ law .rootElement .1
 
-    up : numberAt (getElem? all (r .parent)) ≡ 0
-    up = rw (c .parent) (c .number)
+    parent-number : parentNumber all r ≡ 0
+    parent-number = rw (c .parent) (c .number)
 
     parts : T (textInside lent r) × T (allOf (textInside lent) rs)
     parts = and-cases (textInside lent r) (allOf (textInside lent) rs) i
 
-    size : (length (textOf lent r) ≡ r .length) × (r .length ≤ 4096) × (sizeAt (r .name) (r .length) ≡ r .length)
-        × T (not (isText (r .name)) || allOf (λ b. not (isForeign b)) (textOf lent r))
-    size = text-size (r .name) lent r refl (c .cells) (parts .0)
+    held : HasText (r .name) lent r
+    held = has-text (r .name) lent r refl (c .cells) (parts .0)
 
     few : length all < 65536
     few = omega (arith, count-bound s (y ∷ []) y rs 1 (c .later) (omega arith) (omega (arith, c .number)))
 
-    later : laterRows 1 (placed 0 (r .number) (law .rootElement .0) ∷ []) (itemsFrom fuel (0 + length (fieldOf lent all r)) (restWritten lent all rs))
-        ≡ some (restarted (fieldOf lent all) (0 + length (fieldOf lent all r)) rs)
-    later = read-later s law lent all (r ∷ []) rs (y ∷ []) y (placed 0 (r .number) (law .rootElement .0) ∷ []) 1 fuel (0 + length (fieldOf lent all r)) (reached-first r (law .rootElement .0) named) refl refl few h (omega (arith, c .number)) (c .later) (parts .1)
+    later : laterRows 1 (placed 0 (r .number) root ∷ []) (itemsFrom fuel (0 + length f) after) ≡ some rs′
+    later =
+        read-later s law lent all (r ∷ []) rs (y ∷ []) y (placed 0 (r .number) root ∷ []) 1 fuel (0 + length f) (reached-first r root named) refl refl few h
+        (omega (arith, c .number)) (c .later) (parts .1)
 
 pub written-long : (lent : List ℕ) (rows : List Row) → length rows + 5 ≤ length (restWritten lent rows rows)
-written-long lent rows = omega (arith, fields-long lent rows rows, length-append (gather (fieldOf lent rows) rows) (field countTag (twoBytes (length rows))))
+written-long lent rows =
+    omega (arith, fields-long lent rows rows, length-append (gather (fieldOf lent rows) rows) (field countTag (twoBytes (length rows))))
 
 pub table-items : (s : Types) → TextNames s → (lent : List ℕ) (rows : List Row) → T (wellFormed s rows) → T (allOf (textInside lent) rows)
     → rowsOfItems (itemsOf (writeExtract lent rows)) ≡ some (restarted (fieldOf lent rows) 0 rows)
@@ -204,6 +218,7 @@ unfolding writeExtract itemsOf
 table-items s law lent [] t i = refl
 table-items s law lent (r ∷ rs) t i = by-length (length (restWritten lent (r ∷ rs) (r ∷ rs))) (written-long lent (r ∷ rs))
   where
-    by-length : (m : ℕ) → length (r ∷ rs) + 5 ≤ m → rowsOfItems (itemsFrom m 0 (restWritten lent (r ∷ rs) (r ∷ rs))) ≡ some (restarted (fieldOf lent (r ∷ rs)) 0 (r ∷ rs))
+    by-length : (m : ℕ) → length (r ∷ rs) + 5 ≤ m
+        → rowsOfItems (itemsFrom m 0 (restWritten lent (r ∷ rs) (r ∷ rs))) ≡ some (restarted (fieldOf lent (r ∷ rs)) 0 (r ∷ rs))
     by-length zero h = absurd (omega arith)
     by-length (suc fuel) h = read-table s law lent r rs (rooted s r rs t) i fuel (omega arith)
