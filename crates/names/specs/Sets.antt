@@ -1,8 +1,12 @@
 -- What a `NameSet` means: which names are in it, and the set of names that it is, among some names. Assumes nothing.
 use mathlib.Core.Bool.{Bool}
-use Prim.Native.Nat.{ℕ}
+use mathlib.Core.List.{[], _∷_}
+use Prim.Native.Nat.{ℕ, zero, suc}
 use Rattle.names.specs.declared.NameSet.{NameSet}
-use Rattle.schema_spec.specs.Names.{Name, Names, element, text, hasBit}
+use Rattle.schema_spec.specs.Models.{pcdata}
+use Rattle.schema_spec.specs.Names.{Name, Names, element, text, namesOf, hasBit}
+use Rattle.schema_spec.specs.Schemas.{Schema}
+use Rattle.text_spec.specs.Limits.{maxDeclarations}
 use Rattle.text_spec.specs.Lists.{filterBy}
 
 -- bit e of `elements` stands for element e, bit e of `texts` for its text name
@@ -14,10 +18,15 @@ member s (text e) = hasBit (s .texts) e
 unfoldable pub setOf : Names → NameSet → Names
 setOf names s = filterBy (member s) names
 
-abbrev pub indexOf : Name → ℕ
-indexOf (element e) = e
-indexOf (text e) = e
-
 -- the set of no name
 abbrev pub nothing : NameSet
 nothing = record { elements = 0; texts = 0 }
+
+-- a schema of n elements of character data: each has a text name
+abbrev pub largest : ℕ → Schema
+largest zero = []
+largest (suc n) = record { name = []; content = pcdata } ∷ largest n
+
+-- every name that has a place among 64 bits
+unfoldable pub everyName : Names
+everyName = namesOf (largest maxDeclarations)

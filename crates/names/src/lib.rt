@@ -4,8 +4,8 @@ ghost use mathlib.Core.Logic.{_↔_};
 ghost use mathlib.Core.Path.{_≡_};
 ghost use Prim.Native.Nat.{ℕ};
 ghost use lib.Dec.{T, ltb};
-ghost use Rattle.schema_spec.specs.Names.{Name, element, text, sameName};
-ghost use Rattle.names.specs.Sets.{member};
+ghost use Rattle.schema_spec.specs.Names.{Name, element, text, sameName, has, setOfWord, wordOfSet};
+ghost use Rattle.names.specs.Sets.{member, setOf, everyName};
 
 pub struct NameSet {
     pub elements: u64,
@@ -89,5 +89,22 @@ impl NameSet {
         ensures { λ r. ⌜ (T r ↔ ((n : Name) → member self n ≡ false)) ⌝ }
     {
         (self.elements | self.texts) == 0
+    }
+
+    // The set that 64 bits hand in: bit e for element e, bit 32 + e for its text name.
+    pub fn from_word(word: u64) -> NameSet
+        ensures { λ r. ⌜ ((n : Name) → member r n ≡ has n (setOfWord everyName word)) ⌝ }
+    {
+        NameSet {
+            elements: word % 4294967296,
+            texts: word >> 32,
+        }
+    }
+
+    // The 64 bits that hand the set back: what is past element 31 has none.
+    pub fn to_word(self) -> u64
+        ensures { λ r. ⌜ r ≡ wordOfSet everyName (setOf everyName self) ⌝ }
+    {
+        (self.elements % 4294967296) | ((self.texts % 4294967296) << 32)
     }
 }

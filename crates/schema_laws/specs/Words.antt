@@ -139,6 +139,15 @@ has-word names s c {n} i t = ⊎-elim (λ h. has-in n s h) (λ h. absurd (unset 
         h (subst (λ (m : Name). T (has m s)) (sym (c .apart n (r .0) i (f .0) (r .2))) (f .1))) in
         subst (λ (x : ℕ). T (eqb x 1)) clear t
 
+-- a bit that is no name's is clear
+pub word-clear : (names s : Names) → Coded names → (i : ℕ) → ((n : Name) → In n names → codeOf n ≡ i → ⊥) → hasBit (wordOfSet names s) i ≡ false
+unfolding wordOfSet
+word-clear names s c i other =
+    ap (λ (x : ℕ). eqb x 1)
+    (set-bits names s c i .1 (λ j.
+    let r = map-in codeOf (within names s) j in
+    other (r .0) (filter-in (λ n. has n s) names (r .1) .0) (sym (r .2))))
+
 -- a set that is handed back and in again is the same, but for what is no name
 pub setOfWord-wordOfSet : (names s : Names) → Coded names → setOfWord names (wordOfSet names s) ≡ within names s
 unfolding setOfWord

@@ -3,13 +3,13 @@
 use mathlib.Core.Bool.{Bool, true, false, not, _&&_, _||_, true≢false, false≢true}
 use mathlib.Core.Logic.{_⊎_, inl, inr}
 use mathlib.Core.Path.{_≡_, refl, sym, ap, _∙_}
-use Prim.Native.Nat.{ℕ, zero, suc, _+_, _*_, _/_, _%_, _^_, _<_, _≤_}
-use native.Mathlib.Nat.{mod-lt, div-eq-of-lt, div-one, one-mul, mul-div-mul-right, div-add-mod', lt-of-lt-of-le, pow-suc}
+use Prim.Native.Nat.{ℕ, zero, suc, _+_, _*_, _-_, _/_, _%_, _^_, _<_, _≤_}
+use native.Mathlib.Nat.{mod-lt, div-eq-of-lt, div-one, one-mul, mul-div-mul-right, div-add-mod', lt-of-lt-of-le, mul-assoc, pow-suc}
 use native.Mathlib.Numerals.{add-one}
 use native.Mathlib.Omega.{arith}
 use lib.Bits.{bitAnd, bitOr, bitXor, or-shr, or-mod, and-shr, and-mod, xor-shr, xor-mod, shifted-even}
 use lib.Dec.{eqb, eqb·zero-suc, eqb·suc-zero, eqb·suc-suc}
-use lib.Pow.{pow-pos, pow-lt, pow-mono, shr-shr, shr-lt}
+use lib.Pow.{pow-pos, pow-lt, pow-mono, pow-add, shl-shr, shr-shr, shr-lt, field, mod-mod-pow}
 use Rattle.schema_spec.specs.Names.{hasBit}
 
 -- what is left of a number after division by two
@@ -78,6 +78,31 @@ bit-past w a i fits past = ap (λ (n : ℕ). eqb (n % 2) 1) (div-eq-of-lt (lt-of
 -- shifted down by k: the members from k on, each less by k
 pub bit-down : (a k i : ℕ) → hasBit (a / 2 ^ k) i ≡ hasBit a (k + i)
 bit-down a k i = ap (λ (n : ℕ). eqb (n % 2) 1) (shr-shr a k i)
+
+-- shifted up by k: nothing below k, and then the members
+pub bit-up : (a k i : ℕ) → hasBit (a * 2 ^ k) (k + i) ≡ hasBit a i
+bit-up a k i = sym (bit-down (a * 2 ^ k) k i) ∙ ap (λ (n : ℕ). hasBit n i) (shl-shr a k)
+
+pub bit-up-below : (a k i : ℕ) → i < k → hasBit (a * 2 ^ k) i ≡ false
+bit-up-below a k i h = ap (λ (n : ℕ). hasBit (a * 2 ^ n) i) apart ∙ ap (λ (n : ℕ). eqb (n % 2) 1) even ∙ ap (λ (n : ℕ). eqb n 1) (shifted-even a (k - suc i))
+  where
+    apart : k ≡ suc (k - suc i) + i
+    apart = omega arith
+
+    even : a * 2 ^ (suc (k - suc i) + i) / 2 ^ i ≡ a * 2 ^ suc (k - suc i)
+    even = ap (λ (n : ℕ). n / 2 ^ i) (ap (λ (n : ℕ). a * n) (pow-add 2 (suc (k - suc i)) i) ∙ sym (mul-assoc a (2 ^ suc (k - suc i)) (2 ^ i))) ∙ shl-shr (a * 2 ^ suc (k - suc i)) i
+
+-- cut to a width: the members below it
+pub bit-cut : (a w i : ℕ) → i < w → hasBit (a % 2 ^ w) i ≡ hasBit a i
+bit-cut a w i h =
+    ap (λ (n : ℕ). hasBit (a % 2 ^ n) i) apart ∙ ap (λ (n : ℕ). eqb (n % 2) 1) (field a (w - suc i + 1) i)
+    ∙ ap (λ (n : ℕ). eqb n 1) (mod-mod-pow (a / 2 ^ i) (w - suc i) 1)
+  where
+    apart : w ≡ w - suc i + 1 + i
+    apart = omega arith
+
+pub bit-cut-past : (a w i : ℕ) → w ≤ i → hasBit (a % 2 ^ w) i ≡ false
+bit-cut-past a w i h = bit-past w (a % 2 ^ w) i (mod-lt a (pow-pos w)) h
 
 same-remainder : (m n : ℕ) → (m ≡ 0) ⊎ (m ≡ 1) → (n ≡ 0) ⊎ (n ≡ 1) → eqb m 1 ≡ eqb n 1 → m ≡ n
 same-remainder m n (inl p) (inl q) e = p ∙ sym q
