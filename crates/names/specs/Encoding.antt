@@ -11,7 +11,7 @@ use lib.Dec.{T, ltb}
 use lib.ListN.{length}
 use Rattle.names.specs.declared.NameSet.{NameSet}
 use Rattle.names.specs.Sets.{member, setOf, largest, everyName}
-use Rattle.names.specs.SetLaws.{same-test, has-filter, in-setOf, setOf-in, element-every, every-element, text-every, every-text, every-coded, schema-every}
+use Rattle.names.specs.SetLaws.{has-filter, in-setOf, setOf-in, element-every, every-element, text-every, every-text, every-coded, schema-every}
 use Rattle.schema_laws.specs.Names.{has-in, in-has}
 use Rattle.schema_laws.specs.Words.{Coded, schema-coded, word-has, has-word, word-clear, word-below}
 use Rattle.schema_spec.specs.Names.{Name, Names, element, text, has, namesOf, codeOf, hasBit, setOfWord, wordOfSet}
@@ -20,6 +20,7 @@ use Rattle.text_laws.specs.Lists.{filter-cong}
 use Rattle.text_laws.specs.Tests.{decided, true-of, false-of}
 use Rattle.text_spec.specs.Limits.{maxDeclarations}
 use Rattle.words.specs.Bits.{bit-or, bit-past, bit-down, bit-up, bit-up-below, bit-cut, bit-cut-past, same-bits}
+use Rattle.words.specs.Searches.{same-test}
 
 -- the two words of a set that is handed in
 abbrev pub split : ℕ → NameSet

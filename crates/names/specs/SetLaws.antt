@@ -1,29 +1,23 @@
 -- Laws of sets of names as lists: what a filter has, and which names `everyName` has. Assumes nothing.
-use mathlib.Core.Bool.{Bool, true, false, not, _&&_, _||_}
+use mathlib.Core.Bool.{Bool, false, not, _&&_, _||_}
 use mathlib.Core.List.{[], _∷_, List·Memᴰ as In, List·Memᴰ·head as here}
-use mathlib.Core.Logic.{_↔_}
+use mathlib.Core.Logic.{_↔_, ⊎-elim}
 use mathlib.Core.Path.{_≡_, refl, sym, ap₂, subst, _∙_}
 use Prim.Native.Nat.{ℕ, zero, suc, _≤_, _<_}
 use native.Mathlib.Omega.{arith}
 use lib.Dec.{T}
 use lib.ListN.{length}
 use Rattle.names.specs.declared.NameSet.{NameSet}
-use Rattle.names.specs.Sets.{member, setOf, largest, everyName}
+use Rattle.names.specs.Sets.{member, setOf, largest, everyName, overlap}
 use Rattle.schema_laws.specs.Names.{has-in, in-has, element-in, in-element, text-in, in-text}
 use Rattle.schema_laws.specs.Words.{Coded, schema-coded}
 use Rattle.schema_spec.specs.Names.{Name, Names, element, text, has, within, namesOf}
 use Rattle.schema_spec.specs.Schemas.{Schema, contentAt, isPcdata}
 use Rattle.text_laws.specs.Lists.{in-filter, filter-in, filter-cong, filter-filter, member-fills}
-use Rattle.text_laws.specs.Tests.{and-intro, and-cases, failed, false-of}
+use Rattle.text_laws.specs.Tests.{or-left, or-right, or-cases, and-intro, and-cases, failed, false-of}
 use Rattle.text_spec.specs.Limits.{maxDeclarations}
 use Rattle.text_spec.specs.Lists.{filterBy, isEmpty}
-
--- two tests that pass together are equal
-pub same-test : (a b : Bool) → (T a → T b) → (T b → T a) → a ≡ b
-same-test true true f g = refl
-same-test true false f g = absurd (f tt)
-same-test false true f g = absurd (g tt)
-same-test false false f g = refl
+use Rattle.words.specs.Searches.{same-test, anyBelow, any-below, below-any}
 
 -- a name is in a filtered set if it is in the set and passes
 pub has-filter : (f : Name → Bool) (names : Names) (n : Name) → has n (filterBy f names) ≡ (has n names && f n)
@@ -120,3 +114,28 @@ empty-decides names s only = (bare, λ h. none (setOf names s) (λ n i. failed (
     none : (ns : Names) → ((n : Name) → In n ns → ⊥) → T (isEmpty ns)
     none [] h = tt
     none (n ∷ ns) h = h n (here refl)
+
+-- two sets overlap exactly if a name with an index below 64 is in both
+pub overlap-some : (s t : NameSet) → T (overlap s t) → (n : Name) × T (member s n) × T (member t n)
+unfolding overlap
+overlap-some s t h =
+    ⊎-elim (λ u. at element (below-any 64 (λ e. member s (element e) && member t (element e)) u))
+    (λ u. at text (below-any 64 (λ e. member s (text e) && member t (text e)) u))
+    (or-cases (anyBelow 64 (λ e. member s (element e) && member t (element e))) (anyBelow 64 (λ e. member s (text e) && member t (text e))) h)
+  where
+    at : (k : ℕ → Name) → (e : ℕ) × (e < 64) × T (member s (k e) && member t (k e)) → (n : Name) × T (member s n) × T (member t n)
+    at k r =
+        let c = and-cases (member s (k (r .0))) (member t (k (r .0))) (r .2) in
+        (k (r .0), c .0, c .1)
+
+pub element-overlap : (s t : NameSet) (e : ℕ) → e < 64 → T (member s (element e)) → T (member t (element e)) → T (overlap s t)
+unfolding overlap
+element-overlap s t e l p q =
+    or-left (anyBelow 64 (λ i. member s (element i) && member t (element i))) (anyBelow 64 (λ i. member s (text i) && member t (text i)))
+    (any-below 64 (λ i. member s (element i) && member t (element i)) e l (and-intro (member s (element e)) (member t (element e)) p q))
+
+pub text-overlap : (s t : NameSet) (e : ℕ) → e < 64 → T (member s (text e)) → T (member t (text e)) → T (overlap s t)
+unfolding overlap
+text-overlap s t e l p q =
+    or-right (anyBelow 64 (λ i. member s (element i) && member t (element i))) (anyBelow 64 (λ i. member s (text i) && member t (text i)))
+    (any-below 64 (λ i. member s (text i) && member t (text i)) e l (and-intro (member s (text e)) (member t (text e)) p q))

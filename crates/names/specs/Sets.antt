@@ -1,5 +1,5 @@
 -- What a `NameSet` means: which names are in it, and the set of names that it is, among some names. Assumes nothing.
-use mathlib.Core.Bool.{Bool}
+use mathlib.Core.Bool.{Bool, _&&_, _||_}
 use mathlib.Core.List.{[], _∷_}
 use Prim.Native.Nat.{ℕ, zero, suc}
 use Rattle.names.specs.declared.NameSet.{NameSet}
@@ -8,6 +8,7 @@ use Rattle.schema_spec.specs.Names.{Name, Names, element, text, namesOf, hasBit
 use Rattle.schema_spec.specs.Schemas.{Schema}
 use Rattle.text_spec.specs.Limits.{maxDeclarations}
 use Rattle.text_spec.specs.Lists.{filterBy}
+use Rattle.words.specs.Searches.{anyBelow}
 
 -- bit e of `elements` stands for element e, bit e of `texts` for its text name
 abbrev pub member : NameSet → Name → Bool
@@ -30,3 +31,7 @@ largest (suc n) = record { name = []; content = pcdata } ∷ largest n
 -- every name that has a place among 64 bits
 unfoldable pub everyName : Names
 everyName = namesOf (largest maxDeclarations)
+
+-- some name is in both sets
+unfoldable pub overlap : NameSet → NameSet → Bool
+overlap s t = anyBelow 64 (λ e. member s (element e) && member t (element e)) || anyBelow 64 (λ e. member s (text e) && member t (text e))

@@ -5,7 +5,7 @@ ghost use mathlib.Core.Path.{_≡_};
 ghost use Prim.Native.Nat.{ℕ};
 ghost use lib.Dec.{T, ltb};
 ghost use Rattle.schema_spec.specs.Names.{Name, element, text, sameName, has, setOfWord, wordOfSet};
-ghost use Rattle.names.specs.Sets.{member, setOf, everyName};
+ghost use Rattle.names.specs.Sets.{member, setOf, everyName, overlap};
 
 pub struct NameSet {
     pub elements: u64,
@@ -89,6 +89,13 @@ impl NameSet {
         ensures { λ r. ⌜ (T r ↔ ((n : Name) → member self n ≡ false)) ⌝ }
     {
         (self.elements | self.texts) == 0
+    }
+
+    // Whether some name is in both sets.
+    pub fn meets(self, other: NameSet) -> bool
+        ensures { λ r. ⌜ r ≡ overlap self other ⌝ }
+    {
+        words::meets(self.elements, other.elements) || words::meets(self.texts, other.texts)
     }
 
     // The set that 64 bits hand in: bit e for element e, bit 32 + e for its text name.

@@ -2,15 +2,18 @@
 -- Assumes nothing.
 use mathlib.Core.Bool.{Bool, true, false, not, _&&_, _||_, true≢false, false≢true}
 use mathlib.Core.Logic.{_⊎_, inl, inr}
-use mathlib.Core.Path.{_≡_, refl, sym, ap, _∙_}
+use mathlib.Core.Path.{_≡_, refl, sym, ap, subst, _∙_}
 use Prim.Native.Nat.{ℕ, zero, suc, _+_, _*_, _-_, _/_, _%_, _^_, _<_, _≤_}
 use native.Mathlib.Nat.{mod-lt, div-eq-of-lt, div-one, one-mul, mul-div-mul-right, div-add-mod', lt-of-lt-of-le, mul-assoc, pow-suc}
 use native.Mathlib.Numerals.{add-one}
 use native.Mathlib.Omega.{arith}
-use lib.Bits.{bitAnd, bitOr, bitXor, or-shr, or-mod, and-shr, and-mod, xor-shr, xor-mod, shifted-even}
-use lib.Dec.{eqb, eqb·zero-suc, eqb·suc-zero, eqb·suc-suc}
+use borrow.Author.Tests.{eq-eqb}
+use lib.Bits.{bitAnd, bitOr, bitXor, and-lt, or-shr, or-mod, and-shr, and-mod, xor-shr, xor-mod, shifted-even}
+use lib.Dec.{T, eqb, eqb→eq, eqb·zero-suc, eqb·suc-zero, eqb·suc-suc}
 use lib.Pow.{pow-pos, pow-lt, pow-mono, pow-add, shl-shr, shr-shr, shr-lt, field, mod-mod-pow}
 use Rattle.schema_spec.specs.Names.{hasBit}
+use Rattle.text_laws.specs.Tests.{passed, failed, false-of, not-intro, not-elim, decided}
+use Rattle.words.specs.Searches.{same-test, anyBelow, any-below, below-any, any-cong}
 
 -- what is left of a number after division by two
 remainder : (n : ℕ) → (n % 2 ≡ 0) ⊎ (n % 2 ≡ 1)
@@ -127,3 +130,19 @@ same-bits (suc w) a b ha hb e =
 
     joined : a / 2 ≡ b / 2 → a % 2 ≡ b % 2 → a / 2 * 2 + a % 2 ≡ b / 2 * 2 + b % 2
     joined p q = omega arith
+
+-- a word is not 0 exactly if it has a bit
+pub some-bit : (w a : ℕ) → a < 2 ^ w → not (eqb a 0) ≡ anyBelow w (hasBit a)
+some-bit w a fits = same-test (not (eqb a 0)) (anyBelow w (hasBit a)) (λ t. found t (decided (anyBelow w (hasBit a)))) (λ t. not-intro (eqb a 0) (λ e. clear (eqb→eq a 0 e) (below-any w (hasBit a) t)))
+  where
+    clear : a ≡ 0 → (i : ℕ) × (i < w) × T (hasBit a i) → ⊥
+    clear e r = failed (bit-none (r .0)) (subst (λ (n : ℕ). T (hasBit n (r .0))) e (r .2))
+
+    found : T (not (eqb a 0)) → T (anyBelow w (hasBit a)) ⊎ (T (anyBelow w (hasBit a)) → ⊥) → T (anyBelow w (hasBit a))
+    found t (inl h) = h
+    found t (inr h) =
+        absurd (not-elim (eqb a 0) t (passed (eq-eqb a 0 (same-bits w a 0 fits (pow-pos w) (λ i l. false-of (hasBit a i) (λ b. h (any-below w (hasBit a) i l b)) ∙ sym (bit-none i))))))
+
+-- two words meet exactly if some bit is in both
+pub meet-bits : (a b : ℕ) → a < 2 ^ 64 → b < 2 ^ 64 → not (eqb (bitAnd a b) 0) ≡ anyBelow 64 (λ i. hasBit a i && hasBit b i)
+meet-bits a b ha hb = some-bit 64 (bitAnd a b) (and-lt 64 a b ha hb) ∙ any-cong 64 (hasBit (bitAnd a b)) (λ i. hasBit a i && hasBit b i) (λ i l. bit-and a b i)
