@@ -1,0 +1,26 @@
+-- `closures::grown` meets its contract. Assumes nothing.
+use mathlib.Core.Bool.{Bool, _&&_, _||_, or-false}
+use mathlib.Core.Path.{sym, ap, _∙_}
+use Rattle.names.specs.Sets.{member}
+use borrow.Author.Needs.{needs}
+use Rattle.closures.proofs.grown.Statement.{statement}
+use Rattle.closures.proofs.grown.Tie as tie
+
+has-element-requires : tie.Need-has-element-requires
+has-element-requires c κs = search needs
+
+union-requires : tie.Need-union-requires
+union-requires c κs = search needs
+
+returns : tie.Need-returns
+returns c b =
+    let args = c .before .before .before .args in
+    c .union .ensures b ∙ ap (λ (t : Bool). member (args .out) b || (t && member (args .row) b)) (sym (sym (c .before .before .has-element .ensures) ∙ c .before .if1 .taken))
+
+returns-2 : tie.Need-returns-2
+returns-2 c b =
+    let args = c .before .before .args in
+    sym (ap (λ (t : Bool). member (args .out) b || (t && member (args .row) b)) (sym (c .before .has-element .ensures) ∙ c .if1 .left) ∙ or-false (member (args .out) b))
+
+pub grown-spec : {M : Type 1} → statement M
+grown-spec = tie.close (tie.spec has-element-requires union-requires returns returns-2)

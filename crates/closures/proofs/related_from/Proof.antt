@@ -1,0 +1,71 @@
+-- `closures::related_from` meets its contract. Assumes nothing.
+use mathlib.Core.Bool.{Bool, _&&_, _||_}
+use mathlib.Core.Path.{_≡_, ap, _∙_}
+use Prim.Native.Nat.{ℕ, _≤_, _-_}
+use native.Mathlib.Numerals.{add-one}
+use Rattle.closures.specs.Tables.{relates}
+use Rattle.names.specs.Sets.{member}
+use Rattle.schema_spec.specs.Names.{Name, element}
+use Rattle.words.specs.Searches.{anyBelow}
+use borrow.Author.Needs.{needs}
+use native.Mathlib.Omega.{arith}
+use Rattle.closures.proofs.related_from.Statement.{statement}
+use Rattle.closures.proofs.related_from.Tie as tie
+
+abbrev Inv-loop : tie.InvT-loop
+Inv-loop s rows out₀ i₀ out i = (i ≤ 32) × ((b : Name) → member out b ≡ anyBelow i (λ a. member s (element a) && relates rows a b))
+
+abbrev μ-loop : tie.MeasureT-loop
+μ-loop s rows out₀ i₀ out i = 32 - i
+
+empty-requires : tie.Need-empty-requires Inv-loop μ-loop
+empty-requires c κs = search needs
+
+loop-holds : tie.Need-loop-holds Inv-loop μ-loop
+loop-holds c = (omega arith, c .empty .ensures)
+
+mul-row : tie.Need-mul-row Inv-loop μ-loop
+mul-row c = search needs
+
+array-copy-out-row : tie.Need-array-copy-out-row Inv-loop μ-loop
+array-copy-out-row c = search needs
+
+grown-requires : tie.Need-grown-requires Inv-loop μ-loop
+grown-requires c κs = search needs
+
+add-i : tie.Need-add-i Inv-loop μ-loop
+add-i c = search needs
+
+loop-less : tie.Need-loop-less Inv-loop μ-loop
+loop-less c = search needs
+
+loop-again : tie.Need-loop-again Inv-loop μ-loop
+loop-again c =
+    let at = c .before .before .before .loop in
+    let args = c .before .before .before .before .before .args in (
+      omega arith,
+      λ b. c .grown .ensures b ∙ rw add-one (ap (λ (t : Bool). t || (member (args .s) (element (at .i)) && relates (args .t1) (at .i) b)) (at .inv .1 b)),
+    )
+
+returns : tie.Need-returns Inv-loop μ-loop
+returns c b =
+    let at = c .before .loop in
+    let args = c .before .before .before .args in
+    let last : at .i ≡ 32 = omega arith in
+    at .inv .1 b ∙ ap (λ (i : ℕ). anyBelow i (λ a. member (args .s) (element a) && relates (args .t1) a b)) last
+
+pub related-from-spec : {M : Type 1} → statement M
+related-from-spec =
+    tie.close
+    (tie.spec
+    Inv-loop
+    μ-loop
+    empty-requires
+    loop-holds
+    mul-row
+    array-copy-out-row
+    grown-requires
+    add-i
+    loop-less
+    loop-again
+    returns)

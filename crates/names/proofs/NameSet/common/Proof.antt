@@ -1,0 +1,13 @@
+-- `names::NameSet::common` meets its contract, by a law of each bit. Assumes nothing.
+use mathlib.Core.Bool.{_&&_}
+use lib.Bits.{bitAnd}
+use Rattle.words.specs.Bits.{bit-and}
+use Rattle.names.proofs.Words.{on-names}
+use Rattle.names.proofs.NameSet.common.Statement.{statement}
+use Rattle.names.proofs.NameSet.common.Tie as tie
+
+returns : tie.Need-returns
+returns c = on-names (λ a b. bitAnd a b) (λ x y. x && y) bit-and (c .before .before .before .before .args .self) (c .before .before .before .before .args .other)
+
+pub common-spec : {M : Type 1} → statement M
+common-spec = tie.close (tie.spec returns)

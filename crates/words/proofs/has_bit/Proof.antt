@@ -1,0 +1,19 @@
+-- `words::has_bit` meets its contract: at 64 and past it, a word has no bit. Assumes nothing.
+use mathlib.Core.Path.{sym}
+use native.Mathlib.Omega.{arith}
+use borrow.Author.Needs.{needs}
+use Rattle.words.specs.Bits.{bit-past}
+use Rattle.words.proofs.has_bit.Statement.{statement}
+use Rattle.words.proofs.has_bit.Tie as tie
+
+shr-result : tie.Need-shr-result
+shr-result c = search needs
+
+returns : tie.Need-returns
+returns c = search needs
+
+returns-2 : tie.Need-returns-2
+returns-2 c = sym (bit-past 64 (c .before .args .word) (c .before .args .i) (omega arith) (omega arith))
+
+pub has-bit-spec : {M : Type 1} → statement M
+has-bit-spec = tie.close (tie.spec shr-result returns returns-2)

@@ -1,0 +1,40 @@
+-- Whether some number below a bound passes a test. Assumes nothing.
+use mathlib.Core.Bool.{Bool, true, false, _||_}
+use mathlib.Core.Logic.{⊎-elim}
+use mathlib.Core.Path.{_≡_, refl, ap₂, subst}
+use Prim.Native.Nat.{ℕ, zero, suc, _<_}
+use native.Mathlib.Omega.{arith}
+use lib.Dec.{T, eqb, eqb→eq, eqb-refl}
+use Rattle.text_laws.specs.Tests.{or-left, or-right, or-cases, decided}
+
+-- two tests that pass together are equal
+pub same-test : (a b : Bool) → (T a → T b) → (T b → T a) → a ≡ b
+same-test true true f g = refl
+same-test true false f g = absurd (f tt)
+same-test false true f g = absurd (g tt)
+same-test false false f g = refl
+
+abbrev pub anyBelow : ℕ → (ℕ → Bool) → Bool
+anyBelow zero f = false
+anyBelow (suc n) f = anyBelow n f || f n
+
+pub any-below : (n : ℕ) (f : ℕ → Bool) (i : ℕ) → i < n → T (f i) → T (anyBelow n f)
+any-below zero f i h t = absurd (omega arith)
+any-below (suc n) f i h t =
+    ⊎-elim (λ e. or-right (anyBelow n f) (f n) (subst (λ (j : ℕ). T (f j)) (eqb→eq i n e) t))
+    (λ d. or-left (anyBelow n f) (f n) (any-below n f i (less (λ q. d (subst (λ (j : ℕ). T (eqb i j)) q (eqb-refl i)))) t)) (decided (eqb i n))
+  where
+    less : (i ≡ n → ⊥) → i < n
+    less d = omega arith
+
+pub below-any : (n : ℕ) (f : ℕ → Bool) → T (anyBelow n f) → (i : ℕ) × (i < n) × T (f i)
+below-any zero f t = absurd t
+below-any (suc n) f t =
+    ⊎-elim (λ h.
+    let r = below-any n f h in
+    (r .0, omega arith, r .2)) (λ h. (n, omega arith, h)) (or-cases (anyBelow n f) (f n) t)
+
+-- tests that agree below the bound
+pub any-cong : (n : ℕ) (f g : ℕ → Bool) → ((i : ℕ) → i < n → f i ≡ g i) → anyBelow n f ≡ anyBelow n g
+any-cong zero f g h = refl
+any-cong (suc n) f g h = ap₂ _||_ (any-cong n f g (λ i l. h i (omega arith))) (h n (omega arith))
