@@ -171,7 +171,6 @@ has-word names s c {n} i t = ⊎-elim (λ h. has-in n s h) (λ h. absurd (unset 
         h (subst (λ (m : Name). T (has m s)) (sym (c .apart n (r .0) i (f .0) (r .2))) (f .1))) in
         subst (λ (x : ℕ). T (eqb x 1)) clear t
 
-<<<<<<< HEAD
 -- no other bit is set
 pub word-named : (names s : Names) → Coded names → (i : ℕ) → T (hasBit (wordOfSet names s) i) → (n : Name) × In n names × In n s × (i ≡ codeOf n)
 unfolding wordOfSet
@@ -185,16 +184,14 @@ word-named names s c i t = pick (decided (anyOf (eqb i) (map codeOf (within name
         (r .0, f .0, has-in (r .0) s (f .1), eqb→eq i (a .0) (a .2) ∙ r .2)
     pick (inr n) =
         absurd (subst (λ (x : ℕ). T (eqb x 1)) (set-bits names s c i .1 (λ j. n (any-in (eqb i) j (eqb-refl i)))) t)
-=======
+
 -- a bit that is no name's is clear
 pub word-clear : (names s : Names) → Coded names → (i : ℕ) → ((n : Name) → In n names → codeOf n ≡ i → ⊥) → hasBit (wordOfSet names s) i ≡ false
-unfolding wordOfSet
 word-clear names s c i other =
-    ap (λ (x : ℕ). eqb x 1)
-    (set-bits names s c i .1 (λ j.
-    let r = map-in codeOf (within names s) j in
-    other (r .0) (filter-in (λ n. has n s) names (r .1) .0) (sym (r .2))))
->>>>>>> 043c7b2d2e956c1e7c0ab3ac6853e7f1e302569e
+    false-of (hasBit (wordOfSet names s) i)
+    (λ t.
+    let r = word-named names s c i t in
+    other (r .0) (r .1) (sym (r .3)))
 
 -- a set that is handed back and in again is the same, but for what is no name
 pub setOfWord-wordOfSet : (names s : Names) → Coded names → setOfWord names (wordOfSet names s) ≡ within names s
