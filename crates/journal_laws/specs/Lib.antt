@@ -3,3 +3,4 @@ pub mod Events
 pub mod Derivations
 pub mod Fillings
 pub mod Accepted
+pub mod Passes
