@@ -4,3 +4,4 @@ pub mod Derivations
 pub mod Fillings
 pub mod Accepted
 pub mod Passes
+pub mod Spellings

@@ -332,7 +332,7 @@ ran-solid r k x = by (r .solid)
     by none = refl
     by (some j) = refl
 
-entity-passes : {e : List ℕ} (r : Run) (c k : ℕ) → Entity e → Passes (inData r c) k e (inData (solidBy r k) 0) []
+pub entity-passes : {e : List ℕ} (r : Run) (c k : ℕ) → Entity e → Passes (inData r c) k e (inData (solidBy r k) 0) []
 unfolding modeAfter eventsOver lex
 entity-passes r c k lt = record { mode = refl; events = refl }
 entity-passes r c k gt = record { mode = refl; events = refl }
@@ -340,7 +340,7 @@ entity-passes r c k amp = record { mode = refl; events = refl }
 entity-passes r c k apos = record { mode = refl; events = refl }
 entity-passes r c k quot = record { mode = refl; events = refl }
 
-entity-resets : {e : List ℕ} (c : ℕ) (w : List ℕ) → Entity e → noEnd c (e ++ w) ≡ noEnd 0 w
+pub entity-resets : {e : List ℕ} (c : ℕ) (w : List ℕ) → Entity e → noEnd c (e ++ w) ≡ noEnd 0 w
 entity-resets c w lt = refl
 entity-resets c w gt = refl
 entity-resets c w amp = refl
@@ -354,7 +354,7 @@ entity-solid k w amp = refl
 entity-solid k w apos = refl
 entity-solid k w quot = refl
 
-plain-parts : (b : ℕ) → T (isPlain b) → (eqb b 0x3C ≡ false) × (eqb b 0x26 ≡ false)
+pub plain-parts : (b : ℕ) → T (isPlain b) → (eqb b 0x3C ≡ false) × (eqb b 0x26 ≡ false)
 plain-parts b t =
     let n = not-elim (eqb b 0x3C || eqb b 0x26) t in
     (false-of (eqb b 0x3C) (λ h. n (or-left (eqb b 0x3C) (eqb b 0x26) h)), false-of (eqb b 0x26) (λ h. n (or-right (eqb b 0x3C) (eqb b 0x26) h)))
@@ -396,11 +396,11 @@ data-passes r c k (entity {e = e} {w = w} h p) t =
     let f : ranOn (solidBy r k) (k + length e) w ≡ ranOn r k (e ++ w) = ran-solid r k (solidFrom (k + length e) w) ∙ rw (entity-solid k w h) in
     (i .0, subst (λ (x : Run). Passes (inData r c) k (e ++ w) (inData x (i .0)) []) f (passes-append k e w (entity-passes r c k h) (i .1)))
 
-abbrev NotTag : List ℕ → Type 0
+abbrev pub NotTag : List ℕ → Type 0
 NotTag [] = Unit {0}
 NotTag (b ∷ w) = eqb b 0x3C ≡ false
 
-pieces-not-tag : {w : List ℕ} → Pieces w → NotTag w
+pub pieces-not-tag : {w : List ℕ} → Pieces w → NotTag w
 pieces-not-tag no-piece = tt
 pieces-not-tag (plain {b = b} h p) = plain-parts b h .0
 pieces-not-tag (entity lt p) = refl
@@ -443,7 +443,7 @@ data-ends-mode r c k start-next = refl
 data-ends-mode r c k empty-next = refl
 data-ends-mode r c k end-next = refl
 
-tag-opens : (k : ℕ) → lex between k 0x3C ≡ goes (opened k)
+pub tag-opens : (k : ℕ) → lex between k 0x3C ≡ goes (opened k)
 unfolding lex
 tag-opens k = refl
 
