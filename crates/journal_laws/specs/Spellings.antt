@@ -5,12 +5,12 @@ use mathlib.Core.Logic.{_⊎_, inl, inr}
 use mathlib.Core.Option.{Option, none, some}
 use mathlib.Core.Path.{_≡_, refl, sym, ap, subst, _∙_}
 use Prim.Native.Nat.{ℕ, zero, suc, _+_, _-_, _≤_, _<_}
-use native.Mathlib.Nat.{add-zero}
+use native.Mathlib.Nat.{add-zero, zero-add}
 use native.Mathlib.Omega.{arith}
 use lib.Dec.{T, eqb, leb, ltb, eqb→eq, eqb-refl, lt→ltb, le→leb, leb→le, ltb→lt}
 use lib.ListN.{length, drop, length-append}
 use Rattle.journal_laws.specs.Events.{told, eventsFrom, modeAfter}
-use Rattle.journal_laws.specs.Passes.{Passes, passes-none, passes-byte, passes-append, passes-mode, passes-events, tokenEvents, whole-tag-passes, noEnd, brackets, brackets-more, brackets-end, last-two, no-end-means, means-no-end, data-lex, between-lex, entity-resets, tag-spelling, tagRest, pieces-not-tag, plain-parts, entity-passes, tag-opens, blank-cases}
+use Rattle.journal_laws.specs.Passes.{mode-append, Passes, passes-none, passes-byte, passes-append, passes-mode, passes-events, tokenEvents, whole-tag-passes, noEnd, brackets, brackets-more, brackets-end, last-two, no-end-means, means-no-end, data-lex, between-lex, entity-resets, tag-spelling, tagRest, pieces-not-tag, plain-parts, entity-passes, tag-opens, blank-cases}
 use Rattle.journal_spec.specs.Conditions.{Stretch, nothing-yet, a-tag, a-byte, an-entity, MisspeltHere, bad-tag, bad-entity, section-end, Misspelt}
 use Rattle.journal_spec.specs.Lexer.{Run, run, Mode, between, inData, inEntity, opened, inName, afterName, afterSlash, ending, inEndName, afterEndName, stopped, Event, quiet, starts, empties, ends, runs, Lexed, goes, tells, solidBy, tailsWith, dataByte, entityByte, lex, lastEvent, misspeltAt, tagByte, endTagByte, longer}
 use Rattle.journal_spec.specs.Tokens.{Token, startTag, emptyTag, endTag, characters, spellToken, spell, entities, Entity, lt, gt, amp, apos, quot, isPlain, Pieces, none as no-piece, plain, entity, sectionEnd, NoSectionEnd, Spelt, start-spelt, empty-spelt, end-spelt, characters-spelt, TagNext, no-token, start-next, empty-next, end-next, AllSpelt, none as all-none, tag, data-then, Tokens}
@@ -463,6 +463,16 @@ plain-byte b e f = not-intro (eqb b 0x3C || eqb b 0x26) (λ t. by (or-cases (eqb
     by (inl t) = failed e t
     by (inr t) = failed f t
 
+no-entity-yet : NoneYet (0x26 ∷ [])
+no-entity-yet e r i q = by i q
+  where
+    by : {x : List ℕ} → Entity x → 0x26 ∷ [] ≡ x ++ r → ⊥
+    by lt z = let y : _≡_ {A = ℕ} 0 1 = cc in omega arith
+    by gt z = let y : _≡_ {A = ℕ} 0 1 = cc in omega arith
+    by amp z = let y : _≡_ {A = ℕ} 0 1 = cc in omega arith
+    by apos z = let y : _≡_ {A = ℕ} 0 1 = cc in omega arith
+    by quot z = let y : _≡_ {A = ℕ} 0 1 = cc in omega arith
+
 data-claim : (bs : List ℕ) → Claims bs → (r : Run) (c j k b : ℕ) → j + c ≡ k → DataReading j (brackets c ++ (b ∷ bs)) (M (lex (inData r c) k b .mode) (suc k) bs)
 unfolding lex
 data-claim bs claims r c j k b h =
@@ -484,16 +494,6 @@ data-claim bs claims r c j k b h =
   where
     P : Mode → Type 0
     P m = DataReading j (brackets c ++ (b ∷ bs)) (M m (suc k) bs)
-
-    no-entity-yet : NoneYet (0x26 ∷ [])
-    no-entity-yet e r i q = by i q
-      where
-        by : {x : List ℕ} → Entity x → 0x26 ∷ [] ≡ x ++ r → ⊥
-        by lt z = let y : _≡_ {A = ℕ} 0 1 = cc in omega arith
-        by gt z = let y : _≡_ {A = ℕ} 0 1 = cc in omega arith
-        by amp z = let y : _≡_ {A = ℕ} 0 1 = cc in omega arith
-        by apos z = let y : _≡_ {A = ℕ} 0 1 = cc in omega arith
-        by quot z = let y : _≡_ {A = ℕ} 0 1 = cc in omega arith
 
     section : T (eqb b 0x3E && leb 2 c) → P (stopped (k - 2))
     section t =
@@ -544,3 +544,197 @@ one-byte-more b bs claims =
 claims-of : (bs : List ℕ) → Claims bs
 claims-of [] = no-bytes
 claims-of (b ∷ bs) = one-byte-more b bs (claims-of bs)
+
+-- ---- the place of refusal 11 is the least
+
+data OpenMode : Mode → Type 0 where
+  open-between : OpenMode between
+  open-data : {r : Run} {c : ℕ} → OpenMode (inData r c)
+
+-- between tokens the next byte is read as the first of a run would be
+record AsData (m : Mode) (k : ℕ) : Type 0 where
+  run-so-far : Run
+  count : ℕ
+  reads-on : (b : ℕ) (w : List ℕ) → modeAfter m k (b ∷ w) ≡ modeAfter (inData run-so-far count) k (b ∷ w)
+
+as-data : {m : Mode} (k : ℕ) → OpenMode m → AsData m k
+unfolding modeAfter
+as-data k open-between = record { run-so-far = run k none; count = 0; reads-on = λ b w. ap (λ (m : Mode). modeAfter m (suc k) w) (between-mode k b) }
+as-data k (open-data {r = r} {c = c}) = record { run-so-far = r; count = c; reads-on = λ b w. refl }
+
+data Through (m : Mode) (k : ℕ) (u : List ℕ) : Type 0 where
+  comes-through : {a : Mode} → OpenMode a → modeAfter m k u ≡ a → Through m k u
+  stops-before : (i : ℕ) → i ≤ k + length u → modeAfter m k u ≡ stopped i → Through m k u
+
+through-append : {m a : Mode} (k : ℕ) (u v : List ℕ) → modeAfter m k u ≡ a → Through a (k + length u) v → Through m k (u ++ v)
+through-append {m} k u v e (comes-through o h) = comes-through o (mode-append m k u v ∙ ap (λ (x : Mode). modeAfter x (k + length u) v) e ∙ h)
+through-append {m} k u v e (stops-before i l h) =
+    let n : length (u ++ v) ≡ length u + length v = length-append u v in
+    stops-before i (omega arith) (mode-append m k u v ∙ ap (λ (x : Mode). modeAfter x (k + length u) v) e ∙ h)
+
+through-stopped : {m : Mode} (k i : ℕ) (u v : List ℕ) → i ≤ k → modeAfter m k u ≡ stopped i → Through m k (u ++ v)
+through-stopped {m} k i u v l e =
+    stops-before i (omega arith) (mode-append m k u v ∙ ap (λ (x : Mode). modeAfter x (k + length u) v) e ∙ stopped-mode i (k + length u) v)
+
+plain-mode : (r : Run) (c k b : ℕ) → T (isPlain b) → OpenMode (lex (inData r c) k b .mode) ⊎ (lex (inData r c) k b .mode ≡ stopped (k - 2))
+plain-mode r c k b h =
+    let p = plain-parts b h in
+    subst (λ (l : Lexed). OpenMode (l .mode) ⊎ (l .mode ≡ stopped (k - 2))) (sym (data-lex r c k b (p .0)))
+    (cond-cases P (isBlank b) _ _ (λ e. inl open-data)
+    (λ e. cond-cases P (eqb b 0x26) _ _ (λ f. let z : _≡_ {A = ℕ} 0 1 = cc (p .1) in absurd (omega arith))
+    (λ f. cond-cases P (eqb b 0x5D) _ _ (λ g. inl open-data) (λ g. cond-cases P (eqb b 0x3E && leb 2 c) _ _ (λ i. inr refl) (λ i. inl open-data)))))
+  where
+    P : Mode → Type 0
+    P m = OpenMode m ⊎ (m ≡ stopped (k - 2))
+
+tag-mode : {m : Mode} {t : Token} (k : ℕ) → OpenMode m → TagNext (t ∷ []) → Spelt t → modeAfter m k (spellToken t) ≡ between
+unfolding modeAfter lex
+tag-mode {t = t} k open-between n s = whole-tag-passes k n s .mode
+tag-mode {t = t} k (open-data {r = r} {c = c}) n s =
+    ap (λ (w : List ℕ). modeAfter (inData r c) k w) (tag-spelling t n) ∙ ap (λ (w : List ℕ). modeAfter between k w) (sym (tag-spelling t n)) ∙ whole-tag-passes k n s .mode
+
+entity-mode : {m : Mode} {e : List ℕ} (k : ℕ) → OpenMode m → Entity e → (a : Mode) × OpenMode a × (modeAfter m k e ≡ a)
+entity-mode {m} k o h =
+    let d = as-data k o in
+    (inData (solidBy (d .run-so-far) k) 0, open-data, by h d)
+  where
+    by : {e : List ℕ} → Entity e → (d : AsData m k) → modeAfter m k e ≡ inData (solidBy (d .run-so-far) k) 0
+    by lt d = d .reads-on _ _ ∙ entity-passes (d .run-so-far) (d .count) k lt .mode
+    by gt d = d .reads-on _ _ ∙ entity-passes (d .run-so-far) (d .count) k gt .mode
+    by amp d = d .reads-on _ _ ∙ entity-passes (d .run-so-far) (d .count) k amp .mode
+    by apos d = d .reads-on _ _ ∙ entity-passes (d .run-so-far) (d .count) k apos .mode
+    by quot d = d .reads-on _ _ ∙ entity-passes (d .run-so-far) (d .count) k quot .mode
+
+one-mode : (m : Mode) (k b : ℕ) → modeAfter m k (b ∷ []) ≡ lex m k b .mode
+unfolding modeAfter
+one-mode m k b = refl
+
+stretch-through : {m : Mode} {u : List ℕ} (k : ℕ) → OpenMode m → Stretch u → Through m k u
+unfolding modeAfter
+stretch-through k o nothing-yet = comes-through o refl
+stretch-through k o (a-tag {t = t} {w = w} n s h) = through-append k (spellToken t) w (tag-mode k o n s) (stretch-through (k + length (spellToken t)) open-between h)
+stretch-through k o (an-entity {e = e} {w = w} i h) =
+    let g = entity-mode k o i in
+    through-append k e w (g .2) (stretch-through (k + length e) (g .1) h)
+stretch-through {m} k o (a-byte {b = b} {w = w} p h) = by (plain-mode (as-data k o .run-so-far) (as-data k o .count) k b p) (λ a q. stretch-through (k + 1) q h)
+  where
+    first : modeAfter m k (b ∷ []) ≡ lex (inData (as-data k o .run-so-far) (as-data k o .count)) k b .mode
+    first = as-data k o .reads-on b [] ∙ one-mode (inData (as-data k o .run-so-far) (as-data k o .count)) k b
+
+    by : OpenMode (lex (inData (as-data k o .run-so-far) (as-data k o .count)) k b .mode) ⊎ (lex (inData (as-data k o .run-so-far) (as-data k o .count)) k b .mode ≡ stopped (k - 2))
+        → ((a : Mode) → OpenMode a → Through a (k + 1) w) → Through m k (b ∷ w)
+    by (inl q) rest = through-append k (b ∷ []) w first (rest _ q)
+    by (inr e) rest = through-stopped k (k - 2) (b ∷ []) w (omega arith) (first ∙ e)
+
+different-first : (b c : ℕ) (u v : List ℕ) → eqb b c ≡ false → b ∷ u ≡ c ∷ v → ⊥
+different-first b c u v d e =
+    let z : b ≡ c = cc in
+    failed d (subst (λ (x : ℕ). T (eqb b x)) z (eqb-refl b))
+
+-- where no tag begins at a `<`, or no entity at an `&`, nothing is passed over
+no-tag-place : (j : ℕ) (w : List ℕ) {ms : List ℕ} → ((t : Token) (r : List ℕ) → TagNext (t ∷ []) → Spelt t → 0x3C ∷ w ≡ spellToken t ++ r → ⊥) → Reading j (0x3C ∷ w) ms → ms ≡ j ∷ []
+no-tag-place j w h (spelled a e) = absurd (by (tag-first w a e) a e)
+  where
+    by : {ts : List Token} → TagNext ts → AllSpelt ts → 0x3C ∷ w ≡ spell ts → ⊥
+    by no-token all-none e = let z : _≡_ {A = ℕ} 0 1 = cc in omega arith
+    by start-next (tag {t = t} {ts = ts} n s b) e = h t (spell ts) n s e
+    by empty-next (tag {t = t} {ts = ts} n s b) e = h t (spell ts) n s e
+    by end-next (tag {t = t} {ts = ts} n s b) e = h t (spell ts) n s e
+no-tag-place j w h (misspelled i u v a m e p) = by a e p
+  where
+    by : {x : List ℕ} → Stretch x → 0x3C ∷ w ≡ x ++ v → i ≡ j + length x → i ∷ [] ≡ j ∷ []
+    by nothing-yet q z = ap (λ (y : ℕ). y ∷ []) (z ∙ add-zero j)
+    by (a-tag {t = t} {w = x} n s b) q z = absurd (h t (x ++ v) n s (q ∙ append-assoc (spellToken t) x v))
+    by (a-byte {b = b} g o) q z =
+        let y : 0x3C ≡ b = cc in
+        absurd (failed (plain-parts b g .0) (subst (λ (c : ℕ). T (eqb c 0x3C)) y tt))
+    by (an-entity lt o) q z = absurd (different-first 0x3C 0x26 w _ refl q)
+    by (an-entity gt o) q z = absurd (different-first 0x3C 0x26 w _ refl q)
+    by (an-entity amp o) q z = absurd (different-first 0x3C 0x26 w _ refl q)
+    by (an-entity apos o) q z = absurd (different-first 0x3C 0x26 w _ refl q)
+    by (an-entity quot o) q z = absurd (different-first 0x3C 0x26 w _ refl q)
+
+no-entity-place : (j : ℕ) (w : List ℕ) {ms : List ℕ} → ((e r : List ℕ) → Entity e → 0x26 ∷ w ≡ e ++ r → ⊥) → DataReading j (0x26 ∷ w) ms → ms ≡ j ∷ []
+no-entity-place j w h (data-spelled {ts = ts} p n t a e) = absurd (by p t e)
+  where
+    by : {x : List ℕ} {us : List Token} → Pieces x → TagNext us → 0x26 ∷ w ≡ x ++ spell us → ⊥
+    by no-piece no-token q = let y : _≡_ {A = ℕ} 0 1 = cc in omega arith
+    by no-piece start-next q = different-first 0x26 0x3C w _ refl q
+    by no-piece empty-next q = different-first 0x26 0x3C w _ refl q
+    by no-piece end-next q = different-first 0x26 0x3C w _ refl q
+    by (plain {b = b} g o) z q =
+        let y : 0x26 ≡ b = cc in
+        failed (plain-parts b g .1) (subst (λ (c : ℕ). T (eqb c 0x26)) y tt)
+    by {us = us} (entity {e = x} {w = r} g o) z q = h x (r ++ spell us) g (q ∙ append-assoc x r (spell us))
+no-entity-place j w h (data-misspelled i u v a m e p) = by a e p
+  where
+    by : {x : List ℕ} → Stretch x → 0x26 ∷ w ≡ x ++ v → i ≡ j + length x → i ∷ [] ≡ j ∷ []
+    by nothing-yet q z = ap (λ (y : ℕ). y ∷ []) (z ∙ add-zero j)
+    by (a-tag {t = t} {w = x} n s b) q z =
+        absurd (different-first 0x26 0x3C w (tagRest t ++ (x ++ v)) refl (q ∙ append-assoc (spellToken t) x v ∙ ap (λ (l : List ℕ). l ++ (x ++ v)) (tag-spelling t n)))
+    by (a-byte {b = b} g o) q z =
+        let y : 0x26 ≡ b = cc in
+        absurd (failed (plain-parts b g .1) (subst (λ (c : ℕ). T (eqb c 0x26)) y tt))
+    by (an-entity {e = x} {w = r} g o) q z = absurd (h x (r ++ v) g (q ∙ append-assoc x r v))
+
+section-mode : (r : Run) (c j : ℕ) (w : List ℕ) → modeAfter (inData r c) j (sectionEnd ++ w) ≡ stopped j
+unfolding modeAfter lex
+section-mode r c j w =
+    let e : leb 2 (suc (suc c)) ≡ true = true-of (leb 2 (suc (suc c))) (le→leb 2 (suc (suc c)) (omega arith)) in
+    let f : suc (suc j) - 2 ≡ j = omega arith in
+    rw e (stopped-mode (suc (suc j) - 2) (suc (suc (suc j))) w ∙ ap (λ (i : ℕ). stopped i) f)
+
+misspelt-found : {m : Mode} {v : List ℕ} (j : ℕ) → OpenMode m → MisspeltHere v → misspeltAt (modeAfter m j v) ≡ j ∷ []
+unfolding modeAfter lex
+misspelt-found j o (bad-tag {w = w} h) =
+    let d = as-data j o in
+    ap misspeltAt (d .reads-on 0x3C w)
+    ∙ no-tag-place j w h (claims-of w .at-tag j (0x3C ∷ []) (suc j) after-bracket (passes-byte j 0x3C [] (tag-opens j) (passes-none (opened j) (suc j))) (omega arith))
+misspelt-found j o (bad-entity {w = w} h) =
+    let d = as-data j o in
+    ap misspeltAt (d .reads-on 0x26 w)
+    ∙ no-entity-place j w h (claims-of w .at-entity (map (drop 1) entities) j (solidBy (d .run-so-far) j) [] (suc j) first-match no-entity-yet (omega arith))
+misspelt-found j o (section-end w) =
+    let d = as-data j o in
+    ap misspeltAt (d .reads-on 0x5D (0x5D ∷ 0x3E ∷ w) ∙ section-mode (d .run-so-far) (d .count) j w)
+
+-- ---- theorems
+
+-- A text in which the lexer finds nothing misspelt is spelt by tokens.
+pub unmisspelt-tokens : (lent : List ℕ) → misspeltAt (modeAfter between 0 lent) ≡ [] → (ts : List Token) × Tokens lent ts
+unmisspelt-tokens lent e = by (claims-of lent .at-between 0) e
+  where
+    by : {ms : List ℕ} → Reading 0 lent ms → ms ≡ [] → (ts : List Token) × Tokens lent ts
+    by (spelled {ts = ts} a f) z = (ts, record { spelt = a; joined = f })
+    by (misspelled j u v a m f p) z = let y : _≡_ {A = ℕ} 0 1 = cc in absurd (omega arith)
+
+-- Where the lexer finds a text misspelt, refusal 11 applies.
+pub misspelt-applies : (lent : List ℕ) (k : ℕ) → In k (misspeltAt (modeAfter between 0 lent)) → Misspelt lent k
+misspelt-applies lent k i = by (claims-of lent .at-between 0) i
+  where
+    by : {ms : List ℕ} → Reading 0 lent ms → In k ms → Misspelt lent k
+    by (spelled a f) j = elim j [ ]
+    by (misspelled j u v a m f p) (here z) =
+        let q : length u ≡ k = (let w : 0 + length u ≡ length u = zero-add (length u) in cc) in
+        record { before = u; after = v; joined = f; placed = q; spelt = a; fault = m }
+    by (misspelled j u v a m f p) (there z) = elim z [ ]
+
+-- Where refusal 11 applies, the lexer finds the text misspelt there or before.
+pub misspelt-least : (lent : List ℕ) (k : ℕ) → Misspelt lent k → (j : ℕ) × In j (misspeltAt (modeAfter between 0 lent)) × (j ≤ k)
+misspelt-least lent k h = by (stretch-through 0 open-between (h .spelt))
+  where
+    whole : modeAfter between 0 lent ≡ modeAfter (modeAfter between 0 (h .before)) (0 + length (h .before)) (h .after)
+    whole = ap (λ (w : List ℕ). modeAfter between 0 w) (h .joined) ∙ mode-append between 0 (h .before) (h .after)
+
+    place : 0 + length (h .before) ≡ k
+    place = zero-add (length (h .before)) ∙ h .placed
+
+    by : Through between 0 (h .before) → (j : ℕ) × In j (misspeltAt (modeAfter between 0 lent)) × (j ≤ k)
+    by (comes-through {a = a} o e) =
+        let z : misspeltAt (modeAfter between 0 lent) ≡ (0 + length (h .before)) ∷ [] =
+        ap misspeltAt (whole ∙ ap (λ (m : Mode). modeAfter m (0 + length (h .before)) (h .after)) e) ∙ misspelt-found (0 + length (h .before)) o (h .fault) in
+        (0 + length (h .before), subst (λ (l : List ℕ). In (0 + length (h .before)) l) (sym z) (here refl), omega arith)
+    by (stops-before i l e) =
+        let z : misspeltAt (modeAfter between 0 lent) ≡ i ∷ [] =
+        ap misspeltAt (whole ∙ ap (λ (m : Mode). modeAfter m (0 + length (h .before)) (h .after)) e ∙ stopped-mode i (0 + length (h .before)) (h .after)) in
+        (i, subst (λ (x : List ℕ). In i x) (sym z) (here refl), omega arith)
