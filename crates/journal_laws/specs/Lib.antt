@@ -5,3 +5,4 @@ pub mod Fillings
 pub mod Accepted
 pub mod Passes
 pub mod Spellings
+pub mod Walks
