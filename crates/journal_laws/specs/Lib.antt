@@ -6,3 +6,4 @@ pub mod Accepted
 pub mod Passes
 pub mod Spellings
 pub mod Walks
+pub mod Nesting

@@ -300,6 +300,9 @@ parted-join [] vs more p t q = q
 parted-join (x ∷ us) vs more (tag-part n p) t q = tag-part n (parted-join us vs more p t q)
 parted-join (x ∷ us) vs more (data-part n p) t q = data-part (tags-join us vs more n t) (parted-join us vs more p t q)
 
+pub parted-first : (us vs : List Token) → Parted (us ++ vs) → Parted us
+parted-first us vs p = subst Parted (append-nil us) (parted-join us vs [] p no-token no-parts)
+
 pub walk-beginning : {ms : List (List ℕ)} {q : Bool} (us vs : List Token) → Parted (us ++ vs) → Walks [] false us ms q → NestedBeginning us
 walk-beginning {q = q} us vs p w =
     let c = closing q (walk-rooted w unopened) in
