@@ -409,3 +409,133 @@ module _ (s : Schema) where
           let z : at overDepth (length (spell (b .before))) ≡ f = is (b .breaks-there) h in
           let d : openAfter 0 (b .before) ≡ maxDepth = (let d1 : length (tokensBuilt s 0 (b .before) start .opens) ≡ openAfter 0 (b .before) = b .depth in let d2 : length (tokensBuilt s 0 (b .before) start .opens) ≤ maxDepth = b .bounded in omega arith) in
           inr (ap (λ (x : Refusal). x .reason) (sym z), subst (λ (x : Refusal). TooDeep lent (x .place)) z (too-deep (b .before) (b .after) parts (b .beginning) d g))
+
+  -- a building that ends unbroken, but with an element open or without a root: refusal 12 applies at the end
+  pub early-applies : {lent : List ℕ} {ts : List Token} → Tokens lent ts → fromTokens s ts .broken ≡ none → ((fromTokens s ts .opens ≡ []) → (fromTokens s ts .rooted ≡ true) → ⊥)
+      → Misnested lent (length lent)
+  early-applies {lent} {ts} t e n =
+      let w = builds-walk s 0 ts start refl e in
+      ends-early t (walk-beginning ts [] (subst Parted (sym (append-nil ts)) (spelt-parted (t .spelt))) (w .0)) (w .1) (λ k m c h. ends (w .1) h)
+    where
+      nothing-open : (os : List Open) → names os ≡ [] → os ≡ []
+      nothing-open [] q = refl
+      nothing-open (o ∷ os) q = let z : _≡_ {A = ℕ} 0 1 = cc in absurd (omega arith)
+
+      ends : {k : ℕ} {m : List ℕ} {c : Forest} → ShallowFrom 0 ts → Nested ts k m c → ⊥
+      ends h x =
+          let w = walk-builds s 0 ts start (record { unbroken = refl; open-names = refl; root-begun = refl }) (nested-walk x) h in
+          n (nothing-open (fromTokens s ts .opens) (w .open-names)) (w .root-begun)
+
+  built-past : (us vs : List Token) (t : Token) (f : Refusal) → tokenBuilt s (length (spell us)) t (tokensBuilt s 0 us start) .broken ≡ some f → fromTokens s (us ++ (t ∷ vs)) .broken ≡ some f
+  built-past us vs t f e =
+      let c = tokensBuilt s 0 us start in
+      let d = tokenBuilt s (length (spell us)) t c in
+      ap (λ (x : Building). x .broken)
+      (tokens-append s 0 us (t ∷ vs) start ∙ ap (λ (i : ℕ). tokensBuilt s i (t ∷ vs) c) (zero-add (length (spell us))) ∙ tokens-cons s (length (spell us)) t vs c
+      ∙ broken-stays s (eventsOf (length (spell us) + length (spellToken t)) vs) d f e)
+      ∙ e
+
+  -- where an element is open, each tag that begins one moves
+  deep-moves : {t : Token} {n : List ℕ} (os : List Open) (r : Bool) → Begins t n → maxDepth ≤ length os → ((ms : List (List ℕ)) (q : Bool) → Moves (names os) r t ms q → ⊥) → ⊥
+  deep-moves [] r b l h = omega arith
+  deep-moves {n = n} (o ∷ os) r by-start-tag l h = h (n ∷ names (o ∷ os)) true starts-in
+  deep-moves (o ∷ os) r by-empty-tag l h = h (names (o ∷ os)) true empty-in
+
+  -- what the builder finds where refusal 12 applies
+  pub record FoundUnnested (lent : List ℕ) (j : ℕ) : Type 0 where
+    pub tokens : List Token
+    pub spelt : Tokens lent tokens
+    pub found : (fromTokens s tokens .broken ≡ some (at badNesting j))
+        ⊎ ((fromTokens s tokens .broken ≡ none) × (j ≡ length lent) × ((fromTokens s tokens .opens ≡ []) → (fromTokens s tokens .rooted ≡ true) → ⊥))
+
+  no-continuation : {lent : List ℕ} (us vs : List Token) (t : Token) → Tokens lent (us ++ (t ∷ vs)) → tokensBuilt s 0 us start .broken ≡ none → (NestedBeginning (us ++ (t ∷ [])) → ⊥)
+      → (ms : List (List ℕ)) (q : Bool) → Moves (names (tokensBuilt s 0 us start .opens)) (tokensBuilt s 0 us start .rooted) t ms q → ⊥
+  no-continuation us vs t k e n ms q m =
+      n (walk-beginning (us ++ (t ∷ [])) vs (subst Parted (sym (append-assoc us (t ∷ []) vs)) (spelt-parted (k .spelt))) (walks-append (builds-walk s 0 us start refl e .0) (move m stays)))
+
+  pub misnested-found : {lent : List ℕ} {j : ℕ} → Misnested lent j → FoundUnnested lent j
+  misnested-found {lent} (offends {t = t} {j = j} us vs k b h n o) =
+      record { tokens = us ++ (t ∷ vs); spelt = k; found = inl (built-past us vs t (at badNesting (length (spell us) + j)) (by (token-acts s (length (spell us)) t c whole))) }
+    where
+      c : Building
+      c = tokensBuilt s 0 us start
+
+      whole : c .broken ≡ none
+      whole = beginning-walked us b h .unbroken
+
+      by : Acts (length (spell us)) (c .opens) (c .rooted) t (tokenBuilt s (length (spell us)) t c) → tokenBuilt s (length (spell us)) t c .broken ≡ some (at badNesting (length (spell us) + j))
+      by (goes-on g m d) = absurd (no-continuation us vs t k whole n (names (tokenBuilt s (length (spell us)) t c .opens)) (tokenBuilt s (length (spell us)) t c .rooted) m)
+      by (misnests i p g d) = g ∙ ap (λ (x : ℕ). some (at badNesting (length (spell us) + x))) (offends-once p o)
+      by (gets-too-deep x g l d) = absurd (deep-moves (c .opens) (c .rooted) g l (no-continuation us vs t k whole n))
+  misnested-found {lent} (ends-early {ts = ts} k b h n) =
+      record { tokens = ts; spelt = k; found = inr (beginning-walked ts b h .unbroken, refl, closed) }
+    where
+      closed : fromTokens s ts .opens ≡ [] → fromTokens s ts .rooted ≡ true → ⊥
+      closed e f =
+          let w = builds-walk s 0 ts start refl (beginning-walked ts b h .unbroken) .0 in
+          let v : Walks [] false ts [] true = subst (λ (x : Bool). Walks [] false ts [] x) f (subst (λ (x : List Open). Walks [] false ts (names x) (fromTokens s ts .rooted)) e w) in
+          let x = walk-nested (spelt-parted (k .spelt)) v in
+          n (x .0) (x .1) (x .2) (x .3)
+
+  -- what the builder finds where refusal 13 applies: this, or a refusal that comes first
+  pub record FoundDeep (lent : List ℕ) (j : ℕ) : Type 0 where
+    pub tokens : List Token
+    pub spelt : Tokens lent tokens
+    pub place : ℕ
+    pub found : (fromTokens s tokens .broken ≡ some (at badNesting place)) ⊎ ((fromTokens s tokens .broken ≡ some (at overDepth place)) × (place ≤ j))
+
+  pub too-deep-found : {lent : List ℕ} {j : ℕ} → TooDeep lent j → FoundDeep lent j
+  too-deep-found {lent} (too-deep {t = t} {n = n} us vs k b e g) = by (c .broken) refl
+    where
+      c : Building
+      c = tokensBuilt s 0 us start
+
+      whole : Building
+      whole = fromTokens s (us ++ (t ∷ vs))
+
+      place′ : ℕ
+      place′ = length (spell us)
+
+      now : c .broken ≡ none → Acts place′ (c .opens) (c .rooted) t (tokenBuilt s place′ t c) → tokenBuilt s place′ t c .broken ≡ some (at overDepth place′)
+      now q a = act a
+        where
+          deep : length (c .opens) ≡ maxDepth
+          deep = sym (names-length (c .opens)) ∙ sym (walk-depth (builds-walk s 0 us start refl q .0)) ∙ e
+
+          act : Acts place′ (c .opens) (c .rooted) t (tokenBuilt s place′ t c) → tokenBuilt s place′ t c .broken ≡ some (at overDepth place′)
+          act (goes-on x m d) =
+              let y : length (c .opens) < maxDepth = d n g in
+              let z : length (c .opens) ≡ maxDepth = deep in
+              absurd (omega arith)
+          act (misnests i p x d) =
+              let z : length (c .opens) ≡ maxDepth = deep in
+              absurd (deep-moves (c .opens) (c .rooted) g (omega arith) d)
+          act (gets-too-deep x y l d) = d
+
+      earlier : (f : Refusal) → c .broken ≡ some f → FoundDeep lent place′
+      earlier f q = act (r .acts)
+        where
+          r : Broken us f
+          r = broken-at us f (parted-first us (t ∷ vs) (spelt-parted (k .spelt))) q
+
+          final : whole .broken ≡ some f
+          final =
+              ap (λ (x : Building). x .broken)
+              (tokens-append s 0 us (t ∷ vs) start ∙ broken-stays s (eventsOf (0 + length (spell us)) (t ∷ vs)) c f q) ∙ q
+
+          act : Acts (length (spell (r .before))) (tokensBuilt s 0 (r .before) start .opens) (tokensBuilt s 0 (r .before) start .rooted) (r .breaker)
+              (tokenBuilt s (length (spell (r .before))) (r .breaker) (tokensBuilt s 0 (r .before) start))
+              → FoundDeep lent place′
+          act (goes-on x m d) = absurd (some-is-not-none f (r .breaks-there) x)
+          act (misnests i p x d) =
+              let z : some f ≡ some (at badNesting (length (spell (r .before)) + i)) = sym (r .breaks-there) ∙ x in
+              record { tokens = us ++ (t ∷ vs); spelt = k; place = length (spell (r .before)) + i; found = inl (final ∙ z) }
+          act (gets-too-deep x y l d) =
+              let z : some f ≡ some (at overDepth (length (spell (r .before)))) = sym (r .breaks-there) ∙ d in
+              let m : length (spell us) ≡ length (spell (r .before)) + length (spell (r .breaker ∷ r .after)) = ap (λ (u : List Token). length (spell u)) (r .joined) ∙ spell-length (r .before) (r .breaker ∷ r .after) in
+              record { tokens = us ++ (t ∷ vs); spelt = k; place = length (spell (r .before)); found = inr (final ∙ z, omega arith) }
+
+      by : (o : Option Refusal) → c .broken ≡ o → FoundDeep lent place′
+      by none q =
+          record { tokens = us ++ (t ∷ vs); spelt = k; place = place′; found = inr (built-past us vs t (at overDepth place′) (now q (token-acts s place′ t c q)), omega arith) }
+      by (some f) q = earlier f q
