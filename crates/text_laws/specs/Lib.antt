@@ -1,3 +1,6 @@
 pub mod Tests
 pub mod Lists
 pub mod Refusals
+pub mod Order
+pub mod Texts
+pub mod Departures

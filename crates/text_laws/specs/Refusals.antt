@@ -28,3 +28,12 @@ given-free true f e t =
     let z : _≡_ {A = ℕ} 0 1 = cc in
     omega arith
 given-free false f e t = t
+
+pub in-given : (b : Bool) {f g : Refusal} → T b → g ≡ f → In g (given b f)
+in-given true t e = here e
+in-given false t e = absurd t
+
+pub given-in : (b : Bool) (f g : Refusal) → In g (given b f) → T b × (g ≡ f)
+given-in true f g (here e) = (tt, e)
+given-in true f g (there i) = elim i [ ]
+given-in false f g i = elim i [ ]

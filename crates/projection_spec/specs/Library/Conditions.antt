@@ -1,25 +1,32 @@
 -- When refusals 1 and 18 apply, and the order in which texts are judged: no reader is mentioned. Assumes nothing.
-use mathlib.Core.List.{List, [], _∷_}
+use mathlib.Core.Bool.{Bool}
+use mathlib.Core.List.{List, [], _∷_, _++_, List·Memᴰ}
 use mathlib.Core.Logic.{_⊎_}
 use mathlib.Core.Option.{some}
 use mathlib.Core.Path.{_≡_}
-use Prim.Native.Nat.{ℕ, _<_, _≤_}
+use Prim.Native.Nat.{ℕ, suc, _<_, _≤_}
+use lib.Dec.{T}
 use lib.ListN.{length, getElem?}
 use Rattle.journal_spec.specs.Conditions.{JournalApplies, JournalGives}
 use Rattle.path_spec.specs.Conditions.{BundleApplies, BundleGives}
 use Rattle.path_spec.specs.Paths.{Path}
-use Rattle.path_spec.specs.Selection.{selectRows}
+use Rattle.path_spec.specs.Selection.{Selected, selectRows}
 use Rattle.projection_spec.specs.Extracts.Conditions.{ExtractApplies, ExtractGives}
+use Rattle.projection_spec.specs.Extracts.Cut.{cut}
+use Rattle.projection_spec.specs.Inference.Needed.{needed}
 use Rattle.projection_spec.specs.Library.Hosts.{Answer, answer, extractOf}
 use Rattle.projection_spec.specs.Library.Lent.{Sizes, Columns, sizesOf, padded}
+use Rattle.projection_spec.specs.Library.Listing.{decimal, lineFeed, chain, header, refusedLine}
 use Rattle.projection_spec.specs.Library.Records.{TextRecord, recordOf, cellsFrom}
 use Rattle.schema_spec.specs.Conditions.{SchemaApplies, SchemaGives}
 use Rattle.schema_spec.specs.Records.{SchemaProducible}
 use Rattle.schema_spec.specs.Schemas.{Schema}
 use Rattle.schema_spec.specs.Types.{typesOf}
 use Rattle.table_spec.specs.Conditions.{WellFormedBeside}
+use Rattle.table_spec.specs.Nodes.{Node, numberOf, nodesOf}
 use Rattle.table_spec.specs.Rows.{Row, rowsOf}
-use Rattle.text_spec.specs.Limits.{maxSchemaBytes, maxBundleBytes, maxJournalBytes, maxPaths}
+use Rattle.text_spec.specs.Limits.{maxSchemaBytes, maxBundleBytes, maxJournalBytes, maxPaths, listingJournalBytes, listingRows}
+use Rattle.text_spec.specs.Lists.{bytes, filterBy}
 use Rattle.text_spec.specs.Refusals.{Reason, Outcome, accepted, refused, Judged, IsFirst, at, badRecord, tooFewCells}
 
 -- Texts that are accepted, and what they give.
@@ -93,3 +100,40 @@ pub data Selects (schema bundle : List ℕ) (path : ℕ) (extract : List ℕ) (z
   selects : {s : Schema} {ps : List (Path ℕ)} {p : Path ℕ} {rows : List Row} → EqualSizes z → SchemaTaken schema s → BundleTaken s bundle ps
       → getElem? ps path ≡ some p → ExtractTaken s extract rows → (TooFewCells z size (answer rows (selectRows extract rows p)) → ⊥)
       → Selects schema bundle path extract z size (accepted (answer rows (selectRows extract rows p)))
+
+-- the nodes that some path of the bundle selects, in document order and once each
+pub record Chosen (doc : List Node) (ps : List (Path ℕ)) (ys : List Node) : Type 0 where
+  pub test : Node → Bool
+  pub listed : ys ≡ filterBy test doc
+  pub sound : (y : Node) → List·Memᴰ y doc → T (test y) → (p : Path ℕ) × List·Memᴰ p ps × Selected doc p y
+  pub complete : (y : Node) (p : Path ℕ) → List·Memᴰ p ps → Selected doc p y → T (test y)
+
+-- "place in the bundle (from 1) of the first path that selects it"
+pub record FirstPath (doc : List Node) (ps : List (Path ℕ)) (y : Node) (place : ℕ) : Type 0 where
+  pub before : List (Path ℕ)
+  pub path : Path ℕ
+  pub after : List (Path ℕ)
+  pub joined : ps ≡ before ++ (path ∷ after)
+  pub placed : place ≡ suc (length before)
+  pub selects : Selected doc path y
+  pub none-before : (p : Path ℕ) → List·Memᴰ p before → Selected doc p y → ⊥
+
+-- "Then per selected node, in document order: number, place in the bundle .., and the chain of tags"
+pub data Lines (s : Schema) (doc : List Node) (ps : List (Path ℕ)) : List Node → List ℕ → Type 0 where
+  no-lines : Lines s doc ps [] []
+  next-line : {y : Node} {ys : List Node} {rest : List ℕ} (place : ℕ) → FirstPath doc ps y place → Lines s doc ps ys rest
+      → Lines s doc ps (y ∷ ys) ((decimal (numberOf y) ++ (bytes " " ++ (decimal place ++ (bytes " " ++ (chain s y ++ lineFeed))))) ++ rest)
+
+-- `listing`: the first refused file alone; 18 only where all three are accepted; otherwise the header with the lengths of the three lists
+pub data Prints (schema bundle journal : List ℕ) : List ℕ → Type 0 where
+  schema-refused : {r : Reason} {k : ℕ} → IsFirst (SchemaApplies schema) r k → Prints schema bundle journal (refusedLine (at r k))
+  bundle-refused : {s : Schema} {r : Reason} {k : ℕ} → SchemaTaken schema s → IsFirst (BundleApplies s bundle) r k
+      → Prints schema bundle journal (refusedLine (at r k))
+  journal-refused : {s : Schema} {ps : List (Path ℕ)} {r : Reason} {k : ℕ} → SchemaTaken schema s → BundleTaken s bundle ps
+      → IsFirst (JournalApplies listingJournalBytes s journal) r k → Prints schema bundle journal (refusedLine (at r k))
+  too-many-rows : {s : Schema} {ps : List (Path ℕ)} {rows : List Row} → SchemaTaken schema s → BundleTaken s bundle ps
+      → JournalTaken listingJournalBytes s journal rows → listingRows < length rows → Prints schema bundle journal (refusedLine (at tooFewCells 0))
+  lists : {s : Schema} {ps : List (Path ℕ)} {rows : List Row} {ys : List Node} {lines : List ℕ} → SchemaTaken schema s → BundleTaken s bundle ps
+      → JournalTaken listingJournalBytes s journal rows → length rows ≤ listingRows → Chosen (nodesOf journal rows) ps ys
+      → Lines s (nodesOf journal rows) ps ys lines
+      → Prints schema bundle journal (header (length ys) (length (cut (needed (typesOf s) ps) rows)) (length rows) ++ lines)

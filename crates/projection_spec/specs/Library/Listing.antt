@@ -82,9 +82,11 @@ lineOf l y =
     decimal (numberOf y) ++ (bytes " " ++ (decimal (firstSelecting 1 (numberOf y) (l .selections)) ++ (bytes " " ++ (chain (l .schema) y ++ lineFeed))))
 
 -- "a header: nodes selected, rows kept, rows in all"
+abbrev pub header : ℕ → ℕ → ℕ → List ℕ
+header chosen kept rows = bytes "selected " ++ (decimal chosen ++ (bytes " kept " ++ (decimal kept ++ (bytes " of " ++ (decimal rows ++ lineFeed)))))
+
 unfoldable pub headerOf : Listed → List ℕ
-headerOf l =
-    bytes "selected " ++ (decimal (length (selectedNodes l)) ++ (bytes " kept " ++ (decimal (l .kept) ++ (bytes " of " ++ (decimal (length (l .nodes)) ++ lineFeed)))))
+headerOf l = header (length (selectedNodes l)) (l .kept) (length (l .nodes))
 
 -- "the first file refused prints `refused N at P` alone"
 unfoldable pub refusedLine : Refusal → List ℕ

@@ -1,0 +1,5 @@
+pub mod Runs
+pub mod Joined
+pub mod Complete
+pub mod Sound
+pub mod Places

@@ -1,0 +1,128 @@
+-- The selected nodes of a listing, and the path that each line names. Assumes nothing.
+use mathlib.Core.Bool.{Bool, true, false, cond, _||_}
+use mathlib.Core.List.{List, [], _∷_, _++_, map, List·Memᴰ as In, List·Memᴰ·head as here, List·Memᴰ·tail as there}
+use mathlib.Core.Logic.{_⊎_, inl, inr, ⊎-elim}
+use mathlib.Core.Path.{_≡_, refl, sym, ap, subst, _∙_}
+use Prim.Native.Nat.{ℕ, zero, suc, _+_}
+use native.Mathlib.Omega.{arith}
+use lib.Dec.{T, eqb, eqb→eq, eqb-refl}
+use lib.ListN.{length}
+use Rattle.path_laws.specs.Selection.{selected-sound, selected-complete, selected-filters}
+use Rattle.path_spec.specs.Paths.{Path}
+use Rattle.path_spec.specs.Selection.{Selected, selected, select}
+use Rattle.projection_spec.specs.Laws.Numbers.{node-known}
+use Rattle.projection_spec.specs.Library.Conditions.{Chosen, FirstPath, Lines, no-lines, next-line}
+use Rattle.projection_spec.specs.Library.Listing.{Listed, listed, isIn, selectedNodes, firstSelecting, lineOf}
+use Rattle.schema_spec.specs.Schemas.{Schema}
+use Rattle.schema_spec.specs.Types.{Types}
+use Rattle.table_spec.specs.Nodes.{Node, numberOf, nodesOf}
+use Rattle.table_spec.specs.Rows.{Row}
+use Rattle.table_spec.specs.Tables.{wellFormed}
+use Rattle.text_laws.specs.Lists.{any-in, in-any, in-filter, filter-in, in-map, map-in}
+use Rattle.text_laws.specs.Tests.{or-left, or-right, or-cases}
+use Rattle.text_spec.specs.Lists.{anyOf, filterBy, gather}
+
+module _ (types : Types) (journal : List ℕ) (rows : List Row) (ok : T (wellFormed types rows)) (s : Schema) (ps : List (Path ℕ)) where
+  abbrev doc : List Node
+  doc = nodesOf journal rows
+
+  abbrev chosen : Node → List (Path ℕ) → Bool
+  chosen y qs = anyOf (isIn (numberOf y)) (map (select doc) qs)
+
+  -- a node's number is listed for a path exactly if the path selects the node
+  listed-selected : (y : Node) (p : Path ℕ) → In y doc → T (isIn (numberOf y) (select doc p)) → Selected doc p y
+  unfolding select
+  listed-selected y p i t =
+      let k = in-any (eqb (numberOf y)) (select doc p) t in
+      let z = map-in numberOf (selected doc p) (k .1) in
+      let f = selected-filters doc p in
+      let j : In (z .0) doc = filter-in (f .0) doc (subst (λ (l : List Node). In (z .0) l) (f .1) (z .1)) .0 in
+      let e : y ≡ z .0 = node-known types journal rows ok y (z .0) i j (eqb→eq (numberOf y) (k .0) (k .2) ∙ z .2) in
+      selected-sound doc p y (subst (λ (x : Node). In x (selected doc p)) (sym e) (z .1))
+
+  selected-listed : (y : Node) (p : Path ℕ) → Selected doc p y → T (isIn (numberOf y) (select doc p))
+  unfolding select
+  selected-listed y p h = any-in (eqb (numberOf y)) (in-map numberOf (selected-complete doc p y h)) (eqb-refl (numberOf y))
+
+  pub chosen-nodes : Chosen doc ps (selectedNodes (listed s ps journal rows))
+  chosen-nodes =
+      record {
+        test = λ y. chosen y ps;
+        listed = refl;
+        sound = λ y i t.
+            let q = in-any (isIn (numberOf y)) (map (select doc) ps) t in
+            let p = map-in (select doc) ps (q .1) in
+            (p .0, p .1, listed-selected y (p .0) i (subst (λ (l : List ℕ). T (isIn (numberOf y) l)) (p .2) (q .2)));
+        complete = λ y p i h. any-in (isIn (numberOf y)) (in-map (select doc) i) (selected-listed y p h);
+      }
+
+  -- the first path that lists a number, with those before it
+  record First (y : Node) (i : ℕ) (qs : List (Path ℕ)) : Type 0 where
+    before : List (Path ℕ)
+    path : Path ℕ
+    after : List (Path ℕ)
+    joined : qs ≡ before ++ (path ∷ after)
+    placed : firstSelecting i (numberOf y) (map (select doc) qs) ≡ i + length before
+    lists : T (isIn (numberOf y) (select doc path))
+    none-before : (p : Path ℕ) → In p before → T (isIn (numberOf y) (select doc p)) → ⊥
+
+  first-listing : (y : Node) (i : ℕ) (qs : List (Path ℕ)) → T (chosen y qs) → First y i qs
+  first-listing y i [] t = absurd t
+  first-listing y i (q ∷ qs) t = pick (isIn (numberOf y) (select doc q)) refl (first-listing y (suc i) qs)
+    where
+      k : ℕ
+      k = numberOf y
+
+      later : List (List ℕ)
+      later = map (select doc) qs
+
+      pick : (b : Bool) → isIn k (select doc q) ≡ b → (T (chosen y qs) → First y (suc i) qs) → First y i (q ∷ qs)
+      pick true e onward =
+          record {
+            before = [];
+            path = q;
+            after = qs;
+            joined = refl;
+            placed = ap (λ (b : Bool). cond b i (firstSelecting (suc i) k later)) e ∙ omega arith;
+            lists = subst T (sym e) tt;
+            none-before = λ p j u. elim j [ ];
+          }
+      pick false e onward =
+          let f = onward (⊎-elim (λ u. absurd (subst T e u)) (λ u. u) (or-cases (isIn k (select doc q)) (anyOf (isIn k) later) t)) in
+          record {
+            before = q ∷ f .before;
+            path = f .path;
+            after = f .after;
+            joined = ap {B = List (Path ℕ)} (λ l. q ∷ l) (f .joined);
+            placed = ap (λ (b : Bool). cond b i (firstSelecting (suc i) k later)) e ∙ (f .placed ∙ omega arith);
+            lists = f .lists;
+            none-before = not-before e (f .none-before);
+          }
+        where
+          not-before : {before : List (Path ℕ)} → isIn k (select doc q) ≡ false → ((p : Path ℕ) → In p before → T (isIn k (select doc p)) → ⊥)
+              → (p : Path ℕ) → In p (q ∷ before) → T (isIn k (select doc p)) → ⊥
+          not-before e h p (here j) u = subst T e (subst (λ (x : Path ℕ). T (isIn k (select doc x))) j u)
+          not-before e h p (there j) u = h p j u
+
+  first-path : (y : Node) → In y doc → T (chosen y ps) → FirstPath doc ps y (firstSelecting 1 (numberOf y) (map (select doc) ps))
+  first-path y i t =
+      let f = first-listing y 1 ps t in
+      record {
+        before = f .before;
+        path = f .path;
+        after = f .after;
+        joined = f .joined;
+        placed = f .placed ∙ omega arith;
+        selects = listed-selected y (f .path) i (f .lists);
+        none-before = λ p j h. f .none-before p j (selected-listed y p h);
+      }
+
+  lines-of : (ys : List Node) → ((y : Node) → In y ys → In y doc × T (chosen y ps)) → Lines s doc ps ys (gather (lineOf (listed s ps journal rows)) ys)
+  unfolding lineOf
+  lines-of [] h = no-lines
+  lines-of (y ∷ ys) h =
+      let c = h y (here refl) in
+      next-line (firstSelecting 1 (numberOf y) (map (select doc) ps)) (first-path y (c .0) (c .1)) (lines-of ys (λ z i. h z (there i)))
+
+  pub chosen-lines : Lines s doc ps (selectedNodes (listed s ps journal rows)) (gather (lineOf (listed s ps journal rows)) (selectedNodes (listed s ps journal rows)))
+  chosen-lines = lines-of (selectedNodes (listed s ps journal rows)) (λ y i. filter-in (λ z. chosen z ps) doc i)

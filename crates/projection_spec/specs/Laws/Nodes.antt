@@ -1,0 +1,124 @@
+-- Cutting a document to a set that has a path's needed names changes nothing of what the path selects: the theorem on nodes.
+-- Assumes nothing.
+use mathlib.Core.Bool.{Bool, true, false, _||_}
+use mathlib.Core.List.{List, [], _∷_, map, List·Memᴰ as In, List·Memᴰ·head as here, List·Memᴰ·tail as there}
+use mathlib.Core.Logic.{_⊎_, inl, inr, ⊎-elim}
+use mathlib.Core.Path.{_≡_, refl, sym, ap, subst, _∙_}
+use Prim.Native.Nat.{ℕ}
+use lib.Dec.{T}
+use Rattle.path_laws.specs.Selection.{selected-sound, selected-complete, selected-filters}
+use Rattle.path_spec.specs.Paths.{Path, expand}
+use Rattle.path_spec.specs.Selection.{Holds, Roots, Selected, selected, select}
+use Rattle.projection_spec.specs.Extracts.Cut.{kept}
+use Rattle.projection_spec.specs.Inference.Needed.{keepsName, wantsNames, fromRoot, atRoot, neededBeforeFilter, neededByPath, needed}
+use Rattle.projection_spec.specs.Laws.Agreement.{Alike, alike-turned, trip-of, of-trip, trip-track, track-complete, complete-needed, trip-alike}
+use Rattle.projection_spec.specs.Laws.Conditions.{condition-fair}
+use Rattle.projection_spec.specs.Laws.Documents.{Subset, Within, Valid, AllValid, Lawful, own-within, wider, within-kept, kept-within, name-in}
+use Rattle.projection_spec.specs.Laws.Soundness.{Typed}
+use Rattle.schema_laws.specs.Closure.{Chain, one, chain-join, closure-chain, chain-closure}
+use Rattle.schema_laws.specs.Names.{same-equal, same-name, in-within}
+use Rattle.schema_spec.specs.Closure.{related, closure}
+use Rattle.schema_spec.specs.Names.{Name, Names, sameName, within}
+use Rattle.schema_spec.specs.Types.{Types}
+use Rattle.table_spec.specs.Nodes.{Node, top, under, nameOf, numberOf, isTop}
+use Rattle.text_laws.specs.Lists.{in-filter, filter-in, filter-filter, in-gather}
+use Rattle.text_laws.specs.Tests.{or-left, or-right, or-cases}
+use Rattle.text_spec.specs.Lists.{filterBy, gather}
+
+-- ---- The last filter: the names of a valid node and of its ancestors, all in a set, are reached from the root inside it.
+module _ (s : Types) (law : Lawful s) (r : Names) where
+  abbrev inside : Names
+  inside = within (s .names) r
+
+  abbrev reached : Name → Bool
+  reached n = sameName (s .root) n || related (closure inside (s .holds)) (s .root) n
+
+  member : (y : Node) → Valid s y → Within r y → In (nameOf y) inside
+  member y v w = in-within (name-in s law y v) (own-within r y w)
+
+  node-reached : (y : Node) → Valid s y → Within r y → T (reached (nameOf y))
+  node-reached (top k n) v w =
+      or-left (sameName (s .root) n) (related (closure inside (s .holds)) (s .root) n) (subst (λ (z : Name). T (sameName (s .root) z)) (sym v) (same-name (s .root)))
+  node-reached (under k n x p) v w =
+      let step : Chain inside (s .holds) (nameOf p) n = one (member p (v .1) (w .1)) (member (under k n x p) v w) (v .0) in
+      or-right (sameName (s .root) n) (related (closure inside (s .holds)) (s .root) n)
+      (chain-closure inside (s .holds)
+      (⊎-elim (λ e. subst (λ (z : Name). Chain inside (s .holds) z n) (sym (same-equal (s .root) (nameOf p) e)) step)
+      (λ h. chain-join (closure-chain inside (s .holds) (s .root) (nameOf p) h) step)
+      (or-cases (sameName (s .root) (nameOf p)) (related (closure inside (s .holds)) (s .root) (nameOf p)) (node-reached p (v .1) (w .1)))))
+
+  pub filtered-within : (y : Node) → Valid s y → Within r y → Within (fromRoot s r) y
+  unfolding fromRoot
+  filtered-within (top k n) v w = in-filter reached (member (top k n) v w) (node-reached (top k n) v w)
+  filtered-within (under k n x p) v w =
+      (in-filter reached (member (under k n x p) v w) (node-reached (under k n x p) v w), filtered-within p (v .1) (w .1))
+
+-- ---- From the root
+root-typed : (s : Types) (x : Node) → T (isTop x) → Valid s x → Typed (atRoot s) x
+root-typed s (top k n) t v = (here v, here v)
+root-typed s (under k n w p) t v = absurd t
+
+root-within : (r : Names) (x : Node) → T (isTop x) → In (nameOf x) r → Within r x
+root-within r (top k n) t i = i
+root-within r (under k n w p) t i = absurd t
+
+module _ (s : Types) (law : Lawful s) (p : Path ℕ) where
+  -- what a path selects in the one of two documents that are alike on its names, it selects in the other
+  pub selected-alike : (d e : List Node) → AllValid s d → AllValid s e → Alike (neededBeforeFilter s p) d e → (m : Node) → Selected d p m → Selected e p m
+  unfolding neededBeforeFilter
+  selected-alike d e dv ev al m i =
+      let fair = condition-fair s law in
+      let keeps = keepsName s in
+      let wants = wantsNames s in
+      let r = neededBeforeFilter s p in
+      let t = trip-of s Holds d p (Roots d) m i in
+      let x = t .0 in
+      let v : Valid s x = dv x (t .1 .0) in
+      let f : Typed (atRoot s) x = root-typed s x (t .1 .1) v in
+      let w : Within r x =
+      root-within r x (t .1 .1)
+      (complete-needed s law Holds keeps wants fair (expand p) (atRoot s) (nameOf x)
+      (track-complete s law Holds keeps wants fair d dv (atRoot s) v f (trip-track s Holds d dv (t .2)))) in
+      of-trip s Holds e (Roots e) (al .forth x w (t .1 .0), t .1 .1)
+      (trip-alike s law Holds keeps wants fair r d e dv ev al (atRoot s) v f w (λ n j. j) (t .2) .0)
+
+  module _ (doc : List Node) (ok : AllValid s doc) (a : Names) (enough : Subset (neededByPath s p) a) where
+    abbrev cut : List Node
+    cut = filterBy (kept a) doc
+
+    cut-valid : AllValid s cut
+    cut-valid y i = ok y (filter-in (kept a) doc i .0)
+
+    cut-alike : Alike (neededBeforeFilter s p) doc cut
+    unfolding neededByPath
+    cut-alike =
+        record {
+          forth = λ y w i. in-filter (kept a) i (within-kept a y (wider (neededByPath s p) a enough y (filtered-within s law (neededBeforeFilter s p) y (ok y i) w)));
+          back = λ y w i. filter-in (kept a) doc i .0;
+        }
+
+    -- THE THEOREM on nodes: the same nodes, in the same order
+    pub selected-cut : selected doc p ≡ selected cut p
+    selected-cut =
+        let f = selected-filters doc p in
+        let g = selected-filters cut p in
+        f .1
+        ∙ (filter-filter (f .0) (g .0) (kept a) doc
+        (λ y i t.
+        let j = selected-alike doc cut ok cut-valid cut-alike y (selected-sound doc p y (subst (λ (l : List Node). In y l) (sym (f .1)) (in-filter (f .0) i t))) in
+        let k = filter-in (g .0) cut (subst (λ (l : List Node). In y l) (g .1) (selected-complete cut p y j)) in
+        (filter-in (kept a) doc (k .0) .1, k .1))
+        (λ y i u t.
+        let j = selected-alike cut doc cut-valid ok (alike-turned cut-alike) y (selected-sound cut p y (subst (λ (l : List Node). In y l) (sym (g .1)) (in-filter (g .0) (in-filter (kept a) i u) t))) in
+        filter-in (f .0) doc (subst (λ (l : List Node). In y l) (f .1) (selected-complete doc p y j)) .1)
+        ∙ sym (g .1))
+
+    pub select-cut : select doc p ≡ select cut p
+    unfolding select
+    select-cut = ap (map numberOf) selected-cut
+
+-- a bundle's needed names have those of each of its paths
+pub path-needed : (s : Types) {p : Path ℕ} (ps : List (Path ℕ)) → In p ps → Subset (neededByPath s p) (needed s ps)
+unfolding needed neededByPath fromRoot
+path-needed s ps i n j =
+    in-within (filter-in _ (s .names) (filter-in _ _ j .0) .0) (in-gather (neededByPath s) i j)

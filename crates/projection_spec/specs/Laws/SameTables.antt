@@ -1,0 +1,54 @@
+-- Tables that are the same but for text starts have the same nodes, so an extract has the nodes of the table it was written from. Assumes nothing.
+use mathlib.Core.List.{List, [], _∷_, _++_}
+use mathlib.Core.Path.{_≡_, refl, sym, ap, _∙_}
+use Prim.Native.Nat.{ℕ}
+use lib.Dec.{T}
+use Rattle.path_spec.specs.Paths.{Path}
+use Rattle.path_spec.specs.Selection.{select, selectRows}
+use Rattle.projection_spec.specs.Extracts.Conditions.{SameButStarts, SameTables, no-rows, next-row}
+use Rattle.projection_spec.specs.Extracts.Fields.{writeExtract}
+use Rattle.projection_spec.specs.Extracts.Reading.{readExtract}
+use Rattle.projection_spec.specs.Laws.RoundTrip.{write-read}
+use Rattle.projection_spec.specs.Laws.TextNames.{TextNames}
+use Rattle.schema_spec.specs.Types.{Types}
+use Rattle.table_spec.specs.Nodes.{Node, nodeAt, nodesFrom, nodesOf}
+use Rattle.table_spec.specs.Rows.{Row, textOf}
+use Rattle.table_spec.specs.Tables.{wellFormedWith}
+use Rattle.text_spec.specs.Refusals.{accepted}
+
+same-node : (lent lent′ : List ℕ) {q r : Row} (before : List Node) → SameButStarts q r → textOf lent q ≡ textOf lent′ r
+    → nodeAt lent before q ≡ nodeAt lent′ before r
+same-node lent lent′ before c w = rw (w, c .number, c .name, c .parent)
+
+nodes-from : {lent lent′ : List ℕ} {qs rs : List Row} (before : List Node) → SameTables lent lent′ qs rs → nodesFrom lent before qs ≡ nodesFrom lent′ before rs
+nodes-from before no-rows = refl
+nodes-from {lent} {lent′} before (next-row {q} {r} {qs} {rs} c w more) =
+    let y = nodeAt lent′ before r in
+    ap (λ (z : Node). z ∷ nodesFrom lent (before ++ (z ∷ [])) qs) (same-node lent lent′ before c w) ∙ ap (λ (l : List Node). y ∷ l)
+    (nodes-from (before ++ (y ∷ [])) more)
+
+pub same-nodes : {lent lent′ : List ℕ} {qs rs : List Row} → SameTables lent lent′ qs rs → nodesOf lent qs ≡ nodesOf lent′ rs
+unfolding nodesOf
+same-nodes c = nodes-from [] c
+
+-- an extract is read as a table with the nodes of the table that was written
+pub extract-nodes : (s : Types) → TextNames s → (lent : List ℕ) (rows : List Row) → T (wellFormedWith s lent rows)
+    → (rows′ : List Row) × (readExtract s (writeExtract lent rows) ≡ accepted rows′) × (nodesOf (writeExtract lent rows) rows′ ≡ nodesOf lent rows)
+extract-nodes s law lent rows t =
+    let w = write-read s law lent rows t in
+    (w .0, w .1, sym (same-nodes (w .2)))
+
+-- two tables with the same extract have the same nodes, so every path selects the same in both
+module _ (s : Types) (law : TextNames s) (lent lent′ : List ℕ) (rows rows′ : List Row) (t : T (wellFormedWith s lent rows)) (t′ : T (wellFormedWith s lent′ rows′))
+    (same : writeExtract lent rows ≡ writeExtract lent′ rows′) where
+  pub one-extract-nodes : nodesOf lent rows ≡ nodesOf lent′ rows′
+  one-extract-nodes =
+      let w = extract-nodes s law lent rows t in
+      let w′ = extract-nodes s law lent′ rows′ t′ in
+      let read : readExtract s (writeExtract lent rows) ≡ accepted (w′ .0) = ap (readExtract s) same ∙ w′ .1 in
+      let one : w .0 ≡ w′ .0 = cc (w .1, read) in
+      sym (w .2) ∙ ap (λ (rs : List Row). nodesOf (writeExtract lent rows) rs) one ∙ ap (λ (bs : List ℕ). nodesOf bs (w′ .0)) same ∙ w′ .2
+
+  pub one-extract-selects : (p : Path ℕ) → selectRows lent rows p ≡ selectRows lent′ rows′ p
+  unfolding selectRows
+  one-extract-selects p = ap (λ (doc : List Node). select doc p) one-extract-nodes

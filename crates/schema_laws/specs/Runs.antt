@@ -1,0 +1,202 @@
+-- A run of the schema machine that spells declarations passes from state to state and ends between declarations; the declared names
+-- are names. Assumes nothing.
+use mathlib.Core.Bool.{Bool, true, false, cond, _&&_}
+use mathlib.Core.List.{List, [], _∷_, _++_, reverse, reverseAux, List·Memᴰ as In, List·Memᴰ·head as here, List·Memᴰ·tail as there}
+use mathlib.Core.Logic.{_⊎_, inl, inr, ⊎-elim}
+use mathlib.Core.Path.{_≡_, sym, ap, subst, _∙_}
+use Prim.Native.Nat.{ℕ, suc, _<_}
+use native.Mathlib.Omega.{arith}
+use lib.Dec.{T, eqb, ltb, leb, le→leb, ltb→lt}
+use lib.ListN.{length, length-append, length-reverse}
+use Rattle.schema_spec.specs.Declarations.{Use, Declaration, elementKeyword, emptyKeyword, pcdataKeyword, Separator, unparted, byBar, byComma, optional, any, oneOrMore, indicated}
+use Rattle.schema_spec.specs.Machine.{Frame, fresh, holding, Head, State, dead, between, inKeyword, afterKeyword, beforeName, inName, beforeContent, inEmpty, afterOpen, inPcdata, afterPcdata, expecting, inUse, closed, past, afterContent, isDead, declared, closing, join, separated, following, indicating, beginning, longer, headed, matching, step, spells, departs, atEnd, run, parse}
+use Rattle.schema_spec.specs.Models.{Particle, named, Content, empty, pcdata, children}
+use Rattle.text_laws.specs.Tests.{and-intro, and-cases}
+use Rattle.text_spec.specs.Bytes.{isBlank, startsName, continuesName, isName}
+use Rattle.text_spec.specs.Limits.{maxNameBytes, maxGroups}
+use Rattle.text_spec.specs.Lists.{allOf}
+
+-- where a run ended that spelt these declarations, in a state with a property that steps keep
+pub record Ended (P : State → Type 0) (ds : List Declaration) : Type 0 where
+  pub last : Declaration
+  pub before : List Declaration
+  pub holds : P (between (last ∷ before))
+  pub reversed : ds ≡ reverse (last ∷ before)
+
+not-spelt : {A : Type 0} {k : ℕ} {ds : List Declaration} → departs k ≡ spells ds → A
+not-spelt e = absurd (let z : _≡_ {A = ℕ} 0 1 = cc in omega arith)
+
+module _ (P : State → Type 0) (ds : List Declaration) where
+  pub end-ended : (q : State) (k : ℕ) → P q → atEnd q k ≡ spells ds → Ended P ds
+  end-ended (between []) k p e = not-spelt e
+  end-ended (between (d ∷ es)) k p e = record { last = d; before = es; holds = p; reversed = cc }
+  end-ended dead k p e = not-spelt e
+  end-ended (inKeyword w o) k p e = not-spelt e
+  end-ended (afterKeyword o) k p e = not-spelt e
+  end-ended (beforeName o) k p e = not-spelt e
+  end-ended (inName j n o) k p e = not-spelt e
+  end-ended (beforeContent h) k p e = not-spelt e
+  end-ended (inEmpty w h) k p e = not-spelt e
+  end-ended (afterOpen h) k p e = not-spelt e
+  end-ended (inPcdata w h) k p e = not-spelt e
+  end-ended (afterPcdata h) k p e = not-spelt e
+  end-ended (expecting f fs h) k p e = not-spelt e
+  end-ended (inUse j n f fs h) k p e = not-spelt e
+  end-ended (closed c fs h) k p e = not-spelt e
+  end-ended (past c fs h) k p e = not-spelt e
+  end-ended (afterContent c h) k p e = not-spelt e
+
+  pub run-ended : ((q : State) (k b : ℕ) → P q → P (step q k b)) → (q : State) (text : List ℕ) (k : ℕ) → P q → run q text k ≡ spells ds → Ended P ds
+  unfolding run
+  run-ended keeps q [] k p e = end-ended q k p e
+  run-ended keeps q (b ∷ text) k p e = pick (isDead (step q k b)) e (run-ended keeps (step q k b) text (suc k) (keeps q k b p))
+    where
+      pick : (c : Bool) → cond c (departs k) (run (step q k b) text (suc k)) ≡ spells ds → (run (step q k b) text (suc k) ≡ spells ds → Ended P ds) → Ended P ds
+      pick true e h = not-spelt e
+      pick false e h = h e
+
+-- each declared name is a name of 1 to 31 bytes
+abbrev pub Named : List Declaration → Type 0
+Named ds = (d : Declaration) → In d ds → T (isName (d .name .name))
+
+abbrev NamedHead : Head → Type 0
+NamedHead h = T (isName (h .name .name)) × Named (h .opening .done)
+
+abbrev NamedState : State → Type 0
+NamedState dead = Unit
+NamedState (between ds) = Named ds
+NamedState (inKeyword w o) = Named (o .done)
+NamedState (afterKeyword o) = Named (o .done)
+NamedState (beforeName o) = Named (o .done)
+NamedState (inName j n o) = T (isName n) × Named (o .done)
+NamedState (beforeContent h) = NamedHead h
+NamedState (inEmpty w h) = NamedHead h
+NamedState (afterOpen h) = NamedHead h
+NamedState (inPcdata w h) = NamedHead h
+NamedState (afterPcdata h) = NamedHead h
+NamedState (expecting f fs h) = NamedHead h
+NamedState (inUse j n f fs h) = NamedHead h
+NamedState (closed c fs h) = NamedHead h
+NamedState (past c fs h) = NamedHead h
+NamedState (afterContent c h) = NamedHead h
+
+-- a property of a choice, from that of its branches
+pub by-test : (P : State → Type 0) (b : Bool) (x y : State) → (T b → P x) → P y → P (cond b x y)
+by-test P true x y h k = h tt
+by-test P false x y h k = k
+
+pub by-match : (P : State → Type 0) (w : List ℕ) (b : ℕ) (whole : State) (part : List ℕ → State) → P dead → P whole → ((v : List ℕ) → P (part v)) → P (matching w b whole part)
+by-match P [] b whole part d h k = d
+by-match P (c ∷ []) b whole part d h k = by-test P (eqb b c) whole dead (λ t. h) d
+by-match P (c ∷ (x ∷ w)) b whole part d h k = by-test P (eqb b c) (part (x ∷ w)) dead (λ t. k (x ∷ w)) d
+
+declared-named : (c : Content Use) (h : Head) → NamedHead h → Named (declared c h ∷ h .opening .done)
+declared-named c h g d (here e) = subst (λ (x : Declaration). T (isName (x .name .name))) (sym e) (g .0)
+declared-named c h g d (there i) = g .1 d i
+
+closing-named : (c : Content Use) (h : Head) (b : ℕ) → NamedHead h → NamedState (closing c h b)
+closing-named c h b g =
+    by-test NamedState (isBlank b) (afterContent c h) _ (λ t. g)
+    (by-test NamedState (eqb b 0x3E) (between (declared c h ∷ h .opening .done)) dead (λ t. declared-named c h g) tt)
+
+separated-named : (s : Separator) (f : Frame) (p : Particle Use) (fs : List Frame) (h : Head) → NamedHead h → NamedState (separated s f p fs h)
+separated-named s fresh p fs h g = g
+separated-named byBar (holding byBar q) p fs h g = g
+separated-named byComma (holding byComma q) p fs h g = g
+separated-named byBar (holding byComma q) p fs h g = tt
+separated-named byComma (holding byBar q) p fs h g = tt
+separated-named byBar (holding unparted q) p fs h g = tt
+separated-named byComma (holding unparted q) p fs h g = tt
+separated-named unparted (holding s q) p fs h g = tt
+
+following-named : (p : Particle Use) (fs : List Frame) (h : Head) (b : ℕ) → NamedHead h → NamedState (following p fs h b)
+following-named p [] h b g = closing-named (children p) h b g
+following-named p (f ∷ fs) h b g =
+    by-test NamedState (isBlank b) (past p (f ∷ fs) h) _ (λ t. g)
+    (by-test NamedState (eqb b 0x29) (closed (join f p) fs h) _ (λ t. g)
+    (by-test NamedState (eqb b 0x7C) (separated byBar f p fs h) _ (λ t. separated-named byBar f p fs h g)
+    (by-test NamedState (eqb b 0x2C) (separated byComma f p fs h) dead (λ t. separated-named byComma f p fs h g) tt)))
+
+indicating-named : (p : Particle Use) (fs : List Frame) (h : Head) (b : ℕ) → NamedHead h → NamedState (indicating p fs h b)
+indicating-named p fs h b g =
+    by-test NamedState (eqb b 0x3F) (past (indicated optional p) fs h) _ (λ t. g)
+    (by-test NamedState (eqb b 0x2A) (past (indicated any p) fs h) _ (λ t. g)
+    (by-test NamedState (eqb b 0x2B) (past (indicated oneOrMore p) fs h) (following p fs h b) (λ t. g) (following-named p fs h b g)))
+
+beginning-named : (f : Frame) (fs : List Frame) (h : Head) (k b : ℕ) → NamedHead h → NamedState (beginning f fs h k b)
+beginning-named f fs h k b g =
+    by-test NamedState (isBlank b) (expecting f fs h) _ (λ t. g)
+    (by-test NamedState (startsName b) (inUse k (b ∷ []) f fs h) _ (λ t. g)
+    (by-test NamedState (eqb b 0x28 && ltb (suc (length fs)) maxGroups) (expecting fresh (f ∷ fs) h) dead (λ t. g) tt))
+
+-- a name of one byte, and a name that goes on
+name-starts : (b : ℕ) → T (startsName b) → T (isName (b ∷ []))
+name-starts b t = and-intro (startsName b) true t tt
+
+all-append : (f : ℕ → Bool) (xs : List ℕ) (b : ℕ) → T (allOf f xs) → T (f b) → T (allOf f (xs ++ (b ∷ [])))
+all-append f [] b t u = and-intro (f b) true u tt
+all-append f (x ∷ xs) b t u =
+    let r = and-cases (f x) (allOf f xs) t in
+    and-intro (f x) (allOf f (xs ++ (b ∷ []))) (r .0) (all-append f xs b (r .1) u)
+
+name-goes-on : (n : List ℕ) (b : ℕ) → T (isName n) → T (continuesName b) → T (ltb (length n) maxNameBytes) → T (isName (n ++ (b ∷ [])))
+name-goes-on [] b t u l = absurd t
+name-goes-on (c ∷ n) b t u l =
+    let r = and-cases (startsName c) (allOf continuesName n && leb (length (c ∷ n)) maxNameBytes) t in
+    let q = and-cases (allOf continuesName n) (leb (length (c ∷ n)) maxNameBytes) (r .1) in
+    let m = ltb→lt (length (c ∷ n)) maxNameBytes l in
+    and-intro (startsName c) (allOf continuesName (n ++ (b ∷ [])) && leb (length (c ∷ (n ++ (b ∷ [])))) maxNameBytes) (r .0)
+    (and-intro (allOf continuesName (n ++ (b ∷ []))) (leb (length (c ∷ (n ++ (b ∷ [])))) maxNameBytes) (all-append continuesName n b (q .0) u)
+    (le→leb (length (c ∷ (n ++ (b ∷ [])))) maxNameBytes (omega (arith, length-append n (b ∷ [])))))
+
+step-named : (q : State) (k b : ℕ) → NamedState q → NamedState (step q k b)
+unfolding step
+step-named dead k b g = tt
+step-named (between ds) k b g =
+    by-test NamedState (isBlank b) (between ds) _ (λ t. g) (by-match NamedState elementKeyword b dead (λ w. inKeyword w (record { place = k; done = ds })) tt tt (λ v. g))
+step-named (inKeyword w o) k b g = by-match NamedState w b (afterKeyword o) (λ v. inKeyword v o) tt g (λ v. g)
+step-named (afterKeyword o) k b g = by-test NamedState (isBlank b) (beforeName o) dead (λ t. g) tt
+step-named (beforeName o) k b g =
+    by-test NamedState (isBlank b) (beforeName o) _ (λ t. g) (by-test NamedState (startsName b) (inName k (b ∷ []) o) dead (λ t. (name-starts b t, g)) tt)
+step-named (inName j n o) k b g =
+    by-test NamedState (continuesName b) (longer n b (inName j (n ++ (b ∷ [])) o)) _
+    (λ t. by-test NamedState (ltb (length n) maxNameBytes) (inName j (n ++ (b ∷ [])) o) dead (λ u. (name-goes-on n b (g .0) t u, g .1)) tt)
+    (by-test NamedState (isBlank b) (beforeContent (headed j n o)) dead (λ t. g) tt)
+step-named (beforeContent h) k b g =
+    by-test NamedState (isBlank b) (beforeContent h) _ (λ t. g)
+    (by-test NamedState (eqb b 0x28) (afterOpen h) _ (λ t. g) (by-match NamedState emptyKeyword b dead (λ w. inEmpty w h) tt tt (λ v. g)))
+step-named (inEmpty w h) k b g = by-match NamedState w b (afterContent empty h) (λ v. inEmpty v h) tt g (λ v. g)
+step-named (afterOpen h) k b g =
+    by-test NamedState (isBlank b) (afterOpen h) _ (λ t. g)
+    (by-test NamedState (eqb b 0x23) _ _ (λ t. by-match NamedState pcdataKeyword b dead (λ w. inPcdata w h) tt tt (λ v. g)) (beginning-named fresh [] h k b g))
+step-named (inPcdata w h) k b g = by-match NamedState w b (afterPcdata h) (λ v. inPcdata v h) tt g (λ v. g)
+step-named (afterPcdata h) k b g =
+    by-test NamedState (isBlank b) (afterPcdata h) _ (λ t. g) (by-test NamedState (eqb b 0x29) (afterContent pcdata h) dead (λ t. g) tt)
+step-named (expecting f fs h) k b g = beginning-named f fs h k b g
+step-named (inUse j n f fs h) k b g =
+    by-test NamedState (continuesName b) (longer n b (inUse j (n ++ (b ∷ [])) f fs h)) _
+    (λ t. by-test NamedState (ltb (length n) maxNameBytes) (inUse j (n ++ (b ∷ [])) f fs h) dead (λ u. g) tt)
+    (indicating-named (named (record { place = j; name = n })) (f ∷ fs) h b g)
+step-named (closed c fs h) k b g = indicating-named c fs h b g
+step-named (past c fs h) k b g = following-named c fs h b g
+step-named (afterContent c h) k b g = closing-named c h b g
+
+reverseAux-in : {A : Type 0} (xs r : List A) {x : A} → In x (reverseAux xs r) → In x xs ⊎ In x r
+reverseAux-in [] r i = inr i
+reverseAux-in (y ∷ xs) r {x} i = pick (reverseAux-in xs (y ∷ r) i)
+  where
+    pick : In x xs ⊎ In x (y ∷ r) → In x (y ∷ xs) ⊎ In x r
+    pick (inl j) = inl (there j)
+    pick (inr (here e)) = inl (here e)
+    pick (inr (there j)) = inr j
+
+pub reverse-in : {A : Type 0} (xs : List A) {x : A} → In x (reverse xs) → In x xs
+reverse-in xs i = ⊎-elim (λ j. j) (λ j. elim j [ ]) (reverseAux-in xs [] i)
+
+-- the declarations that a text spells are some, with names of 1 to 31 bytes
+pub spelt-named : (text : List ℕ) (ds : List Declaration) → parse text ≡ spells ds → (0 < length ds) × Named ds
+unfolding parse
+spelt-named text ds e =
+    let r = run-ended NamedState ds step-named (between []) text 0 (λ d i. elim i [ ]) e in
+    let l : length ds ≡ length (r .last ∷ r .before) = ap length (r .reversed) ∙ length-reverse (r .last ∷ r .before) in
+    (omega arith, λ d i. r .holds d (reverse-in (r .last ∷ r .before) (subst (λ (x : List Declaration). In d x) (r .reversed) i)))

@@ -1,0 +1,5 @@
+pub mod Places
+pub mod Nodes
+pub mod Fits
+pub mod RowNodes
+pub mod WellFormed
