@@ -7,3 +7,4 @@ pub mod Passes
 pub mod Spellings
 pub mod Walks
 pub mod Nesting
+pub mod Forests

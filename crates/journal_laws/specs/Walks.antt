@@ -59,7 +59,7 @@ walks-split (t ∷ us) vs (move m w) =
 abbrev pub ShallowFrom : ℕ → List Token → Type 0
 ShallowFrom d ts = (us vs : List Token) (t : Token) (n : List ℕ) → ts ≡ us ++ (t ∷ vs) → Begins t n → openAfter d us < maxDepth
 
-open-step : (d : ℕ) (t : Token) (us : List Token) → openAfter d (t ∷ us) ≡ openAfter (openAfter d (t ∷ [])) us
+pub open-step : (d : ℕ) (t : Token) (us : List Token) → openAfter d (t ∷ us) ≡ openAfter (openAfter d (t ∷ [])) us
 open-step d (startTag n a) us = refl
 open-step d (emptyTag n a) us = refl
 open-step zero (endTag n a) us = refl
