@@ -143,7 +143,7 @@ treeHeld s k n c = atEnd k none unjudged (afterForest s 0 c (rootStart s k (elem
 abbrev pub closedBuilding : Held → Building
 closedBuilding h = building [] true (h .faults) (h .rows) (h .count)
 
-blank-solid : (k : ℕ) (w : List ℕ) → T (allBlank w) → solidFrom k w ≡ none
+pub blank-solid : (k : ℕ) (w : List ℕ) → T (allBlank w) → solidFrom k w ≡ none
 blank-solid k [] t = refl
 blank-solid k (b ∷ w) t =
     let c = and-cases (isBlank b) (allBlank w) t in

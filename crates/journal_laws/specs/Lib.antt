@@ -8,3 +8,5 @@ pub mod Spellings
 pub mod Walks
 pub mod Nesting
 pub mod Forests
+pub mod Contents
+pub mod NodeLimits

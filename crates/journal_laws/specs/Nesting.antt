@@ -80,11 +80,11 @@ unbroken-before s es b e = by (b .broken) refl
 
 -- ---- the first byte of character data that is not a blank
 
-data Solid (k : ℕ) (w : List ℕ) : Type 0 where
+pub data Solid (k : ℕ) (w : List ℕ) : Type 0 where
   only-blanks : solidFrom k w ≡ none → T (allBlank w) → Solid k w
   solid-at : (j : ℕ) → solidFrom k w ≡ some (k + j) → OffendsAt (characters w) j → (T (allBlank w) → ⊥) → Solid k w
 
-solid-of : (k : ℕ) (w : List ℕ) → Solid k w
+pub solid-of : (k : ℕ) (w : List ℕ) → Solid k w
 solid-of k [] = only-blanks refl tt
 solid-of k (b ∷ w) = by (isBlank b) refl (solid-of (suc k) w)
   where
