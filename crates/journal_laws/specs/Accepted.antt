@@ -397,7 +397,7 @@ rows-after-root {s} (root-begins {w = w} {k = k} named few d) =
     only-root z (there i) = elim i [ ]
 rows-after-root (blanks-outside e d) = rows-after-root d
 
-reverse-twice : (rows rs acc : List Row) → reverseAux (reverseAux rows rs) acc ≡ reverseAux rs (rows ++ acc)
+pub reverse-twice : (rows rs acc : List Row) → reverseAux (reverseAux rows rs) acc ≡ reverseAux rs (rows ++ acc)
 reverse-twice [] rs acc = refl
 reverse-twice (r ∷ rows) rs acc = reverse-twice rows (r ∷ rs) acc
 

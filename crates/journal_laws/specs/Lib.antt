@@ -10,3 +10,4 @@ pub mod Nesting
 pub mod Forests
 pub mod Contents
 pub mod NodeLimits
+pub mod Undeclared

@@ -201,7 +201,7 @@ module _ (s : Schema) (k : ℕ) (fs : List Refusal) (rs : List Row) (m : ℕ) wh
   token-acts-on (endTag n a) os rt = end-acts n a os rt
   token-acts-on (characters w) os rt = run-acts w os rt
 
-unbroken-form : (b : Building) → b .broken ≡ none → b ≡ building (b .opens) (b .rooted) (b .faults) (b .rows) (b .count)
+pub unbroken-form : (b : Building) → b .broken ≡ none → b ≡ building (b .opens) (b .rooted) (b .faults) (b .rows) (b .count)
 unbroken-form b e = ap (λ (x : Option Refusal). record { opens = b .opens; rooted = b .rooted; broken = x; faults = b .faults; rows = b .rows; count = b .count }) e
 
 pub token-acts : (s : Schema) (k : ℕ) (t : Token) (b : Building) → b .broken ≡ none → Acts k (b .opens) (b .rooted) t (tokenBuilt s k t b)
@@ -210,7 +210,7 @@ token-acts s k t b e =
 
 -- ---- many tokens
 
-some-is-not-none : {A : Type 0} {o : Option A} (x : A) → o ≡ some x → o ≡ none → ⊥
+pub some-is-not-none : {A : Type 0} {o : Option A} (x : A) → o ≡ some x → o ≡ none → ⊥
 some-is-not-none x e f = let z : _≡_ {A = ℕ} 0 1 = cc in omega arith
 
 -- tokens that leave a building unbroken are a walk that stays shallow

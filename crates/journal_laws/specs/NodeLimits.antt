@@ -1,6 +1,6 @@
 -- Rows and refusal 16 over valid trees: the rows built are the tree's, and the faults found are its nodes beyond a limit. Assumes nothing.
 use mathlib.Core.Bool.{Bool, true, false, cond, not, _&&_, _||_}
-use mathlib.Core.List.{List, [], _∷_, _++_, reverse, reverseAux, reverseAux-append, List·Memᴰ as In, List·Memᴰ·head as here, List·Memᴰ·tail as there, List·Memᴰ·append-cases as append-cases, Memᴰ·append-left as append-left, Memᴰ·append-right as append-right}
+use mathlib.Core.List.{List, [], _∷_, _++_, reverse, reverseAux, reverseAux-append, append-nil, List·Memᴰ as In, List·Memᴰ·head as here, List·Memᴰ·tail as there, List·Memᴰ·append-cases as append-cases, Memᴰ·append-left as append-left, Memᴰ·append-right as append-right}
 use mathlib.Core.Logic.{_⊎_, inl, inr, ⊎-elim}
 use mathlib.Core.Option.{Option, none, some}
 use mathlib.Core.Path.{_≡_, refl, sym, ap, subst, _∙_}
@@ -9,7 +9,8 @@ use native.Mathlib.Nat.{add-zero, zero-add}
 use native.Mathlib.Omega.{arith}
 use lib.Dec.{T, leb, ltb, leb→le, le→leb, ltb→lt, lt→ltb}
 use lib.ListN.{length, length-append}
-use Rattle.journal_laws.specs.Contents.{forest-grows, start-grows, end-grows, run-grows, run-filling, given-other}
+use Rattle.journal_laws.specs.Accepted.{reverse-twice}
+use Rattle.journal_laws.specs.Contents.{forest-grows, start-grows, end-grows, run-grows, run-filling, given-other, fillingAfter, ends-content, not-declared, not-fitting, tree-faulty}
 use Rattle.journal_laws.specs.Derivations.{elementRow, textRow, MakesNoText, no-text-unjudged, no-text-misfit, no-text-unfilled, no-text-children}
 use Rattle.journal_laws.specs.Forests.{Held, held, runHeld, afterRun, atStart, atEnd, afterForest, rootStart, treeHeld}
 use Rattle.journal_laws.specs.Passes.{solidFrom}
@@ -302,3 +303,61 @@ forest-built-as s e p (element-node k n c f) h x all =
     (forest-built-as s (indexOf s n) (h .count) c first (element-suits s n (all k n c occurs-here)) (λ k′ n′ c′ o. all k′ n′ c′ (inside o)))
     (forest-built-as s e p f next (suits-after (elementNamed s n) x) (λ k′ n′ c′ o. all k′ n′ c′ (after-element o)))
     (λ g i. forest-grows s p f next i)
+
+-- ---- the whole tree
+
+abbrev pub AllFitTree : Schema → ℕ → List ℕ → Forest → Type 0
+AllFitTree s k n c = (j : ℕ) (m : List ℕ) (d : Forest) → InTree k n c j m d → (e : ℕ) × (elementNamed s m ≡ some e) × ContentFits s (contentAt s e) d
+
+module _ (s : Schema) (k : ℕ) (n : List ℕ) (c : Forest) (all : AllFitTree s k n c) where
+  root-built-as : BuiltAs s (indexOf s n) 0 c (rootStart s k (elementNamed s n)) (afterForest s 0 c (rootStart s k (elementNamed s n)))
+  root-built-as = forest-built-as s (indexOf s n) 0 c (rootStart s k (elementNamed s n)) (element-suits s n (all k n c the-root)) (λ j m d o. all j m d (below o))
+
+  -- the rows built of a valid tree are its rows
+  pub tree-rows : reverse (treeHeld s k n c .rows) ≡ treeRows s n c
+  unfolding treeRows
+  tree-rows = ap reverse (root-built-as .rows-are) ∙ reverse-twice (rowsUnder s (indexOf s n) 0 1 c) (elementRow 0 (indexOf s n) 0 ∷ []) [] ∙ ap (λ (l : List Row). elementRow 0 (indexOf s n) 0 ∷ l) (append-nil (rowsUnder s (indexOf s n) 0 1 c))
+
+  -- 16 is found for exactly the nodes beyond a limit
+  pub tree-over : (j : ℕ) → Over 0 (treeStarts s k n c) j → In (at overNodeLimit j) (treeHeld s k n c .faults)
+  tree-over j (over-here (inl l)) = absurd (omega arith)
+  tree-over j (over-here (inr l)) = absurd (omega arith)
+  tree-over j (over-later o) = end-grows k none unjudged (afterForest s 0 c (rootStart s k (elementNamed s n))) (root-built-as .over-found j o)
+
+  pub over-tree : (j : ℕ) → In (at overNodeLimit j) (treeHeld s k n c .faults) → Over 0 (treeStarts s k n c) j
+  over-tree j i = by (append-cases (given (not (fitsAtEnd (inner .filling))) (at badContent k)) i)
+    where
+      inner : Held
+      inner = afterForest s 0 c (rootStart s k (elementNamed s n))
+
+      last : In (at overNodeLimit j) (given (wrongRoot [] (elementNamed s n)) (at badContent k)) ⊎ In (at overNodeLimit j) [] → Over 0 (treeStarts s k n c) j
+      last (inl x) = absurd (given-other (wrongRoot [] (elementNamed s n)) badContent k (λ q. omega arith) x)
+      last (inr x) = elim x [ ]
+
+      first : In (at overNodeLimit j) (given (isNone (elementNamed s n)) (at undeclaredElement k)) ⊎ In (at overNodeLimit j) (given (wrongRoot [] (elementNamed s n)) (at badContent k) ++ []) → Over 0 (treeStarts s k n c) j
+      first (inl x) = absurd (given-other (isNone (elementNamed s n)) undeclaredElement k (λ q. omega arith) x)
+      first (inr x) = last (append-cases (given (wrongRoot [] (elementNamed s n)) (at badContent k)) x)
+
+      found : In (at overNodeLimit j) (rootStart s k (elementNamed s n) .faults) ⊎ Over 1 (startsUnder s (indexOf s n) c) j → Over 0 (treeStarts s k n c) j
+      found (inl x) = first (append-cases (given (isNone (elementNamed s n)) (at undeclaredElement k)) x)
+      found (inr o) = over-later o
+
+      by : In (at overNodeLimit j) (given (not (fitsAtEnd (inner .filling))) (at badContent k)) ⊎ In (at overNodeLimit j) (inner .faults) → Over 0 (treeStarts s k n c) j
+      by (inl x) = absurd (given-other (not (fitsAtEnd (inner .filling))) badContent k (λ q. omega arith) x)
+      by (inr x) = found (root-built-as .found-over j x)
+
+-- a tree in which neither 14 nor 15 was found is valid
+pub faultless-fits : (s : Schema) (k : ℕ) (n : List ℕ) (c : Forest) → ((f : Refusal) → In f (treeHeld s k n c .faults) → 16 ≤ numberOf (f .reason)) → AllFitTree s k n c
+faultless-fits s k n c h j m d t = by (elementNamed s m) refl
+  where
+    fit : (e : ℕ) → elementNamed s m ≡ some e → (b : Bool) → fitsAtEnd (fillingAfter s (fillingOf e (contentAt s e)) d) ≡ b → ContentFits s (contentAt s e) d
+    fit e q true z = ends-content s e (contentAt s e) d (passed z)
+    fit e q false z =
+        let x = h (at badContent j) (tree-faulty s k n c t (not-fitting (subst (λ (o : Option ℕ). T (not (fitsAtEnd (fillingAfter s (fillingFor s o) d)))) (sym q) (rw z tt)))) in
+        absurd (omega arith)
+
+    by : (o : Option ℕ) → elementNamed s m ≡ o → (e : ℕ) × (elementNamed s m ≡ some e) × ContentFits s (contentAt s e) d
+    by none q =
+        let x = h (at undeclaredElement j) (tree-faulty s k n c t (not-declared (subst (λ (o : Option ℕ). T (isNone o)) (sym q) tt))) in
+        absurd (omega arith)
+    by (some e) q = (e, q, fit e q (fitsAtEnd (fillingAfter s (fillingOf e (contentAt s e)) d)) refl)
