@@ -11,3 +11,4 @@ pub mod Forests
 pub mod Contents
 pub mod NodeLimits
 pub mod Undeclared
+pub mod Judging

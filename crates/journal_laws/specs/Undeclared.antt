@@ -84,15 +84,26 @@ build-keeps s (e ∷ es) b i = build-keeps s es (onEvent s e b) (event-keeps s e
 
 -- ---- the builder's reasons are 12 to 16
 
+-- the reasons of faults
+pub data Late : Reason → Type 0 where
+  late-14 : Late undeclaredElement
+  late-15 : Late badContent
+  late-16 : Late overNodeLimit
+
+pub late-number : {r : Reason} → Late r → 14 ≤ numberOf r
+late-number late-14 = omega arith
+late-number late-15 = omega arith
+late-number late-16 = omega arith
+
 pub record Reasons (b : Building) : Type 0 where
   pub broken-by : (f : Refusal) → b .broken ≡ some f → (12 ≤ numberOf (f .reason)) × (numberOf (f .reason) ≤ 13)
-  pub faulted-by : (f : Refusal) → In f (b .faults) → 14 ≤ numberOf (f .reason)
+  pub faulted-by : (f : Refusal) → In f (b .faults) → Late (f .reason)
 
-given-late : (t : Bool) (r : Reason) (k : ℕ) (fs : List Refusal) → 14 ≤ numberOf r → ((f : Refusal) → In f fs → 14 ≤ numberOf (f .reason)) → (f : Refusal) → In f (given t (at r k) ++ fs) → 14 ≤ numberOf (f .reason)
+given-late : (t : Bool) (r : Reason) (k : ℕ) (fs : List Refusal) → Late r → ((f : Refusal) → In f fs → Late (f .reason)) → (f : Refusal) → In f (given t (at r k) ++ fs) → Late (f .reason)
 given-late t r k fs l h f i = by (append-cases (given t (at r k)) i)
   where
-    by : In f (given t (at r k)) ⊎ In f fs → 14 ≤ numberOf (f .reason)
-    by (inl x) = subst (λ (g : Refusal). 14 ≤ numberOf (g .reason)) (sym (given-in t (at r k) f x .1)) l
+    by : In f (given t (at r k)) ⊎ In f fs → Late (f .reason)
+    by (inl x) = subst (λ (g : Refusal). Late (g .reason)) (sym (given-in t (at r k) f x .1)) l
     by (inr x) = h f x
 
 not-broken : (f : Refusal) → _≡_ {A = Option Refusal} none (some f) → (12 ≤ numberOf (f .reason)) × (numberOf (f .reason) ≤ 13)
@@ -112,12 +123,12 @@ event-reasons s e b h =
     record {
       broken-by = not-broken;
       faulted-by =
-          given-late (isNone (elementNamed s n)) undeclaredElement k _ (omega arith)
-          (given-late (wrongRoot (b .opens) (elementNamed s n)) badContent k _ (omega arith) (given-late (leb maxNodes (b .count)) overNodeLimit k (b .faults) (omega arith) (h .faulted-by)));
+          given-late (isNone (elementNamed s n)) undeclaredElement k _ late-14
+          (given-late (wrongRoot (b .opens) (elementNamed s n)) badContent k _ late-15 (given-late (leb maxNodes (b .count)) overNodeLimit k (b .faults) late-16 (h .faulted-by)));
     })
-    (λ c o os x. record { broken-by = not-broken; faulted-by = given-late (not (fitsAtEnd (o .filling))) badContent (o .place) (c .faults) (omega arith) (x .faulted-by) })
+    (λ c o os x. record { broken-by = not-broken; faulted-by = given-late (not (fitsAtEnd (o .filling))) badContent (o .place) (c .faults) late-15 (x .faulted-by) })
     (λ os. record { broken-by = not-broken; faulted-by = h .faulted-by })
-    (λ os t k r. record { broken-by = not-broken; faulted-by = given-late t overNodeLimit k (b .faults) (omega arith) (h .faulted-by) }) e
+    (λ os t k r. record { broken-by = not-broken; faulted-by = given-late t overNodeLimit k (b .faults) late-16 (h .faulted-by) }) e
 
 build-reasons : (s : Schema) (es : List Event) (b : Building) → Reasons b → Reasons (build s es b)
 unfolding build
