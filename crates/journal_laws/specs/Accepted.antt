@@ -270,16 +270,16 @@ child-row s size final before previous n e o os rs h c deep few l =
       joined = l .joined;
       fit =
           later-row (typesOf s) before previous r y (l .rows) (ap (attach n (element e) (textOf [] r)) (chain-node (h .chain)))
-        (record {
-          rises = omega arith;
-          small = few;
-          isOpen = up-open (h .node) previous (h .up);
-          held = held-by s (nameOf (h .node)) (element e) (subst (λ (a : Name). T (holds s a (element e))) (sym (named .1)) (child-held s (named .0) e (named .2) c));
-          shallow = omega arith;
-          oneText = tt;
-          cells = tt;
-        })
-        (l .fit);
+          (record {
+            rises = omega arith;
+            small = few;
+            isOpen = up-open (h .node) previous (h .up);
+            held = held-by s (nameOf (h .node)) (element e) (subst (λ (a : Name). T (holds s a (element e))) (sym (named .1)) (child-held s (named .0) e (named .2) c));
+            shallow = omega arith;
+            oneText = tt;
+            cells = tt;
+          })
+          (l .fit);
       texts = within l;
     }
   where
@@ -305,16 +305,16 @@ text-row s size final before previous n e start l o os rs h f pos small fits few
       joined = z .joined;
       fit =
           later-row (typesOf s) before previous r y (z .rows) (ap (attach n (text e) (textOf [] r)) (chain-node (h .chain)))
-        (record {
-          rises = omega arith;
-          small = few;
-          isOpen = up-open (h .node) previous (h .up);
-          held = held-by s (nameOf (h .node)) (text e) (subst (λ (a : Name). T (holds s a (text e))) (sym (named .1)) (text-held s (named .0) e (named .2) f));
-          shallow = omega arith;
-          oneText = first-of-parent before n e (textOf [] r) (h .node) (h .numbered) (omega arith);
-          cells = and-intro (leb 1 l) (leb l maxTextBytes) (le→leb 1 l pos) (le→leb l maxTextBytes small);
-        })
-        (z .fit);
+          (record {
+            rises = omega arith;
+            small = few;
+            isOpen = up-open (h .node) previous (h .up);
+            held = held-by s (nameOf (h .node)) (text e) (subst (λ (a : Name). T (holds s a (text e))) (sym (named .1)) (text-held s (named .0) e (named .2) f));
+            shallow = omega arith;
+            oneText = first-of-parent before n e (textOf [] r) (h .node) (h .numbered) (omega arith);
+            cells = and-intro (leb 1 l) (leb l maxTextBytes) (le→leb 1 l pos) (le→leb l maxTextBytes small);
+          })
+          (z .fit);
       texts = within z;
     }
   where

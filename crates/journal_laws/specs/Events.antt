@@ -82,10 +82,13 @@ unfolding run step modeAfter
 run-mode s m [] = refl
 run-mode s m (b ∷ bs) = run-mode s (step s m b) bs
 
--- what holds of both answers of a test holds of the answer
+-- what holds of each answer of a test, given that answer, holds of the answer
+pub cond-cases : {A : Type 0} (P : A → Type 0) (b : Bool) (x y : A) → (b ≡ true → P x) → (b ≡ false → P y) → P (cond b x y)
+cond-cases P true x y p q = p refl
+cond-cases P false x y p q = q refl
+
 pub cond-both : {A : Type 0} (P : A → Type 0) (b : Bool) (x y : A) → P x → P y → P (cond b x y)
-cond-both P true x y p q = p
-cond-both P false x y p q = q
+cond-both P b x y p q = cond-cases P b x y (λ e. p) (λ e. q)
 
 -- Tags, and runs of character data that are not empty and lie within so many bytes, no run directly after another; `true`: a run was last.
 pub data InTurn (size : ℕ) : Bool → List Event → Type 0 where

@@ -1,5 +1,6 @@
 pub mod Progress
 pub mod Events
+pub mod Kept
 pub mod Derivations
 pub mod Fillings
 pub mod Accepted

@@ -19,6 +19,7 @@ use Rattle.journal_spec.specs.Tokens.{Token, startTag, emptyTag, endTag, charac
 use Rattle.journal_spec.specs.Trees.{Forest, Nested}
 use Rattle.schema_spec.specs.Schemas.{Schema}
 use Rattle.table_spec.specs.Rows.{Row}
+use Rattle.table_laws.specs.Places.{none-some}
 use Rattle.text_laws.specs.Lists.{bytes-equal, bytes-same}
 use Rattle.text_laws.specs.Tests.{passed, failed, true-of, false-of, and-cases, and-intro}
 use Rattle.text_spec.specs.Bytes.{isBlank, allBlank}
@@ -210,9 +211,6 @@ token-acts s k t b e =
 
 -- ---- many tokens
 
-pub some-is-not-none : {A : Type 0} {o : Option A} (x : A) → o ≡ some x → o ≡ none → ⊥
-some-is-not-none x e f = let z : _≡_ {A = ℕ} 0 1 = cc in omega arith
-
 -- tokens that leave a building unbroken are a walk that stays shallow
 pub builds-walk : (s : Schema) (k : ℕ) (us : List Token) (b : Building) → b .broken ≡ none → tokensBuilt s k us b .broken ≡ none
     → Walks (names (b .opens)) (b .rooted) us (names (tokensBuilt s k us b .opens)) (tokensBuilt s k us b .rooted) × ShallowFrom (length (b .opens)) us
@@ -245,8 +243,8 @@ builds-walk s k (t ∷ us) b e f = by (token-acts s k t b e) (builds-walk s (k +
           subst (λ (x : Building). Walks (names (b .opens)) (b .rooted) (t ∷ us) (names (x .opens)) (x .rooted)) (sym whole) (move m (r .0)),
           shallow-cons (length (b .opens)) t us h (subst (λ (i : ℕ). ShallowFrom i us) depth (r .1)),
         )
-    by (misnests j o g n) ih = absurd (some-is-not-none (at badNesting (k + j)) g goes-unbroken)
-    by (gets-too-deep n g l h) ih = absurd (some-is-not-none (at overDepth k) h goes-unbroken)
+    by (misnests j o g n) ih = none-some (sym goes-unbroken ∙ g)
+    by (gets-too-deep n g l h) ih = none-some (sym goes-unbroken ∙ h)
 
 pub record Walked (b : Building) (ms : List (List ℕ)) (q : Bool) : Type 0 where
   pub unbroken : b .broken ≡ none
@@ -290,7 +288,7 @@ pub record FirstBreak (s : Schema) (k : ℕ) (ts : List Token) (b : Building) (f
 
 pub first-break : (s : Schema) (k : ℕ) (ts : List Token) (b : Building) (f : Refusal) → b .broken ≡ none → tokensBuilt s k ts b .broken ≡ some f → FirstBreak s k ts b f
 unfolding eventsOf build
-first-break s k [] b f e h = absurd (some-is-not-none f h e)
+first-break s k [] b f e h = none-some (sym e ∙ h)
 first-break s k (t ∷ ts) b f e h = by (tokenBuilt s k t b .broken) refl (first-break s (k + length (spellToken t)) ts (tokenBuilt s k t b) f)
   where
     c : Building
@@ -398,7 +396,7 @@ module _ (s : Schema) where
       by : Acts (length (spell (b .before))) (tokensBuilt s 0 (b .before) start .opens) (tokensBuilt s 0 (b .before) start .rooted) (b .breaker)
           (tokenBuilt s (length (spell (b .before))) (b .breaker) (tokensBuilt s 0 (b .before) start))
           → ((f .reason ≡ badNesting) × Misnested lent (f .place)) ⊎ ((f .reason ≡ overDepth) × TooDeep lent (f .place))
-      by (goes-on g m h) = absurd (some-is-not-none f (b .breaks-there) g)
+      by (goes-on g m h) = none-some (sym g ∙ (b .breaks-there))
       by (misnests j o g n) =
           let z : at badNesting (length (spell (b .before)) + j) ≡ f = is (b .breaks-there) g in
           inl (
@@ -526,7 +524,7 @@ module _ (s : Schema) where
           act : Acts (length (spell (r .before))) (tokensBuilt s 0 (r .before) start .opens) (tokensBuilt s 0 (r .before) start .rooted) (r .breaker)
               (tokenBuilt s (length (spell (r .before))) (r .breaker) (tokensBuilt s 0 (r .before) start))
               → FoundDeep lent place′
-          act (goes-on x m d) = absurd (some-is-not-none f (r .breaks-there) x)
+          act (goes-on x m d) = none-some (sym x ∙ (r .breaks-there))
           act (misnests i p x d) =
               let z : some f ≡ some (at badNesting (length (spell (r .before)) + i)) = sym (r .breaks-there) ∙ x in
               record { tokens = us ++ (t ∷ vs); spelt = k; place = length (spell (r .before)) + i; found = inl (final ∙ z) }

@@ -9,7 +9,7 @@ use native.Mathlib.Nat.{add-zero, zero-add}
 use native.Mathlib.Omega.{arith}
 use lib.Dec.{T, eqb, leb, ltb, eqb→eq, eqb-refl, lt→ltb, le→leb, leb→le, ltb→lt}
 use lib.ListN.{length, drop, length-append}
-use Rattle.journal_laws.specs.Events.{told, eventsFrom, modeAfter}
+use Rattle.journal_laws.specs.Events.{told, eventsFrom, modeAfter, cond-cases}
 use Rattle.journal_laws.specs.Passes.{mode-append, Passes, passes-none, passes-byte, passes-append, passes-mode, passes-events, tokenEvents, whole-tag-passes, noEnd, brackets, brackets-more, brackets-end, last-two, no-end-means, means-no-end, data-lex, between-lex, entity-resets, tag-spelling, tagRest, pieces-not-tag, plain-parts, entity-passes, tag-opens, blank-cases}
 use Rattle.journal_spec.specs.Conditions.{Stretch, nothing-yet, a-tag, a-byte, an-entity, MisspeltHere, bad-tag, bad-entity, section-end, Misspelt}
 use Rattle.journal_spec.specs.Lexer.{Run, run, Mode, between, inData, inEntity, opened, inName, afterName, afterSlash, ending, inEndName, afterEndName, stopped, Event, quiet, starts, empties, ends, runs, Lexed, goes, tells, solidBy, tailsWith, dataByte, entityByte, lex, lastEvent, misspeltAt, tagByte, endTagByte, longer}
@@ -19,11 +19,6 @@ use Rattle.text_laws.specs.Tests.{passed, failed, true-of, false-of, and-cases,
 use Rattle.text_spec.specs.Bytes.{isBlank, isName, startsName, continuesName, allBlank}
 use Rattle.text_spec.specs.Limits.{maxNameBytes}
 use Rattle.text_spec.specs.Lists.{anyOf, allOf, isEmpty}
-
--- what holds of each answer of a test, given that answer, holds of the answer
-pub cond-cases : {A : Type 0} (P : A → Type 0) (b : Bool) (x y : A) → (b ≡ true → P x) → (b ≡ false → P y) → P (cond b x y)
-cond-cases P true x y p q = p refl
-cond-cases P false x y p q = q refl
 
 -- ---- a tag that is not complete
 

@@ -11,7 +11,8 @@ use lib.Dec.{T, leb, ltb}
 use lib.ListN.{length, length-append}
 use Rattle.journal_laws.specs.Contents.{given-other}
 use Rattle.journal_laws.specs.Events.{build, cond-both}
-use Rattle.journal_laws.specs.Nesting.{tokensBuilt, tokenBuilt, tokens-cons, tokens-append, start, fromTokens, unbroken-before, some-is-not-none, unbroken-form}
+use Rattle.journal_laws.specs.Kept.{KeptByEnds, KeptByRuns, KeptByStarts, keep-end, keep-run, keep-event}
+use Rattle.journal_laws.specs.Nesting.{tokensBuilt, tokenBuilt, tokens-cons, tokens-append, start, fromTokens, unbroken-before, unbroken-form}
 use Rattle.journal_laws.specs.Passes.{tokenEvents, eventsOf, solidFrom}
 use Rattle.journal_spec.specs.Builder.{Filling, unjudged, misfit, unfilled, filledByText, filledByChildren, withRun, fitsAtEnd, Open, Building, building, breaks, refill, wrongRoot, begin, onStart, endOf, onEnd, outside, textNode, inside, onRun, onUnbroken, onEvent}
 use Rattle.journal_spec.specs.Conditions.{Begins, by-start-tag, by-empty-tag, Undeclared, undeclared}
@@ -19,63 +20,34 @@ use Rattle.journal_spec.specs.Lexer.{Run, run, Event, quiet, starts, empties, e
 use Rattle.journal_spec.specs.Tokens.{Token, startTag, emptyTag, endTag, characters, spellToken, spell, Tokens}
 use Rattle.schema_spec.specs.Schemas.{Schema, elementNamed}
 use Rattle.table_spec.specs.Rows.{Row}
+use Rattle.table_laws.specs.Places.{none-some}
 use Rattle.text_laws.specs.Refusals.{in-given, given-in}
 use Rattle.text_spec.specs.Limits.{maxDepth, maxNodes, maxTextBytes}
 use Rattle.text_spec.specs.Lists.{isEmpty, isNone, sameBytes}
 use Rattle.text_spec.specs.Refusals.{Reason, Refusal, numberOf, at, given, badNesting, overDepth, undeclaredElement, badContent, overNodeLimit}
 
--- ---- what holds of every building that an event can leave
-
--- A property of buildings that the four ways to go on keep is kept by each event.
-module _ (P : Building → Type 0) (s : Schema) (b : Building) (now : P b)
-    (broken-12 : (c : Building) (k : ℕ) → P c → P (breaks (at badNesting k) c))
-    (broken-13 : (k : ℕ) → P (breaks (at overDepth k) b))
-    (begun : (n : List ℕ) (k : ℕ) → P (begin s n k b))
-    (ended : (c : Building) (o : Open) (os : List Open) → P c → P (building os (c .rooted) (given (not (fitsAtEnd (o .filling))) (at badContent (o .place)) ++ c .faults) (c .rows) (c .count)))
-    (run-on : (os : List Open) → P (building os (b .rooted) (b .faults) (b .rows) (b .count)))
-    (text-on : (os : List Open) (t : Bool) (k : ℕ) (r : Row) → P (building os (b .rooted) (given t (at overNodeLimit k) ++ b .faults) (r ∷ b .rows) (suc (b .count)))) where
-  keep-start : (n : List ℕ) (k : ℕ) → P (onStart s n k b)
-  keep-start n k =
-      cond-both P (isEmpty (b .opens)) _ _ (cond-both P (b .rooted) _ _ (broken-12 b k now) (begun n k)) (cond-both P (leb maxDepth (length (b .opens))) _ _ (broken-13 k) (begun n k))
-
-  keep-end : (os : List Open) (n : List ℕ) (k : ℕ) (c : Building) → P c → P (endOf os n k c)
-  keep-end [] n k c h = broken-12 c k h
-  keep-end (o ∷ os) n k c h = cond-both P (sameBytes n (o .name)) _ _ (ended c o os h) (broken-12 c k h)
-
-  keep-text : (f : Filling) (r : Run) (l p : ℕ) (os : List Open) → P (textNode f r l p (building os (b .rooted) (b .faults) (b .rows) (b .count)))
-  keep-text unjudged r l p os = run-on os
-  keep-text misfit r l p os = run-on os
-  keep-text unfilled r l p os = run-on os
-  keep-text (filledByText e) r l p os = text-on os (ltb maxTextBytes l || leb maxNodes (b .count)) (r .start) (record { number = b .count; name = Rattle.schema_spec.specs.Names.text e; parent = p; start = r .start; length = l })
-  keep-text (filledByChildren q) r l p os = run-on os
-
-  keep-run : (os : List Open) (r : Run) (l : ℕ) → P (inside os r l b)
-  keep-run [] r l = by (r .solid)
-    where
-      by : (o : Option ℕ) → P (outside o b)
-      by none = now
-      by (some k) = broken-12 b k now
-  keep-run (o ∷ os) r l = keep-text (o .filling) r l (o .row) (refill (withRun (isNone (r .solid))) (o ∷ os))
-
-  keep-unbroken : (e : Event) → P (onUnbroken s e b)
-  keep-unbroken quiet = now
-  keep-unbroken (starts n k) = keep-start n k
-  keep-unbroken (empties n k) = cond-both P (isNone (onStart s n k b .broken)) _ _ (keep-end (onStart s n k b .opens) n k (onStart s n k b) (keep-start n k)) (keep-start n k)
-  keep-unbroken (ends n k) = keep-end (b .opens) n k b now
-  keep-unbroken (runs r l) = keep-run (b .opens) r l
-
-  keep-event : (e : Event) → P (onEvent s e b)
-  unfolding onEvent
-  keep-event e = cond-both P (isNone (b .broken)) _ _ (keep-unbroken e) now
-
 -- ---- faults stay
 
 event-keeps : {g : Refusal} (s : Schema) (e : Event) (b : Building) → In g (b .faults) → In g (onEvent s e b .faults)
-event-keeps {g} s e b i =
-    keep-event (λ c. In g (c .faults)) s b i (λ c k h. h) (λ k. i)
-    (λ n k. append-right (given (isNone (elementNamed s n)) (at undeclaredElement k))
-    (append-right (given (wrongRoot (b .opens) (elementNamed s n)) (at badContent k)) (append-right (given (leb maxNodes (b .count)) (at overNodeLimit k)) i)))
-    (λ c o os h. append-right (given (not (fitsAtEnd (o .filling))) (at badContent (o .place))) h) (λ os. i) (λ os t k r. append-right (given t (at overNodeLimit k)) i) e
+event-keeps {g} s e b i = keep-event Has by-ends b i by-runs s by-starts e
+  where
+    Has : Building → Type 0
+    Has c = In g (c .faults)
+
+    by-ends : KeptByEnds Has
+    by-ends = record { broken-12 = λ c k h. h; ended = λ c o os h. append-right (given (not (fitsAtEnd (o .filling))) (at badContent (o .place))) h }
+
+    by-runs : KeptByRuns Has b
+    by-runs = record { run-on = λ os. i; text-on = λ os t k r. append-right (given t (at overNodeLimit k)) i }
+
+    by-starts : KeptByStarts Has s b
+    by-starts =
+        record {
+          broken-13 = λ k. i;
+          begun = λ n k.
+              append-right (given (isNone (elementNamed s n)) (at undeclaredElement k))
+              (append-right (given (wrongRoot (b .opens) (elementNamed s n)) (at badContent k)) (append-right (given (leb maxNodes (b .count)) (at overNodeLimit k)) i));
+        }
 
 pub build-keeps : {g : Refusal} (s : Schema) (es : List Event) (b : Building) → In g (b .faults) → In g (build s es b .faults)
 unfolding build
@@ -107,7 +79,7 @@ given-late t r k fs l h f i = by (append-cases (given t (at r k)) i)
     by (inr x) = h f x
 
 not-broken : (f : Refusal) → _≡_ {A = Option Refusal} none (some f) → (12 ≤ numberOf (f .reason)) × (numberOf (f .reason) ≤ 13)
-not-broken f e = let z : _≡_ {A = ℕ} 0 1 = cc in absurd (omega arith)
+not-broken f e = none-some e
 
 broken-is : (r : Reason) (k : ℕ) → (12 ≤ numberOf r) × (numberOf r ≤ 13) → (f : Refusal) → some (at r k) ≡ some f → (12 ≤ numberOf (f .reason)) × (numberOf (f .reason) ≤ 13)
 broken-is r k l f e =
@@ -115,20 +87,34 @@ broken-is r k l f e =
     subst (λ (g : Refusal). (12 ≤ numberOf (g .reason)) × (numberOf (g .reason) ≤ 13)) z l
 
 event-reasons : (s : Schema) (e : Event) (b : Building) → Reasons b → Reasons (onEvent s e b)
-event-reasons s e b h =
-    keep-event Reasons s b h
-    (λ c k x. record { broken-by = broken-is badNesting k (omega arith, omega arith); faulted-by = x .faulted-by })
-    (λ k. record { broken-by = broken-is overDepth k (omega arith, omega arith); faulted-by = h .faulted-by })
-    (λ n k.
-    record {
-      broken-by = not-broken;
-      faulted-by =
-          given-late (isNone (elementNamed s n)) undeclaredElement k _ late-14
-          (given-late (wrongRoot (b .opens) (elementNamed s n)) badContent k _ late-15 (given-late (leb maxNodes (b .count)) overNodeLimit k (b .faults) late-16 (h .faulted-by)));
-    })
-    (λ c o os x. record { broken-by = not-broken; faulted-by = given-late (not (fitsAtEnd (o .filling))) badContent (o .place) (c .faults) late-15 (x .faulted-by) })
-    (λ os. record { broken-by = not-broken; faulted-by = h .faulted-by })
-    (λ os t k r. record { broken-by = not-broken; faulted-by = given-late t overNodeLimit k (b .faults) late-16 (h .faulted-by) }) e
+event-reasons s e b h = keep-event Reasons by-ends b h by-runs s by-starts e
+  where
+    by-ends : KeptByEnds Reasons
+    by-ends =
+        record {
+          broken-12 = λ c k x. record { broken-by = broken-is badNesting k (omega arith, omega arith); faulted-by = x .faulted-by };
+          ended = λ c o os x. record { broken-by = not-broken; faulted-by = given-late (not (fitsAtEnd (o .filling))) badContent (o .place) (c .faults) late-15 (x .faulted-by) };
+        }
+
+    by-runs : KeptByRuns Reasons b
+    by-runs =
+        record {
+          run-on = λ os. record { broken-by = not-broken; faulted-by = h .faulted-by };
+          text-on = λ os t k r. record { broken-by = not-broken; faulted-by = given-late t overNodeLimit k (b .faults) late-16 (h .faulted-by) };
+        }
+
+    by-starts : KeptByStarts Reasons s b
+    by-starts =
+        record {
+          broken-13 = λ k. record { broken-by = broken-is overDepth k (omega arith, omega arith); faulted-by = h .faulted-by };
+          begun = λ n k.
+              record {
+                broken-by = not-broken;
+                faulted-by =
+                    given-late (isNone (elementNamed s n)) undeclaredElement k _ late-14
+                    (given-late (wrongRoot (b .opens) (elementNamed s n)) badContent k _ late-15 (given-late (leb maxNodes (b .count)) overNodeLimit k (b .faults) late-16 (h .faulted-by)));
+              };
+        }
 
 build-reasons : (s : Schema) (es : List Event) (b : Building) → Reasons b → Reasons (build s es b)
 unfolding build
@@ -178,30 +164,26 @@ module _ (s : Schema) (j : ℕ) where
       P : Building → Type 0
       P c = Is14 (c .faults) → Is14 (b .faults) ⊎ New n k
 
-  end-14 : (os : List Open) (n : List ℕ) (k : ℕ) (c : Building) → Is14 (endOf os n k c .faults) → Is14 (c .faults)
-  end-14 [] n k c = λ i. i
-  end-14 (o ∷ os) n k c =
-      cond-both (λ (d : Building). Is14 (d .faults) → Is14 (c .faults)) (sameBytes n (o .name)) _ _
-      (λ i. only-14 (not (fitsAtEnd (o .filling))) badContent (o .place) (c .faults) (λ e. omega arith) i) (λ i. i)
+  -- an end tag or character data finds no 14
+  Before14 : Building → Building → Type 0
+  Before14 b c = Is14 (c .faults) → Is14 (b .faults)
 
-  text-14 : (f : Filling) (r : Run) (l p : ℕ) (b : Building) → Is14 (textNode f r l p b .faults) → Is14 (b .faults)
-  text-14 unjudged r l p b i = i
-  text-14 misfit r l p b i = i
-  text-14 unfilled r l p b i = i
-  text-14 (filledByText x) r l p b i = only-14 (ltb maxTextBytes l || leb maxNodes (b .count)) overNodeLimit (r .start) (b .faults) (λ e. omega arith) i
-  text-14 (filledByChildren q) r l p b i = i
+  ends-14 : (b : Building) → KeptByEnds (Before14 b)
+  unfolding Before14
+  ends-14 b = record { broken-12 = λ c k h. h; ended = λ c o os h i. h (only-14 (not (fitsAtEnd (o .filling))) badContent (o .place) (c .faults) (λ e. omega arith) i) }
 
-  run-14 : (os : List Open) (r : Run) (l : ℕ) (b : Building) → Is14 (inside os r l b .faults) → Is14 (b .faults)
-  run-14 [] r l b = by (r .solid)
-    where
-      by : (o : Option ℕ) → Is14 (outside o b .faults) → Is14 (b .faults)
-      by none i = i
-      by (some k) i = i
-  run-14 (o ∷ os) r l b = text-14 (o .filling) r l (o .row) (building (refill (withRun (isNone (r .solid))) (o ∷ os)) (b .rooted) (b .faults) (b .rows) (b .count))
+  end-14 : (n : List ℕ) (k : ℕ) (b : Building) → Is14 (onEnd n k b .faults) → Is14 (b .faults)
+  unfolding Before14
+  end-14 n k b = keep-end (Before14 b) (ends-14 b) (b .opens) n k b (λ i. i)
+
+  run-14 : (r : Run) (l : ℕ) (b : Building) → Is14 (onRun r l b .faults) → Is14 (b .faults)
+  unfolding Before14
+  run-14 r l b =
+      keep-run (Before14 b) (ends-14 b) b (λ i. i) (record { run-on = λ os i. i; text-on = λ os t k x i. only-14 t overNodeLimit k (b .faults) (λ e. omega arith) i }) (b .opens) r l
 
   on-end-14 : (n : List ℕ) (k : ℕ) (b : Building) → Is14 (onEvent s (ends n k) b .faults) → Is14 (b .faults)
   unfolding onEvent
-  on-end-14 n k b = cond-both (λ (d : Building). Is14 (d .faults) → Is14 (b .faults)) (isNone (b .broken)) _ _ (end-14 (b .opens) n k b) (λ i. i)
+  on-end-14 n k b = cond-both (λ (d : Building). Is14 (d .faults) → Is14 (b .faults)) (isNone (b .broken)) _ _ (end-14 n k b) (λ i. i)
 
   on-start-14 : (n : List ℕ) (k : ℕ) (b : Building) → Is14 (onEvent s (starts n k) b .faults) → Is14 (b .faults) ⊎ New n k
   unfolding onEvent
@@ -209,7 +191,7 @@ module _ (s : Schema) (j : ℕ) where
 
   on-run-14 : (r : Run) (l : ℕ) (b : Building) → Is14 (onEvent s (runs r l) b .faults) → Is14 (b .faults)
   unfolding onEvent
-  on-run-14 r l b = cond-both (λ (d : Building). Is14 (d .faults) → Is14 (b .faults)) (isNone (b .broken)) _ _ (run-14 (b .opens) r l b) (λ i. i)
+  on-run-14 r l b = cond-both (λ (d : Building). Is14 (d .faults) → Is14 (b .faults)) (isNone (b .broken)) _ _ (run-14 r l b) (λ i. i)
 
   -- the tag that begins an undeclared element
   Tagged : Token → ℕ → Type 0
@@ -283,13 +265,13 @@ begin-found s n k b e = append-left _ (in-given (isNone (elementNamed s n)) (sub
 
 start-found : (s : Schema) (n : List ℕ) (k : ℕ) (os : List Open) (rt : Bool) (fs : List Refusal) (rs : List Row) (m : ℕ) → elementNamed s n ≡ none
     → onStart s n k (building os rt fs rs m) .broken ≡ none → In (at undeclaredElement k) (onStart s n k (building os rt fs rs m) .faults)
-start-found s n k [] true fs rs m e h = absurd (some-is-not-none (at badNesting k) refl h)
+start-found s n k [] true fs rs m e h = none-some (sym h)
 start-found s n k [] false fs rs m e h = begin-found s n k (building [] false fs rs m) e
 start-found s n k (o ∷ os) rt fs rs m e h = by (leb maxDepth (length (o ∷ os))) h
   where
     by : (d : Bool) → cond d (breaks (at overDepth k) (building (o ∷ os) rt fs rs m)) (begin s n k (building (o ∷ os) rt fs rs m)) .broken ≡ none
         → In (at undeclaredElement k) (cond d (breaks (at overDepth k) (building (o ∷ os) rt fs rs m)) (begin s n k (building (o ∷ os) rt fs rs m)) .faults)
-    by true g = absurd (some-is-not-none (at overDepth k) refl g)
+    by true g = none-some (sym g)
     by false g = begin-found s n k (building (o ∷ os) rt fs rs m) e
 
 on-start-found : (s : Schema) (n : List ℕ) (k : ℕ) (b : Building) → elementNamed s n ≡ none → onEvent s (starts n k) b .broken ≡ none → In (at undeclaredElement k) (onEvent s (starts n k) b .faults)
@@ -303,7 +285,7 @@ on-start-found s n k b e h = by (b .broken) refl h
 
     by : (o : Option Refusal) → b .broken ≡ o → cond (isNone o) (onStart s n k b) b .broken ≡ none → In (at undeclaredElement k) (cond (isNone o) (onStart s n k b) b .faults)
     by none q g = explicit q g
-    by (some f) q g = absurd (some-is-not-none f q g)
+    by (some f) q g = none-some (sym g ∙ q)
 
 token-found : {t : Token} {n : List ℕ} (s : Schema) (k : ℕ) (b : Building) → Begins t n → elementNamed s n ≡ none → tokenBuilt s k t b .broken ≡ none → In (at undeclaredElement k) (tokenBuilt s k t b .faults)
 unfolding build
