@@ -1,22 +1,21 @@
 -- The rows of an accepted journal are a well-formed table beside its text. Assumes nothing.
-use mathlib.Core.Bool.{Bool, true, false, cond, not, _&&_, _||_}
+use mathlib.Core.Bool.{Bool, true, false, not, _&&_, _||_}
 use mathlib.Core.List.{List, [], _∷_, _++_, reverse, reverseAux, append-nil, List·Memᴰ as In, List·Memᴰ·head as here, List·Memᴰ·tail as there, List·Memᴰ·append-cases as append-cases}
-use mathlib.Core.Logic.{_⊎_, inl, inr, ⊎-elim}
+use mathlib.Core.Logic.{_⊎_, inl, inr}
 use mathlib.Core.Option.{Option, none, some}
 use mathlib.Core.Path.{_≡_, refl, sym, ap, subst, _∙_}
 use Prim.Native.Nat.{ℕ, zero, suc, _+_, _≤_, _<_}
 use native.Mathlib.Omega.{arith}
-use lib.Dec.{T, eqb, leb, ltb, eqb-refl, eqb→eq, lt→ltb, le→leb}
+use lib.Dec.{T, eqb, leb, eqb-refl, le→leb}
 use lib.ListN.{length, take, drop, getElem?, length-append, length-drop}
 use lib.Seq.{length-take-le}
-use Rattle.journal_laws.specs.Derivations.{Derives, finished, root-begins, child-begins, element-ends, blanks-outside, run-inside, text-inside, opening, elementRow, textRow, MakesNoText, no-text-unjudged, no-text-misfit, no-text-unfilled, no-text-children, Clean, Accepts, derivation}
-use Rattle.journal_laws.specs.Events.{build, eventsFrom, ended-builds, run-mode, InTurn, events-in-turn, none-foreign}
-use Rattle.journal_laws.specs.Fillings.{Completable, AllCompletable, all-completable, parent-completable, Fills, fills-begun, fills-child, fills-run, fills-text, child-held, text-held}
-use Rattle.journal_spec.specs.Builder.{Filling, unjudged, misfit, unfilled, filledByText, filledByChildren, fillingOf, withChild, withRun, Open, Building, building, refill}
-use Rattle.journal_spec.specs.Lexer.{Run, Event, Mode, between, misspeltAt}
+use Rattle.journal_laws.specs.Derivations.{Derives, finished, root-begins, child-begins, element-ends, blanks-outside, run-inside, text-inside, opening, elementRow, textRow, MakesNoText, no-text-unjudged, no-text-misfit, no-text-unfilled, no-text-children, Accepts, derivation}
+use Rattle.journal_laws.specs.Events.{eventsFrom, ended-builds, events-in-turn, none-foreign}
+use Rattle.journal_laws.specs.Fillings.{Completable, all-completable, parent-completable, Fills, fills-begun, fills-child, fills-run, child-held, text-held}
+use Rattle.journal_spec.specs.Builder.{Filling, unjudged, misfit, unfilled, filledByText, filledByChildren, fillingOf, withChild, withRun, Open, Building, refill}
+use Rattle.journal_spec.specs.Lexer.{Event, between, misspeltAt}
 use Rattle.journal_spec.specs.Reading.{Machine, initial, run, ended, readJournal, machineRefusals, endsEarly}
-use Rattle.schema_spec.specs.Models.{Content, pcdata}
-use Rattle.schema_spec.specs.Names.{Name, element, text, isText, sameName}
+use Rattle.schema_spec.specs.Names.{Name, element, text, isText}
 use Rattle.schema_spec.specs.Schemas.{Schema, contentAt}
 use Rattle.schema_spec.specs.Types.{Types, typesOf, holds}
 use Rattle.table_laws.specs.Fits.{RowFits, fits-row}
@@ -24,14 +23,14 @@ use Rattle.table_laws.specs.Nodes.{nodes-same, nodes-equal}
 use Rattle.table_laws.specs.Places.{none-some, at-before, at-end, at-in}
 use Rattle.table_spec.specs.Nodes.{Node, top, under, numberOf, nameOf, same, isAbove, depthOf, nodeAt, attach}
 use Rattle.table_spec.specs.Rows.{Row, textOf}
-use Rattle.table_spec.specs.Tables.{parentOpen, parentHolds, sameParent, firstText, textFits, rowFits, laterRows, wellFormed, textInside, wellFormedWith}
-use Rattle.text_laws.specs.Lists.{any-in, in-any, all-in, in-all, bytes-same, append-empty}
+use Rattle.table_spec.specs.Tables.{sameParent, firstText, rowFits, laterRows, wellFormed, textInside, wellFormedWith}
+use Rattle.text_laws.specs.Lists.{in-any, in-all, append-empty}
 use Rattle.text_laws.specs.Refusals.{judged-accepted, given-free}
-use Rattle.text_laws.specs.Tests.{passed, failed, or-left, or-right, or-cases, and-intro, and-cases, not-intro}
+use Rattle.text_laws.specs.Tests.{or-left, or-right, and-intro, and-cases, not-intro}
 use Rattle.text_spec.specs.Bytes.{isForeign}
 use Rattle.text_spec.specs.Limits.{maxDepth, maxNodes, maxTextBytes}
-use Rattle.text_spec.specs.Lists.{anyOf, allOf, isNone, isEmpty, listOf, sameBytes, part}
-use Rattle.text_spec.specs.Refusals.{Refusal, Outcome, accepted, at, allAt, given, misspelt, badNesting}
+use Rattle.text_spec.specs.Lists.{anyOf, allOf, isNone, isEmpty, listOf}
+use Rattle.text_spec.specs.Refusals.{Refusal, accepted, at, allAt, given, misspelt, badNesting}
 use Rattle.text_spec.specs.Texts.{lengthRefusals}
 
 -- ---- nodes

@@ -1,26 +1,25 @@
 -- Refusals 14 and 15 over trees: the faults found are the elements that are undeclared or whose content does not fit. Assumes nothing.
-use mathlib.Core.Bool.{Bool, true, false, cond, not, _&&_, _||_}
-use mathlib.Core.List.{List, [], _∷_, _++_, List·Memᴰ as In, List·Memᴰ·head as here, List·Memᴰ·tail as there, List·Memᴰ·append-cases as append-cases, Memᴰ·append-left as append-left, Memᴰ·append-right as append-right}
-use mathlib.Core.Logic.{_⊎_, inl, inr, ⊎-elim}
+use mathlib.Core.Bool.{Bool, not, _||_}
+use mathlib.Core.List.{List, [], _∷_, _++_, List·Memᴰ as In, List·Memᴰ·append-cases as append-cases, Memᴰ·append-left as append-left, Memᴰ·append-right as append-right}
+use mathlib.Core.Logic.{_⊎_, inl, inr}
 use mathlib.Core.Option.{Option, none, some}
 use mathlib.Core.Path.{_≡_, refl, sym, ap, subst, _∙_}
-use Prim.Native.Nat.{ℕ, zero, suc, _+_, _≤_, _<_}
+use Prim.Native.Nat.{ℕ}
 use native.Mathlib.Omega.{arith}
 use lib.Dec.{T, leb, ltb}
 use lib.ListN.{length}
-use Rattle.journal_laws.specs.Forests.{Held, held, runHeld, afterRun, atStart, atEnd, afterForest, rootStart, treeHeld, blank-solid}
+use Rattle.journal_laws.specs.Forests.{Held, runHeld, afterRun, atStart, atEnd, afterForest, rootStart, treeHeld, blank-solid}
 use Rattle.journal_laws.specs.Nesting.{Solid, only-blanks, solid-at, solid-of}
 use Rattle.journal_laws.specs.Passes.{solidFrom}
 use Rattle.journal_spec.specs.Builder.{Filling, unjudged, misfit, unfilled, filledByText, filledByChildren, fillingOf, fillingFor, withChild, withRun, fitsAtEnd, wrongRoot}
 use Rattle.journal_spec.specs.Trees.{Forest, nothing, data-node, element-node}
 use Rattle.journal_spec.specs.Validity.{ChildElements, no-children, blanks, child, OnlyData, no-data, more, ContentFits, fits-empty, fits-pcdata, fits-children, Occurs, here as occurs-here, inside, after-element, after-data, InTree, the-root, below}
 use Rattle.schema_laws.specs.Models.{fits-sound, fits-complete}
-use Rattle.schema_spec.specs.Models.{Particle, Content, empty, pcdata, children, Fits, Progress, started, advance, complete, advanceAll, fits}
+use Rattle.schema_spec.specs.Models.{Content, empty, pcdata, children, Progress, started, advance, complete, advanceAll, fits}
 use Rattle.schema_spec.specs.Schemas.{Schema, elementNamed, contentAt}
 use Rattle.table_spec.specs.Rows.{Row}
 use Rattle.text_laws.specs.Refusals.{in-given, given-in}
-use Rattle.text_laws.specs.Tests.{passed, failed, not-intro, not-elim, decided}
-use Rattle.text_spec.specs.Bytes.{allBlank}
+use Rattle.text_laws.specs.Tests.{not-elim}
 use Rattle.text_spec.specs.Limits.{maxNodes, maxTextBytes}
 use Rattle.text_spec.specs.Lists.{isNone}
 use Rattle.text_spec.specs.Refusals.{Reason, Refusal, numberOf, at, given, undeclaredElement, badContent, overNodeLimit}

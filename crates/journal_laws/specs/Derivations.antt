@@ -1,26 +1,25 @@
 -- Events that are built with nothing found against them, step by step, as a relation. Assumes nothing.
-use mathlib.Core.Bool.{Bool, true, false, cond, not, _&&_, _||_}
+use mathlib.Core.Bool.{Bool, true, false, cond, not, _||_}
 use mathlib.Core.List.{List, [], _∷_, _++_}
 use mathlib.Core.Option.{Option, none, some}
 use mathlib.Core.Path.{_≡_, refl, sym, ap, subst, _∙_}
 use Prim.Native.Nat.{ℕ, suc, _+_, _≤_, _<_}
-use native.Mathlib.Omega.{arith}
 use lib.Dec.{T, eqb, leb, ltb, eqb→eq, nleb→lt, nltb→le}
 use lib.ListN.{length}
-use Rattle.journal_laws.specs.Events.{build, InTurn, no-more, start-next, end-next, run-next, cond-both}
+use Rattle.journal_laws.specs.Events.{build, InTurn, no-more, start-next, end-next, run-next}
 use Rattle.journal_laws.specs.Kept.{KeptByEnds, KeptByRuns, KeptByStarts, keep-unbroken}
-use Rattle.journal_spec.specs.Builder.{Filling, unjudged, misfit, unfilled, filledByText, filledByChildren, fillingOf, withChild, withRun, fitsAtEnd, Open, Building, building, breaks, parentRow, refill, fillingFor, wrongRoot, begin, onStart, endOf, onEnd, outside, textNode, inside, onRun, onUnbroken, onEvent}
-use Rattle.journal_spec.specs.Lexer.{Run, Event, quiet, starts, empties, ends, runs}
+use Rattle.journal_spec.specs.Builder.{Filling, unjudged, misfit, unfilled, filledByText, filledByChildren, fillingOf, withChild, withRun, fitsAtEnd, Open, Building, building, breaks, parentRow, refill, fillingFor, wrongRoot, begin, onStart, endOf, outside, textNode, inside, onUnbroken, onEvent}
+use Rattle.journal_spec.specs.Lexer.{Run, Event, starts, ends, runs}
 use Rattle.schema_spec.specs.Models.{Progress}
-use Rattle.schema_spec.specs.Names.{Name, element, text}
+use Rattle.schema_spec.specs.Names.{element, text}
 use Rattle.schema_spec.specs.Schemas.{Schema, elementNamed, contentAt}
 use Rattle.table_spec.specs.Rows.{Row}
 use Rattle.table_laws.specs.Places.{none-some}
 use Rattle.text_laws.specs.Lists.{append-empty}
 use Rattle.text_laws.specs.Refusals.{given-free}
-use Rattle.text_laws.specs.Tests.{passed, failed, or-left, or-right, not-intro, not-elim, decided}
+use Rattle.text_laws.specs.Tests.{passed, or-left, or-right, not-intro}
 use Rattle.text_spec.specs.Limits.{maxDepth, maxNodes, maxTextBytes}
-use Rattle.text_spec.specs.Lists.{isEmpty, isNone, orElse, sameBytes}
+use Rattle.text_spec.specs.Lists.{isNone, orElse, sameBytes}
 use Rattle.text_spec.specs.Refusals.{Refusal, at, given, badNesting, overDepth, undeclaredElement, badContent, overNodeLimit}
 
 -- ---- what was found stays

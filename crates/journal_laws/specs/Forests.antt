@@ -1,22 +1,20 @@
 -- What the builder makes of a whole tree: its faults, rows and contents as functions of the tree. Assumes nothing.
-use mathlib.Core.Bool.{Bool, true, false, cond, not, _&&_, _||_}
+use mathlib.Core.Bool.{Bool, true, false, not, _||_}
 use mathlib.Core.List.{List, [], _∷_, _++_, append-assoc}
-use mathlib.Core.Logic.{_⊎_, inl, inr}
-use mathlib.Core.Option.{Option, none, some}
+use mathlib.Core.Option.{Option, none}
 use mathlib.Core.Path.{_≡_, refl, sym, ap, subst, _∙_}
-use Prim.Native.Nat.{ℕ, zero, suc, _+_, _≤_, _<_, max}
-use native.Mathlib.Nat.{add-zero, zero-add}
+use Prim.Native.Nat.{ℕ, suc, _+_, _≤_, _<_}
 use native.Mathlib.Omega.{arith}
 use lib.Dec.{T, leb, ltb, leb→le}
-use lib.ListN.{length, length-append}
+use lib.ListN.{length}
 use Rattle.journal_laws.specs.Derivations.{opening, elementRow, textRow}
 use Rattle.journal_laws.specs.Events.{build}
 use Rattle.journal_laws.specs.Nesting.{tokensBuilt, tokenBuilt, tokens-cons, tokens-append, start, fromTokens}
-use Rattle.journal_laws.specs.Passes.{tokenEvents, eventsOf, solidFrom}
+use Rattle.journal_laws.specs.Passes.{eventsOf, solidFrom}
 use Rattle.journal_laws.specs.Walks.{ShallowFrom, shallow-tail, shallow-head, open-step}
-use Rattle.journal_spec.specs.Builder.{Filling, unjudged, misfit, unfilled, filledByText, filledByChildren, fillingFor, withChild, withRun, fitsAtEnd, Open, Building, building, breaks, refill, wrongRoot, begin, onStart, endOf, textNode, inside, onEvent}
-use Rattle.journal_spec.specs.Conditions.{Begins, by-start-tag, by-empty-tag}
-use Rattle.journal_spec.specs.Lexer.{Run, run, Event, ends}
+use Rattle.journal_spec.specs.Builder.{Filling, unjudged, misfit, unfilled, filledByText, filledByChildren, fillingFor, withChild, withRun, fitsAtEnd, Open, Building, building, wrongRoot, textNode, onEvent}
+use Rattle.journal_spec.specs.Conditions.{by-start-tag, by-empty-tag}
+use Rattle.journal_spec.specs.Lexer.{run}
 use Rattle.journal_spec.specs.Tokens.{Token, startTag, emptyTag, endTag, characters, spellToken, spell, openAfter}
 use Rattle.journal_spec.specs.Trees.{Forest, nothing, data-node, element-node, Spells, no-tokens, data-next, empty-tag, tag-pair, OnlyBlanks, no-blanks, blanks, OneRoot, at-once, after-blanks, Nested, height}
 use Rattle.schema_spec.specs.Schemas.{Schema, elementNamed}
@@ -26,7 +24,7 @@ use Rattle.text_laws.specs.Tests.{true-of, false-of, and-cases}
 use Rattle.text_spec.specs.Bytes.{isBlank, allBlank}
 use Rattle.text_spec.specs.Limits.{maxDepth, maxNodes, maxTextBytes}
 use Rattle.text_spec.specs.Lists.{isNone, orElse, sameBytes}
-use Rattle.text_spec.specs.Refusals.{Refusal, at, given, undeclaredElement, badContent, overNodeLimit, badNesting, overDepth}
+use Rattle.text_spec.specs.Refusals.{Refusal, at, given, undeclaredElement, badContent, overNodeLimit}
 
 -- what is held while an element is open: its content, and the faults, rows and count so far
 pub record Held : Type 0 where

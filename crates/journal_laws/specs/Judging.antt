@@ -1,10 +1,10 @@
 -- The one-pass reader's outcome is what the conditions say: the first refusal that applies, or the rows of the tree. Assumes nothing.
-use mathlib.Core.Bool.{Bool, true, false, cond, not, _&&_, _||_}
+use mathlib.Core.Bool.{Bool, true, false, not, _&&_, _||_}
 use mathlib.Core.List.{List, [], _∷_, _++_, reverse, List·Memᴰ as In, List·Memᴰ·head as here, List·Memᴰ·tail as there, List·Memᴰ·append-cases as append-cases, Memᴰ·append-left as append-left, Memᴰ·append-right as append-right}
-use mathlib.Core.Logic.{_⊎_, inl, inr, ⊎-elim}
+use mathlib.Core.Logic.{_⊎_, inl, inr}
 use mathlib.Core.Option.{Option, none, some}
 use mathlib.Core.Path.{_≡_, refl, sym, ap, subst, _∙_}
-use Prim.Native.Nat.{ℕ, zero, suc, _+_, _≤_, _<_}
+use Prim.Native.Nat.{ℕ, suc, _+_, _≤_, _<_}
 use native.Mathlib.Nat.{add-zero, zero-add}
 use native.Mathlib.Omega.{arith}
 use lib.Dec.{T, eqb, ltb, eqb→eq, ltb→lt, nltb→le}
@@ -13,29 +13,29 @@ use Rattle.journal_laws.specs.Contents.{fillingAfter, ends-content, not-
 use Rattle.journal_laws.specs.Events.{build, eventsFrom, modeAfter, ended-builds, run-mode}
 use Rattle.journal_laws.specs.Forests.{Held, treeHeld, closedBuilding, nested-built, nested-height}
 use Rattle.journal_laws.specs.Nesting.{names, start, fromTokens, builds-walk, broken-applies, early-applies, misnested-found, too-deep-found}
-use Rattle.journal_laws.specs.NodeLimits.{AllFitTree, Over, over-split, split-over, tree-rows, tree-over, over-tree, faultless-fits}
-use Rattle.journal_laws.specs.Passes.{eventsOf, tokens-lexed}
+use Rattle.journal_laws.specs.NodeLimits.{Over, over-split, split-over, tree-rows, tree-over, over-tree, faultless-fits}
+use Rattle.journal_laws.specs.Passes.{tokens-lexed}
 use Rattle.journal_laws.specs.Spellings.{unmisspelt-tokens, misspelt-applies, misspelt-least}
-use Rattle.journal_laws.specs.Undeclared.{Late, late-14, late-15, late-16, late-number, reasons-of, found-14, undeclared-listed}
-use Rattle.journal_laws.specs.Walks.{Walks, ShallowFrom, spelt-parted, walk-nested}
-use Rattle.journal_spec.specs.Builder.{Filling, fillingOf, fillingFor, fitsAtEnd, wrongRoot, Open, Building, building}
+use Rattle.journal_laws.specs.Undeclared.{Late, late-14, late-15, late-16, reasons-of, found-14, undeclared-listed}
+use Rattle.journal_laws.specs.Walks.{Walks, spelt-parted, walk-nested}
+use Rattle.journal_spec.specs.Builder.{fillingOf, fillingFor, fitsAtEnd, wrongRoot, Open, Building}
 use Rattle.journal_spec.specs.Conditions.{JournalApplies, length-2, byte-3, misspelt-11, nesting-12, depth-13, undeclared-14, content-15, nodes-16, JournalGives, gives, Misnested, TooDeep, Undeclared, undeclared, Misfit, bad-root, bad-content, OverLimit, over}
 use Rattle.journal_spec.specs.Lexer.{Mode, Event, between, misspeltAt}
-use Rattle.journal_spec.specs.Reading.{Machine, initial, step, run, ended, endsEarly, machineRefusals, readJournal}
+use Rattle.journal_spec.specs.Reading.{Machine, initial, step, run, endsEarly, machineRefusals, readJournal}
 use Rattle.journal_spec.specs.Tokens.{Token, Tokens}
-use Rattle.journal_spec.specs.Trees.{Forest, Nested, WellFormedText, treeRows, treeStarts, NodeStart}
-use Rattle.journal_spec.specs.Validity.{InTree, the-root, ContentFits}
+use Rattle.journal_spec.specs.Trees.{Forest, WellFormedText, treeStarts, NodeStart}
+use Rattle.journal_spec.specs.Validity.{the-root}
 use Rattle.schema_spec.specs.Schemas.{Schema, elementNamed, contentAt}
 use Rattle.table_spec.specs.Rows.{Row}
 use Rattle.text_laws.specs.Lists.{in-map, in-any, any-in}
 use Rattle.text_laws.specs.Order.{NoLater, judged-least, found-all}
 use Rattle.text_laws.specs.Refusals.{in-given, given-in}
-use Rattle.text_laws.specs.Tests.{passed, failed, and-cases, and-intro, or-cases, or-left, or-right, not-intro, not-elim, decided}
+use Rattle.text_laws.specs.Tests.{passed, and-cases, and-intro, not-intro, not-elim, decided}
 use Rattle.text_laws.specs.Texts.{length-found, length-listed, split-first, split-later}
 use Rattle.text_spec.specs.Bytes.{isForeign}
 use Rattle.text_spec.specs.Limits.{maxNodes, maxTextBytes}
 use Rattle.text_spec.specs.Lists.{isEmpty, isNone, listOf, anyOf}
-use Rattle.text_spec.specs.Refusals.{Reason, Refusal, numberOf, at, allAt, given, badLength, badByte, misspelt, badNesting, overDepth, undeclaredElement, badContent, overNodeLimit, Outcome, judged, Judged}
+use Rattle.text_spec.specs.Refusals.{Reason, Refusal, numberOf, at, allAt, given, badLength, badByte, misspelt, badNesting, overDepth, undeclaredElement, badContent, overNodeLimit, judged, Judged}
 use Rattle.text_spec.specs.Texts.{SplitAt, lengthRefusals, ByteApplies}
 
 -- ---- refusal 3

@@ -13,7 +13,7 @@ use Rattle.schema_spec.specs.Schemas.{Schema}
 use Rattle.table_spec.specs.Rows.{Row}
 use Rattle.text_spec.specs.Limits.{maxDepth, maxNodes, maxTextBytes}
 use Rattle.text_spec.specs.Lists.{isEmpty, isNone, sameBytes}
-use Rattle.text_spec.specs.Refusals.{Refusal, at, given, badNesting, overDepth, badContent, overNodeLimit}
+use Rattle.text_spec.specs.Refusals.{at, given, badNesting, overDepth, badContent, overNodeLimit}
 
 -- the ways to go on from any building: broken by 12, or with an element ended
 pub record KeptByEnds (P : Building → Type 0) : Type 0 where

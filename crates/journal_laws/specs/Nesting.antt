@@ -1,21 +1,21 @@
 -- The builder breaks exactly where tokens stop nesting (12) or open depth 65 (13). Assumes nothing.
-use mathlib.Core.Bool.{Bool, true, false, cond, not, _&&_, _||_}
-use mathlib.Core.List.{List, [], _∷_, _++_, map, append-assoc, append-nil, List·Memᴰ as In, List·Memᴰ·head as here, List·Memᴰ·tail as there}
+use mathlib.Core.Bool.{Bool, true, false, cond, not}
+use mathlib.Core.List.{List, [], _∷_, _++_, append-assoc, append-nil, List·Memᴰ·head as here}
 use mathlib.Core.Logic.{_⊎_, inl, inr}
 use mathlib.Core.Option.{Option, none, some}
 use mathlib.Core.Path.{_≡_, refl, sym, ap, subst, _∙_}
-use Prim.Native.Nat.{ℕ, zero, suc, _+_, _≤_, _<_}
+use Prim.Native.Nat.{ℕ, suc, _+_, _≤_, _<_}
 use native.Mathlib.Nat.{add-zero, zero-add}
 use native.Mathlib.Omega.{arith}
 use lib.Dec.{T, leb, leb→le, nleb→lt}
-use lib.ListN.{length, length-append, length-map}
+use lib.ListN.{length, length-append}
 use Rattle.journal_laws.specs.Events.{build}
 use Rattle.journal_laws.specs.Passes.{tokenEvents, eventsOf, solidFrom}
-use Rattle.journal_laws.specs.Walks.{Moves, root-starts, starts-in, root-empty, empty-in, ends-in, blanks-out, data-in, Walks, stays, move, moves-once, walks-append, Split, walks-split, ShallowFrom, shallow-tail, shallow-head, shallow-none, shallow-cons, move-depth, walk-depth, walk-shallow, nested-walk, Parted, spelt-parted, spell-length, walk-nested, walk-beginning, beginning-walk, parted-first}
-use Rattle.journal_spec.specs.Builder.{Filling, unjudged, misfit, unfilled, filledByText, filledByChildren, withChild, withRun, fitsAtEnd, Open, Building, building, breaks, refill, begin, onStart, endOf, onEnd, outside, textNode, inside, onRun, onUnbroken, onEvent}
+use Rattle.journal_laws.specs.Walks.{Moves, root-starts, starts-in, root-empty, empty-in, ends-in, blanks-out, data-in, Walks, stays, move, moves-once, walks-append, walks-split, ShallowFrom, shallow-tail, shallow-head, shallow-none, shallow-cons, move-depth, walk-depth, walk-shallow, nested-walk, Parted, spelt-parted, spell-length, walk-nested, walk-beginning, beginning-walk, parted-first}
+use Rattle.journal_spec.specs.Builder.{Filling, unjudged, misfit, unfilled, filledByText, filledByChildren, withRun, fitsAtEnd, Open, Building, building, breaks, refill, begin, onStart, endOf, outside, textNode, inside, onEvent}
 use Rattle.journal_spec.specs.Conditions.{NestedBeginning, Begins, by-start-tag, by-empty-tag, Shallow, OffendsAt, start-tag, empty-tag, end-tag, solid-byte, Misnested, offends, ends-early, TooDeep, too-deep}
-use Rattle.journal_spec.specs.Lexer.{Run, run, Event, quiet, starts, empties, ends, runs}
-use Rattle.journal_spec.specs.Tokens.{Token, startTag, emptyTag, endTag, characters, spellToken, spell, TagNext, Tokens, openAfter}
+use Rattle.journal_spec.specs.Lexer.{run, Event, ends}
+use Rattle.journal_spec.specs.Tokens.{Token, startTag, emptyTag, endTag, characters, spellToken, spell, Tokens, openAfter}
 use Rattle.journal_spec.specs.Trees.{Forest, Nested}
 use Rattle.schema_spec.specs.Schemas.{Schema}
 use Rattle.table_spec.specs.Rows.{Row}
@@ -24,9 +24,8 @@ use Rattle.text_laws.specs.Lists.{bytes-equal, bytes-same}
 use Rattle.text_laws.specs.Tests.{passed, failed, true-of, false-of, and-cases, and-intro}
 use Rattle.text_spec.specs.Bytes.{isBlank, allBlank}
 use Rattle.text_spec.specs.Limits.{maxDepth}
-use Rattle.text_spec.specs.Lists.{isEmpty, isNone, sameBytes}
+use Rattle.text_spec.specs.Lists.{isNone, sameBytes}
 use Rattle.text_spec.specs.Refusals.{Refusal, at, badNesting, overDepth}
-use Rattle.text_spec.specs.Texts.{SplitAt}
 
 abbrev pub names : List Open → List (List ℕ)
 names [] = []

@@ -1,30 +1,30 @@
 -- Rows and refusal 16 over valid trees: the rows built are the tree's, and the faults found are its nodes beyond a limit. Assumes nothing.
-use mathlib.Core.Bool.{Bool, true, false, cond, not, _&&_, _||_}
-use mathlib.Core.List.{List, [], _∷_, _++_, reverse, reverseAux, reverseAux-append, append-nil, List·Memᴰ as In, List·Memᴰ·head as here, List·Memᴰ·tail as there, List·Memᴰ·append-cases as append-cases, Memᴰ·append-left as append-left, Memᴰ·append-right as append-right}
-use mathlib.Core.Logic.{_⊎_, inl, inr, ⊎-elim}
+use mathlib.Core.Bool.{Bool, true, false, cond, not, _||_}
+use mathlib.Core.List.{List, [], _∷_, _++_, reverse, reverseAux, reverseAux-append, append-nil, List·Memᴰ as In, List·Memᴰ·head as here, List·Memᴰ·append-cases as append-cases, Memᴰ·append-left as append-left, Memᴰ·append-right as append-right}
+use mathlib.Core.Logic.{_⊎_, inl, inr}
 use mathlib.Core.Option.{Option, none, some}
 use mathlib.Core.Path.{_≡_, refl, sym, ap, subst, _∙_}
-use Prim.Native.Nat.{ℕ, zero, suc, _+_, _≤_, _<_}
-use native.Mathlib.Nat.{add-zero, zero-add}
+use Prim.Native.Nat.{ℕ, suc, _+_, _≤_, _<_}
+use native.Mathlib.Nat.{add-zero}
 use native.Mathlib.Omega.{arith}
 use lib.Dec.{T, leb, ltb, leb→le, le→leb, ltb→lt, lt→ltb}
 use lib.ListN.{length, length-append}
 use Rattle.journal_laws.specs.Accepted.{reverse-twice}
-use Rattle.journal_laws.specs.Contents.{forest-grows, start-grows, end-grows, run-grows, run-filling, given-other, fillingAfter, ends-content, not-declared, not-fitting, tree-faulty}
+use Rattle.journal_laws.specs.Contents.{forest-grows, end-grows, run-filling, given-other, fillingAfter, ends-content, not-declared, not-fitting, tree-faulty}
 use Rattle.journal_laws.specs.Derivations.{elementRow, textRow, MakesNoText, no-text-unjudged, no-text-misfit, no-text-unfilled, no-text-children}
 use Rattle.journal_laws.specs.Forests.{Held, held, runHeld, afterRun, atStart, atEnd, afterForest, rootStart, treeHeld}
 use Rattle.journal_laws.specs.Passes.{solidFrom}
-use Rattle.journal_spec.specs.Builder.{Filling, unjudged, misfit, unfilled, filledByText, filledByChildren, fillingOf, fillingFor, withChild, withRun, fitsAtEnd, wrongRoot}
+use Rattle.journal_spec.specs.Builder.{Filling, unjudged, filledByText, fillingOf, fillingFor, withChild, withRun, fitsAtEnd, wrongRoot}
 use Rattle.journal_spec.specs.Trees.{Forest, nothing, data-node, element-node, indexOf, countIn, rowsUnder, treeRows, NodeStart, startsUnder, treeStarts}
-use Rattle.journal_spec.specs.Validity.{OnlyData, no-data, more, ContentFits, fits-empty, fits-pcdata, fits-children, Occurs, here as occurs-here, inside, after-element, after-data, InTree, the-root, below}
+use Rattle.journal_spec.specs.Validity.{OnlyData, more, ContentFits, fits-pcdata, Occurs, here as occurs-here, inside, after-element, after-data, InTree, the-root, below}
 use Rattle.schema_spec.specs.Models.{Content, empty, pcdata, children}
 use Rattle.schema_spec.specs.Schemas.{Schema, elementNamed, contentAt, isPcdata}
 use Rattle.table_spec.specs.Rows.{Row}
 use Rattle.text_laws.specs.Refusals.{in-given, given-in}
-use Rattle.text_laws.specs.Tests.{passed, failed, or-left, or-right, or-cases}
+use Rattle.text_laws.specs.Tests.{passed, or-left, or-right, or-cases}
 use Rattle.text_spec.specs.Limits.{maxNodes, maxTextBytes}
 use Rattle.text_spec.specs.Lists.{isNone, orElse}
-use Rattle.text_spec.specs.Refusals.{Reason, Refusal, numberOf, at, given, undeclaredElement, badContent, overNodeLimit}
+use Rattle.text_spec.specs.Refusals.{Refusal, numberOf, at, given, undeclaredElement, badContent, overNodeLimit}
 use Rattle.text_spec.specs.Texts.{SplitAt}
 
 -- each element is declared, and its content fits

@@ -1,5 +1,5 @@
 -- What the lexer makes of well-spelt bytes: names, blanks, tags, entities, character data. Assumes nothing.
-use mathlib.Core.Bool.{Bool, true, false, cond, not, _&&_, _||_}
+use mathlib.Core.Bool.{Bool, true, false, cond, _&&_, _||_}
 use mathlib.Core.List.{List, [], _∷_, _++_, append-assoc, append-nil}
 use mathlib.Core.Logic.{_⊎_, inl, inr}
 use mathlib.Core.Option.{Option, none, some}
@@ -10,12 +10,12 @@ use native.Mathlib.Omega.{arith}
 use lib.Dec.{T, eqb, leb, ltb, eqb→eq, lt→ltb, le→leb, leb→le}
 use lib.ListN.{length, length-append}
 use Rattle.journal_laws.specs.Events.{told, eventsFrom, modeAfter}
-use Rattle.journal_spec.specs.Lexer.{Run, run, Mode, between, inData, inEntity, opened, inName, afterName, afterSlash, ending, inEndName, afterEndName, stopped, Event, quiet, starts, empties, ends, runs, Lexed, goes, tells, solidBy, firstSolid, dataByte, lex, lastEvent, misspeltAt, tagByte, endTagByte, longer}
+use Rattle.journal_spec.specs.Lexer.{Run, run, Mode, between, inData, opened, inName, afterName, afterSlash, ending, inEndName, afterEndName, Event, quiet, starts, empties, ends, runs, Lexed, goes, tells, solidBy, firstSolid, dataByte, lex, misspeltAt, tagByte, endTagByte}
 use Rattle.journal_spec.specs.Tokens.{Token, startTag, emptyTag, endTag, characters, spellToken, spell, Entity, lt, gt, amp, apos, quot, isPlain, Pieces, none as no-piece, plain, entity, sectionEnd, NoSectionEnd, Spelt, start-spelt, empty-spelt, end-spelt, characters-spelt, TagNext, no-token, start-next, empty-next, end-next, AllSpelt, none as all-none, tag, data-then, Tokens}
-use Rattle.text_laws.specs.Tests.{passed, failed, true-of, false-of, and-cases, and-intro, or-left, or-right, or-cases, not-elim, cond-true, cond-false}
-use Rattle.text_spec.specs.Bytes.{isBlank, isLetter, isDigit, within, isName, startsName, continuesName, allBlank}
+use Rattle.text_laws.specs.Tests.{passed, failed, true-of, false-of, and-cases, or-left, or-right, or-cases, not-elim}
+use Rattle.text_spec.specs.Bytes.{isBlank, isName, startsName, continuesName, allBlank}
 use Rattle.text_spec.specs.Limits.{maxNameBytes}
-use Rattle.text_spec.specs.Lists.{allOf, isEmpty}
+use Rattle.text_spec.specs.Lists.{allOf}
 
 -- the events of bytes, before the end is known
 unfoldable pub eventsOver : Mode → ℕ → List ℕ → List Event

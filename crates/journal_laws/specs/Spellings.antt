@@ -1,21 +1,21 @@
 -- Every text is either spelt by tokens, or misspelt where the lexer says so. Assumes nothing.
-use mathlib.Core.Bool.{Bool, true, false, cond, not, _&&_, _||_}
+use mathlib.Core.Bool.{Bool, true, false, cond, _&&_, _||_}
 use mathlib.Core.List.{List, [], _∷_, _++_, map, append-assoc, append-nil, List·Memᴰ as In, List·Memᴰ·head as here, List·Memᴰ·tail as there}
 use mathlib.Core.Logic.{_⊎_, inl, inr}
-use mathlib.Core.Option.{Option, none, some}
+use mathlib.Core.Option.{none}
 use mathlib.Core.Path.{_≡_, refl, sym, ap, subst, _∙_}
 use Prim.Native.Nat.{ℕ, zero, suc, _+_, _-_, _≤_, _<_}
 use native.Mathlib.Nat.{add-zero, zero-add}
 use native.Mathlib.Omega.{arith}
-use lib.Dec.{T, eqb, leb, ltb, eqb→eq, eqb-refl, lt→ltb, le→leb, leb→le, ltb→lt}
+use lib.Dec.{T, eqb, leb, ltb, eqb→eq, eqb-refl, le→leb, leb→le, ltb→lt}
 use lib.ListN.{length, drop, length-append}
 use Rattle.journal_laws.specs.Events.{told, eventsFrom, modeAfter, cond-cases}
-use Rattle.journal_laws.specs.Passes.{mode-append, Passes, passes-none, passes-byte, passes-append, passes-mode, passes-events, tokenEvents, whole-tag-passes, noEnd, brackets, brackets-more, brackets-end, last-two, no-end-means, means-no-end, data-lex, between-lex, entity-resets, tag-spelling, tagRest, pieces-not-tag, plain-parts, entity-passes, tag-opens, blank-cases}
+use Rattle.journal_laws.specs.Passes.{mode-append, Passes, passes-none, passes-byte, passes-append, passes-events, tokenEvents, whole-tag-passes, noEnd, brackets, brackets-more, brackets-end, last-two, no-end-means, data-lex, entity-resets, tag-spelling, tagRest, pieces-not-tag, plain-parts, entity-passes, tag-opens, blank-cases}
 use Rattle.journal_spec.specs.Conditions.{Stretch, nothing-yet, a-tag, a-byte, an-entity, MisspeltHere, bad-tag, bad-entity, section-end, Misspelt}
-use Rattle.journal_spec.specs.Lexer.{Run, run, Mode, between, inData, inEntity, opened, inName, afterName, afterSlash, ending, inEndName, afterEndName, stopped, Event, quiet, starts, empties, ends, runs, Lexed, goes, tells, solidBy, tailsWith, dataByte, entityByte, lex, lastEvent, misspeltAt, tagByte, endTagByte, longer}
-use Rattle.journal_spec.specs.Tokens.{Token, startTag, emptyTag, endTag, characters, spellToken, spell, entities, Entity, lt, gt, amp, apos, quot, isPlain, Pieces, none as no-piece, plain, entity, sectionEnd, NoSectionEnd, Spelt, start-spelt, empty-spelt, end-spelt, characters-spelt, TagNext, no-token, start-next, empty-next, end-next, AllSpelt, none as all-none, tag, data-then, Tokens}
+use Rattle.journal_spec.specs.Lexer.{Run, run, Mode, between, inData, inEntity, opened, inName, afterName, afterSlash, ending, inEndName, afterEndName, stopped, Event, runs, Lexed, goes, tells, solidBy, tailsWith, dataByte, entityByte, lex, misspeltAt, tagByte, endTagByte, longer}
+use Rattle.journal_spec.specs.Tokens.{Token, startTag, emptyTag, endTag, spellToken, spell, entities, Entity, lt, gt, amp, apos, quot, isPlain, Pieces, none as no-piece, plain, entity, sectionEnd, Spelt, start-spelt, empty-spelt, end-spelt, characters-spelt, TagNext, no-token, start-next, empty-next, end-next, AllSpelt, none as all-none, tag, data-then, Tokens}
 use Rattle.text_laws.specs.Lists.{any-in, in-any, empty-of, append-empty, member-fills}
-use Rattle.text_laws.specs.Tests.{passed, failed, true-of, false-of, and-cases, and-intro, or-left, or-right, or-cases, not-elim, not-intro}
+use Rattle.text_laws.specs.Tests.{passed, failed, true-of, and-cases, and-intro, or-cases, not-intro}
 use Rattle.text_spec.specs.Bytes.{isBlank, isName, startsName, continuesName, allBlank}
 use Rattle.text_spec.specs.Limits.{maxNameBytes}
 use Rattle.text_spec.specs.Lists.{anyOf, allOf, isEmpty}

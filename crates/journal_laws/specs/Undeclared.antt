@@ -1,29 +1,29 @@
 -- Refusal 14 over tokens: it is found for exactly the tags of undeclared elements. What reasons the builder gives. Assumes nothing.
-use mathlib.Core.Bool.{Bool, true, false, cond, not, _&&_, _||_}
-use mathlib.Core.List.{List, [], _∷_, _++_, List·Memᴰ as In, List·Memᴰ·head as here, List·Memᴰ·tail as there, List·Memᴰ·append-cases as append-cases, Memᴰ·append-left as append-left, Memᴰ·append-right as append-right}
+use mathlib.Core.Bool.{Bool, true, false, cond, not}
+use mathlib.Core.List.{List, [], _∷_, _++_, List·Memᴰ as In, List·Memᴰ·append-cases as append-cases, Memᴰ·append-left as append-left, Memᴰ·append-right as append-right}
 use mathlib.Core.Logic.{_⊎_, inl, inr}
 use mathlib.Core.Option.{Option, none, some}
 use mathlib.Core.Path.{_≡_, refl, sym, ap, subst, _∙_}
-use Prim.Native.Nat.{ℕ, suc, _+_, _≤_, _<_}
+use Prim.Native.Nat.{ℕ, _+_, _≤_}
 use native.Mathlib.Nat.{add-zero, zero-add}
 use native.Mathlib.Omega.{arith}
-use lib.Dec.{T, leb, ltb}
+use lib.Dec.{T, leb}
 use lib.ListN.{length, length-append}
 use Rattle.journal_laws.specs.Contents.{given-other}
 use Rattle.journal_laws.specs.Events.{build, cond-both}
 use Rattle.journal_laws.specs.Kept.{KeptByEnds, KeptByRuns, KeptByStarts, keep-end, keep-run, keep-event}
 use Rattle.journal_laws.specs.Nesting.{tokensBuilt, tokenBuilt, tokens-cons, tokens-append, start, fromTokens, unbroken-before, unbroken-form}
-use Rattle.journal_laws.specs.Passes.{tokenEvents, eventsOf, solidFrom}
-use Rattle.journal_spec.specs.Builder.{Filling, unjudged, misfit, unfilled, filledByText, filledByChildren, withRun, fitsAtEnd, Open, Building, building, breaks, refill, wrongRoot, begin, onStart, endOf, onEnd, outside, textNode, inside, onRun, onUnbroken, onEvent}
+use Rattle.journal_laws.specs.Passes.{eventsOf, solidFrom}
+use Rattle.journal_spec.specs.Builder.{fitsAtEnd, Open, Building, building, breaks, wrongRoot, begin, onStart, onEnd, onRun, onEvent}
 use Rattle.journal_spec.specs.Conditions.{Begins, by-start-tag, by-empty-tag, Undeclared, undeclared}
-use Rattle.journal_spec.specs.Lexer.{Run, run, Event, quiet, starts, empties, ends, runs}
+use Rattle.journal_spec.specs.Lexer.{Run, run, Event, starts, ends, runs}
 use Rattle.journal_spec.specs.Tokens.{Token, startTag, emptyTag, endTag, characters, spellToken, spell, Tokens}
 use Rattle.schema_spec.specs.Schemas.{Schema, elementNamed}
 use Rattle.table_spec.specs.Rows.{Row}
 use Rattle.table_laws.specs.Places.{none-some}
 use Rattle.text_laws.specs.Refusals.{in-given, given-in}
-use Rattle.text_spec.specs.Limits.{maxDepth, maxNodes, maxTextBytes}
-use Rattle.text_spec.specs.Lists.{isEmpty, isNone, sameBytes}
+use Rattle.text_spec.specs.Limits.{maxDepth, maxNodes}
+use Rattle.text_spec.specs.Lists.{isEmpty, isNone}
 use Rattle.text_spec.specs.Refusals.{Reason, Refusal, numberOf, at, given, badNesting, overDepth, undeclaredElement, badContent, overNodeLimit}
 
 -- ---- faults stay

@@ -1,19 +1,16 @@
 -- Tokens as moves on a stack of open names, and the trees that such walks spell. Assumes nothing.
-use mathlib.Core.Bool.{Bool, true, false, cond, not, _&&_, _||_}
-use mathlib.Core.List.{List, [], _∷_, _++_, map, append-assoc, append-nil}
-use mathlib.Core.Logic.{_⊎_, inl, inr}
+use mathlib.Core.Bool.{Bool, true, false}
+use mathlib.Core.List.{List, [], _∷_, _++_, append-assoc, append-nil}
 use mathlib.Core.Path.{_≡_, refl, sym, ap, subst, _∙_}
 use Prim.Native.Nat.{ℕ, zero, suc, _+_, _≤_, _<_}
-use native.Mathlib.Nat.{add-zero, zero-add}
 use native.Mathlib.Omega.{arith}
 use lib.Dec.{T}
 use lib.ListN.{length, length-append}
-use Rattle.journal_spec.specs.Conditions.{NestedBeginning, Begins, by-start-tag, by-empty-tag, Shallow}
-use Rattle.journal_spec.specs.Tokens.{Token, startTag, emptyTag, endTag, characters, spellToken, spell, Spelt, characters-spelt, TagNext, no-token, start-next, empty-next, end-next, AllSpelt, none as all-none, tag, data-then, openAfter}
+use Rattle.journal_spec.specs.Conditions.{NestedBeginning, Begins, by-start-tag}
+use Rattle.journal_spec.specs.Tokens.{Token, startTag, emptyTag, endTag, characters, spellToken, spell, TagNext, no-token, start-next, empty-next, end-next, AllSpelt, none as all-none, tag, data-then, openAfter}
 use Rattle.journal_spec.specs.Trees.{Forest, nothing, data-node, element-node, Spells, no-tokens, data-next, empty-tag, tag-pair, OnlyBlanks, no-blanks, blanks, OneRoot, at-once, after-blanks, Nested}
 use Rattle.text_spec.specs.Bytes.{allBlank}
 use Rattle.text_spec.specs.Limits.{maxDepth}
-use Rattle.text_spec.specs.Lists.{isEmpty}
 
 -- one token: the open names and whether the root has begun, before and after it
 pub data Moves : List (List ℕ) → Bool → Token → List (List ℕ) → Bool → Type 0 where
