@@ -1,53 +1,39 @@
 -- The rows of an accepted journal are a well-formed table beside its text. Assumes nothing.
-use mathlib.Core.Bool.{Bool, true, false, cond, not, _&&_, _||_}
+use mathlib.Core.Bool.{Bool, true, false, not, _&&_, _||_}
 use mathlib.Core.List.{List, [], _∷_, _++_, reverse, reverseAux, append-nil, List·Memᴰ as In, List·Memᴰ·head as here, List·Memᴰ·tail as there, List·Memᴰ·append-cases as append-cases}
-use mathlib.Core.Logic.{_⊎_, inl, inr, ⊎-elim}
+use mathlib.Core.Logic.{_⊎_, inl, inr}
 use mathlib.Core.Option.{Option, none, some}
 use mathlib.Core.Path.{_≡_, refl, sym, ap, subst, _∙_}
 use Prim.Native.Nat.{ℕ, zero, suc, _+_, _≤_, _<_}
 use native.Mathlib.Omega.{arith}
-use lib.Dec.{T, eqb, leb, ltb, eqb-refl, eqb→eq, lt→ltb, le→leb}
+use lib.Dec.{T, eqb, leb, eqb-refl, le→leb}
 use lib.ListN.{length, take, drop, getElem?, length-append, length-drop}
 use lib.Seq.{length-take-le}
-use Rattle.journal_laws.specs.Derivations.{Derives, finished, root-begins, child-begins, element-ends, blanks-outside, run-inside, text-inside, opening, elementRow, textRow, MakesNoText, no-text-unjudged, no-text-misfit, no-text-unfilled, no-text-children, Clean, Accepts, derivation}
-use Rattle.journal_laws.specs.Events.{build, eventsFrom, ended-builds, run-mode, InTurn, events-in-turn, none-foreign}
-use Rattle.journal_laws.specs.Fillings.{Completable, AllCompletable, all-completable, parent-completable, Fills, fills-begun, fills-child, fills-run, fills-text, child-held, text-held}
-use Rattle.journal_spec.specs.Builder.{Filling, unjudged, misfit, unfilled, filledByText, filledByChildren, fillingOf, withChild, withRun, Open, Building, building, refill}
-use Rattle.journal_spec.specs.Lexer.{Run, Event, Mode, between, misspeltAt}
+use Rattle.journal_laws.specs.Derivations.{Derives, finished, root-begins, child-begins, element-ends, blanks-outside, run-inside, text-inside, opening, elementRow, textRow, MakesNoText, no-text-unjudged, no-text-misfit, no-text-unfilled, no-text-children, Accepts, derivation}
+use Rattle.journal_laws.specs.Events.{eventsFrom, ended-builds, events-in-turn, none-foreign}
+use Rattle.journal_laws.specs.Fillings.{Completable, all-completable, parent-completable, Fills, fills-begun, fills-child, fills-run, child-held, text-held}
+use Rattle.journal_spec.specs.Builder.{Filling, unjudged, misfit, unfilled, filledByText, filledByChildren, fillingOf, withChild, withRun, Open, Building, refill}
+use Rattle.journal_spec.specs.Lexer.{Event, between, misspeltAt}
 use Rattle.journal_spec.specs.Reading.{Machine, initial, run, ended, readJournal, machineRefusals, endsEarly}
-use Rattle.schema_spec.specs.Models.{Content, pcdata}
-use Rattle.schema_spec.specs.Names.{Name, element, text, isText, sameName}
+use Rattle.schema_spec.specs.Names.{Name, element, text, isText}
 use Rattle.schema_spec.specs.Schemas.{Schema, contentAt}
 use Rattle.schema_spec.specs.Types.{Types, typesOf, holds}
+use Rattle.table_laws.specs.Fits.{RowFits, fits-row}
+use Rattle.table_laws.specs.Nodes.{nodes-same, nodes-equal}
+use Rattle.table_laws.specs.Places.{none-some, at-before, at-end, at-in}
 use Rattle.table_spec.specs.Nodes.{Node, top, under, numberOf, nameOf, same, isAbove, depthOf, nodeAt, attach}
 use Rattle.table_spec.specs.Rows.{Row, textOf}
-use Rattle.table_spec.specs.Tables.{parentOpen, parentHolds, sameParent, firstText, textFits, rowFits, laterRows, wellFormed, textInside, wellFormedWith}
-use Rattle.text_laws.specs.Lists.{any-in, in-any, all-in, in-all, bytes-same, append-empty}
+use Rattle.table_spec.specs.Tables.{sameParent, firstText, rowFits, laterRows, wellFormed, textInside, wellFormedWith}
+use Rattle.text_laws.specs.Lists.{in-any, in-all, append-empty}
 use Rattle.text_laws.specs.Refusals.{judged-accepted, given-free}
-use Rattle.text_laws.specs.Tests.{passed, failed, or-left, or-right, or-cases, and-intro, and-cases, not-intro}
+use Rattle.text_laws.specs.Tests.{or-left, or-right, and-intro, and-cases, not-intro}
 use Rattle.text_spec.specs.Bytes.{isForeign}
 use Rattle.text_spec.specs.Limits.{maxDepth, maxNodes, maxTextBytes}
-use Rattle.text_spec.specs.Lists.{anyOf, allOf, isNone, isEmpty, listOf, sameBytes, part}
-use Rattle.text_spec.specs.Refusals.{Refusal, Outcome, accepted, at, allAt, given, misspelt, badNesting}
+use Rattle.text_spec.specs.Lists.{anyOf, allOf, isNone, isEmpty, listOf}
+use Rattle.text_spec.specs.Refusals.{Refusal, accepted, at, allAt, given, misspelt, badNesting}
 use Rattle.text_spec.specs.Texts.{lengthRefusals}
 
 -- ---- nodes
-
-same-name : (n : Name) → T (sameName n n)
-same-name (element e) = eqb-refl e
-same-name (text e) = eqb-refl e
-
-same-node : (x : Node) → T (same x x)
-same-node (top k n) = and-intro (eqb k k) (sameName n n) (eqb-refl k) (same-name n)
-same-node (under k n w p) =
-    and-intro (eqb k k) (sameName n n && (sameBytes w w && same p p)) (eqb-refl k)
-    (and-intro (sameName n n) (sameBytes w w && same p p) (same-name n) (and-intro (sameBytes w w) (same p p) (bytes-same w) (same-node p)))
-
-same-number : (x y : Node) → T (same x y) → numberOf x ≡ numberOf y
-same-number (top k n) (top l m) t = eqb→eq k l (and-cases (eqb k l) (sameName n m) t .0)
-same-number (top k n) (under l m v q) t = absurd t
-same-number (under k n w p) (top l m) t = absurd t
-same-number (under k n w p) (under l m v q) t = eqb→eq k l (and-cases (eqb k l) (sameName n m && (sameBytes w v && same p q)) t .0)
 
 -- a node is another or above it
 pub data UpFrom (p : Node) : Node → Type 0 where
@@ -59,7 +45,7 @@ up-parent itself = above itself
 up-parent (above h) = above (up-parent h)
 
 up-open : (p q : Node) → UpFrom p q → T (same p q || isAbove p q)
-up-open p q itself = or-left (same p p) (isAbove p p) (same-node p)
+up-open p q itself = or-left (same p p) (isAbove p p) (nodes-same p)
 up-open p q (above {k = k} {n = n} {w = w} {q = r} h) = or-right (same p (under k n w r)) (same p r || isAbove p r) (up-open p r h)
 
 -- a number is below n, and the parent's number below it
@@ -70,18 +56,6 @@ ParentBefore (under k n w p) = numberOf p < k
 record Numbered (n : ℕ) (z : Node) : Type 0 where
   below : numberOf z < n
   ordered : ParentBefore z
-
-module _ {A : Type 0} where
-  at-append : (xs ys : List A) (i : ℕ) (x : A) → getElem? xs i ≡ some x → getElem? (xs ++ ys) i ≡ some x
-  at-append [] ys i x e =
-      let z : _≡_ {A = ℕ} 0 1 = cc in
-      absurd (omega arith)
-  at-append (y ∷ xs) ys zero x e = e
-  at-append (y ∷ xs) ys (suc i) x e = at-append xs ys i x e
-
-  at-end : (xs : List A) (y : A) (i : ℕ) → length xs ≡ i → getElem? (xs ++ (y ∷ [])) i ≡ some y
-  at-end [] y i e = subst (λ (j : ℕ). getElem? (y ∷ []) j ≡ some y) e refl
-  at-end (x ∷ xs) y i e = subst (λ (j : ℕ). getElem? (x ∷ (xs ++ (y ∷ []))) j ≡ some y) e (at-end xs y (length xs) refl)
 
 -- ---- the open elements and their nodes
 
@@ -104,9 +78,9 @@ chain-depth (the-root h f) = refl
 chain-depth (nested h f m c) = ap suc (chain-depth c)
 
 chain-more : {s : Schema} {before : List Node} {os : List Open} {p : Node} (y : Node) → Chain s before os p → Chain s (before ++ (y ∷ [])) os p
-chain-more {before = before} y (the-root {o = o} {k = k} {e = e} h f) = the-root (at-append before (y ∷ []) (o .row) (top k (element e)) h) f
+chain-more {before = before} y (the-root {o = o} {k = k} {e = e} h f) = the-root (at-before before (y ∷ []) (o .row) (top k (element e)) h) f
 chain-more {before = before} y (nested {o = o} {k = k} {e = e} {w = w} {p = p} h f m c) =
-    nested (at-append before (y ∷ []) (o .row) (under k (element e) w p) h) f m (chain-more y c)
+    nested (at-before before (y ∷ []) (o .row) (under k (element e) w p) h) f m (chain-more y c)
 
 -- the innermost content changes
 chain-refill : {s : Schema} {before : List Node} {o : Open} {os : List Open} {p : Node} (g : Filling → Filling) → ((e : ℕ) (f : Filling) → Fills s e f → Fills s e (g f))
@@ -123,17 +97,11 @@ child-no-text a (filledByChildren q) = no-text-children
 
 -- ---- one row more
 
-later-row : (ty : Types) (before : List Node) (previous : Node) (r : Row) (y : Node) (rs : List Row) → nodeAt [] before r ≡ y
-    → numberOf previous < r .number → r .number < maxNodes → T (parentOpen previous y) → T (parentHolds ty y) → depthOf y ≤ maxDepth → T (firstText before y)
-    → T (textFits (r .name) r) → T (laterRows ty (before ++ (y ∷ [])) y rs) → T (laterRows ty before previous (r ∷ rs))
-later-row ty before previous r y rs e rises few opens held shallow first fits rest =
+later-row : (ty : Types) (before : List Node) (previous : Node) (r : Row) (y : Node) (rs : List Row) → nodeAt [] before r ≡ y → RowFits ty before previous r y
+    → T (laterRows ty (before ++ (y ∷ [])) y rs) → T (laterRows ty before previous (r ∷ rs))
+later-row ty before previous r y rs e f rest =
     subst (λ (z : Node). T (rowFits ty before previous r z && laterRows ty (before ++ (z ∷ [])) z rs)) (sym e)
-    (and-intro (rowFits ty before previous r y) (laterRows ty (before ++ (y ∷ [])) y rs)
-    (and-intro (ltb (numberOf previous) (r .number)) _ (lt→ltb (numberOf previous) (r .number) rises)
-    (and-intro (ltb (r .number) maxNodes) _ (lt→ltb (r .number) maxNodes few)
-    (and-intro (parentOpen previous y) _ opens
-    (and-intro (parentHolds ty y) _ held
-    (and-intro (leb (depthOf y) maxDepth) _ (le→leb (depthOf y) maxDepth shallow) (and-intro (firstText before y) (textFits (r .name) r) first fits)))))) rest)
+    (and-intro (rowFits ty before previous r y) (laterRows ty (before ++ (y ∷ [])) y rs) (fits-row ty before previous r y f) rest)
 
 -- no text row has this parent yet, where the parent's row is the last
 first-of-parent : (before : List Node) (n e : ℕ) (w : List ℕ) (p : Node) → ((z : Node) → In z before → Numbered n z) → suc (numberOf p) ≡ n
@@ -143,7 +111,7 @@ first-of-parent before n e w p numbered last = not-intro (anyOf (λ z. isText (n
     no-sibling : (z : Node) → Numbered n z → T (sameParent z (under n (text e) w p)) → ⊥
     no-sibling (top k m) h t = t
     no-sibling (under k m v q) h t =
-        let z : numberOf q ≡ numberOf p = same-number q p t in
+        let z : numberOf q ≡ numberOf p = ap numberOf (nodes-equal q p t) in
         omega arith
 
     clash : T (anyOf (λ z. isText (nameOf z) && sameParent z (under n (text e) w p)) before) → ⊥
@@ -194,15 +162,6 @@ not-text e no-text-misfit h = let z : _≡_ {A = ℕ} 0 1 = cc in omega arith
 not-text e no-text-unfilled h = let z : _≡_ {A = ℕ} 0 1 = cc in omega arith
 not-text e no-text-children h = let z : _≡_ {A = ℕ} 0 1 = cc in omega arith
 
-at-in : (xs : List Node) (i : ℕ) (x : Node) → getElem? xs i ≡ some x → In x xs
-at-in [] i x e =
-    let z : _≡_ {A = ℕ} 0 1 = cc in
-    absurd (omega arith)
-at-in (y ∷ xs) zero x e =
-    let h : x ≡ y = cc in
-    here h
-at-in (y ∷ xs) (suc i) x e = there (at-in xs i x e)
-
 true-false : true ≡ false → ⊥
 true-false e = let z : _≡_ {A = ℕ} 0 1 = cc in omega arith
 
@@ -231,7 +190,7 @@ module _ (s : Schema) (before : List Node) (previous : Node) (n : ℕ) (o : Open
       record {
         node = y;
         chain =
-            nested (at-end before y n (h .counted)) (fills-begun s e) (child-no-text e (o .filling))
+            nested (subst (λ (i : ℕ). getElem? (before ++ (y ∷ [])) i ≡ some y) (h .counted) (at-end before y [])) (fills-begun s e) (child-no-text e (o .filling))
             (chain-more y (chain-refill (withChild (some e)) (λ x f g. fills-child e g) (h .chain)));
         up = itself;
         shallow = deep;
@@ -309,10 +268,17 @@ child-row s size final before previous n e o os rs h c deep few l =
       rows = r ∷ l .rows;
       joined = l .joined;
       fit =
-          later-row (typesOf s) before previous r y (l .rows) (ap (attach n (element e) (textOf [] r)) (chain-node (h .chain))) (omega arith) few
-          (up-open (h .node) previous (h .up))
-          (held-by s (nameOf (h .node)) (element e) (subst (λ (a : Name). T (holds s a (element e))) (sym (named .1)) (child-held s (named .0) e (named .2) c)))
-          (omega arith) tt tt (l .fit);
+          later-row (typesOf s) before previous r y (l .rows) (ap (attach n (element e) (textOf [] r)) (chain-node (h .chain)))
+          (record {
+            rises = omega arith;
+            small = few;
+            isOpen = up-open (h .node) previous (h .up);
+            held = held-by s (nameOf (h .node)) (element e) (subst (λ (a : Name). T (holds s a (element e))) (sym (named .1)) (child-held s (named .0) e (named .2) c));
+            shallow = omega arith;
+            oneText = tt;
+            cells = tt;
+          })
+          (l .fit);
       texts = within l;
     }
   where
@@ -337,11 +303,17 @@ text-row s size final before previous n e start l o os rs h f pos small fits few
       rows = r ∷ z .rows;
       joined = z .joined;
       fit =
-          later-row (typesOf s) before previous r y (z .rows) (ap (attach n (text e) (textOf [] r)) (chain-node (h .chain))) (omega arith) few
-          (up-open (h .node) previous (h .up))
-          (held-by s (nameOf (h .node)) (text e) (subst (λ (a : Name). T (holds s a (text e))) (sym (named .1)) (text-held s (named .0) e (named .2) f)))
-          (omega arith) (first-of-parent before n e (textOf [] r) (h .node) (h .numbered) (omega arith))
-          (and-intro (leb 1 l) (leb l maxTextBytes) (le→leb 1 l pos) (le→leb l maxTextBytes small)) (z .fit);
+          later-row (typesOf s) before previous r y (z .rows) (ap (attach n (text e) (textOf [] r)) (chain-node (h .chain)))
+          (record {
+            rises = omega arith;
+            small = few;
+            isOpen = up-open (h .node) previous (h .up);
+            held = held-by s (nameOf (h .node)) (text e) (subst (λ (a : Name). T (holds s a (text e))) (sym (named .1)) (text-held s (named .0) e (named .2) f));
+            shallow = omega arith;
+            oneText = first-of-parent before n e (textOf [] r) (h .node) (h .numbered) (omega arith);
+            cells = and-intro (leb 1 l) (leb l maxTextBytes) (le→leb 1 l pos) (le→leb l maxTextBytes small);
+          })
+          (z .fit);
       texts = within z;
     }
   where
@@ -397,7 +369,7 @@ rows-after-root {s} (root-begins {w = w} {k = k} named few d) =
     only-root z (there i) = elim i [ ]
 rows-after-root (blanks-outside e d) = rows-after-root d
 
-reverse-twice : (rows rs acc : List Row) → reverseAux (reverseAux rows rs) acc ≡ reverseAux rs (rows ++ acc)
+pub reverse-twice : (rows rs acc : List Row) → reverseAux (reverseAux rows rs) acc ≡ reverseAux rs (rows ++ acc)
 reverse-twice [] rs acc = refl
 reverse-twice (r ∷ rows) rs acc = reverse-twice rows (r ∷ rs) acc
 
@@ -436,17 +408,13 @@ text-lies-inside lent r native h = by (isText (r .name)) h
 
 none-listed : {A : Type 0} (o : Option A) → listOf o ≡ [] → o ≡ none
 none-listed none e = refl
-none-listed (some x) e =
-    let z : _≡_ {A = ℕ} 0 1 = cc in
-    absurd (omega arith)
+none-listed (some x) e = let z : _≡_ {A = ℕ} 0 1 = cc in absurd (omega arith)
 
 closed-at-end : (o : Option Refusal) (os : List Open) (rt : Bool) → o ≡ none → (T (isNone o && (not (isEmpty os) || not rt)) → ⊥) → (os ≡ []) × (rt ≡ true)
 closed-at-end none [] true e h = (refl, refl)
 closed-at-end none [] false e h = absurd (h tt)
 closed-at-end none (x ∷ os) rt e h = absurd (h tt)
-closed-at-end (some f) os rt e h =
-    let z : _≡_ {A = ℕ} 0 1 = cc in
-    absurd (omega arith)
+closed-at-end (some f) os rt e h = none-some (sym e)
 
 -- what an accepted text was free of
 record Free (m : Machine) (b : Building) : Type 0 where

@@ -1,32 +1,28 @@
 -- Events that are built with nothing found against them, step by step, as a relation. Assumes nothing.
-use mathlib.Core.Bool.{Bool, true, false, cond, not, _&&_, _||_}
+use mathlib.Core.Bool.{Bool, true, false, cond, not, _||_}
 use mathlib.Core.List.{List, [], _∷_, _++_}
 use mathlib.Core.Option.{Option, none, some}
 use mathlib.Core.Path.{_≡_, refl, sym, ap, subst, _∙_}
 use Prim.Native.Nat.{ℕ, suc, _+_, _≤_, _<_}
-use native.Mathlib.Omega.{arith}
 use lib.Dec.{T, eqb, leb, ltb, eqb→eq, nleb→lt, nltb→le}
 use lib.ListN.{length}
-use Rattle.journal_laws.specs.Events.{build, InTurn, no-more, start-next, end-next, run-next, cond-both}
-use Rattle.journal_spec.specs.Builder.{Filling, unjudged, misfit, unfilled, filledByText, filledByChildren, fillingOf, withChild, withRun, fitsAtEnd, Open, Building, building, breaks, parentRow, refill, fillingFor, wrongRoot, begin, onStart, endOf, onEnd, outside, textNode, inside, onRun, onUnbroken, onEvent}
-use Rattle.journal_spec.specs.Lexer.{Run, Event, quiet, starts, empties, ends, runs}
+use Rattle.journal_laws.specs.Events.{build, InTurn, no-more, start-next, end-next, run-next}
+use Rattle.journal_laws.specs.Kept.{KeptByEnds, KeptByRuns, KeptByStarts, keep-unbroken}
+use Rattle.journal_spec.specs.Builder.{Filling, unjudged, misfit, unfilled, filledByText, filledByChildren, fillingOf, withChild, withRun, fitsAtEnd, Open, Building, building, breaks, parentRow, refill, fillingFor, wrongRoot, begin, onStart, endOf, outside, textNode, inside, onUnbroken, onEvent}
+use Rattle.journal_spec.specs.Lexer.{Run, Event, starts, ends, runs}
 use Rattle.schema_spec.specs.Models.{Progress}
-use Rattle.schema_spec.specs.Names.{Name, element, text}
+use Rattle.schema_spec.specs.Names.{element, text}
 use Rattle.schema_spec.specs.Schemas.{Schema, elementNamed, contentAt}
 use Rattle.table_spec.specs.Rows.{Row}
+use Rattle.table_laws.specs.Places.{none-some}
 use Rattle.text_laws.specs.Lists.{append-empty}
 use Rattle.text_laws.specs.Refusals.{given-free}
-use Rattle.text_laws.specs.Tests.{passed, failed, or-left, or-right, not-intro, not-elim, decided}
+use Rattle.text_laws.specs.Tests.{passed, or-left, or-right, not-intro}
 use Rattle.text_spec.specs.Limits.{maxDepth, maxNodes, maxTextBytes}
-use Rattle.text_spec.specs.Lists.{isEmpty, isNone, orElse, sameBytes}
+use Rattle.text_spec.specs.Lists.{isNone, orElse, sameBytes}
 use Rattle.text_spec.specs.Refusals.{Refusal, at, given, badNesting, overDepth, undeclaredElement, badContent, overNodeLimit}
 
 -- ---- what was found stays
-
-some-none : {A : Type 0} (x : A) → some x ≡ none → ⊥
-some-none x e =
-    let z : _≡_ {A = ℕ} 0 1 = cc in
-    omega arith
 
 rest-free : (t : Bool) (f : Refusal) (fs : List Refusal) → given t f ++ fs ≡ [] → fs ≡ []
 rest-free t f fs e = append-empty (given t f) fs e .1
@@ -45,40 +41,17 @@ begin-faults s n k b e =
     (rest-free (wrongRoot (b .opens) x) (at badContent k) (given (leb maxNodes (b .count)) (at overNodeLimit k) ++ b .faults)
     (rest-free (isNone x) (at undeclaredElement k) (given (wrongRoot (b .opens) x) (at badContent k) ++ (given (leb maxNodes (b .count)) (at overNodeLimit k) ++ b .faults)) e))
 
-start-faults : (s : Schema) (n : List ℕ) (k : ℕ) (b : Building) → FreeBefore b (onStart s n k b)
-start-faults s n k b =
-    cond-both (FreeBefore b) (isEmpty (b .opens)) _ _ (cond-both (FreeBefore b) (b .rooted) _ _ (λ e. e) (begin-faults s n k b))
-    (cond-both (FreeBefore b) (leb maxDepth (length (b .opens))) _ _ (λ e. e) (begin-faults s n k b))
-
-end-faults : (os : List Open) (n : List ℕ) (k : ℕ) (b : Building) → FreeBefore b (endOf os n k b)
-end-faults [] n k b = λ e. e
-end-faults (o ∷ os) n k b =
-    cond-both (FreeBefore b) (sameBytes n (o .name)) _ _ (rest-free (not (fitsAtEnd (o .filling))) (at badContent (o .place)) (b .faults)) (λ e. e)
-
-text-faults : (f : Filling) (r : Run) (l p : ℕ) (b : Building) → FreeBefore b (textNode f r l p b)
-text-faults unjudged r l p b e = e
-text-faults misfit r l p b e = e
-text-faults unfilled r l p b e = e
-text-faults (filledByText x) r l p b e = rest-free (ltb maxTextBytes l || leb maxNodes (b .count)) (at overNodeLimit (r .start)) (b .faults) e
-text-faults (filledByChildren q) r l p b e = e
-
-run-faults : (os : List Open) (r : Run) (l : ℕ) (b : Building) → FreeBefore b (inside os r l b)
-run-faults [] r l b = out (r .solid)
-  where
-    out : (k : Option ℕ) → FreeBefore b (outside k b)
-    out none e = e
-    out (some k) e = e
-run-faults (o ∷ os) r l b =
-    text-faults (o .filling) r l (o .row) (building (refill (withRun (isNone (r .solid))) (o ∷ os)) (b .rooted) (b .faults) (b .rows) (b .count))
-
 unbroken-faults : (s : Schema) (e : Event) (b : Building) → FreeBefore b (onUnbroken s e b)
-unbroken-faults s quiet b h = h
-unbroken-faults s (starts n k) b h = start-faults s n k b h
-unbroken-faults s (empties n k) b h =
-    start-faults s n k b
-    (cond-both (FreeBefore (onStart s n k b)) (isNone (onStart s n k b .broken)) _ _ (end-faults (onStart s n k b .opens) n k (onStart s n k b)) (λ e. e) h)
-unbroken-faults s (ends n k) b h = end-faults (b .opens) n k b h
-unbroken-faults s (runs r l) b h = run-faults (b .opens) r l b h
+unbroken-faults s e b = keep-unbroken (FreeBefore b) by-ends b (λ h. h) by-runs s by-starts e
+  where
+    by-ends : KeptByEnds (FreeBefore b)
+    by-ends = record { broken-12 = λ c k h. h; ended = λ c o os h x. h (rest-free (not (fitsAtEnd (o .filling))) (at badContent (o .place)) (c .faults) x) }
+
+    by-runs : KeptByRuns (FreeBefore b) b
+    by-runs = record { run-on = λ os x. x; text-on = λ os t k r x. rest-free t (at overNodeLimit k) (b .faults) x }
+
+    by-starts : KeptByStarts (FreeBefore b) s b
+    by-starts = record { broken-13 = λ k x. x; begun = λ n k x. begin-faults s n k b x }
 
 -- nothing has been found so far
 pub record Clean (b : Building) : Type 0 where
@@ -147,7 +120,7 @@ pub record Accepts (final : List Row) (b : Building) : Type 0 where
   pub rows : b .rows ≡ final
 
 not-broken : (s : Schema) (final : List Row) (es : List Event) (f : Refusal) (b : Building) → Accepts final (build s es (breaks f b)) → ⊥
-not-broken s final es f b a = some-none f (clean-before s es (breaks f b) (a .clean) .unbroken)
+not-broken s final es f b a = none-some (sym (clean-before s es (breaks f b) (a .clean) .unbroken))
 
 module _ (s : Schema) (size : ℕ) (final : List Row) where
   faultless-so-far : (es : List Event) (os : List Open) (rt : Bool) (fs : List Refusal) (rs : List Row) (n : ℕ) → Accepts final (build s es (building os rt fs rs n)) → fs ≡ []

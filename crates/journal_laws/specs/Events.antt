@@ -1,16 +1,15 @@
 -- The one pass over the bytes as two: the bytes turned into events, then the events built into rows. Assumes nothing.
 use mathlib.Core.Bool.{Bool, true, false, cond, not, _&&_}
 use mathlib.Core.List.{List, [], _∷_, _++_}
-use mathlib.Core.Option.{Option, none, some}
-use mathlib.Core.Path.{_≡_, refl, sym, ap, subst, _∙_}
+use mathlib.Core.Option.{none}
+use mathlib.Core.Path.{_≡_, refl, sym, ap, _∙_}
 use Prim.Native.Nat.{ℕ, suc, _+_, _-_, _≤_, _<_}
 use native.Mathlib.Omega.{arith}
 use lib.Dec.{T, eqb, leb, ltb}
-use lib.ListN.{length, drop}
-use Rattle.journal_spec.specs.Builder.{Building, onStart, onEnd, onUnbroken, onEvent}
-use Rattle.journal_spec.specs.Lexer.{Run, Mode, between, inData, inEntity, opened, inName, afterName, afterSlash, ending, inEndName, afterEndName, stopped, Event, quiet, starts, empties, ends, runs, Lexed, goes, tells, solidBy, tailsWith, dataByte, entityByte, longer, tagByte, endTagByte, lex, lastEvent}
+use lib.ListN.{length}
+use Rattle.journal_spec.specs.Builder.{Building, onStart, onEnd, onEvent}
+use Rattle.journal_spec.specs.Lexer.{Run, Mode, between, inData, inEntity, opened, inName, afterName, afterSlash, ending, inEndName, afterEndName, stopped, Event, quiet, starts, empties, ends, runs, Lexed, goes, solidBy, tailsWith, dataByte, entityByte, longer, tagByte, endTagByte, lex, lastEvent}
 use Rattle.journal_spec.specs.Reading.{Machine, step, run, ended}
-use Rattle.journal_spec.specs.Tokens.{entities}
 use Rattle.schema_spec.specs.Schemas.{Schema}
 use Rattle.text_spec.specs.Bytes.{isBlank, isForeign, startsName, continuesName}
 use Rattle.text_spec.specs.Limits.{maxNameBytes}
@@ -82,10 +81,13 @@ unfolding run step modeAfter
 run-mode s m [] = refl
 run-mode s m (b ∷ bs) = run-mode s (step s m b) bs
 
--- what holds of both answers of a test holds of the answer
+-- what holds of each answer of a test, given that answer, holds of the answer
+pub cond-cases : {A : Type 0} (P : A → Type 0) (b : Bool) (x y : A) → (b ≡ true → P x) → (b ≡ false → P y) → P (cond b x y)
+cond-cases P true x y p q = p refl
+cond-cases P false x y p q = q refl
+
 pub cond-both : {A : Type 0} (P : A → Type 0) (b : Bool) (x y : A) → P x → P y → P (cond b x y)
-cond-both P true x y p q = p
-cond-both P false x y p q = q
+cond-both P b x y p q = cond-cases P b x y (λ e. p) (λ e. q)
 
 -- Tags, and runs of character data that are not empty and lie within so many bytes, no run directly after another; `true`: a run was last.
 pub data InTurn (size : ℕ) : Bool → List Event → Type 0 where

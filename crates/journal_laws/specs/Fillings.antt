@@ -1,7 +1,7 @@
 -- Open elements of a text that is accepted in the end: their contents can be completed, so a parent holds each child. Assumes nothing.
-use mathlib.Core.Bool.{Bool, true, false, _&&_}
+use mathlib.Core.Bool.{Bool, true, false}
 use mathlib.Core.List.{List, [], _∷_, List·Memᴰ as In}
-use mathlib.Core.Option.{Option, none, some}
+use mathlib.Core.Option.{some}
 use mathlib.Core.Path.{_≡_, refl, sym, ap, subst, _∙_}
 use Prim.Native.Nat.{ℕ}
 use native.Mathlib.Omega.{arith}
@@ -10,14 +10,14 @@ use Rattle.journal_laws.specs.Derivations.{Derives, finished, root-begin
 use Rattle.journal_laws.specs.Progress.{namesOf, started-names, advance-names, completed-name}
 use Rattle.journal_spec.specs.Builder.{Filling, unjudged, misfit, unfilled, filledByText, filledByChildren, fillingOf, withChild, withRun, fitsAtEnd, Open, refill}
 use Rattle.journal_spec.specs.Lexer.{Event}
-use Rattle.schema_spec.specs.Models.{Particle, Content, empty, pcdata, children, uses, usesIn, Progress, started, advance, complete, advanceAll}
-use Rattle.schema_spec.specs.Names.{Name, element, text}
-use Rattle.schema_spec.specs.Schemas.{Schema, contentAt, modelAt, isPcdata}
+use Rattle.schema_spec.specs.Models.{Particle, Content, empty, pcdata, children, uses, usesIn, Progress, complete, advanceAll}
+use Rattle.schema_spec.specs.Names.{element, text}
+use Rattle.schema_spec.specs.Schemas.{Schema, contentAt, isPcdata}
 use Rattle.schema_spec.specs.Types.{holds}
 use Rattle.table_spec.specs.Rows.{Row}
 use Rattle.text_laws.specs.Lists.{any-in}
 use Rattle.text_laws.specs.Tests.{and-intro}
-use Rattle.text_spec.specs.Lists.{anyOf, isNone}
+use Rattle.text_spec.specs.Lists.{isNone}
 
 -- more children can make the content fit
 pub data Completable : Filling → Type 0 where

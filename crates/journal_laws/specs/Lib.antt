@@ -1,5 +1,15 @@
 pub mod Progress
 pub mod Events
+pub mod Kept
 pub mod Derivations
 pub mod Fillings
 pub mod Accepted
+pub mod Passes
+pub mod Spellings
+pub mod Walks
+pub mod Nesting
+pub mod Forests
+pub mod Contents
+pub mod NodeLimits
+pub mod Undeclared
+pub mod Judging

@@ -1,11 +1,11 @@
 -- Children that some more children complete to a content that fits are names of the model. Assumes nothing.
 use mathlib.Core.Bool.{Bool, true, false, _&&_, _||_}
-use mathlib.Core.List.{List, [], _∷_, _++_, List·Memᴰ as In, List·Memᴰ·head as here, List·Memᴰ·tail as there, Memᴰ·append-left as append-left, Memᴰ·append-right as append-right}
+use mathlib.Core.List.{List, [], _∷_, _++_, List·Memᴰ as In, List·Memᴰ·head as here, Memᴰ·append-left as append-left, Memᴰ·append-right as append-right}
 use mathlib.Core.Logic.{_⊎_, inl, inr, ⊎-elim}
-use mathlib.Core.Path.{_≡_, refl, sym, ap, subst, _∙_}
+use mathlib.Core.Path.{_≡_, refl}
 use Prim.Native.Nat.{ℕ}
 use lib.Dec.{T, eqb, eqb→eq}
-use Rattle.schema_spec.specs.Models.{Particle, named, sequence, choice, repeated, uses, Position, position, unmarked, nullable, final, shift, Progress, atStart, amid, started, advance, complete, advanceAll}
+use Rattle.schema_spec.specs.Models.{Particle, named, sequence, choice, repeated, uses, Position, unmarked, nullable, final, shift, Progress, atStart, amid, started, advance, complete, advanceAll}
 use Rattle.text_laws.specs.Tests.{or-left, or-right, or-cases, and-cases}
 
 -- a name is marked

@@ -12,9 +12,9 @@ use Rattle.text_laws.specs.Tests.{or-left, or-right, or-cases, and-intro
 use Rattle.text_spec.specs.Refusals.{Reason, badRecord, badLength, badByte, badSchema, overSchemaLimit, declaredTwice, undeclaredInModel, badPath, overPathLimit, undeclaredInPath, misspelt, badNesting, overDepth, undeclaredElement, badContent, overNodeLimit, badExtract, tooFewCells, numberOf, Refusal, at, allAt, given, before, firstFrom, firstOf, Outcome, accepted, refused, judged, IsFirst, Judged, turned-back, taken}
 
 -- f comes no later than g: by number, then by place
-record NoLater (f g : Refusal) : Type 0 where
-  by-number : numberOf (f .reason) ≤ numberOf (g .reason)
-  by-place : numberOf (f .reason) ≡ numberOf (g .reason) → f .place ≤ g .place
+pub record NoLater (f g : Refusal) : Type 0 where
+  pub by-number : numberOf (f .reason) ≤ numberOf (g .reason)
+  pub by-place : numberOf (f .reason) ≡ numberOf (g .reason) → f .place ≤ g .place
 
 no-later-itself : (f : Refusal) → NoLater f f
 no-later-itself f = record { by-number = omega arith; by-place = λ e. omega arith }
@@ -98,26 +98,35 @@ Found Applies fs = (f : Refusal) → In f fs → Applies (f .reason) (f .place)
 abbrev pub Listed : List Refusal → Reason → ℕ → Type 0
 Listed fs r k = (j : ℕ) × In (at r j) fs × (j ≤ k)
 
--- The law: each listed refusal applies, and each that applies is listed at a place not later.
-pub judged-first : {A : Type 0} (Applies : Reason → ℕ → Type 0) (Gives : A → Type 0) (fs : List Refusal) (a : A) → Found Applies fs
-    → ((r : Reason) (k : ℕ) → Applies r k → Listed fs r k) → (((r : Reason) (k : ℕ) → Applies r k → ⊥) → Gives a) → Judged Applies Gives (judged fs a)
+-- The law: the first of the list applies, and for each refusal that applies one is listed that comes no later.
+pub judged-least : {A : Type 0} (Applies : Reason → ℕ → Type 0) (Gives : A → Type 0) (fs : List Refusal) (a : A)
+    → ((f : Refusal) → In f fs → ((g : Refusal) → In g fs → NoLater f g) → Applies (f .reason) (f .place))
+    → ((r : Reason) (k : ℕ) → Applies r k → (g : Refusal) × In g fs × NoLater g (at r k)) → (fs ≡ [] → ((r : Reason) (k : ℕ) → Applies r k → ⊥) → Gives a)
+    → Judged Applies Gives (judged fs a)
 unfolding firstOf
-judged-first Applies Gives [] a found listed gives =
-    taken none (gives none)
+judged-least Applies Gives [] a found listed gives =
+    taken none (gives refl none)
   where
     none : (r : Reason) (k : ℕ) → Applies r k → ⊥
     none r k x = elim (listed r k x .1) [ ]
-judged-first Applies Gives (f ∷ fs) a found listed gives =
+judged-least Applies Gives (f ∷ fs) a found listed gives =
     turned-back (record {
-      applies = found (firstFrom f fs) (first-in f fs);
-      lowest = λ q j x.
-          let l = listed q j x in
-          first-no-later f fs (at q (l .0)) (l .1) .by-number;
-      earliest = λ j x.
-          let l = listed (firstFrom f fs .reason) j x in
-          let p = first-no-later f fs (at (firstFrom f fs .reason) (l .0)) (l .1) .by-place refl in
-          omega (arith, l .2, p);
+      applies = found (firstFrom f fs) (first-in f fs) (first-no-later f fs);
+      lowest = λ q j x. before-all q j (listed q j x) .by-number;
+      earliest = λ j x. before-all (firstFrom f fs .reason) j (listed (firstFrom f fs .reason) j x) .by-place refl;
     })
+  where
+    before-all : (r : Reason) (k : ℕ) → (g : Refusal) × In g (f ∷ fs) × NoLater g (at r k) → NoLater (firstFrom f fs) (at r k)
+    before-all r k (g, i, l) = no-later-chain (first-no-later f fs g i) l
+
+-- The same, where each listed refusal applies, and each that applies is listed at a place not later.
+pub judged-first : {A : Type 0} (Applies : Reason → ℕ → Type 0) (Gives : A → Type 0) (fs : List Refusal) (a : A) → Found Applies fs
+    → ((r : Reason) (k : ℕ) → Applies r k → Listed fs r k) → (((r : Reason) (k : ℕ) → Applies r k → ⊥) → Gives a) → Judged Applies Gives (judged fs a)
+judged-first Applies Gives fs a found listed gives =
+    judged-least Applies Gives fs a (λ f i l. found f i) (λ r k x. earlier-one r k (listed r k x)) (λ e none. gives none)
+  where
+    earlier-one : (r : Reason) (k : ℕ) → Listed fs r k → (g : Refusal) × In g fs × NoLater g (at r k)
+    earlier-one r k (j, i, l) = (at r j, i, record { by-number = omega arith; by-place = λ e. l })
 
 -- the reason with a number
 abbrev reasonOf : ℕ → Reason
