@@ -14,6 +14,8 @@ pub mod Listing
 pub mod Lent
 pub mod Records
 pub mod Handed
+pub mod Hosts
+pub mod Prints
 pub mod Fields
 pub mod Items
 pub mod TextNames
