@@ -193,16 +193,18 @@ pub record Misfitting (s : Schema) (f : Forest) (k : ℕ) : Type 0 where
   pub occurs : Occurs k name content f
   pub misfits : Misfits s k name content
 
-run-no-15 : {j : ℕ} (a : Filling) (p k l : ℕ) (b : Filling) (fs : List Refusal) (rs : List Row) (n : ℕ) → In (at badContent j) (runHeld a p k l b fs rs n .faults) → In (at badContent j) fs
-run-no-15 unjudged p k l b fs rs n i = i
-run-no-15 misfit p k l b fs rs n i = i
-run-no-15 unfilled p k l b fs rs n i = i
-run-no-15 {j} (filledByText e) p k l b fs rs n i = by (append-cases (given (ltb maxTextBytes l || leb maxNodes n) (at overNodeLimit k)) i)
+-- character data is found over a limit, and for no other reason
+run-other : {r : Reason} {j : ℕ} → (numberOf r ≡ numberOf overNodeLimit → ⊥) → (a : Filling) (p k l : ℕ) (b : Filling) (fs : List Refusal) (rs : List Row) (n : ℕ)
+    → In (at r j) (runHeld a p k l b fs rs n .faults) → In (at r j) fs
+run-other h unjudged p k l b fs rs n i = i
+run-other h misfit p k l b fs rs n i = i
+run-other h unfilled p k l b fs rs n i = i
+run-other {r} {j} h (filledByText e) p k l b fs rs n i = by (append-cases (given (ltb maxTextBytes l || leb maxNodes n) (at overNodeLimit k)) i)
   where
-    by : In (at badContent j) (given (ltb maxTextBytes l || leb maxNodes n) (at overNodeLimit k)) ⊎ In (at badContent j) fs → In (at badContent j) fs
-    by (inl x) = absurd (given-other (ltb maxTextBytes l || leb maxNodes n) overNodeLimit k (λ e. omega arith) x)
+    by : In (at r j) (given (ltb maxTextBytes l || leb maxNodes n) (at overNodeLimit k)) ⊎ In (at r j) fs → In (at r j) fs
+    by (inl x) = absurd (given-other (ltb maxTextBytes l || leb maxNodes n) overNodeLimit k h x)
     by (inr x) = x
-run-no-15 (filledByChildren q) p k l b fs rs n i = i
+run-other h (filledByChildren q) p k l b fs rs n i = i
 
 start-no-15 : {j : ℕ} (s : Schema) (p k : ℕ) (e : Option ℕ) (h : Held) → In (at badContent j) (atStart s p k e h .faults) → In (at badContent j) (h .faults)
 start-no-15 {j} s p k e h i = first (append-cases (given (isNone e) (at undeclaredElement k)) i)
@@ -242,7 +244,7 @@ forest-15 s p nothing h i = inl i
 forest-15 {j} s p (data-node k w f) h i = by (forest-15 s p f (afterRun p k w h) i)
   where
     by : In (at badContent j) (afterRun p k w h .faults) ⊎ Misfitting s f j → In (at badContent j) (h .faults) ⊎ Misfitting s (data-node k w f) j
-    by (inl x) = inl (run-no-15 (h .filling) p k (length w) (withRun (isNone (solidFrom k w)) (h .filling)) (h .faults) (h .rows) (h .count) x)
+    by (inl x) = inl (run-other (λ e. omega arith) (h .filling) p k (length w) (withRun (isNone (solidFrom k w)) (h .filling)) (h .faults) (h .rows) (h .count) x)
     by (inr x) = inr (record { name = x .name; content = x .content; occurs = after-data (x .occurs); misfits = x .misfits })
 forest-15 {j} s p (element-node k n c f) h i =
     outer (forest-15 s p f (atEnd k (elementNamed s n) (h .filling) inner) i) (λ x. forest-15 s (h .count) c first x)
@@ -273,6 +275,70 @@ forest-15 {j} s p (element-node k n c f) h i =
         → (In (at badContent j) (inner .faults) → In (at badContent j) (first .faults) ⊎ Misfitting s c j) → In (at badContent j) (h .faults) ⊎ Misfitting s whole j
     outer (inl x) ih = at-end (end-15 s k n c (h .count) (elementNamed s n) (h .filling) first x refl) ih
     outer (inr x) ih = inr (record { name = x .name; content = x .content; occurs = after-element (x .occurs); misfits = x .misfits })
+
+-- 14 is found only for an undeclared element
+pub record UndeclaredIn (s : Schema) (f : Forest) (k : ℕ) : Type 0 where
+  pub name : List ℕ
+  pub content : Forest
+  pub occurs : Occurs k name content f
+  pub undeclared : T (isNone (elementNamed s name))
+
+start-14 : {j : ℕ} (s : Schema) (p k : ℕ) (e : Option ℕ) (h : Held) → In (at undeclaredElement j) (atStart s p k e h .faults)
+    → ((j ≡ k) × T (isNone e)) ⊎ In (at undeclaredElement j) (h .faults)
+start-14 {j} s p k e h i = first (append-cases (given (isNone e) (at undeclaredElement k)) i)
+  where
+    second : In (at undeclaredElement j) (given (leb maxNodes (h .count)) (at overNodeLimit k)) ⊎ In (at undeclaredElement j) (h .faults)
+        → ((j ≡ k) × T (isNone e)) ⊎ In (at undeclaredElement j) (h .faults)
+    second (inl x) = absurd (given-other (leb maxNodes (h .count)) overNodeLimit k (λ e. omega arith) x)
+    second (inr x) = inr x
+
+    first : In (at undeclaredElement j) (given (isNone e) (at undeclaredElement k)) ⊎ In (at undeclaredElement j) (given (leb maxNodes (h .count)) (at overNodeLimit k) ++ h .faults)
+        → ((j ≡ k) × T (isNone e)) ⊎ In (at undeclaredElement j) (h .faults)
+    first (inl x) =
+        let g = given-in (isNone e) (at undeclaredElement k) (at undeclaredElement j) x in
+        inl (ap (λ (r : Refusal). r .place) (g .1), g .0)
+    first (inr x) = second (append-cases (given (leb maxNodes (h .count)) (at overNodeLimit k)) x)
+
+end-no-14 : {j : ℕ} (k : ℕ) (e : Option ℕ) (a : Filling) (h : Held) → In (at undeclaredElement j) (atEnd k e a h .faults) → In (at undeclaredElement j) (h .faults)
+end-no-14 {j} k e a h i = by (append-cases (given (not (fitsAtEnd (h .filling))) (at badContent k)) i)
+  where
+    by : In (at undeclaredElement j) (given (not (fitsAtEnd (h .filling))) (at badContent k)) ⊎ In (at undeclaredElement j) (h .faults) → In (at undeclaredElement j) (h .faults)
+    by (inl x) = absurd (given-other (not (fitsAtEnd (h .filling))) badContent k (λ e. omega arith) x)
+    by (inr x) = x
+
+pub forest-14 : {j : ℕ} (s : Schema) (p : ℕ) (f : Forest) (h : Held) → In (at undeclaredElement j) (afterForest s p f h .faults)
+    → In (at undeclaredElement j) (h .faults) ⊎ UndeclaredIn s f j
+unfolding afterForest
+forest-14 s p nothing h i = inl i
+forest-14 {j} s p (data-node k w f) h i = by (forest-14 s p f (afterRun p k w h) i)
+  where
+    by : In (at undeclaredElement j) (afterRun p k w h .faults) ⊎ UndeclaredIn s f j → In (at undeclaredElement j) (h .faults) ⊎ UndeclaredIn s (data-node k w f) j
+    by (inl x) = inl (run-other (λ e. omega arith) (h .filling) p k (length w) (withRun (isNone (solidFrom k w)) (h .filling)) (h .faults) (h .rows) (h .count) x)
+    by (inr x) = inr (record { name = x .name; content = x .content; occurs = after-data (x .occurs); undeclared = x .undeclared })
+forest-14 {j} s p (element-node k n c f) h i =
+    outer (forest-14 s p f (atEnd k (elementNamed s n) (h .filling) inner) i) (λ x. forest-14 s (h .count) c first x)
+  where
+    first : Held
+    first = atStart s p k (elementNamed s n) h
+
+    inner : Held
+    inner = afterForest s (h .count) c first
+
+    Found : Type 0
+    Found = In (at undeclaredElement j) (h .faults) ⊎ UndeclaredIn s (element-node k n c f) j
+
+    started : ((j ≡ k) × T (isNone (elementNamed s n))) ⊎ In (at undeclaredElement j) (h .faults) → Found
+    started (inl x) = inr (record { name = n; content = c; occurs = subst (λ (z : ℕ). Occurs z n c (element-node k n c f)) (sym (x .0)) occurs-here; undeclared = x .1 })
+    started (inr x) = inl x
+
+    under-it : In (at undeclaredElement j) (first .faults) ⊎ UndeclaredIn s c j → Found
+    under-it (inl x) = started (start-14 s p k (elementNamed s n) h x)
+    under-it (inr x) = inr (record { name = x .name; content = x .content; occurs = inside (x .occurs); undeclared = x .undeclared })
+
+    outer : In (at undeclaredElement j) (atEnd k (elementNamed s n) (h .filling) inner .faults) ⊎ UndeclaredIn s f j
+        → (In (at undeclaredElement j) (inner .faults) → In (at undeclaredElement j) (first .faults) ⊎ UndeclaredIn s c j) → Found
+    outer (inl x) ih = under-it (ih (end-no-14 k (elementNamed s n) (h .filling) inner x))
+    outer (inr x) ih = inr (record { name = x .name; content = x .content; occurs = after-element (x .occurs); undeclared = x .undeclared })
 
 -- ---- the whole tree
 
@@ -324,3 +390,23 @@ module _ (s : Schema) (k : ℕ) (n : List ℕ) (c : Forest) where
       by : ((j ≡ k) × Misfits s k n c) ⊎ In (at badContent j) (afterForest s 0 c (rootStart s k (elementNamed s n)) .faults) → Misplaced j
       by (inl x) = subst Misplaced (sym (x .0)) (wrong-content the-root (x .1))
       by (inr x) = inner (forest-15 s 0 c (rootStart s k (elementNamed s n)) x)
+
+  -- 14 is found only for an undeclared element of the tree
+  pub tree-14 : {j : ℕ} → In (at undeclaredElement j) (treeHeld s k n c .faults) → (m : List ℕ) × (d : Forest) × InTree k n c j m d × T (isNone (elementNamed s m))
+  tree-14 {j} i = by (forest-14 s 0 c (rootStart s k (elementNamed s n)) (end-no-14 k none unjudged (afterForest s 0 c (rootStart s k (elementNamed s n))) i))
+    where
+      root-only : In (at undeclaredElement j) (given (isNone (elementNamed s n)) (at undeclaredElement k))
+          ⊎ In (at undeclaredElement j) (given (wrongRoot [] (elementNamed s n)) (at badContent k) ++ []) → (m : List ℕ) × (d : Forest) × InTree k n c j m d × T (isNone (elementNamed s m))
+      root-only (inl x) =
+          let g = given-in (isNone (elementNamed s n)) (at undeclaredElement k) (at undeclaredElement j) x in
+          (n, c, subst (λ (z : ℕ). InTree k n c z n c) (sym (ap (λ (r : Refusal). r .place) (g .1))) the-root, g .0)
+      root-only (inr x) = elim-last (append-cases (given (wrongRoot [] (elementNamed s n)) (at badContent k)) x)
+        where
+          elim-last : In (at undeclaredElement j) (given (wrongRoot [] (elementNamed s n)) (at badContent k)) ⊎ In (at undeclaredElement j) []
+              → (m : List ℕ) × (d : Forest) × InTree k n c j m d × T (isNone (elementNamed s m))
+          elim-last (inl y) = absurd (given-other (wrongRoot [] (elementNamed s n)) badContent k (λ e. omega arith) y)
+          elim-last (inr y) = elim y [ ]
+
+      by : In (at undeclaredElement j) (rootStart s k (elementNamed s n) .faults) ⊎ UndeclaredIn s c j → (m : List ℕ) × (d : Forest) × InTree k n c j m d × T (isNone (elementNamed s m))
+      by (inl x) = root-only (append-cases (given (isNone (elementNamed s n)) (at undeclaredElement k)) x)
+      by (inr x) = (x .name, x .content, below (x .occurs), x .undeclared)

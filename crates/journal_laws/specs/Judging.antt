@@ -13,7 +13,7 @@ use Rattle.journal_laws.specs.Contents.{fillingAfter, ends-content, not-
 use Rattle.journal_laws.specs.Events.{build, eventsFrom, modeAfter, ended-builds, run-mode}
 use Rattle.journal_laws.specs.Forests.{Held, treeHeld, closedBuilding, nested-built, nested-height}
 use Rattle.journal_laws.specs.Nesting.{names, start, fromTokens, builds-walk, broken-applies, early-applies, misnested-found, too-deep-found}
-use Rattle.journal_laws.specs.NodeLimits.{Over, over-split, split-over, tree-rows, tree-over, over-tree, faultless-fits}
+use Rattle.journal_laws.specs.NodeLimits.{Over, over-split, split-over, AllFitTree, tree-rows, tree-over, over-tree, faultless-fits}
 use Rattle.journal_laws.specs.Passes.{tokens-lexed}
 use Rattle.journal_laws.specs.Spellings.{unmisspelt-tokens, misspelt-applies, misspelt-least}
 use Rattle.journal_laws.specs.Undeclared.{Late, late-14, late-15, late-16, reasons-of, found-14, undeclared-listed}
@@ -23,7 +23,7 @@ use Rattle.journal_spec.specs.Conditions.{JournalApplies, length-2, byte-3, mis
 use Rattle.journal_spec.specs.Lexer.{Mode, Event, between, misspeltAt}
 use Rattle.journal_spec.specs.Reading.{Machine, initial, step, run, endsEarly, machineRefusals, readJournal}
 use Rattle.journal_spec.specs.Tokens.{Token, Tokens}
-use Rattle.journal_spec.specs.Trees.{Forest, WellFormedText, treeStarts, NodeStart}
+use Rattle.journal_spec.specs.Trees.{Forest, WellFormedText, height, treeRows, treeStarts, NodeStart}
 use Rattle.journal_spec.specs.Validity.{the-root}
 use Rattle.schema_spec.specs.Schemas.{Schema, elementNamed, contentAt}
 use Rattle.table_spec.specs.Rows.{Row}
@@ -33,7 +33,7 @@ use Rattle.text_laws.specs.Refusals.{in-given, given-in}
 use Rattle.text_laws.specs.Tests.{passed, and-cases, and-intro, not-intro, not-elim, decided}
 use Rattle.text_laws.specs.Texts.{length-found, length-listed, split-first, split-later}
 use Rattle.text_spec.specs.Bytes.{isForeign}
-use Rattle.text_spec.specs.Limits.{maxNodes, maxTextBytes}
+use Rattle.text_spec.specs.Limits.{maxDepth, maxNodes, maxTextBytes}
 use Rattle.text_spec.specs.Lists.{isEmpty, isNone, listOf, anyOf}
 use Rattle.text_spec.specs.Refusals.{Reason, Refusal, numberOf, at, allAt, given, badLength, badByte, misspelt, badNesting, overDepth, undeclaredElement, badContent, overNodeLimit, judged, Judged}
 use Rattle.text_spec.specs.Texts.{SplitAt, lengthRefusals, ByteApplies}
@@ -189,6 +189,7 @@ module _ (limit : ℕ) (s : Schema) (lent : List ℕ) where
     name : List ℕ
     content : Forest
     text-tree : WellFormedText lent place name content
+    shallow : suc (height content) ≤ maxDepth
     as-tree : built ≡ closedBuilding (treeHeld s place name content)
 
   closed-tree : (ts : List Token) → Tokens lent ts → built .broken ≡ none → built .opens ≡ [] → built .rooted ≡ true → Treed
@@ -204,6 +205,7 @@ module _ (limit : ℕ) (s : Schema) (lent : List ℕ) where
         name = n .1;
         content = n .2;
         text-tree = record { tokens = ts; spelt = t; nested = n .3 };
+        shallow = nested-height (n .3) (w .1);
         as-tree = a ∙ nested-built s (n .3) (nested-height (n .3) (w .1));
       }
 
@@ -459,33 +461,41 @@ module _ (limit : ℕ) (s : Schema) (lent : List ℕ) where
 
   -- ---- an accepted text gives the rows of its tree
 
-  accepted-gives : found ≡ [] → JournalGives s lent (reverse (built .rows))
-  accepted-gives e = by (faulted-tree-free (built .broken) refl (built .opens) refl (built .rooted) refl)
-    where
-      nothing-found : (f : Refusal) → Source f → ⊥
-      nothing-found f x = elim (subst (λ (l : List Refusal). In f l) e (is-found x)) [ ]
+  nothing-found : found ≡ [] → (f : Refusal) → Source f → ⊥
+  nothing-found e f x = elim (subst (λ (l : List Refusal). In f l) e (is-found x)) [ ]
 
+  accepted-tree : found ≡ [] → Treed
+  accepted-tree e = free-tree (built .broken) refl (built .opens) refl (built .rooted) refl
+    where
       spelt-well : (ks : List ℕ) → misspellings ≡ ks → misspellings ≡ []
       spelt-well [] q = q
-      spelt-well (k ∷ ks) q = absurd (nothing-found (at misspelt k) (in-misspelt (in-map (at misspelt) (subst (λ (z : List ℕ). In k z) (sym q) (here refl)))))
+      spelt-well (k ∷ ks) q = absurd (nothing-found e (at misspelt k) (in-misspelt (in-map (at misspelt) (subst (λ (z : List ℕ). In k z) (sym q) (here refl)))))
 
       not-early : (os : List Open) (rt : Bool) → built .broken ≡ none → built .opens ≡ os → built .rooted ≡ rt → T (not (isEmpty os) || not rt) → ⊥
       not-early os rt p q u t =
           let v : T (isNone (built .broken) && (not (isEmpty (built .opens)) || not (built .rooted))) = rw (p, q, u) t in
-          nothing-found (at badNesting (length lent)) (in-early (in-given (isNone (built .broken) && (not (isEmpty (built .opens)) || not (built .rooted))) v refl))
+          nothing-found e (at badNesting (length lent)) (in-early (in-given (isNone (built .broken) && (not (isEmpty (built .opens)) || not (built .rooted))) v refl))
 
-      faulted-tree-free : (o : Option Refusal) → built .broken ≡ o → (os : List Open) → built .opens ≡ os → (rt : Bool) → built .rooted ≡ rt → Treed
-      faulted-tree-free (some g) p os q rt u = absurd (nothing-found g (in-broken p))
-      faulted-tree-free none p [] q true u =
+      free-tree : (o : Option Refusal) → built .broken ≡ o → (os : List Open) → built .opens ≡ os → (rt : Bool) → built .rooted ≡ rt → Treed
+      free-tree (some g) p os q rt u = absurd (nothing-found e g (in-broken p))
+      free-tree none p [] q true u =
           let t = unmisspelt-tokens lent (spelt-well misspellings refl) in
           closed-tree (t .0) (t .1) p q u
-      faulted-tree-free none p [] q false u = absurd (not-early [] false p q u tt)
-      faulted-tree-free none p (x ∷ os) q rt u = absurd (not-early (x ∷ os) rt p q u tt)
+      free-tree none p [] q false u = absurd (not-early [] false p q u tt)
+      free-tree none p (x ∷ os) q rt u = absurd (not-early (x ∷ os) rt p q u tt)
 
-      by : Treed → JournalGives s lent (reverse (built .rows))
-      by t =
-          let all = faultless-fits s (t .place) (t .name) (t .content) (λ f x. absurd (nothing-found f (in-faults (in-tree-faults (treeHeld s (t .place) (t .name) (t .content)) (t .as-tree) x)))) in
-          subst (λ (l : List Row). JournalGives s lent l) (sym (ap (λ (b : Building). reverse (b .rows)) (t .as-tree) ∙ tree-rows s (t .place) (t .name) (t .content) all)) (gives (t .text-tree))
+  accepted-fits : (e : found ≡ []) → AllFitTree s (accepted-tree e .place) (accepted-tree e .name) (accepted-tree e .content)
+  accepted-fits e =
+      let t = accepted-tree e in
+      faultless-fits s (t .place) (t .name) (t .content) (λ f x. absurd (nothing-found e f (in-faults (in-tree-faults (treeHeld s (t .place) (t .name) (t .content)) (t .as-tree) x))))
+
+  accepted-rows : (e : found ≡ []) → reverse (built .rows) ≡ treeRows s (accepted-tree e .name) (accepted-tree e .content)
+  accepted-rows e =
+      let t = accepted-tree e in
+      ap (λ (b : Building). reverse (b .rows)) (t .as-tree) ∙ tree-rows s (t .place) (t .name) (t .content) (accepted-fits e)
+
+  accepted-gives : found ≡ [] → JournalGives s lent (reverse (built .rows))
+  accepted-gives e = subst (λ (l : List Row). JournalGives s lent l) (sym (accepted-rows e)) (gives (accepted-tree e .text-tree))
 
 -- Reading a journal means what the conditions say, for every limit, schema and text: it is turned back by the first refusal that
 -- applies, or accepted, with the rows of the tree that its tokens spell.

@@ -1,18 +1,18 @@
 -- When and where refusals 2, 3 and 11 to 16 apply to a journal text, and the rows that it gives: no machine is mentioned. Assumes nothing.
 use mathlib.Core.Bool.{Bool}
-use mathlib.Core.List.{List, [], _∷_, _++_}
+use mathlib.Core.List.{List, [], _∷_, _++_, List·Memᴰ}
 use mathlib.Core.Logic.{_⊎_}
 use mathlib.Core.Option.{none, some}
 use mathlib.Core.Path.{_≡_}
-use Prim.Native.Nat.{ℕ, _+_, _<_, _≤_}
+use Prim.Native.Nat.{ℕ, suc, _+_, _<_, _≤_}
 use lib.Dec.{T}
 use lib.ListN.{length}
 use Rattle.journal_spec.specs.Tokens.{Token, startTag, emptyTag, endTag, characters, spellToken, spell, Spelt, TagNext, Entity, isPlain, sectionEnd, Tokens, openAfter}
-use Rattle.journal_spec.specs.Trees.{Forest, Nested, WellFormedText, treeRows, treeStarts}
-use Rattle.journal_spec.specs.Validity.{InTree, ContentFits}
+use Rattle.journal_spec.specs.Trees.{Forest, Nested, WellFormedText, height, NodeStart, treeRows, treeStarts}
+use Rattle.journal_spec.specs.Validity.{InTree, ContentFits, Valid}
 use Rattle.schema_spec.specs.Schemas.{Schema, elementNamed, contentAt}
 use Rattle.table_spec.specs.Rows.{Row}
-use Rattle.text_spec.specs.Bytes.{isBlank, allBlank}
+use Rattle.text_spec.specs.Bytes.{isBlank, allBlank, isForeign}
 use Rattle.text_spec.specs.Limits.{maxDepth, maxNodes, maxTextBytes}
 use Rattle.text_spec.specs.Refusals.{Reason, badLength, badByte, misspelt, badNesting, overDepth, undeclaredElement, badContent, overNodeLimit}
 use Rattle.text_spec.specs.Texts.{SplitAt, LengthApplies, ByteApplies}
@@ -104,3 +104,18 @@ pub data JournalApplies (limit : ℕ) (s : Schema) (text : List ℕ) : Reason �
 -- the rows are the tree's nodes
 pub data JournalGives (s : Schema) (text : List ℕ) : List Row → Type 0 where
   gives : {k : ℕ} {n : List ℕ} {c : Forest} → WellFormedText text k n c → JournalGives s text (treeRows s n c)
+
+-- "A journal is accepted exactly when it is within limits, well formed and valid; its rows are its nodes in document order": the tree that
+-- the text spells, and what it meets.
+pub record ValidJournal (limit : ℕ) (s : Schema) (text : List ℕ) (rows : List Row) : Type 0 where
+  pub place : ℕ
+  pub name : List ℕ
+  pub content : Forest
+  pub tree : WellFormedText text place name content
+  pub valid : Valid s place name content
+  pub shortEnough : length text ≤ limit
+  pub passes : (b : ℕ) → List·Memᴰ b text → T (isForeign b) → ⊥
+  pub shallow : suc (height content) ≤ maxDepth
+  pub fewNodes : length (treeStarts s place name content) ≤ maxNodes
+  pub shortTexts : (x : NodeStart) → List·Memᴰ x (treeStarts s place name content) → x .bytes ≤ maxTextBytes
+  pub gives-rows : rows ≡ treeRows s name content

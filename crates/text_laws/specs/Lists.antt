@@ -94,6 +94,11 @@ module _ {A : Type 0} where
   member-fills (here e) t = t
   member-fills (there i) t = t
 
+  -- a list without members is empty
+  pub memberless : (xs : List A) → ((y : A) → In y xs → ⊥) → xs ≡ []
+  memberless [] h = refl
+  memberless (x ∷ xs) h = absurd (h x (here refl))
+
   -- two lists that join to nothing are empty
   pub append-empty : (xs ys : List A) → xs ++ ys ≡ [] → (xs ≡ []) × (ys ≡ [])
   append-empty [] ys e = (refl, e)

@@ -5,12 +5,13 @@ use mathlib.Core.Logic.{_⊎_, inl, inr, ⊎-elim}
 use mathlib.Core.Path.{_≡_, refl, sym, ap, subst, _∙_}
 use Prim.Native.Nat.{ℕ, zero, suc, _+_, _≤_, _<_}
 use native.Mathlib.Omega.{arith}
-use lib.Dec.{T, ltb, ltb→lt, lt→ltb}
+use lib.Dec.{T, ltb, ltb→lt, lt→ltb, nltb→le}
 use lib.ListN.{length, drop}
 use lib.Seq.{drop-append-le}
 use Rattle.text_laws.specs.Order.{Found, Listed, found-given, found-all, listed-given, listed-all}
 use Rattle.text_laws.specs.Lists.{empty-of}
-use Rattle.text_laws.specs.Tests.{or-left, or-right, or-cases}
+use Rattle.text_laws.specs.Refusals.{given-free}
+use Rattle.text_laws.specs.Tests.{or-left, or-right, or-cases, not-intro}
 use Rattle.text_spec.specs.Bytes.{isForeign}
 use Rattle.text_spec.specs.Lists.{isEmpty, placesFrom}
 use Rattle.text_spec.specs.Refusals.{Reason, badLength, badByte, at}
@@ -103,3 +104,21 @@ bytes-listed text k (s, t) =
     listed-all badByte
     (subst (λ (j : ℕ). In j (placesFrom 0 isForeign text)) (omega (arith, s .placed))
     (subst (λ (l : List ℕ). In (0 + length (s .before)) (placesFrom 0 isForeign l)) (sym (s .joined)) (split-places isForeign 0 (s .before) (s .here) (s .after) t)))
+
+-- a text against which 2 was not found is within its limit
+pub length-within : (limit : ℕ) (text : List ℕ) → lengthRefusals limit text ≡ [] → length text ≤ limit
+length-within limit text e =
+    nltb→le limit (length text)
+    (not-intro (ltb limit (length text)) (λ t. given-free (isEmpty text || ltb limit (length text)) (at badLength 0) e (or-right (isEmpty text) (ltb limit (length text)) t)))
+
+-- a list is split at each of its places, and at each of its elements
+pub split-at : {A : Type 0} (xs : List A) (n : ℕ) → n < length xs → SplitAt xs n
+split-at [] n h = absurd (omega arith)
+split-at (x ∷ xs) zero h = split-first x xs
+split-at (x ∷ xs) (suc n) h = split-later x (split-at xs n (omega arith))
+
+pub split-in : {A : Type 0} {xs : List A} {x : A} → In x xs → (i : ℕ) × (s : SplitAt xs i) × (s .here ≡ x)
+split-in (here {x = y} {xs = ys} e) = (0, split-first y ys, sym e)
+split-in (there {x = y} i) =
+    let r = split-in i in
+    (suc (r .0), split-later y (r .1), r .2)

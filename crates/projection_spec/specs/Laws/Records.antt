@@ -1,10 +1,10 @@
 -- Refusal 1 on records: the test passes exactly the records that some accepted text gives. Assumes nothing.
-use mathlib.Core.Bool.{Bool, true, false, _&&_, _||_}
+use mathlib.Core.Bool.{Bool, true, false, _&&_}
 use mathlib.Core.List.{List, [], _∷_}
 use mathlib.Core.Path.{_≡_, refl, sym, ap, subst, _∙_}
 use Prim.Native.Nat.{ℕ, _≤_}
 use native.Mathlib.Omega.{arith}
-use lib.Dec.{T, leb, ltb, leb→le, le→leb, nltb→le}
+use lib.Dec.{T, leb, leb→le, le→leb}
 use lib.ListN.{length, take, length-take}
 use Rattle.path_laws.specs.Reading.{bundle-read, bundle-read-once}
 use Rattle.path_spec.specs.Conditions.{BundleApplies, BundleGives}
@@ -19,18 +19,13 @@ use Rattle.schema_laws.specs.Records.{record-producible, producible-record, rec
 use Rattle.schema_spec.specs.Records.{schemaIn, SchemaProducible, isSchemaRecord}
 use Rattle.schema_spec.specs.Schemas.{Schema}
 use Rattle.text_laws.specs.Lists.{append-empty, bytes-equal, bytes-same}
-use Rattle.text_laws.specs.Refusals.{given-free, judged-accepted}
-use Rattle.text_laws.specs.Tests.{and-intro, and-cases, or-right, not-intro}
+use Rattle.text_laws.specs.Refusals.{judged-accepted}
+use Rattle.text_laws.specs.Tests.{and-intro, and-cases}
+use Rattle.text_laws.specs.Texts.{length-within}
 use Rattle.text_spec.specs.Limits.{maxSchemaBytes, maxBundleBytes}
-use Rattle.text_spec.specs.Lists.{sameBytes, isEmpty}
-use Rattle.text_spec.specs.Refusals.{Outcome, accepted, refused, at, badLength, isAccepted, Judged}
+use Rattle.text_spec.specs.Lists.{sameBytes}
+use Rattle.text_spec.specs.Refusals.{Outcome, accepted, refused, isAccepted, Judged}
 use Rattle.text_spec.specs.Texts.{lengthRefusals}
-
--- a text against which refusal 2 was not found is within its limit
-within-limit : (limit : ℕ) (text : List ℕ) → lengthRefusals limit text ≡ [] → length text ≤ limit
-within-limit limit text e =
-    nltb→le limit (length text)
-    (not-intro (ltb limit (length text)) (λ t. given-free (isEmpty text || ltb limit (length text)) (at badLength 0) e (or-right (isEmpty text) (ltb limit (length text)) t)))
 
 -- ---- a record is its text in cells
 record-text : (limit : ℕ) (text : List ℕ) → length text ≤ limit → textIn (recordOf limit text) ≡ text
@@ -52,7 +47,7 @@ record-is limit r t =
 
 -- ---- schemas
 record-length : (w : List ℕ) → T (isSchemaRecord w) → length w ≤ maxSchemaBytes
-record-length w t = within-limit maxSchemaBytes w (accepted-spelt w (schemaIn w) (record-accepted w t) .right-length)
+record-length w t = length-within maxSchemaBytes w (accepted-spelt w (schemaIn w) (record-accepted w t) .right-length)
 
 pub schema-handed : (r : TextRecord) → T (passesSchema r) → SchemaHanded r
 unfolding passesSchema
@@ -80,7 +75,7 @@ module _ (s : Schema) where
 
   bundle-length : (w : List ℕ) (ps : List (Path ℕ)) → readBundle s w ≡ accepted ps → length w ≤ maxBundleBytes
   unfolding readBundle bundleRefusals
-  bundle-length w ps e = within-limit maxBundleBytes w (append-empty (lengthRefusals maxBundleBytes w) _ (judged-accepted (bundleRefusals s w) _ ps e .0) .0)
+  bundle-length w ps e = length-within maxBundleBytes w (append-empty (lengthRefusals maxBundleBytes w) _ (judged-accepted (bundleRefusals s w) _ ps e .0) .0)
 
   bundle-taken : (w : List ℕ) (ps : List (Path ℕ)) → readBundle s w ≡ accepted ps → BundleTaken s w ps
   bundle-taken w ps e = subst (Judged (BundleApplies s w) (BundleGives s w)) e (bundle-read s w)
