@@ -37,6 +37,7 @@ use Rattle.text_spec.specs.Limits.{maxDepth, maxNodes, maxTextBytes}
 use Rattle.text_spec.specs.Lists.{isEmpty, isNone, listOf, anyOf}
 use Rattle.text_spec.specs.Refusals.{Reason, Refusal, numberOf, at, allAt, given, badLength, badByte, misspelt, badNesting, overDepth, undeclaredElement, badContent, overNodeLimit, judged, Judged}
 use Rattle.text_spec.specs.Texts.{SplitAt, lengthRefusals, ByteApplies}
+pub mod Meaning
 
 -- ---- refusal 3
 
