@@ -13,3 +13,4 @@ pub mod Contents
 pub mod NodeLimits
 pub mod Undeclared
 pub mod Judging
+pub mod TreeNodes

@@ -146,7 +146,7 @@ spelt-parted all-none = no-parts
 spelt-parted (tag n s h) = tag-part n (spelt-parted h)
 spelt-parted (data-then s n h) = data-part n (spelt-parted h)
 
-spell-append : (us vs : List Token) → spell (us ++ vs) ≡ spell us ++ spell vs
+pub spell-append : (us vs : List Token) → spell (us ++ vs) ≡ spell us ++ spell vs
 spell-append [] vs = refl
 spell-append (t ∷ us) vs = ap (λ (l : List ℕ). spellToken t ++ l) (spell-append us vs) ∙ sym (append-assoc (spellToken t) (spell us) (spell vs))
 
