@@ -58,10 +58,10 @@ abbrev counted : {A : Type 0} → List A → List (List ℕ)
 counted l = (length l ∷ []) ∷ []
 
 abbrev row : Row → List ℕ
-row r = r .number ∷ codeOf (r .name) ∷ r .parent ∷ r .start ∷ r .length ∷ []
+row r = r .number ∷ codeOf (r .name) ∷ r .parent ∷ r .start ∷ r .size ∷ []
 
 abbrev rowButStart : Row → List ℕ
-rowButStart r = r .number ∷ codeOf (r .name) ∷ r .parent ∷ r .length ∷ []
+rowButStart r = r .number ∷ codeOf (r .name) ∷ r .parent ∷ r .size ∷ []
 
 abbrev lent : ℕ → List Row → Outcome (List Row)
 lent n rows = cond (ltb n (length rows)) (refused (at tooFewCells 0)) (accepted rows)

@@ -21,7 +21,7 @@ use Rattle.schema_spec.specs.Types.{Types, typesOf, holds}
 use Rattle.table_laws.specs.Fits.{RowFits, fits-row}
 use Rattle.table_laws.specs.Nodes.{nodes-same, nodes-equal}
 use Rattle.table_laws.specs.Places.{none-some, at-before, at-end, at-in}
-use Rattle.table_spec.specs.Nodes.{Node, top, under, numberOf, nameOf, same, isAbove, depthOf, nodeAt, attach}
+use Rattle.table_spec.specs.Nodes.{Node, top, under, numberOf, nameOf, same, isAbove, depthOf, nodeAt, attachTo}
 use Rattle.table_spec.specs.Rows.{Row, textOf}
 use Rattle.table_spec.specs.Tables.{sameParent, firstText, rowFits, laterRows, wellFormed, textInside, wellFormedWith}
 use Rattle.text_laws.specs.Lists.{in-any, in-all, append-empty}
@@ -121,7 +121,7 @@ first-of-parent before n e w p numbered last = not-intro (anyOf (λ z. isText (n
 
 -- a text row lies within so many bytes
 abbrev TextWithin : ℕ → Row → Type 0
-TextWithin size r = T (isText (r .name)) → r .start + r .length ≤ size
+TextWithin size r = T (isText (r .name)) → r .start + r .size ≤ size
 
 -- the rows still to come
 record Later (s : Schema) (size : ℕ) (final : List Row) (before : List Node) (previous : Node) (rs : List Row) : Type 0 where
@@ -268,7 +268,7 @@ child-row s size final before previous n e o os rs h c deep few l =
       rows = r ∷ l .rows;
       joined = l .joined;
       fit =
-          later-row (typesOf s) before previous r y (l .rows) (ap (attach n (element e) (textOf [] r)) (chain-node (h .chain)))
+          later-row (typesOf s) before previous r y (l .rows) (ap (attachTo n (element e) (textOf [] r)) (chain-node (h .chain)))
           (record {
             rises = omega arith;
             small = few;
@@ -303,7 +303,7 @@ text-row s size final before previous n e start l o os rs h f pos small fits few
       rows = r ∷ z .rows;
       joined = z .joined;
       fit =
-          later-row (typesOf s) before previous r y (z .rows) (ap (attach n (text e) (textOf [] r)) (chain-node (h .chain)))
+          later-row (typesOf s) before previous r y (z .rows) (ap (attachTo n (text e) (textOf [] r)) (chain-node (h .chain)))
           (record {
             rises = omega arith;
             small = few;
@@ -318,7 +318,7 @@ text-row s size final before previous n e start l o os rs h f pos small fits few
     }
   where
     within : {b : List Node} {q : Node} (z : Later s size final b q (textRow n e (o .row) start l ∷ rs)) (x : Row) → In x (textRow n e (o .row) start l ∷ z .rows) → TextWithin size x
-    within z x (here g) t = subst (λ (a : Row). a .start + a .length ≤ size) (sym g) fits
+    within z x (here g) t = subst (λ (a : Row). a .start + a .size ≤ size) (sym g) fits
     within z x (there i) t = z .texts x i t
 
 -- the rows to come of a derivation fit the nodes so far
@@ -393,16 +393,16 @@ module _ (f : ℕ → Bool) where
 text-lies-inside : (lent : List ℕ) (r : Row) → T (allOf (λ b. not (isForeign b)) lent) → TextWithin (length lent) r → T (textInside lent r)
 text-lies-inside lent r native h = by (isText (r .name)) h
   where
-    by : (t : Bool) → (T t → r .start + r .length ≤ length lent)
-        → T (not t || (leb (r .start) (length lent) && (eqb (length (textOf lent r)) (r .length) && allOf (λ b. not (isForeign b)) (textOf lent r))))
+    by : (t : Bool) → (T t → r .start + r .size ≤ length lent)
+        → T (not t || (leb (r .start) (length lent) && (eqb (length (textOf lent r)) (r .size) && allOf (λ b. not (isForeign b)) (textOf lent r))))
     by false h = tt
     by true h =
-        let fits : r .start + r .length ≤ length lent = h tt in
-        let room : r .length ≤ length (drop (r .start) lent) = omega (arith, length-drop (r .start) lent) in
-        and-intro (leb (r .start) (length lent)) (eqb (length (textOf lent r)) (r .length) && allOf (λ b. not (isForeign b)) (textOf lent r)) (le→leb (r .start) (length lent) (omega arith))
-        (and-intro (eqb (length (textOf lent r)) (r .length)) (allOf (λ b. not (isForeign b)) (textOf lent r))
-        (subst (λ (m : ℕ). T (eqb m (r .length))) (sym (length-take-le (r .length) (drop (r .start) lent) room)) (eqb-refl (r .length)))
-        (all-take (λ b. not (isForeign b)) (r .length) (drop (r .start) lent) (all-drop (λ b. not (isForeign b)) (r .start) lent native)))
+        let fits : r .start + r .size ≤ length lent = h tt in
+        let room : r .size ≤ length (drop (r .start) lent) = omega (arith, length-drop (r .start) lent) in
+        and-intro (leb (r .start) (length lent)) (eqb (length (textOf lent r)) (r .size) && allOf (λ b. not (isForeign b)) (textOf lent r)) (le→leb (r .start) (length lent) (omega arith))
+        (and-intro (eqb (length (textOf lent r)) (r .size)) (allOf (λ b. not (isForeign b)) (textOf lent r))
+        (subst (λ (m : ℕ). T (eqb m (r .size))) (sym (length-take-le (r .size) (drop (r .start) lent) room)) (eqb-refl (r .size)))
+        (all-take (λ b. not (isForeign b)) (r .size) (drop (r .start) lent) (all-drop (λ b. not (isForeign b)) (r .start) lent native)))
 
 -- ---- acceptance
 

@@ -19,7 +19,7 @@ use Rattle.text_laws.specs.Lists.{append-empty}
 use Rattle.text_laws.specs.Refusals.{given-free}
 use Rattle.text_laws.specs.Tests.{passed, or-left, or-right, not-intro}
 use Rattle.text_spec.specs.Limits.{maxDepth, maxNodes, maxTextBytes}
-use Rattle.text_spec.specs.Lists.{isNone, orElse, sameBytes}
+use Rattle.text_spec.specs.Lists.{isNone, valueOr, sameBytes}
 use Rattle.text_spec.specs.Refusals.{Refusal, at, given, badNesting, overDepth, undeclaredElement, badContent, overNodeLimit}
 
 -- ---- what was found stays
@@ -77,10 +77,10 @@ abbrev pub opening : List ℕ → ℕ → ℕ → Filling → Open
 opening n k row f = record { name = n; place = k; row = row; filling = f }
 
 abbrev pub elementRow : ℕ → ℕ → ℕ → Row
-elementRow n e parent = record { number = n; name = element e; parent = parent; start = 0; length = 0 }
+elementRow n e parent = record { number = n; name = element e; parent = parent; start = 0; size = 0 }
 
 abbrev pub textRow : ℕ → ℕ → ℕ → ℕ → ℕ → Row
-textRow n e parent start l = record { number = n; name = text e; parent = parent; start = start; length = l }
+textRow n e parent start l = record { number = n; name = text e; parent = parent; start = start; size = l }
 
 -- a content in which character data makes no node
 pub data MakesNoText : Filling → Type 0 where
@@ -141,7 +141,7 @@ module _ (s : Schema) (size : ℕ) (final : List Row) where
 
   abbrev begun : List ℕ → ℕ → List Open → Option ℕ → List Row → ℕ → Building
   begun w k os e rs n =
-      building (opening w k n (fillingFor s e) ∷ refill (withChild e) os) true (beginFaults os e k n) (elementRow n (orElse 0 e) (parentRow os) ∷ rs) (suc n)
+      building (opening w k n (fillingFor s e) ∷ refill (withChild e) os) true (beginFaults os e k n) (elementRow n (valueOr 0 e) (parentRow os) ∷ rs) (suc n)
 
   below-limit : (n : ℕ) → (T (leb maxNodes n) → ⊥) → n < maxNodes
   below-limit n h = lt (leb maxNodes n) refl
@@ -154,7 +154,7 @@ module _ (s : Schema) (size : ℕ) (final : List Row) where
   begin-tests : (w : List ℕ) (k : ℕ) (es : List Event) (os : List Open) (rs : List Row) (n : ℕ) (e : Option ℕ) → Accepts final (build s es (begun w k os e rs n))
       → (T (isNone e) → ⊥) × (T (wrongRoot os e) → ⊥) × (n < maxNodes)
   begin-tests w k es os rs n e a =
-      let all = faultless-so-far es (opening w k n (fillingFor s e) ∷ refill (withChild e) os) true (beginFaults os e k n) (elementRow n (orElse 0 e) (parentRow os) ∷ rs) (suc n) a in
+      let all = faultless-so-far es (opening w k n (fillingFor s e) ∷ refill (withChild e) os) true (beginFaults os e k n) (elementRow n (valueOr 0 e) (parentRow os) ∷ rs) (suc n) a in
       let late = given (leb maxNodes n) (at overNodeLimit k) ++ [] in
       let later = rest-free (isNone e) (at undeclaredElement k) (given (wrongRoot os e) (at badContent k) ++ late) all in (
         test-free (isNone e) (at undeclaredElement k) (given (wrongRoot os e) (at badContent k) ++ late) all,

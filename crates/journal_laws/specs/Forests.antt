@@ -23,7 +23,7 @@ use Rattle.text_laws.specs.Lists.{bytes-same}
 use Rattle.text_laws.specs.Tests.{true-of, false-of, and-cases}
 use Rattle.text_spec.specs.Bytes.{isBlank, allBlank}
 use Rattle.text_spec.specs.Limits.{maxDepth, maxNodes, maxTextBytes}
-use Rattle.text_spec.specs.Lists.{isNone, orElse, sameBytes}
+use Rattle.text_spec.specs.Lists.{isNone, valueOr, sameBytes}
 use Rattle.text_spec.specs.Refusals.{Refusal, at, given, undeclaredElement, badContent, overNodeLimit}
 
 -- what is held while an element is open: its content, and the faults, rows and count so far
@@ -51,7 +51,7 @@ afterRun p k w h = runHeld (h .filling) p k (length w) (withRun (isNone (solidFr
 abbrev pub atStart : Schema → ℕ → ℕ → Option ℕ → Held → Held
 atStart s p k e h =
     held (fillingFor s e) (given (isNone e) (at undeclaredElement k) ++ (given (leb maxNodes (h .count)) (at overNodeLimit k) ++ h .faults))
-    (elementRow (h .count) (orElse 0 e) p ∷ h .rows) (suc (h .count))
+    (elementRow (h .count) (valueOr 0 e) p ∷ h .rows) (suc (h .count))
 
 abbrev pub atEnd : ℕ → Option ℕ → Filling → Held → Held
 atEnd k e g h = held (withChild e g) (given (not (fitsAtEnd (h .filling))) (at badContent k) ++ h .faults) (h .rows) (h .count)
@@ -132,7 +132,7 @@ forest-built s o os h (tag-pair {k = k} {n = n} {a = a} {us = us} {ts = ts} {c =
 -- ---- the whole tree
 
 abbrev pub rootStart : Schema → ℕ → Option ℕ → Held
-rootStart s k e = held (fillingFor s e) (given (isNone e) (at undeclaredElement k) ++ (given (wrongRoot [] e) (at badContent k) ++ [])) (elementRow 0 (orElse 0 e) 0 ∷ []) 1
+rootStart s k e = held (fillingFor s e) (given (isNone e) (at undeclaredElement k) ++ (given (wrongRoot [] e) (at badContent k) ++ [])) (elementRow 0 (valueOr 0 e) 0 ∷ []) 1
 
 -- what is held at the end of the root with this place, name and content
 abbrev pub treeHeld : Schema → ℕ → List ℕ → Forest → Held

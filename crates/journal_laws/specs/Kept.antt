@@ -42,7 +42,7 @@ module _ (P : Building → Type 0) (by-ends : KeptByEnds P) where
     keep-text misfit r l p os = by-runs .run-on os
     keep-text unfilled r l p os = by-runs .run-on os
     keep-text (filledByText e) r l p os =
-        by-runs .text-on os (ltb maxTextBytes l || leb maxNodes (b .count)) (r .start) (record { number = b .count; name = text e; parent = p; start = r .start; length = l })
+        by-runs .text-on os (ltb maxTextBytes l || leb maxNodes (b .count)) (r .start) (record { number = b .count; name = text e; parent = p; start = r .start; size = l })
     keep-text (filledByChildren q) r l p os = by-runs .run-on os
 
     pub keep-run : (os : List Open) (r : Run) (l : ℕ) → P (inside os r l b)

@@ -23,7 +23,7 @@ use Rattle.table_spec.specs.Rows.{Row}
 use Rattle.text_laws.specs.Refusals.{in-given, given-in}
 use Rattle.text_laws.specs.Tests.{passed, or-left, or-right, or-cases}
 use Rattle.text_spec.specs.Limits.{maxNodes, maxTextBytes}
-use Rattle.text_spec.specs.Lists.{isNone, orElse}
+use Rattle.text_spec.specs.Lists.{isNone, valueOr}
 use Rattle.text_spec.specs.Refusals.{Refusal, numberOf, at, given, undeclaredElement, badContent, overNodeLimit}
 use Rattle.text_spec.specs.Texts.{SplitAt}
 
@@ -45,7 +45,7 @@ content-suits {f} s e x = by (contentAt s e) refl x
     by (children p) q y = as-other (ap isPcdata q) no-text-children
 
 element-suits : {f : Forest} (s : Schema) (n : List ℕ) → (e : ℕ) × (elementNamed s n ≡ some e) × ContentFits s (contentAt s e) f → Suits s (indexOf s n) (fillingFor s (elementNamed s n)) f
-element-suits {f} s n x = subst (λ (o : Option ℕ). Suits s (orElse 0 o) (fillingFor s o) f) (sym (x .1)) (content-suits s (x .0) (x .2))
+element-suits {f} s n x = subst (λ (o : Option ℕ). Suits s (valueOr 0 o) (fillingFor s o) f) (sym (x .1)) (content-suits s (x .0) (x .2))
 
 no-text-run : (b : Bool) {g : Filling} → MakesNoText g → MakesNoText (withRun b g)
 no-text-run b no-text-unjudged = no-text-unjudged

@@ -16,7 +16,7 @@ use Rattle.journal_spec.specs.Trees.{Forest, nothing, data-node, element-node, 
 use Rattle.schema_spec.specs.Names.{Name, element, text}
 use Rattle.schema_spec.specs.Schemas.{Schema, contentAt, isPcdata}
 use Rattle.table_laws.specs.Places.{at-before, at-end}
-use Rattle.table_spec.specs.Nodes.{Node, top, under, attach, nodeAt, nodesFrom, nodesOf}
+use Rattle.table_spec.specs.Nodes.{Node, top, under, attachTo, nodeAt, nodesFrom, nodesOf}
 use Rattle.table_spec.specs.Rows.{Row, textOf}
 use Rattle.text_spec.specs.Lists.{part}
 use Rattle.text_spec.specs.Refusals.{accepted}
@@ -101,7 +101,7 @@ module _ (journal : List ℕ) (s : Schema) where
       (under-nodes e f before parent next p a l (own .1))
     where
       r : Row
-      r = record { number = next; name = text e; parent = parent; start = k; length = length w }
+      r = record { number = next; name = text e; parent = parent; start = k; size = length w }
 
       y : Node
       y = under next (text e) w p
@@ -112,7 +112,7 @@ module _ (journal : List ℕ) (s : Schema) where
           ≡ cond b (y ∷ nodesUnder s e p (suc next) f) (nodesUnder s e p next f)
       by true h g =
           let q : nodeAt journal before r ≡ y =
-          ap (λ (o : Option Node). attach next (text e) (part k (length w) journal) o) a ∙ ap (λ (x : List ℕ). under next (text e) x p) (own .0) in
+          ap (λ (o : Option Node). attachTo next (text e) (part k (length w) journal) o) a ∙ ap (λ (x : List ℕ). under next (text e) x p) (own .0) in
           ap (λ (z : Node). z ∷ nodesFrom journal (before ++ (z ∷ [])) (rowsUnder s e parent (suc next) f)) q
           ∙ ap (λ (z : List Node). y ∷ z) h
       by false h g = g
@@ -143,8 +143,8 @@ module _ (journal : List ℕ) (s : Schema) where
       inners : List Node
       inners = nodesUnder s i y (suc next) c
 
-      q : nodeAt journal before (record { number = next; name = element i; parent = parent; start = 0; length = 0 }) ≡ y
-      q = ap (λ (o : Option Node). attach next (element i) [] o) a
+      q : nodeAt journal before (record { number = next; name = element i; parent = parent; start = 0; size = 0 }) ≡ y
+      q = ap (λ (o : Option Node). attachTo next (element i) [] o) a
 
       here : getElem? grown next ≡ some y
       here = subst (λ (j : ℕ). getElem? grown j ≡ some y) l (at-end before y [])

@@ -11,7 +11,7 @@ use Rattle.schema_spec.specs.Names.{Name, element, text}
 use Rattle.schema_spec.specs.Schemas.{Schema, elementNamed, contentAt}
 use Rattle.table_spec.specs.Rows.{Row}
 use Rattle.text_spec.specs.Limits.{maxDepth, maxNodes, maxTextBytes}
-use Rattle.text_spec.specs.Lists.{isEmpty, isNone, orElse, sameBytes}
+use Rattle.text_spec.specs.Lists.{isEmpty, isNone, valueOr, sameBytes}
 use Rattle.text_spec.specs.Refusals.{Refusal, at, given, badNesting, overDepth, undeclaredElement, badContent, overNodeLimit}
 
 -- what an open element has got of its content
@@ -109,7 +109,7 @@ begin s n k b =
     (record { name = n; place = k; row = b .count; filling = fillingFor s e } ∷ refill (withChild e) (b .opens))
     true
     (given (isNone e) (at undeclaredElement k) ++ (given (wrongRoot (b .opens) e) (at badContent k) ++ (given (leb maxNodes (b .count)) (at overNodeLimit k) ++ b .faults)))
-    (record { number = b .count; name = element (orElse 0 e); parent = parentRow (b .opens); start = 0; length = 0 } ∷ b .rows)
+    (record { number = b .count; name = element (valueOr 0 e); parent = parentRow (b .opens); start = 0; size = 0 } ∷ b .rows)
     (suc (b .count))
 
 abbrev pub onStart : Schema → List ℕ → ℕ → Building → Building
@@ -138,7 +138,7 @@ abbrev pub textNode : Filling → Run → ℕ → ℕ → Building → Building
 textNode (filledByText e) r size parent b =
     building (b .opens) (b .rooted)
     (given (ltb maxTextBytes size || leb maxNodes (b .count)) (at overNodeLimit (r .start)) ++ b .faults)
-    (record { number = b .count; name = text e; parent = parent; start = r .start; length = size } ∷ b .rows)
+    (record { number = b .count; name = text e; parent = parent; start = r .start; size = size } ∷ b .rows)
     (suc (b .count))
 textNode unjudged r size parent b = b
 textNode misfit r size parent b = b

@@ -11,7 +11,7 @@ use Rattle.schema_spec.specs.Schemas.{Schema, elementNamed, contentAt, isPcdata
 use Rattle.table_spec.specs.Nodes.{Node, top, under}
 use Rattle.table_spec.specs.Rows.{Row}
 use Rattle.text_spec.specs.Bytes.{allBlank}
-use Rattle.text_spec.specs.Lists.{orElse}
+use Rattle.text_spec.specs.Lists.{valueOr}
 
 -- A forest as first child and next sibling: nothing; character data, with its place, and what follows; or an element, with the place
 -- of its start tag, its name, its content, and what follows.
@@ -60,7 +60,7 @@ height (element-node k n c f) = max (suc (height c)) (height f)
 
 -- how many nodes a forest makes under an element: "in `(#PCDATA)` the whole non-empty text is one node", elsewhere text makes none
 abbrev pub indexOf : Schema → List ℕ → ℕ
-indexOf s n = orElse 0 (elementNamed s n)
+indexOf s n = valueOr 0 (elementNamed s n)
 
 abbrev pub countIn : Schema → ℕ → Forest → ℕ
 countIn s e nothing = 0
@@ -89,17 +89,17 @@ abbrev pub rowsUnder : Schema → ℕ → ℕ → ℕ → Forest → List Row
 rowsUnder s e parent next nothing = []
 rowsUnder s e parent next (data-node k w f) =
     cond (isPcdata (contentAt s e))
-    (record { number = next; name = text e; parent = parent; start = k; length = length w } ∷ rowsUnder s e parent (suc next) f)
+    (record { number = next; name = text e; parent = parent; start = k; size = length w } ∷ rowsUnder s e parent (suc next) f)
     (rowsUnder s e parent next f)
 rowsUnder s e parent next (element-node k n c f) =
     let i = indexOf s n in
-    record { number = next; name = element i; parent = parent; start = 0; length = 0 }
+    record { number = next; name = element i; parent = parent; start = 0; size = 0 }
     ∷ (rowsUnder s i next (suc next) c ++ rowsUnder s e parent (suc next + countIn s i c) f)
 
 unfoldable pub treeRows : Schema → List ℕ → Forest → List Row
 treeRows s n c =
     let i = indexOf s n in
-    record { number = 0; name = element i; parent = 0; start = 0; length = 0 } ∷ rowsUnder s i 0 1 c
+    record { number = 0; name = element i; parent = 0; start = 0; size = 0 } ∷ rowsUnder s i 0 1 c
 
 -- where each node begins and, of a text, how many raw bytes it has (0 for an element)
 pub record NodeStart : Type 0 where

@@ -15,7 +15,7 @@ use Rattle.path_laws.specs.Grammar.Sound.{parse-sound}
 use Rattle.path_spec.specs.Conditions.{Grammatical, TooMuch, paths, steps, pathBytes, alternatives, alternativeSteps, OverLimit, over, Undeclared, undeclared, BundleApplies, length-2, byte-3, grammar-8, limit-9, undeclared-10, BundleGives, gives}
 use Rattle.path_spec.specs.Grammar.{PathRead, BundleText}
 use Rattle.path_spec.specs.Machine.{Parsed, spells, departs, parse}
-use Rattle.path_spec.specs.Paths.{WrittenStep, Condition, Path, pathUses}
+use Rattle.path_spec.specs.Paths.{WrittenStep, Condition, LocationPath, pathUses}
 use Rattle.path_spec.specs.Reading.{passesLimit, limitRefusals, undeclaredPlaces, parsedRefusals, resolvedPath, parsedPaths, bundleRefusals, readBundle}
 use Rattle.schema_spec.specs.Declarations.{Use}
 use Rattle.schema_spec.specs.Schemas.{Schema, elementNamed}
@@ -257,8 +257,8 @@ module _ (s : Schema) (text : List ℕ) where
   bundle-read = by-parse (parse text) refl
 
 -- So the conditions determine the outcome.
-gives-once : (s : Schema) (text : List ℕ) (a b : List (Path ℕ)) → BundleGives s text a → BundleGives s text b → a ≡ b
+gives-once : (s : Schema) (text : List ℕ) (a b : List (LocationPath ℕ)) → BundleGives s text a → BundleGives s text b → a ≡ b
 gives-once s text a b (gives c) (gives d) = ap (map (λ (p : PathRead). resolvedPath s (p .steps))) (bundle-unique c d)
 
-pub bundle-read-once : (s : Schema) (text : List ℕ) {o : Outcome (List (Path ℕ))} → Judged (BundleApplies s text) (BundleGives s text) o → o ≡ readBundle s text
+pub bundle-read-once : (s : Schema) (text : List ℕ) {o : Outcome (List (LocationPath ℕ))} → Judged (BundleApplies s text) (BundleGives s text) o → o ≡ readBundle s text
 bundle-read-once s text j = judged-once (BundleApplies s text) (BundleGives s text) (gives-once s text) j (bundle-read s text)

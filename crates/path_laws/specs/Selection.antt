@@ -10,12 +10,12 @@ use native.Mathlib.Omega.{arith}
 use lib.Dec.{T, eqb→eq, eqb-refl}
 use lib.ListN.{getElem?}
 use Rattle.table_laws.specs.Nodes.{nodes-equal, nodes-same, parent-edge, edge-parent, test-above, above-test}
-use Rattle.path_spec.specs.Paths.{Axis, self, child, descendant, descendantOrSelf, parent, ancestor, ancestorOrSelf, WrittenAxis, along, NodeTest, named, anyNode, anyText, WrittenStep, PlainStep, Condition, Path}
+use Rattle.path_spec.specs.Paths.{Axis, self, child, descendant, descendantOrSelf, parent, ancestor, ancestorOrSelf, WrittenAxis, along, NodeTest, named, anyNode, anyText, WrittenStep, PlainStep, Condition, LocationPath}
 use Rattle.path_spec.specs.Selection.{NodeSet, Passes, passes-name, passes-node, passes-text, OnAxis, on-self, on-child, on-descendant, here-or-below, below-or-here, on-parent, on-ancestor, here-or-above, above-or-here, OnWritten, on-along, StepSet, PathSet, Always, Only, Holds, no-condition, alternative, Selected, passes, onAxis, onWritten, stepFrom, pathFrom, always, holdsAt, selected, select, selectRows}
 use Rattle.schema_spec.specs.Names.{Name, element, text}
 use Rattle.schema_spec.specs.Types.{Types}
 use Rattle.table_spec.specs.Conditions.{RowAt, WellFormed}
-use Rattle.table_spec.specs.Nodes.{Node, attach, nodeAt, nodesFrom, nodesOf, numberOf, nameOf, isTop, same, isAbove}
+use Rattle.table_spec.specs.Nodes.{Node, attachTo, nodeAt, nodesFrom, nodesOf, numberOf, nameOf, isTop, same, isAbove}
 use Rattle.table_spec.specs.Rows.{Row, textOf}
 use Rattle.text_laws.specs.Lists.{any-in, in-any, in-filter, filter-in, member-fills}
 use Rattle.text_laws.specs.Tests.{or-left, or-right, or-cases, and-intro, and-cases, not-intro}
@@ -130,16 +130,16 @@ holds-test {doc} (alternative {c = c} {y = y} q z i s) =
     (not-intro (isEmpty (pathFrom always doc q (y ∷ []))) (member-fills (plain-members doc q y .complete z s))))
 
 -- ---- a path selects what 000 says
-pub selected-members : (doc : List Node) (p : Path ℕ) → Members (selected doc p) (Selected doc p)
+pub selected-members : (doc : List Node) (p : LocationPath ℕ) → Members (selected doc p) (Selected doc p)
 unfolding selected
 selected-members doc p =
     path-members doc (Holds doc) holdsAt (test-holds doc) (λ c y h. holds-test h) p
     (record { sound = λ y i. filter-in isTop doc i; complete = λ y r. in-filter isTop (r .0) (r .1) })
 
-pub selected-sound : (doc : List Node) (p : Path ℕ) (y : Node) → In y (selected doc p) → Selected doc p y
+pub selected-sound : (doc : List Node) (p : LocationPath ℕ) (y : Node) → In y (selected doc p) → Selected doc p y
 selected-sound doc p y i = selected-members doc p .sound y i
 
-pub selected-complete : (doc : List Node) (p : Path ℕ) (y : Node) → Selected doc p y → In y (selected doc p)
+pub selected-complete : (doc : List Node) (p : LocationPath ℕ) (y : Node) → Selected doc p y → In y (selected doc p)
 selected-complete doc p y s = selected-members doc p .complete y s
 
 -- ---- "Selection is a set, given in document order"
@@ -149,7 +149,7 @@ path-filters : {C : Type 0} (meets : List Node → C → Node → Bool) (doc : L
 path-filters meets doc [] h = h
 path-filters meets doc (p ∷ ps) {xs} h = path-filters meets doc ps (_, refl)
 
-pub selected-filters : (doc : List Node) (p : Path ℕ) → (f : Node → Bool) × (selected doc p ≡ filterBy f doc)
+pub selected-filters : (doc : List Node) (p : LocationPath ℕ) → (f : Node → Bool) × (selected doc p ≡ filterBy f doc)
 unfolding selected
 selected-filters doc p = path-filters holdsAt doc p (isTop, refl)
 
@@ -161,13 +161,13 @@ filter-sublist f (x ∷ xs) = pick (f x) (filter-sublist f xs)
     pick true s = Sublistᴰ·cons-cons refl s
     pick false s = Sublistᴰ·cons s
 
-pub selected-in-order : (doc : List Node) (p : Path ℕ) → Sublistᴰ (selected doc p) doc
+pub selected-in-order : (doc : List Node) (p : LocationPath ℕ) → Sublistᴰ (selected doc p) doc
 selected-in-order doc p =
     let h = selected-filters doc p in
     rw (h .1) (filter-sublist (h .0) doc)
 
 -- each node once, where the document has each node once
-pub selected-once : (doc : List Node) (p : Path ℕ) → List·Nodup doc → List·Nodup (selected doc p)
+pub selected-once : (doc : List Node) (p : LocationPath ℕ) → List·Nodup doc → List·Nodup (selected doc p)
 selected-once doc p d = Pairwise·sublistᴰ (selected-in-order doc p) d
 
 sublist-map : {A B : Type 0} (f : A → B) {xs ys : List A} → Sublistᴰ xs ys → Sublistᴰ (map f xs) (map f ys)
@@ -176,12 +176,12 @@ sublist-map f (Sublistᴰ·cons s) = Sublistᴰ·cons (sublist-map f s)
 sublist-map f (Sublistᴰ·cons-cons e s) = Sublistᴰ·cons-cons (ap f e) (sublist-map f s)
 
 -- the numbers selected rise, where those of the document do
-pub select-rises : (doc : List Node) (p : Path ℕ) → Pairwise _<_ (map numberOf doc) → Pairwise _<_ (select doc p)
+pub select-rises : (doc : List Node) (p : LocationPath ℕ) → Pairwise _<_ (map numberOf doc) → Pairwise _<_ (select doc p)
 unfolding select
 select-rises doc p r = Pairwise·sublistᴰ (sublist-map numberOf (selected-in-order doc p)) r
 
 -- ---- on a table
-node-numbered : (k : ℕ) (n : Name) (w : List ℕ) (p : Option Node) → numberOf (attach k n w p) ≡ k
+node-numbered : (k : ℕ) (n : Name) (w : List ℕ) (p : Option Node) → numberOf (attachTo k n w p) ≡ k
 node-numbered k n w none = refl
 node-numbered k n w (some p) = refl
 
@@ -215,7 +215,7 @@ all-rise [] h = Pairwise·nil
 all-rise (r ∷ rows) h =
     Pairwise·cons (λ k m. ∥∥₁-elim m le-prop (λ i. later-above r rows h k i)) (all-rise rows (λ j x y a b. h (suc j) x y a b))
 
-pub select-rows-rises : (s : Types) (lent : List ℕ) (rows : List Row) (p : Path ℕ) → WellFormed s rows → Pairwise _<_ (selectRows lent rows p)
+pub select-rows-rises : (s : Types) (lent : List ℕ) (rows : List Row) (p : LocationPath ℕ) → WellFormed s rows → Pairwise _<_ (selectRows lent rows p)
 unfolding selectRows
 select-rows-rises s lent rows p w =
     select-rises (nodesOf lent rows) p (rw (nodes-numbered lent rows) (all-rise rows (λ i q r a b. w .laterRow i q r a b .rises)))

@@ -5,7 +5,7 @@ use mathlib.Core.Path.{_≡_}
 use Prim.Native.Nat.{ℕ, _<_, _≤_}
 use lib.ListN.{length}
 use Rattle.path_spec.specs.Grammar.{PathRead, BundleText}
-use Rattle.path_spec.specs.Paths.{WrittenStep, PlainStep, Condition, Path, pathUses}
+use Rattle.path_spec.specs.Paths.{WrittenStep, PlainStep, Condition, LocationPath, pathUses}
 use Rattle.path_spec.specs.Reading.{resolvedPath}
 use Rattle.schema_spec.specs.Declarations.{Use}
 use Rattle.schema_spec.specs.Schemas.{Schema, elementNamed}
@@ -39,5 +39,5 @@ pub data BundleApplies (s : Schema) (text : List ℕ) : Reason → ℕ → Type 
   limit-9 : {ps : List PathRead} {k : ℕ} → BundleText 0 text ps → OverLimit ps k → BundleApplies s text overPathLimit k
   undeclared-10 : {ps : List PathRead} {k : ℕ} → BundleText 0 text ps → Undeclared s ps k → BundleApplies s text undeclaredInPath k
 
-pub data BundleGives (s : Schema) (text : List ℕ) : List (Path ℕ) → Type 0 where
+pub data BundleGives (s : Schema) (text : List ℕ) : List (LocationPath ℕ) → Type 0 where
   gives : {ps : List PathRead} → BundleText 0 text ps → BundleGives s text (map (λ p. resolvedPath s (p .steps)) ps)

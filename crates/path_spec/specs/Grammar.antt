@@ -3,7 +3,7 @@ use mathlib.Core.List.{List, [], _∷_, _++_}
 use Prim.Native.Nat.{ℕ, suc, _+_}
 use lib.Dec.{T}
 use lib.ListN.{length}
-use Rattle.path_spec.specs.Paths.{WrittenAxis, spellAxis, NodeTest, named, anyNode, anyText, WrittenStep, PlainStep, Condition, Path}
+use Rattle.path_spec.specs.Paths.{WrittenAxis, spellAxis, NodeTest, named, anyNode, anyText, WrittenStep, PlainStep, Condition, LocationPath}
 use Rattle.schema_spec.specs.Declarations.{Use}
 use Rattle.text_spec.specs.Bytes.{isName}
 use Rattle.text_spec.specs.Lists.{bytes}
@@ -12,7 +12,7 @@ use Rattle.text_spec.specs.Lists.{bytes}
 pub record PathRead : Type 0 where
   pub place : ℕ
   pub size : ℕ
-  pub steps : Path Use
+  pub steps : LocationPath Use
 
 abbrev pub nodeCall : List ℕ
 nodeCall = bytes "node()"
@@ -53,13 +53,13 @@ pub data StepText : ℕ → List ℕ → WrittenStep Use (Condition Use) → Typ
       → StepText k (w ++ (0x5B ∷ (r ++ (0x5D ∷ [])))) (record { axis = p .axis; test = p .test; condition = c })
 
 -- "Steps joined by `/`"
-pub data PathText : ℕ → List ℕ → Path Use → Type 0 where
+pub data PathText : ℕ → List ℕ → LocationPath Use → Type 0 where
   last-step : {k : ℕ} {w : List ℕ} {p : WrittenStep Use (Condition Use)} → StepText k w p → PathText k w (p ∷ [])
-  next-step : {k : ℕ} {w r : List ℕ} {p : WrittenStep Use (Condition Use)} {ps : Path Use} → StepText k w p → PathText (suc (k + length w)) r ps
+  next-step : {k : ℕ} {w r : List ℕ} {p : WrittenStep Use (Condition Use)} {ps : LocationPath Use} → StepText k w p → PathText (suc (k + length w)) r ps
       → PathText k (w ++ (0x2F ∷ r)) (p ∷ ps)
 
 -- paths, "each ended by a line feed"; 8 judges them with no counts
 pub data BundleText : ℕ → List ℕ → List PathRead → Type 0 where
-  last-path : {k : ℕ} {w : List ℕ} {p : Path Use} → PathText k w p → BundleText k (w ++ (0x0A ∷ [])) (record { place = k; size = length w; steps = p } ∷ [])
-  next-path : {k : ℕ} {w r : List ℕ} {p : Path Use} {ps : List PathRead} → PathText k w p → BundleText (suc (k + length w)) r ps
+  last-path : {k : ℕ} {w : List ℕ} {p : LocationPath Use} → PathText k w p → BundleText k (w ++ (0x0A ∷ [])) (record { place = k; size = length w; steps = p } ∷ [])
+  next-path : {k : ℕ} {w r : List ℕ} {p : LocationPath Use} {ps : List PathRead} → PathText k w p → BundleText (suc (k + length w)) r ps
       → BundleText k (w ++ (0x0A ∷ r)) (record { place = k; size = length w; steps = p } ∷ ps)

@@ -5,7 +5,7 @@ use Prim.Native.Nat.{ℕ, suc, _-_}
 use lib.Dec.{eqb, ltb}
 use lib.ListN.{length, drop}
 use Rattle.path_spec.specs.Grammar.{PathRead, nodeCall, textCall, orWord}
-use Rattle.path_spec.specs.Paths.{WrittenAxis, writtenAxes, spellAxis, NodeTest, named, anyNode, anyText, WrittenStep, PlainStep, Condition, Path}
+use Rattle.path_spec.specs.Paths.{WrittenAxis, writtenAxes, spellAxis, NodeTest, named, anyNode, anyText, WrittenStep, PlainStep, Condition, LocationPath}
 use Rattle.schema_spec.specs.Declarations.{Use}
 use Rattle.text_spec.specs.Bytes.{startsName, continuesName}
 use Rattle.text_spec.specs.Limits.{maxNameBytes}
@@ -24,7 +24,7 @@ allChoices = map (λ a. record { axis = a; rest = spellAxis a }) writtenAxes
 pub record Outer : Type 0 where
   pub paths : List PathRead
   pub start : ℕ
-  pub steps : Path Use
+  pub steps : LocationPath Use
 
 -- brackets that are being read: the step that carries them, the complete alternatives and the steps of this one (the last first)
 pub record Inner : Type 0 where

@@ -50,8 +50,8 @@ PlainStep A = WrittenStep A (Unit {0})
 abbrev pub Condition : Type 0 → Type 0
 Condition A = List (List (PlainStep A))
 
-abbrev pub Path : Type 0 → Type 0
-Path A = List (WrittenStep A (Condition A))
+abbrev pub LocationPath : Type 0 → Type 0
+LocationPath A = List (WrittenStep A (Condition A))
 
 -- The steps by which a written step is analysed: in the base, the one step.
 abbrev pub expandStep : {A C : Type 0} → WrittenAxis → NodeTest A → C → List (Step A C)
@@ -72,7 +72,7 @@ module _ {A B : Type 0} (f : A → B) where
   abbrev pub renameStep : WrittenStep A (Condition A) → WrittenStep B (Condition B)
   renameStep p = record { axis = p .axis; test = renameTest (p .test); condition = map (map renamePlain) (p .condition) }
 
-  abbrev pub renamePath : Path A → Path B
+  abbrev pub renamePath : LocationPath A → LocationPath B
   renamePath p = map renameStep p
 
 -- the names that a path is written with, in their order
@@ -81,5 +81,5 @@ testUses (named a) = a ∷ []
 testUses anyNode = []
 testUses anyText = []
 
-abbrev pub pathUses : {A : Type 0} → Path A → List A
+abbrev pub pathUses : {A : Type 0} → LocationPath A → List A
 pathUses p = gather (λ q. testUses (q .test) ++ gather (gather (λ r. testUses (r .test))) (q .condition)) p

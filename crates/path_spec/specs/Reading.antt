@@ -6,11 +6,11 @@ use lib.Dec.{leb, ltb}
 use lib.ListN.{length}
 use Rattle.path_spec.specs.Grammar.{PathRead}
 use Rattle.path_spec.specs.Machine.{Parsed, spells, departs, parse}
-use Rattle.path_spec.specs.Paths.{Path, renamePath, pathUses}
+use Rattle.path_spec.specs.Paths.{LocationPath, renamePath, pathUses}
 use Rattle.schema_spec.specs.Declarations.{Use}
 use Rattle.schema_spec.specs.Schemas.{Schema, elementNamed}
 use Rattle.text_spec.specs.Limits.{maxSteps, maxAlternatives, maxAlternativeSteps, maxPathBytes, maxPaths, maxBundleBytes}
-use Rattle.text_spec.specs.Lists.{anyOf, filterBy, gather, isNone, orElse}
+use Rattle.text_spec.specs.Lists.{anyOf, filterBy, gather, isNone, valueOr}
 use Rattle.text_spec.specs.Refusals.{Refusal, Outcome, judged, isAccepted, at, allAt, given, badPath, overPathLimit, undeclaredInPath}
 use Rattle.text_spec.specs.Texts.{lengthRefusals, byteRefusals}
 
@@ -33,17 +33,17 @@ parsedRefusals s (departs k) = at badPath k ∷ []
 parsedRefusals s (spells ps) = limitRefusals 0 ps ++ allAt undeclaredInPath (undeclaredPlaces s ps)
 
 -- the paths with their elements by index; an undeclared name gets index 0, which is never seen: refusal 10 applies
-abbrev pub resolvedPath : Schema → Path Use → Path ℕ
-resolvedPath s p = renamePath (λ u. orElse 0 (elementNamed s (u .name))) p
+abbrev pub resolvedPath : Schema → LocationPath Use → LocationPath ℕ
+resolvedPath s p = renamePath (λ u. valueOr 0 (elementNamed s (u .name))) p
 
-abbrev pub parsedPaths : Schema → Parsed → List (Path ℕ)
+abbrev pub parsedPaths : Schema → Parsed → List (LocationPath ℕ)
 parsedPaths s (departs k) = []
 parsedPaths s (spells ps) = map (λ p. resolvedPath s (p .steps)) ps
 
 unfoldable pub bundleRefusals : Schema → List ℕ → List Refusal
 bundleRefusals s text = lengthRefusals maxBundleBytes text ++ (byteRefusals text ++ parsedRefusals s (parse text))
 
-unfoldable pub readBundle : Schema → List ℕ → Outcome (List (Path ℕ))
+unfoldable pub readBundle : Schema → List ℕ → Outcome (List (LocationPath ℕ))
 readBundle s text = judged (bundleRefusals s text) (parsedPaths s (parse text))
 
 -- Refusal 1: the record that the reader hands back is the accepted text itself, so the records that it can produce under a schema

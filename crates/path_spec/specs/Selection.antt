@@ -4,7 +4,7 @@ use mathlib.Core.List.{List, [], _∷_, map, List·Memᴰ}
 use mathlib.Core.Path.{_≡_}
 use Prim.Native.Nat.{ℕ}
 use lib.Dec.{T, eqb}
-use Rattle.path_spec.specs.Paths.{Axis, self, child, descendant, descendantOrSelf, parent, ancestor, ancestorOrSelf, WrittenAxis, along, NodeTest, named, anyNode, anyText, WrittenStep, PlainStep, Condition, Path}
+use Rattle.path_spec.specs.Paths.{Axis, self, child, descendant, descendantOrSelf, parent, ancestor, ancestorOrSelf, WrittenAxis, along, NodeTest, named, anyNode, anyText, WrittenStep, PlainStep, Condition, LocationPath}
 use Rattle.schema_spec.specs.Names.{Name, element, text}
 use Rattle.table_spec.specs.Nodes.{Node, numberOf, nameOf, isTop, same, Edge, Above, isParent, isAbove, nodesOf}
 use Rattle.table_spec.specs.Rows.{Row}
@@ -65,7 +65,7 @@ pub data Holds (doc : List Node) : Condition ℕ → Node → Type 0 where
 abbrev pub Roots : List Node → NodeSet
 Roots doc x = List·Memᴰ x doc × T (isTop x)
 
-abbrev pub Selected : List Node → Path ℕ → NodeSet
+abbrev pub Selected : List Node → LocationPath ℕ → NodeSet
 Selected doc p = PathSet doc (Holds doc) p (Roots doc)
 
 -- ---- The computing form, over the nodes of a document in document order.
@@ -104,13 +104,13 @@ always doc c y = true
 abbrev pub holdsAt : List Node → Condition ℕ → Node → Bool
 holdsAt doc c y = isEmpty c || anyOf (λ q. not (isEmpty (pathFrom always doc q (y ∷ [])))) c
 
-unfoldable pub selected : List Node → Path ℕ → List Node
+unfoldable pub selected : List Node → LocationPath ℕ → List Node
 selected doc p = pathFrom holdsAt doc p (filterBy isTop doc)
 
 -- "Selection is a set, given in document order"; "a node is known by its number"
-unfoldable pub select : List Node → Path ℕ → List ℕ
+unfoldable pub select : List Node → LocationPath ℕ → List ℕ
 select doc p = map numberOf (selected doc p)
 
 -- on a table with the text lent beside it; "on an empty table nothing is selected"
-unfoldable pub selectRows : List ℕ → List Row → Path ℕ → List ℕ
+unfoldable pub selectRows : List ℕ → List Row → LocationPath ℕ → List ℕ
 selectRows lent rows p = select (nodesOf lent rows) p

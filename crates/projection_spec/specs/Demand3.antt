@@ -10,7 +10,7 @@ use lib.Dec.{T}
 use lib.ListN.{length}
 use Rattle.journal_laws.specs.Accepted.{accepted-well-formed}
 use Rattle.journal_spec.specs.Reading.{readJournal}
-use Rattle.path_spec.specs.Paths.{Path}
+use Rattle.path_spec.specs.Paths.{LocationPath}
 use Rattle.path_spec.specs.Reading.{readBundle}
 use Rattle.path_spec.specs.Selection.{selectRows}
 use Rattle.projection_spec.specs.Extracts.Conditions.{SameTables}
@@ -19,7 +19,7 @@ use Rattle.projection_spec.specs.Extracts.Fields.{writeExtract}
 use Rattle.projection_spec.specs.Extracts.Reading.{readExtract}
 use Rattle.projection_spec.specs.Inference.Needed.{neededByPath, needed}
 use Rattle.projection_spec.specs.Laws.Cutting.{cut-well-formed-with}
-use Rattle.projection_spec.specs.Laws.Documents.{Subset, Lawful}
+use Rattle.projection_spec.specs.Laws.Documents.{SubsetOf, Lawful}
 use Rattle.projection_spec.specs.Laws.Lawful.{types-lawful}
 use Rattle.projection_spec.specs.Laws.RoundTrip.{write-read}
 use Rattle.projection_spec.specs.Laws.Tables.{cut-selects-same, same-tables-select}
@@ -51,14 +51,14 @@ table s journal rows e =
     let t = accepted-well-formed maxJournalBytes s journal rows e in
     (and-cases (wellFormed (typesOf s) rows) (allOf (textInside journal) rows) t .0, t)
 
-needed-in : (t : Types) (ps : List (Path ℕ)) (n : Name) → In n (needed t ps) → In n (t .names)
+needed-in : (t : Types) (ps : List (LocationPath ℕ)) (n : Name) → In n (needed t ps) → In n (t .names)
 unfolding needed
 needed-in t ps n j = within-in (t .names) (gather (neededByPath t) ps) j .0
 
 -- 3.1 For every schema, bundle and journal that are read, every path of the bundle, and every word of bits that has the bundle's needed
 -- names (other bits are arbitrary): on the journal's table cut to that set the path selects the same nodes as on the whole table.
-pub cut-gives-the-same : (schema bundle journal : List ℕ) (s : Schema) (ps : List (Path ℕ)) (rows : List Row) → readSchema schema ≡ accepted s
-    → readBundle s bundle ≡ accepted ps → readJournal maxJournalBytes s journal ≡ accepted rows → (p : Path ℕ) → In p ps → (word : ℕ)
+pub cut-gives-the-same : (schema bundle journal : List ℕ) (s : Schema) (ps : List (LocationPath ℕ)) (rows : List Row) → readSchema schema ≡ accepted s
+    → readBundle s bundle ≡ accepted ps → readJournal maxJournalBytes s journal ≡ accepted rows → (p : LocationPath ℕ) → In p ps → (word : ℕ)
     → ((n : Name) → In n (needed (typesOf s) ps) → T (hasBit word (codeOf n)))
     → selectRows journal (cutToWord (typesOf s) word rows) p ≡ selectRows journal rows p
 unfolding cutToWord
@@ -68,11 +68,11 @@ cut-gives-the-same schema bundle journal s ps rows read-schema read-bundle read-
 
 -- 3.2 The extract made for the bundle, read under the schema, is accepted and gives the journal's rows cut to the bundle's needed names,
 -- each text row with the same bytes as in the journal; and each path selects on it what it selects on the whole journal.
-pub extract-gives-the-same : (schema bundle journal : List ℕ) (s : Schema) (ps : List (Path ℕ)) (rows : List Row) → readSchema schema ≡ accepted s
+pub extract-gives-the-same : (schema bundle journal : List ℕ) (s : Schema) (ps : List (LocationPath ℕ)) (rows : List Row) → readSchema schema ≡ accepted s
     → readBundle s bundle ≡ accepted ps → readJournal maxJournalBytes s journal ≡ accepted rows
     → (read : List Row) × (readExtract (typesOf s) (extractOf s ps journal rows) ≡ accepted read)
     × SameTables journal (extractOf s ps journal rows) (cut (needed (typesOf s) ps) rows) read
-    × ((p : Path ℕ) → In p ps → selectRows (extractOf s ps journal rows) read p ≡ selectRows journal rows p)
+    × ((p : LocationPath ℕ) → In p ps → selectRows (extractOf s ps journal rows) read p ≡ selectRows journal rows p)
 unfolding extractOf
 extract-gives-the-same schema bundle journal s ps rows read-schema read-bundle read-journal =
     let t = table s journal rows read-journal in
@@ -87,9 +87,9 @@ extract-gives-the-same schema bundle journal s ps rows read-schema read-bundle r
 
 -- 3.3 For every two journals that are read under one schema, and every bundle for which they give the same extract, byte for byte: each
 -- path of it selects the same nodes on both.
-pub same-extract-same-nodes : (schema bundle journal journal′ : List ℕ) (s : Schema) (ps : List (Path ℕ)) (rows rows′ : List Row) → readSchema schema ≡ accepted s
+pub same-extract-same-nodes : (schema bundle journal journal′ : List ℕ) (s : Schema) (ps : List (LocationPath ℕ)) (rows rows′ : List Row) → readSchema schema ≡ accepted s
     → readBundle s bundle ≡ accepted ps → readJournal maxJournalBytes s journal ≡ accepted rows → readJournal maxJournalBytes s journal′ ≡ accepted rows′
-    → extractOf s ps journal rows ≡ extractOf s ps journal′ rows′ → (p : Path ℕ) → In p ps → selectRows journal rows p ≡ selectRows journal′ rows′ p
+    → extractOf s ps journal rows ≡ extractOf s ps journal′ rows′ → (p : LocationPath ℕ) → In p ps → selectRows journal rows p ≡ selectRows journal′ rows′ p
 same-extract-same-nodes schema bundle journal journal′ s ps rows rows′ read-schema read-bundle read-journal read-journal′ same p i =
     let x = extract-gives-the-same schema bundle journal s ps rows read-schema read-bundle read-journal in
     let y = extract-gives-the-same schema bundle journal′ s ps rows′ read-schema read-bundle read-journal′ in

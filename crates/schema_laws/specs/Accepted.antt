@@ -24,7 +24,7 @@ use Rattle.text_laws.specs.Refusals.{judged-accepted, judged-free}
 use Rattle.text_laws.specs.Tests.{failed}
 use Rattle.text_spec.specs.Bytes.{isName}
 use Rattle.text_spec.specs.Limits.{maxDeclarations, maxModelNames, maxSchemaBytes}
-use Rattle.text_spec.specs.Lists.{anyOf, sameBytes, gather, filterBy, orElse}
+use Rattle.text_spec.specs.Lists.{anyOf, sameBytes, gather, filterBy, valueOr}
 use Rattle.text_spec.specs.Refusals.{Refusal, at, allAt, accepted, overSchemaLimit, declaredTwice, undeclaredInModel}
 use Rattle.text_spec.specs.Texts.{lengthRefusals, byteRefusals}
 
@@ -98,7 +98,7 @@ usesIn-rename f (children p) = uses-rename f p
 
 -- the index that a name in a model gets
 abbrev pub indexIn : List (List ℕ) → Use → ℕ
-indexIn ns u = orElse 0 (indexFrom 0 (u .name) ns)
+indexIn ns u = valueOr 0 (indexFrom 0 (u .name) ns)
 
 -- the model of a schema's element is that of a declaration
 model-of : (ns : List (List ℕ)) (ds : List Declaration) (a : ℕ) → (modelAt (map (resolved ns) ds) a ≡ []) ⊎ ((d : Declaration) × In d ds × (modelAt (map (resolved ns) ds) a ≡ map (indexIn ns) (usesOf d)))
@@ -106,12 +106,12 @@ model-of ns [] a = inl refl
 model-of ns (d ∷ ds) zero = inr (d, here refl, usesIn-rename (indexIn ns) (d .content))
 model-of ns (d ∷ ds) (suc a) = ⊎-elim (λ h. inl h) (λ h. inr (h .0, there (h .1), h .2)) (model-of ns ds a)
 
-index-below : (n : List ℕ) (ns : List (List ℕ)) (k : ℕ) → T (anyOf (sameBytes n) ns) → orElse 0 (indexFrom k n ns) < k + length ns
+index-below : (n : List ℕ) (ns : List (List ℕ)) (k : ℕ) → T (anyOf (sameBytes n) ns) → valueOr 0 (indexFrom k n ns) < k + length ns
 index-below n [] k t = absurd t
 index-below n (m ∷ ns) k t = pick (sameBytes n m) t (index-below n ns (suc k))
   where
-    pick : (b : Bool) → T (b || anyOf (sameBytes n) ns) → (T (anyOf (sameBytes n) ns) → orElse 0 (indexFrom (suc k) n ns) < suc k + length ns)
-        → orElse 0 (cond b (some k) (indexFrom (suc k) n ns)) < k + length (m ∷ ns)
+    pick : (b : Bool) → T (b || anyOf (sameBytes n) ns) → (T (anyOf (sameBytes n) ns) → valueOr 0 (indexFrom (suc k) n ns) < suc k + length ns)
+        → valueOr 0 (cond b (some k) (indexFrom (suc k) n ns)) < k + length (m ∷ ns)
     pick true u h = omega arith
     pick false u h =
         let r = h u in

@@ -12,7 +12,7 @@ use lib.ListN.{length}
 use lib.Pow.{pow-add}
 use Rattle.schema_laws.specs.Lists.{Distinct, next, distinct-filter, distinct-map}
 use Rattle.schema_laws.specs.Names.{has-in, in-has, in-element, in-text, names-distinct}
-use Rattle.schema_spec.specs.Names.{Name, Names, element, text, has, within, namesOf, codeOf, nameOfCode, hasBit, setOfWord, total, wordOfSet}
+use Rattle.schema_spec.specs.Names.{Name, Names, element, text, has, within, namesOf, codeOf, nameOfCode, hasBit, setOfWord, sumOf, wordOfSet}
 use Rattle.schema_spec.specs.Schemas.{Schema}
 use Rattle.text_laws.specs.Lists.{any-in, in-any, in-filter, filter-in, filter-cong, in-map, map-in}
 use Rattle.text_laws.specs.Tests.{decided, true-of, false-of, failed, cond-true, cond-false}
@@ -61,7 +61,7 @@ added-elsewhere (suc c) w (suc i) e n =
 
 -- the sum of the powers of two of some names' codes, and its bits where the codes are distinct
 abbrev sum : Names → ℕ
-sum ns = total (map (λ n. 2 ^ codeOf n) ns)
+sum ns = sumOf (map (λ n. 2 ^ codeOf n) ns)
 
 -- bit i of the sum is set exactly if i is one of the codes
 abbrev Bits : Names → ℕ → Type 0

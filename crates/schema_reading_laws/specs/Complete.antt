@@ -6,7 +6,7 @@ use Prim.Native.Nat.{ℕ, suc, _+_, _≤_, _<_}
 use native.Mathlib.Omega.{arith}
 use lib.Dec.{T, leb, leb→le}
 use lib.ListN.{length, length-append}
-use Rattle.schema_reading_laws.specs.Steps.{Skips, skip-between, skip-name, skip-content, skip-open, skip-pcdata, skip-particle, Spelling, in-element, in-empty, in-pcdata, Due, due-first, due-next, Ended, at-name, at-closed, Over, unmarked, at-past, Finished, at-model, at-content, Holds, holds-one, holds-bar, holds-comma, mark-optional, mark-any, mark-oneOrMore, Goes, idle, begin-declaration, spell, spelt, keyword-blank, begin-name, grow-name, name-blank, begin-empty, open-content, begin-pcdata, close-pcdata, begin-use, grow-use, open-group, mark, over-blank, over-part, over-close, finish-blank, finish, Path, stay, go, path-append, run-path}
+use Rattle.schema_reading_laws.specs.Steps.{Skips, skip-between, skip-name, skip-content, skip-open, skip-pcdata, skip-particle, Spelling, in-element, in-empty, in-pcdata, Due, due-first, due-next, Ended, at-name, at-closed, Over, unmarked, at-past, Finished, at-model, at-content, Holds, holds-one, holds-bar, holds-comma, mark-optional, mark-any, mark-oneOrMore, Goes, idle, begin-declaration, spell, spelt, keyword-blank, begin-name, grow-name, name-blank, begin-empty, open-content, begin-pcdata, close-pcdata, begin-use, grow-use, open-group, mark, over-blank, over-part, over-close, finish-blank, finish, Transitions, stay, go, path-append, run-path}
 use Rattle.schema_spec.specs.Declarations.{Use, Declaration, elementKeyword, pcdataKeyword, Indicator, once, optional, any, oneOrMore, spellIndicator, indicated, Separator, joinBy}
 use Rattle.schema_spec.specs.Grammar.{Blanks, none, blank, space, Parts, first-bar, next-bar, first-comma, next-comma, Kind, particle, group, rest, Model, a-name, a-group, opened, close, more, ContentText, is-empty, is-pcdata, is-children, DeclarationText, declaration, DeclarationsText, end, next, SchemaText, schema-text}
 use Rattle.schema_spec.specs.Machine.{Frame, fresh, holding, Opening, Head, State, between, beforeName, inName, beforeContent, afterOpen, expecting, inUse, closed, past, afterContent, join, headed, atEnd, run, parse, spells}
@@ -19,18 +19,18 @@ use Rattle.text_spec.specs.Lists.{bytes, allOf}
 -- the machine comes from q over the text w to a state with the property P
 pub record Reaches (q : State) (k : ℕ) (w : List ℕ) (P : State → Type 0) : Type 0 where
   pub state : State
-  pub path : Path q k w state
+  pub path : Transitions q k w state
   pub there : P state
 
-reach : {q r : State} {k : ℕ} {w : List ℕ} {P : State → Type 0} → Path q k w r → P r → Reaches q k w P
+reach : {q r : State} {k : ℕ} {w : List ℕ} {P : State → Type 0} → Transitions q k w r → P r → Reaches q k w P
 reach {r} p t = record { state = r; path = p; there = t }
 
 -- blanks
-blanks-path : {q : State} {w : List ℕ} (k : ℕ) → Skips q → Blanks w → Path q k w q
+blanks-path : {q : State} {w : List ℕ} (k : ℕ) → Skips q → Blanks w → Transitions q k w q
 blanks-path k s none = stay
 blanks-path k s (blank t b) = go (idle s t) (blanks-path (suc k) s b)
 
-past-blanks : {p : Particle Use} {f : Frame} {fs : List Frame} {h : Head} {w : List ℕ} (k : ℕ) → Blanks w → Path (past p (f ∷ fs) h) k w (past p (f ∷ fs) h)
+past-blanks : {p : Particle Use} {f : Frame} {fs : List Frame} {h : Head} {w : List ℕ} (k : ℕ) → Blanks w → Transitions (past p (f ∷ fs) h) k w (past p (f ∷ fs) h)
 past-blanks k none = stay
 past-blanks k (blank t b) = go (over-blank at-past t) (past-blanks (suc k) b)
 
@@ -39,7 +39,7 @@ over-blanks : {q : State} {p : Particle Use} {f : Frame} {fs : List Frame} {h : 
 over-blanks k v none = reach stay v
 over-blanks k v (blank t b) = reach (go (over-blank v t) (past-blanks (suc k) b)) at-past
 
-content-blanks : {c : Content Use} {h : Head} {w : List ℕ} (k : ℕ) → Blanks w → Path (afterContent c h) k w (afterContent c h)
+content-blanks : {c : Content Use} {h : Head} {w : List ℕ} (k : ℕ) → Blanks w → Transitions (afterContent c h) k w (afterContent c h)
 content-blanks k none = stay
 content-blanks k (blank t b) = go (finish-blank at-content t) (content-blanks (suc k) b)
 
@@ -47,7 +47,7 @@ finished-blanks : {q : State} {c : Content Use} {h : Head} {w : List ℕ} (k : �
 finished-blanks k v none = reach stay v
 finished-blanks k v (blank t b) = reach (go (finish-blank v t) (content-blanks (suc k) b)) at-content
 
-due-blanks : {q : State} {f : Frame} {fs : List Frame} {h : Head} {w : List ℕ} (k : ℕ) → Due q f fs h → Blanks w → Path q k w q
+due-blanks : {q : State} {f : Frame} {fs : List Frame} {h : Head} {w : List ℕ} (k : ℕ) → Due q f fs h → Blanks w → Transitions q k w q
 due-blanks k due-first b = blanks-path k skip-open b
 due-blanks k due-next b = blanks-path k skip-particle b
 
@@ -57,7 +57,7 @@ spelling-on in-element = (_, in-element)
 spelling-on in-empty = (_, in-empty)
 spelling-on in-pcdata = (_, in-pcdata)
 
-pub keyword-path : {q z : State} {c : ℕ} (w : List ℕ) (k : ℕ) → Spelling q (c ∷ w) z → Path q k (c ∷ w) z
+pub keyword-path : {q z : State} {c : ℕ} (w : List ℕ) (k : ℕ) → Spelling q (c ∷ w) z → Transitions q k (c ∷ w) z
 keyword-path [] k s = go (spelt s) stay
 keyword-path (d ∷ w) k s =
     let r = spelling-on s in
@@ -65,15 +65,15 @@ keyword-path (d ∷ w) k s =
 
 -- names: a state holds the bytes so far, and each further one lengthens them
 module _ (holdingName : List ℕ → State) (grow : (n : List ℕ) (k b : ℕ) → T (continuesName b) → length n < maxNameBytes → Goes (holdingName n) k b (holdingName (n ++ (b ∷ [])))) where
-  tail-path : (t n : List ℕ) (k : ℕ) → T (allOf continuesName t) → length n + length t ≤ maxNameBytes → Path (holdingName n) k t (holdingName (n ++ t))
-  tail-path [] n k a l = subst (λ (m : List ℕ). Path (holdingName n) k [] (holdingName m)) (sym (append-nil n)) stay
+  tail-path : (t n : List ℕ) (k : ℕ) → T (allOf continuesName t) → length n + length t ≤ maxNameBytes → Transitions (holdingName n) k t (holdingName (n ++ t))
+  tail-path [] n k a l = subst (λ (m : List ℕ). Transitions (holdingName n) k [] (holdingName m)) (sym (append-nil n)) stay
   tail-path (b ∷ t) n k a l =
       let c = and-cases (continuesName b) (allOf continuesName t) a in
       go (grow n k b (c .0) (omega arith))
-      (subst (λ (m : List ℕ). Path (holdingName (n ++ (b ∷ []))) (suc k) t (holdingName m)) (append-assoc n (b ∷ []) t)
+      (subst (λ (m : List ℕ). Transitions (holdingName (n ++ (b ∷ []))) (suc k) t (holdingName m)) (append-assoc n (b ∷ []) t)
       (tail-path t (n ++ (b ∷ [])) (suc k) (c .1) (simp length-append (omega arith))))
 
-  name-path : {q : State} (k : ℕ) (n : List ℕ) → ((b : ℕ) → T (startsName b) → Goes q k b (holdingName (b ∷ []))) → T (isName n) → Path q k n (holdingName n)
+  name-path : {q : State} (k : ℕ) (n : List ℕ) → ((b : ℕ) → T (startsName b) → Goes q k b (holdingName (b ∷ []))) → T (isName n) → Transitions q k n (holdingName n)
   name-path k [] begin t = absurd t
   name-path k (b ∷ n) begin t =
       let c = and-cases (startsName b) (allOf continuesName n && leb (length (b ∷ n)) maxNameBytes) t in
@@ -81,10 +81,10 @@ module _ (holdingName : List ℕ → State) (grow : (n : List ℕ) (k b : ℕ) �
       let l : suc (length n) ≤ maxNameBytes = leb→le (length (b ∷ n)) maxNameBytes (d .1) in
       go (begin b (c .0)) (tail-path n (b ∷ []) (suc k) (d .0) (omega arith))
 
-declared-name : (o : Opening) (k : ℕ) (n : List ℕ) → T (isName n) → Path (beforeName o) k n (inName k n o)
+declared-name : (o : Opening) (k : ℕ) (n : List ℕ) → T (isName n) → Transitions (beforeName o) k n (inName k n o)
 declared-name o k n t = name-path (λ m. inName k m o) (λ m i b u l. grow-name u l) k n (λ b u. begin-name u) t
 
-used-name : {q : State} {f : Frame} {fs : List Frame} {h : Head} (k : ℕ) (n : List ℕ) → Due q f fs h → T (isName n) → Path q k n (inUse k n f fs h)
+used-name : {q : State} {f : Frame} {fs : List Frame} {h : Head} (k : ℕ) (n : List ℕ) → Due q f fs h → T (isName n) → Transitions q k n (inUse k n f fs h)
 used-name {f} {fs} {h} k n v t = name-path (λ m. inUse k m f fs h) (λ m i b u l. grow-use u l) k n (λ b u. begin-use v u) t
 
 -- an indicator, or none
@@ -98,25 +98,25 @@ marked k oneOrMore v = reach (go (mark v mark-oneOrMore) stay) at-past
 abbrev Reads : Kind → ℕ → ℕ → List ℕ → Particle Use → Type 0
 Reads particle d k w p = (q : State) (f : Frame) (fs : List Frame) (h : Head) → Due q f fs h → suc (length fs) + d ≤ maxGroups → Reaches q k w (λ s. Over s p (f ∷ fs) h)
 Reads group d k w p =
-    (v : List ℕ) × (w ≡ 0x28 ∷ v) × (0 < d) × ((q : State) (fs : List Frame) (h : Head) → Due q fresh fs h → length fs + d ≤ maxGroups → Path q (suc k) v (closed p fs h))
+    (v : List ℕ) × (w ≡ 0x28 ∷ v) × (0 < d) × ((q : State) (fs : List Frame) (h : Head) → Due q fresh fs h → length fs + d ≤ maxGroups → Transitions q (suc k) v (closed p fs h))
 Reads (rest s g) d k w p =
     (q : State) (z : Particle Use) (f : Frame) (fs : List Frame) (h : Head) → Over q z (f ∷ fs) h → Holds f s → join f z ≡ g → suc (length fs) + d ≤ maxGroups
-    → Path q k w (closed p fs h)
+    → Transitions q k w (closed p fs h)
 
 -- blanks, a particle, blanks and the rest of a group
 in-group : {s : Separator} {a b : List ℕ} (d k : ℕ) (u r : List ℕ) (p g z : Particle Use) → Blanks a → Reads particle d (k + length a) u p → Blanks b
     → Reads (rest s g) d (k + length a + length u + length b) r z
-    → (q : State) (f : Frame) (fs : List Frame) (h : Head) → Due q f fs h → Holds f s → join f p ≡ g → suc (length fs) + d ≤ maxGroups → Path q k (a ++ (u ++ (b ++ r))) (closed z fs h)
+    → (q : State) (f : Frame) (fs : List Frame) (h : Head) → Due q f fs h → Holds f s → join f p ≡ g → suc (length fs) + d ≤ maxGroups → Transitions q k (a ++ (u ++ (b ++ r))) (closed z fs h)
 in-group {a} {b} d k u r p g z x m y n q f fs h v o e l =
     let i = m q f fs h v l in
     let j = over-blanks (k + length a + length u) (i .there) y in
     path-append (due-blanks k v x) refl (path-append (i .path) refl (path-append (j .path) refl (n (j .state) p f fs h (j .there) o e l)))
 
 group-path : (d k : ℕ) (w : List ℕ) (p : Particle Use) → Reads group d k w p → (q : State) (f : Frame) (fs : List Frame) (h : Head) → Due q f fs h → suc (length fs) + d ≤ maxGroups
-    → Path q k w (closed p (f ∷ fs) h)
+    → Transitions q k w (closed p (f ∷ fs) h)
 group-path d k w p g q f fs h v l =
     let z = g .2 in
-    subst (λ (u : List ℕ). Path q k u (closed p (f ∷ fs) h)) (sym (g .1))
+    subst (λ (u : List ℕ). Transitions q k u (closed p (f ∷ fs) h)) (sym (g .1))
     (go (open-group v (omega arith)) (g .3 (expecting fresh (f ∷ fs) h) (f ∷ fs) h due-next l))
 
 parts-holds : {s t : Separator} {x : ℕ} {p : Particle Use} → Parts s x t → Holds (holding t p) t
@@ -134,7 +134,7 @@ reads {d} {k} (a-group {w = w} {p = p} m o) = λ q f fs h v l.
     reach (path-append (group-path d k w p (reads m) q f fs h v l) refl (i .path)) (i .there)
 reads {d} {k} {p} (opened {d = c} {a = a} {u = u} {b = b} {r = r} {p = p₁} x m y n) =
     (a ++ (u ++ (b ++ r)), refl, omega arith, λ q fs h v l. in-group c (suc k) u r p₁ p₁ p x (reads m) y (reads n) q fresh fs h v holds-one refl (omega arith))
-reads {k} close = λ q z f fs h v o e l. subst (λ (g : Particle Use). Path q k (0x29 ∷ []) (closed g fs h)) e (go (over-close v) stay)
+reads {k} close = λ q z f fs h v o e l. subst (λ (g : Particle Use). Transitions q k (0x29 ∷ []) (closed g fs h)) e (go (over-close v) stay)
 reads {d} {k} {p} (more {s = s} {t = t} {a = a} {u = u} {b = b} {r = r} {p = p₁} {q = p₂} c x m y n) = λ q z f fs h v o e l.
     go (over-part v o c)
     (in-group d (suc k) u r p₂ (joinBy t p₁ p₂) p x (reads m) y (reads n) (expecting (holding t (join f z)) fs h) (holding t (join f z)) fs h due-next (parts-holds c)
@@ -154,11 +154,11 @@ content-reads {k} (is-children {w = w} {p = p} m o) h =
     let i = marked {fs = []} {h = h} (k + length w) o (at-closed {p = p}) in
     reach
     (path-append
-    (subst (λ (u : List ℕ). Path (beforeContent h) k u (closed p [] h)) (sym (g .1)) (go open-content (g .3 (afterOpen h) [] h due-first (omega arith))))
+    (subst (λ (u : List ℕ). Transitions (beforeContent h) k u (closed p [] h)) (sym (g .1)) (go open-content (g .3 (afterOpen h) [] h due-first (omega arith))))
     refl (i .path))
     (at-model (i .there))
 
-declaration-reads : {k : ℕ} {w : List ℕ} {d : Declaration} → DeclarationText k w d → (done : List Declaration) → Path (between done) k w (between (d ∷ done))
+declaration-reads : {k : ℕ} {w : List ℕ} {d : Declaration} → DeclarationText k w d → (done : List Declaration) → Transitions (between done) k w (between (d ∷ done))
 declaration-reads {k} (declaration {a = a} {b = b} {w = w} {e = e} {c = c} n (space {w = a₁} t x) u (space {w = b₁} v y) m z) done =
     let o : Opening = record { place = k; done = done } in
     let h : Head = headed (k + length elementKeyword + length a) n o in
@@ -169,7 +169,7 @@ declaration-reads {k} (declaration {a = a} {b = b} {w = w} {e = e} {c = c} n (sp
     (path-append (declared-name o (k + length elementKeyword + length a) n u) refl
     (path-append (go (name-blank v) (blanks-path _ skip-content y)) refl (path-append (i .path) refl (path-append (j .path) refl (go (finish (j .there)) stay))))))
 
-declarations-read : {k : ℕ} {w : List ℕ} {ds : List Declaration} → DeclarationsText k w ds → (done : List Declaration) → Path (between done) k w (between (reverseAux ds done))
+declarations-read : {k : ℕ} {w : List ℕ} {ds : List Declaration} → DeclarationsText k w ds → (done : List Declaration) → Transitions (between done) k w (between (reverseAux ds done))
 declarations-read {k} (end x) done = blanks-path k skip-between x
 declarations-read {k} (next {d = d} x m n) done = path-append (blanks-path k skip-between x) refl (path-append (declaration-reads m done) refl (declarations-read n (d ∷ done)))
 
@@ -185,7 +185,7 @@ reversed-some d ds e =
     omega arith
 
 -- a text that ends where a declaration may begin, after at least one
-pub path-spells : {text : List ℕ} (done : List Declaration) → Path (between []) 0 text (between done) → (done ≡ [] → ⊥) → parse text ≡ spells (reverse done)
+pub path-spells : {text : List ℕ} (done : List Declaration) → Transitions (between []) 0 text (between done) → (done ≡ [] → ⊥) → parse text ≡ spells (reverse done)
 unfolding parse run
 path-spells {text} done p n = ap (λ (w : List ℕ). run (between []) w 0) (sym (append-nil text)) ∙ run-path p [] ∙ ends done (0 + length text) n
 

@@ -9,7 +9,7 @@ use Rattle.schema_reading_laws.specs.Complete.{schema-complete, keyword-
 use Rattle.text_laws.specs.Departures.{departs-once, departs-not}
 use Rattle.schema_reading_laws.specs.Runs.{Ran, ends-well, ends-early, breaks-off, ran}
 use Rattle.schema_reading_laws.specs.Sound.{Invariant, goes-invariant, path-grammatical, schema-sound}
-use Rattle.schema_reading_laws.specs.Steps.{Spelling, in-element, in-empty, in-pcdata, Due, due-first, due-next, at-name, at-closed, Over, unmarked, at-past, Finished, at-model, at-content, Goes, begin-declaration, keyword-blank, begin-name, name-blank, begin-empty, close-pcdata, begin-use, over-close, finish, Path, stay, go, path-append, run-path}
+use Rattle.schema_reading_laws.specs.Steps.{Spelling, in-element, in-empty, in-pcdata, Due, due-first, due-next, at-name, at-closed, Over, unmarked, at-past, Finished, at-model, at-content, Goes, begin-declaration, keyword-blank, begin-name, name-blank, begin-empty, close-pcdata, begin-use, over-close, finish, Transitions, stay, go, path-append, run-path}
 use Rattle.schema_spec.specs.Conditions.{Grammatical}
 use Rattle.schema_spec.specs.Declarations.{Use, Declaration}
 use Rattle.schema_spec.specs.Grammar.{SchemaText}
@@ -23,12 +23,12 @@ record Completable (q : State) (k : ℕ) : Type 0 where
   rest : List ℕ
   last : Declaration
   done : List Declaration
-  path : Path q k rest (between (last ∷ done))
+  path : Transitions q k rest (between (last ∷ done))
 
 on : {q r : State} {k b : ℕ} → Goes q k b r → Completable r (suc k) → Completable q k
 on g c = record { rest = _; last = _; done = _; path = go g (c .path) }
 
-after : {q r : State} {k j : ℕ} {u : List ℕ} → Path q k u r → j ≡ k + length u → Completable r j → Completable q k
+after : {q r : State} {k j : ℕ} {u : List ℕ} → Transitions q k u r → j ≡ k + length u → Completable r j → Completable q k
 after p e c = record { rest = _; last = _; done = _; path = path-append p e (c .path) }
 
 finished-completable : {q : State} {c : Content Use} {h : Head} {k : ℕ} → Finished q c h → Completable q k
@@ -78,12 +78,12 @@ completable (closed p fs h) k s = over-completable fs (unmarked at-closed)
 completable (past p fs h) k s = over-completable fs at-past
 completable (afterContent c h) k s = finished-completable at-content
 
-path-invariant : {q r : State} {k : ℕ} {w : List ℕ} → Path q k w r → Invariant q → Invariant r
+path-invariant : {q r : State} {k : ℕ} {w : List ℕ} → Transitions q k w r → Invariant q → Invariant r
 path-invariant stay s = s
 path-invariant (go g p) s = path-invariant p (goes-invariant g s)
 
 -- what has been read without a fault begins a text of the grammar
-path-beginning : {r : State} {u : List ℕ} → Path (between []) 0 u r → Beginning Grammatical u
+path-beginning : {r : State} {u : List ℕ} → Transitions (between []) 0 u r → Beginning Grammatical u
 path-beginning {r} {u} p =
     let c = completable r (0 + length u) (path-invariant p tt) in (
       c .rest,
@@ -96,7 +96,7 @@ path-beginning {r} {u} p =
     )
 
 -- where no step can be made no text of the grammar goes on
-broken : {r : State} {u : List ℕ} (b : ℕ) → Path (between []) 0 u r → step r (0 + length u) b ≡ dead → Beginning Grammatical (u ++ (b ∷ [])) → ⊥
+broken : {r : State} {u : List ℕ} (b : ℕ) → Transitions (between []) 0 u r → step r (0 + length u) b ≡ dead → Beginning Grammatical (u ++ (b ∷ [])) → ⊥
 unfolding parse run
 broken {r} {u} b p s (v, (ds, g)) =
     let e : run (between []) (u ++ (b ∷ v)) 0 ≡ spells ds = schema-complete (subst (λ (l : List ℕ). SchemaText l ds) (append-assoc u (b ∷ []) v) g) in

@@ -5,14 +5,14 @@ use mathlib.Core.Path.{_≡_, refl, sym, ap, subst}
 use Prim.Native.Nat.{ℕ, suc, _+_}
 use native.Mathlib.Omega.{arith}
 use lib.ListN.{length}
-use Rattle.schema_reading_laws.specs.Steps.{Goes, Live, dies, goes, live, goes-live, Path, stay, go}
+use Rattle.schema_reading_laws.specs.Steps.{Goes, Live, dies, goes, live, goes-live, Transitions, stay, go}
 use Rattle.schema_spec.specs.Declarations.{Declaration}
 use Rattle.schema_spec.specs.Machine.{State, dead, between, inKeyword, afterKeyword, beforeName, inName, beforeContent, inEmpty, afterOpen, inPcdata, afterPcdata, expecting, inUse, closed, past, afterContent, isDead, atEnd, step, run, Parsed, spells, departs}
 
 pub data Ran (q : State) (k : ℕ) (w : List ℕ) : Parsed → Type 0 where
-  ends-well : {d : Declaration} {done : List Declaration} → Path q k w (between (d ∷ done)) → Ran q k w (spells (reverse (d ∷ done)))
-  ends-early : {r : State} {j : ℕ} → Path q k w r → j ≡ k + length w → Ran q k w (departs j)
-  breaks-off : {r : State} {j : ℕ} {u : List ℕ} (b : ℕ) (v : List ℕ) → Path q k u r → step r j b ≡ dead → j ≡ k + length u → w ≡ u ++ (b ∷ v) → Ran q k w (departs j)
+  ends-well : {d : Declaration} {done : List Declaration} → Transitions q k w (between (d ∷ done)) → Ran q k w (spells (reverse (d ∷ done)))
+  ends-early : {r : State} {j : ℕ} → Transitions q k w r → j ≡ k + length w → Ran q k w (departs j)
+  breaks-off : {r : State} {j : ℕ} {u : List ℕ} (b : ℕ) (v : List ℕ) → Transitions q k u r → step r j b ≡ dead → j ≡ k + length u → w ≡ u ++ (b ∷ v) → Ran q k w (departs j)
 
 ran-on : {q r : State} {k b : ℕ} {w : List ℕ} {x : Parsed} → Goes q k b r → Ran r (suc k) w x → Ran q k (b ∷ w) x
 ran-on g (ends-well p) = ends-well (go g p)

@@ -6,7 +6,7 @@ use Prim.Native.Nat.{ℕ, suc, _+_, _-_, _≤_, _<_}
 use native.Mathlib.Omega.{arith}
 use lib.Dec.{T, leb, le→leb}
 use lib.ListN.{length, length-append}
-use Rattle.schema_reading_laws.specs.Steps.{skip-between, skip-name, skip-content, skip-open, skip-pcdata, skip-particle, in-element, in-empty, in-pcdata, Due, due-first, due-next, Ended, at-name, at-closed, Over, unmarked, at-past, Finished, at-model, at-content, Holds, holds-one, holds-bar, holds-comma, Marks, mark-optional, mark-any, mark-oneOrMore, Goes, idle, begin-declaration, spell, spelt, keyword-blank, begin-name, grow-name, name-blank, begin-empty, open-content, begin-pcdata, close-pcdata, begin-use, grow-use, open-group, mark, over-blank, over-part, over-close, finish-blank, finish, Path, stay, go}
+use Rattle.schema_reading_laws.specs.Steps.{skip-between, skip-name, skip-content, skip-open, skip-pcdata, skip-particle, in-element, in-empty, in-pcdata, Due, due-first, due-next, Ended, at-name, at-closed, Over, unmarked, at-past, Finished, at-model, at-content, Holds, holds-one, holds-bar, holds-comma, Marks, mark-optional, mark-any, mark-oneOrMore, Goes, idle, begin-declaration, spell, spelt, keyword-blank, begin-name, grow-name, name-blank, begin-empty, open-content, begin-pcdata, close-pcdata, begin-use, grow-use, open-group, mark, over-blank, over-part, over-close, finish-blank, finish, Transitions, stay, go}
 use Rattle.schema_reading_laws.specs.Runs.{Ran, ends-well, ends-early, breaks-off, ran}
 use Rattle.schema_spec.specs.Declarations.{Use, Declaration, elementKeyword, pcdataKeyword, Indicator, once, optional, any, oneOrMore, spellIndicator, indicated, Separator, unparted}
 use Rattle.schema_spec.specs.Grammar.{Blanks, none, blank, space, Parts, Kind, particle, group, rest, Model, a-name, a-group, opened, close, more, ContentText, is-empty, is-pcdata, is-children, DeclarationText, declaration, DeclarationsText, end, next, SchemaText, schema-text}
@@ -405,12 +405,12 @@ goes-completes last w (over-close v) s c = over-completes v s (follows-close (ov
 goes-completes last w (finish-blank v t) s c = finished-completes v s (finishes-blank t c)
 goes-completes last w (finish v) s c = finished-completes v s (finishes-end c)
 
-path-completes : {last : List Declaration} {q : State} {k : ℕ} {w : List ℕ} → Path q k w (between last) → Invariant q → Completes last q k w
+path-completes : {last : List Declaration} {q : State} {k : ℕ} {w : List ℕ} → Transitions q k w (between last) → Invariant q → Completes last q k w
 path-completes stay s = declares (end none) refl
 path-completes {last} (go {w = w} g p) s = goes-completes last w g s (path-completes p (goes-invariant g s))
 
 -- Each text that is read is of the grammar, with the declarations that it was read as.
-pub path-grammatical : {text : List ℕ} {done : List Declaration} → Path (between []) 0 text (between done) → (done ≡ [] → ⊥) → SchemaText text (reverse done)
+pub path-grammatical : {text : List ℕ} {done : List Declaration} → Transitions (between []) 0 text (between done) → (done ≡ [] → ⊥) → SchemaText text (reverse done)
 path-grammatical {text} {done} p n = of-schema (path-completes p tt)
   where
     of-schema : Declares done [] 0 text → SchemaText text (reverse done)

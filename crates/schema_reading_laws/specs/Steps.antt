@@ -330,16 +330,16 @@ goes-live (finish-blank v t) = refl
 goes-live (finish v) = refl
 
 -- a chain of steps over a text that starts at the place k
-pub data Path : State → ℕ → List ℕ → State → Type 0 where
-  stay : {q : State} {k : ℕ} → Path q k [] q
-  go : {q r z : State} {k b : ℕ} {w : List ℕ} → Goes q k b r → Path r (suc k) w z → Path q k (b ∷ w) z
+pub data Transitions : State → ℕ → List ℕ → State → Type 0 where
+  stay : {q : State} {k : ℕ} → Transitions q k [] q
+  go : {q r z : State} {k b : ℕ} {w : List ℕ} → Goes q k b r → Transitions r (suc k) w z → Transitions q k (b ∷ w) z
 
-pub path-append : {q r z : State} {k j : ℕ} {u v : List ℕ} → Path q k u r → j ≡ k + length u → Path r j v z → Path q k (u ++ v) z
-path-append {r} {z} {k} {j} {v} stay e p = subst (λ (i : ℕ). Path r i v z) (omega arith) p
+pub path-append : {q r z : State} {k j : ℕ} {u v : List ℕ} → Transitions q k u r → j ≡ k + length u → Transitions r j v z → Transitions q k (u ++ v) z
+path-append {r} {z} {k} {j} {v} stay e p = subst (λ (i : ℕ). Transitions r i v z) (omega arith) p
 path-append (go g p) e m = go g (path-append p (omega arith) m)
 
 -- the machine runs along a chain
-pub run-path : {q r : State} {k : ℕ} {w : List ℕ} → Path q k w r → (v : List ℕ) → run q (w ++ v) k ≡ run r v (k + length w)
+pub run-path : {q r : State} {k : ℕ} {w : List ℕ} → Transitions q k w r → (v : List ℕ) → run q (w ++ v) k ≡ run r v (k + length w)
 unfolding run
 run-path {r} {k} stay v = ap (run r v) (omega arith)
 run-path {q} {r} {k} (go {r = s} {b = b} {w = w} g p) v =

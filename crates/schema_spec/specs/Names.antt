@@ -63,10 +63,10 @@ hasBit word i = eqb (word / (2 ^ i) % 2) 1
 unfoldable pub setOfWord : Names → ℕ → Names
 setOfWord names word = filterBy (λ n. hasBit word (codeOf n)) names
 
-abbrev pub total : List ℕ → ℕ
-total [] = 0
-total (x ∷ xs) = x + total xs
+abbrev pub sumOf : List ℕ → ℕ
+sumOf [] = 0
+sumOf (x ∷ xs) = x + sumOf xs
 
 -- a set that is handed back: the bits of those of all names that are in it
 unfoldable pub wordOfSet : Names → Names → ℕ
-wordOfSet names s = total (map (λ n. 2 ^ codeOf n) (filterBy (λ n. has n s) names))
+wordOfSet names s = sumOf (map (λ n. 2 ^ codeOf n) (filterBy (λ n. has n s) names))

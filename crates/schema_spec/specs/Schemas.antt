@@ -6,7 +6,7 @@ use Prim.Native.Nat.{ℕ, suc}
 use lib.ListN.{getElem?}
 use Rattle.schema_spec.specs.Declarations.{Use, Declaration}
 use Rattle.schema_spec.specs.Models.{Content, empty, pcdata, children, renameContent, usesIn}
-use Rattle.text_spec.specs.Lists.{sameBytes, orElse}
+use Rattle.text_spec.specs.Lists.{sameBytes, valueOr}
 
 -- an element: its name, and its content with the elements of a model by their index
 pub record Element : Type 0 where
@@ -27,7 +27,7 @@ declaredNames ds = map (λ d. d .name .name) ds
 
 -- an undeclared name gets index 0, which is never seen: refusal 7 applies
 abbrev pub resolved : List (List ℕ) → Declaration → Element
-resolved ns d = record { name = d .name .name; content = renameContent (λ u. orElse 0 (indexFrom 0 (u .name) ns)) (d .content) }
+resolved ns d = record { name = d .name .name; content = renameContent (λ u. valueOr 0 (indexFrom 0 (u .name) ns)) (d .content) }
 
 unfoldable pub schemaOf : List Declaration → Schema
 schemaOf ds = map (resolved (declaredNames ds)) ds

@@ -9,7 +9,7 @@ use lib.ListN.{getElem?}
 use Rattle.schema_spec.specs.Names.{Name, sameName}
 use Rattle.schema_spec.specs.Types.{Types}
 use Rattle.schema_laws.specs.Names.{same-equal, same-name}
-use Rattle.table_spec.specs.Nodes.{Node, top, numberOf, nameOf, same, isAbove, depthOf, attach, nodeAt}
+use Rattle.table_spec.specs.Nodes.{Node, top, numberOf, nameOf, same, isAbove, depthOf, attachTo, nodeAt}
 use Rattle.table_spec.specs.Rows.{Row, textOf}
 use Rattle.table_spec.specs.Tables.{parentOpen, parentHolds, firstText, textFits, rowFits, laterRows, wellFormed}
 use Rattle.text_laws.specs.Tests.{and-cases, and-intro}
@@ -17,11 +17,11 @@ use Rattle.text_spec.specs.Limits.{maxNodes, maxDepth}
 use Rattle.text_spec.specs.Lists.{allOf}
 
 -- the node of a row: its number, and its parent where one is open
-pub attached-number : (k : ℕ) (n : Name) (w : List ℕ) (o : Option Node) → numberOf (attach k n w o) ≡ k
+pub attached-number : (k : ℕ) (n : Name) (w : List ℕ) (o : Option Node) → numberOf (attachTo k n w o) ≡ k
 attached-number k n w none = refl
 attached-number k n w (some p) = refl
 
-pub parent-found : (previous : Node) (k : ℕ) (n : Name) (w : List ℕ) (o : Option Node) → T (parentOpen previous (attach k n w o)) → (p : Node) × (o ≡ some p)
+pub parent-found : (previous : Node) (k : ℕ) (n : Name) (w : List ℕ) (o : Option Node) → T (parentOpen previous (attachTo k n w o)) → (p : Node) × (o ≡ some p)
 parent-found previous k n w none t = absurd t
 parent-found previous k n w (some p) t = (p, refl)
 
@@ -99,7 +99,7 @@ pub record Fitting (s : Types) (before : List Node) (previous : Node) (r : Row) 
 pub fitting : (s : Types) (before : List Node) (previous : Node) (r : Row) → RowFits s before previous r (nodeAt [] before r) → Fitting s before previous r
 fitting s before previous r f = pick (getElem? before (r .parent)) refl f
   where
-    pick : (o : Option Node) → getElem? before (r .parent) ≡ o → RowFits s before previous r (attach (r .number) (r .name) (textOf [] r) o)
+    pick : (o : Option Node) → getElem? before (r .parent) ≡ o → RowFits s before previous r (attachTo (r .number) (r .name) (textOf [] r) o)
         → Fitting s before previous r
     pick none e c = absurd (c .isOpen)
     pick (some p) e c = record { parent = p; parentAt = e; isOpen = c .isOpen; held = c .held }

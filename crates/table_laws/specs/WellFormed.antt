@@ -15,7 +15,7 @@ use Rattle.table_laws.specs.Nodes.{nodes-equal, nodes-same}
 use Rattle.table_laws.specs.Places.{at-end, at-only, at-before-or-end, at-bound, at-some, in-at, at-in}
 use Rattle.table_laws.specs.RowNodes.{NodeOf, root-node, later-node, Rising, node-row, one-node, one-place, row-above, node-above, depth-of, one-depth}
 use Rattle.table_spec.specs.Conditions.{RowAt, RowAbove, TextCells, of-element, of-text, LaterRow, WellFormed, WellFormedBeside}
-use Rattle.table_spec.specs.Nodes.{Node, top, under, numberOf, nameOf, same, isAbove, depthOf, attach, nodeAt}
+use Rattle.table_spec.specs.Nodes.{Node, top, under, numberOf, nameOf, same, isAbove, depthOf, attachTo, nodeAt}
 use Rattle.table_spec.specs.Rows.{Row, textOf}
 use Rattle.table_spec.specs.Tables.{parentOpen, sameParent, textFits, rowFits, laterRows, wellFormed, textInside, wellFormedWith}
 use Rattle.text_laws.specs.Lists.{any-in, in-any, all-in, in-all}
@@ -27,15 +27,15 @@ use Rattle.text_spec.specs.Lists.{anyOf, allOf}
 -- "an element .. carries text 0, 0; a text row has length 1 to 4,096"
 cells-mean : (n : Name) (r : Row) → r .name ≡ n → T (textFits n r) → TextCells r
 cells-mean (element e) r q t =
-    let c = and-cases (eqb (r .start) 0) (eqb (r .length) 0) t in
+    let c = and-cases (eqb (r .start) 0) (eqb (r .size) 0) t in
     of-element q (eqb→eq _ _ (c .0)) (eqb→eq _ _ (c .1))
 cells-mean (text e) r q t =
-    let c = and-cases (leb 1 (r .length)) (leb (r .length) maxTextBytes) t in
+    let c = and-cases (leb 1 (r .size)) (leb (r .size) maxTextBytes) t in
     of-text q (leb→le _ _ (c .0)) (leb→le _ _ (c .1))
 
 mean-cells : (r : Row) → TextCells r → T (textFits (r .name) r)
 mean-cells r (of-element q a b) = rw (q, a, b) tt
-mean-cells r (of-text q a b) = rw q (and-intro (leb 1 (r .length)) (leb (r .length) maxTextBytes) (le→leb _ _ a) (le→leb _ _ b))
+mean-cells r (of-text q a b) = rw q (and-intro (leb 1 (r .size)) (leb (r .size) maxTextBytes) (le→leb _ _ a) (le→leb _ _ b))
 
 module _ (s : Types) (rows : List Row) (rise : Rising rows) where
   -- the nodes of rows 0 to i
@@ -166,14 +166,14 @@ module _ (s : Types) (rows : List Row) (rise : Rising rows) where
     fits-later : RowFits s before previous r (nodeAt [] before r) → LaterRow s rows i q r × NodeOf rows (suc i) (nodeAt [] before r)
     fits-later f =
         let o = parent-found previous (r .number) (r .name) (textOf [] r) (getElem? before (r .parent)) (f .isOpen) in
-        let node : nodeAt [] before r ≡ under (r .number) (r .name) (textOf [] r) (o .0) = ap (attach (r .number) (r .name) (textOf [] r)) (o .1) in
+        let node : nodeAt [] before r ≡ under (r .number) (r .name) (textOf [] r) (o .0) = ap (attachTo (r .number) (r .name) (textOf [] r)) (o .1) in
         (fits-mean before i previous q r (o .0) b g h (o .1) (rw node at f), rw node (this-node before i previous q r (o .0) b g h (o .1)))
 
     later-fits : LaterRow s rows i q r → RowFits s before previous r (nodeAt [] before r) × NodeOf rows (suc i) (nodeAt [] before r)
     later-fits f =
         let low : r .parent ≤ i = ⊎-elim (λ u. omega arith) (λ u. let c = row-above u (b .nodes i previous (b .last)) .3 in omega arith) (f .parentOpen) in
         let o = at-some before (r .parent) (omega (arith, b .count)) in
-        let node : nodeAt [] before r ≡ under (r .number) (r .name) (textOf [] r) (o .0) = ap (attach (r .number) (r .name) (textOf [] r)) (o .1) in
+        let node : nodeAt [] before r ≡ under (r .number) (r .name) (textOf [] r) (o .0) = ap (attachTo (r .number) (r .name) (textOf [] r)) (o .1) in
         (rw node (mean-fits before i previous q r (o .0) b g h (o .1) f), rw node (this-node before i previous q r (o .0) b g h (o .1)))
 
   -- the rows from place i + 1 on
@@ -284,26 +284,26 @@ passes b = not (isForeign b)
 
 -- a text row's range lies inside its text, and its bytes pass 3
 module _ (lent : List ℕ) (r : Row) where
-  inside-means : T (textInside lent r) → T (isText (r .name)) → (r .start + r .length ≤ length lent) × ((b : ℕ) → In b (textOf lent r) → T (isForeign b) → ⊥)
+  inside-means : T (textInside lent r) → T (isText (r .name)) → (r .start + r .size ≤ length lent) × ((b : ℕ) → In b (textOf lent r) → T (isForeign b) → ⊥)
   inside-means t u =
       let w = textOf lent r in
-      let c = ⊎-elim (λ n. absurd (not-elim (isText (r .name)) n u)) (λ v. and-cases (leb (r .start) (length lent)) (eqb (length w) (r .length) && allOf passes w) v)
-      (or-cases (not (isText (r .name))) (leb (r .start) (length lent) && (eqb (length w) (r .length) && allOf passes w)) t) in
-      let d = and-cases (eqb (length w) (r .length)) (allOf passes w) (c .1) in
-      let size = simp (length-take, length-drop) at (eqb→eq (length w) (r .length) (d .0)) in
+      let c = ⊎-elim (λ n. absurd (not-elim (isText (r .name)) n u)) (λ v. and-cases (leb (r .start) (length lent)) (eqb (length w) (r .size) && allOf passes w) v)
+      (or-cases (not (isText (r .name))) (leb (r .start) (length lent) && (eqb (length w) (r .size) && allOf passes w)) t) in
+      let d = and-cases (eqb (length w) (r .size)) (allOf passes w) (c .1) in
+      let size = simp (length-take, length-drop) at (eqb→eq (length w) (r .size) (d .0)) in
       (omega (arith, leb→le (r .start) (length lent) (c .0), size), λ b i f. not-elim (isForeign b) (all-in passes (d .1) i) f)
 
-  inside-tests : (T (isText (r .name)) → (r .start + r .length ≤ length lent) × ((b : ℕ) → In b (textOf lent r) → T (isForeign b) → ⊥)) → T (textInside lent r)
+  inside-tests : (T (isText (r .name)) → (r .start + r .size ≤ length lent) × ((b : ℕ) → In b (textOf lent r) → T (isForeign b) → ⊥)) → T (textInside lent r)
   inside-tests f = ⊎-elim text-row other (decided (isText (r .name)))
     where
       text-row : T (isText (r .name)) → T (textInside lent r)
       text-row u =
           let c = f u in
           let range = c .0 in
-          let size : length (textOf lent r) ≡ r .length = simp (length-take, length-drop) (omega arith) in
+          let size : length (textOf lent r) ≡ r .size = simp (length-take, length-drop) (omega arith) in
           or-right (not (isText (r .name))) _
           (and-intro (leb (r .start) (length lent)) _ (le→leb (r .start) (length lent) (omega arith))
-          (and-intro (eqb (length (textOf lent r)) (r .length)) _ (rw size (eqb-refl (r .length)))
+          (and-intro (eqb (length (textOf lent r)) (r .size)) _ (rw size (eqb-refl (r .size)))
           (in-all passes (textOf lent r) (λ b i. not-intro (isForeign b) (c .1 b i)))))
 
       other : (T (isText (r .name)) → ⊥) → T (textInside lent r)

@@ -29,8 +29,8 @@ pub data DepthAt (rows : List Row) : ℕ → ℕ → Type 0 where
 
 -- "an element .. carries text 0, 0; a text row has length 1 to 4,096"
 pub data TextCells (r : Row) : Type 0 where
-  of-element : {e : ℕ} → r .name ≡ element e → r .start ≡ 0 → r .length ≡ 0 → TextCells r
-  of-text : {e : ℕ} → r .name ≡ text e → 1 ≤ r .length → r .length ≤ maxTextBytes → TextCells r
+  of-element : {e : ℕ} → r .name ≡ element e → r .start ≡ 0 → r .size ≡ 0 → TextCells r
+  of-text : {e : ℕ} → r .name ≡ text e → 1 ≤ r .size → r .size ≤ maxTextBytes → TextCells r
 
 -- row i + 1, with its number, name and parent
 pub record LaterRow (s : Types) (rows : List Row) (i : ℕ) (q r : Row) : Type 0 where
@@ -55,5 +55,5 @@ pub record WellFormed (s : Types) (rows : List Row) : Type 0 where
 -- Refusal 1 on a table with the text lent beside it: each text row's range lies inside that text, and each of its bytes passes 3.
 pub record WellFormedBeside (s : Types) (lent : List ℕ) (rows : List Row) : Type 0 where
   pub table : WellFormed s rows
-  pub inside : (r : Row) → List·Memᴰ r rows → T (isText (r .name)) → r .start + r .length ≤ length lent
+  pub inside : (r : Row) → List·Memᴰ r rows → T (isText (r .name)) → r .start + r .size ≤ length lent
   pub passes : (r : Row) → List·Memᴰ r rows → T (isText (r .name)) → (b : ℕ) → List·Memᴰ b (textOf lent r) → T (isForeign b) → ⊥

@@ -66,12 +66,12 @@ depthOf (top k n) = 1
 depthOf (under k n w p) = deeper n (depthOf p)
 
 -- the node of a row, given the nodes of the rows before it; a row whose parent is not among them is the root
-abbrev pub attach : ℕ → Name → List ℕ → Option Node → Node
-attach k n w none = top k n
-attach k n w (some p) = under k n w p
+abbrev pub attachTo : ℕ → Name → List ℕ → Option Node → Node
+attachTo k n w none = top k n
+attachTo k n w (some p) = under k n w p
 
 abbrev pub nodeAt : List ℕ → List Node → Row → Node
-nodeAt lent before r = attach (r .number) (r .name) (textOf lent r) (getElem? before (r .parent))
+nodeAt lent before r = attachTo (r .number) (r .name) (textOf lent r) (getElem? before (r .parent))
 
 abbrev pub nodesFrom : List ℕ → List Node → List Row → List Node
 nodesFrom lent before [] = []

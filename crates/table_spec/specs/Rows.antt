@@ -11,11 +11,11 @@ pub record Row : Type 0 where
   pub name : Name
   pub parent : ℕ
   pub start : ℕ
-  pub length : ℕ
+  pub size : ℕ
 
 -- "The text of a row is handed back as that part of the journal."
 abbrev pub textOf : List ℕ → Row → List ℕ
-textOf text r = part (r .start) (r .length) text
+textOf text r = part (r .start) (r .size) text
 
 -- a row as numbers, its name by its code, as a caller lends it or gets it
 pub record Cells : Type 0 where
@@ -23,14 +23,14 @@ pub record Cells : Type 0 where
   pub name : ℕ
   pub parent : ℕ
   pub start : ℕ
-  pub length : ℕ
+  pub size : ℕ
 
 abbrev pub cellsOf : Row → Cells
-cellsOf r = record { number = r .number; name = codeOf (r .name); parent = r .parent; start = r .start; length = r .length }
+cellsOf r = record { number = r .number; name = codeOf (r .name); parent = r .parent; start = r .start; size = r .size }
 
 abbrev pub rowWith : Cells → Option Name → Option Row
 rowWith c none = none
-rowWith c (some n) = some (record { number = c .number; name = n; parent = c .parent; start = c .start; length = c .length })
+rowWith c (some n) = some (record { number = c .number; name = n; parent = c .parent; start = c .start; size = c .size })
 
 abbrev pub rowOf : Cells → Option Row
 rowOf c = rowWith c (nameOfCode (c .name))

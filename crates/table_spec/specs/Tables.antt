@@ -33,8 +33,8 @@ firstText before y = not (isText (nameOf y) && anyOf (λ z. isText (nameOf z) &&
 
 -- "an element .. carries text 0, 0; a text row has length 1 to 4,096"
 abbrev pub textFits : Name → Row → Bool
-textFits (element e) r = eqb (r .start) 0 && eqb (r .length) 0
-textFits (text e) r = leb 1 (r .length) && leb (r .length) maxTextBytes
+textFits (element e) r = eqb (r .start) 0 && eqb (r .size) 0
+textFits (text e) r = leb 1 (r .size) && leb (r .size) maxTextBytes
 
 -- a later row, given the nodes before it, of which `previous` is the last; "later numbers rise, to 65,534 at most"; "depth is at most 64"
 abbrev pub rowFits : Types → List Node → Node → Row → Node → Bool
@@ -57,7 +57,7 @@ wellFormed s (r ∷ rs) =
 
 -- Refusal 1: "a text row points outside its text or at a byte that fails 3"
 abbrev pub textInside : List ℕ → Row → Bool
-textInside lent r = not (isText (r .name)) || (leb (r .start) (length lent) && (eqb (length (textOf lent r)) (r .length) && allOf (λ b. not (isForeign b)) (textOf lent r)))
+textInside lent r = not (isText (r .name)) || (leb (r .start) (length lent) && (eqb (length (textOf lent r)) (r .size) && allOf (λ b. not (isForeign b)) (textOf lent r)))
 
 -- a table with the text lent beside it
 unfoldable pub wellFormedWith : Types → List ℕ → List Row → Bool

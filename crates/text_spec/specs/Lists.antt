@@ -56,9 +56,9 @@ module _ {A : Type 0} where
   listOf none = []
   listOf (some x) = x ∷ []
 
-  abbrev pub orElse : A → Option A → A
-  orElse d none = d
-  orElse d (some x) = x
+  abbrev pub valueOr : A → Option A → A
+  valueOr d none = d
+  valueOr d (some x) = x
 
 module _ {A B : Type 0} where
   -- the lists that f gives, one after the other

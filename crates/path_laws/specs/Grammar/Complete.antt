@@ -10,7 +10,7 @@ use Rattle.path_laws.specs.Grammar.Joined.{reversed-filled}
 use Rattle.path_laws.specs.Grammar.Runs.{final, final-append, run-alive}
 use Rattle.path_spec.specs.Grammar.{PathRead, orWord, TestText, a-name, any-node, any-text, PlainText, plain, AlternativeText, one-step, more-steps, ConditionText, one-alternative, more-alternatives, StepText, bare, conditional, PathText, last-step, next-step, BundleText, last-path, next-path}
 use Rattle.path_spec.specs.Machine.{Outer, Inner, Context, outside, inside, State, lineStart, beforeTest, inTest, afterCall, afterBrackets, beginStep, withStep, withPlain, withAlternative, bracketed, tested, isDead, step, spells, atEnd, parse}
-use Rattle.path_spec.specs.Paths.{self, child, descendant, descendantOrSelf, parent, ancestor, ancestorOrSelf, WrittenAxis, along, spellAxis, NodeTest, named, WrittenStep, PlainStep, Condition, Path}
+use Rattle.path_spec.specs.Paths.{self, child, descendant, descendantOrSelf, parent, ancestor, ancestorOrSelf, WrittenAxis, along, spellAxis, NodeTest, named, WrittenStep, PlainStep, Condition, LocationPath}
 use Rattle.schema_spec.specs.Declarations.{Use}
 use Rattle.text_laws.specs.Tests.{and-cases, true-of}
 use Rattle.text_spec.specs.Bytes.{startsName, continuesName, isName}
@@ -151,10 +151,10 @@ step-read {k} (conditional {w = w} {r = r} {p = p} {c = c} s d) o = subst (λ (q
         ∙ condition-closed (condition-read d o (p .axis) (p .test) []) (suc (k + length w) + length r)
         ∙ ap (λ (b : Condition Use). afterBrackets (withStep (p .axis) (p .test) b o)) (reverse-reverse c)
 
-withPath : Path Use → Outer → Outer
+withPath : LocationPath Use → Outer → Outer
 withPath p o = record { paths = o .paths; start = o .start; steps = reverseAux p (o .steps) }
 
-path-read : {k : ℕ} {w : List ℕ} {p : Path Use} → PathText k w p → (o : Outer) → StepEnd (final (beginStep (outside o)) w k) (withPath p o)
+path-read : {k : ℕ} {w : List ℕ} {p : LocationPath Use} → PathText k w p → (o : Outer) → StepEnd (final (beginStep (outside o)) w k) (withPath p o)
 unfolding withPath
 path-read (last-step s) o = step-read s o
 path-read {k} (next-step {w = w} {r = r} {p = p} s q) o =
@@ -182,7 +182,7 @@ step-filled : {k : ℕ} {w : List ℕ} {p : WrittenStep Use (Condition Use)} →
 step-filled (bare p) = plain-filled p
 step-filled (conditional {w = w} {r = r} p c) = append-filled w (0x5B ∷ (r ++ (0x5D ∷ []))) (plain-filled p)
 
-path-filled : {k : ℕ} {w : List ℕ} {p : Path Use} → PathText k w p → isEmpty w ≡ false
+path-filled : {k : ℕ} {w : List ℕ} {p : LocationPath Use} → PathText k w p → isEmpty w ≡ false
 path-filled (last-step s) = step-filled s
 path-filled (next-step {w = w} {r = r} s q) = append-filled w (0x2F ∷ r) (step-filled s)
 
@@ -195,7 +195,7 @@ unfolding step
 line-begins [] e ps k = cc
 line-begins (b ∷ w) e ps k = refl
 
-line-read : {k : ℕ} {w : List ℕ} {p : Path Use} → PathText k w p → (r : List ℕ) (ps : List PathRead)
+line-read : {k : ℕ} {w : List ℕ} {p : LocationPath Use} → PathText k w p → (r : List ℕ) (ps : List PathRead)
     → final (lineStart ps) (w ++ (0x0A ∷ r)) k ≡ final (lineStart (record { place = k; size = length w; steps = p } ∷ ps)) r (suc (k + length w))
 unfolding withPath
 line-read {k} {w} {p} t r ps =

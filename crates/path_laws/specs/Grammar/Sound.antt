@@ -11,7 +11,7 @@ use Rattle.path_laws.specs.Grammar.Joined.{Before, none-before, one-more
 use Rattle.path_laws.specs.Grammar.Runs.{final, run-spells}
 use Rattle.path_spec.specs.Grammar.{PathRead, nodeCall, textCall, orWord, TestText, a-name, any-node, any-text, PlainText, plain, AlternativeText, StepText, bare, conditional, PathText, BundleText}
 use Rattle.path_spec.specs.Machine.{Choice, allChoices, Outer, Inner, Context, outside, inside, State, dead, lineStart, inAxis, beforeTest, inTest, inCall, afterCall, inOr, afterBrackets, goesOn, goingOn, axisBy, beginStep, withStep, withPlain, withAlternative, bracketed, stepDone, tested, callOf, orByte, step, spells, parse}
-use Rattle.path_spec.specs.Paths.{WrittenAxis, spellAxis, NodeTest, named, WrittenStep, PlainStep, Condition, Path}
+use Rattle.path_spec.specs.Paths.{WrittenAxis, spellAxis, NodeTest, named, WrittenStep, PlainStep, Condition, LocationPath}
 use Rattle.schema_spec.specs.Declarations.{Use}
 use Rattle.text_laws.specs.Lists.{bytes-equal}
 use Rattle.text_laws.specs.Tests.{and-cases, and-intro}
@@ -21,7 +21,7 @@ use Rattle.text_spec.specs.Lists.{bytes, allOf, isEmpty, sameBytes}
 
 -- ---- a path before one of its steps: lines, then steps
 data InPath : Outer → List ℕ → Type 0 where
-  in-path : {ps : List PathRead} {l u : List ℕ} {s : Path Use} → Before lineFeed Line 0 l ps → Before slash StepText (length l) u s
+  in-path : {ps : List PathRead} {l u : List ℕ} {s : LocationPath Use} → Before lineFeed Line 0 l ps → Before slash StepText (length l) u s
       → InPath (record { paths = ps; start = length l; steps = s }) (l ++ u)
 
 -- a path after one of its steps

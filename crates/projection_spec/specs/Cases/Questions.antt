@@ -5,7 +5,7 @@ use mathlib.Core.Path.{_≡_}
 use Prim.Native.Nat.{ℕ, zero, suc}
 use lib.ListN.{length}
 use Rattle.journal_spec.specs.Reading.{readJournal}
-use Rattle.path_spec.specs.Paths.{Path}
+use Rattle.path_spec.specs.Paths.{LocationPath}
 use Rattle.path_spec.specs.Reading.{readBundle}
 use Rattle.path_spec.specs.Selection.{selectRows}
 use Rattle.projection_spec.specs.Extracts.Cut.{cut}
@@ -57,7 +57,7 @@ abbrev pub said : {A : Type 0} → Outcome A → Answer
 said (accepted a) = taken
 said (refused f) = turnedBack (numberOf (f .reason)) (f .place)
 
-abbrev pub pathsOf : Text → Text → List (Path ℕ)
+abbrev pub pathsOf : Text → Text → List (LocationPath ℕ)
 pathsOf schema bundle = resultOr [] (readBundle (schemaIn schema) bundle)
 
 abbrev pub rowsOf : Text → Text → List Row

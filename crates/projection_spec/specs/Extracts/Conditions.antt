@@ -26,7 +26,7 @@ pub record SameButStarts (q r : Row) : Type 0 where
   pub number : q .number ≡ r .number
   pub name : q .name ≡ r .name
   pub parent : q .parent ≡ r .parent
-  pub length : q .length ≡ r .length
+  pub size : q .size ≡ r .size
 
 -- two tables, each with its text, that are the same but for text starts
 pub data SameTables (lent lent′ : List ℕ) : List Row → List Row → Type 0 where

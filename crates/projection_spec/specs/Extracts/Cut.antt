@@ -16,7 +16,7 @@ kept set y = allNames (λ n. has n set) y
 -- "numbers stay, parent rows are renumbered": a parent's new row is the count of rows kept before it
 abbrev pub renumbered : Names → List Node → Row → Row
 renumbered set before r =
-    record { number = r .number; name = r .name; parent = length (filterBy (kept set) (take (r .parent) before)); start = r .start; length = r .length }
+    record { number = r .number; name = r .name; parent = length (filterBy (kept set) (take (r .parent) before)); start = r .start; size = r .size }
 
 abbrev pub cutFrom : Names → List Node → List Row → List Row
 cutFrom set before [] = []

@@ -83,10 +83,10 @@ consRow r none = none
 consRow r (some rs) = some (r ∷ rs)
 
 abbrev pub elementRow : ℕ → ℕ → ℕ → Row
-elementRow number parent e = record { number = number; name = element e; parent = parent; start = 0; length = 0 }
+elementRow number parent e = record { number = number; name = element e; parent = parent; start = 0; size = 0 }
 
 abbrev pub textRow : ℕ → ℕ → ℕ → ℕ → ℕ → Row
-textRow number parent e start size = record { number = number; name = text e; parent = parent; start = start; length = size }
+textRow number parent e start size = record { number = number; name = text e; parent = parent; start = start; size = size }
 
 abbrev pub topRow : List Placed → ℕ
 topRow [] = 0

@@ -2,7 +2,7 @@
 use mathlib.Core.Bool.{Bool, true, false, not, _&&_, _||_}
 use mathlib.Core.List.{List, [], _∷_, _++_}
 use Prim.Native.Nat.{ℕ}
-use Rattle.path_spec.specs.Paths.{Axis, self, child, descendant, descendantOrSelf, parent, ancestor, ancestorOrSelf, NodeTest, Step, PlainStep, Condition, Path, expand}
+use Rattle.path_spec.specs.Paths.{Axis, self, child, descendant, descendantOrSelf, parent, ancestor, ancestorOrSelf, NodeTest, Step, PlainStep, Condition, LocationPath, expand}
 use Rattle.schema_spec.specs.Closure.{related, closure}
 use Rattle.schema_spec.specs.Names.{Name, Names, sameName, has, within, wordOfSet}
 use Rattle.schema_spec.specs.Types.{Types, isBelow}
@@ -74,16 +74,16 @@ fromRoot s r =
 abbrev pub atRoot : Types → Env
 atRoot s = env (s .root ∷ []) (s .root ∷ [])
 
-unfoldable pub neededBeforeFilter : Types → Path ℕ → Names
+unfoldable pub neededBeforeFilter : Types → LocationPath ℕ → Names
 neededBeforeFilter s p = need s (keepsName s) (wantsNames s) (expand p) (atRoot s)
 
-unfoldable pub neededByPath : Types → Path ℕ → Names
+unfoldable pub neededByPath : Types → LocationPath ℕ → Names
 neededByPath s p = fromRoot s (neededBeforeFilter s p)
 
--- "A bundle's needed names are the union", in the schema's order
-unfoldable pub needed : Types → List (Path ℕ) → Names
+-- "A bundle's needed names are the unionOf", in the schema's order
+unfoldable pub needed : Types → List (LocationPath ℕ) → Names
 needed s ps = within (s .names) (gather (neededByPath s) ps)
 
 -- as 64 bits
-unfoldable pub neededWord : Types → List (Path ℕ) → ℕ
+unfoldable pub neededWord : Types → List (LocationPath ℕ) → ℕ
 neededWord s ps = wordOfSet (s .names) (needed s ps)

@@ -21,8 +21,8 @@ allBelow s t = filterBy (λ n. anyOf (λ a. isBelow s a n) t) (s .names)
 abbrev pub allAbove : Types → Names → Names
 allAbove s t = filterBy (λ n. anyOf (λ b. isBelow s n b) t) (s .names)
 
-abbrev pub union : Types → Names → Names → Names
-union s a b = filterBy (λ n. has n a || has n b) (s .names)
+abbrev pub unionOf : Types → Names → Names → Names
+unionOf s a b = filterBy (λ n. has n a || has n b) (s .names)
 
 -- "K is cut to T and above T"
 abbrev pub cutTo : Types → Names → Names → Names
@@ -43,15 +43,15 @@ move s self w e = e
 -- "child: T' = all that T holds", "K' = K with T' added, for child only those of T' that pass the step's test"
 move s child w e =
     let t = heldBy s (e .type) in
-    env t (union s (e .context) (filterBy (passes w) t))
+    env t (unionOf s (e .context) (filterBy (passes w) t))
 -- "descendant: T' = all below T"
 move s descendant w e =
     let t = allBelow s (e .type) in
-    env t (union s (e .context) t)
+    env t (unionOf s (e .context) t)
 -- "descendant-or-self: T added to that"
 move s descendantOrSelf w e =
-    let t = union s (e .type) (allBelow s (e .type)) in
-    env t (union s (e .context) t)
+    let t = unionOf s (e .type) (allBelow s (e .type)) in
+    env t (unionOf s (e .context) t)
 -- "parent: T' = those in K that hold a name of T", "K' = K within T' and above T'"
 move s parent w e =
     let t = within (holding s (e .type)) (e .context) in
@@ -62,7 +62,7 @@ move s ancestor w e =
     env t (cutTo s t (e .context))
 -- "ancestor-or-self: T added to that"
 move s ancestorOrSelf w e =
-    let t = union s (e .type) (within (allAbove s (e .type)) (e .context)) in
+    let t = unionOf s (e .type) (within (allAbove s (e .type)) (e .context)) in
     env t (cutTo s t (e .context))
 
 -- a filter on T, after which K is cut

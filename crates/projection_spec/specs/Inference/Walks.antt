@@ -4,7 +4,7 @@ use mathlib.Core.List.{List, [], _∷_, List·Memᴰ}
 use mathlib.Core.Path.{_≡_}
 use Prim.Native.Nat.{ℕ}
 use lib.Dec.{T}
-use Rattle.path_spec.specs.Paths.{Axis, self, child, descendant, descendantOrSelf, parent, ancestor, ancestorOrSelf, Step, PlainStep, Condition, Path, expand}
+use Rattle.path_spec.specs.Paths.{Axis, self, child, descendant, descendantOrSelf, parent, ancestor, ancestorOrSelf, Step, PlainStep, Condition, LocationPath, expand}
 use Rattle.schema_spec.specs.Names.{Name, Names, element}
 use Rattle.schema_spec.specs.Schemas.{Schema}
 use Rattle.schema_spec.specs.Types.{Types, typesOf, holds, Below}
@@ -62,7 +62,7 @@ pub data WantsNames (s : Schema) (k : Names) (c : Condition ℕ) (a n : Name) : 
   by-alternative : (q : List (PlainStep ℕ)) → List·Memᴰ q c → Needs s keepsAll WantsNothing (expand q) (env (a ∷ []) k) n → WantsNames s k c a n
 
 -- the names that a path needs before the last filter
-abbrev pub PathNeeds : Schema → Path ℕ → Name → Type 0
+abbrev pub PathNeeds : Schema → LocationPath ℕ → Name → Type 0
 PathNeeds s p n = Needs s (keepsName (typesOf s)) (WantsNames s) (expand p) (atRoot (typesOf s)) n
 
 -- "names that the root reaches by holdings inside this set"
@@ -70,6 +70,6 @@ pub data Reached (s : Schema) (In : Name → Type 0) : Name → Type 0 where
   root : In (element 0) → Reached s In (element 0)
   next : {a b : Name} → Reached s In a → T (holds s a b) → In b → Reached s In b
 
--- what a bundle needs: "the union"
-pub data BundleNeeds (s : Schema) (ps : List (Path ℕ)) (n : Name) : Type 0 where
-  by-path : (p : Path ℕ) → List·Memᴰ p ps → Reached s (PathNeeds s p) n → BundleNeeds s ps n
+-- what a bundle needs: "the unionOf"
+pub data BundleNeeds (s : Schema) (ps : List (LocationPath ℕ)) (n : Name) : Type 0 where
+  by-path : (p : LocationPath ℕ) → List·Memᴰ p ps → Reached s (PathNeeds s p) n → BundleNeeds s ps n

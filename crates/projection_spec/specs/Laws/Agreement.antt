@@ -11,7 +11,7 @@ use Rattle.path_spec.specs.Paths.{Axis, WrittenAxis, along, NodeTest, WrittenSt
 use Rattle.path_spec.specs.Selection.{NodeSet, Passes, passes, OnAxis, OnWritten, on-along, StepSet, PathSet}
 use Rattle.projection_spec.specs.Inference.Needed.{linked, between, complete, need}
 use Rattle.projection_spec.specs.Inference.Types.{Env, env, cutTo, move, narrow, infer, inferAll}
-use Rattle.projection_spec.specs.Laws.Documents.{Subset, Within, Valid, AllValid, Lawful}
+use Rattle.projection_spec.specs.Laws.Documents.{SubsetOf, Within, Valid, AllValid, Lawful}
 use Rattle.projection_spec.specs.Laws.Soundness.{Typed, cut-within, narrow-typed, move-typed, axis-linked, axis-within}
 use Rattle.schema_spec.specs.Names.{Name, Names}
 use Rattle.schema_spec.specs.Types.{Types}
@@ -32,7 +32,7 @@ alike-turned a = record { forth = a .back; back = a .forth }
 pub record Fair {C : Type 0} (s : Types) (Meets : List Node → C → Node → Type 0) (keeps : Names → C → Name → Bool) (wants : Names → C → Name → Names) : Type 0 where
   pub keeps-name : (doc : List Node) → AllValid s doc → (c : C) (k : Names) (y : Node) → Valid s y → Within k y → Meets doc c y → T (keeps k c (nameOf y))
   pub agrees : (r : Names) (d e : List Node) → AllValid s d → AllValid s e → Alike r d e → (c : C) (k : Names) (y : Node) → Valid s y → Within k y
-      → Within r y → Subset (wants k c (nameOf y)) r → Meets d c y → Meets e c y
+      → Within r y → SubsetOf (wants k c (nameOf y)) r → Meets d c y → Meets e c y
 
 module _ {C : Type 0} (s : Types) (Meets : List Node → C → Node → Type 0) (doc : List Node) where
   -- an analysed step from one node to another; the nodes are valid, and need not be in the document
@@ -112,7 +112,7 @@ module _ {C : Type 0} (s : Types) (law : Lawful s) (Meets : List Node → C → 
       (any-in (λ b. linked s (p .axis) (nameOf x) b) (track-complete doc ok (infer s keeps p e) (h .valid) (hop-typed doc ok p e v f h) t)
       (axis-linked s law (h .axis) v (h .valid)))
 
-  pub complete-needed : (ps : List (Step ℕ C)) (e : Env) → Subset (complete s keeps wants ps e) (need s keeps wants ps e)
+  pub complete-needed : (ps : List (Step ℕ C)) (e : Env) → SubsetOf (complete s keeps wants ps e) (need s keeps wants ps e)
   complete-needed [] e n i = i
   complete-needed (p ∷ ps) e n i = append-left _ i
 
@@ -121,11 +121,11 @@ module _ {C : Type 0} (s : Types) (law : Lawful s) (Meets : List Node → C → 
     pub track : Track s Meets e ps x y
     pub safe : Within r y
     pub typed : Typed (inferAll s keeps ps v) y
-    pub left : Subset (need s keeps wants qs (inferAll s keeps ps v)) r
+    pub left : SubsetOf (need s keeps wants qs (inferAll s keeps ps v)) r
 
   module _ (r : Names) (d e : List Node) (dv : AllValid s d) (ev : AllValid s e) (al : Alike r d e) where
     -- THE MAIN LEMMA
-    pub track-alike : {ps qs : List (Step ℕ C)} (v : Env) {x y m : Node} → Valid s x → Typed v x → Within r x → Subset (need s keeps wants (ps ++ qs) v) r
+    pub track-alike : {ps qs : List (Step ℕ C)} (v : Env) {x y m : Node} → Valid s x → Typed v x → Within r x → SubsetOf (need s keeps wants (ps ++ qs) v) r
         → Track s Meets d ps x y → Track s Meets d qs y m → Arrived r e ps qs v x y
     track-alike v o f w sub stay u = record { track = stay; safe = w; typed = f; left = sub }
     track-alike {qs = qs} v {x} o f w sub (hop {p = p} {ps = ps} {y = y} h t) u =
@@ -140,9 +140,9 @@ module _ {C : Type 0} (s : Types) (law : Lawful s) (Meets : List Node → C → 
         let b = between s (p .axis) g k in
         let c = gather (λ a. wants (cutTo s (a ∷ []) (q .context)) (p .condition) a) k in
         let rest = need s keeps wants all q in
-        let sub-b : Subset b r = λ n i. sub n (append-right g (append-left (c ++ rest) i)) in
-        let sub-c : Subset c r = λ n i. sub n (append-right g (append-right b (append-left rest i))) in
-        let sub-r : Subset rest r = λ n i. sub n (append-right g (append-right b (append-right c i))) in
+        let sub-b : SubsetOf b r = λ n i. sub n (append-right g (append-left (c ++ rest) i)) in
+        let sub-c : SubsetOf c r = λ n i. sub n (append-right g (append-right b (append-left rest i))) in
+        let sub-r : SubsetOf rest r = λ n i. sub n (append-right g (append-right b (append-right c i))) in
         let safe : Within r y = axis-within s law g k r (h .axis) (h .valid) gx ky (sub-r (nameOf y) (complete-needed all q (nameOf y) ky)) sub-b w in
         let met : Meets e (p .condition) y =
         fair .agrees r d e dv ev al (p .condition) (cutTo s (nameOf y ∷ []) (q .context)) y (h .valid)
@@ -157,7 +157,7 @@ module _ {C : Type 0} (s : Types) (law : Lawful s) (Meets : List Node → C → 
         }
 
     -- the same for written steps: a trip in the one document is a trip in the other, and its end is safe
-    pub trip-alike : {ps : List (WrittenStep ℕ C)} (v : Env) {x m : Node} → Valid s x → Typed v x → Within r x → Subset (need s keeps wants (expand ps) v) r
+    pub trip-alike : {ps : List (WrittenStep ℕ C)} (v : Env) {x m : Node} → Valid s x → Typed v x → Within r x → SubsetOf (need s keeps wants (expand ps) v) r
         → Trip s Meets d ps x m → Trip s Meets e ps x m × Within r m
     trip-alike v o f w sub stay = (stay, w)
     trip-alike v {x} o f w sub (stride {p = p} {ps = ps} {y = y} h t) =

@@ -9,7 +9,7 @@ use Rattle.path_spec.specs.Selection.{PathSet, Always, Only, Holds, no-conditio
 use Rattle.projection_spec.specs.Inference.Needed.{need, keepsAll, wantsNothing, keepsName, wantsNames}
 use Rattle.projection_spec.specs.Inference.Types.{Env, env, inferAll}
 use Rattle.projection_spec.specs.Laws.Agreement.{Alike, Fair, Trip, trip-of, of-trip, trip-track, track-typed, trip-alike}
-use Rattle.projection_spec.specs.Laws.Documents.{Subset, Within, Valid, AllValid, Lawful}
+use Rattle.projection_spec.specs.Laws.Documents.{SubsetOf, Within, Valid, AllValid, Lawful}
 use Rattle.schema_spec.specs.Names.{Name, Names}
 use Rattle.schema_spec.specs.Types.{Types}
 use Rattle.table_spec.specs.Nodes.{Node, nameOf}
@@ -41,7 +41,7 @@ module _ (s : Types) (law : Lawful s) where
       or-right (isEmpty c) (anyOf reached c) (any-in reached i (not-intro (isEmpty (inferAll s keepsAll (expand q) e .type)) (member-fills (typed .0))))
 
   condition-agrees : (r : Names) (d e : List Node) → AllValid s d → AllValid s e → Alike r d e → (c : Condition ℕ) (k : Names) (y : Node) → Valid s y → Within k y
-      → Within r y → Subset (wantsNames s k c (nameOf y)) r → Holds d c y → Holds e c y
+      → Within r y → SubsetOf (wantsNames s k c (nameOf y)) r → Holds d c y → Holds e c y
   condition-agrees r d e dv ev al c k y v w u sub no-condition = no-condition
   condition-agrees r d e dv ev al c k y v w u sub (alternative q z i p) =
       let start = env (nameOf y ∷ []) k in

@@ -16,7 +16,7 @@ use Rattle.projection_spec.specs.Extracts.Cut.{kept, renumbered, cutFrom
 use Rattle.projection_spec.specs.Laws.Rows.{bare, bare-kept, bare-node, bare-filter, filtered-at, Grown, no-rows, next-row, root-grown}
 use Rattle.schema_spec.specs.Names.{Name, Names, element, text, has, isText, sameName}
 use Rattle.schema_spec.specs.Types.{Types}
-use Rattle.table_spec.specs.Nodes.{Node, top, under, nameOf, numberOf, depthOf, same, Edge, edge, Above, parent, higher, isAbove, attach, nodeAt, nodesFrom, nodesOf}
+use Rattle.table_spec.specs.Nodes.{Node, top, under, nameOf, numberOf, depthOf, same, Edge, edge, Above, parent, higher, isAbove, attachTo, nodeAt, nodesFrom, nodesOf}
 use Rattle.table_spec.specs.Rows.{Row, textOf}
 use Rattle.table_spec.specs.Tables.{parentOpen, parentHolds, sameParent, firstText, textFits, rowFits, laterRows, wellFormed, textInside, wellFormedWith}
 use Rattle.text_laws.specs.Lists.{filter-append, filter-in, in-filter, any-in, in-any, all-in, in-all}
@@ -32,14 +32,14 @@ append-nothing {A} (x ∷ l) = ap {B = List A} (λ m. x ∷ m) (append-nothing l
 filtered-last : {A : Type 0} (f : A → Bool) (xs : List A) (y : A) (b : Bool) → f y ≡ b → filterBy f (xs ++ (y ∷ [])) ≡ filterBy f xs ++ cond b (y ∷ []) []
 filtered-last {A} f xs y b q = filter-append f xs (y ∷ []) ∙ ap (λ (c : Bool). filterBy f xs ++ cond c (y ∷ []) []) q
 
-kept-parent : (set : Names) (k : ℕ) (n : Name) (w : List ℕ) (p : Node) (o : Option Node) → o ≡ some p → T (kept set (attach k n w o)) → T (kept set p)
-kept-parent set k n w p o e t = and-cases (has n set) (kept set p) (subst (λ (z : Option Node). T (kept set (attach k n w z))) e t) .1
+kept-parent : (set : Names) (k : ℕ) (n : Name) (w : List ℕ) (p : Node) (o : Option Node) → o ≡ some p → T (kept set (attachTo k n w o)) → T (kept set p)
+kept-parent set k n w p o e t = and-cases (has n set) (kept set p) (subst (λ (z : Option Node). T (kept set (attachTo k n w z))) e t) .1
 
 -- the node of a kept row among the kept nodes is its node in the whole table
 renumbered-node : (set : Names) (lent : List ℕ) (before : List Node) (r : Row) (p : Node) → getElem? before (r .parent) ≡ some p → T (kept set (nodeAt lent before r))
     → nodeAt lent (filterBy (kept set) before) (renumbered set before r) ≡ nodeAt lent before r
 renumbered-node set lent before r p e t =
-    ap (attach (r .number) (r .name) (textOf lent r))
+    ap (attachTo (r .number) (r .name) (textOf lent r))
     (filtered-at (kept set) before (r .parent) p e (kept-parent set (r .number) (r .name) (textOf lent r) p (getElem? before (r .parent)) e t) ∙ sym e)
 
 -- a parent's new row is counted alike with texts and without
@@ -55,7 +55,7 @@ bare-count set i before =
 
 bare-renumbered : (set : Names) (before : List Node) (r : Row) → renumbered set (map bare before) r ≡ renumbered set before r
 bare-renumbered set before r =
-    ap (λ (i : ℕ). record { number = r .number; name = r .name; parent = i; start = r .start; length = r .length }) (bare-count set (r .parent) before)
+    ap (λ (i : ℕ). record { number = r .number; name = r .name; parent = i; start = r .start; size = r .size }) (bare-count set (r .parent) before)
 
 -- ---- the nodes of the cut rows are the kept nodes
 nodes-cut : (s : Types) (set : Names) (lent : List ℕ) (before : List Node) (rs : List Row) → Grown s lent before rs
@@ -142,7 +142,7 @@ open-test p x (inl e) = or-left (same p x) (isAbove p x) (equal-same e)
 open-test p x (inr a) = or-right (same p x) (isAbove p x) (above-test a)
 
 -- a node under another, as the parts of its row's test see it
-under-of : (k : ℕ) (n : Name) (w : List ℕ) (s : Types) (o : Option Node) → T (parentHolds s (attach k n w o)) → (p : Node) × (o ≡ some p)
+under-of : (k : ℕ) (n : Name) (w : List ℕ) (s : Types) (o : Option Node) → T (parentHolds s (attachTo k n w o)) → (p : Node) × (o ≡ some p)
 under-of k n w s none t = absurd t
 under-of k n w s (some p) t = (p, refl)
 
@@ -186,7 +186,7 @@ cut-later s set before previous last (r ∷ rs) inv le t =
     h = under-of (r .number) (r .name) (textOf [] r) s (getElem? before (r .parent)) (f .held)
 
     e : y ≡ under (r .number) (r .name) (textOf [] r) (h .0)
-    e = ap (attach (r .number) (r .name) (textOf [] r)) (h .1)
+    e = ap (attachTo (r .number) (r .name) (textOf [] r)) (h .1)
 
     opened : OpenAt (h .0) previous
     opened = test-open (h .0) previous (subst (λ (z : Node). T (parentOpen previous z)) e (f .isOpen))

@@ -14,8 +14,8 @@ use Rattle.table_spec.specs.Nodes.{Node, top, under, nameOf, Edge, edge, Above,
 use Rattle.text_laws.specs.Tests.{and-intro, and-cases}
 
 -- the one set is inside the other
-abbrev pub Subset : Names → Names → Type 0
-Subset a b = (n : Name) → In n a → In n b
+abbrev pub SubsetOf : Names → Names → Type 0
+SubsetOf a b = (n : Name) → In n a → In n b
 
 -- the names of the node and of all its ancestors are in the set
 abbrev pub Within : Names → Node → Type 0
@@ -42,7 +42,7 @@ pub own-within : (a : Names) (y : Node) → Within a y → In (nameOf y) a
 own-within a (top k n) w = w
 own-within a (under k n v p) w = w .0
 
-pub wider : (a b : Names) → Subset a b → (y : Node) → Within a y → Within b y
+pub wider : (a b : Names) → SubsetOf a b → (y : Node) → Within a y → Within b y
 wider a b sub (top k n) w = sub n w
 wider a b sub (under k n v p) w = (sub n (w .0), wider a b sub p (w .1))
 

@@ -13,7 +13,7 @@ use Rattle.journal_spec.specs.Conditions.{JournalApplies, JournalGives}
 use Rattle.journal_spec.specs.Reading.{readJournal}
 use Rattle.path_laws.specs.Reading.{bundle-read, bundle-read-once}
 use Rattle.path_spec.specs.Conditions.{BundleApplies, BundleGives}
-use Rattle.path_spec.specs.Paths.{Path}
+use Rattle.path_spec.specs.Paths.{LocationPath}
 use Rattle.path_spec.specs.Reading.{readBundle}
 use Rattle.path_spec.specs.Selection.{selectRows}
 use Rattle.projection_spec.specs.Extracts.Conditions.{ExtractApplies, ExtractGives}
@@ -67,14 +67,14 @@ module _ (schema bundle journal : List ℕ) (z : Sizes) (size : ℕ) where
   Made o = Makes schema bundle journal z size o
 
   module _ (equal : EqualSizes z) where
-    made-journal : (s : Schema) (ps : List (Path ℕ)) → SchemaTaken schema s → BundleTaken s bundle ps → (o : Outcome (List Row))
+    made-journal : (s : Schema) (ps : List (LocationPath ℕ)) → SchemaTaken schema s → BundleTaken s bundle ps → (o : Outcome (List Row))
         → Judged (JournalApplies maxJournalBytes s journal) (JournalGives s journal) o
         → Made (andThen o (λ rows. inCells z size (answer rows (extractOf s ps journal rows))))
     made-journal s ps st bt (refused f) (turned-back x) = conditions.Makes.by-journal equal st bt x
     made-journal s ps st bt (accepted rows) (taken n g) =
         in-cells z size (answer rows (extractOf s ps journal rows)) Made (λ h. conditions.Makes.by-18 equal st bt (taken n g) h) (λ h. makes equal st bt (taken n g) h)
 
-    made-bundle : (s : Schema) → SchemaTaken schema s → (o : Outcome (List (Path ℕ))) → Judged (BundleApplies s bundle) (BundleGives s bundle) o
+    made-bundle : (s : Schema) → SchemaTaken schema s → (o : Outcome (List (LocationPath ℕ))) → Judged (BundleApplies s bundle) (BundleGives s bundle) o
         → Made (andThen o (λ ps. andThen (readJournal maxJournalBytes s journal) (λ rows. inCells z size (answer rows (extractOf s ps journal rows)))))
     made-bundle s st (refused f) (turned-back x) = conditions.Makes.by-bundle equal st x
     made-bundle s st (accepted ps) (taken n g) =
@@ -113,34 +113,34 @@ module _ (schema bundle : List ℕ) (path : ℕ) (extract : List ℕ) (z : Sizes
           again true r = conditions.Selects.by-1 (inr (out (passed r)))
           again false r = absurd (n (and-intro (equalSizes z) (not b) (passed q) (not-intro b (failed r))))
 
-  abbrev fromExtract : Schema → List (Path ℕ) → Outcome Answer
+  abbrev fromExtract : Schema → List (LocationPath ℕ) → Outcome Answer
   fromExtract s ps = andThen (readExtract (typesOf s) extract) (λ rows. inCells z size (answer rows (selectRows extract rows (pathAt ps path))))
 
-  sel-extract : (s : Schema) (ps : List (Path ℕ)) (p : Path ℕ) → EqualSizes z → SchemaTaken schema s → BundleTaken s bundle ps → getElem? ps path ≡ some p
+  sel-extract : (s : Schema) (ps : List (LocationPath ℕ)) (p : LocationPath ℕ) → EqualSizes z → SchemaTaken schema s → BundleTaken s bundle ps → getElem? ps path ≡ some p
       → (o : Outcome (List Row)) → Judged (ExtractApplies (typesOf s) extract) (ExtractGives (typesOf s) extract) o
       → Sel (andThen o (λ rows. inCells z size (answer rows (selectRows extract rows p))))
   sel-extract s ps p equal st bt e (refused f) (turned-back x) = conditions.Selects.by-extract equal st bt e x
   sel-extract s ps p equal st bt e (accepted rows) (taken n g) =
       in-cells z size (answer rows (selectRows extract rows p)) Sel (λ h. conditions.Selects.by-18 equal st bt e (taken n g) h) (λ h. selects equal st bt e (taken n g) h)
 
-  sel-paths : (s : Schema) (ps : List (Path ℕ)) → SchemaTaken schema s → BundleTaken s bundle ps → Sel (tested (equalSizes z && not (leb (length ps) path)) (fromExtract s ps))
+  sel-paths : (s : Schema) (ps : List (LocationPath ℕ)) → SchemaTaken schema s → BundleTaken s bundle ps → Sel (tested (equalSizes z && not (leb (length ps) path)) (fromExtract s ps))
   sel-paths s ps st bt =
       by-test (equalSizes z && not (leb (length ps) path)) (fromExtract s ps) Sel
       (λ n. fails-1 (leb (length ps) path) n (λ t. not-here st bt (leb→le (length ps) path t)))
       (λ t.
       let c = and-cases (equalSizes z) (not (leb (length ps) path)) t in
       let p = path-at ps path (nleb→lt (length ps) path (c .1)) in
-      subst (λ (q : Path ℕ). Sel (andThen (readExtract (typesOf s) extract) (λ rows. inCells z size (answer rows (selectRows extract rows q))))) (sym (ap pathOr (p .1)))
+      subst (λ (q : LocationPath ℕ). Sel (andThen (readExtract (typesOf s) extract) (λ rows. inCells z size (answer rows (selectRows extract rows q))))) (sym (ap pathOr (p .1)))
       (sel-extract s ps (p .0) (sizes-equal z (c .0)) st bt (p .1) (readExtract (typesOf s) extract) (extract-judged (typesOf s) (text-names s) extract bytes)))
 
   -- a text before the extract is refused: no path is out of range but one that no bundle has
-  not-out : ((s : Schema) (ps : List (Path ℕ)) → SchemaTaken schema s → BundleTaken s bundle ps → ⊥) → T (not (leb maxPaths path)) → OutOfRange schema bundle path → ⊥
+  not-out : ((s : Schema) (ps : List (LocationPath ℕ)) → SchemaTaken schema s → BundleTaken s bundle ps → ⊥) → T (not (leb maxPaths path)) → OutOfRange schema bundle path → ⊥
   not-out never-taken t (never h) =
       let l = nleb→lt maxPaths path t in
       omega arith
   not-out never-taken t (not-here {s = s} {ps = ps} st bt h) = never-taken s ps st bt
 
-  sel-refused : (o : Outcome Answer) → ((s : Schema) (ps : List (Path ℕ)) → SchemaTaken schema s → BundleTaken s bundle ps → ⊥)
+  sel-refused : (o : Outcome Answer) → ((s : Schema) (ps : List (LocationPath ℕ)) → SchemaTaken schema s → BundleTaken s bundle ps → ⊥)
       → (EqualSizes z → (OutOfRange schema bundle path → ⊥) → Sel o) → Sel (tested (equalSizes z && not (leb maxPaths path)) o)
   sel-refused o never-taken refuses =
       by-test (equalSizes z && not (leb maxPaths path)) o Sel (λ n. fails-1 (leb maxPaths path) n (λ t. never (leb→le maxPaths path t)))
@@ -154,12 +154,12 @@ module _ (schema bundle : List ℕ) (path : ℕ) (extract : List ℕ) (z : Sizes
       let e : accepted s ≡ accepted s′ = schema-read-once schema x ∙ sym (schema-read-once schema y) in
       cc
 
-  sel-bundle : (s : Schema) → SchemaTaken schema s → (o : Outcome (List (Path ℕ))) → Judged (BundleApplies s bundle) (BundleGives s bundle) o
+  sel-bundle : (s : Schema) → SchemaTaken schema s → (o : Outcome (List (LocationPath ℕ))) → Judged (BundleApplies s bundle) (BundleGives s bundle) o
       → Sel (tested (equalSizes z && inRange path o) (andThen o (fromExtract s)))
   sel-bundle s st (refused f) (turned-back x) =
       sel-refused (refused f) (λ s′ ps st′ bt. not-taken (subst (λ (t : Schema). BundleTaken t bundle ps) (one-schema st′ st) bt)) (λ equal out. conditions.Selects.by-bundle equal out st x)
     where
-      not-taken : {ps : List (Path ℕ)} → BundleTaken s bundle ps → ⊥
+      not-taken : {ps : List (LocationPath ℕ)} → BundleTaken s bundle ps → ⊥
       not-taken (taken n g) = n (f .reason) (f .place) (x .applies)
   sel-bundle s st (accepted ps) (taken n g) = sel-paths s ps st (taken n g)
 

@@ -30,7 +30,7 @@ opensAfter (element e) next number os = placed next number e ∷ os
 opensAfter (text e) next number os = os
 
 abbrev pub rowAt : Name → ℕ → ℕ → ℕ → ℕ → Row
-rowAt n k number parent size = record { number = number; name = n; parent = parent; start = startAt n k; length = sizeAt n size }
+rowAt n k number parent size = record { number = number; name = n; parent = parent; start = startAt n k; size = sizeAt n size }
 
 -- a row's field read, and what follows it
 pub field-item : (n : Name) (fuel k number parent : ℕ) (w rest : List ℕ) → number < 65536 → parent < 65536 → length w < 65532

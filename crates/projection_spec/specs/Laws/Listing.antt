@@ -8,7 +8,7 @@ use native.Mathlib.Omega.{arith}
 use lib.Dec.{T, eqb, eqb→eq, eqb-refl}
 use lib.ListN.{length}
 use Rattle.path_laws.specs.Selection.{selected-sound, selected-complete, selected-filters}
-use Rattle.path_spec.specs.Paths.{Path}
+use Rattle.path_spec.specs.Paths.{LocationPath}
 use Rattle.path_spec.specs.Selection.{Selected, selected, select}
 use Rattle.projection_spec.specs.Laws.Numbers.{node-known}
 use Rattle.projection_spec.specs.Library.Conditions.{Chosen, FirstPath, Lines, no-lines, next-line}
@@ -22,15 +22,15 @@ use Rattle.text_laws.specs.Lists.{any-in, in-any, in-filter, filter-in, in-map,
 use Rattle.text_laws.specs.Tests.{or-left, or-right, or-cases}
 use Rattle.text_spec.specs.Lists.{anyOf, filterBy, gather}
 
-module _ (types : Types) (journal : List ℕ) (rows : List Row) (ok : T (wellFormed types rows)) (s : Schema) (ps : List (Path ℕ)) where
+module _ (types : Types) (journal : List ℕ) (rows : List Row) (ok : T (wellFormed types rows)) (s : Schema) (ps : List (LocationPath ℕ)) where
   abbrev doc : List Node
   doc = nodesOf journal rows
 
-  abbrev chosen : Node → List (Path ℕ) → Bool
+  abbrev chosen : Node → List (LocationPath ℕ) → Bool
   chosen y qs = anyOf (isIn (numberOf y)) (map (select doc) qs)
 
   -- a node's number is listed for a path exactly if the path selects the node
-  listed-selected : (y : Node) (p : Path ℕ) → In y doc → T (isIn (numberOf y) (select doc p)) → Selected doc p y
+  listed-selected : (y : Node) (p : LocationPath ℕ) → In y doc → T (isIn (numberOf y) (select doc p)) → Selected doc p y
   unfolding select
   listed-selected y p i t =
       let k = in-any (eqb (numberOf y)) (select doc p) t in
@@ -40,7 +40,7 @@ module _ (types : Types) (journal : List ℕ) (rows : List Row) (ok : T (wellFor
       let e : y ≡ z .0 = node-known types journal rows ok y (z .0) i j (eqb→eq (numberOf y) (k .0) (k .2) ∙ z .2) in
       selected-sound doc p y (subst (λ (x : Node). In x (selected doc p)) (sym e) (z .1))
 
-  selected-listed : (y : Node) (p : Path ℕ) → Selected doc p y → T (isIn (numberOf y) (select doc p))
+  selected-listed : (y : Node) (p : LocationPath ℕ) → Selected doc p y → T (isIn (numberOf y) (select doc p))
   unfolding select
   selected-listed y p h = any-in (eqb (numberOf y)) (in-map numberOf (selected-complete doc p y h)) (eqb-refl (numberOf y))
 
@@ -57,16 +57,16 @@ module _ (types : Types) (journal : List ℕ) (rows : List Row) (ok : T (wellFor
       }
 
   -- the first path that lists a number, with those before it
-  record First (y : Node) (i : ℕ) (qs : List (Path ℕ)) : Type 0 where
-    before : List (Path ℕ)
-    path : Path ℕ
-    after : List (Path ℕ)
+  record First (y : Node) (i : ℕ) (qs : List (LocationPath ℕ)) : Type 0 where
+    before : List (LocationPath ℕ)
+    path : LocationPath ℕ
+    after : List (LocationPath ℕ)
     joined : qs ≡ before ++ (path ∷ after)
     placed : firstSelecting i (numberOf y) (map (select doc) qs) ≡ i + length before
     lists : T (isIn (numberOf y) (select doc path))
-    none-before : (p : Path ℕ) → In p before → T (isIn (numberOf y) (select doc p)) → ⊥
+    none-before : (p : LocationPath ℕ) → In p before → T (isIn (numberOf y) (select doc p)) → ⊥
 
-  first-listing : (y : Node) (i : ℕ) (qs : List (Path ℕ)) → T (chosen y qs) → First y i qs
+  first-listing : (y : Node) (i : ℕ) (qs : List (LocationPath ℕ)) → T (chosen y qs) → First y i qs
   first-listing y i [] t = absurd t
   first-listing y i (q ∷ qs) t = pick (isIn (numberOf y) (select doc q)) refl (first-listing y (suc i) qs)
     where
@@ -93,15 +93,15 @@ module _ (types : Types) (journal : List ℕ) (rows : List Row) (ok : T (wellFor
             before = q ∷ f .before;
             path = f .path;
             after = f .after;
-            joined = ap {B = List (Path ℕ)} (λ l. q ∷ l) (f .joined);
+            joined = ap {B = List (LocationPath ℕ)} (λ l. q ∷ l) (f .joined);
             placed = ap (λ (b : Bool). cond b i (firstSelecting (suc i) k later)) e ∙ (f .placed ∙ omega arith);
             lists = f .lists;
             none-before = not-before e (f .none-before);
           }
         where
-          not-before : {before : List (Path ℕ)} → isIn k (select doc q) ≡ false → ((p : Path ℕ) → In p before → T (isIn k (select doc p)) → ⊥)
-              → (p : Path ℕ) → In p (q ∷ before) → T (isIn k (select doc p)) → ⊥
-          not-before e h p (here j) u = subst T e (subst (λ (x : Path ℕ). T (isIn k (select doc x))) j u)
+          not-before : {before : List (LocationPath ℕ)} → isIn k (select doc q) ≡ false → ((p : LocationPath ℕ) → In p before → T (isIn k (select doc p)) → ⊥)
+              → (p : LocationPath ℕ) → In p (q ∷ before) → T (isIn k (select doc p)) → ⊥
+          not-before e h p (here j) u = subst T e (subst (λ (x : LocationPath ℕ). T (isIn k (select doc x))) j u)
           not-before e h p (there j) u = h p j u
 
   first-path : (y : Node) → In y doc → T (chosen y ps) → FirstPath doc ps y (firstSelecting 1 (numberOf y) (map (select doc) ps))

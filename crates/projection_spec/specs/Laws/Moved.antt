@@ -24,34 +24,34 @@ use Rattle.text_spec.specs.Lists.{allOf, gather, part}
 
 -- the text of a row of a well-formed table: it has the row's length, at most 4,096, which is 0 for an element, and its bytes pass 3
 pub record HasText (n : Name) (lent : List ℕ) (r : Row) : Type 0 where
-  pub size : length (textOf lent r) ≡ r .length
-  pub short : r .length ≤ maxTextBytes
-  pub ofName : sizeAt n (r .length) ≡ r .length
+  pub size : length (textOf lent r) ≡ r .size
+  pub short : r .size ≤ maxTextBytes
+  pub ofName : sizeAt n (r .size) ≡ r .size
   pub passes : T (not (isText n) || allOf (λ b. not (isForeign b)) (textOf lent r))
 
 pub has-text : (n : Name) (lent : List ℕ) (r : Row) → r .name ≡ n → T (textFits n r) → T (textInside lent r) → HasText n lent r
 has-text (element e) lent r q cells inside =
-    let empty : r .length ≡ 0 = eqb→eq (r .length) 0 (and-cases (eqb (r .start) 0) (eqb (r .length) 0) cells .1) in
+    let empty : r .size ≡ 0 = eqb→eq (r .size) 0 (and-cases (eqb (r .start) 0) (eqb (r .size) 0) cells .1) in
     record { size = rw empty; short = omega arith; ofName = sym empty; passes = tt }
 has-text (text e) lent r q cells inside =
     let w = textOf lent r in
     let pass = allOf (λ b. not (isForeign b)) w in
-    let i : T (leb (r .start) (length lent) && (eqb (length w) (r .length) && pass)) = rw q at inside in
-    let c = and-cases (leb (r .start) (length lent)) (eqb (length w) (r .length) && pass) i in
-    let d = and-cases (eqb (length w) (r .length)) pass (c .1) in
-    let few = and-cases (leb 1 (r .length)) (leb (r .length) maxTextBytes) cells .1 in
-    record { size = eqb→eq (length w) (r .length) (d .0); short = leb→le (r .length) maxTextBytes few; ofName = refl; passes = d .1 }
+    let i : T (leb (r .start) (length lent) && (eqb (length w) (r .size) && pass)) = rw q at inside in
+    let c = and-cases (leb (r .start) (length lent)) (eqb (length w) (r .size) && pass) i in
+    let d = and-cases (eqb (length w) (r .size)) pass (c .1) in
+    let few = and-cases (leb 1 (r .size)) (leb (r .size) maxTextBytes) cells .1 in
+    record { size = eqb→eq (length w) (r .size) (d .0); short = leb→le (r .size) maxTextBytes few; ofName = refl; passes = d .1 }
 
 -- a row with its text's place moved, and rows that start so at their fields' places
 abbrev pub restart : ℕ → Row → Row
-restart k r = record { number = r .number; name = r .name; parent = r .parent; start = startAt (r .name) k; length = r .length }
+restart k r = record { number = r .number; name = r .name; parent = r .parent; start = startAt (r .name) k; size = r .size }
 
 abbrev pub restarted : (Row → List ℕ) → ℕ → List Row → List Row
 restarted f k [] = []
 restarted f k (r ∷ rs) = restart k r ∷ restarted f (k + length (f r)) rs
 
 cells-moved : (n : Name) (k : ℕ) (r : Row) → r .name ≡ n → T (textFits n r) → T (textFits n (restart k r))
-cells-moved (element e) k r q t = rw q (and-cases (eqb (r .start) 0) (eqb (r .length) 0) t .1)
+cells-moved (element e) k r q t = rw q (and-cases (eqb (r .start) 0) (eqb (r .size) 0) t .1)
 cells-moved (text e) k r q t = t
 
 same-cells : (k : ℕ) (r : Row) → T (cellsFit r) → cellsFit (restart k r) ≡ cellsFit r
@@ -75,10 +75,10 @@ later-moved s before previous f k (r ∷ rs) t =
 text-moved : (n : Name) (lent pre rest : List ℕ) (number parent : ℕ) (r : Row) → r .name ≡ n → T (textFits n r) → T (textInside lent r)
     → textOf (pre ++ (rowField n number parent (textOf lent r) ++ rest)) (restart (length pre) r) ≡ textOf lent r
 text-moved (element e) lent pre rest number parent r q t i =
-    let empty : r .length ≡ 0 = sym (has-text (element e) lent r q t i .ofName) in
+    let empty : r .size ≡ 0 = sym (has-text (element e) lent r q t i .ofName) in
     rw empty
 text-moved (text e) lent pre rest number parent r q t i =
-    rw q (text-cut pre (textOf lent r) rest _ _ _ _ _ _ _ (length pre) (r .length) refl (has-text (text e) lent r q t i .size))
+    rw q (text-cut pre (textOf lent r) rest _ _ _ _ _ _ _ (length pre) (r .size) refl (has-text (text e) lent r q t i .size))
 
 -- the rows read are the rows written but for text starts, with the same texts
 module _ (lent : List ℕ) (all : List Row) where
@@ -93,7 +93,7 @@ module _ (lent : List ℕ) (all : List Row) where
       let whole : bs ≡ pre ++ (f ++ later) = e ∙ ap (λ (m : List ℕ). pre ++ m) (append-assoc f (gather (fieldOf lent all) rs) rest) in
       let read = text-moved (r .name) lent pre later (r .number) (parentNumber all r) r refl (u .0) (v .0) in
       let moved : textOf bs (restart k r) ≡ textOf lent r = rw (whole, ← l) read in
-      next-row (record { number = refl; name = refl; parent = refl; length = refl }) (sym moved)
+      next-row (record { number = refl; name = refl; parent = refl; size = refl }) (sym moved)
       (same-rows (pre ++ f) rest rs bs (k + length f) (length-append pre f ∙ rw l) (whole ∙ sym (append-assoc pre f later)) (u .1) (v .1))
 
 -- in tables that are the same but for text starts, texts that lie inside one text and pass 3 do so in the other
@@ -105,12 +105,12 @@ same-inside : (n : Name) (lent lent′ : List ℕ) {q r : Row} → SameButStarts
 same-inside (element e) lent lent′ {q} {r} c w m t i = let named : r .name ≡ element e = sym (c .name) ∙ m in rw named tt
 same-inside (text e) lent lent′ {q} {r} c w m t i =
     let held = has-text (text e) lent q m t i in
-    let long = leb→le 1 (q .length) (and-cases (leb 1 (q .length)) (leb (q .length) maxTextBytes) t .0) in
-    let fits : length (textOf lent′ r) ≡ r .length = rw (← w, ← c .length) (held .size) in
-    let begins = start-inside lent′ (r .start) (r .length) (rw (← c .length) long) fits in
+    let long = leb→le 1 (q .size) (and-cases (leb 1 (q .size)) (leb (q .size) maxTextBytes) t .0) in
+    let fits : length (textOf lent′ r) ≡ r .size = rw (← w, ← c .size) (held .size) in
+    let begins = start-inside lent′ (r .start) (r .size) (rw (← c .size) long) fits in
     or-right (not (isText (r .name))) _
     (and-intro (leb (r .start) (length lent′)) _ (le→leb _ _ begins)
-    (and-intro (eqb (length (textOf lent′ r)) (r .length)) _ (rw fits (eqb-refl (r .length))) (rw (← w) (held .passes))))
+    (and-intro (eqb (length (textOf lent′ r)) (r .size)) _ (rw fits (eqb-refl (r .size))) (rw (← w) (held .passes))))
 
 pub same-all-inside : {lent lent′ : List ℕ} {qs rs : List Row} → SameTables lent lent′ qs rs → T (allOf cellsFit qs) → T (allOf (textInside lent) qs)
     → T (allOf (textInside lent′) rs)

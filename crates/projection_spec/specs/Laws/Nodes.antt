@@ -7,13 +7,13 @@ use mathlib.Core.Path.{_≡_, refl, sym, ap, subst, _∙_}
 use Prim.Native.Nat.{ℕ}
 use lib.Dec.{T}
 use Rattle.path_laws.specs.Selection.{selected-sound, selected-complete, selected-filters}
-use Rattle.path_spec.specs.Paths.{Path, expand}
+use Rattle.path_spec.specs.Paths.{LocationPath, expand}
 use Rattle.path_spec.specs.Selection.{Holds, Roots, Selected, selected, select}
 use Rattle.projection_spec.specs.Extracts.Cut.{kept}
 use Rattle.projection_spec.specs.Inference.Needed.{keepsName, wantsNames, fromRoot, atRoot, neededBeforeFilter, neededByPath, needed}
 use Rattle.projection_spec.specs.Laws.Agreement.{Alike, alike-turned, trip-of, of-trip, trip-track, track-complete, complete-needed, trip-alike}
 use Rattle.projection_spec.specs.Laws.Conditions.{condition-fair}
-use Rattle.projection_spec.specs.Laws.Documents.{Subset, Within, Valid, AllValid, Lawful, own-within, wider, within-kept, kept-within, name-in}
+use Rattle.projection_spec.specs.Laws.Documents.{SubsetOf, Within, Valid, AllValid, Lawful, own-within, wider, within-kept, kept-within, name-in}
 use Rattle.projection_spec.specs.Laws.Soundness.{Typed}
 use Rattle.schema_laws.specs.Closure.{Chain, one, chain-join, closure-chain, chain-closure}
 use Rattle.schema_laws.specs.Names.{same-equal, same-name, in-within}
@@ -62,7 +62,7 @@ root-within : (r : Names) (x : Node) → T (isTop x) → In (nameOf x) r → Wit
 root-within r (top k n) t i = i
 root-within r (under k n w p) t i = absurd t
 
-module _ (s : Types) (law : Lawful s) (p : Path ℕ) where
+module _ (s : Types) (law : Lawful s) (p : LocationPath ℕ) where
   -- what a path selects in the one of two documents that are alike on its names, it selects in the other
   pub selected-alike : (d e : List Node) → AllValid s d → AllValid s e → Alike (neededBeforeFilter s p) d e → (m : Node) → Selected d p m → Selected e p m
   unfolding neededBeforeFilter
@@ -82,7 +82,7 @@ module _ (s : Types) (law : Lawful s) (p : Path ℕ) where
       of-trip s Holds e (Roots e) (al .forth x w (t .1 .0), t .1 .1)
       (trip-alike s law Holds keeps wants fair r d e dv ev al (atRoot s) v f w (λ n j. j) (t .2) .0)
 
-  module _ (doc : List Node) (ok : AllValid s doc) (a : Names) (enough : Subset (neededByPath s p) a) where
+  module _ (doc : List Node) (ok : AllValid s doc) (a : Names) (enough : SubsetOf (neededByPath s p) a) where
     abbrev cut : List Node
     cut = filterBy (kept a) doc
 
@@ -118,7 +118,7 @@ module _ (s : Types) (law : Lawful s) (p : Path ℕ) where
     select-cut = ap (map numberOf) selected-cut
 
 -- a bundle's needed names have those of each of its paths
-pub path-needed : (s : Types) {p : Path ℕ} (ps : List (Path ℕ)) → In p ps → Subset (neededByPath s p) (needed s ps)
+pub path-needed : (s : Types) {p : LocationPath ℕ} (ps : List (LocationPath ℕ)) → In p ps → SubsetOf (neededByPath s p) (needed s ps)
 unfolding needed neededByPath fromRoot
 path-needed s ps i n j =
     in-within (filter-in _ (s .names) (filter-in _ _ j .0) .0) (in-gather (neededByPath s) i j)

@@ -12,7 +12,7 @@ use Rattle.journal_spec.specs.Conditions.{JournalApplies, JournalGives}
 use Rattle.journal_spec.specs.Reading.{readJournal}
 use Rattle.path_laws.specs.Reading.{bundle-read}
 use Rattle.path_spec.specs.Conditions.{BundleApplies, BundleGives}
-use Rattle.path_spec.specs.Paths.{Path}
+use Rattle.path_spec.specs.Paths.{LocationPath}
 use Rattle.path_spec.specs.Reading.{readBundle}
 use Rattle.projection_spec.specs.Extracts.Cut.{cut}
 use Rattle.projection_spec.specs.Inference.Needed.{needed}
@@ -40,7 +40,7 @@ module _ (schema bundle journal : List ℕ) where
   Right o = Prints schema bundle journal (printed o)
 
   -- all three are accepted: too many rows, or the listing
-  from-rows : (s : Schema) (ps : List (Path ℕ)) (rows : List Row) → SchemaTaken schema s → BundleTaken s bundle ps → JournalTaken listingJournalBytes s journal rows
+  from-rows : (s : Schema) (ps : List (LocationPath ℕ)) (rows : List Row) → SchemaTaken schema s → BundleTaken s bundle ps → JournalTaken listingJournalBytes s journal rows
       → readJournal listingJournalBytes s journal ≡ accepted rows → Right (judged (given (tooSmall listingRows rows) (at tooFewCells 0)) (listed s ps journal rows))
   unfolding firstOf headerOf wellFormedWith
   from-rows s ps rows st bt jt e = pick (tooSmall listingRows rows) refl
@@ -59,13 +59,13 @@ module _ (schema bundle journal : List ℕ) where
           (lists st bt jt (nltb→le listingRows (length rows) (not-intro (ltb listingRows (length rows)) (failed q))) (chosen-nodes (typesOf s) journal rows ok s ps)
           (chosen-lines (typesOf s) journal rows ok s ps))
 
-  from-journal : (s : Schema) (ps : List (Path ℕ)) → SchemaTaken schema s → BundleTaken s bundle ps → (o : Outcome (List Row))
+  from-journal : (s : Schema) (ps : List (LocationPath ℕ)) → SchemaTaken schema s → BundleTaken s bundle ps → (o : Outcome (List Row))
       → readJournal listingJournalBytes s journal ≡ o → Judged (JournalApplies listingJournalBytes s journal) (JournalGives s journal) o
       → Right (andThen o (λ rows. judged (given (tooSmall listingRows rows) (at tooFewCells 0)) (listed s ps journal rows)))
   from-journal s ps st bt (refused f) e (turned-back x) = journal-refused st bt x
   from-journal s ps st bt (accepted rows) e (taken n g) = from-rows s ps rows st bt (taken n g) e
 
-  from-bundle : (s : Schema) → SchemaTaken schema s → (o : Outcome (List (Path ℕ))) → Judged (BundleApplies s bundle) (BundleGives s bundle) o
+  from-bundle : (s : Schema) → SchemaTaken schema s → (o : Outcome (List (LocationPath ℕ))) → Judged (BundleApplies s bundle) (BundleGives s bundle) o
       → Right (andThen o (λ ps. andThen (readJournal listingJournalBytes s journal) (λ rows. judged (given (tooSmall listingRows rows) (at tooFewCells 0)) (listed s ps journal rows))))
   from-bundle s st (refused f) (turned-back x) = bundle-refused st x
   from-bundle s st (accepted ps) (taken n g) =

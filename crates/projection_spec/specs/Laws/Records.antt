@@ -8,7 +8,7 @@ use lib.Dec.{T, leb, leb→le, le→leb}
 use lib.ListN.{length, take, length-take}
 use Rattle.path_laws.specs.Reading.{bundle-read, bundle-read-once}
 use Rattle.path_spec.specs.Conditions.{BundleApplies, BundleGives}
-use Rattle.path_spec.specs.Paths.{Path}
+use Rattle.path_spec.specs.Paths.{LocationPath}
 use Rattle.path_spec.specs.Reading.{bundleRefusals, readBundle, isBundleRecord}
 use Rattle.projection_spec.specs.Laws.Lent.{padded-length, padded-take}
 use Rattle.projection_spec.specs.Library.Conditions.{BundleTaken, SchemaHanded, of-schema, BundleHanded, of-bundle}
@@ -65,19 +65,19 @@ handed-schema (of-schema w p) =
 
 -- ---- bundles, under a schema
 module _ (s : Schema) where
-  accepted-bundle : (w : List ℕ) → T (isBundleRecord s w) → (ps : List (Path ℕ)) × (readBundle s w ≡ accepted ps)
+  accepted-bundle : (w : List ℕ) → T (isBundleRecord s w) → (ps : List (LocationPath ℕ)) × (readBundle s w ≡ accepted ps)
   unfolding isBundleRecord
   accepted-bundle w t = pick (readBundle s w) refl t
     where
-      pick : (o : Outcome (List (Path ℕ))) → readBundle s w ≡ o → T (isAccepted o) → (ps : List (Path ℕ)) × (readBundle s w ≡ accepted ps)
+      pick : (o : Outcome (List (LocationPath ℕ))) → readBundle s w ≡ o → T (isAccepted o) → (ps : List (LocationPath ℕ)) × (readBundle s w ≡ accepted ps)
       pick (accepted ps) e u = (ps, e)
       pick (refused f) e u = absurd u
 
-  bundle-length : (w : List ℕ) (ps : List (Path ℕ)) → readBundle s w ≡ accepted ps → length w ≤ maxBundleBytes
+  bundle-length : (w : List ℕ) (ps : List (LocationPath ℕ)) → readBundle s w ≡ accepted ps → length w ≤ maxBundleBytes
   unfolding readBundle bundleRefusals
   bundle-length w ps e = length-within maxBundleBytes w (append-empty (lengthRefusals maxBundleBytes w) _ (judged-accepted (bundleRefusals s w) _ ps e .0) .0)
 
-  bundle-taken : (w : List ℕ) (ps : List (Path ℕ)) → readBundle s w ≡ accepted ps → BundleTaken s w ps
+  bundle-taken : (w : List ℕ) (ps : List (LocationPath ℕ)) → readBundle s w ≡ accepted ps → BundleTaken s w ps
   bundle-taken w ps e = subst (Judged (BundleApplies s w) (BundleGives s w)) e (bundle-read s w)
 
   pub bundle-handed : (r : TextRecord) → T (passesBundle s r) → BundleHanded s r
@@ -93,4 +93,4 @@ module _ (s : Schema) where
       let e : readBundle s w ≡ accepted ps = sym (bundle-read-once s w j) in
       let h : length w ≤ maxBundleBytes = bundle-length w ps e in
       and-intro (isRecord maxBundleBytes (recordOf maxBundleBytes w)) (isBundleRecord s (textIn (recordOf maxBundleBytes w))) (text-record maxBundleBytes w h)
-      (subst (λ (v : List ℕ). T (isAccepted (readBundle s v))) (sym (record-text maxBundleBytes w h)) (subst (λ (o : Outcome (List (Path ℕ))). T (isAccepted o)) (sym e) tt))
+      (subst (λ (v : List ℕ). T (isAccepted (readBundle s v))) (sym (record-text maxBundleBytes w h)) (subst (λ (o : Outcome (List (LocationPath ℕ))). T (isAccepted o)) (sym e) tt))

@@ -109,7 +109,7 @@ outcome s b bs = pick (isTable s (b ∷ bs) rows)
 
 same-tables : (bs : List ℕ) (rows : List Row) → SameTables bs bs rows rows
 same-tables bs [] = no-rows
-same-tables bs (r ∷ rs) = next-row (record { number = refl; name = refl; parent = refl; length = refl }) refl (same-tables bs rs)
+same-tables bs (r ∷ rs) = next-row (record { number = refl; name = refl; parent = refl; size = refl }) refl (same-tables bs rs)
 
 -- The reader turns bytes back by the first refusal that applies, and else gives the rows of the table that they are the writing of.
 pub extract-judged : (s : Types) → TextNames s → (bs : List ℕ) → AreBytes bs → Judged (ExtractApplies s bs) (ExtractGives s bs) (readExtract s bs)

@@ -3,7 +3,7 @@ use mathlib.Core.List.{List, [], _∷_, _++_}
 use mathlib.Core.Path.{_≡_, refl, sym, ap, _∙_}
 use Prim.Native.Nat.{ℕ}
 use lib.Dec.{T}
-use Rattle.path_spec.specs.Paths.{Path}
+use Rattle.path_spec.specs.Paths.{LocationPath}
 use Rattle.path_spec.specs.Selection.{select, selectRows}
 use Rattle.projection_spec.specs.Extracts.Conditions.{SameButStarts, SameTables, no-rows, next-row}
 use Rattle.projection_spec.specs.Extracts.Fields.{writeExtract}
@@ -49,6 +49,6 @@ module _ (s : Types) (law : TextNames s) (lent lent′ : List ℕ) (rows rows′
       let one : w .0 ≡ w′ .0 = cc (w .1, read) in
       sym (w .2) ∙ ap (λ (rs : List Row). nodesOf (writeExtract lent rows) rs) one ∙ ap (λ (bs : List ℕ). nodesOf bs (w′ .0)) same ∙ w′ .2
 
-  pub one-extract-selects : (p : Path ℕ) → selectRows lent rows p ≡ selectRows lent′ rows′ p
+  pub one-extract-selects : (p : LocationPath ℕ) → selectRows lent rows p ≡ selectRows lent′ rows′ p
   unfolding selectRows
   one-extract-selects p = ap (λ (doc : List Node). select doc p) one-extract-nodes

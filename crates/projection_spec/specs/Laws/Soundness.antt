@@ -9,8 +9,8 @@ use lib.Dec.{T}
 use Rattle.path_spec.specs.Paths.{Axis, self, child, descendant, descendantOrSelf, parent, ancestor, ancestorOrSelf, NodeTest}
 use Rattle.path_spec.specs.Selection.{OnAxis, on-self, on-child, on-descendant, here-or-below, below-or-here, on-parent, on-ancestor, here-or-above, above-or-here, passes}
 use Rattle.projection_spec.specs.Inference.Needed.{linked, between}
-use Rattle.projection_spec.specs.Inference.Types.{heldBy, holding, allBelow, allAbove, union, cutTo, Env, env, move, narrow}
-use Rattle.projection_spec.specs.Laws.Documents.{Subset, Within, Valid, Lawful, own-within, edge-within, above-within, child-within, edge-valid, edge-holds, name-in, above-below, Reaches, down-within}
+use Rattle.projection_spec.specs.Inference.Types.{heldBy, holding, allBelow, allAbove, unionOf, cutTo, Env, env, move, narrow}
+use Rattle.projection_spec.specs.Laws.Documents.{SubsetOf, Within, Valid, Lawful, own-within, edge-within, above-within, child-within, edge-valid, edge-holds, name-in, above-below, Reaches, down-within}
 use Rattle.schema_laws.specs.Names.{has-in, in-has, same-name, in-within}
 use Rattle.schema_spec.specs.Names.{Name, Names, has, within, sameName}
 use Rattle.schema_spec.specs.Types.{Types, isBelow}
@@ -25,7 +25,7 @@ abbrev pub Typed : Env → Node → Type 0
 Typed e y = In (nameOf y) (e .type) × Within (e .context) y
 
 module _ (s : Types) (law : Lawful s) where
-  pub in-union : (a b : Names) {n : Name} → In n (s .names) → In n a ⊎ In n b → In n (union s a b)
+  pub in-union : (a b : Names) {n : Name} → In n (s .names) → In n a ⊎ In n b → In n (unionOf s a b)
   in-union a b {n} j i =
       in-filter (λ m. has m a || has m b) j
       (⊎-elim (λ h. or-left (has n a) (has n b) (in-has h)) (λ h. or-right (has n a) (has n b) (in-has h)) i)
@@ -36,8 +36,8 @@ module _ (s : Types) (law : Lawful s) where
   pub in-above : (t : Names) {n b : Name} → In b t → In n (s .names) → T (isBelow s n b) → In n (allAbove s t)
   in-above t {n} i j h = in-filter (λ m. anyOf (λ c. isBelow s m c) t) j (any-in (λ c. isBelow s n c) i h)
 
-  -- a union has the names of a valid node that the first set has
-  union-within : (a b : Names) (y : Node) → Valid s y → Within a y → Within (union s a b) y
+  -- a unionOf has the names of a valid node that the first set has
+  union-within : (a b : Names) (y : Node) → Valid s y → Within a y → Within (unionOf s a b) y
   union-within a b (top k n) v w = in-union a b (name-in s law (top k n) v) (inl w)
   union-within a b (under k n x p) v w = (in-union a b (name-in s law (under k n x p) v) (inl (w .0)), union-within a b p (v .1) (w .1))
 
@@ -60,11 +60,11 @@ module _ (s : Types) (law : Lawful s) where
   narrow-typed f e y v t (i, w) = (in-filter f i t, cut-within (filterBy f (e .type)) (e .context) y v w (in-filter f i t))
 
   -- ---- each axis
-  below-typed : (t u k : Names) {x y : Node} → Valid s x → Valid s y → Above x y → In (nameOf x) t → Subset (allBelow s t) u → Within k x
-      → In (nameOf y) u × Within (union s k u) y
+  below-typed : (t u k : Names) {x y : Node} → Valid s x → Valid s y → Above x y → In (nameOf x) t → SubsetOf (allBelow s t) u → Within k x
+      → In (nameOf y) u × Within (unionOf s k u) y
   below-typed t u k {x} {y} v o a i sub w = (
     sub (nameOf y) (in-below t i (name-in s law y o) (above-below s law a o)),
-    down-within s law (union s k u) (nameOf y) (union-within k u x v w) (λ m j b r. in-union k u j (inr (sub m (in-below t i j b)))) a o (inl refl),
+    down-within s law (unionOf s k u) (nameOf y) (union-within k u x v w) (λ m j b r. in-union k u j (inr (sub m (in-below t i j b)))) a o (inl refl),
   )
 
   child-typed : (c : NodeTest ℕ) (e : Env) {x y : Node} → Edge x y → Valid s y → T (passes c (nameOf y)) → Typed e x → Typed (move s child c e) y
@@ -73,7 +73,7 @@ module _ (s : Types) (law : Lawful s) where
       let m : In (nameOf y) (s .names) = name-in s law y v in
       let j : In (nameOf y) t = in-filter (λ n. anyOf (λ a. s .holds a n) (e .type)) m (any-in (λ a. s .holds a (nameOf y)) i (edge-holds s g v)) in (
         j,
-        child-within (union s (e .context) (filterBy (passes c) t)) g (in-union (e .context) (filterBy (passes c) t) m (inr (in-filter (passes c) j q)))
+        child-within (unionOf s (e .context) (filterBy (passes c) t)) g (in-union (e .context) (filterBy (passes c) t) m (inr (in-filter (passes c) j q)))
             (union-within (e .context) (filterBy (passes c) t) x (edge-valid s g v) w),
       )
 
@@ -97,10 +97,10 @@ module _ (s : Types) (law : Lawful s) where
   move-typed c e (on-descendant u) v o q (i, w) = below-typed (e .type) (allBelow s (e .type)) (e .context) v o u i (λ n h. h) w
   move-typed c e (here-or-below {x = x}) v o q (i, w) =
       let l = allBelow s (e .type) in
-      (in-union (e .type) l (name-in s law x v) (inl i), union-within (e .context) (union s (e .type) l) x v w)
+      (in-union (e .type) l (name-in s law x v) (inl i), union-within (e .context) (unionOf s (e .type) l) x v w)
   move-typed c e (below-or-here u) v o q (i, w) =
       let l = allBelow s (e .type) in
-      below-typed (e .type) (union s (e .type) l) (e .context) v o u i
+      below-typed (e .type) (unionOf s (e .type) l) (e .context) v o u i
       (λ n j. in-union (e .type) l (filter-in (λ m. anyOf (λ b. isBelow s b m) (e .type)) (s .names) j .0) (inr j)) w
   move-typed c e (on-parent g) v o q f = parent-typed c e g v o f
   move-typed c e (on-ancestor {x = x} {y = y} u) v o q (i, w) =
@@ -110,13 +110,13 @@ module _ (s : Types) (law : Lawful s) where
   move-typed c e (here-or-above {x = x}) v o q (i, w) =
       let k = e .context in
       let l = within (allAbove s (e .type)) k in
-      let j : In (nameOf x) (union s (e .type) l) = in-union (e .type) l (name-in s law x v) (inl i) in
-      (j, cut-within (union s (e .type) l) k x v w j)
+      let j : In (nameOf x) (unionOf s (e .type) l) = in-union (e .type) l (name-in s law x v) (inl i) in
+      (j, cut-within (unionOf s (e .type) l) k x v w j)
   move-typed c e (above-or-here {x = x} {y = y} u) v o q (i, w) =
       let k = e .context in
       let l = within (allAbove s (e .type)) k in
-      let j : In (nameOf y) (union s (e .type) l) = in-union (e .type) l (name-in s law y o) (inr (above-in (e .type) k u v o i w)) in
-      (j, cut-within (union s (e .type) l) k y o (above-within k u w) j)
+      let j : In (nameOf y) (unionOf s (e .type) l) = in-union (e .type) l (name-in s law y o) (inr (above-in (e .type) k u v o i w)) in
+      (j, cut-within (unionOf s (e .type) l) k y o (above-within k u w) j)
 
   -- ---- nodes on an axis have names that can be neighbours on a walk
   same-or : (a b : Name) (r : Bool) → T r → T (sameName a b || r)
@@ -138,7 +138,7 @@ module _ (s : Types) (law : Lawful s) where
 
   -- ---- from a node whose ancestors are all in r an axis leads to such a node, if r has its name and the names between
   below-kept : (g h r : Names) {x y : Node} → Above x y → Valid s y → In (nameOf x) g → In (nameOf y) h → In (nameOf y) r
-      → Subset (within (allBelow s g) (allAbove s h)) r → Within r x → Within r y
+      → SubsetOf (within (allBelow s g) (allAbove s h)) r → Within r x → Within r y
   below-kept g h r {x} {y} u o i j l sub w =
       down-within s law r (nameOf y) w
       (λ m k b q.
@@ -146,7 +146,7 @@ module _ (s : Types) (law : Lawful s) where
       (λ c. sub m (in-within (in-below g i k b) (in-above h j k c))) q) u o (inl refl)
 
   pub axis-within : (g h r : Names) {a : Axis} {x y : Node} → OnAxis a x y → Valid s y → In (nameOf x) g → In (nameOf y) h → In (nameOf y) r
-      → Subset (between s a g h) r → Within r x → Within r y
+      → SubsetOf (between s a g h) r → Within r x → Within r y
   axis-within g h r on-self o i j l sub w = w
   axis-within g h r (on-child e) o i j l sub w = child-within r e l w
   axis-within g h r (on-descendant u) o i j l sub w = below-kept g h r u o i j l sub w

@@ -5,13 +5,13 @@ use mathlib.Core.List.{List, [], _∷_, _++_, List·Memᴰ as In}
 use mathlib.Core.Path.{_≡_, refl, sym, ap, subst, _∙_}
 use Prim.Native.Nat.{ℕ}
 use lib.Dec.{T}
-use Rattle.path_spec.specs.Paths.{Path}
+use Rattle.path_spec.specs.Paths.{LocationPath}
 use Rattle.path_spec.specs.Selection.{select, selectRows}
 use Rattle.projection_spec.specs.Extracts.Conditions.{SameTables}
 use Rattle.projection_spec.specs.Extracts.Cut.{cut}
 use Rattle.projection_spec.specs.Inference.Needed.{needed}
 use Rattle.projection_spec.specs.Laws.Cutting.{rows-cut}
-use Rattle.projection_spec.specs.Laws.Documents.{Subset, Lawful}
+use Rattle.projection_spec.specs.Laws.Documents.{SubsetOf, Lawful}
 use Rattle.projection_spec.specs.Laws.Nodes.{select-cut, path-needed}
 use Rattle.projection_spec.specs.Laws.Rows.{rows-valid}
 use Rattle.projection_spec.specs.Laws.SameTables.{same-nodes}
@@ -21,13 +21,13 @@ use Rattle.table_spec.specs.Nodes.{Node, nodesOf}
 use Rattle.table_spec.specs.Rows.{Row}
 use Rattle.table_spec.specs.Tables.{wellFormed}
 
-pub cut-selects-same : (s : Types) → Lawful s → (lent : List ℕ) (rows : List Row) → T (wellFormed s rows) → (ps : List (Path ℕ)) (p : Path ℕ) → In p ps
-    → (set : Names) → Subset (needed s ps) set → selectRows lent (cut set rows) p ≡ selectRows lent rows p
+pub cut-selects-same : (s : Types) → Lawful s → (lent : List ℕ) (rows : List Row) → T (wellFormed s rows) → (ps : List (LocationPath ℕ)) (p : LocationPath ℕ) → In p ps
+    → (set : Names) → SubsetOf (needed s ps) set → selectRows lent (cut set rows) p ≡ selectRows lent rows p
 unfolding selectRows
 cut-selects-same s law lent rows ok ps p i set enough =
     ap (λ (doc : List Node). select doc p) (rows-cut s set lent rows ok)
     ∙ sym (select-cut s law p (nodesOf lent rows) (rows-valid s lent rows ok) set (λ n j. enough n (path-needed s ps i n j)))
 
-pub same-tables-select : {lent lent′ : List ℕ} {qs rs : List Row} → SameTables lent lent′ qs rs → (p : Path ℕ) → selectRows lent qs p ≡ selectRows lent′ rs p
+pub same-tables-select : {lent lent′ : List ℕ} {qs rs : List Row} → SameTables lent lent′ qs rs → (p : LocationPath ℕ) → selectRows lent qs p ≡ selectRows lent′ rs p
 unfolding selectRows
 same-tables-select t p = ap (λ (doc : List Node). select doc p) (same-nodes t)

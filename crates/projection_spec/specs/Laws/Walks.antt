@@ -6,10 +6,10 @@ use mathlib.Core.Path.{_≡_, refl, sym, ap, subst, _∙_}
 use Prim.Native.Nat.{ℕ, _<_}
 use lib.Dec.{T}
 use lib.ListN.{length}
-use Rattle.path_spec.specs.Paths.{Axis, self, child, descendant, descendantOrSelf, parent, ancestor, ancestorOrSelf, NodeTest, Step, PlainStep, Condition, Path, expand}
+use Rattle.path_spec.specs.Paths.{Axis, self, child, descendant, descendantOrSelf, parent, ancestor, ancestorOrSelf, NodeTest, Step, PlainStep, Condition, LocationPath, expand}
 use Rattle.path_spec.specs.Selection.{passes}
 use Rattle.projection_spec.specs.Inference.Needed.{linked, between, complete, need, keepsAll, wantsNothing, keepsName, wantsNames, fromRoot, atRoot, neededBeforeFilter, neededByPath, needed}
-use Rattle.projection_spec.specs.Inference.Types.{Env, env, heldBy, holding, allBelow, allAbove, union, cutTo, move, narrow, infer}
+use Rattle.projection_spec.specs.Inference.Types.{Env, env, heldBy, holding, allBelow, allAbove, unionOf, cutTo, move, narrow, infer}
 use Rattle.projection_spec.specs.Inference.Walks as walks
 use Rattle.projection_spec.specs.Inference.Walks.{Linked, by-self, by-child, by-descendant, stays-down, goes-down, by-parent, by-ancestor, stays-up, goes-up, Passing, descends, descends-or-stays, Walk, at-last, onward, Asks, own, conditional, later, Needs, WantsNothing, WantsNames, by-alternative, PathNeeds, Reached, root, next, BundleNeeds, by-path}
 use Rattle.projection_spec.specs.Laws.Documents.{Lawful}
@@ -85,7 +85,7 @@ module _ (s : Schema) (full : 0 < length s) (closed : Closed s) where
   moved : (t : Names) (b : Name) (f : Name → Name → Bool) → (a : Name) × In a t × T (f a b) → (a : Name) × In a t × T (sameName a b || f a b)
   moved t b f (a, i, h) = (a, i, or-right (sameName a b) (f a b) h)
 
-  union-in : (a b : Names) {n : Name} → In n (union types a b) → In n a ⊎ In n b
+  union-in : (a b : Names) {n : Name} → In n (unionOf types a b) → In n a ⊎ In n b
   union-in a b {n} i =
       ⊎-elim (λ h. inl (has-in n a h)) (λ h. inr (has-in n b h)) (or-cases (has n a) (has n b) (filter-in (λ m. has m a || has m b) (types .names) i .1))
 
@@ -272,11 +272,11 @@ module _ (s : Schema) (full : 0 < length s) (closed : Closed s) where
       wanted k c a n (by-alternative q i z) =
           in-gather (λ l. need types keepsAll wantsNothing (expand l) (env (a ∷ []) k)) i (need-complete keepsAll wantsNothing WantsNothing plain-listed (expand q) (env (a ∷ []) k) z)
 
-  pub path-needs : (p : Path ℕ) (n : Name) → In n (neededBeforeFilter types p) → PathNeeds s p n
+  pub path-needs : (p : LocationPath ℕ) (n : Name) → In n (neededBeforeFilter types p) → PathNeeds s p n
   unfolding neededBeforeFilter
   path-needs p n i = need-sound (keepsName types) (wantsNames types) (WantsNames s) condition-listed (expand p) (atRoot types) i
 
-  pub needs-path : (p : Path ℕ) (n : Name) → PathNeeds s p n → In n (neededBeforeFilter types p)
+  pub needs-path : (p : LocationPath ℕ) (n : Name) → PathNeeds s p n → In n (neededBeforeFilter types p)
   unfolding neededBeforeFilter
   needs-path p n z = need-complete (keepsName types) (wantsNames types) (WantsNames s) condition-listed (expand p) (atRoot types) z
 
@@ -322,13 +322,13 @@ module _ (s : Schema) (full : 0 < length s) (closed : Closed s) where
         (λ c. or-right (sameName (types .root) n) (related (closure inside (types .holds)) (types .root) n) (chain-closure inside (types .holds) c)) (h .1))
 
   -- THE THEOREM: a bundle's computed names are those that document 01's walks need
-  pub needed-sound : (ps : List (Path ℕ)) (n : Name) → In n (needed types ps) → BundleNeeds s ps n
+  pub needed-sound : (ps : List (LocationPath ℕ)) (n : Name) → In n (needed types ps) → BundleNeeds s ps n
   unfolding needed neededByPath
   needed-sound ps n i =
       let g = gather-in (neededByPath types) ps (within-in (types .names) (gather (neededByPath types) ps) i .1) in
       by-path (g .0) (g .1) (filter-reached (neededBeforeFilter types (g .0)) (PathNeeds s (g .0)) (path-needs (g .0)) n (g .2))
 
-  pub needed-complete : (ps : List (Path ℕ)) (n : Name) → BundleNeeds s ps n → In n (needed types ps)
+  pub needed-complete : (ps : List (LocationPath ℕ)) (n : Name) → BundleNeeds s ps n → In n (needed types ps)
   unfolding needed neededByPath
   needed-complete ps n (by-path p i z) =
       let j = reached-filter (neededBeforeFilter types p) (PathNeeds s p) (needs-path p) n z in

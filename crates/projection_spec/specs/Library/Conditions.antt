@@ -9,7 +9,7 @@ use lib.Dec.{T}
 use lib.ListN.{length, getElem?}
 use Rattle.journal_spec.specs.Conditions.{JournalApplies, JournalGives}
 use Rattle.path_spec.specs.Conditions.{BundleApplies, BundleGives}
-use Rattle.path_spec.specs.Paths.{Path}
+use Rattle.path_spec.specs.Paths.{LocationPath}
 use Rattle.path_spec.specs.Selection.{Selected, selectRows}
 use Rattle.projection_spec.specs.Extracts.Conditions.{ExtractApplies, ExtractGives}
 use Rattle.projection_spec.specs.Extracts.Cut.{cut}
@@ -33,7 +33,7 @@ use Rattle.text_spec.specs.Refusals.{Reason, Outcome, accepted, refused, Judged
 abbrev pub SchemaTaken : List ℕ → Schema → Type 0
 SchemaTaken text s = Judged (SchemaApplies text) (SchemaGives text) (accepted s)
 
-abbrev pub BundleTaken : Schema → List ℕ → List (Path ℕ) → Type 0
+abbrev pub BundleTaken : Schema → List ℕ → List (LocationPath ℕ) → Type 0
 BundleTaken s text ps = Judged (BundleApplies s text) (BundleGives s text) (accepted ps)
 
 abbrev pub JournalTaken : ℕ → Schema → List ℕ → List Row → Type 0
@@ -47,7 +47,7 @@ pub data SchemaHanded : TextRecord → Type 0 where
   of-schema : (r : List ℕ) → SchemaProducible r → SchemaHanded (recordOf maxSchemaBytes r)
 
 pub data BundleHanded (s : Schema) : TextRecord → Type 0 where
-  of-bundle : {ps : List (Path ℕ)} (r : List ℕ) → BundleTaken s r ps → BundleHanded s (recordOf maxBundleBytes r)
+  of-bundle : {ps : List (LocationPath ℕ)} (r : List ℕ) → BundleTaken s r ps → BundleHanded s (recordOf maxBundleBytes r)
 
 pub data EqualSizes : Sizes → Type 0 where
   equal-sizes : {n : ℕ} → EqualSizes (record { numbers = n; names = n; parents = n; starts = n; lengths = n })
@@ -71,19 +71,19 @@ pub data Makes (schema bundle journal : List ℕ) (z : Sizes) (size : ℕ) : Out
   by-schema : {r : Reason} {k : ℕ} → EqualSizes z → IsFirst (SchemaApplies schema) r k → Makes schema bundle journal z size (refused (at r k))
   by-bundle : {s : Schema} {r : Reason} {k : ℕ} → EqualSizes z → SchemaTaken schema s → IsFirst (BundleApplies s bundle) r k
       → Makes schema bundle journal z size (refused (at r k))
-  by-journal : {s : Schema} {ps : List (Path ℕ)} {r : Reason} {k : ℕ} → EqualSizes z → SchemaTaken schema s → BundleTaken s bundle ps
+  by-journal : {s : Schema} {ps : List (LocationPath ℕ)} {r : Reason} {k : ℕ} → EqualSizes z → SchemaTaken schema s → BundleTaken s bundle ps
       → IsFirst (JournalApplies maxJournalBytes s journal) r k → Makes schema bundle journal z size (refused (at r k))
-  by-18 : {s : Schema} {ps : List (Path ℕ)} {rows : List Row} → EqualSizes z → SchemaTaken schema s → BundleTaken s bundle ps
+  by-18 : {s : Schema} {ps : List (LocationPath ℕ)} {rows : List Row} → EqualSizes z → SchemaTaken schema s → BundleTaken s bundle ps
       → JournalTaken maxJournalBytes s journal rows → TooFewCells z size (answer rows (extractOf s ps journal rows))
       → Makes schema bundle journal z size (refused (at tooFewCells 0))
-  makes : {s : Schema} {ps : List (Path ℕ)} {rows : List Row} → EqualSizes z → SchemaTaken schema s → BundleTaken s bundle ps
+  makes : {s : Schema} {ps : List (LocationPath ℕ)} {rows : List Row} → EqualSizes z → SchemaTaken schema s → BundleTaken s bundle ps
       → JournalTaken maxJournalBytes s journal rows → (TooFewCells z size (answer rows (extractOf s ps journal rows)) → ⊥)
       → Makes schema bundle journal z size (accepted (answer rows (extractOf s ps journal rows)))
 
 -- "path number out of range: 1"
 pub data OutOfRange (schema bundle : List ℕ) (path : ℕ) : Type 0 where
   never : maxPaths ≤ path → OutOfRange schema bundle path
-  not-here : {s : Schema} {ps : List (Path ℕ)} → SchemaTaken schema s → BundleTaken s bundle ps → length ps ≤ path → OutOfRange schema bundle path
+  not-here : {s : Schema} {ps : List (LocationPath ℕ)} → SchemaTaken schema s → BundleTaken s bundle ps → length ps ≤ path → OutOfRange schema bundle path
 
 -- Selecting from an extract:
 pub data Selects (schema bundle : List ℕ) (path : ℕ) (extract : List ℕ) (z : Sizes) (size : ℕ) : Outcome Answer → Type 0 where
@@ -92,34 +92,34 @@ pub data Selects (schema bundle : List ℕ) (path : ℕ) (extract : List ℕ) (z
       → Selects schema bundle path extract z size (refused (at r k))
   by-bundle : {s : Schema} {r : Reason} {k : ℕ} → EqualSizes z → (OutOfRange schema bundle path → ⊥) → SchemaTaken schema s
       → IsFirst (BundleApplies s bundle) r k → Selects schema bundle path extract z size (refused (at r k))
-  by-extract : {s : Schema} {ps : List (Path ℕ)} {p : Path ℕ} {r : Reason} {k : ℕ} → EqualSizes z → SchemaTaken schema s → BundleTaken s bundle ps
+  by-extract : {s : Schema} {ps : List (LocationPath ℕ)} {p : LocationPath ℕ} {r : Reason} {k : ℕ} → EqualSizes z → SchemaTaken schema s → BundleTaken s bundle ps
       → getElem? ps path ≡ some p → IsFirst (ExtractApplies (typesOf s) extract) r k → Selects schema bundle path extract z size (refused (at r k))
-  by-18 : {s : Schema} {ps : List (Path ℕ)} {p : Path ℕ} {rows : List Row} → EqualSizes z → SchemaTaken schema s → BundleTaken s bundle ps
+  by-18 : {s : Schema} {ps : List (LocationPath ℕ)} {p : LocationPath ℕ} {rows : List Row} → EqualSizes z → SchemaTaken schema s → BundleTaken s bundle ps
       → getElem? ps path ≡ some p → ExtractTaken s extract rows → TooFewCells z size (answer rows (selectRows extract rows p))
       → Selects schema bundle path extract z size (refused (at tooFewCells 0))
-  selects : {s : Schema} {ps : List (Path ℕ)} {p : Path ℕ} {rows : List Row} → EqualSizes z → SchemaTaken schema s → BundleTaken s bundle ps
+  selects : {s : Schema} {ps : List (LocationPath ℕ)} {p : LocationPath ℕ} {rows : List Row} → EqualSizes z → SchemaTaken schema s → BundleTaken s bundle ps
       → getElem? ps path ≡ some p → ExtractTaken s extract rows → (TooFewCells z size (answer rows (selectRows extract rows p)) → ⊥)
       → Selects schema bundle path extract z size (accepted (answer rows (selectRows extract rows p)))
 
 -- the nodes that some path of the bundle selects, in document order and once each
-pub record Chosen (doc : List Node) (ps : List (Path ℕ)) (ys : List Node) : Type 0 where
+pub record Chosen (doc : List Node) (ps : List (LocationPath ℕ)) (ys : List Node) : Type 0 where
   pub test : Node → Bool
   pub listed : ys ≡ filterBy test doc
-  pub sound : (y : Node) → List·Memᴰ y doc → T (test y) → (p : Path ℕ) × List·Memᴰ p ps × Selected doc p y
-  pub complete : (y : Node) (p : Path ℕ) → List·Memᴰ p ps → Selected doc p y → T (test y)
+  pub sound : (y : Node) → List·Memᴰ y doc → T (test y) → (p : LocationPath ℕ) × List·Memᴰ p ps × Selected doc p y
+  pub complete : (y : Node) (p : LocationPath ℕ) → List·Memᴰ p ps → Selected doc p y → T (test y)
 
 -- "place in the bundle (from 1) of the first path that selects it"
-pub record FirstPath (doc : List Node) (ps : List (Path ℕ)) (y : Node) (place : ℕ) : Type 0 where
-  pub before : List (Path ℕ)
-  pub path : Path ℕ
-  pub after : List (Path ℕ)
+pub record FirstPath (doc : List Node) (ps : List (LocationPath ℕ)) (y : Node) (place : ℕ) : Type 0 where
+  pub before : List (LocationPath ℕ)
+  pub path : LocationPath ℕ
+  pub after : List (LocationPath ℕ)
   pub joined : ps ≡ before ++ (path ∷ after)
   pub placed : place ≡ suc (length before)
   pub selects : Selected doc path y
-  pub none-before : (p : Path ℕ) → List·Memᴰ p before → Selected doc p y → ⊥
+  pub none-before : (p : LocationPath ℕ) → List·Memᴰ p before → Selected doc p y → ⊥
 
 -- "Then per selected node, in document order: number, place in the bundle .., and the chain of tags"
-pub data Lines (s : Schema) (doc : List Node) (ps : List (Path ℕ)) : List Node → List ℕ → Type 0 where
+pub data Lines (s : Schema) (doc : List Node) (ps : List (LocationPath ℕ)) : List Node → List ℕ → Type 0 where
   no-lines : Lines s doc ps [] []
   next-line : {y : Node} {ys : List Node} {rest : List ℕ} (place : ℕ) → FirstPath doc ps y place → Lines s doc ps ys rest
       → Lines s doc ps (y ∷ ys) ((decimal (numberOf y) ++ (bytes " " ++ (decimal place ++ (bytes " " ++ (chain s y ++ lineFeed))))) ++ rest)
@@ -129,11 +129,11 @@ pub data Prints (schema bundle journal : List ℕ) : List ℕ → Type 0 where
   schema-refused : {r : Reason} {k : ℕ} → IsFirst (SchemaApplies schema) r k → Prints schema bundle journal (refusedLine (at r k))
   bundle-refused : {s : Schema} {r : Reason} {k : ℕ} → SchemaTaken schema s → IsFirst (BundleApplies s bundle) r k
       → Prints schema bundle journal (refusedLine (at r k))
-  journal-refused : {s : Schema} {ps : List (Path ℕ)} {r : Reason} {k : ℕ} → SchemaTaken schema s → BundleTaken s bundle ps
+  journal-refused : {s : Schema} {ps : List (LocationPath ℕ)} {r : Reason} {k : ℕ} → SchemaTaken schema s → BundleTaken s bundle ps
       → IsFirst (JournalApplies listingJournalBytes s journal) r k → Prints schema bundle journal (refusedLine (at r k))
-  too-many-rows : {s : Schema} {ps : List (Path ℕ)} {rows : List Row} → SchemaTaken schema s → BundleTaken s bundle ps
+  too-many-rows : {s : Schema} {ps : List (LocationPath ℕ)} {rows : List Row} → SchemaTaken schema s → BundleTaken s bundle ps
       → JournalTaken listingJournalBytes s journal rows → listingRows < length rows → Prints schema bundle journal (refusedLine (at tooFewCells 0))
-  lists : {s : Schema} {ps : List (Path ℕ)} {rows : List Row} {ys : List Node} {lines : List ℕ} → SchemaTaken schema s → BundleTaken s bundle ps
+  lists : {s : Schema} {ps : List (LocationPath ℕ)} {rows : List Row} {ys : List Node} {lines : List ℕ} → SchemaTaken schema s → BundleTaken s bundle ps
       → JournalTaken listingJournalBytes s journal rows → length rows ≤ listingRows → Chosen (nodesOf journal rows) ps ys
       → Lines s (nodesOf journal rows) ps ys lines
       → Prints schema bundle journal (header (length ys) (length (cut (needed (typesOf s) ps) rows)) (length rows) ++ lines)

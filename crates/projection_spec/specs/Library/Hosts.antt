@@ -10,7 +10,7 @@ use Rattle.projection_spec.specs.Extracts.Fields.{writeExtract}
 use Rattle.projection_spec.specs.Extracts.Reading.{readExtract}
 use Rattle.journal_spec.specs.Reading.{readJournal}
 use Rattle.projection_spec.specs.Library.Lent.{Sizes, equalSizes, Columns, columnsOf, padded, tooSmall}
-use Rattle.path_spec.specs.Paths.{Path}
+use Rattle.path_spec.specs.Paths.{LocationPath}
 use Rattle.path_spec.specs.Reading.{readBundle}
 use Rattle.path_spec.specs.Selection.{selectRows}
 use Rattle.schema_spec.specs.Reading.{readSchema}
@@ -30,7 +30,7 @@ abbrev pub answer : List Row → List ℕ → Answer
 answer rows items = record { rows = rows; items = items }
 
 -- "the extract made holds the journal's rows cut to the bundle's needed names"
-unfoldable pub extractOf : Schema → List (Path ℕ) → List ℕ → List Row → List ℕ
+unfoldable pub extractOf : Schema → List (LocationPath ℕ) → List ℕ → List Row → List ℕ
 extractOf s ps journal rows = writeExtract journal (cut (needed (typesOf s) ps) rows)
 
 -- 1 is tested before any text, 18 last
@@ -50,20 +50,20 @@ makeExtract schema bundle journal z size =
     inCells z size (answer rows (extractOf s ps journal rows))))))
 
 -- the paths of a bundle under a schema
-unfoldable pub pathsOf : List ℕ → List ℕ → Outcome (List (Path ℕ))
+unfoldable pub pathsOf : List ℕ → List ℕ → Outcome (List (LocationPath ℕ))
 pathsOf schema bundle = andThen (readSchema schema) (λ s. readBundle s bundle)
 
 -- "path number out of range: 1": no bundle has such a path, or this one has not; a bundle that is refused has no range
-abbrev pub inRange : ℕ → Outcome (List (Path ℕ)) → Bool
+abbrev pub inRange : ℕ → Outcome (List (LocationPath ℕ)) → Bool
 inRange i (accepted ps) = not (leb (length ps) i)
 inRange i (refused f) = not (leb maxPaths i)
 
-abbrev pub pathOr : Option (Path ℕ) → Path ℕ
+abbrev pub pathOr : Option (LocationPath ℕ) → LocationPath ℕ
 pathOr none = []
 pathOr (some p) = p
 
 -- the path of a bundle by its number, counted from 0
-abbrev pub pathAt : List (Path ℕ) → ℕ → Path ℕ
+abbrev pub pathAt : List (LocationPath ℕ) → ℕ → LocationPath ℕ
 pathAt ps i = pathOr (getElem? ps i)
 
 -- "On an extract a path selects what it selects on the extract's rows, read with that schema."

@@ -57,7 +57,7 @@ columnsOf z rows =
       names = padded (z .names) (map (λ r. codeOf (r .name)) rows);
       parents = padded (z .parents) (map (λ r. r .parent) rows);
       starts = padded (z .starts) (map (λ r. r .start) rows);
-      lengths = padded (z .lengths) (map (λ r. r .length) rows);
+      lengths = padded (z .lengths) (map (λ r. r .size) rows);
     }
 
 -- 18. "A lent output has fewer cells than the answer takes."

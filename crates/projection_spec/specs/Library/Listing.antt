@@ -8,7 +8,7 @@ use lib.ListN.{length}
 use Rattle.projection_spec.specs.Extracts.Cut.{cut}
 use Rattle.journal_spec.specs.Reading.{readJournal}
 use Rattle.projection_spec.specs.Library.Lent.{tooSmall}
-use Rattle.path_spec.specs.Paths.{Path}
+use Rattle.path_spec.specs.Paths.{LocationPath}
 use Rattle.path_spec.specs.Reading.{readBundle}
 use Rattle.path_spec.specs.Selection.{select}
 use Rattle.schema_spec.specs.Names.{Name, element, text}
@@ -42,7 +42,7 @@ pub record Listed : Type 0 where
   pub kept : ℕ
   pub selections : List (List ℕ)
 
-abbrev pub listed : Schema → List (Path ℕ) → List ℕ → List Row → Listed
+abbrev pub listed : Schema → List (LocationPath ℕ) → List ℕ → List Row → Listed
 listed s ps journal rows =
     let doc = nodesOf journal rows in
     record { schema = s; nodes = doc; kept = length (cut (needed (typesOf s) ps) rows); selections = map (select doc) ps }

@@ -40,7 +40,7 @@ passesBundle s r = isRecord maxBundleBytes r && isBundleRecord s (textIn r)
 -- the first rows of lent columns, as many as are said to be rows
 abbrev pub cellsAt : Columns → ℕ → Cells
 cellsAt c i =
-    record { number = getD (c .numbers) i 0; name = getD (c .names) i 0; parent = getD (c .parents) i 0; start = getD (c .starts) i 0; length = getD (c .lengths) i 0 }
+    record { number = getD (c .numbers) i 0; name = getD (c .names) i 0; parent = getD (c .parents) i 0; start = getD (c .starts) i 0; size = getD (c .lengths) i 0 }
 
 abbrev pub cellsFrom : Columns → ℕ → ℕ → List Cells
 cellsFrom c i zero = []
