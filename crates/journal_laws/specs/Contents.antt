@@ -1,7 +1,7 @@
 -- Refusals 14 and 15 over trees: the faults found are the elements that are undeclared or whose content does not fit. Assumes nothing.
 use mathlib.Core.Bool.{Bool, not, _||_}
 use mathlib.Core.List.{List, [], _∷_, _++_, List·Memᴰ as In, List·Memᴰ·append-cases as append-cases, Memᴰ·append-left as append-left, Memᴰ·append-right as append-right}
-use mathlib.Core.Logic.{_⊎_, inl, inr}
+use mathlib.Core.Logic.{_⊎_, inl, inr, ⊎-elim}
 use mathlib.Core.Option.{Option, none, some}
 use mathlib.Core.Path.{_≡_, refl, sym, ap, subst, _∙_}
 use Prim.Native.Nat.{ℕ}
@@ -187,11 +187,12 @@ given-other b q k {r} {j} h i = h (ap (λ (f : Refusal). numberOf (f .reason)) (
 abbrev pub Misfits : Schema → ℕ → List ℕ → Forest → Type 0
 Misfits s k n c = (e : ℕ) × (elementNamed s n ≡ some e) × (ContentFits s (contentAt s e) c → ⊥)
 
-pub record Misfitting (s : Schema) (f : Forest) (k : ℕ) : Type 0 where
+-- an element of a forest that starts at a place, with a property of its place, name and content
+pub record FoundIn (P : ℕ → List ℕ → Forest → Type 0) (f : Forest) (k : ℕ) : Type 0 where
   pub name : List ℕ
   pub content : Forest
   pub occurs : Occurs k name content f
-  pub misfits : Misfits s k name content
+  pub so : P k name content
 
 -- character data is found over a limit, and for no other reason
 run-other : {r : Reason} {j : ℕ} → (numberOf r ≡ numberOf overNodeLimit → ⊥) → (a : Filling) (p k l : ℕ) (b : Filling) (fs : List Refusal) (rs : List Row) (n : ℕ)
@@ -238,50 +239,55 @@ end-15 {j} s k n c p e a h i q = by (append-cases (given (not (fitsAtEnd (afterF
         inl (ap (λ (r : Refusal). r .place) (g .1), misfit-at-end s k n c (subst (λ (z : Filling). T (not (fitsAtEnd z))) (sym y) (g .0)))
     by (inr x) = inr x
 
-pub forest-15 : {j : ℕ} (s : Schema) (p : ℕ) (f : Forest) (h : Held) → In (at badContent j) (afterForest s p f h .faults) → In (at badContent j) (h .faults) ⊎ Misfitting s f j
-unfolding afterForest
-forest-15 s p nothing h i = inl i
-forest-15 {j} s p (data-node k w f) h i = by (forest-15 s p f (afterRun p k w h) i)
-  where
-    by : In (at badContent j) (afterRun p k w h .faults) ⊎ Misfitting s f j → In (at badContent j) (h .faults) ⊎ Misfitting s (data-node k w f) j
-    by (inl x) = inl (run-other (λ e. omega arith) (h .filling) p k (length w) (withRun (isNone (solidFrom k w)) (h .filling)) (h .faults) (h .rows) (h .count) x)
-    by (inr x) = inr (record { name = x .name; content = x .content; occurs = after-data (x .occurs); misfits = x .misfits })
-forest-15 {j} s p (element-node k n c f) h i =
-    outer (forest-15 s p f (atEnd k (elementNamed s n) (h .filling) inner) i) (λ x. forest-15 s (h .count) c first x)
-  where
-    first : Held
-    first = atStart s p k (elementNamed s n) h
+-- What a forest finds for a reason was found before it, or an element of it has the property, where that is so of each element's start
+-- and end, and the reason is not 16.
+module _ (s : Schema) (r : Reason) (P : ℕ → List ℕ → Forest → Type 0) (h16 : numberOf r ≡ numberOf overNodeLimit → ⊥)
+    (starts : (j p k : ℕ) (n : List ℕ) (c : Forest) (h : Held) → In (at r j) (atStart s p k (elementNamed s n) h .faults)
+    → ((j ≡ k) × P k n c) ⊎ In (at r j) (h .faults))
+    (ends : (j p k : ℕ) (n : List ℕ) (c : Forest) (h : Held) → In (at r j) (atEnd k (elementNamed s n) (h .filling) (afterForest s (h .count) c (atStart s p k (elementNamed s n) h)) .faults)
+    → ((j ≡ k) × P k n c) ⊎ In (at r j) (afterForest s (h .count) c (atStart s p k (elementNamed s n) h) .faults)) where
+  forest-found : {j : ℕ} (p : ℕ) (f : Forest) (h : Held) → In (at r j) (afterForest s p f h .faults) → In (at r j) (h .faults) ⊎ FoundIn P f j
+  unfolding afterForest
+  forest-found p nothing h i = inl i
+  forest-found {j} p (data-node k w f) h i = by (forest-found p f (afterRun p k w h) i)
+    where
+      by : In (at r j) (afterRun p k w h .faults) ⊎ FoundIn P f j → In (at r j) (h .faults) ⊎ FoundIn P (data-node k w f) j
+      by (inl x) = inl (run-other h16 (h .filling) p k (length w) (withRun (isNone (solidFrom k w)) (h .filling)) (h .faults) (h .rows) (h .count) x)
+      by (inr x) = inr (record { name = x .name; content = x .content; occurs = after-data (x .occurs); so = x .so })
+  forest-found {j} p (element-node k n c f) h i =
+      outer (forest-found p f (atEnd k (elementNamed s n) (h .filling) inner) i) (λ x. forest-found (h .count) c first x)
+    where
+      first : Held
+      first = atStart s p k (elementNamed s n) h
 
-    inner : Held
-    inner = afterForest s (h .count) c first
+      inner : Held
+      inner = afterForest s (h .count) c first
 
-    whole : Forest
-    whole = element-node k n c f
+      Found : Type 0
+      Found = In (at r j) (h .faults) ⊎ FoundIn P (element-node k n c f) j
 
-    under-it : In (at badContent j) (first .faults) ⊎ Misfitting s c j → In (at badContent j) (h .faults) ⊎ Misfitting s whole j
-    under-it (inl x) = inl (start-no-15 s p k (elementNamed s n) h x)
-    under-it (inr x) = inr (record { name = x .name; content = x .content; occurs = inside (x .occurs); misfits = x .misfits })
+      itself : (j ≡ k) × P k n c → Found
+      itself x = inr (record { name = n; content = c; occurs = subst (λ (z : ℕ). Occurs z n c (element-node k n c f)) (sym (x .0)) occurs-here; so = subst (λ (z : ℕ). P z n c) (sym (x .0)) (x .1) })
 
-    itself : (j ≡ k) × Misfits s k n c → Misfitting s whole j
-    itself x =
-        record { name = n; content = c; occurs = subst (λ (z : ℕ). Occurs z n c whole) (sym (x .0)) occurs-here; misfits = x .1 }
+      under-it : In (at r j) (first .faults) ⊎ FoundIn P c j → Found
+      under-it (inl x) = ⊎-elim itself inl (starts j p k n c h x)
+      under-it (inr x) = inr (record { name = x .name; content = x .content; occurs = inside (x .occurs); so = x .so })
 
-    at-end : ((j ≡ k) × Misfits s k n c) ⊎ In (at badContent j) (inner .faults) → (In (at badContent j) (inner .faults) → In (at badContent j) (first .faults) ⊎ Misfitting s c j)
-        → In (at badContent j) (h .faults) ⊎ Misfitting s whole j
-    at-end (inl x) ih = inr (itself x)
-    at-end (inr x) ih = under-it (ih x)
+      outer : In (at r j) (atEnd k (elementNamed s n) (h .filling) inner .faults) ⊎ FoundIn P f j
+          → (In (at r j) (inner .faults) → In (at r j) (first .faults) ⊎ FoundIn P c j) → Found
+      outer (inl x) ih = ⊎-elim itself (λ y. under-it (ih y)) (ends j p k n c h x)
+      outer (inr x) ih = inr (record { name = x .name; content = x .content; occurs = after-element (x .occurs); so = x .so })
 
-    outer : In (at badContent j) (atEnd k (elementNamed s n) (h .filling) inner .faults) ⊎ Misfitting s f j
-        → (In (at badContent j) (inner .faults) → In (at badContent j) (first .faults) ⊎ Misfitting s c j) → In (at badContent j) (h .faults) ⊎ Misfitting s whole j
-    outer (inl x) ih = at-end (end-15 s k n c (h .count) (elementNamed s n) (h .filling) first x refl) ih
-    outer (inr x) ih = inr (record { name = x .name; content = x .content; occurs = after-element (x .occurs); misfits = x .misfits })
+pub forest-15 : {j : ℕ} (s : Schema) (p : ℕ) (f : Forest) (h : Held) → In (at badContent j) (afterForest s p f h .faults)
+    → In (at badContent j) (h .faults) ⊎ FoundIn (Misfits s) f j
+forest-15 s p f h i =
+    forest-found s badContent (Misfits s) (λ e. omega arith)
+    (λ j p k n c h x. inr (start-no-15 s p k (elementNamed s n) h x))
+    (λ j p k n c h x. end-15 s k n c (h .count) (elementNamed s n) (h .filling) (atStart s p k (elementNamed s n) h) x refl) p f h i
 
 -- 14 is found only for an undeclared element
-pub record UndeclaredIn (s : Schema) (f : Forest) (k : ℕ) : Type 0 where
-  pub name : List ℕ
-  pub content : Forest
-  pub occurs : Occurs k name content f
-  pub undeclared : T (isNone (elementNamed s name))
+abbrev pub Undeclared : Schema → ℕ → List ℕ → Forest → Type 0
+Undeclared s k n c = T (isNone (elementNamed s n))
 
 start-14 : {j : ℕ} (s : Schema) (p k : ℕ) (e : Option ℕ) (h : Held) → In (at undeclaredElement j) (atStart s p k e h .faults)
     → ((j ≡ k) × T (isNone e)) ⊎ In (at undeclaredElement j) (h .faults)
@@ -307,38 +313,11 @@ end-no-14 {j} k e a h i = by (append-cases (given (not (fitsAtEnd (h .filling)))
     by (inr x) = x
 
 pub forest-14 : {j : ℕ} (s : Schema) (p : ℕ) (f : Forest) (h : Held) → In (at undeclaredElement j) (afterForest s p f h .faults)
-    → In (at undeclaredElement j) (h .faults) ⊎ UndeclaredIn s f j
-unfolding afterForest
-forest-14 s p nothing h i = inl i
-forest-14 {j} s p (data-node k w f) h i = by (forest-14 s p f (afterRun p k w h) i)
-  where
-    by : In (at undeclaredElement j) (afterRun p k w h .faults) ⊎ UndeclaredIn s f j → In (at undeclaredElement j) (h .faults) ⊎ UndeclaredIn s (data-node k w f) j
-    by (inl x) = inl (run-other (λ e. omega arith) (h .filling) p k (length w) (withRun (isNone (solidFrom k w)) (h .filling)) (h .faults) (h .rows) (h .count) x)
-    by (inr x) = inr (record { name = x .name; content = x .content; occurs = after-data (x .occurs); undeclared = x .undeclared })
-forest-14 {j} s p (element-node k n c f) h i =
-    outer (forest-14 s p f (atEnd k (elementNamed s n) (h .filling) inner) i) (λ x. forest-14 s (h .count) c first x)
-  where
-    first : Held
-    first = atStart s p k (elementNamed s n) h
-
-    inner : Held
-    inner = afterForest s (h .count) c first
-
-    Found : Type 0
-    Found = In (at undeclaredElement j) (h .faults) ⊎ UndeclaredIn s (element-node k n c f) j
-
-    started : ((j ≡ k) × T (isNone (elementNamed s n))) ⊎ In (at undeclaredElement j) (h .faults) → Found
-    started (inl x) = inr (record { name = n; content = c; occurs = subst (λ (z : ℕ). Occurs z n c (element-node k n c f)) (sym (x .0)) occurs-here; undeclared = x .1 })
-    started (inr x) = inl x
-
-    under-it : In (at undeclaredElement j) (first .faults) ⊎ UndeclaredIn s c j → Found
-    under-it (inl x) = started (start-14 s p k (elementNamed s n) h x)
-    under-it (inr x) = inr (record { name = x .name; content = x .content; occurs = inside (x .occurs); undeclared = x .undeclared })
-
-    outer : In (at undeclaredElement j) (atEnd k (elementNamed s n) (h .filling) inner .faults) ⊎ UndeclaredIn s f j
-        → (In (at undeclaredElement j) (inner .faults) → In (at undeclaredElement j) (first .faults) ⊎ UndeclaredIn s c j) → Found
-    outer (inl x) ih = under-it (ih (end-no-14 k (elementNamed s n) (h .filling) inner x))
-    outer (inr x) ih = inr (record { name = x .name; content = x .content; occurs = after-element (x .occurs); undeclared = x .undeclared })
+    → In (at undeclaredElement j) (h .faults) ⊎ FoundIn (Undeclared s) f j
+forest-14 s p f h i =
+    forest-found s undeclaredElement (Undeclared s) (λ e. omega arith)
+    (λ j p k n c h x. start-14 s p k (elementNamed s n) h x)
+    (λ j p k n c h x. inr (end-no-14 k (elementNamed s n) (h .filling) (afterForest s (h .count) c (atStart s p k (elementNamed s n) h)) x)) p f h i
 
 -- ---- the whole tree
 
@@ -383,9 +362,9 @@ module _ (s : Schema) (k : ℕ) (n : List ℕ) (c : Forest) where
       first (inl x) = absurd (given-other (isNone (elementNamed s n)) undeclaredElement k (λ e. omega arith) x)
       first (inr x) = last (append-cases (given (wrongRoot [] (elementNamed s n)) (at badContent k)) x)
 
-      inner : In (at badContent j) (rootStart s k (elementNamed s n) .faults) ⊎ Misfitting s c j → Misplaced j
+      inner : In (at badContent j) (rootStart s k (elementNamed s n) .faults) ⊎ FoundIn (Misfits s) c j → Misplaced j
       inner (inl x) = first (append-cases (given (isNone (elementNamed s n)) (at undeclaredElement k)) x)
-      inner (inr x) = wrong-content (below (x .occurs)) (x .misfits)
+      inner (inr x) = wrong-content (below (x .occurs)) (x .so)
 
       by : ((j ≡ k) × Misfits s k n c) ⊎ In (at badContent j) (afterForest s 0 c (rootStart s k (elementNamed s n)) .faults) → Misplaced j
       by (inl x) = subst Misplaced (sym (x .0)) (wrong-content the-root (x .1))
@@ -407,6 +386,6 @@ module _ (s : Schema) (k : ℕ) (n : List ℕ) (c : Forest) where
           elim-last (inl y) = absurd (given-other (wrongRoot [] (elementNamed s n)) badContent k (λ e. omega arith) y)
           elim-last (inr y) = elim y [ ]
 
-      by : In (at undeclaredElement j) (rootStart s k (elementNamed s n) .faults) ⊎ UndeclaredIn s c j → (m : List ℕ) × (d : Forest) × InTree k n c j m d × T (isNone (elementNamed s m))
+      by : In (at undeclaredElement j) (rootStart s k (elementNamed s n) .faults) ⊎ FoundIn (Undeclared s) c j → (m : List ℕ) × (d : Forest) × InTree k n c j m d × T (isNone (elementNamed s m))
       by (inl x) = root-only (append-cases (given (isNone (elementNamed s n)) (at undeclaredElement k)) x)
-      by (inr x) = (x .name, x .content, below (x .occurs), x .undeclared)
+      by (inr x) = (x .name, x .content, below (x .occurs), x .so)
