@@ -1,11 +1,11 @@
 -- Whether some number below a bound passes a test. Assumes nothing.
-use mathlib.Core.Bool.{Bool, true, false, _||_}
+use mathlib.Core.Bool.{Bool, true, false, _&&_, _||_, and-or-distrib-right}
 use mathlib.Core.Logic.{⊎-elim}
-use mathlib.Core.Path.{_≡_, refl, ap₂, subst}
+use mathlib.Core.Path.{_≡_, refl, sym, ap, ap₂, subst, _∙_}
 use Prim.Native.Nat.{ℕ, zero, suc, _<_}
 use native.Mathlib.Omega.{arith}
 use lib.Dec.{T, eqb, eqb→eq, eqb-refl}
-use Rattle.text_laws.specs.Tests.{or-left, or-right, or-cases, decided}
+use Rattle.text_laws.specs.Tests.{or-left, or-right, or-cases, and-intro, and-cases, decided}
 
 -- two tests that pass together are equal
 pub same-test : (a b : Bool) → (T a → T b) → (T b → T a) → a ≡ b
@@ -38,3 +38,32 @@ below-any (suc n) f t =
 pub any-cong : (n : ℕ) (f g : ℕ → Bool) → ((i : ℕ) → i < n → f i ≡ g i) → anyBelow n f ≡ anyBelow n g
 any-cong zero f g h = refl
 any-cong (suc n) f g h = ap₂ _||_ (any-cong n f g (λ i l. h i (omega arith))) (h n (omega arith))
+
+-- what is said of a number alone
+pub any-only : (n k : ℕ) (f : ℕ → Bool) → k < n → anyBelow n (λ i. f i && eqb i k) ≡ f k
+any-only n k f h =
+    same-test (anyBelow n (λ i. f i && eqb i k)) (f k)
+    (λ t.
+    let r = below-any n (λ i. f i && eqb i k) t in
+    let c = and-cases (f (r .0)) (eqb (r .0) k) (r .2) in
+    subst (λ (i : ℕ). T (f i)) (eqb→eq (r .0) k (c .1)) (c .0))
+    (λ t. any-below n (λ i. f i && eqb i k) k h (and-intro (f k) (eqb k k) t (eqb-refl k)))
+
+pub any-none : (n : ℕ) → anyBelow n (λ i. false) ≡ false
+any-none zero = refl
+any-none (suc n) = ap (λ (b : Bool). b || false) (any-none n)
+
+-- a factor that is the same for all
+pub any-and : (n : ℕ) (f : ℕ → Bool) (c : Bool) → anyBelow n (λ i. f i && c) ≡ (anyBelow n f && c)
+any-and zero f c = refl
+any-and (suc n) f c = ap (λ (b : Bool). b || (f n && c)) (any-and n f c) ∙ sym (and-or-distrib-right (anyBelow n f) (f n) c)
+
+pub any-or : (n : ℕ) (f g : ℕ → Bool) → anyBelow n (λ i. f i || g i) ≡ (anyBelow n f || anyBelow n g)
+any-or zero f g = refl
+any-or (suc n) f g = ap (λ (b : Bool). b || (f n || g n)) (any-or n f g) ∙ exchange (anyBelow n f) (anyBelow n g) (f n) (g n)
+  where
+    exchange : (a b c d : Bool) → ((a || b) || (c || d)) ≡ ((a || c) || (b || d))
+    exchange true b c d = refl
+    exchange false true true d = refl
+    exchange false true false d = refl
+    exchange false false c d = refl
