@@ -1,15 +1,15 @@
 -- Warshall's rounds over elements: each round admits one more element on the way. Assumes nothing.
-use mathlib.Core.Bool.{Bool, true, false, cond, _&&_, _||_, or-false}
+use mathlib.Core.Bool.{Bool, true, false, cond, _&&_, _||_}
 use mathlib.Core.List.{List}
 use mathlib.Core.Logic.{_⊎_, inl, inr, ⊎-elim, _↔_}
 use mathlib.Core.Path.{_≡_, refl, sym, ap, ap₂, subst, _∙_}
 use Prim.Native.Nat.{ℕ, suc, _+_, _≤_, _<_}
 use native.Mathlib.Nat.{eq-or-lt-of-le, lt-suc-self}
 use native.Mathlib.Omega.{arith}
-use lib.Dec.{T, ltb, eqb, eqb→eq, eqb-refl, ltb→lt, lt→ltb}
+use lib.Dec.{T, ltb, eqb, eqb→eq, eqb-refl}
 use lib.ListN.{length, getD, set, List·getD-eq-default}
 use lib.Seq.{getD-set-same, getD-set-other}
-use borrow.Author.Tests.{lt-ltb, le-ltb, ltb-true, ltb-false, eqb-true, eqb-false}
+use borrow.Author.Tests.{lt-ltb, le-ltb, ltb-true, ltb-false}
 use Rattle.closures.specs.Tables.{relates, Below, one, more, throughElement, relatedTo}
 use Rattle.names.specs.Sets.{member, overlap, nothing}
 use Rattle.names.specs.SetLaws.{overlap-some}
@@ -17,7 +17,7 @@ use Rattle.names.specs.declared.NameSet.{NameSet}
 use Rattle.schema_spec.specs.Names.{Name, element, text, sameName}
 use Rattle.text_laws.specs.Tests.{or-left, or-right, or-cases, and-intro, and-cases, decided, failed, false-of}
 use Rattle.words.specs.Bits.{bit-none}
-use Rattle.words.specs.Searches.{same-test}
+use Rattle.words.specs.Searches.{before-next, one-more}
 
 module _ (rows : List NameSet) where
   wider : {n a : ℕ} {b : Name} → Below rows n a b → Below rows (suc n) a b
@@ -110,17 +110,6 @@ pub rounds-enough : (rows : List NameSet) (r count : ℕ) → (r ≡ count) ⊎ 
 rounds-enough rows r count (inl e) a b = (subst (λ (n : ℕ). Below rows n a b) e, subst (λ (n : ℕ). Below rows n a b) (sym e))
 rounds-enough rows r count (inr (e, h)) a b = (below-more rows (omega arith), below-fewer rows (omega arith))
 
--- what is not i is before i, or before the next, alike
-same-side : (a i : ℕ) → (a ≡ i → ⊥) → ltb a i ≡ ltb a (i + 1)
-same-side a i d =
-    same-test (ltb a i) (ltb a (i + 1))
-    (λ t.
-    let h = ltb→lt a i t in
-    lt→ltb a (i + 1) (omega arith))
-    (λ t.
-    let h = ltb→lt a (i + 1) t in
-    lt→ltb a i (omega arith))
-
 -- A round in place: the rows before i have had it.
 abbrev pub partly : List NameSet → ℕ → ℕ → ℕ → Name → Bool
 partly rows k i a b = cond (ltb a i) (throughElement rows k a b) (relates rows a b)
@@ -158,7 +147,7 @@ module _ (rows : List NameSet) (k : ℕ) where
       elsewhere : (a ≡ i → ⊥) → relates (set out i t) a b ≡ partly rows k (i + 1) a b
       elsewhere d =
           ap (λ (s : NameSet). member s b) (getD-set-other out i a t nothing d) ∙ inv a b
-          ∙ ap (λ (x : Bool). cond x (throughElement rows k a b) (relates rows a b)) (same-side a i d)
+          ∙ ap (λ (x : Bool). cond x (throughElement rows k a b) (relates rows a b)) (before-next a i d)
 
 -- the elements before i that are related to a name of a set
 abbrev pub holdersBefore : List NameSet → NameSet → ℕ → Name → Bool
@@ -195,14 +184,5 @@ module _ (rows : List NameSet) (s : NameSet) where
       → (n : Name) → member t n ≡ holdersBefore rows s (i + 1) n
   holders-next out t i inv new (text a) = new (text a) ∙ ap (λ (b : Bool). b || false) (inv (text a))
   holders-next out t i inv new (element a) =
-      new (element a) ∙ ap (λ (b : Bool). b || (eqb a i && overlap (getD rows i nothing) s)) (inv (element a)) ∙ pick (eqb a i) refl
-    where
-      pick : (b : Bool) → eqb a i ≡ b → ((ltb a i && overlap (getD rows a nothing) s) || (b && overlap (getD rows i nothing) s)) ≡ (ltb a (i + 1) && overlap (getD rows a nothing) s)
-      pick true e =
-          let q = eqb-true a i e in
-          ap (λ (b : Bool). (b && overlap (getD rows a nothing) s) || overlap (getD rows i nothing) s) (le-ltb a i (omega arith))
-          ∙ ap (λ (j : ℕ). overlap (getD rows j nothing) s) (sym q)
-          ∙ sym (ap (λ (b : Bool). b && overlap (getD rows a nothing) s) (lt-ltb a (i + 1) (omega arith)))
-      pick false e =
-          or-false (ltb a i && overlap (getD rows a nothing) s)
-          ∙ ap (λ (b : Bool). b && overlap (getD rows a nothing) s) (same-side a i (eqb-false a i e))
+      new (element a) ∙ ap (λ (b : Bool). b || (eqb a i && overlap (getD rows i nothing) s)) (inv (element a))
+      ∙ one-more (λ j. overlap (getD rows j nothing) s) i a

@@ -1,2 +1,5 @@
 pub mod Positions
 pub mod Marks
+pub mod Steps
+pub mod StepLaws
+pub mod Fitting

@@ -1,17 +1,17 @@
 -- Marks on a particle's names are sets of positions: the marks' end and their next marks are those that the sets of first, last and
 -- following positions give. Assumes nothing.
-use mathlib.Core.Bool.{Bool, true, false, _&&_, _||_, and-true, and-false, or-false}
-use mathlib.Core.List.{List, [], _∷_, _++_}
-use mathlib.Core.Logic.{_⊎_, inl, inr, ⊎-elim}
-use mathlib.Core.Path.{_≡_, refl, sym, ap, ap₂, subst, _∙_}
-use Prim.Native.Nat.{ℕ, zero, suc, _+_, _≤_, _<_}
+use mathlib.Core.Bool.{Bool, true, false, _&&_, _||_, and-false, or-false}
+use mathlib.Core.List.{_++_}
+use mathlib.Core.Logic.{⊎-elim}
+use mathlib.Core.Path.{_≡_, refl, sym, ap, ap₂, _∙_}
+use Prim.Native.Nat.{ℕ, _+_, _≤_, _<_}
 use native.Mathlib.Nat.{add-zero, add-assoc}
 use native.Mathlib.Omega.{arith}
 use lib.Dec.{T, eqb, eqb→eq, eqb-refl}
 use lib.ListN.{length, getD, length-append, List·getD-append}
 use lib.Seq.{getD-append-add}
 use Rattle.models.specs.Positions.{size, mayBeAbsent, isFirst, isLast, isNext, marked}
-use Rattle.schema_spec.specs.Models.{Particle, named, sequence, choice, repeated, uses, Position, position, unmarked, nullable, final, shift}
+use Rattle.schema_spec.specs.Models.{Particle, named, sequence, choice, repeated, uses, position, unmarked, nullable, final, shift}
 use Rattle.text_laws.specs.Tests.{or-cases, and-cases, true-of, false-of}
 use Rattle.words.specs.Searches.{anyBelow, any-cong, any-only, any-none, any-and, any-or}
 
@@ -66,7 +66,7 @@ next-range k (sequence p q) i j t =
     (r .0, omega arith))
     (λ h.
     let r = ⊎-elim (next-range (k + size p) q i j) (λ f. first-range (k + size p) q j (and-cases (isLast k p i) (isFirst (k + size p) q j) f .1))
-      (or-cases (isNext (k + size p) q i j) (isLast k p i && isFirst (k + size p) q j) h) in
+    (or-cases (isNext (k + size p) q i j) (isLast k p i && isFirst (k + size p) q j) h) in
     (omega arith, omega arith)) (or-cases (isNext k p i j) (isNext (k + size p) q i j || (isLast k p i && isFirst (k + size p) q j)) t)
 next-range k (choice p q) i j t =
     ⊎-elim (λ h.

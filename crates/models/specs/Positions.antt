@@ -1,6 +1,6 @@
 -- The positions of a content model: its names, numbered from left to right, and which may come first, last, and after which
 -- (Glushkov's sets). Assumes nothing.
-use mathlib.Core.Bool.{Bool, true, false, _&&_, _||_}
+use mathlib.Core.Bool.{Bool, false, _&&_, _||_}
 use Prim.Native.Nat.{ℕ, _+_}
 use lib.Dec.{eqb}
 use Rattle.schema_spec.specs.Models.{Particle, named, sequence, choice, repeated, Position, position}

@@ -1,4 +1,97 @@
-// Content models as sets of positions.
-pub fn nothing() -> u64 {
-    0
+// Content models in code: the names of a model are positions 0 to 63, and a state is a set of them.
+ghost use mathlib.Core.Bool.{Bool, _&&_, _||_};
+ghost use mathlib.Core.Path.{_≡_};
+ghost use Prim.Native.Nat.{ℕ, min, _<_, _≤_};
+ghost use lib.Dec.{eqb};
+ghost use lib.ListN.{length};
+ghost use Rattle.schema_spec.specs.Names.{hasBit};
+ghost use Rattle.models.specs.Steps.{entered, goesTo, comesNext, Stepped, mayEnd};
+
+// Where a model may begin and end: first and last positions, and whether it may have no child.
+pub struct Ends {
+    pub first: u64,
+    pub last: u64,
+    pub nullable: bool,
+}
+
+// How far the children read so far have come.
+pub enum State {
+    Start,
+    // the positions that the last child may have
+    Amid(u64),
+}
+
+// Whether the position `p` may be the next child's; `before` are the positions that it may come after.
+fn enters(ends: Ends, before: u64, state: State, p: usize) -> bool
+    ensures { λ r. ⌜ r ≡ entered ends before state p ⌝ }
+{
+    match state {
+        State::Start => words::has_bit(ends.first, p),
+        State::Amid(set) => words::meets(set, before),
+    }
+}
+
+// Whether the position `p`, of the element `here`, is the next child's.
+fn goes(ends: Ends, here: u8, before: u64, state: State, child: u8, p: usize) -> bool
+    ensures { λ r. ⌜ r ≡ goesTo ends here before state child p ⌝ }
+{
+    if here == child {
+        enters(ends, before, state, p)
+    } else {
+        false
+    }
+}
+
+// The set with `p` added if `test` holds.
+fn with_position(set: u64, p: usize, test: bool) -> u64
+    requires { ⌜ p < 64 ⌝ }
+    ensures { λ r. ⌜ ((j : ℕ) → hasBit r j ≡ (hasBit set j || (eqb j p && test))) ⌝ }
+{
+    if test { words::with_bit(set, p) } else { set }
+}
+
+fn fewer(a: usize, b: usize) -> usize
+    ensures { λ r. ⌜ r ≡ min a b ⌝ }
+{
+    if a < b { a } else { b }
+}
+
+// The positions that the next child may have.
+fn next_positions(
+    ends: Ends,
+    elements: &[u8],
+    predecessors: &[u64],
+    state: State,
+    child: u8,
+    count: usize,
+) -> u64
+    requires { ⌜ (count ≤ 64) × (count ≤ length (now elements)) × (count ≤ length (now predecessors)) ⌝ }
+    ensures { λ r. ⌜ ((j : ℕ) → hasBit r j ≡ comesNext ends (now (elements .entry)) (now (predecessors .entry)) state child count j) ⌝ }
+{
+    let mut set: u64 = 0;
+    let mut p = 0;
+    while p < count {
+        let test = goes(ends, elements[p], predecessors[p], state, child, p);
+        set = with_position(set, p, test);
+        p += 1;
+    }
+    set
+}
+
+// One child more. `elements` has the element of each position, `predecessors` the positions that each may come after.
+pub fn step(ends: Ends, elements: &[u8], predecessors: &[u64], state: State, child: u8) -> State
+    ensures { λ r. ⌜ Stepped ends (now (elements .entry)) (now (predecessors .entry)) state child r ⌝ }
+{
+    let count = fewer(64, fewer(elements.len(), predecessors.len()));
+    State::Amid(next_positions(ends, elements, predecessors, state, child, count))
+}
+
+// Whether the children may end here.
+pub fn may_end(ends: Ends, state: State) -> bool
+    ensures { λ r. ⌜ r ≡ mayEnd ends state ⌝ }
+{
+    match state {
+        State::Start => ends.nullable,
+        State::Amid(set) => words::meets(set, ends.last),
+    }
 }

@@ -1,0 +1,34 @@
+-- `models::step` meets its contract. Assumes nothing.
+use mathlib.Core.Path.{_≡_, refl, ap, _∙_}
+use Prim.Native.Nat.{ℕ, min}
+use Rattle.models.specs.Steps.{positions, comesNext}
+use native.Mathlib.Omega.{arith}
+use borrow.Author.Needs.{needs}
+use Rattle.models.proofs.step.Statement.{statement}
+use Rattle.models.proofs.step.Tie as tie
+use Rattle.models.proofs.step.Reads as reads
+use Rattle.models.proofs.step.Lts as lts
+use Rattle.models.proofs.fewer.Reads as fewer-reads
+use Rattle.models.proofs.next_positions.Reads as next-positions-reads
+
+fewer-requires : tie.Need-fewer-requires
+fewer-requires c κs = search needs
+
+fewer-requires-2 : tie.Need-fewer-requires-2
+fewer-requires-2 c κs = search needs
+
+next-positions-requires : tie.Need-next-positions-requires
+next-positions-requires c κs = search needs
+
+returns : tie.Need-returns
+returns c =
+    let args = c .before .before .before .before .before .args in
+    let bound : c .before .fewer2 .result ≡ positions (args .elements .now) (args .predecessors .now) =
+    c .before .fewer2 .ensures ∙ ap (min 64) (c .before .before .fewer .ensures) in
+    record {
+      amid = refl;
+      right = λ j. c .next-positions .ensures j ∙ ap (λ (n : ℕ). comesNext (args .ends) (args .elements .now) (args .predecessors .now) (args .state) (args .child) n j) bound;
+    }
+
+pub step-spec : {M : Type 1} → statement M
+step-spec = tie.close (tie.spec fewer-requires fewer-requires-2 next-positions-requires returns)
