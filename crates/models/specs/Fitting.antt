@@ -1,24 +1,23 @@
 -- The tables of a content model decide what fits it: their states are the definition's marks, step by step. Assumes nothing.
-use mathlib.Core.Bool.{Bool, true, false, _&&_, _||_, and-true, and-comm, or-false}
-use mathlib.Core.List.{List, [], _∷_}
+use mathlib.Core.Bool.{Bool, true, false, _&&_, _||_, or-false}
+use mathlib.Core.List.{List, [], _∷_, _++_}
 use mathlib.Core.Logic.{_↔_}
 use mathlib.Core.Path.{_≡_, refl, sym, ap, ap₂, subst, _∙_}
-use Prim.Native.Nat.{ℕ, _+_, _≤_, _<_}
+use Prim.Native.Nat.{ℕ, _≤_, _<_}
 use native.Mathlib.Nat.{zero-add}
 use native.Mathlib.Omega.{arith}
 use borrow.Author.Tests.{lt-ltb}
 use lib.Dec.{T, eqb, ltb, eqb→eq, eqb-refl}
 use lib.ListN.{length, getD}
-use Rattle.models.specs.Marks.{marked-cong, marked-none, nullable-marked, ends, final-marked, follows, after, Labelled, shift-marked, labels}
+use Rattle.models.specs.Marks.{marked-cong, marked-none, nullable-marked, final-marked, after, Labelled, shift-marked, labels}
 use Rattle.models.specs.Positions.{size, mayBeAbsent, isFirst, isLast, isNext, marked}
-use Rattle.models.specs.Steps.{inState, isAmid, entered, goesTo, positions, comesNext, Stepped, mayEnd}
+use Rattle.models.specs.Steps.{positions, comesNext, Stepped, mayEnd}
 use Rattle.models.specs.declared.Ends.{Ends}
 use Rattle.models.specs.declared.State.{State}
 use Rattle.models.specs.declared.State.the-variants.{Start, Amid}
 use Rattle.schema_laws.specs.Models.{fits-decides}
-use Rattle.schema_spec.specs.Models.{Particle, uses, Fits, Position, unmarked, shift, nullable, final, Progress, atStart, amid, started, advance, complete, advanceAll, fits}
+use Rattle.schema_spec.specs.Models.{Particle, uses, Fits, Position, shift, nullable, Progress, amid, started, advance, complete, advanceAll, fits}
 use Rattle.schema_spec.specs.Names.{hasBit}
-use Rattle.text_laws.specs.Tests.{false-of, true-of}
 use Rattle.words.specs.Searches.{same-test, anyBelow, any-cong, any-none}
 
 -- The tables are those of a particle: each of its positions has its element, and the sets have exactly its first and last positions
@@ -88,6 +87,12 @@ module _ (p : Particle ℕ) (e : Ends) (elements predecessors : List ℕ) (t : T
 pub data Steps (e : Ends) (elements predecessors : List ℕ) : State → List ℕ → State → Type 0 where
   done : {s : State} → Steps e elements predecessors s [] s
   child : {s t u : State} {a : ℕ} {w : List ℕ} → Stepped e elements predecessors s a t → Steps e elements predecessors t w u → Steps e elements predecessors s (a ∷ w) u
+
+-- one more child at the end
+pub steps-more : {e : Ends} {elements predecessors : List ℕ} {s t u : State} {w : List ℕ} {a : ℕ}
+    → Steps e elements predecessors s w t → Stepped e elements predecessors t a u → Steps e elements predecessors s (w ++ (a ∷ [])) u
+steps-more done h = child h done
+steps-more (child k r) h = child k (steps-more r h)
 
 module _ (p : Particle ℕ) (e : Ends) (elements predecessors : List ℕ) (t : Tables p e elements predecessors) where
   pub steps-right : {s u : State} {w : List ℕ} → Steps e elements predecessors s w u → progressOf p u ≡ advanceAll (progressOf p s) w

@@ -1,10 +1,13 @@
 // Content models in code: the names of a model are positions 0 to 63, and a state is a set of them.
 ghost use mathlib.Core.Bool.{Bool, _&&_, _||_};
+ghost use mathlib.Core.Logic.{_↔_};
 ghost use mathlib.Core.Path.{_≡_};
 ghost use Prim.Native.Nat.{ℕ, min, _<_, _≤_};
-ghost use lib.Dec.{eqb};
+ghost use lib.Dec.{T, eqb};
 ghost use lib.ListN.{length};
+ghost use Rattle.schema_spec.specs.Models.{Particle, Fits};
 ghost use Rattle.schema_spec.specs.Names.{hasBit};
+ghost use Rattle.models.specs.Fitting.{Tables};
 ghost use Rattle.models.specs.Steps.{entered, goesTo, comesNext, Stepped, mayEnd};
 
 // Where a model may begin and end: first and last positions, and whether it may have no child.
@@ -94,4 +97,18 @@ pub fn may_end(ends: Ends, state: State) -> bool
         State::Start => ends.nullable,
         State::Amid(set) => words::meets(set, ends.last),
     }
+}
+
+// Whether these children, in this order, fit the model.
+pub fn fits(ends: Ends, elements: &[u8], predecessors: &[u64], children: &[u8]) -> bool
+    ensures { λ r. ⌜ ((p : Particle ℕ) → Tables p ends (now (elements .entry)) (now (predecessors .entry)) → T r ↔ Fits p (now (children .entry))) ⌝ }
+{
+    let mut state = State::Start;
+    let mut i = 0;
+    while i < children.len() {
+        let next = step(ends, elements, predecessors, state, children[i]);
+        state = next;
+        i += 1;
+    }
+    may_end(ends, state)
 }

@@ -2,10 +2,6 @@
 use borrow.Author.Needs.{needs}
 use Rattle.models.proofs.enters.Statement.{statement}
 use Rattle.models.proofs.enters.Tie as tie
-use Rattle.models.proofs.enters.Reads as reads
-use Rattle.models.proofs.enters.Lts as lts
-use Rattle.words.proofs.has_bit.Reads as has-bit-reads
-use Rattle.words.proofs.meets.Reads as meets-reads
 
 enum-told : tie.Need-enum-told
 enum-told c = search needs

@@ -6,9 +6,6 @@ use Rattle.models.specs.Steps.{entered}
 use borrow.Author.Needs.{needs}
 use Rattle.models.proofs.goes.Statement.{statement}
 use Rattle.models.proofs.goes.Tie as tie
-use Rattle.models.proofs.goes.Reads as reads
-use Rattle.models.proofs.goes.Lts as lts
-use Rattle.models.proofs.enters.Reads as enters-reads
 
 enters-requires : tie.Need-enters-requires
 enters-requires c κs = search needs

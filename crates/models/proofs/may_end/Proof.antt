@@ -3,9 +3,6 @@ use mathlib.Core.Path.{refl}
 use borrow.Author.Needs.{needs}
 use Rattle.models.proofs.may_end.Statement.{statement}
 use Rattle.models.proofs.may_end.Tie as tie
-use Rattle.models.proofs.may_end.Reads as reads
-use Rattle.models.proofs.may_end.Lts as lts
-use Rattle.words.proofs.meets.Reads as meets-reads
 
 enum-told : tie.Need-enum-told
 enum-told c = search needs

@@ -8,10 +8,6 @@ use borrow.Author.Needs.{needs}
 use native.Mathlib.Omega.{arith}
 use Rattle.models.proofs.next_positions.Statement.{statement}
 use Rattle.models.proofs.next_positions.Tie as tie
-use Rattle.models.proofs.next_positions.Reads as reads
-use Rattle.models.proofs.next_positions.Lts as lts
-use Rattle.models.proofs.goes.Reads as goes-reads
-use Rattle.models.proofs.with_position.Reads as with-position-reads
 
 abbrev Inv-loop : tie.InvT-loop
 Inv-loop ends elements predecessors state child count set₀ p₀ set p =

@@ -2,14 +2,9 @@
 use mathlib.Core.Path.{_≡_, refl, ap, _∙_}
 use Prim.Native.Nat.{ℕ, min}
 use Rattle.models.specs.Steps.{positions, comesNext}
-use native.Mathlib.Omega.{arith}
 use borrow.Author.Needs.{needs}
 use Rattle.models.proofs.step.Statement.{statement}
 use Rattle.models.proofs.step.Tie as tie
-use Rattle.models.proofs.step.Reads as reads
-use Rattle.models.proofs.step.Lts as lts
-use Rattle.models.proofs.fewer.Reads as fewer-reads
-use Rattle.models.proofs.next_positions.Reads as next-positions-reads
 
 fewer-requires : tie.Need-fewer-requires
 fewer-requires c κs = search needs

@@ -9,9 +9,6 @@ use native.Mathlib.Omega.{arith}
 use borrow.Author.Needs.{needs}
 use Rattle.models.proofs.with_position.Statement.{statement}
 use Rattle.models.proofs.with_position.Tie as tie
-use Rattle.models.proofs.with_position.Reads as reads
-use Rattle.models.proofs.with_position.Lts as lts
-use Rattle.words.proofs.with_bit.Reads as with-bit-reads
 
 with-bit-requires : tie.Need-with-bit-requires
 with-bit-requires c κs = search needs
