@@ -3,3 +3,4 @@ pub mod Marks
 pub mod Steps
 pub mod StepLaws
 pub mod Fitting
+pub mod Making

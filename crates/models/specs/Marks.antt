@@ -261,7 +261,7 @@ module _ (n : ℕ) (label : ℕ → ℕ) (a : ℕ) where
       ∙ marked-cong k p (after n (begins || (m && ends n k p s)) label k p s a) (after n begins label k (repeated m o p) s a) (λ j u v. in-repeated begins m o k p s j))
 
 -- the list of a particle's names gives the element of each position
-size-uses : (p : Particle ℕ) → length (uses p) ≡ size p
+pub size-uses : (p : Particle ℕ) → length (uses p) ≡ size p
 size-uses (named x) = refl
 size-uses (sequence p q) = length-append (uses p) (uses q) ∙ ap₂ _+_ (size-uses p) (size-uses q)
 size-uses (choice p q) = length-append (uses p) (uses q) ∙ ap₂ _+_ (size-uses p) (size-uses q)

@@ -1,5 +1,5 @@
 -- Laws of sets of names as lists: what a filter has, and which names `everyName` has. Assumes nothing.
-use mathlib.Core.Bool.{Bool, false, not, _&&_, _||_}
+use mathlib.Core.Bool.{Bool, true, false, not, _&&_, _||_, and-true}
 use mathlib.Core.List.{[], _∷_, List·Memᴰ as In, List·Memᴰ·head as here}
 use mathlib.Core.Logic.{_↔_, ⊎-elim}
 use mathlib.Core.Path.{_≡_, refl, sym, ap₂, subst, _∙_}
@@ -11,7 +11,7 @@ use Rattle.names.specs.declared.NameSet.{NameSet}
 use Rattle.names.specs.Sets.{member, setOf, largest, everyName, overlap}
 use Rattle.schema_laws.specs.Names.{has-in, in-has, element-in, in-element, text-in, in-text}
 use Rattle.schema_laws.specs.Words.{Coded, schema-coded}
-use Rattle.schema_spec.specs.Names.{Name, Names, element, text, has, within, namesOf}
+use Rattle.schema_spec.specs.Names.{Name, Names, element, text, sameName, has, within, namesOf}
 use Rattle.schema_spec.specs.Schemas.{Schema, contentAt, isPcdata}
 use Rattle.text_laws.specs.Lists.{in-filter, filter-in, filter-cong, filter-filter, member-fills}
 use Rattle.text_laws.specs.Tests.{or-left, or-right, or-cases, and-intro, and-cases, failed, false-of}
@@ -103,6 +103,13 @@ module _ (names : Names) (a b r : NameSet) where
       let p = and-cases (member a n) (not (member b n)) (subst T (h n) t) in
       (p .0, subst (λ (x : Bool). T (not x)) (sym (has-setOf names b n i)) (p .1)))
       (λ n i s t. subst T (sym (h n)) (and-intro (member a n) (not (member b n)) s (subst (λ (x : Bool). T (not x)) (has-setOf names b n i) t)))
+
+pub setOf-insert : (names : Names) (a r : NameSet) (m : Name) → ((n : Name) → member r n ≡ (member a n || (sameName n m && true)))
+    → setOf names r ≡ filterBy (λ n. has n (setOf names a) || sameName n m) names
+unfolding setOf
+setOf-insert names a r m h =
+    filter-cong (member r) (λ n. has n (setOf names a) || sameName n m) names
+    (λ n i. h n ∙ ap₂ _||_ (sym (has-setOf names a n i)) (and-true (sameName n m)))
 
 -- a set of some names has no member exactly if its list is empty
 pub empty-decides : (names : Names) (s : NameSet) → ((n : Name) → T (member s n) → In n names) → T (isEmpty (setOf names s)) ↔ ((n : Name) → member s n ≡ false)
