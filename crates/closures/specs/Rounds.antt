@@ -12,11 +12,10 @@ use lib.Seq.{getD-set-same, getD-set-other}
 use borrow.Author.Tests.{lt-ltb, le-ltb, ltb-true, ltb-false}
 use Rattle.closures.specs.Tables.{relates, Below, one, more, throughElement, relatedTo}
 use Rattle.names.specs.Sets.{member, overlap, nothing}
-use Rattle.names.specs.SetLaws.{overlap-some}
+use Rattle.names.specs.SetLaws.{nothing-in, overlap-some}
 use Rattle.names.specs.declared.NameSet.{NameSet}
 use Rattle.schema_spec.specs.Names.{Name, element, text, sameName}
 use Rattle.text_laws.specs.Tests.{or-left, or-right, or-cases, and-intro, and-cases, decided, failed, false-of}
-use Rattle.words.specs.Bits.{bit-none}
 use Rattle.words.specs.Searches.{before-next, one-more}
 
 module _ (rows : List NameSet) where
@@ -80,8 +79,7 @@ module _ (rows : List NameSet) where
 
   -- an element past the table's end is related to nothing
   no-row : (m : ℕ) (b : Name) → length rows ≤ m → T (relates rows m b) → ⊥
-  no-row m (element e) l t = subst T (ap (λ (s : NameSet). member s (element e)) (List·getD-eq-default rows nothing l) ∙ bit-none e) t
-  no-row m (text e) l t = subst T (ap (λ (s : NameSet). member s (text e)) (List·getD-eq-default rows nothing l) ∙ bit-none e) t
+  no-row m b l t = subst T (ap (λ (s : NameSet). member s b) (List·getD-eq-default rows nothing l) ∙ nothing-in b) t
 
   inside : (m : ℕ) (b : Name) → T (relates rows m b) → m < length rows
   inside m b t = pick (ltb m (length rows)) refl
@@ -163,11 +161,7 @@ module _ (rows : List NameSet) (s : NameSet) where
   nothing-meets =
       false-of (overlap nothing s) (λ t.
       let r = overlap-some nothing s t in
-      absent (r .0) (r .1))
-    where
-      absent : (n : Name) → T (member nothing n) → ⊥
-      absent (element e) t = failed (bit-none e) t
-      absent (text e) t = failed (bit-none e) t
+      failed (nothing-in (r .0)) (r .1))
 
   pub holders-all : (i : ℕ) → length rows ≤ i → (n : Name) → holdersBefore rows s i n ≡ relatedTo rows s n
   holders-all i l (element a) = pick (ltb a i) refl

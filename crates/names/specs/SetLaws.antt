@@ -8,7 +8,7 @@ use native.Mathlib.Omega.{arith}
 use lib.Dec.{T}
 use lib.ListN.{length}
 use Rattle.names.specs.declared.NameSet.{NameSet}
-use Rattle.names.specs.Sets.{member, setOf, largest, everyName, overlap}
+use Rattle.names.specs.Sets.{member, setOf, nothing, largest, everyName, overlap}
 use Rattle.schema_laws.specs.Names.{has-in, in-has, element-in, in-element, text-in, in-text}
 use Rattle.schema_laws.specs.Words.{Coded, schema-coded}
 use Rattle.schema_spec.specs.Names.{Name, Names, element, text, sameName, has, within, namesOf}
@@ -17,6 +17,7 @@ use Rattle.text_laws.specs.Lists.{in-filter, filter-in, filter-cong, filter-fil
 use Rattle.text_laws.specs.Tests.{or-left, or-right, or-cases, and-intro, and-cases, failed, false-of}
 use Rattle.text_spec.specs.Limits.{maxDeclarations}
 use Rattle.text_spec.specs.Lists.{filterBy, isEmpty}
+use Rattle.words.specs.Bits.{bit-none}
 use Rattle.words.specs.Searches.{same-test, anyBelow, any-below, below-any}
 
 -- a name is in a filtered set if it is in the set and passes
@@ -29,6 +30,10 @@ has-filter f names n =
     (λ t.
     let r = and-cases (has n names) (f n) t in
     in-has (in-filter f (has-in n names (r .0)) (r .1)))
+
+pub nothing-in : (n : Name) → member nothing n ≡ false
+nothing-in (element e) = bit-none e
+nothing-in (text e) = bit-none e
 
 pub in-setOf : {n : Name} {names : Names} (s : NameSet) → In n names → T (member s n) → In n (setOf names s)
 unfolding setOf

@@ -1,2 +1,3 @@
 pub mod Searches
 pub mod Bits
+pub mod Tabulated
