@@ -1,22 +1,22 @@
 -- Warshall's rounds over elements: each round admits one more element on the way. Assumes nothing.
-use mathlib.Core.Bool.{Bool, true, false, cond, _&&_, _||_}
+use mathlib.Core.Bool.{Bool, true, false, _&&_, _||_}
 use mathlib.Core.List.{List}
 use mathlib.Core.Logic.{_⊎_, inl, inr, ⊎-elim, _↔_}
 use mathlib.Core.Path.{_≡_, refl, sym, ap, ap₂, subst, _∙_}
 use Prim.Native.Nat.{ℕ, suc, _+_, _≤_, _<_}
 use native.Mathlib.Nat.{eq-or-lt-of-le, lt-suc-self}
 use native.Mathlib.Omega.{arith}
-use lib.Dec.{T, ltb, eqb, eqb→eq, eqb-refl}
-use lib.ListN.{length, getD, set, List·getD-eq-default}
-use lib.Seq.{getD-set-same, getD-set-other}
-use borrow.Author.Tests.{lt-ltb, le-ltb, ltb-true, ltb-false}
+use lib.Dec.{T, ltb, eqb}
+use lib.ListN.{length, getD, List·getD-eq-default}
+use borrow.Author.Tests.{le-ltb, ltb-true, ltb-false}
 use Rattle.closures.specs.Tables.{relates, Below, one, more, throughElement, relatedTo}
 use Rattle.names.specs.Sets.{member, overlap, nothing}
 use Rattle.names.specs.SetLaws.{nothing-in, overlap-some}
 use Rattle.names.specs.declared.NameSet.{NameSet}
 use Rattle.schema_spec.specs.Names.{Name, element, text, sameName}
-use Rattle.text_laws.specs.Tests.{or-left, or-right, or-cases, and-intro, and-cases, decided, failed, false-of}
-use Rattle.words.specs.Searches.{before-next, one-more}
+use Rattle.text_laws.specs.Tests.{or-left, or-right, or-cases, and-intro, and-cases, failed, false-of}
+use Rattle.words.specs.Loops.{Passed}
+use Rattle.words.specs.Searches.{one-more}
 
 module _ (rows : List NameSet) where
   wider : {n a : ℕ} {b : Name} → Below rows n a b → Below rows (suc n) a b
@@ -108,44 +108,29 @@ pub rounds-enough : (rows : List NameSet) (r count : ℕ) → (r ≡ count) ⊎ 
 rounds-enough rows r count (inl e) a b = (subst (λ (n : ℕ). Below rows n a b) e, subst (λ (n : ℕ). Below rows n a b) (sym e))
 rounds-enough rows r count (inr (e, h)) a b = (below-more rows (omega arith), below-fewer rows (omega arith))
 
--- A round in place: the rows before i have had it.
-abbrev pub partly : List NameSet → ℕ → ℕ → ℕ → Name → Bool
-partly rows k i a b = cond (ltb a i) (throughElement rows k a b) (relates rows a b)
+-- A round in place: a row that has had it.
+abbrev pub Grown : List NameSet → ℕ → ℕ → NameSet → Type 0
+Grown rows k a x = (b : Name) → member x b ≡ throughElement rows k a b
 
 module _ (rows : List NameSet) (k : ℕ) where
-  pub partly-first : (a : ℕ) (b : Name) → relates rows a b ≡ partly rows k 0 a b
-  partly-first a b = sym (ap (λ (c : Bool). cond c (throughElement rows k a b) (relates rows a b)) (le-ltb a 0 (omega arith)))
+  -- the row at i, which the round has not reached, has it next
+  pub grown-row : (i : ℕ) (now : List NameSet) (x : NameSet) → Passed (Grown rows k) nothing rows i now
+      → ((b : Name) → member x b ≡ (relates now i b || (relates now i (element k) && relates rows k b))) → Grown rows k i x
+  grown-row i now x p new b =
+      let same : getD now i nothing ≡ getD rows i nothing = p .kept i (omega arith) in
+      new b ∙ ap (λ (s : NameSet). member s b || (member s (element k) && relates rows k b)) same
 
-  pub partly-all : (i a : ℕ) (b : Name) → length rows ≤ i → partly rows k i a b ≡ throughElement rows k a b
-  partly-all i a b h = pick (ltb a i) refl
+  -- past the table's end there is nothing to grow
+  pub grown-all : (i : ℕ) (now : List NameSet) → length rows ≤ i → Passed (Grown rows k) nothing rows i now
+      → (a : ℕ) (b : Name) → relates now a b ≡ throughElement rows k a b
+  grown-all i now long p a b = pick (ltb a i) refl
     where
-      pick : (c : Bool) → ltb a i ≡ c → cond c (throughElement rows k a b) (relates rows a b) ≡ throughElement rows k a b
-      pick true e = refl
+      pick : (c : Bool) → ltb a i ≡ c → relates now a b ≡ throughElement rows k a b
+      pick true e = p .done a (ltb-true a i e) b
       pick false e =
           let l = ltb-false a i e in
-          let f : relates rows a b ≡ false = false-of (relates rows a b) (no-row rows a b (omega arith)) in
-          let g : relates rows a (element k) ≡ false = false-of (relates rows a (element k)) (no-row rows a (element k) (omega arith)) in
-          f ∙ sym (ap₂ (λ (x y : Bool). x || (y && relates rows k b)) f g)
-
-  pub partly-next : (out : List NameSet) (i : ℕ) (t : NameSet) → i < length out → ((a : ℕ) (b : Name) → relates out a b ≡ partly rows k i a b)
-      → ((b : Name) → member t b ≡ (relates out i b || (relates out i (element k) && relates rows k b)))
-      → (a : ℕ) (b : Name) → relates (set out i t) a b ≡ partly rows k (i + 1) a b
-  partly-next out i t l inv new a b = ⊎-elim (λ e. here (eqb→eq a i e)) (λ d. elsewhere (λ q. d (subst (λ (j : ℕ). T (eqb a j)) q (eqb-refl a)))) (decided (eqb a i))
-    where
-      unchanged : (c : Name) → relates out i c ≡ relates rows i c
-      unchanged c = inv i c ∙ ap (λ (x : Bool). cond x (throughElement rows k i c) (relates rows i c)) (le-ltb i i (omega arith))
-
-      here : a ≡ i → relates (set out i t) a b ≡ partly rows k (i + 1) a b
-      here e =
-          ap (λ (s : NameSet). member s b) (ap (λ (j : ℕ). getD (set out i t) j nothing) e ∙ getD-set-same out i t nothing l) ∙ new b
-          ∙ ap₂ (λ (x y : Bool). x || (y && relates rows k b)) (unchanged b) (unchanged (element k))
-          ∙ ap (λ (j : ℕ). throughElement rows k j b) (sym e)
-          ∙ sym (ap (λ (x : Bool). cond x (throughElement rows k a b) (relates rows a b)) (lt-ltb a (i + 1) (omega arith)))
-
-      elsewhere : (a ≡ i → ⊥) → relates (set out i t) a b ≡ partly rows k (i + 1) a b
-      elsewhere d =
-          ap (λ (s : NameSet). member s b) (getD-set-other out i a t nothing d) ∙ inv a b
-          ∙ ap (λ (x : Bool). cond x (throughElement rows k a b) (relates rows a b)) (before-next a i d)
+          let none : (n : Name) → relates rows a n ≡ false = λ n. false-of (relates rows a n) (no-row rows a n (omega arith)) in
+          ap (λ (s : NameSet). member s b) (p .kept a l) ∙ none b ∙ sym (ap₂ (λ (x y : Bool). x || (y && relates rows k b)) (none b) (none (element k)))
 
 -- the elements before i that are related to a name of a set
 abbrev pub holdersBefore : List NameSet → NameSet → ℕ → Name → Bool

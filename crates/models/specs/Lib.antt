@@ -4,3 +4,5 @@ pub mod Steps
 pub mod StepLaws
 pub mod Fitting
 pub mod Making
+pub mod Building
+pub mod BuildingLaws

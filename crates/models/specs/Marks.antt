@@ -80,10 +80,10 @@ next-range k (repeated m n p) i j t =
     (or-cases (isNext k p i j) (m && (isLast k p i && isFirst k p j)) t)
 
 module _ (k : ℕ) (p : Particle ℕ) (j : ℕ) (outside : (k ≤ j) × (j < k + size p) → ⊥) where
-  not-first : isFirst k p j ≡ false
+  pub not-first : isFirst k p j ≡ false
   not-first = false-of (isFirst k p j) (λ t. outside (first-range k p j t))
 
-  not-next : (i : ℕ) → isNext k p i j ≡ false
+  pub not-next : (i : ℕ) → isNext k p i j ≡ false
   not-next i = false-of (isNext k p i j) (λ t. outside (next-range k p i j t))
 
 -- The sets' laws hold for any bound n on the positions.

@@ -1,3 +1,4 @@
 pub mod Searches
 pub mod Bits
 pub mod Tabulated
+pub mod Loops

@@ -1,10 +1,10 @@
 -- Whether some number below a bound passes a test. Assumes nothing.
 use mathlib.Core.Bool.{Bool, true, false, _&&_, _||_, or-false, and-or-distrib-right}
-use mathlib.Core.Logic.{⊎-elim}
+use mathlib.Core.Logic.{_⊎_, inl, inr, ⊎-elim}
 use mathlib.Core.Path.{_≡_, refl, sym, ap, ap₂, subst, _∙_}
-use Prim.Native.Nat.{ℕ, zero, suc, _+_, _<_}
+use Prim.Native.Nat.{ℕ, zero, suc, _+_, _≤_, _<_}
 use native.Mathlib.Omega.{arith}
-use borrow.Author.Tests.{lt-ltb, le-ltb, eqb-true, eqb-false}
+use borrow.Author.Tests.{lt-ltb, le-ltb, ltb-true, ltb-false, eqb-true, eqb-false}
 use lib.Dec.{T, eqb, ltb, eqb→eq, eqb-refl, ltb→lt, lt→ltb}
 use Rattle.text_laws.specs.Tests.{or-left, or-right, or-cases, and-intro, and-cases, decided}
 
@@ -75,8 +75,15 @@ any-or (suc n) f g = ap (λ (b : Bool). b || (f n || g n)) (any-or n f g) ∙ ex
     exchange false true false d = refl
     exchange false false c d = refl
 
+pub below-or-past : (i n : ℕ) → (i < n) ⊎ (n ≤ i)
+below-or-past i n = pick (ltb i n) refl
+  where
+    pick : (b : Bool) → ltb i n ≡ b → (i < n) ⊎ (n ≤ i)
+    pick true e = inl (ltb-true i n e)
+    pick false e = inr (ltb-false i n e)
+
 -- what is not i is before i, or before the next, alike
-pub before-next : (j i : ℕ) → (j ≡ i → ⊥) → ltb j i ≡ ltb j (i + 1)
+before-next : (j i : ℕ) → (j ≡ i → ⊥) → ltb j i ≡ ltb j (i + 1)
 before-next j i d =
     same-test (ltb j i) (ltb j (i + 1))
     (λ t.

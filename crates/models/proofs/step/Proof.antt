@@ -1,7 +1,7 @@
 -- `models::step` meets its contract. Assumes nothing.
-use mathlib.Core.Path.{_≡_, refl, ap, _∙_}
-use Prim.Native.Nat.{ℕ, min}
-use Rattle.models.specs.Steps.{positions, comesNext}
+use mathlib.Core.Path.{ap, _∙_}
+use Prim.Native.Nat.{min}
+use Rattle.models.specs.StepLaws.{stepped}
 use borrow.Author.Needs.{needs}
 use Rattle.models.proofs.step.Statement.{statement}
 use Rattle.models.proofs.step.Tie as tie
@@ -18,12 +18,8 @@ next-positions-requires c κs = search needs
 returns : tie.Need-returns
 returns c =
     let args = c .before .before .before .before .before .args in
-    let bound : c .before .fewer2 .result ≡ positions (args .elements .now) (args .predecessors .now) =
-    c .before .fewer2 .ensures ∙ ap (min 64) (c .before .before .fewer .ensures) in
-    record {
-      amid = refl;
-      right = λ j. c .next-positions .ensures j ∙ ap (λ (n : ℕ). comesNext (args .ends) (args .elements .now) (args .predecessors .now) (args .state) (args .child) n j) bound;
-    }
+    stepped (args .ends) (args .elements .now) (args .predecessors .now) (args .state) (args .child) (c .before .fewer2 .result) (c .next-positions .result)
+    (c .before .fewer2 .ensures ∙ ap (min 64) (c .before .before .fewer .ensures)) (c .next-positions .ensures)
 
 pub step-spec : {M : Type 1} → statement M
 step-spec = tie.close (tie.spec fewer-requires fewer-requires-2 next-positions-requires returns)
