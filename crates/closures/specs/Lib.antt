@@ -1,3 +1,4 @@
 pub mod Tables
 pub mod Rounds
 pub mod Schemas
+pub mod Making

@@ -1,23 +1,22 @@
 -- Warshall's rounds over elements: each round admits one more element on the way. Assumes nothing.
-use mathlib.Core.Bool.{Bool, true, false, cond, _&&_, _||_, or-false}
+use mathlib.Core.Bool.{Bool, true, false, _&&_, _||_}
 use mathlib.Core.List.{List}
 use mathlib.Core.Logic.{_⊎_, inl, inr, ⊎-elim, _↔_}
 use mathlib.Core.Path.{_≡_, refl, sym, ap, ap₂, subst, _∙_}
 use Prim.Native.Nat.{ℕ, suc, _+_, _≤_, _<_}
 use native.Mathlib.Nat.{eq-or-lt-of-le, lt-suc-self}
 use native.Mathlib.Omega.{arith}
-use lib.Dec.{T, ltb, eqb, eqb→eq, eqb-refl, ltb→lt, lt→ltb}
-use lib.ListN.{length, getD, set, List·getD-eq-default}
-use lib.Seq.{getD-set-same, getD-set-other}
-use borrow.Author.Tests.{lt-ltb, le-ltb, ltb-true, ltb-false, eqb-true, eqb-false}
+use lib.Dec.{T, ltb, eqb}
+use lib.ListN.{length, getD, List·getD-eq-default}
+use borrow.Author.Tests.{le-ltb, ltb-true, ltb-false}
 use Rattle.closures.specs.Tables.{relates, Below, one, more, throughElement, relatedTo}
 use Rattle.names.specs.Sets.{member, overlap, nothing}
-use Rattle.names.specs.SetLaws.{overlap-some}
+use Rattle.names.specs.SetLaws.{nothing-in, overlap-some}
 use Rattle.names.specs.declared.NameSet.{NameSet}
 use Rattle.schema_spec.specs.Names.{Name, element, text, sameName}
-use Rattle.text_laws.specs.Tests.{or-left, or-right, or-cases, and-intro, and-cases, decided, failed, false-of}
-use Rattle.words.specs.Bits.{bit-none}
-use Rattle.words.specs.Searches.{same-test}
+use Rattle.text_laws.specs.Tests.{or-left, or-right, or-cases, and-intro, and-cases, failed, false-of}
+use Rattle.words.specs.Loops.{Passed}
+use Rattle.words.specs.Searches.{one-more}
 
 module _ (rows : List NameSet) where
   wider : {n a : ℕ} {b : Name} → Below rows n a b → Below rows (suc n) a b
@@ -80,8 +79,7 @@ module _ (rows : List NameSet) where
 
   -- an element past the table's end is related to nothing
   no-row : (m : ℕ) (b : Name) → length rows ≤ m → T (relates rows m b) → ⊥
-  no-row m (element e) l t = subst T (ap (λ (s : NameSet). member s (element e)) (List·getD-eq-default rows nothing l) ∙ bit-none e) t
-  no-row m (text e) l t = subst T (ap (λ (s : NameSet). member s (text e)) (List·getD-eq-default rows nothing l) ∙ bit-none e) t
+  no-row m b l t = subst T (ap (λ (s : NameSet). member s b) (List·getD-eq-default rows nothing l) ∙ nothing-in b) t
 
   inside : (m : ℕ) (b : Name) → T (relates rows m b) → m < length rows
   inside m b t = pick (ltb m (length rows)) refl
@@ -110,55 +108,29 @@ pub rounds-enough : (rows : List NameSet) (r count : ℕ) → (r ≡ count) ⊎ 
 rounds-enough rows r count (inl e) a b = (subst (λ (n : ℕ). Below rows n a b) e, subst (λ (n : ℕ). Below rows n a b) (sym e))
 rounds-enough rows r count (inr (e, h)) a b = (below-more rows (omega arith), below-fewer rows (omega arith))
 
--- what is not i is before i, or before the next, alike
-same-side : (a i : ℕ) → (a ≡ i → ⊥) → ltb a i ≡ ltb a (i + 1)
-same-side a i d =
-    same-test (ltb a i) (ltb a (i + 1))
-    (λ t.
-    let h = ltb→lt a i t in
-    lt→ltb a (i + 1) (omega arith))
-    (λ t.
-    let h = ltb→lt a (i + 1) t in
-    lt→ltb a i (omega arith))
-
--- A round in place: the rows before i have had it.
-abbrev pub partly : List NameSet → ℕ → ℕ → ℕ → Name → Bool
-partly rows k i a b = cond (ltb a i) (throughElement rows k a b) (relates rows a b)
+-- A round in place: a row that has had it.
+abbrev pub Grown : List NameSet → ℕ → ℕ → NameSet → Type 0
+Grown rows k a x = (b : Name) → member x b ≡ throughElement rows k a b
 
 module _ (rows : List NameSet) (k : ℕ) where
-  pub partly-first : (a : ℕ) (b : Name) → relates rows a b ≡ partly rows k 0 a b
-  partly-first a b = sym (ap (λ (c : Bool). cond c (throughElement rows k a b) (relates rows a b)) (le-ltb a 0 (omega arith)))
+  -- the row at i, which the round has not reached, has it next
+  pub grown-row : (i : ℕ) (now : List NameSet) (x : NameSet) → Passed (Grown rows k) nothing rows i now
+      → ((b : Name) → member x b ≡ (relates now i b || (relates now i (element k) && relates rows k b))) → Grown rows k i x
+  grown-row i now x p new b =
+      let same : getD now i nothing ≡ getD rows i nothing = p .kept i (omega arith) in
+      new b ∙ ap (λ (s : NameSet). member s b || (member s (element k) && relates rows k b)) same
 
-  pub partly-all : (i a : ℕ) (b : Name) → length rows ≤ i → partly rows k i a b ≡ throughElement rows k a b
-  partly-all i a b h = pick (ltb a i) refl
+  -- past the table's end there is nothing to grow
+  pub grown-all : (i : ℕ) (now : List NameSet) → length rows ≤ i → Passed (Grown rows k) nothing rows i now
+      → (a : ℕ) (b : Name) → relates now a b ≡ throughElement rows k a b
+  grown-all i now long p a b = pick (ltb a i) refl
     where
-      pick : (c : Bool) → ltb a i ≡ c → cond c (throughElement rows k a b) (relates rows a b) ≡ throughElement rows k a b
-      pick true e = refl
+      pick : (c : Bool) → ltb a i ≡ c → relates now a b ≡ throughElement rows k a b
+      pick true e = p .done a (ltb-true a i e) b
       pick false e =
           let l = ltb-false a i e in
-          let f : relates rows a b ≡ false = false-of (relates rows a b) (no-row rows a b (omega arith)) in
-          let g : relates rows a (element k) ≡ false = false-of (relates rows a (element k)) (no-row rows a (element k) (omega arith)) in
-          f ∙ sym (ap₂ (λ (x y : Bool). x || (y && relates rows k b)) f g)
-
-  pub partly-next : (out : List NameSet) (i : ℕ) (t : NameSet) → i < length out → ((a : ℕ) (b : Name) → relates out a b ≡ partly rows k i a b)
-      → ((b : Name) → member t b ≡ (relates out i b || (relates out i (element k) && relates rows k b)))
-      → (a : ℕ) (b : Name) → relates (set out i t) a b ≡ partly rows k (i + 1) a b
-  partly-next out i t l inv new a b = ⊎-elim (λ e. here (eqb→eq a i e)) (λ d. elsewhere (λ q. d (subst (λ (j : ℕ). T (eqb a j)) q (eqb-refl a)))) (decided (eqb a i))
-    where
-      unchanged : (c : Name) → relates out i c ≡ relates rows i c
-      unchanged c = inv i c ∙ ap (λ (x : Bool). cond x (throughElement rows k i c) (relates rows i c)) (le-ltb i i (omega arith))
-
-      here : a ≡ i → relates (set out i t) a b ≡ partly rows k (i + 1) a b
-      here e =
-          ap (λ (s : NameSet). member s b) (ap (λ (j : ℕ). getD (set out i t) j nothing) e ∙ getD-set-same out i t nothing l) ∙ new b
-          ∙ ap₂ (λ (x y : Bool). x || (y && relates rows k b)) (unchanged b) (unchanged (element k))
-          ∙ ap (λ (j : ℕ). throughElement rows k j b) (sym e)
-          ∙ sym (ap (λ (x : Bool). cond x (throughElement rows k a b) (relates rows a b)) (lt-ltb a (i + 1) (omega arith)))
-
-      elsewhere : (a ≡ i → ⊥) → relates (set out i t) a b ≡ partly rows k (i + 1) a b
-      elsewhere d =
-          ap (λ (s : NameSet). member s b) (getD-set-other out i a t nothing d) ∙ inv a b
-          ∙ ap (λ (x : Bool). cond x (throughElement rows k a b) (relates rows a b)) (same-side a i d)
+          let none : (n : Name) → relates rows a n ≡ false = λ n. false-of (relates rows a n) (no-row rows a n (omega arith)) in
+          ap (λ (s : NameSet). member s b) (p .kept a l) ∙ none b ∙ sym (ap₂ (λ (x y : Bool). x || (y && relates rows k b)) (none b) (none (element k)))
 
 -- the elements before i that are related to a name of a set
 abbrev pub holdersBefore : List NameSet → NameSet → ℕ → Name → Bool
@@ -174,11 +146,7 @@ module _ (rows : List NameSet) (s : NameSet) where
   nothing-meets =
       false-of (overlap nothing s) (λ t.
       let r = overlap-some nothing s t in
-      absent (r .0) (r .1))
-    where
-      absent : (n : Name) → T (member nothing n) → ⊥
-      absent (element e) t = failed (bit-none e) t
-      absent (text e) t = failed (bit-none e) t
+      failed (nothing-in (r .0)) (r .1))
 
   pub holders-all : (i : ℕ) → length rows ≤ i → (n : Name) → holdersBefore rows s i n ≡ relatedTo rows s n
   holders-all i l (element a) = pick (ltb a i) refl
@@ -195,14 +163,5 @@ module _ (rows : List NameSet) (s : NameSet) where
       → (n : Name) → member t n ≡ holdersBefore rows s (i + 1) n
   holders-next out t i inv new (text a) = new (text a) ∙ ap (λ (b : Bool). b || false) (inv (text a))
   holders-next out t i inv new (element a) =
-      new (element a) ∙ ap (λ (b : Bool). b || (eqb a i && overlap (getD rows i nothing) s)) (inv (element a)) ∙ pick (eqb a i) refl
-    where
-      pick : (b : Bool) → eqb a i ≡ b → ((ltb a i && overlap (getD rows a nothing) s) || (b && overlap (getD rows i nothing) s)) ≡ (ltb a (i + 1) && overlap (getD rows a nothing) s)
-      pick true e =
-          let q = eqb-true a i e in
-          ap (λ (b : Bool). (b && overlap (getD rows a nothing) s) || overlap (getD rows i nothing) s) (le-ltb a i (omega arith))
-          ∙ ap (λ (j : ℕ). overlap (getD rows j nothing) s) (sym q)
-          ∙ sym (ap (λ (b : Bool). b && overlap (getD rows a nothing) s) (lt-ltb a (i + 1) (omega arith)))
-      pick false e =
-          or-false (ltb a i && overlap (getD rows a nothing) s)
-          ∙ ap (λ (b : Bool). b && overlap (getD rows a nothing) s) (same-side a i (eqb-false a i e))
+      new (element a) ∙ ap (λ (b : Bool). b || (eqb a i && overlap (getD rows i nothing) s)) (inv (element a))
+      ∙ one-more (λ j. overlap (getD rows j nothing) s) i a

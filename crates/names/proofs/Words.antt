@@ -11,16 +11,12 @@ use Rattle.schema_spec.specs.Names.{Name, element, text, sameName, hasBit}
 use Rattle.text_laws.specs.Tests.{passed}
 use Rattle.words.specs.Bits.{bit-or, bit-none, same-bits}
 use Rattle.names.specs.declared.NameSet.{NameSet}
-use Rattle.names.specs.Sets.{member, nothing}
+use Rattle.names.specs.Sets.{member}
 
 pub on-names : (op : ℕ → ℕ → ℕ) (f : Bool → Bool → Bool) → ((a b i : ℕ) → hasBit (op a b) i ≡ f (hasBit a i) (hasBit b i))
     → (s t : NameSet) (n : Name) → member (record { elements = op (s .elements) (t .elements); texts = op (s .texts) (t .texts) }) n ≡ f (member s n) (member t n)
 on-names op f law s t (element e) = law (s .elements) (t .elements) e
 on-names op f law s t (text e) = law (s .texts) (t .texts) e
-
-pub in-nothing : (n : Name) → member nothing n ≡ false
-in-nothing (element e) = bit-none e
-in-nothing (text e) = bit-none e
 
 neither : (a b : Bool) → (a || b) ≡ false → (a ≡ false) × (b ≡ false)
 neither true b e = absurd (subst T e tt)

@@ -1,13 +1,12 @@
 -- Sets handed in and back as 64 bits: what two words must hold, and that this is right for the names of a schema. Assumes nothing.
-use mathlib.Core.Bool.{Bool, true, false, _&&_, _||_, or-false}
+use mathlib.Core.Bool.{Bool, false, _&&_, _||_, or-false}
 use mathlib.Core.List.{List·Memᴰ as In}
 use mathlib.Core.Logic.{_⊎_, inl, inr, ⊎-elim}
 use mathlib.Core.Path.{_≡_, refl, sym, ap, ap₂, subst, _∙_}
 use Prim.Native.Nat.{ℕ, _+_, _-_, _*_, _/_, _%_, _^_, _≤_, _<_}
 use native.Mathlib.Omega.{arith}
-use borrow.Author.Tests.{ltb-true, ltb-false}
 use lib.Bits.{bitOr, or-lt}
-use lib.Dec.{T, ltb}
+use lib.Dec.{T}
 use lib.ListN.{length}
 use Rattle.names.specs.declared.NameSet.{NameSet}
 use Rattle.names.specs.Sets.{member, setOf, largest, everyName}
@@ -20,7 +19,7 @@ use Rattle.text_laws.specs.Lists.{filter-cong}
 use Rattle.text_laws.specs.Tests.{decided, true-of, false-of}
 use Rattle.text_spec.specs.Limits.{maxDeclarations}
 use Rattle.words.specs.Bits.{bit-or, bit-past, bit-down, bit-up, bit-up-below, bit-cut, bit-cut-past, same-bits}
-use Rattle.words.specs.Searches.{same-test}
+use Rattle.words.specs.Searches.{same-test, below-or-past}
 
 -- the two words of a set that is handed in
 abbrev pub split : ℕ → NameSet
@@ -39,21 +38,14 @@ unfolding setOfWord
 not-every w n h =
     has-filter (λ m. hasBit w (codeOf m)) everyName n ∙ ap (λ (b : Bool). b && hasBit w (codeOf n)) (false-of (has n everyName) (λ t. h (has-in n everyName t)))
 
-below-or-past : (i : ℕ) → (i < 32) ⊎ (32 ≤ i)
-below-or-past i = pick (ltb i 32) refl
-  where
-    pick : (b : Bool) → ltb i 32 ≡ b → (i < 32) ⊎ (32 ≤ i)
-    pick true e = inl (ltb-true i 32 e)
-    pick false e = inr (ltb-false i 32 e)
-
 pub split-right : (w : ℕ) → w < 2 ^ 64 → (n : Name) → member (split w) n ≡ has n (setOfWord everyName w)
 split-right w fits (element e) =
     ⊎-elim (λ h. bit-cut w 32 e h ∙ sym (in-every w (element e) (element-every e h)))
-    (λ h. bit-cut-past w 32 e h ∙ sym (not-every w (element e) (λ i. let l = every-element e i in omega arith))) (below-or-past e)
+    (λ h. bit-cut-past w 32 e h ∙ sym (not-every w (element e) (λ i. let l = every-element e i in omega arith))) (below-or-past e 32)
 split-right w fits (text e) =
     bit-down w 32 e
     ∙ ⊎-elim (λ h. sym (in-every w (text e) (text-every e h)))
-    (λ h. bit-past 64 w (32 + e) fits (omega arith) ∙ sym (not-every w (text e) (λ i. let l = every-text e i in omega arith))) (below-or-past e)
+    (λ h. bit-past 64 w (32 + e) fits (omega arith) ∙ sym (not-every w (text e) (λ i. let l = every-text e i in omega arith))) (below-or-past e 32)
 
 -- the bit of a name, in the word of a set
 module _ (names : Names) (c : Coded names) (s : NameSet) where
@@ -65,7 +57,7 @@ module _ (names : Names) (c : Coded names) (s : NameSet) where
 -- each of 64 bits is a name's
 pub bit-name : (i : ℕ) → i < 64 → (n : Name) × In n everyName × (codeOf n ≡ i)
 bit-name i l =
-    ⊎-elim (λ h. (element i, element-every i h, refl)) (λ h. (text (i - 32), text-every (i - 32) (omega arith), omega arith)) (below-or-past i)
+    ⊎-elim (λ h. (element i, element-every i h, refl)) (λ h. (text (i - 32), text-every (i - 32) (omega arith), omega arith)) (below-or-past i 32)
 
 joined-member : (s : NameSet) (n : Name) → In n everyName → hasBit (joined s) (codeOf n) ≡ member s n
 joined-member s (element e) i =

@@ -1,5 +1,5 @@
 -- Laws of sets of names as lists: what a filter has, and which names `everyName` has. Assumes nothing.
-use mathlib.Core.Bool.{Bool, false, not, _&&_, _||_}
+use mathlib.Core.Bool.{Bool, true, false, not, _&&_, _||_, and-true}
 use mathlib.Core.List.{[], _∷_, List·Memᴰ as In, List·Memᴰ·head as here}
 use mathlib.Core.Logic.{_↔_, ⊎-elim}
 use mathlib.Core.Path.{_≡_, refl, sym, ap₂, subst, _∙_}
@@ -8,15 +8,16 @@ use native.Mathlib.Omega.{arith}
 use lib.Dec.{T}
 use lib.ListN.{length}
 use Rattle.names.specs.declared.NameSet.{NameSet}
-use Rattle.names.specs.Sets.{member, setOf, largest, everyName, overlap}
+use Rattle.names.specs.Sets.{member, setOf, nothing, largest, everyName, overlap}
 use Rattle.schema_laws.specs.Names.{has-in, in-has, element-in, in-element, text-in, in-text}
 use Rattle.schema_laws.specs.Words.{Coded, schema-coded}
-use Rattle.schema_spec.specs.Names.{Name, Names, element, text, has, within, namesOf}
+use Rattle.schema_spec.specs.Names.{Name, Names, element, text, sameName, has, within, namesOf}
 use Rattle.schema_spec.specs.Schemas.{Schema, contentAt, isPcdata}
 use Rattle.text_laws.specs.Lists.{in-filter, filter-in, filter-cong, filter-filter, member-fills}
 use Rattle.text_laws.specs.Tests.{or-left, or-right, or-cases, and-intro, and-cases, failed, false-of}
 use Rattle.text_spec.specs.Limits.{maxDeclarations}
 use Rattle.text_spec.specs.Lists.{filterBy, isEmpty}
+use Rattle.words.specs.Bits.{bit-none}
 use Rattle.words.specs.Searches.{same-test, anyBelow, any-below, below-any}
 
 -- a name is in a filtered set if it is in the set and passes
@@ -29,6 +30,10 @@ has-filter f names n =
     (λ t.
     let r = and-cases (has n names) (f n) t in
     in-has (in-filter f (has-in n names (r .0)) (r .1)))
+
+pub nothing-in : (n : Name) → member nothing n ≡ false
+nothing-in (element e) = bit-none e
+nothing-in (text e) = bit-none e
 
 pub in-setOf : {n : Name} {names : Names} (s : NameSet) → In n names → T (member s n) → In n (setOf names s)
 unfolding setOf
@@ -103,6 +108,13 @@ module _ (names : Names) (a b r : NameSet) where
       let p = and-cases (member a n) (not (member b n)) (subst T (h n) t) in
       (p .0, subst (λ (x : Bool). T (not x)) (sym (has-setOf names b n i)) (p .1)))
       (λ n i s t. subst T (sym (h n)) (and-intro (member a n) (not (member b n)) s (subst (λ (x : Bool). T (not x)) (has-setOf names b n i) t)))
+
+pub setOf-insert : (names : Names) (a r : NameSet) (m : Name) → ((n : Name) → member r n ≡ (member a n || (sameName n m && true)))
+    → setOf names r ≡ filterBy (λ n. has n (setOf names a) || sameName n m) names
+unfolding setOf
+setOf-insert names a r m h =
+    filter-cong (member r) (λ n. has n (setOf names a) || sameName n m) names
+    (λ n i. h n ∙ ap₂ _||_ (sym (has-setOf names a n i)) (and-true (sameName n m)))
 
 -- a set of some names has no member exactly if its list is empty
 pub empty-decides : (names : Names) (s : NameSet) → ((n : Name) → T (member s n) → In n names) → T (isEmpty (setOf names s)) ↔ ((n : Name) → member s n ≡ false)

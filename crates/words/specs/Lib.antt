@@ -1,2 +1,4 @@
 pub mod Searches
 pub mod Bits
+pub mod Tabulated
+pub mod Loops

@@ -1,11 +1,12 @@
 -- Whether some number below a bound passes a test. Assumes nothing.
-use mathlib.Core.Bool.{Bool, true, false, _||_}
-use mathlib.Core.Logic.{⊎-elim}
-use mathlib.Core.Path.{_≡_, refl, ap₂, subst}
-use Prim.Native.Nat.{ℕ, zero, suc, _<_}
+use mathlib.Core.Bool.{Bool, true, false, _&&_, _||_, or-false, and-or-distrib-right}
+use mathlib.Core.Logic.{_⊎_, inl, inr, ⊎-elim}
+use mathlib.Core.Path.{_≡_, refl, sym, ap, ap₂, subst, _∙_}
+use Prim.Native.Nat.{ℕ, zero, suc, _+_, _≤_, _<_}
 use native.Mathlib.Omega.{arith}
-use lib.Dec.{T, eqb, eqb→eq, eqb-refl}
-use Rattle.text_laws.specs.Tests.{or-left, or-right, or-cases, decided}
+use borrow.Author.Tests.{lt-ltb, le-ltb, ltb-true, ltb-false, eqb-true, eqb-false}
+use lib.Dec.{T, eqb, ltb, eqb→eq, eqb-refl, ltb→lt, lt→ltb}
+use Rattle.text_laws.specs.Tests.{or-left, or-right, or-cases, and-intro, and-cases, decided}
 
 -- two tests that pass together are equal
 pub same-test : (a b : Bool) → (T a → T b) → (T b → T a) → a ≡ b
@@ -14,11 +15,12 @@ same-test true false f g = absurd (f tt)
 same-test false true f g = absurd (g tt)
 same-test false false f g = refl
 
-abbrev pub anyBelow : ℕ → (ℕ → Bool) → Bool
+unfoldable pub anyBelow : ℕ → (ℕ → Bool) → Bool
 anyBelow zero f = false
 anyBelow (suc n) f = anyBelow n f || f n
 
 pub any-below : (n : ℕ) (f : ℕ → Bool) (i : ℕ) → i < n → T (f i) → T (anyBelow n f)
+unfolding anyBelow
 any-below zero f i h t = absurd (omega arith)
 any-below (suc n) f i h t =
     ⊎-elim (λ e. or-right (anyBelow n f) (f n) (subst (λ (j : ℕ). T (f j)) (eqb→eq i n e) t))
@@ -28,6 +30,7 @@ any-below (suc n) f i h t =
     less d = omega arith
 
 pub below-any : (n : ℕ) (f : ℕ → Bool) → T (anyBelow n f) → (i : ℕ) × (i < n) × T (f i)
+unfolding anyBelow
 below-any zero f t = absurd t
 below-any (suc n) f t =
     ⊎-elim (λ h.
@@ -36,5 +39,66 @@ below-any (suc n) f t =
 
 -- tests that agree below the bound
 pub any-cong : (n : ℕ) (f g : ℕ → Bool) → ((i : ℕ) → i < n → f i ≡ g i) → anyBelow n f ≡ anyBelow n g
+unfolding anyBelow
 any-cong zero f g h = refl
 any-cong (suc n) f g h = ap₂ _||_ (any-cong n f g (λ i l. h i (omega arith))) (h n (omega arith))
+
+-- what is said of a number alone
+pub any-only : (n k : ℕ) (f : ℕ → Bool) → k < n → anyBelow n (λ i. f i && eqb i k) ≡ f k
+any-only n k f h =
+    same-test (anyBelow n (λ i. f i && eqb i k)) (f k)
+    (λ t.
+    let r = below-any n (λ i. f i && eqb i k) t in
+    let c = and-cases (f (r .0)) (eqb (r .0) k) (r .2) in
+    subst (λ (i : ℕ). T (f i)) (eqb→eq (r .0) k (c .1)) (c .0))
+    (λ t. any-below n (λ i. f i && eqb i k) k h (and-intro (f k) (eqb k k) t (eqb-refl k)))
+
+pub any-none : (n : ℕ) → anyBelow n (λ i. false) ≡ false
+unfolding anyBelow
+any-none zero = refl
+any-none (suc n) = ap (λ (b : Bool). b || false) (any-none n)
+
+-- a factor that is the same for all
+pub any-and : (n : ℕ) (f : ℕ → Bool) (c : Bool) → anyBelow n (λ i. f i && c) ≡ (anyBelow n f && c)
+unfolding anyBelow
+any-and zero f c = refl
+any-and (suc n) f c = ap (λ (b : Bool). b || (f n && c)) (any-and n f c) ∙ sym (and-or-distrib-right (anyBelow n f) (f n) c)
+
+pub any-or : (n : ℕ) (f g : ℕ → Bool) → anyBelow n (λ i. f i || g i) ≡ (anyBelow n f || anyBelow n g)
+unfolding anyBelow
+any-or zero f g = refl
+any-or (suc n) f g = ap (λ (b : Bool). b || (f n || g n)) (any-or n f g) ∙ exchange (anyBelow n f) (anyBelow n g) (f n) (g n)
+  where
+    exchange : (a b c d : Bool) → ((a || b) || (c || d)) ≡ ((a || c) || (b || d))
+    exchange true b c d = refl
+    exchange false true true d = refl
+    exchange false true false d = refl
+    exchange false false c d = refl
+
+pub below-or-past : (i n : ℕ) → (i < n) ⊎ (n ≤ i)
+below-or-past i n = pick (ltb i n) refl
+  where
+    pick : (b : Bool) → ltb i n ≡ b → (i < n) ⊎ (n ≤ i)
+    pick true e = inl (ltb-true i n e)
+    pick false e = inr (ltb-false i n e)
+
+-- what is not i is before i, or before the next, alike
+before-next : (j i : ℕ) → (j ≡ i → ⊥) → ltb j i ≡ ltb j (i + 1)
+before-next j i d =
+    same-test (ltb j i) (ltb j (i + 1))
+    (λ t.
+    let h = ltb→lt j i t in
+    lt→ltb j (i + 1) (omega arith))
+    (λ t.
+    let h = ltb→lt j (i + 1) t in
+    lt→ltb j i (omega arith))
+
+-- the numbers before i that pass a test, and i if it does: those before the next
+pub one-more : (f : ℕ → Bool) (i j : ℕ) → ((ltb j i && f j) || (eqb j i && f i)) ≡ (ltb j (i + 1) && f j)
+one-more f i j = pick (eqb j i) refl
+  where
+    pick : (b : Bool) → eqb j i ≡ b → ((ltb j i && f j) || (b && f i)) ≡ (ltb j (i + 1) && f j)
+    pick true q =
+        let z = eqb-true j i q in
+        ap (λ (b : Bool). (b && f j) || f i) (le-ltb j i (omega arith)) ∙ ap f (sym z) ∙ sym (ap (λ (b : Bool). b && f j) (lt-ltb j (i + 1) (omega arith)))
+    pick false q = or-false (ltb j i && f j) ∙ ap (λ (b : Bool). b && f j) (before-next j i (eqb-false j i q))

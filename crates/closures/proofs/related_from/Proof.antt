@@ -22,6 +22,7 @@ empty-requires : tie.Need-empty-requires Inv-loop μ-loop
 empty-requires c κs = search needs
 
 loop-holds : tie.Need-loop-holds Inv-loop μ-loop
+unfolding anyBelow
 loop-holds c = (omega arith, c .empty .ensures)
 
 mul-row : tie.Need-mul-row Inv-loop μ-loop
@@ -40,6 +41,7 @@ loop-less : tie.Need-loop-less Inv-loop μ-loop
 loop-less c = search needs
 
 loop-again : tie.Need-loop-again Inv-loop μ-loop
+unfolding anyBelow
 loop-again c =
     let at = c .before .before .before .loop in
     let args = c .before .before .before .before .before .args in (

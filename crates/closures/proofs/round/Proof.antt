@@ -1,18 +1,17 @@
 -- `closures::round` meets its contract: the rows that the loop has passed have had the round. Assumes nothing.
 use mathlib.Core.Path.{_≡_, _∙_}
-use Prim.Native.Nat.{ℕ, _≤_, _-_}
+use Prim.Native.Nat.{_≤_, _-_}
 use lib.ListN.{length, length-set}
-use Rattle.closures.specs.Rounds.{partly, partly-first, partly-all, partly-next}
-use Rattle.closures.specs.Tables.{relates}
-use Rattle.schema_spec.specs.Names.{Name}
+use Rattle.closures.specs.Rounds.{Grown, grown-row, grown-all}
+use Rattle.names.specs.Sets.{nothing}
+use Rattle.words.specs.Loops.{Passed, passed-first, passed-next}
 use borrow.Author.Needs.{needs}
 use native.Mathlib.Omega.{arith}
 use Rattle.closures.proofs.round.Statement.{statement}
 use Rattle.closures.proofs.round.Tie as tie
 
 abbrev Inv-loop : tie.InvT-loop
-Inv-loop k row out₀ i₀ out i =
-    (i ≤ 32) × ((length out ≡ 32) × ((a : ℕ) (b : Name) → relates out a b ≡ partly out₀ k i a b))
+Inv-loop k row out₀ i₀ out i = (i ≤ 32) × ((length out ≡ 32) × Passed (Grown out₀ k) nothing out₀ i out)
 
 abbrev μ-loop : tie.MeasureT-loop
 μ-loop k row out₀ i₀ out i = 32 - i
@@ -24,7 +23,9 @@ array-copy-out-row : tie.Need-array-copy-out-row Inv-loop μ-loop
 array-copy-out-row c = search needs
 
 loop-holds : tie.Need-loop-holds Inv-loop μ-loop
-loop-holds c = (omega arith, (search needs, partly-first (c .before .args .t1) (c .before .args .k)))
+loop-holds c =
+    let args = c .before .args in
+    (omega arith, (search needs, passed-first (Grown (args .t1) (args .k)) nothing (args .t1)))
 
 mul-s : tie.Need-mul-s Inv-loop μ-loop
 mul-s c = search needs
@@ -54,16 +55,17 @@ loop-again c =
       omega arith,
       (
         length-set (at .out) (at .i) (c .grown .result) ∙ at .inv .1 .0,
-        partly-next (args .t1) (args .k) (at .out) (at .i) (c .grown .result) (omega arith) (at .inv .1 .1) (c .grown .ensures),
+        passed-next (Grown (args .t1) (args .k)) nothing (args .t1) (at .i) (at .out) (c .grown .result) (omega arith) (at .inv .1 .1)
+            (grown-row (args .t1) (args .k) (at .i) (at .out) (c .grown .result) (at .inv .1 .1) (c .grown .ensures)),
       ),
     )
 
 returns : tie.Need-returns Inv-loop μ-loop
-returns c a b =
+returns c =
     let at = c .before .loop in
     let args = c .before .before .before .args in
     let long : length (args .t1) ≡ 32 = search needs in
-    at .inv .1 .1 a b ∙ partly-all (args .t1) (args .k) (at .i) a b (omega arith)
+    grown-all (args .t1) (args .k) (at .i) (at .out) (omega arith) (at .inv .1 .1)
 
 pub round-spec : {M : Type 1} → statement M
 round-spec =

@@ -1,0 +1,24 @@
+-- `models::in_sequence` meets its contract. Assumes nothing.
+use Rattle.models.specs.BuildingLaws.{sequence-ends}
+use borrow.Author.Needs.{needs}
+use Rattle.models.proofs.in_sequence.Statement.{statement}
+use Rattle.models.proofs.in_sequence.Tie as tie
+
+joined-if-requires : tie.Need-joined-if-requires
+joined-if-requires c κs = search needs
+
+joined-if-requires-2 : tie.Need-joined-if-requires-2
+joined-if-requires-2 c κs = search needs
+
+both-requires : tie.Need-both-requires
+both-requires c κs = search needs
+
+returns : tie.Need-returns
+returns c k p q x y =
+    let args = c .before .before .before .args in
+    sequence-ends (args .a) (args .b) k p q x y (c .before .before .joined-if .result) (c .before .joined-if2 .result) (c .both .result)
+    (c .before .before .joined-if .ensures) (c .before .joined-if2 .ensures) (c .both .ensures)
+
+pub in-sequence-spec : {M : Type 1} → statement M
+in-sequence-spec =
+    tie.close (tie.spec joined-if-requires joined-if-requires-2 both-requires returns)

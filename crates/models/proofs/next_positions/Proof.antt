@@ -1,0 +1,76 @@
+-- `models::next_positions` meets its contract: the set has what the positions before p give. Assumes nothing.
+use mathlib.Core.Path.{_≡_, ap, _∙_}
+use Prim.Native.Nat.{ℕ, _≤_, _-_}
+use Rattle.models.specs.StepLaws.{next-first, next-more}
+use Rattle.models.specs.Steps.{comesNext}
+use Rattle.schema_spec.specs.Names.{hasBit}
+use borrow.Author.Needs.{needs}
+use native.Mathlib.Omega.{arith}
+use Rattle.models.proofs.next_positions.Statement.{statement}
+use Rattle.models.proofs.next_positions.Tie as tie
+
+abbrev Inv-loop : tie.InvT-loop
+Inv-loop ends elements predecessors state child count set₀ p₀ set p =
+    (p ≤ count) × ((j : ℕ) → hasBit set j ≡ comesNext ends elements predecessors state child p j)
+
+abbrev μ-loop : tie.MeasureT-loop
+μ-loop ends elements predecessors state child count set₀ p₀ set p = count - p
+
+loop-holds : tie.Need-loop-holds Inv-loop μ-loop
+loop-holds c =
+    let args = c .before .before .args in
+    (omega arith, next-first (args .ends) (args .elements .now) (args .predecessors .now) (args .state) (args .child))
+
+shared-slice-read-goes : tie.Need-shared-slice-read-goes Inv-loop μ-loop
+shared-slice-read-goes c = search needs
+
+mul-goes : tie.Need-mul-goes Inv-loop μ-loop
+mul-goes c = search needs
+
+shared-slice-read-goes-2 : tie.Need-shared-slice-read-goes-2 Inv-loop μ-loop
+shared-slice-read-goes-2 c = search needs
+
+goes-requires : tie.Need-goes-requires Inv-loop μ-loop
+goes-requires c κs = search needs
+
+with-position-requires : tie.Need-with-position-requires Inv-loop μ-loop
+with-position-requires c κs = search needs
+
+add-p : tie.Need-add-p Inv-loop μ-loop
+add-p c = search needs
+
+loop-less : tie.Need-loop-less Inv-loop μ-loop
+loop-less c = search needs
+
+loop-again : tie.Need-loop-again Inv-loop μ-loop
+loop-again c =
+    let at = c .before .before .before .before .before .loop in
+    let args = c .before .before .before .before .before .before .before .before .args in (
+      omega arith,
+      next-more (args .ends) (args .elements .now) (args .predecessors .now) (args .state) (args .child) (at .set) (c .with-position .result) (at .p)
+          (c .before .goes .result) (at .inv .1) (c .before .goes .ensures) (c .with-position .ensures),
+    )
+
+returns : tie.Need-returns Inv-loop μ-loop
+returns c j =
+    let at = c .before .loop in
+    let args = c .before .before .before .before .args in
+    let last : at .p ≡ args .count = omega arith in
+    at .inv .1 j ∙ ap (λ (n : ℕ). comesNext (args .ends) (args .elements .now) (args .predecessors .now) (args .state) (args .child) n j) last
+
+pub next-positions-spec : {M : Type 1} → statement M
+next-positions-spec =
+    tie.close
+    (tie.spec
+    Inv-loop
+    μ-loop
+    loop-holds
+    shared-slice-read-goes
+    mul-goes
+    shared-slice-read-goes-2
+    goes-requires
+    with-position-requires
+    add-p
+    loop-less
+    loop-again
+    returns)

@@ -1,0 +1,25 @@
+-- `models::step` meets its contract. Assumes nothing.
+use mathlib.Core.Path.{ap, _∙_}
+use Prim.Native.Nat.{min}
+use Rattle.models.specs.StepLaws.{stepped}
+use borrow.Author.Needs.{needs}
+use Rattle.models.proofs.step.Statement.{statement}
+use Rattle.models.proofs.step.Tie as tie
+
+fewer-requires : tie.Need-fewer-requires
+fewer-requires c κs = search needs
+
+fewer-requires-2 : tie.Need-fewer-requires-2
+fewer-requires-2 c κs = search needs
+
+next-positions-requires : tie.Need-next-positions-requires
+next-positions-requires c κs = search needs
+
+returns : tie.Need-returns
+returns c =
+    let args = c .before .before .before .before .before .args in
+    stepped (args .ends) (args .elements .now) (args .predecessors .now) (args .state) (args .child) (c .before .fewer2 .result) (c .next-positions .result)
+    (c .before .fewer2 .ensures ∙ ap (min 64) (c .before .before .fewer .ensures)) (c .next-positions .ensures)
+
+pub step-spec : {M : Type 1} → statement M
+step-spec = tie.close (tie.spec fewer-requires fewer-requires-2 next-positions-requires returns)

@@ -1,0 +1,8 @@
+pub mod Positions
+pub mod Marks
+pub mod Steps
+pub mod StepLaws
+pub mod Fitting
+pub mod Making
+pub mod Building
+pub mod BuildingLaws
