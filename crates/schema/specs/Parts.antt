@@ -7,11 +7,16 @@ use Prim.Native.Nat.{ℕ, suc, _+_, _≤_, _<_}
 use lib.Dec.{eqb}
 use lib.ListN.{length, drop, getD}
 use lib.Seq.{sets}
+use Rattle.schema.specs.declared.Follow.{Follow}
+use Rattle.schema.specs.declared.Follow.the-variants.{Close, More, Fail as FollowFail}
+use Rattle.schema.specs.declared.Part.{Part}
+use Rattle.schema.specs.declared.PartRead.{PartRead}
+use Rattle.schema.specs.declared.PartRead.the-variants.{Past as PartPast, Fail as PartFail}
 use Rattle.schema.specs.declared.Read.{Read}
 use Rattle.schema.specs.declared.Read.the-variants.{Past, Fail}
-use Rattle.schema_spec.specs.Declarations.{Use, Declaration, Indicator, indicated}
-use Rattle.schema_spec.specs.Machine.{Frame, Head, State, inUse, closed, past, isDead, longer, matching, step, Parsed, departs, atEnd, run}
-use Rattle.schema_spec.specs.Models.{Particle, named}
+use Rattle.schema_spec.specs.Declarations.{Use, Indicator, indicated, Separator, unparted, byBar, byComma}
+use Rattle.schema_spec.specs.Machine.{Frame, fresh, holding, join, Head, State, expecting, inUse, closed, past, isDead, longer, matching, step, Parsed, departs, atEnd, run}
+use Rattle.schema_spec.specs.Models.{Particle, named, uses}
 use Rattle.text_spec.specs.Bytes.{isBlank, continuesName}
 
 -- judging a text from a place on, in a state
@@ -39,9 +44,12 @@ abbrev pub due : State → (List ℕ → State) → List ℕ → State
 due whole part [] = whole
 due whole part (c ∷ w) = part (c ∷ w)
 
-abbrev pub Spelt : List ℕ → List ℕ → ℕ → Read → Type 0
-Spelt w s at (Past j) = (at ≤ j) × (j ≤ length s) × ((whole : State) (part : List ℕ → State) → Keyword whole part → from (due whole part w) s at ≡ from whole s j)
-Spelt w s at (Fail j) = (whole : State) (part : List ℕ → State) → Keyword whole part → from (due whole part w) s at ≡ departs j
+abbrev pub SpeltAs : List ℕ → List ℕ → ℕ → Read → Type 0
+SpeltAs w s at (Past j) = (at ≤ j) × (j ≤ length s) × ((whole : State) (part : List ℕ → State) → Keyword whole part → from (due whole part w) s at ≡ from whole s j)
+SpeltAs w s at (Fail j) = (whole : State) (part : List ℕ → State) → Keyword whole part → from (due whole part w) s at ≡ departs j
+
+pub record Spelt (w s : List ℕ) (at : ℕ) (r : Read) : Type 0 where
+  pub says : SpeltAs w s at r
 
 -- Names: the longest run of bytes that go on as a name.
 abbrev pub nameIn : List ℕ → List ℕ
@@ -57,11 +65,14 @@ pub record Naming (q : List ℕ → State) : Type 0 where
   pub lives : (n : List ℕ) → isDead (q n) ≡ false
   pub goes : (n : List ℕ) (k b : ℕ) → continuesName b ≡ true → step (q n) k b ≡ longer n b (q (n ++ (b ∷ [])))
 
-abbrev pub Named : List ℕ → ℕ → Read → Type 0
-Named s j (Past e) =
+abbrev pub NamedAs : List ℕ → ℕ → Read → Type 0
+NamedAs s j (Past e) =
     (j < e) × (e ≤ length s) × (e < length s → continuesName (byteAt s e) ≡ false)
     × ((q : List ℕ → State) → Naming q → from (q (byteAt s j ∷ [])) s (j + 1) ≡ from (q (nameIn (drop j s))) s e)
-Named s j (Fail e) = (q : List ℕ → State) → Naming q → from (q (byteAt s j ∷ [])) s (j + 1) ≡ departs e
+NamedAs s j (Fail e) = (q : List ℕ → State) → Naming q → from (q (byteAt s j ∷ [])) s (j + 1) ≡ departs e
+
+pub record Named (s : List ℕ) (j : ℕ) (r : Read) : Type 0 where
+  pub says : NamedAs s j r
 
 -- Indicators: q stands just after the particle p, a name or a group, among the open groups fs.
 pub data Ended (s : List ℕ) (at : ℕ) : State → Particle Use → List Frame → Head → Type 0 where
@@ -77,3 +88,85 @@ pub record Indicated (s : List ℕ) (at r : ℕ) : Type 0 where
   pub high : r ≤ length s
   pub by : Indicator
   pub same : (q : State) (p : Particle Use) (fs : List Frame) (h : Head) → Ended s at q p fs h → from q s at ≡ from (past (indicated by p) fs h) s r
+
+-- Uses of names: their places, in rising order from `at` to the end, noted in the lent cells from n on.
+abbrev pub Between : ℕ → ℕ → List ℕ → Type 0
+Between low high [] = low ≤ high
+Between low high (p ∷ ps) = (low ≤ p) × Between (suc p) high ps
+
+pub record Noted (s : List ℕ) (at n : ℕ) (cells cells′ : List ℕ) (end count : ℕ) (us : List Use) : Type 0 where
+  pub places : List ℕ
+  pub names : us ≡ map (useAt s) places
+  pub rise : Between at end places
+  pub counted : count ≡ n + length places
+  pub wrote : cells′ ≡ sets cells n places
+
+-- a particle, from the state in which it is due
+pub record ParticleRead (s : List ℕ) (at depth n : ℕ) (cells cells′ : List ℕ) (p : Part) : Type 0 where
+  pub high : p .at ≤ length s
+  pub few : p .n ≤ p .at
+  pub tree : Particle Use
+  pub noted : Noted s at n cells cells′ (p .at) (p .n) (uses tree)
+  pub same : (f : Frame) (fs : List Frame) (h : Head) → length fs ≡ depth → from (expecting f fs h) s at ≡ from (past tree (f ∷ fs) h) s (p .at)
+
+abbrev pub ParticledAs : List ℕ → ℕ → ℕ → ℕ → List ℕ → List ℕ → PartRead → Type 0
+ParticledAs s at depth n cells cells′ (PartPast p) = ParticleRead s at depth n cells cells′ p
+ParticledAs s at depth n cells cells′ (PartFail j) = (f : Frame) (fs : List Frame) (h : Head) → length fs ≡ depth → from (expecting f fs h) s at ≡ departs j
+
+pub record Particled (s : List ℕ) (at depth n : ℕ) (cells cells′ : List ℕ) (r : PartRead) : Type 0 where
+  pub says : ParticledAs s at depth n cells cells′ r
+
+-- a particle that is a name at i
+pub record NameRead (s : List ℕ) (i n : ℕ) (cells cells′ : List ℕ) (p : Part) : Type 0 where
+  pub high : p .at ≤ length s
+  pub few : p .n ≤ p .at
+  pub tree : Particle Use
+  pub noted : Noted s i n cells cells′ (p .at) (p .n) (uses tree)
+  pub same : (f : Frame) (fs : List Frame) (h : Head) → from (inUse i (byteAt s i ∷ []) f fs h) s (i + 1) ≡ from (past tree (f ∷ fs) h) s (p .at)
+
+abbrev pub NamePartAs : List ℕ → ℕ → ℕ → List ℕ → List ℕ → PartRead → Type 0
+NamePartAs s i n cells cells′ (PartPast p) = NameRead s i n cells cells′ p
+NamePartAs s i n cells cells′ (PartFail j) = (f : Frame) (fs : List Frame) (h : Head) → from (inUse i (byteAt s i ∷ []) f fs h) s (i + 1) ≡ departs j
+
+pub record NamePart (s : List ℕ) (i n : ℕ) (cells cells′ : List ℕ) (r : PartRead) : Type 0 where
+  pub says : NamePartAs s i n cells cells′ r
+
+-- a group, from just after its `(`
+pub record GroupRead (s : List ℕ) (at depth n : ℕ) (cells cells′ : List ℕ) (p : Part) : Type 0 where
+  pub high : p .at ≤ length s
+  pub few : p .n ≤ p .at
+  pub tree : Particle Use
+  pub noted : Noted s at n cells cells′ (p .at) (p .n) (uses tree)
+  pub same : (fs : List Frame) (h : Head) → length fs ≡ depth → from (expecting fresh fs h) s at ≡ from (closed tree fs h) s (p .at)
+
+abbrev pub GroupedAs : List ℕ → ℕ → ℕ → ℕ → List ℕ → List ℕ → PartRead → Type 0
+GroupedAs s at depth n cells cells′ (PartPast p) = GroupRead s at depth n cells cells′ p
+GroupedAs s at depth n cells cells′ (PartFail j) = (fs : List Frame) (h : Head) → length fs ≡ depth → from (expecting fresh fs h) s at ≡ departs j
+
+pub record Grouped (s : List ℕ) (at depth n : ℕ) (cells cells′ : List ℕ) (r : PartRead) : Type 0 where
+  pub says : GroupedAs s at depth n cells cells′ r
+
+-- Separators: the code keeps the byte that parts a group, 0 while nothing does.
+pub data Holds : Frame → ℕ → Type 0 where
+  holds-none : Holds fresh 0
+  holds-bar : {p : Particle Use} → Holds (holding byBar p) 0x7C
+  holds-comma : {p : Particle Use} → Holds (holding byComma p) 0x2C
+
+abbrev pub separatorOf : ℕ → Separator
+separatorOf b = cond (eqb b 0x7C) byBar byComma
+
+-- a byte may part a group that is parted so
+abbrev pub mayPart : ℕ → ℕ → Bool
+mayPart sep b = cond (eqb sep 0) (eqb b 0x7C || eqb b 0x2C) (eqb b sep)
+
+-- what follows a particle: the end of its group, or a separator
+abbrev pub FollowedAs : List ℕ → ℕ → ℕ → Follow → Type 0
+FollowedAs s at sep (Close j) =
+    (at < j) × (j ≤ length s) × ((p : Particle Use) (f : Frame) (fs : List Frame) (h : Head) → from (past p (f ∷ fs) h) s at ≡ from (closed (join f p) fs h) s j)
+FollowedAs s at sep (More b j) =
+    (at < j) × (j ≤ length s) × ((p : Particle Use) (f : Frame) → Holds f sep → Holds (holding (separatorOf b) (join f p)) b)
+    × ((p : Particle Use) (f : Frame) (fs : List Frame) (h : Head) → Holds f sep → from (past p (f ∷ fs) h) s at ≡ from (expecting (holding (separatorOf b) (join f p)) fs h) s j)
+FollowedAs s at sep (FollowFail j) = (p : Particle Use) (f : Frame) (fs : List Frame) (h : Head) → Holds f sep → from (past p (f ∷ fs) h) s at ≡ departs j
+
+pub record Followed (s : List ℕ) (at sep : ℕ) (r : Follow) : Type 0 where
+  pub says : FollowedAs s at sep r

@@ -3,12 +3,30 @@ ghost use mathlib.Core.Bool.{true};
 ghost use mathlib.Core.Path.{_≡_};
 ghost use Prim.Native.Nat.{ℕ, _+_, _≤_, _<_};
 ghost use lib.ListN.{length, set};
-ghost use Rattle.schema.specs.Parts.{byteAt, Skipped, Spelt, Named, isIndicator, Indicated};
+ghost use Rattle.schema.specs.Parts.{byteAt, Skipped, Spelt, Named, isIndicator, Indicated, mayPart, Followed, NamePart, Particled, Grouped};
 ghost use Rattle.text_spec.specs.Bytes.{startsName};
 
 // A part of a text: the place past it, or where the text departs from the grammar.
 pub enum Read {
     Past(usize),
+    Fail(usize),
+}
+
+// A part of a model: the place past it, and the number of names noted so far.
+pub struct Part {
+    pub at: usize,
+    pub n: usize,
+}
+
+pub enum PartRead {
+    Past(Part),
+    Fail(usize),
+}
+
+// What follows a particle in its group: the place past its end, or its separator and the place past that.
+pub enum Follow {
+    Close(usize),
+    More(u8, usize),
     Fail(usize),
 }
 
@@ -98,4 +116,108 @@ fn indicator(s: &[u8], at: usize) -> usize
         return at + 1;
     }
     at
+}
+
+// Whether the byte may part a group that `sep` parts, or nothing yet where that is 0.
+fn may_part(sep: u8, b: u8) -> bool
+    ensures { λ r. ⌜ r ≡ mayPart sep b ⌝ }
+{
+    if sep == 0 {
+        if b == 124 {
+            return true;
+        }
+        return b == 44;
+    }
+    b == sep
+}
+
+// What follows a particle that ends at `at`, after blanks.
+fn after_particle(s: &[u8], at: usize, sep: u8) -> Follow
+    requires { ⌜ at ≤ length (now s) ⌝ }
+    ensures { λ r. ⌜ Followed (now (s .entry)) at sep r ⌝ }
+{
+    let i = skip(s, at);
+    if s.len() <= i {
+        return Follow::Fail(i);
+    }
+    let b = s[i];
+    if b == 41 {
+        return Follow::Close(i + 1);
+    }
+    if may_part(sep, b) {
+        return Follow::More(b, i + 1);
+    }
+    Follow::Fail(i)
+}
+
+// Past the name at i and its indicator. Its place is noted at n.
+fn use_name(s: &[u8], i: usize, out: &mut [usize], n: usize) -> PartRead
+    requires { ⌜ (i < length (now s)) × (startsName (byteAt (now s) i) ≡ true) × (n ≤ i) ⌝ }
+    ensures { λ r. ⌜ NamePart (now (s .entry)) i n (now (out .entry)) (now (out .exit)) r ⌝ }
+{
+    note(out, n, i);
+    match name_end(s, i) {
+        Read::Past(e) => PartRead::Past(Part {
+            at: indicator(s, e),
+            n: n + 1,
+        }),
+        Read::Fail(j) => PartRead::Fail(j),
+    }
+}
+
+// Past a particle that is due at `at`, after blanks, in a group with `depth` groups around it. The places of its names are noted from n on.
+fn particle(s: &[u8], at: usize, depth: usize, out: &mut [usize], n: usize) -> PartRead
+    requires { ⌜ (at ≤ length (now s)) × (depth ≤ 7) × (n ≤ at) ⌝ }
+    ensures { λ r. ⌜ Particled (now (s .entry)) at depth n (now (out .entry)) (now (out .exit)) r ⌝ }
+{
+    let i = skip(s, at);
+    if s.len() <= i {
+        return PartRead::Fail(i);
+    }
+    if text::starts_name(s[i]) {
+        return use_name(s, i, out, n);
+    }
+    if s[i] != 40 {
+        return PartRead::Fail(i);
+    }
+    if 7 <= depth {
+        return PartRead::Fail(i);
+    }
+    match group(s, i + 1, depth + 1, out, n) {
+        PartRead::Past(p) => {
+            let end = p.at;
+            PartRead::Past(Part {
+                at: indicator(s, end),
+                n: p.n,
+            })
+        }
+        PartRead::Fail(j) => PartRead::Fail(j),
+    }
+}
+
+// Past the group whose first particle is due at `at`.
+fn group(s: &[u8], at: usize, depth: usize, out: &mut [usize], n: usize) -> PartRead
+    requires { ⌜ (at ≤ length (now s)) × (depth ≤ 7) × (n ≤ at) ⌝ }
+    ensures { λ r. ⌜ Grouped (now (s .entry)) at depth n (now (out .entry)) (now (out .exit)) r ⌝ }
+{
+    let mut i = at;
+    let mut count = n;
+    let mut sep: u8 = 0;
+    loop {
+        match particle(s, i, depth, out, count) {
+            PartRead::Fail(j) => return PartRead::Fail(j),
+            PartRead::Past(p) => {
+                let end = p.at;
+                count = p.n;
+                match after_particle(s, end, sep) {
+                    Follow::Fail(j) => return PartRead::Fail(j),
+                    Follow::Close(j) => return PartRead::Past(Part { at: j, n: count }),
+                    Follow::More(b, j) => {
+                        sep = b;
+                        i = j;
+                    }
+                }
+            }
+        }
+    }
 }

@@ -51,7 +51,7 @@ returns c =
     let i = c .before .before .before .before .loop .i in
     let R = c .before .before .before .before .loop .inv .3 in
     let e = sym (c .before .continues-name .ensures) ∙ not-true _ (c .if1 .taken) in
-    (search needs, search needs, (λ _. e), λ q N. R .same q N ∙ ap (λ (n : List ℕ). from (q n) s i) (whole R (λ _. e)))
+    record { says = (search needs, search needs, (λ _. e), λ q N. R .same q N ∙ ap (λ (n : List ℕ). from (q n) s i) (whole R (λ _. e))) }
 
 sub-if2 : tie.Need-sub-if2 Inv-loop μ-loop
 sub-if2 c = search needs
@@ -62,7 +62,7 @@ returns-2 c =
     let i = c .before .before .before .before .before .loop .i in
     let R = c .before .before .before .before .before .loop .inv .3 in
     let m = R .many in
-    λ q N. R .same q N ∙ name-long s i q N (R .bytes) (c .before .before .before .before .loop-test .taken) (omega arith) (sym (c .before .before .continues-name .ensures) ∙ not-false _ (c .before .if1 .left))
+    record { says = λ q N. R .same q N ∙ name-long s i q N (R .bytes) (c .before .before .before .before .loop-test .taken) (omega arith) (sym (c .before .before .continues-name .ensures) ∙ not-false _ (c .before .if1 .left)) }
 
 add-i-2 : tie.Need-add-i-2 Inv-loop μ-loop
 add-i-2 c = search needs
@@ -96,7 +96,7 @@ returns-3 c =
     let s = c .before .before .before .args .s .now in
     let i = c .before .loop .i in
     let R = c .before .loop .inv .3 in
-    (search needs, search needs, (λ h. absurd (omega arith)), λ q N. R .same q N ∙ ap (λ (n : List ℕ). from (q n) s i) (whole R (λ h. absurd (omega arith))))
+    record { says = (search needs, search needs, (λ h. absurd (omega arith)), λ q N. R .same q N ∙ ap (λ (n : List ℕ). from (q n) s i) (whole R (λ h. absurd (omega arith)))) }
 
 pub name-end-spec : {M : Type 1} → statement M
 name-end-spec =

@@ -22,7 +22,7 @@ loop-holds : tie.Need-loop-holds Inv-loop μ-loop
 loop-holds c = (search needs, search needs, search needs, λ q p K. refl)
 
 returns : tie.Need-returns Inv-loop μ-loop
-returns c = λ q p K. c .before .before .loop .inv .3 q p K ∙ spell-short K (c .before .before .before .args .w .now) (c .before .before .before .args .s .now) (c .before .before .loop .i) (c .before .before .loop .k) (c .before .loop-test .taken) (c .if1 .taken)
+returns c = record { says = λ q p K. c .before .before .loop .inv .3 q p K ∙ spell-short K (c .before .before .before .args .w .now) (c .before .before .before .args .s .now) (c .before .before .loop .i) (c .before .before .loop .k) (c .before .loop-test .taken) (c .if1 .taken) }
 
 shared-slice-read-if2 : tie.Need-shared-slice-read-if2 Inv-loop μ-loop
 shared-slice-read-if2 c = search needs
@@ -31,7 +31,7 @@ shared-slice-read-if2-2 : tie.Need-shared-slice-read-if2-2 Inv-loop μ-loop
 shared-slice-read-if2-2 c = search needs
 
 returns-2 : tie.Need-returns-2 Inv-loop μ-loop
-returns-2 c = λ q p K. c .before .before .before .before .before .loop .inv .3 q p K ∙ spell-not K (c .before .before .before .before .before .before .args .w .now) (c .before .before .before .before .before .before .args .s .now) (c .before .before .before .before .before .loop .i) (c .before .before .before .before .before .loop .k) (c .before .before .before .before .loop-test .taken) (c .before .before .before .if1 .left) (c .if2 .taken)
+returns-2 c = record { says = λ q p K. c .before .before .before .before .before .loop .inv .3 q p K ∙ spell-not K (c .before .before .before .before .before .before .args .w .now) (c .before .before .before .before .before .before .args .s .now) (c .before .before .before .before .before .loop .i) (c .before .before .before .before .before .loop .k) (c .before .before .before .before .loop-test .taken) (c .before .before .before .if1 .left) (c .if2 .taken) }
 
 add-i : tie.Need-add-i Inv-loop μ-loop
 add-i c = search needs
@@ -46,7 +46,7 @@ loop-again : tie.Need-loop-again Inv-loop μ-loop
 loop-again c = (search needs, search needs, search needs, λ q p K. c .before .before .before .before .before .loop .inv .3 q p K ∙ spell-on K (c .before .before .before .before .before .before .args .w .now) (c .before .before .before .before .before .before .args .s .now) (c .before .before .before .before .before .loop .i) (c .before .before .before .before .before .loop .k) (c .before .before .before .before .loop-test .taken) (c .before .before .before .if1 .left) (c .if2 .left))
 
 returns-3 : tie.Need-returns-3 Inv-loop μ-loop
-returns-3 c = (search needs, search needs, λ q p K. c .before .loop .inv .3 q p K ∙ spell-all K (c .before .before .args .w .now) (c .before .before .args .s .now) (c .before .loop .i) (c .before .loop .k) (c .loop-test .left))
+returns-3 c = record { says = (search needs, search needs, λ q p K. c .before .loop .inv .3 q p K ∙ spell-all K (c .before .before .args .w .now) (c .before .before .args .s .now) (c .before .loop .i) (c .before .loop .k) (c .loop-test .left)) }
 
 pub spell-spec : {M : Type 1} → statement M
 spell-spec =
