@@ -50,8 +50,8 @@ sets-more o n [] ys = ap (λ (k : ℕ). sets o k ys) (sym (add-zero n))
 sets-more o n (x ∷ xs) ys = sets-more (set o n x) (suc n) xs ys ∙ ap (λ (k : ℕ). sets (sets (set o n x) (suc n) xs) k ys) (suc-add n (length xs) ∙ sym (add-suc n (length xs)))
 
 module _ {s : List ℕ} {at n : ℕ} {o : List ℕ} where
-  pub noted-none : Noted s at n o o at n []
-  noted-none = record { places = []; names = refl; rise = omega arith; counted = sym (add-zero n); wrote = refl }
+  pub noted-none : {end : ℕ} → at ≤ end → Noted s at n o o end n []
+  noted-none h = record { places = []; names = refl; rise = h; counted = sym (add-zero n); wrote = refl }
 
   pub noted-more : {o′ o″ : List ℕ} {i c j d : ℕ} {us vs : List Use} → Noted s at n o o′ i c us → Noted s i c o′ o″ j d vs → Noted s at n o o″ j d (us ++ vs)
   noted-more {o′} {o″} {i} {c} {j} {d} M N =
@@ -277,7 +277,7 @@ pub record GroupUpTo (s : List ℕ) (at depth n : ℕ) (o o′ : List ℕ) (i co
   pub same : (fs : List Frame) (h : Head) → length fs ≡ depth → from (expecting fresh fs h) s at ≡ from (expecting frame fs h) s i
 
 pub group-start : {s : List ℕ} {at depth n : ℕ} {o : List ℕ} → at ≤ length s → n ≤ at → GroupUpTo s at depth n o o at n 0
-group-start h l = record { high = h; few = l; frame = fresh; holds = holds-none; noted = noted-none; same = λ fs h e. refl }
+group-start h l = record { high = h; few = l; frame = fresh; holds = holds-none; noted = noted-none (omega arith); same = λ fs h e. refl }
 
 pub group-length : {s : List ℕ} {at depth n i count sep : ℕ} {o o′ : List ℕ} → GroupUpTo s at depth n o o′ i count sep → length o′ ≡ length o
 group-length {n = n} {o = o} U = ap length (U .noted .wrote) ∙ length-sets o n (U .noted .places)

@@ -7,6 +7,9 @@ use Prim.Native.Nat.{ℕ, suc, _+_, _≤_, _<_}
 use lib.Dec.{eqb}
 use lib.ListN.{length, drop, getD}
 use lib.Seq.{sets}
+use Rattle.schema.specs.declared.Decl.{Decl}
+use Rattle.schema.specs.declared.DeclRead.{DeclRead}
+use Rattle.schema.specs.declared.DeclRead.the-variants.{Past as DeclPast, Fail as DeclFail}
 use Rattle.schema.specs.declared.Follow.{Follow}
 use Rattle.schema.specs.declared.Follow.the-variants.{Close, More, Fail as FollowFail}
 use Rattle.schema.specs.declared.Part.{Part}
@@ -14,10 +17,11 @@ use Rattle.schema.specs.declared.PartRead.{PartRead}
 use Rattle.schema.specs.declared.PartRead.the-variants.{Past as PartPast, Fail as PartFail}
 use Rattle.schema.specs.declared.Read.{Read}
 use Rattle.schema.specs.declared.Read.the-variants.{Past, Fail}
-use Rattle.schema_spec.specs.Declarations.{Use, Indicator, indicated, Separator, unparted, byBar, byComma}
-use Rattle.schema_spec.specs.Machine.{Frame, fresh, holding, join, Head, State, expecting, inUse, closed, past, isDead, longer, matching, step, Parsed, departs, atEnd, run}
-use Rattle.schema_spec.specs.Models.{Particle, named, uses}
+use Rattle.schema_spec.specs.Declarations.{Use, Declaration, Indicator, indicated, Separator, unparted, byBar, byComma}
+use Rattle.schema_spec.specs.Machine.{Frame, fresh, holding, join, Opening, Head, State, dead, between, beforeName, beforeContent, inPcdata, afterContent, declared, expecting, inUse, closed, past, isDead, longer, matching, step, Parsed, departs, atEnd, run}
+use Rattle.schema_spec.specs.Models.{Particle, named, uses, Content, pcdata, usesIn}
 use Rattle.text_spec.specs.Bytes.{isBlank, continuesName}
+use Rattle.text_spec.specs.Lists.{bytes}
 
 -- judging a text from a place on, in a state
 abbrev pub from : State → List ℕ → ℕ → Parsed
@@ -170,3 +174,91 @@ FollowedAs s at sep (FollowFail j) = (p : Particle Use) (f : Frame) (fs : List F
 
 pub record Followed (s : List ℕ) (at sep : ℕ) (r : Follow) : Type 0 where
   pub says : FollowedAs s at sep r
+
+-- Blanks of which one is required: q asks for the first, and in r further ones may stand.
+pub record Spacing (s : List ℕ) (at : ℕ) (q r : State) : Type 0 where
+  pub live : isDead r ≡ false
+  pub stays : (k b : ℕ) → isBlank b ≡ true → step r k b ≡ r
+  pub ends : (k : ℕ) → atEnd q k ≡ departs k
+  pub goes : at < length s → step q at (byteAt s at) ≡ cond (isBlank (byteAt s at)) r dead
+
+-- no blank stands at a place
+abbrev pub NoBlank : List ℕ → ℕ → Type 0
+NoBlank s i = i < length s → isBlank (byteAt s i) ≡ false
+
+abbrev pub SpacedAs : List ℕ → ℕ → Read → Type 0
+SpacedAs s at (Past j) = (at < j) × (j ≤ length s) × NoBlank s j × ((q r : State) → Spacing s at q r → from q s at ≡ from r s j)
+SpacedAs s at (Fail j) = (q r : State) → Spacing s at q r → from q s at ≡ departs j
+
+pub record Spaced (s : List ℕ) (at : ℕ) (r : Read) : Type 0 where
+  pub says : SpacedAs s at r
+
+-- Contents: `PCDATA` and what follows it; then any content, from a state that knows its declaration's head.
+abbrev pub PcdataAs : List ℕ → ℕ → Read → Type 0
+PcdataAs s at (Past j) = (at ≤ j) × (j ≤ length s) × ((h : Head) → from (inPcdata (bytes "PCDATA") h) s at ≡ from (afterContent pcdata h) s j)
+PcdataAs s at (Fail j) = (h : Head) → from (inPcdata (bytes "PCDATA") h) s at ≡ departs j
+
+pub record Pcdata (s : List ℕ) (at : ℕ) (r : Read) : Type 0 where
+  pub says : PcdataAs s at r
+
+-- after the content comes the state `next`
+pub record ContentRead (q : Head → State) (next : Content Use → Head → State) (s : List ℕ) (at n : ℕ) (cells cells′ : List ℕ) (p : Part) : Type 0 where
+  pub high : p .at ≤ length s
+  pub few : p .n ≤ p .at
+  pub content : Content Use
+  pub noted : Noted s at n cells cells′ (p .at) (p .n) (usesIn content)
+  pub same : (h : Head) → from (q h) s at ≡ from (next content h) s (p .at)
+
+abbrev pub ContentAs : (Head → State) → (Content Use → Head → State) → List ℕ → ℕ → ℕ → List ℕ → List ℕ → PartRead → Type 0
+ContentAs q next s at n cells cells′ (PartPast p) = ContentRead q next s at n cells cells′ p
+ContentAs q next s at n cells cells′ (PartFail j) = (h : Head) → from (q h) s at ≡ departs j
+
+pub record Contented (q : Head → State) (next : Content Use → Head → State) (s : List ℕ) (at n : ℕ) (cells cells′ : List ℕ) (r : PartRead) : Type 0 where
+  pub says : ContentAs q next s at n cells cells′ r
+
+-- after a whole declaration
+abbrev pub ended : Content Use → Head → State
+ended c h = between (declared c h ∷ h .opening .done)
+
+-- a part without names leaves the count as it is
+abbrev pub namelessOf : Read → ℕ → PartRead
+namelessOf (Past at) n = PartPast (record { at = at; n = n })
+namelessOf (Fail at) n = PartFail at
+
+-- Declarations: the keyword, the name, the rest.
+abbrev pub KeywordAs : List ℕ → ℕ → Read → Type 0
+KeywordAs s at (Past i) = (at < i) × (i ≤ length s) × NoBlank s i × ((ds : List Declaration) → from (between ds) s at ≡ from (beforeName (record { place = at; done = ds })) s i)
+KeywordAs s at (Fail j) = (ds : List Declaration) → from (between ds) s at ≡ departs j
+
+pub record Keyworded (s : List ℕ) (at : ℕ) (r : Read) : Type 0 where
+  pub says : KeywordAs s at r
+
+abbrev pub HeadAs : List ℕ → ℕ → Read → Type 0
+HeadAs s i (Past j) = (i < j) × (j ≤ length s) × NoBlank s j × ((o : Opening) → from (beforeName o) s i ≡ from (beforeContent (record { opening = o; name = useAt s i })) s j)
+HeadAs s i (Fail j) = (o : Opening) → from (beforeName o) s i ≡ departs j
+
+pub record Headed (s : List ℕ) (i : ℕ) (r : Read) : Type 0 where
+  pub says : HeadAs s i r
+
+pub record DeclarationRead (s : List ℕ) (at n : ℕ) (cells cells′ : List ℕ) (d : Decl) : Type 0 where
+  pub high : d .at ≤ length s
+  pub few : d .n ≤ d .at
+  pub low : at ≤ d .name
+  pub named : d .name < d .at
+  pub content : Content Use
+  pub noted : Noted s at n cells cells′ (d .at) (d .n) (usesIn content)
+  pub same : (ds : List Declaration) → from (between ds) s at ≡ from (between (record { place = at; name = useAt s (d .name); content = content } ∷ ds)) s (d .at)
+
+abbrev pub DeclarationAs : List ℕ → ℕ → ℕ → List ℕ → List ℕ → DeclRead → Type 0
+DeclarationAs s at n cells cells′ (DeclPast d) = DeclarationRead s at n cells cells′ d
+DeclarationAs s at n cells cells′ (DeclFail j) = (ds : List Declaration) → from (between ds) s at ≡ departs j
+
+pub record Declared (s : List ℕ) (at n : ℕ) (cells cells′ : List ℕ) (r : DeclRead) : Type 0 where
+  pub says : DeclarationAs s at n cells cells′ r
+
+abbrev pub RestAs : List ℕ → ℕ → ℕ → ℕ → List ℕ → List ℕ → DeclRead → Type 0
+RestAs s name at n cells cells′ (DeclPast d) = (d .name ≡ name) × ContentRead beforeContent ended s at n cells cells′ (record { at = d .at; n = d .n })
+RestAs s name at n cells cells′ (DeclFail j) = (h : Head) → from (beforeContent h) s at ≡ departs j
+
+pub record DeclaredRest (s : List ℕ) (name at n : ℕ) (cells cells′ : List ℕ) (r : DeclRead) : Type 0 where
+  pub says : RestAs s name at n cells cells′ r

@@ -3,7 +3,8 @@ ghost use mathlib.Core.Bool.{true};
 ghost use mathlib.Core.Path.{_≡_};
 ghost use Prim.Native.Nat.{ℕ, _+_, _≤_, _<_};
 ghost use lib.ListN.{length, set};
-ghost use Rattle.schema.specs.Parts.{byteAt, Skipped, Spelt, Named, isIndicator, Indicated, mayPart, Followed, NamePart, Particled, Grouped};
+ghost use Rattle.schema.specs.Parts.{byteAt, Skipped, Spelt, Named, isIndicator, Indicated, mayPart, Followed, NamePart, Particled, Grouped, NoBlank, Spaced, Pcdata, Contented, ended, namelessOf, Keyworded, Headed, DeclaredRest, Declared};
+ghost use Rattle.schema_spec.specs.Machine.{beforeContent, afterOpen, afterContent};
 ghost use Rattle.text_spec.specs.Bytes.{startsName};
 
 // A part of a text: the place past it, or where the text departs from the grammar.
@@ -20,6 +21,18 @@ pub struct Part {
 
 pub enum PartRead {
     Past(Part),
+    Fail(usize),
+}
+
+// A declaration: the place past it, that of its name, and the number of names noted so far.
+pub struct Decl {
+    pub at: usize,
+    pub name: usize,
+    pub n: usize,
+}
+
+pub enum DeclRead {
+    Past(Decl),
     Fail(usize),
 }
 
@@ -219,5 +232,170 @@ fn group(s: &[u8], at: usize, depth: usize, out: &mut [usize], n: usize) -> Part
                 }
             }
         }
+    }
+}
+
+// Past the blanks at `at`, of which there must be one.
+fn space(s: &[u8], at: usize) -> Read
+    requires { ⌜ at ≤ length (now s) ⌝ }
+    ensures { λ r. ⌜ Spaced (now (s .entry)) at r ⌝ }
+{
+    if s.len() <= at {
+        return Read::Fail(at);
+    }
+    if text::is_blank(s[at]) {
+        return Read::Past(skip(s, at + 1));
+    }
+    Read::Fail(at)
+}
+
+// Past `PCDATA)`, with blanks before the `)`.
+fn pcdata(s: &[u8], at: usize) -> Read
+    requires { ⌜ at ≤ length (now s) ⌝ }
+    ensures { λ r. ⌜ Pcdata (now (s .entry)) at r ⌝ }
+{
+    match spell(s, at, b"PCDATA") {
+        Read::Fail(j) => Read::Fail(j),
+        Read::Past(j) => {
+            let i = skip(s, j);
+            if s.len() <= i {
+                return Read::Fail(i);
+            }
+            if s[i] == 41 {
+                return Read::Past(i + 1);
+            }
+            Read::Fail(i)
+        }
+    }
+}
+
+// A part of a model that has no names.
+fn nameless(r: Read, n: usize) -> PartRead
+    ensures { λ p. ⌜ p ≡ namelessOf r n ⌝ }
+{
+    match r {
+        Read::Past(at) => PartRead::Past(Part { at, n }),
+        Read::Fail(at) => PartRead::Fail(at),
+    }
+}
+
+// Past `(#PCDATA)` or a children model, whose `(` stands before `at`.
+fn model(s: &[u8], at: usize, out: &mut [usize], n: usize) -> PartRead
+    requires { ⌜ (at ≤ length (now s)) × (n ≤ at) ⌝ }
+    ensures { λ r. ⌜ Contented afterOpen afterContent (now (s .entry)) at n (now (out .entry)) (now (out .exit)) r ⌝ }
+{
+    let i = skip(s, at);
+    if s.len() <= i {
+        return PartRead::Fail(i);
+    }
+    if s[i] == 35 {
+        return nameless(pcdata(s, i + 1), n);
+    }
+    match group(s, i, 0, out, n) {
+        PartRead::Past(p) => {
+            let end = p.at;
+            PartRead::Past(Part {
+                at: indicator(s, end),
+                n: p.n,
+            })
+        }
+        PartRead::Fail(j) => PartRead::Fail(j),
+    }
+}
+
+// Past the content at `at`.
+fn content(s: &[u8], at: usize, out: &mut [usize], n: usize) -> PartRead
+    requires { ⌜ (at ≤ length (now s)) × (n ≤ at) × NoBlank (now s) at ⌝ }
+    ensures { λ r. ⌜ Contented beforeContent afterContent (now (s .entry)) at n (now (out .entry)) (now (out .exit)) r ⌝ }
+{
+    if s.len() <= at {
+        return PartRead::Fail(at);
+    }
+    if s[at] == 40 {
+        return model(s, at + 1, out, n);
+    }
+    if s[at] == 69 {
+        return nameless(spell(s, at + 1, b"MPTY"), n);
+    }
+    PartRead::Fail(at)
+}
+
+// Past the content at `at` and the `>` of its declaration.
+fn body(s: &[u8], at: usize, out: &mut [usize], n: usize) -> PartRead
+    requires { ⌜ (at ≤ length (now s)) × (n ≤ at) × NoBlank (now s) at ⌝ }
+    ensures { λ r. ⌜ Contented beforeContent ended (now (s .entry)) at n (now (out .entry)) (now (out .exit)) r ⌝ }
+{
+    match content(s, at, out, n) {
+        PartRead::Fail(j) => PartRead::Fail(j),
+        PartRead::Past(p) => {
+            let i = skip(s, p.at);
+            if s.len() <= i {
+                return PartRead::Fail(i);
+            }
+            if s[i] == 62 {
+                return PartRead::Past(Part { at: i + 1, n: p.n });
+            }
+            PartRead::Fail(i)
+        }
+    }
+}
+
+// Past `<!ELEMENT` at `at` and its blanks.
+fn keyword(s: &[u8], at: usize) -> Read
+    requires { ⌜ (at < length (now s)) × NoBlank (now s) at ⌝ }
+    ensures { λ r. ⌜ Keyworded (now (s .entry)) at r ⌝ }
+{
+    if s[at] != 60 {
+        return Read::Fail(at);
+    }
+    match spell(s, at + 1, b"!ELEMENT") {
+        Read::Past(j) => space(s, j),
+        Read::Fail(j) => Read::Fail(j),
+    }
+}
+
+// Past the declared name at i and its blanks.
+fn declared_name(s: &[u8], i: usize) -> Read
+    requires { ⌜ (i ≤ length (now s)) × NoBlank (now s) i ⌝ }
+    ensures { λ r. ⌜ Headed (now (s .entry)) i r ⌝ }
+{
+    if s.len() <= i {
+        return Read::Fail(i);
+    }
+    if !text::starts_name(s[i]) {
+        return Read::Fail(i);
+    }
+    match name_end(s, i) {
+        Read::Past(e) => space(s, e),
+        Read::Fail(j) => Read::Fail(j),
+    }
+}
+
+// The rest of a declaration whose name stands at `name` and whose content at `at`.
+fn declared(s: &[u8], name: usize, at: usize, out: &mut [usize], n: usize) -> DeclRead
+    requires { ⌜ (at ≤ length (now s)) × (n ≤ at) × NoBlank (now s) at ⌝ }
+    ensures { λ r. ⌜ DeclaredRest (now (s .entry)) name at n (now (out .entry)) (now (out .exit)) r ⌝ }
+{
+    match body(s, at, out, n) {
+        PartRead::Past(p) => DeclRead::Past(Decl {
+            at: p.at,
+            name,
+            n: p.n,
+        }),
+        PartRead::Fail(j) => DeclRead::Fail(j),
+    }
+}
+
+// Past the declaration at `at`. The places of the names in its content are noted from n on.
+fn declaration(s: &[u8], at: usize, out: &mut [usize], n: usize) -> DeclRead
+    requires { ⌜ (at < length (now s)) × (n ≤ at) × NoBlank (now s) at ⌝ }
+    ensures { λ r. ⌜ Declared (now (s .entry)) at n (now (out .entry)) (now (out .exit)) r ⌝ }
+{
+    match keyword(s, at) {
+        Read::Fail(j) => DeclRead::Fail(j),
+        Read::Past(i) => match declared_name(s, i) {
+            Read::Fail(j) => DeclRead::Fail(j),
+            Read::Past(j) => declared(s, i, j, out, n),
+        },
     }
 }
