@@ -1,3 +1,4 @@
 pub mod Judging
 pub mod Models
-pub mod Declarations
+pub mod Contents
+pub mod Limits

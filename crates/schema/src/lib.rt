@@ -2,9 +2,10 @@
 ghost use mathlib.Core.Bool.{true};
 ghost use mathlib.Core.Path.{_≡_};
 ghost use Prim.Native.Nat.{ℕ, _+_, _≤_, _<_};
-ghost use lib.ListN.{length, set};
+ghost use lib.ListN.{length, set, getD, replicate};
 ghost use Rattle.schema.specs.Parts.{byteAt, Skipped, Spelt, Named, isIndicator, Indicated, mayPart, Followed, NamePart, Particled, Grouped, NoBlank, Spaced, Pcdata, Contented, ended, namelessOf, Keyworded, Headed, DeclaredRest, Declared};
 ghost use Rattle.schema_spec.specs.Machine.{beforeContent, afterOpen, afterContent};
+ghost use Rattle.schema.specs.Whole.{overLimit, AllRead};
 ghost use Rattle.text_spec.specs.Bytes.{startsName};
 
 // A part of a text: the place past it, or where the text departs from the grammar.
@@ -398,4 +399,109 @@ fn declaration(s: &[u8], at: usize, out: &mut [usize], n: usize) -> DeclRead
             Read::Past(j) => declared(s, i, j, out, n),
         },
     }
+}
+
+// A schema: an accepted text in its normal form, in the first `len` bytes; the others are 0.
+pub struct Schema {
+    pub bytes: [u8; 8192],
+    pub len: usize,
+}
+
+impl Schema {
+    pub const MAX_DECLARATIONS: usize = 32;
+
+    pub const MAX_MODEL_NAMES: usize = 64;
+
+    pub const MAX_BYTES: usize = 8192;
+
+    pub const MAX_GROUPS: usize = 8;
+
+    pub const MAX_NAME_BYTES: usize = 31;
+
+    // The schema that the reader hands back on refusal.
+    pub fn empty() -> Self
+        ensures { λ r. ⌜ (r .bytes ≡ replicate 8192 0) × (r .len ≡ 0) ⌝ }
+    {
+        Schema {
+            bytes: [0; 8192],
+            len: 0,
+        }
+    }
+}
+
+// All declarations: how many there are, how many names their models use, and the first place that passes a limit, or the text's length.
+pub struct Counts {
+    pub d: usize,
+    pub n: usize,
+    pub over: usize,
+}
+
+pub enum All {
+    Past(Counts),
+    Fail(usize),
+}
+
+// The cell k, or 0 where there is none.
+fn cell(cells: &[usize], k: usize) -> usize
+    ensures { λ r. ⌜ r ≡ getD (now (cells .entry)) k 0 ⌝ }
+{
+    if k < cells.len() {
+        return cells[k];
+    }
+    0
+}
+
+// The first place that passes a limit, after a declaration that starts at i, is the one with index d and takes the count of names from n to m.
+fn over_limit(
+    size: usize,
+    over: usize,
+    d: usize,
+    i: usize,
+    n: usize,
+    m: usize,
+    uses: &[usize],
+) -> usize
+    requires { ⌜ n ≤ m ⌝ }
+    ensures { λ r. ⌜ r ≡ overLimit size over d i n m (now (uses .entry)) ⌝ }
+{
+    if over < size {
+        return over;
+    }
+    if Schema::MAX_DECLARATIONS <= d {
+        return i;
+    }
+    if Schema::MAX_MODEL_NAMES < m - n {
+        return cell(uses, n + Schema::MAX_MODEL_NAMES);
+    }
+    size
+}
+
+// Reads all declarations. The places of the declared names go to `names`, those of the names in models to `uses`.
+fn declarations(s: &[u8], names: &mut [usize], uses: &mut [usize]) -> All
+    requires { ⌜ (length (now names) ≡ 32) × (length (now uses) ≡ 2049) ⌝ }
+    ensures { λ r. ⌜ AllRead (now (s .entry)) (now (names .exit)) (now (uses .exit)) r ⌝ }
+{
+    let size = s.len();
+    let mut i = skip(s, 0);
+    let mut d: usize = 0;
+    let mut n: usize = 0;
+    let mut over = size;
+    while i < s.len() {
+        match declaration(s, i, uses, n) {
+            DeclRead::Fail(j) => return All::Fail(j),
+            DeclRead::Past(p) => {
+                let end = p.at;
+                let m = p.n;
+                note(names, d, p.name);
+                over = over_limit(size, over, d, i, n, m, uses);
+                d += 1;
+                n = m;
+                i = skip(s, end);
+            }
+        }
+    }
+    if d == 0 {
+        return All::Fail(i);
+    }
+    All::Past(Counts { d, n, over })
 }

@@ -1,6 +1,6 @@
 -- `body` meets its contract: the content, blanks, and the byte after them. Assumes nothing.
 use mathlib.Core.Path.{_≡_, refl, sym, ap, _∙_}
-use Rattle.schema.proofs.Declarations.{body-fail, content-high, body-end, body-close, body-not}
+use Rattle.schema.proofs.Contents.{body-fail, content-high, body-end, body-close, body-not}
 use native.Mathlib.Omega.{arith}
 use borrow.Author.Needs.{needs}
 use Rattle.schema.proofs.body.Statement.{statement}

@@ -1,6 +1,6 @@
 -- `content` meets its contract: its first byte decides. Assumes nothing.
 use mathlib.Core.Path.{_≡_, refl, sym, ap, _∙_}
-use Rattle.schema.proofs.Declarations.{content-end, content-model, content-empty, content-not}
+use Rattle.schema.proofs.Contents.{content-end, content-model, content-empty, content-not}
 use native.Mathlib.Omega.{arith}
 use borrow.Author.Needs.{needs}
 use Rattle.schema.proofs.content.Statement.{statement}

@@ -1,6 +1,6 @@
 -- `declaration` meets its contract: keyword, name, content and end. Assumes nothing.
 use native.Mathlib.Omega.{arith}
-use Rattle.schema.proofs.Declarations.{declaration-fail, name-known, declaration-name-fail, content-known, declaration-read}
+use Rattle.schema.proofs.Contents.{declaration-fail, name-known, declaration-name-fail, content-known, declaration-read}
 use borrow.Author.Needs.{needs}
 use Rattle.schema.proofs.declaration.Statement.{statement}
 use Rattle.schema.proofs.declaration.Tie as tie

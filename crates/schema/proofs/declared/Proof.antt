@@ -1,5 +1,5 @@
 -- `declared` meets its contract. Assumes nothing.
-use Rattle.schema.proofs.Declarations.{rest-past, rest-fail}
+use Rattle.schema.proofs.Contents.{rest-past, rest-fail}
 use native.Mathlib.Omega.{arith}
 use borrow.Author.Needs.{needs}
 use Rattle.schema.proofs.declared.Statement.{statement}

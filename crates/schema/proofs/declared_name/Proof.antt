@@ -1,7 +1,7 @@
 -- `declared_name` meets its contract. Assumes nothing.
 use mathlib.Core.Path.{_≡_, refl, sym, ap, _∙_}
 use borrow.Author.Tests.{not-true, not-false}
-use Rattle.schema.proofs.Declarations.{head-end, head-not, head-fail, head-high, head-past}
+use Rattle.schema.proofs.Contents.{head-end, head-not, head-fail, head-high, head-past}
 use native.Mathlib.Omega.{arith}
 use borrow.Author.Needs.{needs}
 use Rattle.schema.proofs.declared_name.Statement.{statement}

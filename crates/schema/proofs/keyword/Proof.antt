@@ -1,6 +1,6 @@
 -- `keyword` meets its contract. Assumes nothing.
 use mathlib.Core.Path.{_≡_, refl, sym, ap, _∙_}
-use Rattle.schema.proofs.Declarations.{keyword-not, keyword-fail, keyword-high, keyword-past}
+use Rattle.schema.proofs.Contents.{keyword-not, keyword-fail, keyword-high, keyword-past}
 use native.Mathlib.Omega.{arith}
 use borrow.Author.Needs.{needs}
 use Rattle.schema.proofs.keyword.Statement.{statement}

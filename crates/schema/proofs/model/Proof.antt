@@ -1,6 +1,6 @@
 -- `model` meets its contract: `#` or a group. Assumes nothing.
 use mathlib.Core.Path.{_≡_, refl, sym, ap, _∙_}
-use Rattle.schema.proofs.Declarations.{model-end, model-pcdata, model-fail, model-high, model-past}
+use Rattle.schema.proofs.Contents.{model-end, model-pcdata, model-fail, model-high, model-past}
 use native.Mathlib.Omega.{arith}
 use borrow.Author.Needs.{needs}
 use Rattle.schema.proofs.model.Statement.{statement}

@@ -1,6 +1,6 @@
 -- `pcdata` meets its contract: the keyword, blanks, and the byte after them. Assumes nothing.
 use mathlib.Core.Path.{_≡_, refl, sym, ap, _∙_}
-use Rattle.schema.proofs.Declarations.{pcdata-fail, pcdata-high, pcdata-end, pcdata-close, pcdata-not}
+use Rattle.schema.proofs.Contents.{pcdata-fail, pcdata-high, pcdata-end, pcdata-close, pcdata-not}
 use native.Mathlib.Omega.{arith}
 use borrow.Author.Needs.{needs}
 use Rattle.schema.proofs.pcdata.Statement.{statement}

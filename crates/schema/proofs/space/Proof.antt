@@ -1,6 +1,6 @@
 -- `space` meets its contract. Assumes nothing.
 use mathlib.Core.Path.{_≡_, refl, sym, ap, _∙_}
-use Rattle.schema.proofs.Declarations.{space-end, space-not, space-past}
+use Rattle.schema.proofs.Contents.{space-end, space-not, space-past}
 use native.Mathlib.Omega.{arith}
 use borrow.Author.Needs.{needs}
 use Rattle.schema.proofs.space.Statement.{statement}
