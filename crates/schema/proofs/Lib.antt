@@ -2,3 +2,4 @@ pub mod Judging
 pub mod Models
 pub mod Contents
 pub mod Limits
+pub mod Naming

@@ -1,11 +1,14 @@
 // Reading schema texts.
 ghost use mathlib.Core.Bool.{true};
+ghost use mathlib.Core.List.{[]};
 ghost use mathlib.Core.Path.{_≡_};
 ghost use Prim.Native.Nat.{ℕ, _+_, _≤_, _<_};
 ghost use lib.ListN.{length, set, getD, replicate};
 ghost use Rattle.schema.specs.Parts.{byteAt, Skipped, Spelt, Named, isIndicator, Indicated, mayPart, Followed, NamePart, Particled, Grouped, NoBlank, Spaced, Pcdata, Contented, ended, namelessOf, Keyworded, Headed, DeclaredRest, Declared};
 ghost use Rattle.schema_spec.specs.Machine.{beforeContent, afterOpen, afterContent};
 ghost use Rattle.schema.specs.Whole.{overLimit, AllRead};
+ghost use Rattle.schema.specs.Names.{nameAt, nameByte, firstPlace, namesBefore, isAmong, twiceAt, missingAt};
+ghost use Rattle.text_spec.specs.Lists.{sameBytes};
 ghost use Rattle.text_spec.specs.Bytes.{startsName};
 
 // A part of a text: the place past it, or where the text departs from the grammar.
@@ -504,4 +507,82 @@ fn declarations(s: &[u8], names: &mut [usize], uses: &mut [usize]) -> All
         return All::Fail(i);
     }
     All::Past(Counts { d, n, over })
+}
+
+// The byte at i if a name goes on with it, or 0.
+fn name_byte(s: &[u8], i: usize) -> u8
+    ensures { λ r. ⌜ r ≡ nameByte (now (s .entry)) i ⌝ }
+{
+    if s.len() <= i {
+        return 0;
+    }
+    let b = s[i];
+    if text::continues_name(b) {
+        return b;
+    }
+    0
+}
+
+// Whether the names at p and q are the same.
+fn same_name(s: &[u8], p: usize, q: usize) -> bool
+    ensures { λ r. ⌜ r ≡ sameBytes (nameAt (now (s .entry)) p) (nameAt (now (s .entry)) q) ⌝ }
+{
+    let mut i = p;
+    let mut j = q;
+    loop {
+        let a = name_byte(s, i);
+        if a != name_byte(s, j) {
+            return false;
+        }
+        if a == 0 {
+            return true;
+        }
+        i += 1;
+        j += 1;
+    }
+}
+
+// Whether the name at p is one of those at the first k of `names`.
+fn known(s: &[u8], names: &[usize], k: usize, p: usize) -> bool
+    requires { ⌜ k ≤ length (now names) ⌝ }
+    ensures { λ r. ⌜ r ≡ isAmong (now (s .entry)) (namesBefore (now (s .entry)) (now (names .entry)) k) p ⌝ }
+{
+    let mut i = k;
+    while 0 < i {
+        i -= 1;
+        if same_name(s, p, names[i]) {
+            return true;
+        }
+    }
+    false
+}
+
+// The first of the declared names that is declared before it, or the text's length.
+fn twice(s: &[u8], names: &[usize]) -> usize
+    ensures { λ r. ⌜ r ≡ firstPlace (now (s .entry)) (twiceAt (now (s .entry)) [] (now (names .entry))) ⌝ }
+{
+    let mut i = 0;
+    while i < names.len() {
+        let p = names[i];
+        if known(s, names, i, p) {
+            return p;
+        }
+        i += 1;
+    }
+    s.len()
+}
+
+// The first of the used names that is not declared, or the text's length.
+fn undeclared(s: &[u8], names: &[usize], uses: &[usize]) -> usize
+    ensures { λ r. ⌜ r ≡ firstPlace (now (s .entry)) (missingAt (now (s .entry)) (namesBefore (now (s .entry)) (now (names .entry)) (length (now (names .entry)))) (now (uses .entry))) ⌝ }
+{
+    let mut i = 0;
+    while i < uses.len() {
+        let p = uses[i];
+        if !known(s, names, names.len(), p) {
+            return p;
+        }
+        i += 1;
+    }
+    s.len()
 }
