@@ -3,3 +3,4 @@ pub mod Models
 pub mod Contents
 pub mod Limits
 pub mod Naming
+pub mod Writing

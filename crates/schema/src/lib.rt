@@ -8,6 +8,7 @@ ghost use Rattle.schema.specs.Parts.{byteAt, Skipped, Spelt, Named, isIn
 ghost use Rattle.schema_spec.specs.Machine.{beforeContent, afterOpen, afterContent};
 ghost use Rattle.schema.specs.Whole.{overLimit, AllRead};
 ghost use Rattle.schema.specs.Names.{nameAt, nameByte, firstPlace, namesBefore, isAmong, twiceAt, missingAt};
+ghost use Rattle.schema.specs.Normal.{Steps, Stored, Normalized};
 ghost use Rattle.text_spec.specs.Lists.{sameBytes};
 ghost use Rattle.text_spec.specs.Bytes.{startsName};
 
@@ -585,4 +586,94 @@ fn undeclared(s: &[u8], names: &[usize], uses: &[usize]) -> usize
         i += 1;
     }
     s.len()
+}
+
+// One byte on in the normal form: how many required blanks are due and whether a run of blanks goes on, and the byte that is kept, if any.
+pub struct NormalStep {
+    pub due: u8,
+    pub run: bool,
+    pub keep: bool,
+    pub byte: u8,
+}
+
+fn normal_step(due: u8, run: bool, b: u8) -> NormalStep
+    ensures { λ r. ⌜ Steps due run b r ⌝ }
+{
+    if text::is_blank(b) {
+        if due == 0 {
+            return NormalStep {
+                due,
+                run: true,
+                keep: false,
+                byte: b,
+            };
+        }
+        if run {
+            return NormalStep {
+                due,
+                run: true,
+                keep: false,
+                byte: b,
+            };
+        }
+        return NormalStep {
+            due: due - 1,
+            run: true,
+            keep: true,
+            byte: 32,
+        };
+    }
+    if due != 0 {
+        return NormalStep {
+            due,
+            run: false,
+            keep: true,
+            byte: b,
+        };
+    }
+    if b == 60 {
+        return NormalStep {
+            due: 2,
+            run: false,
+            keep: true,
+            byte: b,
+        };
+    }
+    NormalStep {
+        due,
+        run: false,
+        keep: true,
+        byte: b,
+    }
+}
+
+// Stores the byte at n, if it is kept, and gives the next place.
+fn store(out: &mut [u8], n: usize, keep: bool, byte: u8) -> usize
+    requires { ⌜ n < length (now out) ⌝ }
+    ensures { λ r. ⌜ Stored (now (out .entry)) (now (out .exit)) n keep byte r ⌝ }
+{
+    if keep {
+        out[n] = byte;
+        return n + 1;
+    }
+    n
+}
+
+// Writes the normal form of the text and gives its length.
+fn write_normal(s: &[u8], out: &mut [u8]) -> usize
+    requires { ⌜ length (now s) ≤ length (now out) ⌝ }
+    ensures { λ r. ⌜ Normalized (now (s .entry)) (now (out .entry)) (now (out .exit)) r ⌝ }
+{
+    let mut i = 0;
+    let mut n = 0;
+    let mut due: u8 = 0;
+    let mut run = false;
+    while i < s.len() {
+        let r = normal_step(due, run, s[i]);
+        n = store(out, n, r.keep, r.byte);
+        due = r.due;
+        run = r.run;
+        i += 1;
+    }
+    n
 }
