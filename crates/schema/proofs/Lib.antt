@@ -4,3 +4,5 @@ pub mod Contents
 pub mod Limits
 pub mod Naming
 pub mod Writing
+pub mod Order
+pub mod Outcomes

@@ -321,6 +321,8 @@ module _ {s : List ℕ} {i d n over : ℕ} {names uses : List ℕ} (U : UpTo s i
         declarations = reverse (U .done);
         spelt = parsed ∙ at-end s i (between (U .done)) l ∙ go (U .done) (λ z. e (sym (U .count) ∙ z));
         count = length-reverse (U .done) ∙ U .count;
+        room = U .room;
+        room-uses = U .room-uses;
         limits = subst (λ (k : ℕ). Limits s (reverse (U .done)) d n over k names uses) g (U .limits);
       }
     where

@@ -57,6 +57,8 @@ pub record AllSpelt (s : List ℕ) (c : Counts) (names uses : List ℕ) : Type 0
   pub declarations : List Declaration
   pub spelt : parse s ≡ spells declarations
   pub count : length declarations ≡ c .d
+  pub room : length names ≡ maxDeclarations
+  pub room-uses : length uses ≡ maxDeclarations * maxModelNames + 1
   pub limits : Limits s declarations (c .d) (c .n) (c .over) (length s) names uses
 
 abbrev pub AllAs : List ℕ → List ℕ → List ℕ → All → Type 0

@@ -9,6 +9,8 @@ ghost use Rattle.schema_spec.specs.Machine.{beforeContent, afterOpen, afterCont
 ghost use Rattle.schema.specs.Whole.{overLimit, AllRead};
 ghost use Rattle.schema.specs.Names.{nameAt, nameByte, firstPlace, namesBefore, isAmong, twiceAt, missingAt};
 ghost use Rattle.schema.specs.Normal.{Steps, Stored, Normalized};
+ghost use Rattle.schema.specs.Answers.{inCells, Readable, Spelling, ReadAs};
+ghost use Rattle.schema_spec.specs.Records.{normal};
 ghost use Rattle.text_spec.specs.Lists.{sameBytes};
 ghost use Rattle.text_spec.specs.Bytes.{startsName};
 
@@ -676,4 +678,102 @@ fn write_normal(s: &[u8], out: &mut [u8]) -> usize
         i += 1;
     }
     n
+}
+
+// Why a schema text is turned back: refusals 2 to 7.
+pub enum Kind {
+    BadLength,
+    BadByte,
+    BadGrammar,
+    OverLimit,
+    DeclaredTwice,
+    Undeclared,
+}
+
+// The number of elements, or the refusal and its place.
+pub enum Answer {
+    Accepted(usize),
+    Refused(Kind, usize),
+}
+
+pub struct SchemaRead {
+    pub answer: Answer,
+    pub schema: Schema,
+}
+
+// On refusal the empty schema is handed back.
+fn refused(kind: Kind, place: usize) -> SchemaRead
+    ensures { λ r. ⌜ (r .answer ≡ Answer.Refused kind place) × (r .schema .bytes ≡ replicate 8192 0) × (r .schema .len ≡ 0) ⌝ }
+{
+    SchemaRead {
+        answer: Answer::Refused(kind, place),
+        schema: Schema::empty(),
+    }
+}
+
+// An accepted text with d declarations, in its normal form.
+fn accepted(s: &[u8], d: usize) -> SchemaRead
+    requires { ⌜ length (now s) ≤ 8192 ⌝ }
+    ensures { λ r. ⌜ (r .answer ≡ Answer.Accepted d) × (r .schema .bytes ≡ inCells 8192 (normal (now (s .entry)))) × (r .schema .len ≡ length (normal (now (s .entry)))) ⌝ }
+{
+    let mut bytes = [0u8; 8192];
+    let len = write_normal(s, &mut bytes);
+    SchemaRead {
+        answer: Answer::Accepted(d),
+        schema: Schema { bytes, len },
+    }
+}
+
+// Judges 6 and 7 on a text whose names are declared at `names` and used at `uses`.
+fn judge_names(s: &[u8], names: &[usize], uses: &[usize]) -> SchemaRead
+    requires { ⌜ Spelling (now s) (now names) (now uses) ⌝ }
+    ensures { λ r. ⌜ ReadAs (now (s .entry)) r ⌝ }
+{
+    let again = twice(s, names);
+    if again < s.len() {
+        return refused(Kind::DeclaredTwice, again);
+    }
+    let missing = undeclared(s, names, uses);
+    if missing < s.len() {
+        return refused(Kind::Undeclared, missing);
+    }
+    accepted(s, names.len())
+}
+
+// Judges 4 to 7 on a text that passes 2 and 3.
+fn judge(s: &[u8]) -> SchemaRead
+    requires { ⌜ Readable (now s) ⌝ }
+    ensures { λ r. ⌜ ReadAs (now (s .entry)) r ⌝ }
+{
+    let mut names = [0usize; 32];
+    let mut uses = [0usize; 2049];
+    match declarations(s, &mut names, &mut uses) {
+        All::Fail(j) => refused(Kind::BadGrammar, j),
+        All::Past(c) => {
+            let d = c.d;
+            let n = c.n;
+            let over = c.over;
+            if over < s.len() {
+                return refused(Kind::OverLimit, over);
+            }
+            judge_names(s, &names[..d], &uses[..n])
+        }
+    }
+}
+
+// Reads a schema text: the refusal that comes first, or the schema.
+pub fn read_schema(text: &[u8]) -> SchemaRead
+    ensures { λ r. ⌜ ReadAs (now (text .entry)) r ⌝ }
+{
+    if text.len() == 0 {
+        return refused(Kind::BadLength, 0);
+    }
+    if Schema::MAX_BYTES < text.len() {
+        return refused(Kind::BadLength, 0);
+    }
+    let foreign = text::first_foreign(text);
+    if foreign < text.len() {
+        return refused(Kind::BadByte, foreign);
+    }
+    judge(text)
 }
