@@ -14,6 +14,9 @@ ghost use Rattle.schema_spec.specs.Records.{normal};
 ghost use Rattle.text_spec.specs.Lists.{sameBytes};
 ghost use Rattle.text_spec.specs.Bytes.{startsName};
 
+// The groups around the innermost one that may be open.
+const DEEPEST: usize = Schema::MAX_GROUPS - 1;
+
 // A part of a text: the place past it, or where the text departs from the grammar.
 pub enum Read {
     Past(usize),
@@ -104,7 +107,7 @@ fn name_end(s: &[u8], j: usize) -> Read
         if !text::continues_name(s[i]) {
             return Read::Past(i);
         }
-        if 31 <= i - j {
+        if Schema::MAX_NAME_BYTES <= i - j {
             return Read::Fail(i);
         }
         i += 1;
@@ -200,7 +203,7 @@ fn particle(s: &[u8], at: usize, depth: usize, out: &mut [usize], n: usize) -> P
     if s[i] != 40 {
         return PartRead::Fail(i);
     }
-    if 7 <= depth {
+    if DEEPEST <= depth {
         return PartRead::Fail(i);
     }
     match group(s, i + 1, depth + 1, out, n) {
