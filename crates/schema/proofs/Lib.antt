@@ -6,3 +6,4 @@ pub mod Naming
 pub mod Writing
 pub mod Order
 pub mod Outcomes
+pub mod Rereading

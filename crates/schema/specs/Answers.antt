@@ -1,8 +1,10 @@
 -- What the schema reader answers, in the definition's terms. Assumes nothing.
+use mathlib.Core.Bool.{Bool, _&&_}
 use mathlib.Core.List.{List, [], _++_}
 use mathlib.Core.Path.{_≡_}
 use Prim.Native.Nat.{ℕ, _-_, _≤_}
-use lib.ListN.{length, replicate}
+use lib.Dec.{leb}
+use lib.ListN.{length, take, replicate}
 use Rattle.schema.specs.declared.Answer.{Answer}
 use Rattle.schema.specs.declared.Answer.the-variants.{Accepted, Refused}
 use Rattle.schema.specs.declared.Kind.{Kind}
@@ -12,9 +14,10 @@ use Rattle.schema.specs.Whole.{Kept}
 use Rattle.schema_spec.specs.Declarations.{Declaration}
 use Rattle.schema_spec.specs.Machine.{spells, parse}
 use Rattle.schema_spec.specs.Reading.{readSchema}
-use Rattle.schema_spec.specs.Records.{schemaRecord}
+use Rattle.schema_spec.specs.Records.{schemaRecord, isSchemaRecord}
 use Rattle.schema_spec.specs.Schemas.{Schema}
 use Rattle.text_spec.specs.Limits.{maxSchemaBytes}
+use Rattle.text_spec.specs.Lists.{sameBytes}
 use Rattle.text_spec.specs.Refusals.{Reason, badLength, badByte, badSchema, overSchemaLimit, declaredTwice, undeclaredInModel, at, Outcome, accepted, refused}
 use Rattle.text_spec.specs.Texts.{lengthRefusals, byteRefusals}
 
@@ -58,3 +61,7 @@ pub record Spelling (text names uses : List ℕ) : Type 0 where
   pub declarations : List Declaration
   pub spelt : parse text ≡ spells declarations
   pub kept : Kept text declarations (length names) (length uses) (length text) names uses
+
+-- Refusal 1: a record in cells, with its length, is one that an accepted text gives.
+abbrev pub passesRecord : List ℕ → ℕ → Bool
+passesRecord cells size = leb size maxSchemaBytes && (sameBytes cells (inCells maxSchemaBytes (take size cells)) && isSchemaRecord (take size cells))

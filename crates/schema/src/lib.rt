@@ -9,7 +9,7 @@ ghost use Rattle.schema_spec.specs.Machine.{beforeContent, afterOpen, afterCont
 ghost use Rattle.schema.specs.Whole.{overLimit, AllRead};
 ghost use Rattle.schema.specs.Names.{nameAt, nameByte, firstPlace, namesBefore, isAmong, twiceAt, missingAt};
 ghost use Rattle.schema.specs.Normal.{Steps, Stored, Normalized};
-ghost use Rattle.schema.specs.Answers.{inCells, Readable, Spelling, ReadAs};
+ghost use Rattle.schema.specs.Answers.{inCells, Readable, Spelling, ReadAs, passesRecord};
 ghost use Rattle.schema_spec.specs.Records.{normal};
 ghost use Rattle.text_spec.specs.Lists.{sameBytes};
 ghost use Rattle.text_spec.specs.Bytes.{startsName};
@@ -779,4 +779,45 @@ pub fn read_schema(text: &[u8]) -> SchemaRead
         return refused(Kind::BadByte, foreign);
     }
     judge(text)
+}
+
+// Whether two slices hold the same bytes.
+fn same_cells(a: &[u8], b: &[u8]) -> bool
+    ensures { λ r. ⌜ r ≡ sameBytes (now (a .entry)) (now (b .entry)) ⌝ }
+{
+    if a.len() != b.len() {
+        return false;
+    }
+    let mut i = 0;
+    while i < a.len() {
+        if a[i] != b[i] {
+            return false;
+        }
+        i += 1;
+    }
+    true
+}
+
+// Whether the record is one that `read_schema` can hand back for an accepted text: reading it again gives it again.
+pub fn is_schema_record(schema: Schema) -> bool
+    ensures { λ r. ⌜ r ≡ passesRecord (schema .bytes) (schema .len) ⌝ }
+{
+    let bytes = schema.bytes;
+    let len = schema.len;
+    if Schema::MAX_BYTES < len {
+        return false;
+    }
+    let read = read_schema(&bytes[..len]);
+    let answer = read.answer;
+    match answer {
+        Answer::Refused(_, _) => false,
+        Answer::Accepted(_) => {
+            let again = read.schema;
+            let cells = again.bytes;
+            if again.len != len {
+                return false;
+            }
+            same_cells(&cells, &bytes)
+        }
+    }
 }
