@@ -1,0 +1,187 @@
+-- Laws of names by their places: compared byte by byte, sought among others. Assumes nothing.
+use mathlib.Core.Bool.{Bool, true, false, cond, not, _&&_, _||_}
+use mathlib.Core.List.{List, [], _∷_, _++_, map}
+use mathlib.Core.Path.{_≡_, refl, sym, ap, ap₂, subst, _∙_}
+use Prim.Native.Nat.{ℕ, zero, suc, _+_, _-_, _≤_, _<_}
+use native.Mathlib.Numerals.{add-one}
+use native.Mathlib.Omega.{arith}
+use borrow.Author.Tests.{ltb-true, ltb-false, eq-eqb, ne-eqb}
+use lib.Dec.{eqb, ltb}
+use lib.ListN.{length, drop, take, getD, drop-of-length-le}
+use lib.Seq.{drop-cons, take-suc, take-length}
+use Rattle.schema.proofs.Judging.{yes, no, name-cons, name-stops}
+use Rattle.schema.proofs.Models.{map-append}
+use Rattle.schema.specs.Names.{nameAt, nameByte, firstPlace, namesBefore, isAmong, twiceAt, missingAt}
+use Rattle.schema.specs.Parts.{byteAt, nameIn, useAt}
+use Rattle.schema_spec.specs.Declarations.{Use, Declaration}
+use Rattle.schema_spec.specs.Reading.{usesOf, twicePlaces, undeclaredPlaces}
+use Rattle.schema_spec.specs.Schemas.{declaredNames}
+use Rattle.text_spec.specs.Bytes.{continuesName}
+use Rattle.text_spec.specs.Lists.{anyOf, filterBy, gather, first, valueOr, sameBytes}
+
+-- ---- the name at a place: over, or a byte and the name after it
+data View (s : List ℕ) (i : ℕ) : Type 0 where
+  over : nameAt s i ≡ [] → View s i
+  byte : (b : ℕ) → i < length s → (b ≡ 0 → ⊥) → nameAt s i ≡ b ∷ nameAt s (i + 1) → View s i
+
+view : (s : List ℕ) (i : ℕ) → View s i
+view s i = go (ltb i (length s)) refl
+  where
+    continues-not-zero : (b : ℕ) → continuesName b ≡ true → b ≡ 0 → ⊥
+    continues-not-zero b e z = let y : continuesName 0 ≡ true = ap continuesName (sym z) ∙ e in let x : _≡_ {A = ℕ} 0 1 = cc in omega arith
+
+    inside : i < length s → (t : Bool) → continuesName (byteAt s i) ≡ t → View s i
+    inside h true e = byte (byteAt s i) h (continues-not-zero (byteAt s i) e) (name-cons s i h e)
+    inside h false e = over (name-stops s i (λ _. e))
+
+    go : (t : Bool) → ltb i (length s) ≡ t → View s i
+    go true e = inside (ltb-true i (length s) e) (continuesName (byteAt s i)) refl
+    go false e = over (ap nameIn (drop-of-length-le s (ltb-false i (length s) e)))
+
+module _ (s : List ℕ) (i : ℕ) where
+  pub byte-none : length s ≤ i → 0 ≡ nameByte s i
+  byte-none h = sym (ap (λ (n : List ℕ). valueOr 0 (first n)) (name-stops s i (λ l. absurd (omega arith))))
+
+  pub byte-not : continuesName (byteAt s i) ≡ false → 0 ≡ nameByte s i
+  byte-not e = sym (ap (λ (n : List ℕ). valueOr 0 (first n)) (name-stops s i (λ l. e)))
+
+  pub byte-there : i < length s → continuesName (byteAt s i) ≡ true → byteAt s i ≡ nameByte s i
+  byte-there h e = sym (ap (λ (n : List ℕ). valueOr 0 (first n)) (name-cons s i h e))
+
+  pub byte-inside : {a : ℕ} → a ≡ nameByte s i → (a ≡ 0 → ⊥) → i < length s
+  byte-inside {a} e h = go (view s i)
+    where
+      go : View s i → i < length s
+      go (over n) = absurd (h (e ∙ ap (λ (n : List ℕ). valueOr 0 (first n)) n))
+      go (byte b l z n) = l
+
+-- ---- two names
+module _ (s : List ℕ) (i j : ℕ) where
+  pub same-not : (nameByte s i ≡ nameByte s j → ⊥) → sameBytes (nameAt s i) (nameAt s j) ≡ false
+  same-not h = go (view s i) (view s j)
+    where
+      go : View s i → View s j → sameBytes (nameAt s i) (nameAt s j) ≡ false
+      go (over m) (over n) = absurd (h (ap (λ (n : List ℕ). valueOr 0 (first n)) (m ∙ sym n)))
+      go (over m) (byte b l z n) = ap₂ sameBytes m n
+      go (byte a k y m) (over n) = ap₂ sameBytes m n
+      go (byte a k y m) (byte b l z n) =
+          ap₂ sameBytes m n
+          ∙ ap (λ (t : Bool). t && sameBytes (nameAt s (i + 1)) (nameAt s (j + 1)))
+          (ne-eqb a b (λ e. h (ap (λ (n : List ℕ). valueOr 0 (first n)) m ∙ e ∙ sym (ap (λ (n : List ℕ). valueOr 0 (first n)) n))))
+
+  pub same-ended : nameByte s i ≡ nameByte s j → nameByte s i ≡ 0 → sameBytes (nameAt s i) (nameAt s j) ≡ true
+  same-ended e h = go (view s i) (view s j)
+    where
+      go : View s i → View s j → sameBytes (nameAt s i) (nameAt s j) ≡ true
+      go (over m) (over n) = ap₂ sameBytes m n
+      go (over m) (byte b l z n) = absurd (z (sym (ap (λ (n : List ℕ). valueOr 0 (first n)) n) ∙ sym e ∙ h))
+      go (byte a k y m) v = absurd (y (sym (ap (λ (n : List ℕ). valueOr 0 (first n)) m) ∙ h))
+
+  pub same-on : nameByte s i ≡ nameByte s j → (nameByte s i ≡ 0 → ⊥) → sameBytes (nameAt s i) (nameAt s j) ≡ sameBytes (nameAt s (i + 1)) (nameAt s (j + 1))
+  same-on e h = go (view s i) (view s j)
+    where
+      go : View s i → View s j → sameBytes (nameAt s i) (nameAt s j) ≡ sameBytes (nameAt s (i + 1)) (nameAt s (j + 1))
+      go (over m) v = absurd (h (ap (λ (n : List ℕ). valueOr 0 (first n)) m))
+      go (byte a k y m) (over n) = absurd (h (e ∙ ap (λ (n : List ℕ). valueOr 0 (first n)) n))
+      go (byte a k y m) (byte b l z n) =
+          ap₂ sameBytes m n
+          ∙ ap (λ (t : Bool). t && sameBytes (nameAt s (i + 1)) (nameAt s (j + 1)))
+          (eq-eqb a b (sym (ap (λ (n : List ℕ). valueOr 0 (first n)) m) ∙ e ∙ ap (λ (n : List ℕ). valueOr 0 (first n)) n))
+
+-- ---- a name among others
+module _ (s ps : List ℕ) (i p : ℕ) (l : 0 < i) where
+  before-cons : namesBefore s ps i ≡ nameAt s (getD ps (i - 1) 0) ∷ namesBefore s ps (i - 1)
+  before-cons = let e : i ≡ suc (i - 1) = omega arith in ap (namesBefore s ps) e
+
+  pub among-here : sameBytes (nameAt s p) (nameAt s (getD ps (i - 1) 0)) ≡ true → isAmong s (namesBefore s ps i) p ≡ true
+  among-here e = ap (anyOf (sameBytes (nameAt s p))) before-cons ∙ ap (λ (t : Bool). t || isAmong s (namesBefore s ps (i - 1)) p) e
+
+  pub among-before : sameBytes (nameAt s p) (nameAt s (getD ps (i - 1) 0)) ≡ false → isAmong s (namesBefore s ps i) p ≡ isAmong s (namesBefore s ps (i - 1)) p
+  among-before e = ap (anyOf (sameBytes (nameAt s p))) before-cons ∙ ap (λ (t : Bool). t || isAmong s (namesBefore s ps (i - 1)) p) e
+
+pub among-none : (s ps : List ℕ) (i p : ℕ) → i ≤ 0 → isAmong s (namesBefore s ps i) p ≡ false
+among-none s ps i p h = let e : i ≡ 0 = omega arith in ap (λ (k : ℕ). isAmong s (namesBefore s ps k) p) e
+
+-- ---- the first name declared before, the first not declared
+module _ (s ps : List ℕ) (i : ℕ) where
+  twice-cons : i < length ps → twiceAt s (namesBefore s ps i) (drop i ps) ≡ cond (isAmong s (namesBefore s ps i) (getD ps i 0)) (getD ps i 0 ∷ twiceAt s (namesBefore s ps (suc i)) (drop (suc i) ps)) (twiceAt s (namesBefore s ps (suc i)) (drop (suc i) ps))
+  twice-cons h = ap (twiceAt s (namesBefore s ps i)) (drop-cons ps i 0 h)
+
+  pub twice-here : i < length ps → isAmong s (namesBefore s ps i) (getD ps i 0) ≡ true → firstPlace s (twiceAt s (namesBefore s ps i) (drop i ps)) ≡ getD ps i 0
+  twice-here h e = ap (firstPlace s) (twice-cons h ∙ yes (getD ps i 0 ∷ twiceAt s (namesBefore s ps (suc i)) (drop (suc i) ps)) _ e)
+
+  pub twice-later : i < length ps → isAmong s (namesBefore s ps i) (getD ps i 0) ≡ false
+      → firstPlace s (twiceAt s (namesBefore s ps i) (drop i ps)) ≡ firstPlace s (twiceAt s (namesBefore s ps (i + 1)) (drop (i + 1) ps))
+  twice-later h e = ap (firstPlace s) (twice-cons h ∙ no (getD ps i 0 ∷ twiceAt s (namesBefore s ps (suc i)) (drop (suc i) ps)) _ e) ∙ rw (add-one i)
+
+  pub twice-never : length ps ≤ i → firstPlace s (twiceAt s (namesBefore s ps i) (drop i ps)) ≡ length s
+  twice-never h = ap (λ (l : List ℕ). firstPlace s (twiceAt s (namesBefore s ps i) l)) (drop-of-length-le ps h)
+
+module _ (s : List ℕ) (ns : List (List ℕ)) (ps : List ℕ) (i : ℕ) where
+  missing-cons : i < length ps → missingAt s ns (drop i ps) ≡ cond (not (isAmong s ns (getD ps i 0))) (getD ps i 0 ∷ missingAt s ns (drop (suc i) ps)) (missingAt s ns (drop (suc i) ps))
+  missing-cons h = ap (missingAt s ns) (drop-cons ps i 0 h)
+
+  pub missing-here : i < length ps → isAmong s ns (getD ps i 0) ≡ false → firstPlace s (missingAt s ns (drop i ps)) ≡ getD ps i 0
+  missing-here h e = ap (firstPlace s) (missing-cons h ∙ yes (getD ps i 0 ∷ missingAt s ns (drop (suc i) ps)) _ (ap not e))
+
+  pub missing-later : i < length ps → isAmong s ns (getD ps i 0) ≡ true → firstPlace s (missingAt s ns (drop i ps)) ≡ firstPlace s (missingAt s ns (drop (i + 1) ps))
+  missing-later h e = ap (firstPlace s) (missing-cons h ∙ no (getD ps i 0 ∷ missingAt s ns (drop (suc i) ps)) _ (ap not e)) ∙ rw (add-one i)
+
+  pub missing-never : length ps ≤ i → firstPlace s (missingAt s ns (drop i ps)) ≡ length s
+  missing-never h = ap (λ (l : List ℕ). firstPlace s (missingAt s ns l)) (drop-of-length-le ps h)
+
+-- ---- against the definitions
+pub twice-places : (s : List ℕ) (ns : List (List ℕ)) (ds : List Declaration) (ps : List ℕ) → map (λ e. e .name) ds ≡ map (useAt s) ps → twicePlaces ns ds ≡ twiceAt s ns ps
+twice-places s ns [] [] e = refl
+twice-places s ns [] (p ∷ ps) e = absurd (let z : _≡_ {A = ℕ} 0 1 = cc in omega arith)
+twice-places s ns (d ∷ ds) [] e = absurd (let z : _≡_ {A = ℕ} 0 1 = cc in omega arith)
+twice-places s ns (d ∷ ds) (p ∷ ps) e =
+    let h : d .name ≡ useAt s p = cc in
+    let t : map (λ e. e .name) ds ≡ map (useAt s) ps = cc in
+    ap (λ (u : Use). cond (anyOf (sameBytes (u .name)) ns) (u .place ∷ twicePlaces (u .name ∷ ns) ds) (twicePlaces (u .name ∷ ns) ds)) h
+    ∙ ap (λ (l : List ℕ). cond (isAmong s ns p) (p ∷ l) l) (twice-places s (nameAt s p ∷ ns) ds ps t)
+
+any-append : {A : Type 0} (f : A → Bool) (xs : List A) (y : A) → anyOf f (xs ++ (y ∷ [])) ≡ (f y || anyOf f xs)
+any-append f [] y = refl
+any-append f (x ∷ xs) y = ap (λ (t : Bool). f x || t) (any-append f xs y) ∙ swap (f x) (f y) (anyOf f xs)
+  where
+    swap : (a b c : Bool) → (a || (b || c)) ≡ (b || (a || c))
+    swap true true c = refl
+    swap true false c = refl
+    swap false b c = refl
+
+-- the order in which names are sought does not matter
+any-before : (f : List ℕ → Bool) (s ps : List ℕ) (k : ℕ) → k ≤ length ps → anyOf f (map (nameAt s) (take k ps)) ≡ anyOf f (namesBefore s ps k)
+any-before f s ps zero h = refl
+any-before f s ps (suc k) h =
+    ap (λ (l : List ℕ). anyOf f (map (nameAt s) l)) (take-suc ps k 0 (omega arith)) ∙ ap (anyOf f) (map-append (nameAt s) (take k ps) (getD ps k 0 ∷ []))
+    ∙ any-append f (map (nameAt s) (take k ps)) (nameAt s (getD ps k 0)) ∙ ap (λ (t : Bool). f (nameAt s (getD ps k 0)) || t) (any-before f s ps k (omega arith))
+
+declared-names : (s : List ℕ) (ds : List Declaration) (ps : List ℕ) → map (λ e. e .name) ds ≡ map (useAt s) ps → declaredNames ds ≡ map (nameAt s) ps
+declared-names s [] [] e = refl
+declared-names s [] (p ∷ ps) e = absurd (let z : _≡_ {A = ℕ} 0 1 = cc in omega arith)
+declared-names s (d ∷ ds) [] e = absurd (let z : _≡_ {A = ℕ} 0 1 = cc in omega arith)
+declared-names s (d ∷ ds) (p ∷ ps) e =
+    let h : d .name ≡ useAt s p = cc in
+    let t : map (λ e. e .name) ds ≡ map (useAt s) ps = cc in
+    ap₂ (λ (n : List ℕ) (l : List (List ℕ)). n ∷ l) (ap (λ (u : Use). u .name) h) (declared-names s ds ps t)
+
+missing-by : (s : List ℕ) (f : List ℕ → Bool) (g : ℕ → Bool) → ((p : ℕ) → f (nameAt s p) ≡ g p) → (ps : List ℕ) → map (λ u. u .place) (filterBy (λ u. f (u .name)) (map (useAt s) ps)) ≡ filterBy g ps
+missing-by s f g h [] = refl
+missing-by s f g h (p ∷ ps) =
+    ap (λ (t : Bool). map (λ u. u .place) (cond t (useAt s p ∷ filterBy (λ u. f (u .name)) (map (useAt s) ps)) (filterBy (λ u. f (u .name)) (map (useAt s) ps)))) (h p)
+    ∙ go (g p) ∙ ap (λ (l : List ℕ). cond (g p) (p ∷ l) l) (missing-by s f g h ps)
+  where
+    rest : List Use
+    rest = filterBy (λ u. f (u .name)) (map (useAt s) ps)
+
+    go : (t : Bool) → map (λ u. u .place) (cond t (useAt s p ∷ rest) rest) ≡ cond t (p ∷ map (λ u. u .place) rest) (map (λ u. u .place) rest)
+    go true = refl
+    go false = refl
+
+pub undeclared-places : (s : List ℕ) (ds : List Declaration) (ns ps : List ℕ) → map (λ e. e .name) ds ≡ map (useAt s) ns → gather usesOf ds ≡ map (useAt s) ps
+    → undeclaredPlaces ds ≡ missingAt s (namesBefore s ns (length ns)) ps
+undeclared-places s ds ns ps d u =
+    ap (λ (us : List Use). map (λ u. u .place) (filterBy (λ u. not (anyOf (sameBytes (u .name)) (declaredNames ds))) us)) u
+    ∙ missing-by s (λ n. not (anyOf (sameBytes n) (declaredNames ds))) (λ p. not (isAmong s (namesBefore s ns (length ns)) p))
+    (λ p. ap not (ap (anyOf (sameBytes (nameAt s p))) (declared-names s ds ns d ∙ ap (map (nameAt s)) (sym (take-length ns))) ∙ any-before (sameBytes (nameAt s p)) s ns (length ns) (omega arith))) ps

@@ -1,0 +1,268 @@
+-- Laws of the reader's answer: each refusal in its order, and acceptance. Assumes nothing.
+use mathlib.Core.Bool.{Bool, true, false, cond, _||_}
+use mathlib.Core.List.{List, [], _∷_, _++_, map, append-nil, List·Memᴰ as In, List·Memᴰ·head as here}
+use mathlib.Core.Option.{Option, none, some}
+use mathlib.Core.Path.{_≡_, refl, sym, ap, ap₂, subst, _∙_}
+use Prim.Native.Nat.{ℕ, zero, suc, _+_, _*_, _-_, _≤_, _<_}
+use native.Mathlib.Omega.{arith}
+use borrow.Author.Tests.{lt-ltb, le-ltb}
+use lib.Dec.{ltb}
+use lib.ListN.{length, drop, take, replicate, length-map, length-replicate, length-append}
+use lib.Seq.{take-length, length-take-le}
+use Rattle.schema.proofs.Judging.{yes, no}
+use Rattle.schema.proofs.Naming.{twice-places, undeclared-places}
+use Rattle.schema.proofs.Order.{Later, later-none, later-all, later-append, least-first, place-found, place-none, places-rise, filter-rise, twice-rise}
+use Rattle.schema.specs.Answers.{reasonOf, meant, sized, inCells, ReadAs, Readable, Spelling}
+use Rattle.schema.specs.Names.{firstPlace, namesBefore, isAmong, twiceAt, missingAt}
+use Rattle.schema.specs.Normal.{Normalized}
+use Rattle.schema.specs.Parts.{useAt, Between}
+use Rattle.schema.specs.Whole.{Kept, Limits, within, passed, AllSpelt, AllAs, AllRead}
+use Rattle.schema.specs.declared.All.{All}
+use Rattle.schema.specs.declared.All.the-variants.{Past as AllPast, Fail as AllFail}
+use Rattle.schema.specs.declared.Answer.the-variants.{Accepted, Refused}
+use Rattle.schema.specs.declared.Counts.{Counts}
+use Rattle.schema.specs.declared.Kind.{Kind}
+use Rattle.schema.specs.declared.Kind.the-variants.{BadLength, BadByte, BadGrammar, OverLimit, DeclaredTwice, Undeclared}
+use Rattle.schema.specs.declared.SchemaRead.{SchemaRead}
+use Rattle.schema_spec.specs.Declarations.{Use, Declaration}
+use Rattle.schema_spec.specs.Machine.{Parsed, spells, departs, parse}
+use Rattle.schema_spec.specs.Reading.{limitPlaces, twicePlaces, undeclaredPlaces, usesOf, parsedRefusals, parsedSchema, schemaRefusals, readSchema}
+use Rattle.schema_spec.specs.Records.{normal, recordBy, schemaRecord}
+use Rattle.schema_spec.specs.Schemas.{Schema, schemaOf, resolved, declaredNames}
+use Rattle.text.specs.Places.{foreignPlace}
+use Rattle.text_spec.specs.Bytes.{isForeign}
+use Rattle.text_spec.specs.Limits.{maxSchemaBytes}
+use Rattle.text_spec.specs.Lists.{isEmpty, placesFrom, gather}
+use Rattle.text_spec.specs.Refusals.{Reason, badLength, badByte, badSchema, overSchemaLimit, declaredTwice, undeclaredInModel, numberOf, Refusal, at, allAt, given, firstOf, Outcome, accepted, refused, byFirst, judged}
+use Rattle.text_spec.specs.Texts.{lengthRefusals, byteRefusals}
+
+-- ---- a refusal
+-- the first refusal that applies
+abbrev FirstIs : List ℕ → Refusal → Type 0
+FirstIs text f = firstOf (schemaRefusals text) ≡ some f
+
+first-outcome : (text : List ℕ) (f : Refusal) → FirstIs text f → readSchema text ≡ refused f
+unfolding readSchema
+first-outcome text f e = ap (λ (o : Option Refusal). byFirst o (parsedSchema (parse text))) e
+
+empty-record : (text : List ℕ) (f : Refusal) → readSchema text ≡ refused f → schemaRecord text ≡ []
+unfolding schemaRecord
+empty-record text f e = ap (λ (o : Outcome Schema). recordBy o (normal text)) e
+
+-- what `refused` answers
+module _ (text : List ℕ) {k : Kind} {p : ℕ} {r : SchemaRead} (a : (r .answer ≡ Refused k p) × (r .schema .bytes ≡ replicate 8192 0) × (r .schema .len ≡ 0)) where
+  read-refused : FirstIs text (at (reasonOf k) p) → ReadAs text r
+  read-refused e =
+      let o = first-outcome text (at (reasonOf k) p) e in
+      let n = empty-record text (at (reasonOf k) p) o in
+      record { outcome = ap meant (a .0) ∙ ap sized (sym o); bytes = a .1 ∙ ap (inCells 8192) (sym n); size = a .2 ∙ ap length (sym n) }
+
+-- ---- acceptance
+accepted-outcome : (text : List ℕ) {ds : List Declaration} → parse text ≡ spells ds → schemaRefusals text ≡ [] → readSchema text ≡ accepted (schemaOf ds)
+unfolding readSchema firstOf
+accepted-outcome text e f = ap₂ (λ (fs : List Refusal) (q : Parsed). judged fs (parsedSchema q)) f e
+
+accepted-record : (text : List ℕ) {s : Schema} → readSchema text ≡ accepted s → schemaRecord text ≡ normal text
+unfolding schemaRecord
+accepted-record text e = ap (λ (o : Outcome Schema). recordBy o (normal text)) e
+
+elements : (ds : List Declaration) → length (schemaOf ds) ≡ length ds
+unfolding schemaOf
+elements ds = length-map ds (resolved (declaredNames ds))
+
+-- ---- 2 and 3
+parsed-later : (r : Reason) → numberOf r < 4 → (q : Parsed) → Later r (parsedRefusals q)
+parsed-later r h (departs k) = later-all r badSchema (k ∷ []) h
+parsed-later r h (spells ds) =
+    later-append r (allAt overSchemaLimit (limitPlaces ds)) (allAt declaredTwice (twicePlaces [] ds) ++ allAt undeclaredInModel (undeclaredPlaces ds)) (later-all r overSchemaLimit (limitPlaces ds) (omega arith))
+    (later-append r (allAt declaredTwice (twicePlaces [] ds)) (allAt undeclaredInModel (undeclaredPlaces ds)) (later-all r declaredTwice (twicePlaces [] ds) (omega arith)) (later-all r undeclaredInModel (undeclaredPlaces ds) (omega arith)))
+
+byte-first : (text : List ℕ) → lengthRefusals maxSchemaBytes text ≡ [] → (k : ℕ) → In k (placesFrom 0 isForeign text) → ((x : ℕ) → In x (placesFrom 0 isForeign text) → k ≤ x) → FirstIs text (at badByte k)
+unfolding schemaRefusals
+byte-first text e k i l =
+    ap (λ (x : List Refusal). firstOf (x ++ (byteRefusals text ++ parsedRefusals (parse text)))) e
+    ∙ least-first badByte (parsedRefusals (parse text)) (parsed-later badByte (omega arith) (parse text)) (placesFrom 0 isForeign text) k i l
+
+module _ (text : List ℕ) where
+  length-first : (isEmpty text || ltb maxSchemaBytes (length text)) ≡ true → FirstIs text (at badLength 0)
+  unfolding schemaRefusals
+  length-first e =
+      ap (λ (t : Bool). firstOf (given t (at badLength 0) ++ (byteRefusals text ++ parsedRefusals (parse text)))) e
+      ∙ least-first badLength (byteRefusals text ++ parsedRefusals (parse text))
+      (later-append badLength (byteRefusals text) (parsedRefusals (parse text)) (later-all badLength badByte (placesFrom 0 isForeign text) (omega arith)) (parsed-later badLength (omega arith) (parse text)))
+      (0 ∷ []) 0 (here refl) (λ x i. omega arith)
+
+  pub read-empty : {r : SchemaRead} → (r .answer ≡ Refused BadLength 0) × (r .schema .bytes ≡ replicate 8192 0) × (r .schema .len ≡ 0) → length text ≡ 0 → ReadAs text r
+  read-empty a e = read-refused text a (length-first (go text e))
+    where
+      go : (t : List ℕ) → length t ≡ 0 → (isEmpty t || ltb maxSchemaBytes (length t)) ≡ true
+      go [] e = refl
+      go (b ∷ t) e = absurd (omega arith)
+
+  pub read-long : {r : SchemaRead} → (r .answer ≡ Refused BadLength 0) × (r .schema .bytes ≡ replicate 8192 0) × (r .schema .len ≡ 0) → 8192 < length text → ReadAs text r
+  read-long a h = read-refused text a (length-first (go (isEmpty text)))
+    where
+      go : (t : Bool) → (t || ltb maxSchemaBytes (length text)) ≡ true
+      go true = refl
+      go false = lt-ltb maxSchemaBytes (length text) h
+
+module _ (text : List ℕ) (n : length text ≡ 0 → ⊥) (h : length text ≤ 8192) where
+  length-passes : lengthRefusals maxSchemaBytes text ≡ []
+  length-passes = ap (λ (t : Bool). given t (at badLength 0)) (go text n h)
+    where
+      go : (t : List ℕ) → (length t ≡ 0 → ⊥) → length t ≤ 8192 → (isEmpty t || ltb maxSchemaBytes (length t)) ≡ false
+      go [] n h = absurd (n refl)
+      go (b ∷ t) n h = le-ltb maxSchemaBytes (length (b ∷ t)) h
+
+  rising : Between 0 (length text) (placesFrom 0 isForeign text)
+  rising = subst (λ (k : ℕ). Between 0 k (placesFrom 0 isForeign text)) (let e : 0 + length text ≡ length text = omega arith in e) (places-rise isForeign 0 text)
+
+  module _ {k : ℕ} (e : k ≡ foreignPlace text) where
+    pub read-foreign : {r : SchemaRead} → (r .answer ≡ Refused BadByte k) × (r .schema .bytes ≡ replicate 8192 0) × (r .schema .len ≡ 0) → k < length text → ReadAs text r
+    read-foreign a l = read-refused text a (go (place-found text (placesFrom 0 isForeign text) rising e l))
+      where
+        go : In k (placesFrom 0 isForeign text) × ((x : ℕ) → In x (placesFrom 0 isForeign text) → k ≤ x) → FirstIs text (at badByte k)
+        go z = byte-first text length-passes k (z .0) (z .1)
+
+    pub readable : length text ≤ k → Readable text
+    readable l = record { right-length = length-passes; right-bytes = ap (allAt badByte) (place-none text (placesFrom 0 isForeign text) rising e l); short = h }
+
+-- ---- 4 to 7
+module _ (text : List ℕ) (R : Readable text) where
+  refusals-from : {q : Parsed} → parse text ≡ q → schemaRefusals text ≡ parsedRefusals q
+  unfolding schemaRefusals
+  refusals-from e = ap₂ (λ (x y : List Refusal). x ++ (y ++ parsedRefusals (parse text))) (R .right-length) (R .right-bytes) ∙ ap parsedRefusals e
+
+  pub read-departs : {j : ℕ} {r : SchemaRead} → (r .answer ≡ Refused BadGrammar j) × (r .schema .bytes ≡ replicate 8192 0) × (r .schema .len ≡ 0) → parse text ≡ departs j → ReadAs text r
+  read-departs {j} a e = read-refused text a (ap firstOf (refusals-from e) ∙ least-first badSchema [] (later-none badSchema) (j ∷ []) j (here refl) (λ x i. only i))
+    where
+      only : {x : ℕ} → In x (j ∷ []) → j ≤ x
+      only (here q) = omega arith
+
+  pub read-over : {ds : List Declaration} {k : ℕ} {r : SchemaRead} → (r .answer ≡ Refused OverLimit k) × (r .schema .bytes ≡ replicate 8192 0) × (r .schema .len ≡ 0) → parse text ≡ spells ds
+      → In k (limitPlaces ds) → ((x : ℕ) → In x (limitPlaces ds) → k ≤ x) → ReadAs text r
+  read-over {ds} {k} a e i l =
+      read-refused text a
+      (ap firstOf (refusals-from e)
+      ∙ least-first overSchemaLimit (allAt declaredTwice (twicePlaces [] ds) ++ allAt undeclaredInModel (undeclaredPlaces ds))
+      (later-append overSchemaLimit (allAt declaredTwice (twicePlaces [] ds)) (allAt undeclaredInModel (undeclaredPlaces ds)) (later-all overSchemaLimit declaredTwice (twicePlaces [] ds) (omega arith))
+      (later-all overSchemaLimit undeclaredInModel (undeclaredPlaces ds) (omega arith)))
+      (limitPlaces ds) k i l)
+
+module _ {text names uses : List ℕ} (S : Spelling text names uses) where
+  declared-by : map (λ e. e .name) (S .declarations) ≡ map (useAt text) names
+  declared-by = S .kept .declared-at ∙ ap (map (useAt text)) (take-length names)
+
+  used-by : gather usesOf (S .declarations) ≡ map (useAt text) uses
+  used-by = S .kept .used-at ∙ ap (map (useAt text)) (take-length uses)
+
+  names-rise : Between 0 (length text) names
+  names-rise = subst (λ (l : List ℕ). Between 0 (length text) l) (take-length names) (S .kept .declared-rise)
+
+  uses-rise : Between 0 (length text) uses
+  uses-rise = subst (λ (l : List ℕ). Between 0 (length text) l) (take-length uses) (S .kept .used-rise)
+
+  all-refusals : schemaRefusals text ≡ allAt declaredTwice (twiceAt text [] names) ++ allAt undeclaredInModel (missingAt text (namesBefore text names (length names)) uses)
+  all-refusals =
+      refusals-from text (S .readable) (S .spelt)
+      ∙ ap (λ (l : List ℕ). allAt overSchemaLimit l ++ (allAt declaredTwice (twicePlaces [] (S .declarations)) ++ allAt undeclaredInModel (undeclaredPlaces (S .declarations)))) (S .kept .free)
+      ∙ ap₂ (λ (x y : List ℕ). allAt declaredTwice x ++ allAt undeclaredInModel y) (twice-places text [] (S .declarations) names declared-by) (undeclared-places text (S .declarations) names uses declared-by used-by)
+
+  module _ {again : ℕ} (t : again ≡ firstPlace text (twiceAt text [] names)) where
+    pub read-twice : {r : SchemaRead} → (r .answer ≡ Refused DeclaredTwice again) × (r .schema .bytes ≡ replicate 8192 0) × (r .schema .len ≡ 0) → again < length text → ReadAs text r
+    read-twice a l =
+        let z = place-found text (twiceAt text [] names) (twice-rise text [] 0 (length text) names names-rise) t l in
+        read-refused text a
+        (ap firstOf all-refusals
+        ∙ least-first declaredTwice (allAt undeclaredInModel (missingAt text (namesBefore text names (length names)) uses))
+        (later-all declaredTwice undeclaredInModel (missingAt text (namesBefore text names (length names)) uses) (omega arith)) (twiceAt text [] names) again (z .0) (z .1))
+
+    module _ (l : length text ≤ again) {lost : ℕ} (u : lost ≡ firstPlace text (missingAt text (namesBefore text names (length names)) uses)) where
+      lost-refusals : schemaRefusals text ≡ allAt undeclaredInModel (missingAt text (namesBefore text names (length names)) uses)
+      lost-refusals =
+          all-refusals
+          ∙ ap (λ (x : List ℕ). allAt declaredTwice x ++ allAt undeclaredInModel (missingAt text (namesBefore text names (length names)) uses))
+          (place-none text (twiceAt text [] names) (twice-rise text [] 0 (length text) names names-rise) t l)
+
+      lost-rise : Between 0 (length text) (missingAt text (namesBefore text names (length names)) uses)
+      lost-rise = filter-rise _ 0 (length text) uses uses-rise
+
+      pub read-undeclared : {r : SchemaRead} → (r .answer ≡ Refused Undeclared lost) × (r .schema .bytes ≡ replicate 8192 0) × (r .schema .len ≡ 0) → lost < length text → ReadAs text r
+      read-undeclared a h =
+          let z = place-found text (missingAt text (namesBefore text names (length names)) uses) lost-rise u h in
+          read-refused text a
+          (ap firstOf (lost-refusals ∙ sym (append-nil (allAt undeclaredInModel (missingAt text (namesBefore text names (length names)) uses))))
+          ∙ least-first undeclaredInModel [] (later-none undeclaredInModel) (missingAt text (namesBefore text names (length names)) uses) lost (z .0) (z .1))
+
+      free : length text ≤ lost → schemaRefusals text ≡ []
+      free h = lost-refusals ∙ ap (allAt undeclaredInModel) (place-none text (missingAt text (namesBefore text names (length names)) uses) lost-rise u h)
+
+      pub read-accepted : {r : SchemaRead} → (r .answer ≡ Accepted (length names)) × (r .schema .bytes ≡ inCells 8192 (normal text)) × (r .schema .len ≡ length (normal text)) → length text ≤ lost → ReadAs text r
+      read-accepted a h =
+          let o = accepted-outcome text (S .spelt) (free h) in
+          let n = accepted-record text o in
+          record {
+            outcome = ap meant (a .0) ∙ ap accepted (sym (elements (S .declarations) ∙ sym (length-map (S .declarations) (λ e. e .name)) ∙ ap length declared-by ∙ length-map names (useAt text))) ∙ ap sized (sym o);
+            bytes = a .1 ∙ ap (inCells 8192) (sym n);
+            size = a .2 ∙ ap length (sym n);
+          }
+
+-- ---- from the lent cells
+drop-replicate : (k n a : ℕ) → drop k (replicate n a) ≡ replicate (n - k) a
+drop-replicate zero n a = let e : n ≡ n - 0 = omega arith in ap (λ (m : ℕ). replicate m a) e
+drop-replicate (suc k) zero a = let e : 0 ≡ 0 - suc k = omega arith in ap (λ (m : ℕ). replicate m a) e
+drop-replicate (suc k) (suc n) a = drop-replicate k n a ∙ (let e : n - k ≡ suc n - suc k = omega arith in ap (λ (m : ℕ). replicate m a) e)
+
+pub normal-cells : {s cells : List ℕ} (size : ℕ) {r : ℕ} → Normalized s (replicate size 0) cells r → cells ≡ inCells size (normal s)
+normal-cells {s} size {r} N = N .wrote ∙ ap (λ (l : List ℕ). normal s ++ l) (drop-replicate r size 0 ∙ ap (λ (k : ℕ). replicate (size - k) 0) (N .size))
+
+module _ {s names uses : List ℕ} {r : All} (A : AllRead s names uses r) where
+  pub judge-departs : {j : ℕ} {q : SchemaRead} → Readable s → (q .answer ≡ Refused BadGrammar j) × (q .schema .bytes ≡ replicate 8192 0) × (q .schema .len ≡ 0) → r ≡ AllFail j → ReadAs s q
+  judge-departs R a u = read-departs s R a (subst (AllRead s names uses) u A .says)
+
+  module _ {c : Counts} (u : r ≡ AllPast c) where
+    spelt : AllSpelt s c names uses
+    spelt = subst (AllRead s names uses) u A .says
+
+    pub judge-over : {q : SchemaRead} → Readable s → (q .answer ≡ Refused OverLimit (c .over)) × (q .schema .bytes ≡ replicate 8192 0) × (q .schema .len ≡ 0) → c .over < length s → ReadAs s q
+    judge-over {q} R a h = go (spelt .limits)
+      where
+        go : Limits s (spelt .declarations) (c .d) (c .n) (c .over) (length s) names uses → ReadAs s q
+        go (within e k) = absurd (omega arith)
+        go (passed b d i l) = read-over s R a (spelt .spelt) i l
+
+    module _ (h : length s ≤ c .over) where
+      kept-all : Kept s (spelt .declarations) (c .d) (c .n) (length s) names uses
+      kept-all = go (spelt .limits)
+        where
+          go : Limits s (spelt .declarations) (c .d) (c .n) (c .over) (length s) names uses → Kept s (spelt .declarations) (c .d) (c .n) (length s) names uses
+          go (within e k) = k
+          go (passed b d i l) = absurd (omega arith)
+
+      pub judge-room : (c .d ≤ length names) × (c .n ≤ length uses) × (c .d ≡ length (take (c .d) names)) × (c .n ≡ length (take (c .n) uses))
+      judge-room =
+          let a = kept-all .some in
+          let b = kept-all .small in
+          let x = spelt .room in
+          let y = spelt .room-uses in
+          (omega arith, omega arith, sym (length-take-le (c .d) names (omega arith)), sym (length-take-le (c .n) uses (omega arith)))
+
+      pub judge-spelling : Readable s → Spelling s (take (c .d) names) (take (c .n) uses)
+      judge-spelling R =
+          let d = judge-room .2 in
+          let n = judge-room .3 in
+          record {
+            readable = R;
+            declarations = spelt .declarations;
+            spelt = spelt .spelt;
+            kept =
+                record {
+                  free = kept-all .free;
+                  some = let z = kept-all .some in omega arith;
+                  small = let z = kept-all .small in omega arith;
+                  declared-at = kept-all .declared-at ∙ ap (map (useAt s)) (sym (take-length (take (c .d) names)));
+                  used-at = kept-all .used-at ∙ ap (map (useAt s)) (sym (take-length (take (c .n) uses)));
+                  declared-rise = subst (λ (l : List ℕ). Between 0 (length s) l) (sym (take-length (take (c .d) names))) (kept-all .declared-rise);
+                  used-rise = subst (λ (l : List ℕ). Between 0 (length s) l) (sym (take-length (take (c .n) uses))) (kept-all .used-rise);
+                };
+          }

@@ -1,0 +1,34 @@
+-- `over_limit` meets its contract: the tests in their order. Assumes nothing.
+use mathlib.Core.Path.{sym, _∙_}
+use Prim.Native.Nat.{_-_}
+use borrow.Author.Tests.{lt-ltb, le-ltb, le-leb, lt-leb}
+use Rattle.schema.proofs.Judging.{yes, no}
+use native.Mathlib.Omega.{arith}
+use borrow.Author.Needs.{needs}
+use Rattle.schema.proofs.over_limit.Statement.{statement}
+use Rattle.schema.proofs.over_limit.Tie as tie
+
+returns : tie.Need-returns
+returns c = sym (yes _ _ (lt-ltb (c .before .before .args .over) (c .before .before .args .size) (c .if1 .taken)))
+
+returns-2 : tie.Need-returns-2
+returns-2 c = sym (no _ _ (le-ltb (c .before .before .before .args .over) (c .before .before .before .args .size) (c .before .if1 .left)) ∙ yes _ _ (le-leb 32 (c .before .before .before .args .d) (c .if2 .taken)))
+
+sub-if3 : tie.Need-sub-if3
+sub-if3 c = search needs
+
+add-cell : tie.Need-add-cell
+add-cell c = search needs
+
+cell-requires : tie.Need-cell-requires
+cell-requires c κs = search needs
+
+returns-3 : tie.Need-returns-3
+returns-3 c = c .cell .ensures ∙ sym (no _ _ (le-ltb (c .before .before .before .before .before .args .over) (c .before .before .before .before .before .args .size) (c .before .before .before .if1 .left)) ∙ no _ _ (lt-leb 32 (c .before .before .before .before .before .args .d) (c .before .before .if2 .left)) ∙ yes _ _ (lt-ltb 64 (c .before .before .before .before .before .args .m - c .before .before .before .before .before .args .n) (c .before .if3 .taken)))
+
+returns-4 : tie.Need-returns-4
+returns-4 c = sym (no _ _ (le-ltb (c .before .before .before .before .args .over) (c .before .before .before .before .args .size) (c .before .before .if1 .left)) ∙ no _ _ (lt-leb 32 (c .before .before .before .before .args .d) (c .before .if2 .left)) ∙ no _ _ (le-ltb 64 (c .before .before .before .before .args .m - c .before .before .before .before .args .n) (c .if3 .left)))
+
+pub over-limit-spec : {M : Type 1} → statement M
+over-limit-spec =
+    tie.close (tie.spec returns returns-2 sub-if3 add-cell cell-requires returns-3 returns-4)

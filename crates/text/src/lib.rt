@@ -1,0 +1,107 @@
+// Bytes of a text: their classes, blanks, names, and the first byte that may stand in no text.
+ghost use mathlib.Core.Path.{_≡_};
+ghost use Rattle.text.specs.Classes.{meant, joinsName};
+ghost use Rattle.text.specs.Places.{foreignPlace};
+ghost use Rattle.text_spec.specs.Bytes.{classOf, isBlank, isForeign, startsName, continuesName};
+
+pub enum Class {
+    Blank,
+    Letter,
+    Digit,
+    Markup,
+    Other,
+    Foreign,
+}
+
+// The class of a byte. Markup: the delimiters of the three grammars.
+pub fn class_of(b: u8) -> Class
+    ensures { λ r. ⌜ meant r ≡ classOf b ⌝ }
+{
+    match b {
+        9 | 10 | 32 => Class::Blank,
+        65..=90 | 97..=122 => Class::Letter,
+        48..=57 => Class::Digit,
+        33 | 35 | 38 | 40..=44 | 47 | 58..=60 | 62..=63 | 91 | 93 | 124 => Class::Markup,
+        33..=126 => Class::Other,
+        _ => Class::Foreign,
+    }
+}
+
+pub fn is_blank(b: u8) -> bool
+    ensures { λ r. ⌜ r ≡ isBlank b ⌝ }
+{
+    if b == 32 {
+        return true;
+    }
+    if b == 9 {
+        return true;
+    }
+    b == 10
+}
+
+// A byte that fails refusal 3.
+pub fn is_foreign(b: u8) -> bool
+    ensures { λ r. ⌜ r ≡ isForeign b ⌝ }
+{
+    match class_of(b) {
+        Class::Foreign => true,
+        Class::Blank => false,
+        Class::Letter => false,
+        Class::Digit => false,
+        Class::Markup => false,
+        Class::Other => false,
+    }
+}
+
+pub fn starts_name(b: u8) -> bool
+    ensures { λ r. ⌜ r ≡ startsName b ⌝ }
+{
+    match class_of(b) {
+        Class::Letter => true,
+        Class::Other => b == 95,
+        Class::Blank => false,
+        Class::Digit => false,
+        Class::Markup => false,
+        Class::Foreign => false,
+    }
+}
+
+// `-`, `.` or `_`, which a name may have after its first byte.
+fn joins_name(b: u8) -> bool
+    ensures { λ r. ⌜ r ≡ joinsName b ⌝ }
+{
+    if b == 45 {
+        return true;
+    }
+    if b == 46 {
+        return true;
+    }
+    b == 95
+}
+
+pub fn continues_name(b: u8) -> bool
+    ensures { λ r. ⌜ r ≡ continuesName b ⌝ }
+{
+    match class_of(b) {
+        Class::Letter => true,
+        Class::Digit => true,
+        Class::Other => joins_name(b),
+        Class::Blank => false,
+        Class::Markup => false,
+        Class::Foreign => false,
+    }
+}
+
+// The place of the first byte that fails refusal 3, or the length.
+pub fn first_foreign(text: &[u8]) -> usize
+    ensures { λ r. ⌜ r ≡ foreignPlace (now (text .entry)) ⌝ }
+{
+    let mut i = 0;
+    while i < text.len() {
+        if is_foreign(text[i]) {
+            return i;
+        }
+        i += 1;
+    }
+    i
+}
