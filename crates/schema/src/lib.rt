@@ -9,9 +9,10 @@ ghost use Rattle.schema_spec.specs.Machine.{beforeContent, afterOpen, afterCont
 ghost use Rattle.schema.specs.Whole.{overLimit, AllRead};
 ghost use Rattle.schema.specs.Names.{nameAt, nameByte, firstPlace, namesBefore, isAmong, twiceAt, missingAt};
 ghost use Rattle.schema.specs.Normal.{Steps, Stored, Normalized};
-ghost use Rattle.schema.specs.Answers.{inCells, Readable, Spelling, ReadAs, passesRecord};
+ghost use Rattle.schema.specs.Answers.{reasonOf, inCells, Readable, Spelling, ReadAs, passesRecord};
 ghost use Rattle.schema_spec.specs.Records.{normal};
 ghost use Rattle.text_spec.specs.Lists.{sameBytes};
+ghost use Rattle.text_spec.specs.Refusals.{numberOf};
 ghost use Rattle.text_spec.specs.Bytes.{startsName};
 
 // The groups around the innermost one that may be open.
@@ -691,6 +692,22 @@ pub enum Kind {
     OverLimit,
     DeclaredTwice,
     Undeclared,
+}
+
+impl Kind {
+    // Document 01's number.
+    pub fn number(self) -> u8
+        ensures { λ r. ⌜ r ≡ numberOf (reasonOf self) ⌝ }
+    {
+        match self {
+            Kind::BadLength => 2,
+            Kind::BadByte => 3,
+            Kind::BadGrammar => 4,
+            Kind::OverLimit => 5,
+            Kind::DeclaredTwice => 6,
+            Kind::Undeclared => 7,
+        }
+    }
 }
 
 // The number of elements, or the refusal and its place.
