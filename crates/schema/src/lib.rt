@@ -1,4 +1,5 @@
-// Reading schema texts.
+// Reading schema texts. Refusals 2 and 3 are a test and a scan. 4 is a recursive descent that notes the places of the names it meets and the
+// first place that passes a limit (5). 6 and 7 are loops over those places. The record is the text's normal form.
 ghost use mathlib.Core.Bool.{true};
 ghost use mathlib.Core.List.{[]};
 ghost use mathlib.Core.Path.{_≡_};
