@@ -11,9 +11,9 @@ use lib.ListN.{length, drop}
 use Rattle.schema.proofs.Judging.{yes, no, step-at, dead-at, same-at, at-end, indicated-uses}
 use Rattle.schema.proofs.Models.{between-low, noted-wider, noted-as, noted-none}
 use Rattle.schema.specs.Parts.{from, byteAt, Skipped, Keyword, Spelt, SpeltAs, nameIn, useAt, Naming, Named, NamedAs, at-closed, Indicated, Noted, GroupRead, Grouped, GroupedAs, Spacing, NoBlank, Spaced, SpacedAs, Pcdata, PcdataAs, ContentRead, ContentAs, Contented, ended, namelessOf, Keyworded, KeywordAs, Headed, HeadAs, DeclarationRead, DeclarationAs, DeclaredRest, RestAs}
-use Rattle.schema.specs.declared.Decl.{Decl}
-use Rattle.schema.specs.declared.DeclRead.{DeclRead}
-use Rattle.schema.specs.declared.DeclRead.the-variants.{Past as DeclPast, Fail as DeclFail}
+use Rattle.schema.specs.declared.DeclarationEnd.{DeclarationEnd}
+use Rattle.schema.specs.declared.DeclarationOutcome.{DeclarationOutcome}
+use Rattle.schema.specs.declared.DeclarationOutcome.the-variants.{Past as DeclPast, Fail as DeclFail}
 use Rattle.schema.specs.declared.Part.{Part}
 use Rattle.schema.specs.declared.PartRead.{PartRead}
 use Rattle.schema.specs.declared.PartRead.the-variants.{Past as PartPast, Fail as PartFail}
@@ -400,7 +400,7 @@ module _ {s : List ℕ} {at : ℕ} {r : Read} (W : Keyworded s at r) where
         to-content : (ds : List Declaration) → from (between ds) s at ≡ from (beforeContent (record { opening = record { place = at; done = ds }; name = useAt s i })) s j
         to-content ds = keyword-to .3 ds ∙ head-to .3 (record { place = at; done = ds })
 
-        read-as : (n : ℕ) (o o′ : List ℕ) (d : DeclRead) → RestAs s i j n o o′ d → DeclarationAs s at n o o′ d
+        read-as : (n : ℕ) (o o′ : List ℕ) (d : DeclarationOutcome) → RestAs s i j n o o′ d → DeclarationAs s at n o o′ d
         read-as n o o′ (DeclPast d) R =
             let C = R .1 in
             let a = keyword-to .0 in
@@ -420,5 +420,5 @@ module _ {s : List ℕ} {at : ℕ} {r : Read} (W : Keyworded s at r) where
             }
         read-as n o o′ (DeclFail k) R = λ ds. to-content ds ∙ R (record { opening = record { place = at; done = ds }; name = useAt s i })
 
-        pub declaration-read : {n : ℕ} {o o′ : List ℕ} {d : DeclRead} → DeclaredRest s i j n o o′ d → DeclarationAs s at n o o′ d
+        pub declaration-read : {n : ℕ} {o o′ : List ℕ} {d : DeclarationOutcome} → DeclaredRest s i j n o o′ d → DeclarationAs s at n o o′ d
         declaration-read {n} {o} {o′} {d} R = read-as n o o′ d (R .says)

@@ -16,9 +16,9 @@ use Rattle.schema.specs.Parts.{from, useAt, Skipped, Between, Noted, Dec
 use Rattle.schema.specs.Whole.{overLimit, Kept, Limits, within, passed, UpTo, AllSpelt, AllAs}
 use Rattle.schema.specs.declared.All.the-variants.{Past as AllPast, Fail as AllFail}
 use Rattle.schema.specs.declared.Counts.{Counts}
-use Rattle.schema.specs.declared.Decl.{Decl}
-use Rattle.schema.specs.declared.DeclRead.{DeclRead}
-use Rattle.schema.specs.declared.DeclRead.the-variants.{Past as DeclPast, Fail as DeclFail}
+use Rattle.schema.specs.declared.DeclarationEnd.{DeclarationEnd}
+use Rattle.schema.specs.declared.DeclarationOutcome.{DeclarationOutcome}
+use Rattle.schema.specs.declared.DeclarationOutcome.the-variants.{Past as DeclPast, Fail as DeclFail}
 use Rattle.schema_spec.specs.Declarations.{Use, Declaration}
 use Rattle.schema_spec.specs.Machine.{State, between, step, spells, departs, atEnd, parse}
 use Rattle.schema_spec.specs.Models.{usesIn}
@@ -150,7 +150,7 @@ getD-sets l (v ∷ vs) n (suc k) h g =
     ap (λ (j : ℕ). getD (sets (set l n v) (suc n) vs) j 0) e ∙ getD-sets (set l n v) vs (suc n) k (omega arith) (omega arith)
 
 -- ---- the limits after one more declaration
-module _ {s : List ℕ} (ds : List Declaration) {d n i : ℕ} (names : List ℕ) {uses uses′ : List ℕ} (count : length ds ≡ d) (room : length names ≡ maxDeclarations) (room-uses : length uses ≡ maxDeclarations * maxModelNames + 1) (l : i < length s) {p : Decl} (R : DeclarationRead s i n uses uses′ p) {j : ℕ} (far : p .at ≤ j) where
+module _ {s : List ℕ} (ds : List Declaration) {d n i : ℕ} (names : List ℕ) {uses uses′ : List ℕ} (count : length ds ≡ d) (room : length names ≡ maxDeclarations) (room-uses : length uses ≡ maxDeclarations * maxModelNames + 1) (l : i < length s) {p : DeclarationEnd} (R : DeclarationRead s i n uses uses′ p) {j : ℕ} (far : p .at ≤ j) where
   abbrev pub declared-now : Declaration
   declared-now = record { place = i; name = useAt s (p .name); content = R .content }
 
@@ -330,11 +330,11 @@ module _ {s : List ℕ} {i d n over : ℕ} {names uses : List ℕ} (U : UpTo s i
       go [] h = absurd (h refl)
       go (x ∷ ds) h = refl
 
-  module _ (l : i < length s) {uses′ : List ℕ} {r : DeclRead} (D : Declared s i n uses uses′ r) where
+  module _ (l : i < length s) {uses′ : List ℕ} {r : DeclarationOutcome} (D : Declared s i n uses uses′ r) where
     pub all-fail : {j : ℕ} → r ≡ DeclFail j → parse s ≡ departs j
     all-fail u = parsed ∙ subst (Declared s i n uses uses′) u D .says (U .done)
 
-    module _ {p : Decl} (u : r ≡ DeclPast p) where
+    module _ {p : DeclarationEnd} (u : r ≡ DeclPast p) where
       read : DeclarationRead s i n uses uses′ p
       read = subst (Declared s i n uses uses′) u D .says
 

@@ -7,9 +7,9 @@ use Prim.Native.Nat.{ℕ, suc, _+_, _≤_, _<_}
 use lib.Dec.{eqb}
 use lib.ListN.{length, drop, getD}
 use lib.Seq.{sets}
-use Rattle.schema.specs.declared.Decl.{Decl}
-use Rattle.schema.specs.declared.DeclRead.{DeclRead}
-use Rattle.schema.specs.declared.DeclRead.the-variants.{Past as DeclPast, Fail as DeclFail}
+use Rattle.schema.specs.declared.DeclarationEnd.{DeclarationEnd}
+use Rattle.schema.specs.declared.DeclarationOutcome.{DeclarationOutcome}
+use Rattle.schema.specs.declared.DeclarationOutcome.the-variants.{Past as DeclPast, Fail as DeclFail}
 use Rattle.schema.specs.declared.Follow.{Follow}
 use Rattle.schema.specs.declared.Follow.the-variants.{Close, More, Fail as FollowFail}
 use Rattle.schema.specs.declared.Part.{Part}
@@ -240,7 +240,7 @@ HeadAs s i (Fail j) = (o : Opening) → from (beforeName o) s i ≡ departs j
 pub record Headed (s : List ℕ) (i : ℕ) (r : Read) : Type 0 where
   pub says : HeadAs s i r
 
-pub record DeclarationRead (s : List ℕ) (at n : ℕ) (cells cells′ : List ℕ) (d : Decl) : Type 0 where
+pub record DeclarationRead (s : List ℕ) (at n : ℕ) (cells cells′ : List ℕ) (d : DeclarationEnd) : Type 0 where
   pub high : d .at ≤ length s
   pub few : d .n ≤ d .at
   pub low : at ≤ d .name
@@ -249,16 +249,16 @@ pub record DeclarationRead (s : List ℕ) (at n : ℕ) (cells cells′ : List �
   pub noted : Noted s at n cells cells′ (d .at) (d .n) (usesIn content)
   pub same : (ds : List Declaration) → from (between ds) s at ≡ from (between (record { place = at; name = useAt s (d .name); content = content } ∷ ds)) s (d .at)
 
-abbrev pub DeclarationAs : List ℕ → ℕ → ℕ → List ℕ → List ℕ → DeclRead → Type 0
+abbrev pub DeclarationAs : List ℕ → ℕ → ℕ → List ℕ → List ℕ → DeclarationOutcome → Type 0
 DeclarationAs s at n cells cells′ (DeclPast d) = DeclarationRead s at n cells cells′ d
 DeclarationAs s at n cells cells′ (DeclFail j) = (ds : List Declaration) → from (between ds) s at ≡ departs j
 
-pub record Declared (s : List ℕ) (at n : ℕ) (cells cells′ : List ℕ) (r : DeclRead) : Type 0 where
+pub record Declared (s : List ℕ) (at n : ℕ) (cells cells′ : List ℕ) (r : DeclarationOutcome) : Type 0 where
   pub says : DeclarationAs s at n cells cells′ r
 
-abbrev pub RestAs : List ℕ → ℕ → ℕ → ℕ → List ℕ → List ℕ → DeclRead → Type 0
+abbrev pub RestAs : List ℕ → ℕ → ℕ → ℕ → List ℕ → List ℕ → DeclarationOutcome → Type 0
 RestAs s name at n cells cells′ (DeclPast d) = (d .name ≡ name) × ContentRead beforeContent ended s at n cells cells′ (record { at = d .at; n = d .n })
 RestAs s name at n cells cells′ (DeclFail j) = (h : Head) → from (beforeContent h) s at ≡ departs j
 
-pub record DeclaredRest (s : List ℕ) (name at n : ℕ) (cells cells′ : List ℕ) (r : DeclRead) : Type 0 where
+pub record DeclaredRest (s : List ℕ) (name at n : ℕ) (cells cells′ : List ℕ) (r : DeclarationOutcome) : Type 0 where
   pub says : RestAs s name at n cells cells′ r

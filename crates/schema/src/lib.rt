@@ -37,14 +37,14 @@ pub enum PartRead {
 }
 
 // A declaration: the place past it, that of its name, and the number of names noted so far.
-pub struct Decl {
+pub struct DeclarationEnd {
     pub at: usize,
     pub name: usize,
     pub n: usize,
 }
 
-pub enum DeclRead {
-    Past(Decl),
+pub enum DeclarationOutcome {
+    Past(DeclarationEnd),
     Fail(usize),
 }
 
@@ -384,29 +384,29 @@ fn declared_name(s: &[u8], i: usize) -> Read
 }
 
 // The rest of a declaration whose name stands at `name` and whose content at `at`.
-fn declared(s: &[u8], name: usize, at: usize, out: &mut [usize], n: usize) -> DeclRead
+fn declared(s: &[u8], name: usize, at: usize, out: &mut [usize], n: usize) -> DeclarationOutcome
     requires { ⌜ (at ≤ length (now s)) × (n ≤ at) × NoBlank (now s) at ⌝ }
     ensures { λ r. ⌜ DeclaredRest (now (s .entry)) name at n (now (out .entry)) (now (out .exit)) r ⌝ }
 {
     match body(s, at, out, n) {
-        PartRead::Past(p) => DeclRead::Past(Decl {
+        PartRead::Past(p) => DeclarationOutcome::Past(DeclarationEnd {
             at: p.at,
             name,
             n: p.n,
         }),
-        PartRead::Fail(j) => DeclRead::Fail(j),
+        PartRead::Fail(j) => DeclarationOutcome::Fail(j),
     }
 }
 
 // Past the declaration at `at`. The places of the names in its content are noted from n on.
-fn declaration(s: &[u8], at: usize, out: &mut [usize], n: usize) -> DeclRead
+fn declaration(s: &[u8], at: usize, out: &mut [usize], n: usize) -> DeclarationOutcome
     requires { ⌜ (at < length (now s)) × (n ≤ at) × NoBlank (now s) at ⌝ }
     ensures { λ r. ⌜ Declared (now (s .entry)) at n (now (out .entry)) (now (out .exit)) r ⌝ }
 {
     match keyword(s, at) {
-        Read::Fail(j) => DeclRead::Fail(j),
+        Read::Fail(j) => DeclarationOutcome::Fail(j),
         Read::Past(i) => match declared_name(s, i) {
-            Read::Fail(j) => DeclRead::Fail(j),
+            Read::Fail(j) => DeclarationOutcome::Fail(j),
             Read::Past(j) => declared(s, i, j, out, n),
         },
     }
@@ -499,8 +499,8 @@ fn declarations(s: &[u8], names: &mut [usize], uses: &mut [usize]) -> All
     let mut over = size;
     while i < s.len() {
         match declaration(s, i, uses, n) {
-            DeclRead::Fail(j) => return All::Fail(j),
-            DeclRead::Past(p) => {
+            DeclarationOutcome::Fail(j) => return All::Fail(j),
+            DeclarationOutcome::Past(p) => {
                 let end = p.at;
                 let m = p.n;
                 note(names, d, p.name);
