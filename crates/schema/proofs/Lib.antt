@@ -1,6 +1,3 @@
-pub mod Judging
-pub mod Models
-pub mod Contents
 pub mod Limits
 pub mod Naming
 pub mod Writing

@@ -9,10 +9,10 @@ use borrow.Author.Tests.{ltb-true, ltb-false, eq-eqb, ne-eqb}
 use lib.Dec.{eqb, ltb}
 use lib.ListN.{length, drop, take, getD, drop-of-length-le}
 use lib.Seq.{drop-cons, take-suc, take-length}
-use Rattle.schema.proofs.Judging.{yes, no, name-cons, name-stops}
-use Rattle.schema.proofs.Models.{map-append}
+use Rattle.declarations.proofs.Judging.{yes, no, name-cons, name-stops}
+use Rattle.declarations.proofs.Models.{map-append}
 use Rattle.schema.specs.Names.{nameAt, nameByte, firstPlace, namesBefore, isAmong, twiceAt, missingAt}
-use Rattle.schema.specs.Parts.{byteAt, nameIn, useAt}
+use Rattle.declarations.specs.Parts.{byteAt, nameIn, useAt}
 use Rattle.schema_spec.specs.Declarations.{Use, Declaration}
 use Rattle.schema_spec.specs.Reading.{usesOf, twicePlaces, undeclaredPlaces}
 use Rattle.schema_spec.specs.Schemas.{declaredNames}

@@ -9,11 +9,11 @@ use native.Mathlib.Omega.{arith}
 use borrow.Author.Tests.{ltb-true, ltb-false, lt-ltb, le-ltb, eq-eqb, ne-eqb}
 use lib.Dec.{ltb, eqb}
 use lib.ListN.{length}
-use Rattle.schema.proofs.Judging.{yes, no}
+use Rattle.declarations.proofs.Judging.{yes, no}
 use Rattle.schema.proofs.Limits.{head-least}
-use Rattle.schema.proofs.Models.{between-low, between-from}
+use Rattle.declarations.proofs.Models.{between-low, between-from}
 use Rattle.schema.specs.Names.{nameAt, firstPlace, isAmong, twiceAt}
-use Rattle.schema.specs.Parts.{Between}
+use Rattle.declarations.specs.Parts.{Between}
 use Rattle.schema_laws.specs.Lists.{in-nothing}
 use Rattle.text_laws.specs.Lists.{map-in}
 use Rattle.text_spec.specs.Lists.{filterBy, placesFrom}

@@ -9,13 +9,13 @@ use borrow.Author.Tests.{lt-ltb, le-ltb}
 use lib.Dec.{ltb}
 use lib.ListN.{length, drop, take, replicate, length-map, length-replicate, length-append}
 use lib.Seq.{take-length, length-take-le}
-use Rattle.schema.proofs.Judging.{yes, no}
+use Rattle.declarations.proofs.Judging.{yes, no}
 use Rattle.schema.proofs.Naming.{twice-places, undeclared-places}
 use Rattle.schema.proofs.Order.{Later, later-none, later-all, later-append, least-first, place-found, place-none, places-rise, filter-rise, twice-rise}
 use Rattle.schema.specs.Answers.{reasonOf, meant, sized, inCells, ReadAs, Readable, Spelling}
 use Rattle.schema.specs.Names.{firstPlace, namesBefore, isAmong, twiceAt, missingAt}
 use Rattle.schema.specs.Normal.{Normalized}
-use Rattle.schema.specs.Parts.{useAt, Between}
+use Rattle.declarations.specs.Parts.{useAt, Between}
 use Rattle.schema.specs.Whole.{Kept, Limits, within, passed, AllSpelt, AllAs, AllRead}
 use Rattle.schema.specs.declared.All.{All}
 use Rattle.schema.specs.declared.All.the-variants.{Past as AllPast, Fail as AllFail}

@@ -6,7 +6,7 @@ use mathlib.Core.Path.{_≡_}
 use Prim.Native.Nat.{ℕ, _+_, _*_, _-_, _≤_, _<_}
 use lib.Dec.{leb, ltb}
 use lib.ListN.{length, drop, take, getD}
-use Rattle.schema.specs.Parts.{from, useAt, Between, NoBlank}
+use Rattle.declarations.specs.Parts.{from, useAt, Between, NoBlank}
 use Rattle.schema.specs.declared.All.{All}
 use Rattle.schema.specs.declared.All.the-variants.{Past, Fail}
 use Rattle.schema.specs.declared.Counts.{Counts}

@@ -6,14 +6,14 @@ use Rattle.schema.proofs.Outcomes.{judge-departs, judge-over, judge-roo
 use Rattle.schema.proofs.judge.Statement.{statement}
 use Rattle.schema.proofs.judge.Tie as tie
 
-slice-aggregate-declarations : tie.Need-slice-aggregate-declarations
-slice-aggregate-declarations c = search needs
+slice-aggregate-all-declarations : tie.Need-slice-aggregate-all-declarations
+slice-aggregate-all-declarations c = search needs
 
-slice-aggregate-declarations-2 : tie.Need-slice-aggregate-declarations-2
-slice-aggregate-declarations-2 c = search needs
+slice-aggregate-all-declarations-2 : tie.Need-slice-aggregate-all-declarations-2
+slice-aggregate-all-declarations-2 c = search needs
 
-declarations-requires : tie.Need-declarations-requires
-declarations-requires c κs = search needs
+all-declarations-requires : tie.Need-all-declarations-requires
+all-declarations-requires c κs = search needs
 
 enum-known-j : tie.Need-enum-known-j
 enum-known-j c = search needs
@@ -28,25 +28,25 @@ refused-requires-2 : tie.Need-refused-requires-2
 refused-requires-2 c κs = search needs
 
 returns : tie.Need-returns
-returns c = judge-over (c .before .before .before .before .before .before .before .declarations .ensures) (c .before .before .before .c .given .1) (c .before .before .before .before .before .before .before .before .before .before .before .pre) (c .refused2 .ensures) (c .before .if1 .taken)
+returns c = judge-over (c .before .before .before .before .before .before .before .all-declarations .ensures) (c .before .before .before .c .given .1) (c .before .before .before .before .before .before .before .before .before .before .before .pre) (c .refused2 .ensures) (c .before .if1 .taken)
 
 array-share-prefix-names : tie.Need-array-share-prefix-names
-array-share-prefix-names c = judge-room (c .before .before .before .before .before .before .declarations .ensures) (c .before .before .c .given .1) (c .if1 .left) .0
+array-share-prefix-names c = judge-room (c .before .before .before .before .before .before .all-declarations .ensures) (c .before .before .c .given .1) (c .if1 .left) .0
 
 slice-aggregate-judge-names : tie.Need-slice-aggregate-judge-names
-slice-aggregate-judge-names c = judge-room (c .before .before .before .before .before .before .before .declarations .ensures) (c .before .before .before .c .given .1) (c .before .if1 .left) .2
+slice-aggregate-judge-names c = judge-room (c .before .before .before .before .before .before .before .all-declarations .ensures) (c .before .before .before .c .given .1) (c .before .if1 .left) .2
 
 array-share-prefix-uses : tie.Need-array-share-prefix-uses
-array-share-prefix-uses c = judge-room (c .before .before .before .before .before .before .before .declarations .ensures) (c .before .before .before .c .given .1) (c .before .if1 .left) .1
+array-share-prefix-uses c = judge-room (c .before .before .before .before .before .before .before .all-declarations .ensures) (c .before .before .before .c .given .1) (c .before .if1 .left) .1
 
 slice-aggregate-judge-names-2 : tie.Need-slice-aggregate-judge-names-2
-slice-aggregate-judge-names-2 c = judge-room (c .before .before .before .before .before .before .before .before .declarations .ensures) (c .before .before .before .before .c .given .1) (c .before .before .if1 .left) .3
+slice-aggregate-judge-names-2 c = judge-room (c .before .before .before .before .before .before .before .before .all-declarations .ensures) (c .before .before .before .before .c .given .1) (c .before .before .if1 .left) .3
 
 judge-names-requires : tie.Need-judge-names-requires
-judge-names-requires c κs = judge-spelling (c .before .before .before .before .before .before .before .before .declarations .ensures) (c .before .before .before .before .c .given .1) (c .before .before .if1 .left) (c .before .before .before .before .before .before .before .before .before .before .before .before .pre)
+judge-names-requires c κs = judge-spelling (c .before .before .before .before .before .before .before .before .all-declarations .ensures) (c .before .before .before .before .c .given .1) (c .before .before .if1 .left) (c .before .before .before .before .before .before .before .before .before .before .before .before .pre)
 
 returns-2 : tie.Need-returns-2
-returns-2 c = judge-departs (c .before .before .before .before .before .before .declarations .ensures) (c .before .before .before .before .before .before .before .before .before .before .pre) (c .refused .ensures) (c .before .before .j .given .1)
+returns-2 c = judge-departs (c .before .before .before .before .before .before .all-declarations .ensures) (c .before .before .before .before .before .before .before .before .before .before .pre) (c .refused .ensures) (c .before .before .j .given .1)
 
 returns-3 : tie.Need-returns-3
 returns-3 c = search needs
@@ -55,9 +55,9 @@ pub judge-spec : {M : Type 1} → statement M
 judge-spec =
     tie.close
     (tie.spec
-    slice-aggregate-declarations
-    slice-aggregate-declarations-2
-    declarations-requires
+    slice-aggregate-all-declarations
+    slice-aggregate-all-declarations-2
+    all-declarations-requires
     enum-known-j
     refused-requires
     enum-known-c

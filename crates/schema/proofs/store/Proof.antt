@@ -1,6 +1,6 @@
 -- `store` meets its contract. Assumes nothing.
 use mathlib.Core.Path.{sym}
-use Rattle.schema.proofs.Judging.{yes, no}
+use Rattle.declarations.proofs.Judging.{yes, no}
 use native.Mathlib.Omega.{arith}
 use borrow.Author.Needs.{needs}
 use Rattle.schema.proofs.store.Statement.{statement}

@@ -1,0 +1,61 @@
+-- `declaration` meets its contract: keyword, name, content and end. Assumes nothing.
+use native.Mathlib.Omega.{arith}
+use Rattle.declarations.proofs.Contents.{declaration-fail, name-known, declaration-name-fail, content-known, declaration-read}
+use borrow.Author.Needs.{needs}
+use Rattle.declarations.proofs.declaration.Statement.{statement}
+use Rattle.declarations.proofs.declaration.Tie as tie
+
+keyword-requires : tie.Need-keyword-requires
+keyword-requires c κs = search needs
+
+enum-known-j : tie.Need-enum-known-j
+enum-known-j c = search needs
+
+enum-known-i : tie.Need-enum-known-i
+enum-known-i c = search needs
+
+declared-name-requires : tie.Need-declared-name-requires
+declared-name-requires c κs = let k = name-known (c .before .before .before .keyword .ensures) (c .before .i .given .1) in (k .1, k .2)
+
+enum-known-j-2 : tie.Need-enum-known-j-2
+enum-known-j-2 c = search needs
+
+enum-known-j-3 : tie.Need-enum-known-j-3
+enum-known-j-3 c = search needs
+
+declared-requires : tie.Need-declared-requires
+declared-requires c κs =
+    let k = name-known (c .before .before .before .before .before .before .before .before .keyword .ensures) (c .before .before .before .before .before .before .i .given .1) in
+    let h = content-known (c .before .before .before .before .before .before .before .before .keyword .ensures) (c .before .before .before .before .before .before .i .given .1) (c .before .before .before .before .declared-name .ensures) (c .before .before .j3 .given .1) in
+    let n = c .before .before .before .before .before .before .before .before .before .before .before .pre .1 in
+    let a = k .0 in
+    let b = h .0 in
+    (h .1, omega arith, h .2)
+
+returns : tie.Need-returns
+returns c = record { says = declaration-fail (c .before .before .before .keyword .ensures) (c .before .j .given .1) }
+
+returns-2 : tie.Need-returns-2
+returns-2 c = record { says = declaration-name-fail (c .before .before .before .before .before .before .before .keyword .ensures) (c .before .before .before .before .before .i .given .1) (c .before .before .before .declared-name .ensures) (c .before .j2 .given .1) }
+
+same-length : tie.Need-same-length
+same-length c = search needs
+
+returns-3 : tie.Need-returns-3
+returns-3 c = record { says = declaration-read (c .before .before .before .before .before .before .before .before .before .before .before .keyword .ensures) (c .before .before .before .before .before .before .before .before .before .i .given .1) (c .before .before .before .before .before .before .before .declared-name .ensures) (c .before .before .before .before .before .j3 .given .1) (c .before .before .declared .ensures) }
+
+pub declaration-spec : {M : Type 1} → statement M
+declaration-spec =
+    tie.close
+    (tie.spec
+    keyword-requires
+    enum-known-j
+    enum-known-i
+    declared-name-requires
+    enum-known-j-2
+    enum-known-j-3
+    declared-requires
+    returns
+    returns-2
+    same-length
+    returns-3)

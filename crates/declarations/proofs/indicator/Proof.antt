@@ -1,0 +1,41 @@
+-- `indicator` meets its contract: a byte after a particle that is an indicator, or is none. Assumes nothing.
+use mathlib.Core.Bool.{Bool, true, false}
+use mathlib.Core.List.{List, [], _∷_, _++_, append-assoc, append-nil}
+use mathlib.Core.Path.{_≡_, refl, sym, ap, _∙_}
+use Prim.Native.Nat.{ℕ, suc, _+_, _-_, _≤_, _<_}
+use native.Mathlib.Omega.{arith}
+use borrow.Author.Needs.{needs}
+use Rattle.declarations.proofs.Judging.{indicatorOf, indicator-there, indicator-absent, indicator-end}
+use Rattle.declarations.specs.Parts.{byteAt}
+use Rattle.schema_spec.specs.Declarations.{once}
+use Rattle.declarations.proofs.indicator.Statement.{statement}
+use Rattle.declarations.proofs.indicator.Tie as tie
+
+returns : tie.Need-returns
+returns c = record { low = search needs; high = search needs; by = once; same = λ q p fs h E. indicator-end E (c .if1 .taken) }
+
+shared-slice-read-is-indicator : tie.Need-shared-slice-read-is-indicator
+shared-slice-read-is-indicator c = search needs
+
+is-indicator-requires : tie.Need-is-indicator-requires
+is-indicator-requires c κs = search needs
+
+add-result : tie.Need-add-result
+add-result c = search needs
+
+returns-2 : tie.Need-returns-2
+returns-2 c = record { low = search needs; high = search needs; by = indicatorOf (byteAt (c .before .before .before .before .before .args .s .now) (c .before .before .before .before .before .args .at)); same = λ q p fs h E. indicator-there E (c .before .before .before .if1 .left) (sym (c .before .is-indicator .ensures) ∙ c .if2 .taken) }
+
+returns-3 : tie.Need-returns-3
+returns-3 c = record { low = search needs; high = search needs; by = once; same = λ q p fs h E. indicator-absent E (c .before .before .before .if1 .left) (sym (c .before .is-indicator .ensures) ∙ c .if2 .left) }
+
+pub indicator-spec : {M : Type 1} → statement M
+indicator-spec =
+    tie.close
+    (tie.spec
+    returns
+    shared-slice-read-is-indicator
+    is-indicator-requires
+    add-result
+    returns-2
+    returns-3)
