@@ -19,6 +19,13 @@ pub struct Ends {
     pub nullable: bool,
 }
 
+// The content of an element: nothing, character data, or a children model.
+pub enum Content {
+    Empty,
+    Pcdata,
+    Children(Ends),
+}
+
 // How far the children read so far have come.
 pub enum State {
     Start,
