@@ -4,11 +4,11 @@ use borrow.Author.Needs.{needs}
 use native.Mathlib.Omega.{arith}
 use Prim.Native.Nat.{_-_}
 use lib.ListN.{length}
-use Rattle.schema.specs.Names.{nameAt}
+use Rattle.schema_names.specs.Names.{nameAt}
 use Rattle.text_spec.specs.Lists.{sameBytes}
-use Rattle.schema.proofs.Naming.{byte-inside, same-not, same-ended, same-on}
-use Rattle.schema.proofs.same_name.Statement.{statement}
-use Rattle.schema.proofs.same_name.Tie as tie
+use Rattle.schema_names.proofs.Naming.{byte-inside, same-not, same-ended, same-on}
+use Rattle.schema_names.proofs.same_name.Statement.{statement}
+use Rattle.schema_names.proofs.same_name.Tie as tie
 
 abbrev Inv-loop : tie.InvT-loop
 Inv-loop s p q i₀ j₀ i j = sameBytes (nameAt s p) (nameAt s q) ≡ sameBytes (nameAt s i) (nameAt s j)
