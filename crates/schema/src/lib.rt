@@ -126,7 +126,7 @@ fn known(s: &[u8], names: &[usize], k: usize, p: usize) -> bool
     let mut i = k;
     while 0 < i {
         i -= 1;
-        if schema_names::same_name(s, p, names[i]) {
+        if schema_names::same_name(s, p, s, names[i]) {
             return true;
         }
     }

@@ -1,13 +1,13 @@
 -- Laws of names by their places: compared byte by byte. Assumes nothing.
-use mathlib.Core.Bool.{Bool, true, false, _&&_}
+use mathlib.Core.Bool.{Bool, true, false, cond, _&&_}
 use mathlib.Core.List.{List, [], _∷_}
 use mathlib.Core.Path.{_≡_, refl, sym, ap, ap₂, _∙_}
 use Prim.Native.Nat.{ℕ, _+_, _≤_, _<_}
 use native.Mathlib.Omega.{arith}
 use borrow.Author.Tests.{ltb-true, ltb-false, eq-eqb, ne-eqb}
-use lib.Dec.{ltb}
+use lib.Dec.{eqb, ltb}
 use lib.ListN.{length, drop-of-length-le}
-use Rattle.declarations.proofs.Judging.{name-cons, name-stops}
+use Rattle.declarations.proofs.Judging.{yes, no, name-cons, name-stops}
 use Rattle.schema_names.specs.Names.{nameAt, nameByte}
 use Rattle.declarations.specs.Parts.{byteAt, nameIn}
 use Rattle.text_spec.specs.Bytes.{continuesName}
@@ -49,35 +49,23 @@ module _ (s : List ℕ) (i : ℕ) where
       go (over n) = absurd (h (e ∙ ap (λ (n : List ℕ). valueOr 0 (first n)) n))
       go (byte b l z n) = l
 
--- ---- two names
-module _ (s : List ℕ) (i j : ℕ) where
-  pub same-not : (nameByte s i ≡ nameByte s j → ⊥) → sameBytes (nameAt s i) (nameAt s j) ≡ false
-  same-not h = go (view s i) (view s j)
+-- ---- two names, by their first bytes a and b and what follows
+module _ (s : List ℕ) (i : ℕ) (t : List ℕ) (j : ℕ) {a b : ℕ} (x : a ≡ nameByte s i) (y : b ≡ nameByte t j) where
+  by-bytes : sameBytes (nameAt s i) (nameAt t j) ≡ cond (eqb a 0) (eqb b 0) (eqb a b && sameBytes (nameAt s (i + 1)) (nameAt t (j + 1)))
+  by-bytes = go (view s i) (view t j)
     where
-      go : View s i → View s j → sameBytes (nameAt s i) (nameAt s j) ≡ false
-      go (over m) (over n) = absurd (h (ap (λ (n : List ℕ). valueOr 0 (first n)) (m ∙ sym n)))
-      go (over m) (byte b l z n) = ap₂ sameBytes m n
-      go (byte a k y m) (over n) = ap₂ sameBytes m n
-      go (byte a k y m) (byte b l z n) =
-          ap₂ sameBytes m n
-          ∙ ap (λ (t : Bool). t && sameBytes (nameAt s (i + 1)) (nameAt s (j + 1)))
-          (ne-eqb a b (λ e. h (ap (λ (n : List ℕ). valueOr 0 (first n)) m ∙ e ∙ sym (ap (λ (n : List ℕ). valueOr 0 (first n)) n))))
+      go : View s i → View t j → sameBytes (nameAt s i) (nameAt t j) ≡ cond (eqb a 0) (eqb b 0) (eqb a b && sameBytes (nameAt s (i + 1)) (nameAt t (j + 1)))
+      go (over m) (over n) = rw (x, y, m, n)
+      go (over m) (byte d l z n) = rw (x, y, m, n, ne-eqb d 0 z)
+      go (byte c k w m) (over n) = rw (x, y, m, n, ne-eqb c 0 w)
+      go (byte c k w m) (byte d l z n) = rw (x, y, m, n, ne-eqb c 0 w)
 
-  pub same-ended : nameByte s i ≡ nameByte s j → nameByte s i ≡ 0 → sameBytes (nameAt s i) (nameAt s j) ≡ true
-  same-ended e h = go (view s i) (view s j)
-    where
-      go : View s i → View s j → sameBytes (nameAt s i) (nameAt s j) ≡ true
-      go (over m) (over n) = ap₂ sameBytes m n
-      go (over m) (byte b l z n) = absurd (z (sym (ap (λ (n : List ℕ). valueOr 0 (first n)) n) ∙ sym e ∙ h))
-      go (byte a k y m) v = absurd (y (sym (ap (λ (n : List ℕ). valueOr 0 (first n)) m) ∙ h))
+  pub same-ended : a ≡ 0 → eqb b 0 ≡ sameBytes (nameAt s i) (nameAt t j)
+  same-ended e = sym (by-bytes ∙ yes (eqb b 0) _ (eq-eqb a 0 e))
 
-  pub same-on : nameByte s i ≡ nameByte s j → (nameByte s i ≡ 0 → ⊥) → sameBytes (nameAt s i) (nameAt s j) ≡ sameBytes (nameAt s (i + 1)) (nameAt s (j + 1))
-  same-on e h = go (view s i) (view s j)
-    where
-      go : View s i → View s j → sameBytes (nameAt s i) (nameAt s j) ≡ sameBytes (nameAt s (i + 1)) (nameAt s (j + 1))
-      go (over m) v = absurd (h (ap (λ (n : List ℕ). valueOr 0 (first n)) m))
-      go (byte a k y m) (over n) = absurd (h (e ∙ ap (λ (n : List ℕ). valueOr 0 (first n)) n))
-      go (byte a k y m) (byte b l z n) =
-          ap₂ sameBytes m n
-          ∙ ap (λ (t : Bool). t && sameBytes (nameAt s (i + 1)) (nameAt s (j + 1)))
-          (eq-eqb a b (sym (ap (λ (n : List ℕ). valueOr 0 (first n)) m) ∙ e ∙ ap (λ (n : List ℕ). valueOr 0 (first n)) n))
+  module _ (e : a ≡ 0 → ⊥) where
+    pub same-not : (a ≡ b → ⊥) → false ≡ sameBytes (nameAt s i) (nameAt t j)
+    same-not f = sym (by-bytes ∙ no (eqb b 0) _ (ne-eqb a 0 e) ∙ rw (ne-eqb a b f))
+
+    pub same-on : a ≡ b → sameBytes (nameAt s i) (nameAt t j) ≡ sameBytes (nameAt s (i + 1)) (nameAt t (j + 1))
+    same-on f = by-bytes ∙ no (eqb b 0) _ (ne-eqb a 0 e) ∙ rw (eq-eqb a b f)

@@ -17,19 +17,20 @@ fn name_byte(s: &[u8], i: usize) -> u8
     0
 }
 
-// Whether the names at p and q are the same.
-pub fn same_name(s: &[u8], p: usize, q: usize) -> bool
-    ensures { λ r. ⌜ r ≡ sameBytes (nameAt (now (s .entry)) p) (nameAt (now (s .entry)) q) ⌝ }
+// Whether the name at place p of s is the name at place q of t.
+pub fn same_name(s: &[u8], p: usize, t: &[u8], q: usize) -> bool
+    ensures { λ r. ⌜ r ≡ sameBytes (nameAt (now (s .entry)) p) (nameAt (now (t .entry)) q) ⌝ }
 {
     let mut i = p;
     let mut j = q;
     loop {
         let a = name_byte(s, i);
-        if a != name_byte(s, j) {
-            return false;
-        }
+        let b = name_byte(t, j);
         if a == 0 {
-            return true;
+            return b == 0;
+        }
+        if a != b {
+            return false;
         }
         i += 1;
         j += 1;
