@@ -1,8 +1,8 @@
--- Laws of names by their places: compared byte by byte. Assumes nothing.
+-- Laws of names by their places: compared byte by byte, sought among others. Assumes nothing.
 use mathlib.Core.Bool.{Bool, true, false, cond, _&&_, _||_}
 use mathlib.Core.List.{List, [], _∷_, map}
 use mathlib.Core.Option.{Option, none, some}
-use mathlib.Core.Path.{_≡_, refl, sym, ap, ap₂, _∙_}
+use mathlib.Core.Path.{_≡_, refl, sym, ap, _∙_}
 use Prim.Native.Nat.{ℕ, suc, _+_, _≤_, _<_}
 use native.Mathlib.Numerals.{add-one}
 use native.Mathlib.Omega.{arith}
@@ -18,6 +18,9 @@ use Rattle.text_laws.specs.Lists.{bytes-equal}
 use Rattle.text_laws.specs.Tests.{false-of}
 use Rattle.text_spec.specs.Bytes.{continuesName}
 use Rattle.text_spec.specs.Lists.{anyOf, first, valueOr, sameBytes}
+
+abbrev head : List ℕ → ℕ
+head n = valueOr 0 (first n)
 
 -- ---- the name at a place: over, or a byte and the name after it
 data View (s : List ℕ) (i : ℕ) : Type 0 where
@@ -36,17 +39,14 @@ view s i = go (ltb i (length s)) refl
 
     go : (t : Bool) → ltb i (length s) ≡ t → View s i
     go true e = inside (ltb-true i (length s) e) (continuesName (byteAt s i)) refl
-    go false e = over (ap nameIn (drop-of-length-le s (ltb-false i (length s) e)))
+    go false e = over (name-stops s i (λ h. absurd (omega (arith, ltb-false i (length s) e))))
 
 module _ (s : List ℕ) (i : ℕ) where
-  pub byte-none : length s ≤ i → 0 ≡ nameByte s i
-  byte-none h = sym (ap (λ (n : List ℕ). valueOr 0 (first n)) (name-stops s i (λ l. absurd (omega arith))))
-
-  pub byte-not : continuesName (byteAt s i) ≡ false → 0 ≡ nameByte s i
-  byte-not e = sym (ap (λ (n : List ℕ). valueOr 0 (first n)) (name-stops s i (λ l. e)))
+  pub byte-none : (i < length s → continuesName (byteAt s i) ≡ false) → 0 ≡ nameByte s i
+  byte-none e = sym (ap head (name-stops s i e))
 
   pub byte-there : i < length s → continuesName (byteAt s i) ≡ true → byteAt s i ≡ nameByte s i
-  byte-there h e = sym (ap (λ (n : List ℕ). valueOr 0 (first n)) (name-cons s i h e))
+  byte-there h e = sym (ap head (name-cons s i h e))
 
   -- the name, by its first byte a
   module _ {a : ℕ} (e : a ≡ nameByte s i) where
@@ -55,13 +55,13 @@ module _ (s : List ℕ) (i : ℕ) where
       where
         go : View s i → nameAt s i ≡ []
         go (over n) = n
-        go (byte b l z n) = absurd (z (sym (ap (λ (n : List ℕ). valueOr 0 (first n)) n) ∙ sym e ∙ h))
+        go (byte b l z n) = absurd (z (sym (ap head n) ∙ sym e ∙ h))
 
     pub byte-on : (a ≡ 0 → ⊥) → (i < length s) × (length (nameAt s i) ≡ suc (length (nameAt s (i + 1))))
     byte-on h = go (view s i)
       where
         go : View s i → (i < length s) × (length (nameAt s i) ≡ suc (length (nameAt s (i + 1))))
-        go (over n) = absurd (h (e ∙ ap (λ (n : List ℕ). valueOr 0 (first n)) n))
+        go (over n) = absurd (h (e ∙ ap head n))
         go (byte b l z n) = (l, ap length n)
 
 -- ---- two names, by their first bytes a and b and what follows
@@ -137,7 +137,8 @@ pub name-whole : (t : List ℕ) → length (nameIn t) ≡ length t → nameIn t 
 name-whole [] e = refl
 name-whole (b ∷ t) e = go (continuesName b) e (name-whole t)
   where
-    go : (c : Bool) → length (cond c (b ∷ nameIn t) []) ≡ suc (length t) → (length (nameIn t) ≡ length t → nameIn t ≡ t) → cond c (b ∷ nameIn t) [] ≡ b ∷ t
+    go : (c : Bool) → length (cond c (b ∷ nameIn t) []) ≡ suc (length t) → (length (nameIn t) ≡ length t → nameIn t ≡ t)
+        → cond c (b ∷ nameIn t) [] ≡ b ∷ t
     go true f h = ap (λ (l : List ℕ). b ∷ l) (h (omega arith))
     go false f h = absurd (omega arith)
 
@@ -153,7 +154,10 @@ name-again (b ∷ t) = go (continuesName b) refl (name-again t)
 -- any other slice is no name of a text
 module _ (t : List ℕ) (e : length (nameIn t) ≡ length t → ⊥) (s : List ℕ) where
   no-name : (p : ℕ) → sameBytes t (nameAt s p) ≡ false
-  no-name p = false-of (sameBytes t (nameAt s p)) (λ y. let q : t ≡ nameAt s p = bytes-equal t (nameAt s p) y in e (ap length (ap nameIn q ∙ name-again (drop p s) ∙ sym q)))
+  no-name p =
+      false-of (sameBytes t (nameAt s p)) (λ y.
+      let q : t ≡ nameAt s p = bytes-equal t (nameAt s p) y in
+      e (ap length (ap nameIn q ∙ name-again (drop p s) ∙ sym q)))
 
   pub never-found : (k : ℕ) (ps : List ℕ) → indexFrom k t (map (nameAt s) ps) ≡ none
   never-found k [] = refl

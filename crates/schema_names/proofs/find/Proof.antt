@@ -2,7 +2,6 @@
 use mathlib.Core.List.{map}
 use mathlib.Core.Path.{_≡_, refl, sym, ap, _∙_}
 use borrow.Author.Needs.{needs}
-use native.Mathlib.Omega.{arith}
 use Prim.Native.Nat.{_-_, _≤_}
 use lib.ListN.{length, drop}
 use Rattle.schema_names.specs.Names.{nameAt}
@@ -13,7 +12,9 @@ use Rattle.schema_names.proofs.find.Statement.{statement}
 use Rattle.schema_names.proofs.find.Tie as tie
 
 abbrev Inv-loop : tie.InvT-loop
-Inv-loop s names t p i₀ i = (i ≤ length names) × (indexFrom 0 (nameAt t p) (map (nameAt s) names) ≡ indexFrom i (nameAt t p) (map (nameAt s) (drop i names)))
+Inv-loop s names t p i₀ i =
+    (i ≤ length names)
+    × (indexFrom 0 (nameAt t p) (map (nameAt s) names) ≡ indexFrom i (nameAt t p) (map (nameAt s) (drop i names)))
 
 abbrev μ-loop : tie.MeasureT-loop
 μ-loop s names t p i₀ i = length names - i
@@ -34,7 +35,9 @@ returns : tie.Need-returns Inv-loop μ-loop
 returns c =
     let l = c .before .before .before .before .loop in
     let g = c .before .before .before .before .before .before .before .before .args in
-    sym (ap (valueOr (length (g .names .now))) (l .inv .1 ∙ index-here (g .s .now) (g .names .now) (nameAt (g .t .now) (g .p)) (l .i) (c .before .before .before .loop-test .taken) (sym (c .before .same-name .ensures) ∙ c .if1 .taken)))
+    let h = c .before .before .before .loop-test .taken in
+    sym (ap (valueOr (length (g .names .now))) (l .inv .1
+    ∙ index-here (g .s .now) (g .names .now) (nameAt (g .t .now) (g .p)) (l .i) h (sym (c .before .same-name .ensures) ∙ c .if1 .taken)))
 
 add-i : tie.Need-add-i Inv-loop μ-loop
 add-i c = search needs
@@ -46,7 +49,11 @@ loop-again : tie.Need-loop-again Inv-loop μ-loop
 loop-again c =
     let l = c .before .before .before .before .loop in
     let g = c .before .before .before .before .before .before .before .before .args in
-    (search needs, l .inv .1 ∙ index-later (g .s .now) (g .names .now) (nameAt (g .t .now) (g .p)) (l .i) (c .before .before .before .loop-test .taken) (sym (c .before .same-name .ensures) ∙ c .if1 .left))
+    let h = c .before .before .before .loop-test .taken in (
+      search needs,
+      l .inv .1
+          ∙ index-later (g .s .now) (g .names .now) (nameAt (g .t .now) (g .p)) (l .i) h (sym (c .before .same-name .ensures) ∙ c .if1 .left),
+    )
 
 returns-2 : tie.Need-returns-2 Inv-loop μ-loop
 returns-2 c =

@@ -22,19 +22,29 @@ name-byte-requires : tie.Need-name-byte-requires Inv-loop μ-loop
 name-byte-requires c κs = search needs
 
 add-i : tie.Need-add-i Inv-loop μ-loop
-add-i c = let h = byte-on (c .before .before .before .before .args .t .now) (c .before .before .loop .i) (c .before .name-byte .ensures) (c .if1 .taken) in search needs
+add-i c =
+    let h = byte-on (c .before .before .before .before .args .t .now) (c .before .before .loop .i) (c .before .name-byte .ensures) (c .if1 .taken) in
+    search needs
 
 loop-less : tie.Need-loop-less Inv-loop μ-loop
-loop-less c = let h = byte-on (c .before .before .before .before .args .t .now) (c .before .before .loop .i) (c .before .name-byte .ensures) (c .if1 .taken) in omega arith
+loop-less c =
+    let h = byte-on (c .before .before .before .before .args .t .now) (c .before .before .loop .i) (c .before .name-byte .ensures) (c .if1 .taken) in
+    omega arith
 
 loop-again : tie.Need-loop-again Inv-loop μ-loop
-loop-again c = let h = byte-on (c .before .before .before .before .args .t .now) (c .before .before .loop .i) (c .before .name-byte .ensures) (c .if1 .taken) in omega arith
+loop-again c =
+    let h = byte-on (c .before .before .before .before .args .t .now) (c .before .before .loop .i) (c .before .name-byte .ensures) (c .if1 .taken) in
+    omega arith
 
 sub-result : tie.Need-sub-result Inv-loop μ-loop
-sub-result c = let h = ap length (byte-over (c .before .before .before .before .args .t .now) (c .before .before .loop .i) (c .before .name-byte .ensures) (c .if1 .left)) in omega arith
+sub-result c =
+    let h = ap length (byte-over (c .before .before .before .before .args .t .now) (c .before .before .loop .i) (c .before .name-byte .ensures) (c .if1 .left)) in
+    omega arith
 
 returns : tie.Need-returns Inv-loop μ-loop
-returns c = let h = ap length (byte-over (c .before .before .before .before .args .t .now) (c .before .before .loop .i) (c .before .name-byte .ensures) (c .if1 .left)) in omega arith
+returns c =
+    let h = ap length (byte-over (c .before .before .before .before .args .t .now) (c .before .before .loop .i) (c .before .name-byte .ensures) (c .if1 .left)) in
+    omega arith
 
 pub name-size-spec : {M : Type 1} → statement M
 name-size-spec = tie.close (tie.spec Inv-loop μ-loop loop-holds name-byte-requires add-i loop-less loop-again sub-result returns)

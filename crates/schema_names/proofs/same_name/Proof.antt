@@ -35,7 +35,8 @@ returns-2 : tie.Need-returns-2 Inv-loop μ-loop
 returns-2 c =
     let l = c .before .before .before .before .loop in
     let g = c .before .before .before .before .before .before .before .args in
-    same-not (g .s .now) (l .i) (g .t .now) (l .j) (c .before .before .before .name-byte .ensures) (c .before .before .name-byte2 .ensures) (c .before .if1 .left) (c .if2 .taken)
+    same-not (g .s .now) (l .i) (g .t .now) (l .j) (c .before .before .before .name-byte .ensures) (c .before .before .name-byte2 .ensures) (c .before .if1 .left)
+    (c .if2 .taken)
     ∙ sym (l .inv)
 
 add-i : tie.Need-add-i Inv-loop μ-loop
@@ -61,7 +62,8 @@ loop-again c =
     let l = c .before .before .before .before .loop in
     let g = c .before .before .before .before .before .before .before .args in
     l .inv
-    ∙ same-on (g .s .now) (l .i) (g .t .now) (l .j) (c .before .before .before .name-byte .ensures) (c .before .before .name-byte2 .ensures) (c .before .if1 .left) (c .if2 .left)
+    ∙ same-on (g .s .now) (l .i) (g .t .now) (l .j) (c .before .before .before .name-byte .ensures) (c .before .before .name-byte2 .ensures) (c .before .if1 .left)
+    (c .if2 .left)
 
 pub same-name-spec : {M : Type 1} → statement M
 same-name-spec =
