@@ -10,8 +10,8 @@ use lib.Dec.{eqb}
 use lib.ListN.{length, drop, getD, set, length-append, length-set, drop-of-length-le}
 use lib.Seq.{drop-cons, set-at}
 use Rattle.declarations.proofs.Judging.{yes, no}
-use Rattle.schema.specs.Normal.{Steps, Stored, Normalized}
-use Rattle.schema.specs.declared.NormalStep.{NormalStep}
+use Rattle.schema_reader.specs.Normal.{Steps, Stored, Normalized}
+use Rattle.schema_reader.specs.declared.NormalStep.{NormalStep}
 use Rattle.schema_spec.specs.Records.{normalFrom, normal}
 use Rattle.text_spec.specs.Bytes.{isBlank}
 

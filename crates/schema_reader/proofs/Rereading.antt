@@ -7,18 +7,21 @@ use native.Mathlib.Numerals.{add-one}
 use native.Mathlib.Omega.{arith}
 use borrow.Author.Tests.{le-leb, lt-leb, eq-eqb, ne-eqb}
 use lib.Dec.{T, eqb, leb, leb→le}
-use lib.ListN.{length, drop, take, getD, replicate, length-append, length-replicate, drop-of-length-le}
-use lib.Seq.{drop-cons, take-append-seam, length-take-le}
-use Rattle.schema.specs.Answers.{meant, sized, inCells, ReadAs, passesRecord}
+use lib.ListN.{length, drop, take, getD, drop-of-length-le}
+use lib.Seq.{drop-cons, length-take-le}
+use Rattle.schema.specs.Answers.{meant, sized}
+use Rattle.schema_reader.specs.Records.{ReadAs, passesRecord}
 use Rattle.schema.specs.declared.Answer.{Answer}
 use Rattle.schema.specs.declared.Answer.the-variants.{Accepted, Refused}
 use Rattle.schema.specs.declared.Kind.{Kind}
-use Rattle.schema.specs.declared.SchemaRead.{SchemaRead}
+use Rattle.schema_reader.specs.declared.SchemaRead.{SchemaRead}
 use Rattle.schema_spec.specs.Reading.{readSchema}
 use Rattle.schema_spec.specs.Records.{normal, recordBy, schemaRecord, isSchemaRecord}
 use Rattle.schema_spec.specs.Schemas.{Schema}
+use Rattle.text_laws.specs.Cells.{padded-length, padded-take}
 use Rattle.text_laws.specs.Lists.{bytes-equal, bytes-same}
 use Rattle.text_laws.specs.Tests.{passed, true-of, false-of, and-cases, and-intro}
+use Rattle.text_spec.specs.Cells.{padded}
 use Rattle.text_spec.specs.Limits.{maxSchemaBytes}
 use Rattle.text_spec.specs.Lists.{sameBytes}
 use Rattle.text_spec.specs.Refusals.{Refusal, Outcome, accepted, refused, isAccepted}
@@ -49,16 +52,15 @@ and-false false e = refl
 
 module _ (cells : List ℕ) (size : ℕ) where
   pub record-long : maxSchemaBytes < size → passesRecord cells size ≡ false
-  record-long h = ap (λ (t : Bool). t && (sameBytes cells (inCells maxSchemaBytes (take size cells)) && isSchemaRecord (take size cells))) (lt-leb size maxSchemaBytes h)
+  record-long h = ap (λ (t : Bool). (t && sameBytes cells (padded maxSchemaBytes (take size cells))) && isSchemaRecord (take size cells)) (lt-leb size maxSchemaBytes h)
 
   module _ {r : SchemaRead} (R : ReadAs (take size cells) r) where
     -- a text that is turned back is no record
     pub record-refused : {k : Kind} {p : ℕ} → r .answer ≡ Refused k p → passesRecord cells size ≡ false
     unfolding isSchemaRecord
     record-refused {k} {p} e =
-        and-false (leb size maxSchemaBytes)
-        (and-false (sameBytes cells (inCells maxSchemaBytes (take size cells)))
-        (ap (λ (t : Bool). t && sameBytes (normal (take size cells)) (take size cells)) (go (readSchema (take size cells)) (sym (ap meant e) ∙ R .outcome))))
+        and-false (leb size maxSchemaBytes && sameBytes cells (padded maxSchemaBytes (take size cells)))
+        (ap (λ (t : Bool). t && sameBytes (normal (take size cells)) (take size cells)) (go (readSchema (take size cells)) (sym (ap meant e) ∙ R .outcome)))
       where
         go : (o : Outcome Schema) → meant (Refused k p) ≡ sized o → isAccepted o ≡ false
         go (accepted s) q = absurd (let z : _≡_ {A = ℕ} 0 1 = cc in omega arith)
@@ -80,8 +82,8 @@ module _ (cells : List ℕ) (size : ℕ) where
           go (accepted s) q = refl
           go (refused f) q = absurd (let z : _≡_ {A = ℕ} 0 1 = cc in omega arith)
 
-      bytes-again : r .schema .bytes ≡ inCells maxSchemaBytes (normal (take size cells))
-      bytes-again = R .bytes ∙ ap (inCells maxSchemaBytes) again
+      bytes-again : r .schema .bytes ≡ padded maxSchemaBytes (normal (take size cells))
+      bytes-again = R .bytes ∙ ap (padded maxSchemaBytes) again
 
       size-again : r .schema .len ≡ length (normal (take size cells))
       size-again = R .size ∙ ap length again
@@ -90,29 +92,27 @@ module _ (cells : List ℕ) (size : ℕ) where
       passes-same : T (passesRecord cells size) → (r .schema .len ≡ size) × (r .schema .bytes ≡ cells)
       unfolding isSchemaRecord
       passes-same t =
-          let a = and-cases (leb size maxSchemaBytes) (sameBytes cells (inCells maxSchemaBytes (take size cells)) && isSchemaRecord (take size cells)) t in
-          let b = and-cases (sameBytes cells (inCells maxSchemaBytes (take size cells))) (isSchemaRecord (take size cells)) (a .1) in
+          let b = and-cases (leb size maxSchemaBytes && sameBytes cells (padded maxSchemaBytes (take size cells))) (isSchemaRecord (take size cells)) t in
+          let a = and-cases (leb size maxSchemaBytes) (sameBytes cells (padded maxSchemaBytes (take size cells))) (b .0) in
           let c = and-cases (isAccepted (readSchema (take size cells))) (sameBytes (normal (take size cells)) (take size cells)) (b .1) in
           let same-text : normal (take size cells) ≡ take size cells = bytes-equal (normal (take size cells)) (take size cells) (c .1) in
-          let same-cells : cells ≡ inCells maxSchemaBytes (take size cells) = bytes-equal cells (inCells maxSchemaBytes (take size cells)) (b .0) in
+          let same-cells : cells ≡ padded maxSchemaBytes (take size cells) = bytes-equal cells (padded maxSchemaBytes (take size cells)) (a .1) in
           let low : size ≤ maxSchemaBytes = leb→le size maxSchemaBytes (a .0) in
-          let l = ap length same-cells ∙ length-append (take size cells) (replicate (maxSchemaBytes - length (take size cells)) 0) in
-          let m = length-replicate {A = ℕ} (maxSchemaBytes - length (take size cells)) 0 in
+          let l = ap length same-cells ∙ padded-length maxSchemaBytes (take size cells) in
           let n : length (take size cells) ≡ size = length-take-le size cells (omega arith) in
-          (size-again ∙ ap length same-text ∙ n, bytes-again ∙ ap (inCells maxSchemaBytes) same-text ∙ sym same-cells)
+          (size-again ∙ ap length same-text ∙ n, bytes-again ∙ ap (padded maxSchemaBytes) same-text ∙ sym same-cells)
 
       same-passes : size ≤ maxSchemaBytes → r .schema .len ≡ size → r .schema .bytes ≡ cells → T (passesRecord cells size)
       unfolding isSchemaRecord
       same-passes low l c =
-          let same-cells : cells ≡ inCells maxSchemaBytes (normal (take size cells)) = sym c ∙ bytes-again in
+          let same-cells : cells ≡ padded maxSchemaBytes (normal (take size cells)) = sym c ∙ bytes-again in
           let n : size ≡ length (normal (take size cells)) = sym l ∙ size-again in
-          let same-text : take size cells ≡ normal (take size cells) =
-          ap₂ take n same-cells ∙ take-append-seam (normal (take size cells)) (replicate (maxSchemaBytes - length (normal (take size cells))) 0) in
-          and-intro (leb size maxSchemaBytes) (sameBytes cells (inCells maxSchemaBytes (take size cells)) && isSchemaRecord (take size cells)) (passed (le-leb size maxSchemaBytes low))
-          (and-intro (sameBytes cells (inCells maxSchemaBytes (take size cells))) (isSchemaRecord (take size cells))
-          (subst (λ (x : List ℕ). T (sameBytes cells x)) (same-cells ∙ ap (inCells maxSchemaBytes) (sym same-text)) (bytes-same cells))
+          let same-text : take size cells ≡ normal (take size cells) = ap₂ take n same-cells ∙ padded-take maxSchemaBytes (normal (take size cells)) (omega arith) in
+          and-intro (leb size maxSchemaBytes && sameBytes cells (padded maxSchemaBytes (take size cells))) (isSchemaRecord (take size cells))
+          (and-intro (leb size maxSchemaBytes) (sameBytes cells (padded maxSchemaBytes (take size cells))) (passed (le-leb size maxSchemaBytes low))
+          (subst (λ (x : List ℕ). T (sameBytes cells x)) (same-cells ∙ ap (padded maxSchemaBytes) (sym same-text)) (bytes-same cells)))
           (and-intro (isAccepted (readSchema (take size cells))) (sameBytes (normal (take size cells)) (take size cells)) (passed is-accepted)
-          (subst (λ (x : List ℕ). T (sameBytes (normal (take size cells)) x)) (sym same-text) (bytes-same (normal (take size cells))))))
+          (subst (λ (x : List ℕ). T (sameBytes (normal (take size cells)) x)) (sym same-text) (bytes-same (normal (take size cells)))))
 
       pub record-size : (r .schema .len ≡ size → ⊥) → passesRecord cells size ≡ false
       record-size h = false-of (passesRecord cells size) (λ t. h (passes-same t .0))

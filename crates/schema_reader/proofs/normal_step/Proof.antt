@@ -1,10 +1,10 @@
 -- `normal_step` meets its contract: the tests in their order. Assumes nothing.
 use mathlib.Core.Path.{_≡_, refl, sym, ap, _∙_}
-use Rattle.schema.proofs.Writing.{blank-free, blank-run, blank-due, byte-due, byte-opens, byte-free}
+use Rattle.schema_reader.proofs.Writing.{blank-free, blank-run, blank-due, byte-due, byte-opens, byte-free}
 use native.Mathlib.Omega.{arith}
 use borrow.Author.Needs.{needs}
-use Rattle.schema.proofs.normal_step.Statement.{statement}
-use Rattle.schema.proofs.normal_step.Tie as tie
+use Rattle.schema_reader.proofs.normal_step.Statement.{statement}
+use Rattle.schema_reader.proofs.normal_step.Tie as tie
 
 is-blank-requires : tie.Need-is-blank-requires
 is-blank-requires c κs = search needs

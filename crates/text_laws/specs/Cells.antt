@@ -5,7 +5,7 @@ use mathlib.Core.Path.{_≡_, refl, sym, ap, subst, _∙_}
 use Prim.Native.Nat.{ℕ, zero, suc, _-_, _≤_}
 use native.Mathlib.Omega.{arith}
 use lib.ListN.{length, take, replicate}
-use Rattle.projection_spec.specs.Library.Lent.{padded, InCells}
+use Rattle.text_spec.specs.Cells.{padded, InCells}
 
 pub padded-length : (n : ℕ) (xs : List ℕ) → length (padded n xs) ≡ n
 padded-length zero xs = refl

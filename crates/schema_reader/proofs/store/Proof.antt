@@ -3,8 +3,8 @@ use mathlib.Core.Path.{sym}
 use Rattle.declarations.proofs.Judging.{yes, no}
 use native.Mathlib.Omega.{arith}
 use borrow.Author.Needs.{needs}
-use Rattle.schema.proofs.store.Statement.{statement}
-use Rattle.schema.proofs.store.Tie as tie
+use Rattle.schema_reader.proofs.store.Statement.{statement}
+use Rattle.schema_reader.proofs.store.Tie as tie
 
 slice-write-out : tie.Need-slice-write-out
 slice-write-out c = search needs

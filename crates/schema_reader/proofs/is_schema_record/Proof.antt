@@ -4,9 +4,9 @@ use borrow.Author.Needs.{needs}
 use native.Mathlib.Omega.{arith}
 use lib.ListN.{length}
 use lib.Seq.{length-take-le}
-use Rattle.schema.proofs.Rereading.{record-long, record-refused, record-size, record-cells}
-use Rattle.schema.proofs.is_schema_record.Statement.{statement}
-use Rattle.schema.proofs.is_schema_record.Tie as tie
+use Rattle.schema_reader.proofs.Rereading.{record-long, record-refused, record-size, record-cells}
+use Rattle.schema_reader.proofs.is_schema_record.Statement.{statement}
+use Rattle.schema_reader.proofs.is_schema_record.Tie as tie
 
 returns : tie.Need-returns
 returns c = sym (record-long (c .before .before .args .schema .bytes) (c .before .before .args .schema .len) (c .if1 .taken))

@@ -5,9 +5,9 @@ use native.Mathlib.Omega.{arith}
 use Prim.Native.Nat.{_-_, _≤_, _<_}
 use lib.ListN.{length, drop}
 use Rattle.text_spec.specs.Lists.{sameBytes}
-use Rattle.schema.proofs.Rereading.{cells-sizes, cells-ended, cells-differ, cells-next}
-use Rattle.schema.proofs.same_cells.Statement.{statement}
-use Rattle.schema.proofs.same_cells.Tie as tie
+use Rattle.schema_reader.proofs.Rereading.{cells-sizes, cells-ended, cells-differ, cells-next}
+use Rattle.schema_reader.proofs.same_cells.Statement.{statement}
+use Rattle.schema_reader.proofs.same_cells.Tie as tie
 
 abbrev Inv-loop : tie.InvT-loop
 Inv-loop a b i₀ i = (i ≤ length a) × (sameBytes a b ≡ sameBytes (drop i a) (drop i b))
