@@ -1,4 +1,5 @@
 // Reading schema texts: the answer, and the schema in its record, which is the text's normal form.
+ghost use mathlib.Core.Bool.{true, false};
 ghost use mathlib.Core.Path.{_≡_};
 ghost use Prim.Native.Nat.{ℕ, _≤_, _<_};
 ghost use lib.ListN.{length};
@@ -16,55 +17,50 @@ pub struct NormalStep {
     pub byte: u8,
 }
 
+// A blank is left out.
+fn dropped(due: u8) -> NormalStep
+    ensures { λ r. ⌜ r ≡ record { due = due; run = true; keep = false; byte = 32 } ⌝ }
+{
+    NormalStep {
+        due,
+        run: true,
+        keep: false,
+        byte: 32,
+    }
+}
+
+// A byte is kept.
+fn kept(due: u8, run: bool, byte: u8) -> NormalStep
+    ensures { λ r. ⌜ r ≡ record { due = due; run = run; keep = true; byte = byte } ⌝ }
+{
+    NormalStep {
+        due,
+        run,
+        keep: true,
+        byte,
+    }
+}
+
+// Of a run of blanks one is kept, as a space, where blanks are due: two after each `<`.
 fn normal_step(due: u8, run: bool, b: u8) -> NormalStep
     ensures { λ r. ⌜ Steps due run b r ⌝ }
 {
     if text::is_blank(b) {
         if due == 0 {
-            return NormalStep {
-                due,
-                run: true,
-                keep: false,
-                byte: b,
-            };
+            return dropped(due);
         }
         if run {
-            return NormalStep {
-                due,
-                run: true,
-                keep: false,
-                byte: b,
-            };
+            return dropped(due);
         }
-        return NormalStep {
-            due: due - 1,
-            run: true,
-            keep: true,
-            byte: 32,
-        };
+        return kept(due - 1, true, 32);
     }
     if due != 0 {
-        return NormalStep {
-            due,
-            run: false,
-            keep: true,
-            byte: b,
-        };
+        return kept(due, false, b);
     }
     if b == 60 {
-        return NormalStep {
-            due: 2,
-            run: false,
-            keep: true,
-            byte: b,
-        };
+        return kept(2, false, b);
     }
-    NormalStep {
-        due,
-        run: false,
-        keep: true,
-        byte: b,
-    }
+    kept(due, false, b)
 }
 
 // Stores the byte at n, if it is kept, and gives the next place.
