@@ -12,7 +12,8 @@ use lib.ListN.{length}
 use Rattle.declarations.proofs.Judging.{yes, no}
 use Rattle.schema.proofs.Limits.{head-least}
 use Rattle.declarations.proofs.Models.{between-low, between-from}
-use Rattle.schema.specs.Names.{nameAt, firstPlace, isAmong, twiceAt}
+use Rattle.schema_names.specs.Names.{nameAt}
+use Rattle.schema.specs.Names.{firstPlace, isAmong, twiceAt}
 use Rattle.declarations.specs.Parts.{Between}
 use Rattle.schema_laws.specs.Lists.{in-nothing}
 use Rattle.text_laws.specs.Lists.{map-in}

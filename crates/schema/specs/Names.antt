@@ -2,17 +2,9 @@
 use mathlib.Core.Bool.{Bool, true, false, cond, not}
 use mathlib.Core.List.{List, [], _∷_}
 use Prim.Native.Nat.{ℕ, zero, suc}
-use lib.ListN.{length, drop, getD}
-use Rattle.declarations.specs.Parts.{nameIn}
+use lib.ListN.{length, getD}
+use Rattle.schema_names.specs.Names.{nameAt}
 use Rattle.text_spec.specs.Lists.{anyOf, filterBy, first, valueOr, sameBytes}
-
--- the name at a place
-abbrev pub nameAt : List ℕ → ℕ → List ℕ
-nameAt s p = nameIn (drop p s)
-
--- its first byte, 0 where there is none
-abbrev pub nameByte : List ℕ → ℕ → ℕ
-nameByte s i = valueOr 0 (first (nameAt s i))
 
 -- the first of some places, or the text's length
 abbrev pub firstPlace : List ℕ → List ℕ → ℕ

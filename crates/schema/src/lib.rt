@@ -5,7 +5,7 @@ ghost use mathlib.Core.Path.{_≡_};
 ghost use Prim.Native.Nat.{ℕ, _+_, _≤_, _<_};
 ghost use lib.ListN.{length, getD, replicate};
 ghost use Rattle.schema.specs.Whole.{overLimit, AllRead};
-ghost use Rattle.schema.specs.Names.{nameAt, nameByte, firstPlace, namesBefore, isAmong, twiceAt, missingAt};
+ghost use Rattle.schema.specs.Names.{firstPlace, namesBefore, isAmong, twiceAt, missingAt};
 ghost use Rattle.schema.specs.Normal.{Steps, Stored, Normalized};
 ghost use Rattle.schema.specs.Answers.{reasonOf, inCells, Readable, Spelling, ReadAs, passesRecord};
 ghost use Rattle.schema_spec.specs.Records.{normal};
@@ -118,39 +118,6 @@ fn all_declarations(s: &[u8], names: &mut [usize], uses: &mut [usize]) -> All
     All::Past(Counts { d, n, over })
 }
 
-// The byte at i if a name goes on with it, or 0.
-fn name_byte(s: &[u8], i: usize) -> u8
-    ensures { λ r. ⌜ r ≡ nameByte (now (s .entry)) i ⌝ }
-{
-    if s.len() <= i {
-        return 0;
-    }
-    let b = s[i];
-    if text::continues_name(b) {
-        return b;
-    }
-    0
-}
-
-// Whether the names at p and q are the same.
-fn same_name(s: &[u8], p: usize, q: usize) -> bool
-    ensures { λ r. ⌜ r ≡ sameBytes (nameAt (now (s .entry)) p) (nameAt (now (s .entry)) q) ⌝ }
-{
-    let mut i = p;
-    let mut j = q;
-    loop {
-        let a = name_byte(s, i);
-        if a != name_byte(s, j) {
-            return false;
-        }
-        if a == 0 {
-            return true;
-        }
-        i += 1;
-        j += 1;
-    }
-}
-
 // Whether the name at p is one of those at the first k of `names`.
 fn known(s: &[u8], names: &[usize], k: usize, p: usize) -> bool
     requires { ⌜ k ≤ length (now names) ⌝ }
@@ -159,7 +126,7 @@ fn known(s: &[u8], names: &[usize], k: usize, p: usize) -> bool
     let mut i = k;
     while 0 < i {
         i -= 1;
-        if same_name(s, p, names[i]) {
+        if schema_names::same_name(s, p, s, names[i]) {
             return true;
         }
     }

@@ -2,9 +2,9 @@
 use mathlib.Core.Path.{_≡_, refl, sym, ap, _∙_}
 use borrow.Author.Needs.{needs}
 use native.Mathlib.Omega.{arith}
-use Rattle.schema.proofs.Naming.{byte-none, byte-not, byte-there}
-use Rattle.schema.proofs.name_byte.Statement.{statement}
-use Rattle.schema.proofs.name_byte.Tie as tie
+use Rattle.schema_names.proofs.Naming.{byte-none, byte-not, byte-there}
+use Rattle.schema_names.proofs.name_byte.Statement.{statement}
+use Rattle.schema_names.proofs.name_byte.Tie as tie
 
 returns : tie.Need-returns
 returns c = byte-none (c .before .before .args .s .now) (c .before .before .args .i) (c .if1 .taken)
