@@ -1,8 +1,11 @@
 // The tables that are derived from a schema's record: its names, and for each element its kind, its model's tables, what it holds and
 // what lies below it.
 ghost use mathlib.Core.Path.{_≡_};
-ghost use Rattle.schema_spec.specs.Records.{schemaIn};
-ghost use Rattle.schema_tables.specs.Tables.{TablesOf};
+ghost use Rattle.names.specs.Sets.{member};
+ghost use Rattle.schema_spec.specs.Names.{Name};
+ghost use Rattle.schema_tables.specs.Rows.{kindIn, endsIn, isAmong, isHeld};
+use models::Content;
+use models::Ends;
 use names::NameSet;
 
 // The kinds of content.
@@ -32,4 +35,62 @@ pub struct SchemaTables {
     pub holds: [NameSet; 32],
     // the names below it
     pub below: [NameSet; 32],
+}
+
+fn kind_of(content: Content) -> u8
+    ensures { λ r. ⌜ r ≡ kindIn content ⌝ }
+{
+    match content {
+        Content::Empty => EMPTY,
+        Content::Pcdata => PCDATA,
+        Content::Children(_) => CHILDREN,
+    }
+}
+
+// Where a children model may begin and end; any other content has no position.
+fn ends_of(content: Content) -> Ends
+    ensures { λ r. ⌜ r ≡ endsIn content ⌝ }
+{
+    let none = Ends {
+        first: 0,
+        last: 0,
+        nullable: false,
+    };
+    match content {
+        Content::Empty => none,
+        Content::Pcdata => none,
+        Content::Children(ends) => ends,
+    }
+}
+
+fn wide(x: u8) -> usize
+    ensures { λ r. ⌜ r ≡ x ⌝ }
+{
+    x as usize
+}
+
+// The set of these elements.
+fn set_of(elements: &[u8]) -> NameSet
+    ensures { λ r. ⌜ ((n : Name) → member r n ≡ isAmong (now (elements .entry)) n) ⌝ }
+{
+    let mut set = NameSet::empty();
+    let mut i = 0;
+    while i < elements.len() {
+        let next = set.insert_element(wide(elements[i]));
+        set = next;
+        i += 1;
+    }
+    set
+}
+
+// The names that the element `a` holds: the elements of its model, or its text name.
+fn held(a: usize, kind: u8, elements: &[u8]) -> NameSet
+    ensures { λ r. ⌜ ((n : Name) → member r n ≡ isHeld a kind (now (elements .entry)) n) ⌝ }
+{
+    let set = set_of(elements);
+    if kind == PCDATA {
+        set.insert_text(a)
+    } else {
+        set
+    }
 }
