@@ -1,38 +1,53 @@
 -- Laws of names by their places: sought among others, declared twice, not declared. Assumes nothing.
-use mathlib.Core.Bool.{Bool, true, false, cond, not, _&&_, _||_}
+use mathlib.Core.Bool.{Bool, true, false, cond, not, _||_}
 use mathlib.Core.List.{List, [], _∷_, _++_, map}
-use mathlib.Core.Path.{_≡_, refl, sym, ap, ap₂, subst, _∙_}
-use Prim.Native.Nat.{ℕ, zero, suc, _+_, _-_, _≤_, _<_}
+use mathlib.Core.Path.{_≡_, refl, sym, ap, ap₂, _∙_}
+use Prim.Native.Nat.{ℕ, zero, suc, _+_, _≤_, _<_}
 use native.Mathlib.Numerals.{add-one}
 use native.Mathlib.Omega.{arith}
-use borrow.Author.Tests.{ltb-true, ltb-false, eq-eqb, ne-eqb}
-use lib.Dec.{eqb, ltb}
 use lib.ListN.{length, drop, take, getD, drop-of-length-le}
-use lib.Seq.{drop-cons, take-suc, take-length}
-use Rattle.declarations.proofs.Judging.{yes, no, name-cons, name-stops}
+use lib.Seq.{drop-cons, take-suc, take-length, length-take-le}
+use Rattle.declarations.proofs.Judging.{yes, no}
 use Rattle.declarations.proofs.Models.{map-append}
+use Rattle.schema_names.proofs.Naming.{found-one, found-none}
 use Rattle.schema_names.specs.Names.{nameAt}
 use Rattle.schema.specs.Names.{firstPlace, namesBefore, isAmong, twiceAt, missingAt}
-use Rattle.declarations.specs.Parts.{byteAt, nameIn, useAt}
+use Rattle.declarations.specs.Parts.{useAt}
 use Rattle.schema_spec.specs.Declarations.{Use, Declaration}
 use Rattle.schema_spec.specs.Reading.{usesOf, twicePlaces, undeclaredPlaces}
-use Rattle.schema_spec.specs.Schemas.{declaredNames}
-use Rattle.text_spec.specs.Bytes.{continuesName}
-use Rattle.text_spec.specs.Lists.{anyOf, filterBy, gather, first, valueOr, sameBytes}
+use Rattle.schema_spec.specs.Schemas.{indexFrom, declaredNames}
+use Rattle.text_spec.specs.Lists.{anyOf, filterBy, gather, valueOr, sameBytes}
 
 -- ---- a name among others
-module _ (s ps : List ℕ) (i p : ℕ) (l : 0 < i) where
-  before-cons : namesBefore s ps i ≡ nameAt s (getD ps (i - 1) 0) ∷ namesBefore s ps (i - 1)
-  before-cons = let e : i ≡ suc (i - 1) = omega arith in ap (namesBefore s ps) e
+any-append : {A : Type 0} (f : A → Bool) (xs : List A) (y : A) → anyOf f (xs ++ (y ∷ [])) ≡ (f y || anyOf f xs)
+any-append f [] y = refl
+any-append f (x ∷ xs) y = ap (λ (t : Bool). f x || t) (any-append f xs y) ∙ swap (f x) (f y) (anyOf f xs)
+  where
+    swap : (a b c : Bool) → (a || (b || c)) ≡ (b || (a || c))
+    swap true true c = refl
+    swap true false c = refl
+    swap false b c = refl
 
-  pub among-here : sameBytes (nameAt s p) (nameAt s (getD ps (i - 1) 0)) ≡ true → isAmong s (namesBefore s ps i) p ≡ true
-  among-here e = ap (anyOf (sameBytes (nameAt s p))) before-cons ∙ ap (λ (t : Bool). t || isAmong s (namesBefore s ps (i - 1)) p) e
+-- the order in which names are sought does not matter
+any-before : (f : List ℕ → Bool) (s ps : List ℕ) (k : ℕ) → k ≤ length ps → anyOf f (map (nameAt s) (take k ps)) ≡ anyOf f (namesBefore s ps k)
+any-before f s ps zero h = refl
+any-before f s ps (suc k) h =
+    ap (λ (l : List ℕ). anyOf f (map (nameAt s) l)) (take-suc ps k 0 (omega arith)) ∙ ap (anyOf f) (map-append (nameAt s) (take k ps) (getD ps k 0 ∷ []))
+    ∙ any-append f (map (nameAt s) (take k ps)) (nameAt s (getD ps k 0)) ∙ ap (λ (t : Bool). f (nameAt s (getD ps k 0)) || t) (any-before f s ps k (omega arith))
 
-  pub among-before : sameBytes (nameAt s p) (nameAt s (getD ps (i - 1) 0)) ≡ false → isAmong s (namesBefore s ps i) p ≡ isAmong s (namesBefore s ps (i - 1)) p
-  among-before e = ap (anyOf (sameBytes (nameAt s p))) before-cons ∙ ap (λ (t : Bool). t || isAmong s (namesBefore s ps (i - 1)) p) e
+-- what a search of the first k names says
+module _ (s ps qs : List ℕ) (k p : ℕ) (h : k ≤ length ps) (q : qs ≡ take k ps) {r : ℕ} (e : r ≡ valueOr (length qs) (indexFrom 0 (nameAt s p) (map (nameAt s) qs))) where
+  size : length qs ≡ k
+  size = ap length q ∙ length-take-le k ps h
 
-pub among-none : (s ps : List ℕ) (i p : ℕ) → i ≤ 0 → isAmong s (namesBefore s ps i) p ≡ false
-among-none s ps i p h = let e : i ≡ 0 = omega arith in ap (λ (k : ℕ). isAmong s (namesBefore s ps k) p) e
+  among : anyOf (sameBytes (nameAt s p)) (map (nameAt s) qs) ≡ isAmong s (namesBefore s ps k) p
+  among = ap (λ (l : List ℕ). anyOf (sameBytes (nameAt s p)) (map (nameAt s) l)) q ∙ any-before (sameBytes (nameAt s p)) s ps k h
+
+  pub among-found : r < k → isAmong s (namesBefore s ps k) p ≡ true
+  among-found l = sym among ∙ found-one s qs (nameAt s p) e (omega (arith, size)) .1
+
+  pub among-none : k ≤ r → isAmong s (namesBefore s ps k) p ≡ false
+  among-none l = sym among ∙ found-none s qs (nameAt s p) e (omega (arith, size)) .1
 
 -- ---- the first name declared before, the first not declared
 module _ (s ps : List ℕ) (i : ℕ) where
@@ -72,22 +87,6 @@ twice-places s ns (d ∷ ds) (p ∷ ps) e =
     let t : map (λ e. e .name) ds ≡ map (useAt s) ps = cc in
     ap (λ (u : Use). cond (anyOf (sameBytes (u .name)) ns) (u .place ∷ twicePlaces (u .name ∷ ns) ds) (twicePlaces (u .name ∷ ns) ds)) h
     ∙ ap (λ (l : List ℕ). cond (isAmong s ns p) (p ∷ l) l) (twice-places s (nameAt s p ∷ ns) ds ps t)
-
-any-append : {A : Type 0} (f : A → Bool) (xs : List A) (y : A) → anyOf f (xs ++ (y ∷ [])) ≡ (f y || anyOf f xs)
-any-append f [] y = refl
-any-append f (x ∷ xs) y = ap (λ (t : Bool). f x || t) (any-append f xs y) ∙ swap (f x) (f y) (anyOf f xs)
-  where
-    swap : (a b c : Bool) → (a || (b || c)) ≡ (b || (a || c))
-    swap true true c = refl
-    swap true false c = refl
-    swap false b c = refl
-
--- the order in which names are sought does not matter
-any-before : (f : List ℕ → Bool) (s ps : List ℕ) (k : ℕ) → k ≤ length ps → anyOf f (map (nameAt s) (take k ps)) ≡ anyOf f (namesBefore s ps k)
-any-before f s ps zero h = refl
-any-before f s ps (suc k) h =
-    ap (λ (l : List ℕ). anyOf f (map (nameAt s) l)) (take-suc ps k 0 (omega arith)) ∙ ap (anyOf f) (map-append (nameAt s) (take k ps) (getD ps k 0 ∷ []))
-    ∙ any-append f (map (nameAt s) (take k ps)) (nameAt s (getD ps k 0)) ∙ ap (λ (t : Bool). f (nameAt s (getD ps k 0)) || t) (any-before f s ps k (omega arith))
 
 declared-names : (s : List ℕ) (ds : List Declaration) (ps : List ℕ) → map (λ e. e .name) ds ≡ map (useAt s) ps → declaredNames ds ≡ map (nameAt s) ps
 declared-names s [] [] e = refl

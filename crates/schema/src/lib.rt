@@ -5,7 +5,7 @@ ghost use mathlib.Core.Path.{_≡_};
 ghost use Prim.Native.Nat.{ℕ, _+_, _≤_, _<_};
 ghost use lib.ListN.{length, getD, replicate};
 ghost use Rattle.schema.specs.Whole.{overLimit, AllRead};
-ghost use Rattle.schema.specs.Names.{firstPlace, namesBefore, isAmong, twiceAt, missingAt};
+ghost use Rattle.schema.specs.Names.{firstPlace, namesBefore, twiceAt, missingAt};
 ghost use Rattle.schema.specs.Normal.{Steps, Stored, Normalized};
 ghost use Rattle.schema.specs.Answers.{reasonOf, inCells, Readable, Spelling, ReadAs, passesRecord};
 ghost use Rattle.schema_spec.specs.Records.{normal};
@@ -118,21 +118,6 @@ fn all_declarations(s: &[u8], names: &mut [usize], uses: &mut [usize]) -> All
     All::Past(Counts { d, n, over })
 }
 
-// Whether the name at p is one of those at the first k of `names`.
-fn known(s: &[u8], names: &[usize], k: usize, p: usize) -> bool
-    requires { ⌜ k ≤ length (now names) ⌝ }
-    ensures { λ r. ⌜ r ≡ isAmong (now (s .entry)) (namesBefore (now (s .entry)) (now (names .entry)) k) p ⌝ }
-{
-    let mut i = k;
-    while 0 < i {
-        i -= 1;
-        if schema_names::same_name(s, p, s, names[i]) {
-            return true;
-        }
-    }
-    false
-}
-
 // The first of the declared names that is declared before it, or the text's length.
 fn twice(s: &[u8], names: &[usize]) -> usize
     ensures { λ r. ⌜ r ≡ firstPlace (now (s .entry)) (twiceAt (now (s .entry)) [] (now (names .entry))) ⌝ }
@@ -140,7 +125,7 @@ fn twice(s: &[u8], names: &[usize]) -> usize
     let mut i = 0;
     while i < names.len() {
         let p = names[i];
-        if known(s, names, i, p) {
+        if schema_names::find(s, &names[..i], s, p) < i {
             return p;
         }
         i += 1;
@@ -155,7 +140,7 @@ fn undeclared(s: &[u8], names: &[usize], uses: &[usize]) -> usize
     let mut i = 0;
     while i < uses.len() {
         let p = uses[i];
-        if !known(s, names, names.len(), p) {
+        if names.len() <= schema_names::find(s, names, s, p) {
             return p;
         }
         i += 1;

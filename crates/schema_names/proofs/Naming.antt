@@ -1,17 +1,21 @@
 -- Laws of names by their places: compared byte by byte. Assumes nothing.
-use mathlib.Core.Bool.{Bool, true, false, cond, _&&_}
-use mathlib.Core.List.{List, [], _∷_}
+use mathlib.Core.Bool.{Bool, true, false, cond, _&&_, _||_}
+use mathlib.Core.List.{List, [], _∷_, map}
+use mathlib.Core.Option.{Option, none, some}
 use mathlib.Core.Path.{_≡_, refl, sym, ap, ap₂, _∙_}
-use Prim.Native.Nat.{ℕ, _+_, _≤_, _<_}
+use Prim.Native.Nat.{ℕ, suc, _+_, _≤_, _<_}
+use native.Mathlib.Numerals.{add-one}
 use native.Mathlib.Omega.{arith}
 use borrow.Author.Tests.{ltb-true, ltb-false, eq-eqb, ne-eqb}
 use lib.Dec.{eqb, ltb}
-use lib.ListN.{length, drop-of-length-le}
+use lib.ListN.{length, drop, getD, drop-of-length-le, length-map}
+use lib.Seq.{drop-cons}
 use Rattle.declarations.proofs.Judging.{yes, no, name-cons, name-stops}
 use Rattle.schema_names.specs.Names.{nameAt, nameByte}
 use Rattle.declarations.specs.Parts.{byteAt, nameIn}
+use Rattle.schema_spec.specs.Schemas.{indexFrom}
 use Rattle.text_spec.specs.Bytes.{continuesName}
-use Rattle.text_spec.specs.Lists.{first, valueOr, sameBytes}
+use Rattle.text_spec.specs.Lists.{anyOf, first, valueOr, sameBytes}
 
 -- ---- the name at a place: over, or a byte and the name after it
 data View (s : List ℕ) (i : ℕ) : Type 0 where
@@ -69,3 +73,49 @@ module _ (s : List ℕ) (i : ℕ) (t : List ℕ) (j : ℕ) {a b : ℕ} (x : a �
 
     pub same-on : a ≡ b → sameBytes (nameAt s i) (nameAt t j) ≡ sameBytes (nameAt s (i + 1)) (nameAt t (j + 1))
     same-on f = by-bytes ∙ no (eqb b 0) _ (ne-eqb a 0 e) ∙ rw (eq-eqb a b f)
+
+-- ---- the first of some names that is n
+module _ (s ps n : List ℕ) (i : ℕ) where
+  index-cons : i < length ps
+      → indexFrom i n (map (nameAt s) (drop i ps)) ≡ cond (sameBytes n (nameAt s (getD ps i 0))) (some i) (indexFrom (i + 1) n (map (nameAt s) (drop (i + 1) ps)))
+  index-cons h = ap (λ (l : List ℕ). indexFrom i n (map (nameAt s) l)) (drop-cons ps i 0 h) ∙ rw (add-one i)
+
+  pub index-here : i < length ps → sameBytes n (nameAt s (getD ps i 0)) ≡ true → indexFrom i n (map (nameAt s) (drop i ps)) ≡ some i
+  index-here h e = index-cons h ∙ yes (some i) _ e
+
+  pub index-later : i < length ps → sameBytes n (nameAt s (getD ps i 0)) ≡ false
+      → indexFrom i n (map (nameAt s) (drop i ps)) ≡ indexFrom (i + 1) n (map (nameAt s) (drop (i + 1) ps))
+  index-later h e = index-cons h ∙ no (some i) _ e
+
+  pub index-none : length ps ≤ i → indexFrom i n (map (nameAt s) (drop i ps)) ≡ none
+  index-none h = ap (λ (l : List ℕ). indexFrom i n (map (nameAt s) l)) (drop-of-length-le ps h)
+
+-- an index below m where the name is among the others, and none where it is not
+data Sought (m : ℕ) : Option ℕ → Bool → Type 0 where
+  nowhere : Sought m none false
+  somewhere : (j : ℕ) → j < m → Sought m (some j) true
+
+sought : (k : ℕ) (n : List ℕ) (ns : List (List ℕ)) → Sought (k + length ns) (indexFrom k n ns) (anyOf (sameBytes n) ns)
+sought k n [] = nowhere
+sought k n (m ∷ ns) = go (sameBytes n m) (sought (suc k) n ns)
+  where
+    go : (t : Bool) → Sought (suc k + length ns) (indexFrom (suc k) n ns) (anyOf (sameBytes n) ns)
+        → Sought (k + suc (length ns)) (cond t (some k) (indexFrom (suc k) n ns)) (t || anyOf (sameBytes n) ns)
+    go true v = somewhere k (omega arith)
+    go false v = let e : suc k + length ns ≡ k + suc (length ns) = omega arith in rw e at v
+
+-- what an answer says: an index, or the number of names
+module _ (s ps n : List ℕ) {r : ℕ} (e : r ≡ valueOr (length ps) (indexFrom 0 n (map (nameAt s) ps))) where
+  pub found-one : r < length ps → (indexFrom 0 n (map (nameAt s) ps) ≡ some r) × (anyOf (sameBytes n) (map (nameAt s) ps) ≡ true)
+  found-one h = go (sought 0 n (map (nameAt s) ps)) e
+    where
+      go : {o : Option ℕ} {t : Bool} → Sought (0 + length (map (nameAt s) ps)) o t → r ≡ valueOr (length ps) o → (o ≡ some r) × (t ≡ true)
+      go nowhere f = absurd (omega arith)
+      go (somewhere j l) f = (ap some (sym f), refl)
+
+  pub found-none : length ps ≤ r → (indexFrom 0 n (map (nameAt s) ps) ≡ none) × (anyOf (sameBytes n) (map (nameAt s) ps) ≡ false)
+  found-none h = go (sought 0 n (map (nameAt s) ps)) e
+    where
+      go : {o : Option ℕ} {t : Bool} → Sought (0 + length (map (nameAt s) ps)) o t → r ≡ valueOr (length ps) o → (o ≡ none) × (t ≡ false)
+      go nowhere f = (refl, refl)
+      go (somewhere j l) f = absurd (omega (arith, length-map ps (nameAt s)))

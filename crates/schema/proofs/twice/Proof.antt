@@ -4,9 +4,10 @@ use borrow.Author.Needs.{needs}
 use native.Mathlib.Omega.{arith}
 use mathlib.Core.List.{[]}
 use Prim.Native.Nat.{_-_, _≤_}
-use lib.ListN.{length, drop}
+use lib.ListN.{length, drop, getD}
+use lib.Seq.{length-take-le}
 use Rattle.schema.specs.Names.{firstPlace, namesBefore, twiceAt}
-use Rattle.schema.proofs.Naming.{twice-here, twice-later, twice-never}
+use Rattle.schema.proofs.Naming.{among-found, among-none, twice-here, twice-later, twice-never}
 use Rattle.schema.proofs.twice.Statement.{statement}
 use Rattle.schema.proofs.twice.Tie as tie
 
@@ -25,11 +26,18 @@ mul-p c = search needs
 shared-slice-read-p : tie.Need-shared-slice-read-p Inv-loop μ-loop
 shared-slice-read-p c = search needs
 
-known-requires : tie.Need-known-requires Inv-loop μ-loop
-known-requires c κs = search needs
+slice-aggregate-find : tie.Need-slice-aggregate-find Inv-loop μ-loop
+slice-aggregate-find c = sym (length-take-le (c .before .before .before .loop .i) (c .before .before .before .before .before .before .args .names .now) (omega arith))
+
+find-requires : tie.Need-find-requires Inv-loop μ-loop
+find-requires c κs = search needs
 
 returns : tie.Need-returns Inv-loop μ-loop
-returns c = sym (c .before .before .before .before .loop .inv .1 ∙ twice-here (c .before .before .before .before .before .before .before .args .s .now) (c .before .before .before .before .before .before .before .args .names .now) (c .before .before .before .before .loop .i) (c .before .before .before .loop-test .taken) (sym (c .before .known .ensures) ∙ c .if1 .taken))
+returns c =
+    let l = c .before .before .before .before .before .loop in
+    let g = c .before .before .before .before .before .before .before .before .args in
+    let h = c .before .before .before .before .loop-test .taken in
+    sym (l .inv .1 ∙ twice-here (g .s .now) (g .names .now) (l .i) h (among-found (g .s .now) (g .names .now) _ (l .i) (getD (g .names .now) (l .i) 0) (omega arith) refl (c .before .find .ensures) (c .if1 .taken)))
 
 add-i : tie.Need-add-i Inv-loop μ-loop
 add-i c = search needs
@@ -38,10 +46,14 @@ loop-less : tie.Need-loop-less Inv-loop μ-loop
 loop-less c = search needs
 
 loop-again : tie.Need-loop-again Inv-loop μ-loop
-loop-again c = (search needs, c .before .before .before .before .loop .inv .1 ∙ twice-later (c .before .before .before .before .before .before .before .args .s .now) (c .before .before .before .before .before .before .before .args .names .now) (c .before .before .before .before .loop .i) (c .before .before .before .loop-test .taken) (sym (c .before .known .ensures) ∙ c .if1 .left))
+loop-again c =
+    let l = c .before .before .before .before .before .loop in
+    let g = c .before .before .before .before .before .before .before .before .args in
+    let h = c .before .before .before .before .loop-test .taken in
+    (search needs, l .inv .1 ∙ twice-later (g .s .now) (g .names .now) (l .i) h (among-none (g .s .now) (g .names .now) _ (l .i) (getD (g .names .now) (l .i) 0) (omega arith) refl (c .before .find .ensures) (c .if1 .left)))
 
 returns-2 : tie.Need-returns-2 Inv-loop μ-loop
 returns-2 c = sym (c .before .loop .inv .1 ∙ twice-never (c .before .before .before .before .args .s .now) (c .before .before .before .before .args .names .now) (c .before .loop .i) (c .loop-test .left))
 
 pub twice-spec : {M : Type 1} → statement M
-twice-spec = tie.close (tie.spec Inv-loop μ-loop loop-holds mul-p shared-slice-read-p known-requires returns add-i loop-less loop-again returns-2)
+twice-spec = tie.close (tie.spec Inv-loop μ-loop loop-holds mul-p shared-slice-read-p slice-aggregate-find find-requires returns add-i loop-less loop-again returns-2)

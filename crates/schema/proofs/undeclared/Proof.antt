@@ -2,11 +2,11 @@
 use mathlib.Core.Path.{_≡_, refl, sym, ap, _∙_}
 use borrow.Author.Needs.{needs}
 use native.Mathlib.Omega.{arith}
-use borrow.Author.Tests.{not-true, not-false}
 use Prim.Native.Nat.{_-_, _≤_}
-use lib.ListN.{length, drop}
+use lib.ListN.{length, drop, getD}
+use lib.Seq.{take-length}
 use Rattle.schema.specs.Names.{firstPlace, namesBefore, missingAt}
-use Rattle.schema.proofs.Naming.{missing-here, missing-later, missing-never}
+use Rattle.schema.proofs.Naming.{among-found, among-none, missing-here, missing-later, missing-never}
 use Rattle.schema.proofs.undeclared.Statement.{statement}
 use Rattle.schema.proofs.undeclared.Tie as tie
 
@@ -25,11 +25,16 @@ mul-p c = search needs
 shared-slice-read-p : tie.Need-shared-slice-read-p Inv-loop μ-loop
 shared-slice-read-p c = search needs
 
-known-requires : tie.Need-known-requires Inv-loop μ-loop
-known-requires c κs = search needs
+find-requires : tie.Need-find-requires Inv-loop μ-loop
+find-requires c κs = search needs
 
 returns : tie.Need-returns Inv-loop μ-loop
-returns c = sym (c .before .before .before .before .loop .inv .1 ∙ missing-here (c .before .before .before .before .before .before .before .before .args .s .now) (namesBefore (c .before .before .before .before .before .before .before .before .args .s .now) (c .before .before .before .before .before .before .before .before .args .names .now) (length (c .before .before .before .before .before .before .before .before .args .names .now))) (c .before .before .before .before .before .before .before .before .args .uses .now) (c .before .before .before .before .loop .i) (c .before .before .before .loop-test .taken) (sym (c .before .known .ensures) ∙ not-true _ (c .if1 .taken)))
+returns c =
+    let l = c .before .before .before .before .loop in
+    let g = c .before .before .before .before .before .before .before .before .args in
+    let h = c .before .before .before .loop-test .taken in
+    sym (l .inv .1 ∙ missing-here (g .s .now) (namesBefore (g .s .now) (g .names .now) (length (g .names .now))) (g .uses .now) (l .i) h
+    (among-none (g .s .now) (g .names .now) _ (length (g .names .now)) (getD (g .uses .now) (l .i) 0) (omega arith) (sym (take-length (g .names .now))) (c .before .find .ensures) (c .if1 .taken)))
 
 add-i : tie.Need-add-i Inv-loop μ-loop
 add-i c = search needs
@@ -38,10 +43,20 @@ loop-less : tie.Need-loop-less Inv-loop μ-loop
 loop-less c = search needs
 
 loop-again : tie.Need-loop-again Inv-loop μ-loop
-loop-again c = (search needs, c .before .before .before .before .loop .inv .1 ∙ missing-later (c .before .before .before .before .before .before .before .before .args .s .now) (namesBefore (c .before .before .before .before .before .before .before .before .args .s .now) (c .before .before .before .before .before .before .before .before .args .names .now) (length (c .before .before .before .before .before .before .before .before .args .names .now))) (c .before .before .before .before .before .before .before .before .args .uses .now) (c .before .before .before .before .loop .i) (c .before .before .before .loop-test .taken) (sym (c .before .known .ensures) ∙ not-false _ (c .if1 .left)))
+loop-again c =
+    let l = c .before .before .before .before .loop in
+    let g = c .before .before .before .before .before .before .before .before .args in
+    let h = c .before .before .before .loop-test .taken in (
+      search needs,
+      l .inv .1 ∙ missing-later (g .s .now) (namesBefore (g .s .now) (g .names .now) (length (g .names .now))) (g .uses .now) (l .i) h
+          (among-found (g .s .now) (g .names .now) _ (length (g .names .now)) (getD (g .uses .now) (l .i) 0) (omega arith) (sym (take-length (g .names .now))) (c .before .find .ensures) (c .if1 .left)),
+    )
 
 returns-2 : tie.Need-returns-2 Inv-loop μ-loop
-returns-2 c = sym (c .before .loop .inv .1 ∙ missing-never (c .before .before .before .before .before .args .s .now) (namesBefore (c .before .before .before .before .before .args .s .now) (c .before .before .before .before .before .args .names .now) (length (c .before .before .before .before .before .args .names .now))) (c .before .before .before .before .before .args .uses .now) (c .before .loop .i) (c .loop-test .left))
+returns-2 c =
+    let l = c .before .loop in
+    let g = c .before .before .before .before .before .args in
+    sym (l .inv .1 ∙ missing-never (g .s .now) (namesBefore (g .s .now) (g .names .now) (length (g .names .now))) (g .uses .now) (l .i) (c .loop-test .left))
 
 pub undeclared-spec : {M : Type 1} → statement M
-undeclared-spec = tie.close (tie.spec Inv-loop μ-loop loop-holds mul-p shared-slice-read-p known-requires returns add-i loop-less loop-again returns-2)
+undeclared-spec = tie.close (tie.spec Inv-loop μ-loop loop-holds mul-p shared-slice-read-p find-requires returns add-i loop-less loop-again returns-2)
