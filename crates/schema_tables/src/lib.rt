@@ -1,9 +1,13 @@
 // The tables that are derived from a schema's record: its names, and for each element its kind, its model's tables, what it holds and
 // what lies below it.
 ghost use mathlib.Core.Path.{_≡_};
+ghost use mathlib.Core.List.{map};
+ghost use Prim.Native.Nat.{_≤_, _<_};
+ghost use lib.ListN.{length};
+ghost use lib.Seq.{sets};
 ghost use Rattle.names.specs.Sets.{member};
 ghost use Rattle.schema_spec.specs.Names.{Name};
-ghost use Rattle.schema_tables.specs.Rows.{kindIn, endsIn, isAmong, isHeld};
+ghost use Rattle.schema_tables.specs.Rows.{kindIn, endsIn, isAmong, isHeld, elementAt};
 use models::Content;
 use models::Ends;
 use names::NameSet;
@@ -92,5 +96,18 @@ fn held(a: usize, kind: u8, elements: &[u8]) -> NameSet
         set.insert_text(a)
     } else {
         set
+    }
+}
+
+// Notes the elements whose names stand at `uses`.
+fn resolve(s: &[u8], names: &[usize], uses: &[usize], elements: &mut [u8])
+    requires { ⌜ (length (now names) < 256) × (length (now uses) ≤ length (now elements)) ⌝ }
+    ensures { λ r. ⌜ now (elements .exit) ≡ sets (now (elements .entry)) 0 (map (elementAt (now (s .entry)) (now (names .entry))) (now (uses .entry))) ⌝ }
+{
+    let mut i = 0;
+    while i < uses.len() {
+        let e = schema_names::find(s, names, s, uses[i]);
+        elements[i] = e as u8;
+        i += 1;
     }
 }
