@@ -208,7 +208,7 @@ module _ {text names uses : List ℕ} (S : Spelling text names uses) where
           }
 
 -- ---- from the lent cells
-drop-replicate : (k n a : ℕ) → drop k (replicate n a) ≡ replicate (n - k) a
+pub drop-replicate : (k n a : ℕ) → drop k (replicate n a) ≡ replicate (n - k) a
 drop-replicate zero n a = let e : n ≡ n - 0 = omega arith in ap (λ (m : ℕ). replicate m a) e
 drop-replicate (suc k) zero a = let e : 0 ≡ 0 - suc k = omega arith in ap (λ (m : ℕ). replicate m a) e
 drop-replicate (suc k) (suc n) a = drop-replicate k n a ∙ (let e : n - k ≡ suc n - suc k = omega arith in ap (λ (m : ℕ). replicate m a) e)

@@ -1,2 +1,5 @@
 pub mod Holding
 pub mod Resolving
+pub mod Windows
+pub mod Reaching
+pub mod Filling

@@ -1,2 +1,4 @@
 pub mod Tables
 pub mod Rows
+pub mod Mock
+pub mod Reading

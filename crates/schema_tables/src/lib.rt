@@ -41,6 +41,27 @@ pub struct SchemaTables {
     pub below: [NameSet; 32],
 }
 
+// The row of one element, and where the next declaration starts.
+pub struct ElementRow {
+    pub next: usize,
+    pub kind: u8,
+    pub first: u64,
+    pub last: u64,
+    pub nullable: bool,
+    pub holds: NameSet,
+}
+
+// The columns that are filled declaration by declaration.
+pub struct Rows {
+    pub kinds: [u8; 32],
+    pub firsts: [u64; 32],
+    pub lasts: [u64; 32],
+    pub nullables: [bool; 32],
+    pub elements: [u8; 2048],
+    pub predecessors: [u64; 2048],
+    pub holds: [NameSet; 32],
+}
+
 fn kind_of(content: Content) -> u8
     ensures { λ r. ⌜ r ≡ kindIn content ⌝ }
 {
