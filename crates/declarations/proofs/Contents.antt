@@ -2,15 +2,19 @@
 use mathlib.Core.Bool.{Bool, true, false, cond}
 use mathlib.Core.List.{List, [], _∷_, _++_}
 use mathlib.Core.Path.{_≡_, refl, sym, ap, subst, _∙_}
-use Prim.Native.Nat.{ℕ, suc, _+_, _≤_, _<_}
+use Prim.Native.Nat.{ℕ, suc, _+_, _-_, _≤_, _<_}
 use native.Mathlib.Nat.{add-zero}
 use native.Mathlib.Omega.{arith}
 use borrow.Author.Tests.{ltb-true, ltb-false, eq-eqb, ne-eqb}
 use lib.Dec.{eqb, ltb}
 use lib.ListN.{length, drop}
 use Rattle.declarations.proofs.Judging.{yes, no, step-at, dead-at, same-at, at-end, indicated-uses}
-use Rattle.declarations.proofs.Models.{between-low, noted-wider, noted-as, noted-none}
-use Rattle.declarations.specs.Parts.{from, byteAt, Skipped, Keyword, Spelt, SpeltAs, nameIn, useAt, Naming, Named, NamedAs, at-closed, Indicated, Noted, GroupRead, Grouped, GroupedAs, Spacing, NoBlank, Spaced, SpacedAs, Pcdata, PcdataAs, ContentRead, ContentAs, Contented, ended, namelessOf, Keyworded, KeywordAs, Headed, HeadAs, DeclarationRead, DeclarationAs, DeclaredRest, RestAs}
+use Rattle.declarations.proofs.Models.{between-low, noted-wider, noted-as, noted-count, noted-none}
+use Rattle.declarations.specs.Building.{Built, ContentBuilt, built-empty, built-pcdata, built-children}
+use Rattle.declarations.specs.Parts.{from, byteAt, Skipped, Keyword, Spelt, SpeltAs, nameIn, useAt, Naming, Named, NamedAs, at-closed, Indicated, indicatorAt, PartIndicated, Noted, GroupRead, Grouped, GroupedAs, Spacing, NoBlank, Spaced, SpacedAs, Pcdata, PcdataAs, ContentRead, ContentAs, Contented, ended, namelessOf, Keyworded, KeywordAs, Headed, HeadAs, DeclarationRead, DeclarationAs, DeclaredRest, RestAs}
+use Rattle.declarations.specs.declared.ContentEnd.{ContentEnd}
+use Rattle.declarations.specs.declared.ContentOutcome.{ContentOutcome}
+use Rattle.declarations.specs.declared.ContentOutcome.the-variants.{Past as ContentPast, Fail as ContentFail}
 use Rattle.declarations.specs.declared.DeclarationEnd.{DeclarationEnd}
 use Rattle.declarations.specs.declared.DeclarationOutcome.{DeclarationOutcome}
 use Rattle.declarations.specs.declared.DeclarationOutcome.the-variants.{Past as DeclPast, Fail as DeclFail}
@@ -19,6 +23,8 @@ use Rattle.declarations.specs.declared.PartRead.{PartRead}
 use Rattle.declarations.specs.declared.PartRead.the-variants.{Past as PartPast, Fail as PartFail}
 use Rattle.declarations.specs.declared.Read.{Read}
 use Rattle.declarations.specs.declared.Read.the-variants.{Past, Fail}
+use Rattle.models.specs.declared.Content.{Content as Contents}
+use Rattle.models.specs.declared.Content.the-variants.{Empty, Pcdata as PcdataContent, Children}
 use Rattle.schema_spec.specs.Declarations.{Use, Declaration, indicated}
 use Rattle.schema_spec.specs.Machine.{fresh, Opening, Head, State, dead, between, inKeyword, afterKeyword, beforeName, inName, beforeContent, inEmpty, afterOpen, inPcdata, afterPcdata, afterContent, declared, expecting, closed, past, isDead, longer, headed, closing, beginning, matching, step, departs, atEnd}
 use Rattle.schema_spec.specs.Models.{Particle, uses, Content, empty, pcdata, children, usesIn}
@@ -109,50 +115,55 @@ past-content s i p h = go (ltb i (length s)) refl
     go true e = same-at s i (past p [] h) (afterContent (children p) h) (ltb-true i (length s) e) (past-step p h i (byteAt s i))
     go false e = at-end s i (past p [] h) (ltb-false i (length s) e) ∙ sym (at-end s i (afterContent (children p) h) (ltb-false i (length s) e))
 
-module _ {s : List ℕ} {at i : ℕ} (n : ℕ) (o : List ℕ) (K : Skipped s at i) where
+module _ {s : List ℕ} {at i : ℕ} (n : ℕ) (o t : List ℕ) (K : Skipped s at i) where
   open-to : (h : Head) → from (afterOpen h) s at ≡ from (afterOpen h) s i
   open-to h = K .same (afterOpen h) refl (λ k b e. open-blank h k b e)
 
-  pub model-end : length s ≤ i → ContentAs afterOpen afterContent s at n o o (PartFail i)
+  pub model-end : length s ≤ i → ContentAs afterOpen afterContent s at n o o t t (ContentFail i)
   model-end l h = open-to h ∙ at-end s i (afterOpen h) l
 
   module _ (l : i < length s) where
-    pub model-pcdata : {r : Read} {q : PartRead} → byteAt s i ≡ 0x23 → n ≤ at → Pcdata s (i + 1) r → q ≡ namelessOf r n → ContentAs afterOpen afterContent s at n o o q
-    model-pcdata {r} {q} e m P u = subst (ContentAs afterOpen afterContent s at n o o) (sym u) (go r (P .says))
+    pub model-pcdata : {r : Read} {q : ContentOutcome} → byteAt s i ≡ 0x23 → n ≤ at → Pcdata s (i + 1) r → q ≡ namelessOf r n PcdataContent → ContentAs afterOpen afterContent s at n o o t t q
+    model-pcdata {r} {q} e m P u = subst (ContentAs afterOpen afterContent s at n o o t t) (sym u) (go r (P .says))
       where
         into : (h : Head) → from (afterOpen h) s at ≡ from (inPcdata (bytes "PCDATA") h) s (i + 1)
         into h = open-to h ∙ step-at s i (afterOpen h) (inPcdata (bytes "PCDATA") h) l (open-hash h i (byteAt s i) e) refl
 
-        go : (r : Read) → PcdataAs s (i + 1) r → ContentAs afterOpen afterContent s at n o o (namelessOf r n)
+        go : (r : Read) → PcdataAs s (i + 1) r → ContentAs afterOpen afterContent s at n o o t t (namelessOf r n PcdataContent)
         go (Past j) P =
             let a = P .0 in
             let b = K .low in
-            record { high = P .1; few = omega arith; content = pcdata; noted = noted-none (omega arith); same = λ h. into h ∙ P .2 h }
+            record { high = P .1; few = omega arith; content = pcdata; noted = noted-none (omega arith); built = built-pcdata refl; same = λ h. into h ∙ P .2 h }
         go (Fail j) P = λ h. into h ∙ P h
 
-    module _ {o′ : List ℕ} {r : PartRead} (e : byteAt s i ≡ 0x23 → ⊥) (G : Grouped s i 0 n o o′ r) where
+    module _ {o′ t′ : List ℕ} {r : PartRead} (e : byteAt s i ≡ 0x23 → ⊥) (G : Grouped s i 0 n n o o′ t t′ r) where
       into-group : (h : Head) → from (afterOpen h) s at ≡ from (expecting fresh [] h) s i
       into-group h = open-to h ∙ same-at s i (afterOpen h) (expecting fresh [] h) l (open-other h i (byteAt s i) (K .stop l) e)
 
-      pub model-fail : {j : ℕ} → r ≡ PartFail j → ContentAs afterOpen afterContent s at n o o′ (PartFail j)
-      model-fail u h = into-group h ∙ subst (Grouped s i 0 n o o′) u G .says [] h refl
+      pub model-fail : {j : ℕ} → r ≡ PartFail j → ContentAs afterOpen afterContent s at n o o′ t t′ (ContentFail j)
+      model-fail u h = into-group h ∙ subst (Grouped s i 0 n n o o′ t t′) u G .says [] h refl
 
       pub model-high : (p : Part) → r ≡ PartPast p → p .at ≤ length s
-      model-high p u = subst (Grouped s i 0 n o o′) u G .says .high
+      model-high p u = subst (Grouped s i 0 n n o o′ t t′) u G .says .high
 
-      pub model-past : {p : Part} {y : ℕ} → r ≡ PartPast p → Indicated s (p .at) y → ContentAs afterOpen afterContent s at n o o′ (PartPast (record { at = y; n = p .n }))
-      model-past {p} {y} u I =
-          let R : GroupRead s i 0 n o o′ p = subst (Grouped s i 0 n o o′) u G .says in
+      pub model-past : {p y : Part} {t″ : List ℕ} → r ≡ PartPast p → PartIndicated s p t′ t″ y
+          → ContentAs afterOpen afterContent s at n o o′ t t″ (ContentPast (record { at = y .at; n = y .n; content = Children (y .ends) }))
+      model-past {p} {y} {t″} u Q =
+          let R : GroupRead s i 0 n n o o′ t t′ p = subst (Grouped s i 0 n n o o′ t t′) u G .says in
+          let I = Q .by in
           let a = K .low in
           let b = I .low in
           let c = R .few in
-          let t = indicated (I .by) (R .tree) in
+          let d = Q .count in
+          let x = indicated (indicatorAt s (p .at)) (R .tree) in
+          let z : n - n ≡ 0 = omega arith in
           record {
             high = I .high;
             few = omega arith;
-            content = children t;
-            noted = noted-wider at a b (noted-as (sym (indicated-uses (I .by) (R .tree))) (R .noted));
-            same = λ h. into-group h ∙ R .same [] h refl ∙ I .same (closed (R .tree) [] h) (R .tree) [] h at-closed ∙ past-content s y t h;
+            content = children x;
+            noted = noted-wider at a b (noted-count (sym d) (noted-as (sym (indicated-uses (indicatorAt s (p .at)) (R .tree))) (R .noted)));
+            built = built-children (subst (λ (m : ℕ). Built m t t″ x (y .ends)) z (Q .repeated .built (n - n) t (R .tree) (R .built)));
+            same = λ h. into-group h ∙ R .same [] h refl ∙ I .same (closed (R .tree) [] h) (R .tree) [] h at-closed ∙ past-content s (y .at) x h;
           }
 
 -- ---- contents
@@ -173,29 +184,31 @@ module _ (h : Head) (k b : ℕ) where
   unfolding step
   content-dead e f g = no (beforeContent h) _ e ∙ no (afterOpen h) _ (ne-eqb b 0x28 f) ∙ no (inEmpty (bytes "MPTY") h) dead (ne-eqb b 0x45 g)
 
-module _ (s : List ℕ) (at n : ℕ) (o : List ℕ) where
-  pub content-end : length s ≤ at → ContentAs beforeContent afterContent s at n o o (PartFail at)
+module _ (s : List ℕ) (at n : ℕ) (o t : List ℕ) where
+  pub content-end : length s ≤ at → ContentAs beforeContent afterContent s at n o o t t (ContentFail at)
   content-end l h = at-end s at (beforeContent h) l
 
   module _ (l : at < length s) where
-    pub content-model : {o′ : List ℕ} {r : PartRead} → byteAt s at ≡ 0x28 → Contented afterOpen afterContent s (at + 1) n o o′ r → ContentAs beforeContent afterContent s at n o o′ r
-    content-model {o′} {r} e C = go r (C .says)
+    pub content-model : {o′ t′ : List ℕ} {r : ContentOutcome} → byteAt s at ≡ 0x28 → Contented afterOpen afterContent s (at + 1) n o o′ t t′ r
+        → ContentAs beforeContent afterContent s at n o o′ t t′ r
+    content-model {o′} {t′} {r} e C = go r (C .says)
       where
         into : (h : Head) → from (beforeContent h) s at ≡ from (afterOpen h) s (at + 1)
         into h = step-at s at (beforeContent h) (afterOpen h) l (content-opens h at (byteAt s at) e) refl
 
-        go : (r : PartRead) → ContentAs afterOpen afterContent s (at + 1) n o o′ r → ContentAs beforeContent afterContent s at n o o′ r
-        go (PartPast p) C =
-            record { high = C .high; few = C .few; content = C .content; noted = noted-wider at (omega arith) (omega arith) (C .noted); same = λ h. into h ∙ C .same h }
-        go (PartFail j) C = λ h. into h ∙ C h
+        go : (r : ContentOutcome) → ContentAs afterOpen afterContent s (at + 1) n o o′ t t′ r → ContentAs beforeContent afterContent s at n o o′ t t′ r
+        go (ContentPast p) C =
+            record { high = C .high; few = C .few; content = C .content; noted = noted-wider at (omega arith) (omega arith) (C .noted); built = C .built; same = λ h. into h ∙ C .same h }
+        go (ContentFail j) C = λ h. into h ∙ C h
 
-    pub content-empty : {r : Read} {q : PartRead} → byteAt s at ≡ 0x45 → n ≤ at → Spelt (bytes "MPTY") s (at + 1) r → q ≡ namelessOf r n → ContentAs beforeContent afterContent s at n o o q
-    content-empty {r} {q} e m W u = subst (ContentAs beforeContent afterContent s at n o o) (sym u) (go r (W .says))
+    pub content-empty : {r : Read} {q : ContentOutcome} → byteAt s at ≡ 0x45 → n ≤ at → Spelt (bytes "MPTY") s (at + 1) r → q ≡ namelessOf r n Empty
+        → ContentAs beforeContent afterContent s at n o o t t q
+    content-empty {r} {q} e m W u = subst (ContentAs beforeContent afterContent s at n o o t t) (sym u) (go r (W .says))
       where
         into : (h : Head) → from (beforeContent h) s at ≡ from (inEmpty (bytes "MPTY") h) s (at + 1)
         into h = step-at s at (beforeContent h) (inEmpty (bytes "MPTY") h) l (content-keyword h at (byteAt s at) e) refl
 
-        go : (r : Read) → SpeltAs (bytes "MPTY") s (at + 1) r → ContentAs beforeContent afterContent s at n o o (namelessOf r n)
+        go : (r : Read) → SpeltAs (bytes "MPTY") s (at + 1) r → ContentAs beforeContent afterContent s at n o o t t (namelessOf r n Empty)
         go (Past j) P =
             let a = P .0 in
             record {
@@ -203,11 +216,12 @@ module _ (s : List ℕ) (at n : ℕ) (o : List ℕ) where
               few = omega arith;
               content = empty;
               noted = noted-none (omega arith);
+              built = built-empty refl;
               same = λ h. into h ∙ P .2 (afterContent empty h) (λ w. inEmpty w h) (empty-keyword h);
             }
         go (Fail j) P = λ h. into h ∙ P (afterContent empty h) (λ w. inEmpty w h) (empty-keyword h)
 
-    pub content-not : isBlank (byteAt s at) ≡ false → (byteAt s at ≡ 0x28 → ⊥) → (byteAt s at ≡ 0x45 → ⊥) → ContentAs beforeContent afterContent s at n o o (PartFail at)
+    pub content-not : isBlank (byteAt s at) ≡ false → (byteAt s at ≡ 0x28 → ⊥) → (byteAt s at ≡ 0x45 → ⊥) → ContentAs beforeContent afterContent s at n o o t t (ContentFail at)
     content-not d e f h = dead-at s at (beforeContent h) l (content-dead h at (byteAt s at) d e f)
 
 -- ---- the end of a declaration
@@ -224,13 +238,13 @@ module _ (c : Content Use) (h : Head) (k b : ℕ) where
   unfolding step
   complete-not e g = no (afterContent c h) _ e ∙ no (ended c h) dead (ne-eqb b 0x3E g)
 
-module _ {s : List ℕ} {at n : ℕ} {o o′ : List ℕ} {r : PartRead} (C : Contented beforeContent afterContent s at n o o′ r) where
-  pub body-fail : {j : ℕ} → r ≡ PartFail j → ContentAs beforeContent ended s at n o o′ (PartFail j)
-  body-fail u = subst (Contented beforeContent afterContent s at n o o′) u C .says
+module _ {s : List ℕ} {at n : ℕ} {o o′ t t′ : List ℕ} {r : ContentOutcome} (C : Contented beforeContent afterContent s at n o o′ t t′ r) where
+  pub body-fail : {j : ℕ} → r ≡ ContentFail j → ContentAs beforeContent ended s at n o o′ t t′ (ContentFail j)
+  body-fail u = subst (Contented beforeContent afterContent s at n o o′ t t′) u C .says
 
-  module _ {p : Part} (u : r ≡ PartPast p) where
-    read : ContentRead beforeContent afterContent s at n o o′ p
-    read = subst (Contented beforeContent afterContent s at n o o′) u C .says
+  module _ {p : ContentEnd} (u : r ≡ ContentPast p) where
+    read : ContentRead beforeContent afterContent s at n o o′ t t′ p
+    read = subst (Contented beforeContent afterContent s at n o o′ t t′) u C .says
 
     pub content-high : p .at ≤ length s
     content-high = read .high
@@ -239,10 +253,10 @@ module _ {s : List ℕ} {at n : ℕ} {o o′ : List ℕ} {r : PartRead} (C : Con
       complete-to : (h : Head) → from (beforeContent h) s at ≡ from (afterContent (read .content) h) s i
       complete-to h = read .same h ∙ K .same (afterContent (read .content) h) refl (λ k b e. complete-blank (read .content) h k b e)
 
-      pub body-end : length s ≤ i → ContentAs beforeContent ended s at n o o′ (PartFail i)
+      pub body-end : length s ≤ i → ContentAs beforeContent ended s at n o o′ t t′ (ContentFail i)
       body-end l h = complete-to h ∙ at-end s i (afterContent (read .content) h) l
 
-      pub body-close : i < length s → byteAt s i ≡ 0x3E → ContentAs beforeContent ended s at n o o′ (PartPast (record { at = i + 1; n = p .n }))
+      pub body-close : i < length s → byteAt s i ≡ 0x3E → ContentAs beforeContent ended s at n o o′ t t′ (ContentPast (record { at = i + 1; n = p .n; content = p .content }))
       body-close l e =
           let a = K .low in
           let b = read .few in
@@ -251,10 +265,11 @@ module _ {s : List ℕ} {at n : ℕ} {o o′ : List ℕ} {r : PartRead} (C : Con
             few = omega arith;
             content = read .content;
             noted = noted-wider at (omega arith) (omega arith) (read .noted);
+            built = read .built;
             same = λ h. complete-to h ∙ step-at s i (afterContent (read .content) h) (ended (read .content) h) l (complete-close (read .content) h i (byteAt s i) e) refl;
           }
 
-      pub body-not : i < length s → (byteAt s i ≡ 0x3E → ⊥) → ContentAs beforeContent ended s at n o o′ (PartFail i)
+      pub body-not : i < length s → (byteAt s i ≡ 0x3E → ⊥) → ContentAs beforeContent ended s at n o o′ t t′ (ContentFail i)
       body-not l e h = complete-to h ∙ dead-at s i (afterContent (read .content) h) l (complete-not (read .content) h i (byteAt s i) (K .stop l) e)
 
 -- ---- the head of a declaration
@@ -368,12 +383,12 @@ module _ (s : List ℕ) (i : ℕ) where
           go (Fail k) S = λ o. to-space o ∙ S (inName i (nameIn (drop i s)) o) (beforeContent (headed i (nameIn (drop i s)) o)) (spacing o)
 
 -- ---- a whole declaration
-module _ {s : List ℕ} {at n : ℕ} {o o′ : List ℕ} {r : PartRead} (C : Contented beforeContent ended s at n o o′ r) where
-  pub rest-past : {p : Part} → r ≡ PartPast p → (name : ℕ) → RestAs s name at n o o′ (DeclPast (record { at = p .at; name = name; n = p .n }))
-  rest-past u name = (refl, subst (Contented beforeContent ended s at n o o′) u C .says)
+module _ {s : List ℕ} {at n : ℕ} {o o′ t t′ : List ℕ} {r : ContentOutcome} (C : Contented beforeContent ended s at n o o′ t t′ r) where
+  pub rest-past : {p : ContentEnd} → r ≡ ContentPast p → (name : ℕ) → RestAs s name at n o o′ t t′ (DeclPast (record { at = p .at; name = name; n = p .n; content = p .content }))
+  rest-past u name = (refl, subst (Contented beforeContent ended s at n o o′ t t′) u C .says)
 
-  pub rest-fail : {j : ℕ} → r ≡ PartFail j → (name : ℕ) → RestAs s name at n o o′ (DeclFail j)
-  rest-fail u name = subst (Contented beforeContent ended s at n o o′) u C .says
+  pub rest-fail : {j : ℕ} → r ≡ ContentFail j → (name : ℕ) → RestAs s name at n o o′ t t′ (DeclFail j)
+  rest-fail u name = subst (Contented beforeContent ended s at n o o′ t t′) u C .says
 
 module _ {s : List ℕ} {at : ℕ} {r : Read} (W : Keyworded s at r) where
   pub declaration-fail : {j : ℕ} → r ≡ Fail j → (ds : List Declaration) → from (between ds) s at ≡ departs j
@@ -400,8 +415,8 @@ module _ {s : List ℕ} {at : ℕ} {r : Read} (W : Keyworded s at r) where
         to-content : (ds : List Declaration) → from (between ds) s at ≡ from (beforeContent (record { opening = record { place = at; done = ds }; name = useAt s i })) s j
         to-content ds = keyword-to .3 ds ∙ head-to .3 (record { place = at; done = ds })
 
-        read-as : (n : ℕ) (o o′ : List ℕ) (d : DeclarationOutcome) → RestAs s i j n o o′ d → DeclarationAs s at n o o′ d
-        read-as n o o′ (DeclPast d) R =
+        read-as : (n : ℕ) (o o′ t t′ : List ℕ) (d : DeclarationOutcome) → RestAs s i j n o o′ t t′ d → DeclarationAs s at n o o′ t t′ d
+        read-as n o o′ t t′ (DeclPast d) R =
             let C = R .1 in
             let a = keyword-to .0 in
             let b = head-to .0 in
@@ -414,11 +429,12 @@ module _ {s : List ℕ} {at : ℕ} {r : Read} (W : Keyworded s at r) where
               named = omega arith;
               content = C .content;
               noted = noted-wider at (omega arith) (omega arith) (C .noted);
+              built = C .built;
               same = λ ds.
                   to-content ds ∙ C .same (record { opening = record { place = at; done = ds }; name = useAt s i })
                   ∙ ap (λ (k : ℕ). from (between (record { place = at; name = useAt s k; content = C .content } ∷ ds)) s (d .at)) (sym e);
             }
-        read-as n o o′ (DeclFail k) R = λ ds. to-content ds ∙ R (record { opening = record { place = at; done = ds }; name = useAt s i })
+        read-as n o o′ t t′ (DeclFail k) R = λ ds. to-content ds ∙ R (record { opening = record { place = at; done = ds }; name = useAt s i })
 
-        pub declaration-read : {n : ℕ} {o o′ : List ℕ} {d : DeclarationOutcome} → DeclaredRest s i j n o o′ d → DeclarationAs s at n o o′ d
-        declaration-read {n} {o} {o′} {d} R = read-as n o o′ d (R .says)
+        pub declaration-read : {n : ℕ} {o o′ t t′ : List ℕ} {d : DeclarationOutcome} → DeclaredRest s i j n o o′ t t′ d → DeclarationAs s at n o o′ t t′ d
+        declaration-read {n} {o} {o′} {t} {t′} {d} R = read-as n o o′ t t′ d (R .says)

@@ -7,9 +7,9 @@ use native.Mathlib.Numerals.{add-one}
 use native.Mathlib.Omega.{arith}
 use borrow.Author.Tests.{ltb-true, ltb-false, lt-ltb, le-ltb, eq-eqb, ne-eqb}
 use lib.Dec.{eqb, ltb}
-use lib.ListN.{length, drop, getD, length-append, drop-of-length-le}
+use lib.ListN.{length, drop, getD, length-append, drop-of-length-le, List·getD-eq-default}
 use lib.Seq.{drop-cons}
-use Rattle.declarations.specs.Parts.{from, byteAt, Keyword, due, nameIn, Naming, Ended, at-name, at-closed, isIndicator}
+use Rattle.declarations.specs.Parts.{from, byteAt, Keyword, due, nameIn, Naming, Ended, at-name, at-closed, isIndicator, indicatorOf, indicatorAt}
 use Rattle.schema_spec.specs.Declarations.{Use, Indicator, once, optional, any, oneOrMore, indicated}
 use Rattle.schema_spec.specs.Machine.{Frame, Head, State, dead, inUse, closed, past, isDead, longer, matching, following, indicating, step, Parsed, departs, atEnd, run}
 use Rattle.schema_spec.specs.Models.{Particle, named, uses}
@@ -110,10 +110,6 @@ module _ (s : List ℕ) (i : ℕ) where
   name-long q N n h l e = dead-at s i (q n) h (N .goes n i (byteAt s i) e ∙ no (q (n ++ (byteAt s i ∷ []))) dead (le-ltb (length n) 31 l))
 
 -- ---- indicators
--- what the byte says after a particle: an indicator, or none
-pub indicatorOf : ℕ → Indicator
-indicatorOf b = cond (eqb b 0x3F) optional (cond (eqb b 0x2A) any oneOrMore)
-
 pub indicated-uses : (o : Indicator) (p : Particle Use) → uses (indicated o p) ≡ uses p
 indicated-uses once p = refl
 indicated-uses optional p = refl
@@ -124,6 +120,30 @@ past-step : (p : Particle Use) (fs : List Frame) (h : Head) (k b : ℕ) → foll
 unfolding step
 past-step p fs h k b = refl
 
+module _ (s : List ℕ) (i : ℕ) where
+  none-there : isIndicator (byteAt s i) ≡ false → (eqb (byteAt s i) 0x3F ≡ false) × (eqb (byteAt s i) 0x2A ≡ false) × (eqb (byteAt s i) 0x2B ≡ false)
+  none-there e =
+      let a = or-false (eqb (byteAt s i) 0x3F) (eqb (byteAt s i) 0x2A || eqb (byteAt s i) 0x2B) e in
+      let b = or-false (eqb (byteAt s i) 0x2A) (eqb (byteAt s i) 0x2B) (a .1) in
+      (a .0, b .0, b .1)
+
+  pub once-there : isIndicator (byteAt s i) ≡ false → indicatorAt s i ≡ once
+  once-there e =
+      let a = none-there e in
+      no optional (cond (eqb (byteAt s i) 0x2A) any (cond (eqb (byteAt s i) 0x2B) oneOrMore once)) (a .0)
+      ∙ no any (cond (eqb (byteAt s i) 0x2B) oneOrMore once) (a .1) ∙ no oneOrMore once (a .2)
+
+  pub once-other : (byteAt s i ≡ 0x3F → ⊥) → (byteAt s i ≡ 0x2A → ⊥) → (byteAt s i ≡ 0x2B → ⊥) → indicatorAt s i ≡ once
+  once-other a b c =
+      once-there
+      (ap₂ _||_ (ne-eqb (byteAt s i) 0x3F a) (ap₂ _||_ (ne-eqb (byteAt s i) 0x2A b) (ne-eqb (byteAt s i) 0x2B c)))
+
+  pub once-past : length s ≤ i → indicatorAt s i ≡ once
+  once-past l = ap indicatorOf (List·getD-eq-default s 0 l)
+
+  as-once : (p : Particle Use) (fs : List Frame) (h : Head) → indicatorAt s i ≡ once → from (past p fs h) s i ≡ from (past (indicated (indicatorAt s i) p) fs h) s i
+  as-once p fs h e = ap (λ (o : Indicator). from (past (indicated o p) fs h) s i) (sym e)
+
 module _ {s : List ℕ} {i : ℕ} where
   ended-step : {q : State} {p : Particle Use} {fs : List Frame} {h : Head} → Ended s i q p fs h → i < length s → step q i (byteAt s i) ≡ indicating p fs h (byteAt s i)
   unfolding step
@@ -132,32 +152,31 @@ module _ {s : List ℕ} {i : ℕ} where
   ended-step at-closed l = refl
 
   pub indicator-there : {q : State} {p : Particle Use} {fs : List Frame} {h : Head} → Ended s i q p fs h → i < length s → isIndicator (byteAt s i) ≡ true
-      → from q s i ≡ from (past (indicated (indicatorOf (byteAt s i)) p) fs h) s (i + 1)
-  unfolding indicatorOf
+      → from q s i ≡ from (past (indicated (indicatorAt s i) p) fs h) s (i + 1)
   indicator-there {q} {p} {fs} {h} E l e =
-      step-at s i q (past (indicated (indicatorOf (byteAt s i)) p) fs h) l (ended-step E l ∙ go (eqb (byteAt s i) 0x3F) (eqb (byteAt s i) 0x2A) (eqb (byteAt s i) 0x2B) e (following p fs h (byteAt s i))) refl
+      step-at s i q (past (indicated (indicatorAt s i) p) fs h) l (ended-step E l ∙ go (eqb (byteAt s i) 0x3F) (eqb (byteAt s i) 0x2A) (eqb (byteAt s i) 0x2B) e (following p fs h (byteAt s i))) refl
     where
       go : (x y z : Bool) → (x || (y || z)) ≡ true → (r : State)
-          → cond x (past (indicated optional p) fs h) (cond y (past (indicated any p) fs h) (cond z (past (indicated oneOrMore p) fs h) r)) ≡ past (indicated (cond x optional (cond y any oneOrMore)) p) fs h
+          → cond x (past (indicated optional p) fs h) (cond y (past (indicated any p) fs h) (cond z (past (indicated oneOrMore p) fs h) r)) ≡ past (indicated (cond x optional (cond y any (cond z oneOrMore once))) p) fs h
       go true y z e r = refl
       go false true z e r = refl
       go false false true e r = refl
       go false false false e r = absurd (let z : _≡_ {A = ℕ} 0 1 = cc in omega arith)
 
   pub indicator-absent : {q : State} {p : Particle Use} {fs : List Frame} {h : Head} → Ended s i q p fs h → i < length s → isIndicator (byteAt s i) ≡ false
-      → from q s i ≡ from (past p fs h) s i
-  indicator-absent {q} {p} {fs} {h} E l e = same-at s i q (past p fs h) l (ended-step E l ∙ go ∙ past-step p fs h i (byteAt s i))
+      → from q s i ≡ from (past (indicated (indicatorAt s i) p) fs h) s i
+  indicator-absent {q} {p} {fs} {h} E l e = same-at s i q (past p fs h) l (ended-step E l ∙ go ∙ past-step p fs h i (byteAt s i)) ∙ as-once s i p fs h (once-there s i e)
     where
       go : indicating p fs h (byteAt s i) ≡ following p fs h (byteAt s i)
       go =
-          let a = or-false (eqb (byteAt s i) 0x3F) (eqb (byteAt s i) 0x2A || eqb (byteAt s i) 0x2B) e in
-          let b = or-false (eqb (byteAt s i) 0x2A) (eqb (byteAt s i) 0x2B) (a .1) in
+          let a = none-there s i e in
           no (past (indicated optional p) fs h) (cond (eqb (byteAt s i) 0x2A) (past (indicated any p) fs h) (cond (eqb (byteAt s i) 0x2B) (past (indicated oneOrMore p) fs h) (following p fs h (byteAt s i)))) (a .0)
-          ∙ no (past (indicated any p) fs h) (cond (eqb (byteAt s i) 0x2B) (past (indicated oneOrMore p) fs h) (following p fs h (byteAt s i))) (b .0)
-          ∙ no (past (indicated oneOrMore p) fs h) (following p fs h (byteAt s i)) (b .1)
+          ∙ no (past (indicated any p) fs h) (cond (eqb (byteAt s i) 0x2B) (past (indicated oneOrMore p) fs h) (following p fs h (byteAt s i))) (a .1)
+          ∙ no (past (indicated oneOrMore p) fs h) (following p fs h (byteAt s i)) (a .2)
 
-  pub indicator-end : {q : State} {p : Particle Use} {fs : List Frame} {h : Head} → Ended s i q p fs h → length s ≤ i → from q s i ≡ from (past p fs h) s i
-  indicator-end {q} {p} {fs} {h} E l = at-end s i q l ∙ go E ∙ sym (at-end s i (past p fs h) l)
+  pub indicator-end : {q : State} {p : Particle Use} {fs : List Frame} {h : Head} → Ended s i q p fs h → length s ≤ i
+      → from q s i ≡ from (past (indicated (indicatorAt s i) p) fs h) s i
+  indicator-end {q} {p} {fs} {h} E l = at-end s i q l ∙ go E ∙ sym (at-end s i (past p fs h) l) ∙ as-once s i p fs h (once-past s i l)
     where
       go : {q : State} {p : Particle Use} {fs : List Frame} {h : Head} → Ended s i q p fs h → atEnd q i ≡ atEnd (past p fs h) i
       go (at-name w) = refl

@@ -1,3 +1,4 @@
 pub mod Judging
+pub mod Building
 pub mod Models
 pub mod Contents

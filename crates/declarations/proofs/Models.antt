@@ -2,15 +2,17 @@
 use mathlib.Core.Bool.{Bool, true, false, cond, _&&_, _||_}
 use mathlib.Core.List.{List, [], _∷_, _++_, map, append-assoc, append-nil}
 use mathlib.Core.Path.{_≡_, refl, sym, ap, ap₂, subst, _∙_}
-use Prim.Native.Nat.{ℕ, suc, _+_, _≤_, _<_}
+use Prim.Native.Nat.{ℕ, suc, _+_, _-_, _≤_, _<_}
 use native.Mathlib.Nat.{add-zero, add-suc, suc-add}
 use native.Mathlib.Omega.{arith}
 use borrow.Author.Tests.{lt-ltb, le-ltb, eq-eqb, ne-eqb, eqb-true, eqb-false}
 use lib.Dec.{eqb, ltb}
-use lib.ListN.{length, drop, set, length-append}
+use lib.ListN.{length, drop, set, length-append, length-map}
 use lib.Seq.{sets, length-sets}
 use Rattle.declarations.proofs.Judging.{yes, no, or-false, step-at, dead-at, at-end, indicated-uses}
-use Rattle.declarations.specs.Parts.{NamedAs, NamePartAs, ParticledAs, GroupedAs, FollowedAs, from, byteAt, Skipped, nameIn, useAt, Naming, Named, Ended, at-name, at-closed, Indicated, Between, Noted, ParticleRead, Particled, NameRead, NamePart, GroupRead, Grouped, Holds, holds-none, holds-bar, holds-comma, separatorOf, mayPart, Followed}
+use Rattle.declarations.proofs.Building.{built-name}
+use Rattle.declarations.specs.Building.{Built, Holds, holds-none, holds-bar, holds-comma, frameUses, FrameBuilt, built-fresh, built-holding, Joined}
+use Rattle.declarations.specs.Parts.{NamedAs, NamePartAs, ParticledAs, GroupedAs, FollowedAs, from, byteAt, Skipped, nameIn, useAt, Naming, Named, Ended, at-name, at-closed, Indicated, indicatorAt, Between, Noted, ParticleRead, Particled, NameRead, NamePart, GroupRead, Grouped, PartIndicated, separatorOf, mayPart, Followed}
 use Rattle.declarations.specs.declared.Follow.{Follow}
 use Rattle.declarations.specs.declared.Follow.the-variants.{Close, More, Fail as FollowFail}
 use Rattle.declarations.specs.declared.Part.{Part}
@@ -18,6 +20,8 @@ use Rattle.declarations.specs.declared.PartRead.{PartRead}
 use Rattle.declarations.specs.declared.PartRead.the-variants.{Past as PartPast, Fail as PartFail}
 use Rattle.declarations.specs.declared.Read.{Read}
 use Rattle.declarations.specs.declared.Read.the-variants.{Past, Fail}
+use Rattle.models.specs.Building.{EndsOf}
+use Rattle.models.specs.declared.Ends.{Ends}
 use Rattle.schema_spec.specs.Declarations.{Use, Indicator, indicated, Separator, unparted, byBar, byComma}
 use Rattle.schema_spec.specs.Machine.{Frame, fresh, holding, join, separated, Head, State, dead, expecting, inUse, closed, past, isDead, longer, indicating, step, Parsed, departs}
 use Rattle.schema_spec.specs.Models.{Particle, named, uses}
@@ -70,6 +74,13 @@ module _ {s : List ℕ} {at n : ℕ} {o : List ℕ} where
   pub noted-as : {o′ : List ℕ} {i c : ℕ} {us vs : List Use} → us ≡ vs → Noted s at n o o′ i c us → Noted s at n o o′ i c vs
   noted-as {o′} {i} {c} e M = subst (λ (x : List Use). Noted s at n o o′ i c x) e M
 
+  pub noted-count : {o′ : List ℕ} {i c d : ℕ} {us : List Use} → c ≡ d → Noted s at n o o′ i c us → Noted s at n o o′ i d us
+  noted-count {o′} {i} {us = us} e M = subst (λ (x : ℕ). Noted s at n o o′ i x us) e M
+
+  -- as many are counted as are noted
+  pub noted-length : {o′ : List ℕ} {i c : ℕ} {us : List Use} → Noted s at n o o′ i c us → c ≡ n + length us
+  noted-length M = M .counted ∙ ap (λ (m : ℕ). n + m) (sym (ap length (M .names) ∙ length-map (M .places) (useAt s)))
+
 -- ---- a name
 use-naming : (j : ℕ) (f : Frame) (fs : List Frame) (h : Head) → Naming (λ n. inUse j n f fs h)
 unfolding step
@@ -86,16 +97,20 @@ module _ {s : List ℕ} {i : ℕ} {r : Read} (N : Named s i r) where
   pub name-high : (e : ℕ) → r ≡ Past e → (i < e) × (e ≤ length s)
   name-high e g = let M = subst (Named s i) g N .says in (M .0, M .1)
 
-  pub name-past : {e y n : ℕ} {o o′ : List ℕ} → r ≡ Past e → n ≤ i → o′ ≡ set o n i → Indicated s e y → NameRead s i n o o′ (record { at = y; n = n + 1 })
-  name-past {e} {y} {n} g l w I =
+  pub name-past : {e n start : ℕ} {o o′ t t′ : List ℕ} {x : Ends} {y : Part} → r ≡ Past e → n ≤ i → (n - start < 64 → (a : ℕ) → EndsOf (n - start) (named a) x) → o′ ≡ set o n i
+      → PartIndicated s (record { at = e; n = n + 1; ends = x }) t t′ y → NameRead s i n start o o′ t t′ y
+  name-past {e} {n} {start} {t = t} {x = x} {y = y} g l E w Q =
       let M : NamedAs s i (Past e) = subst (Named s i) g N .says in
+      let I = Q .by in
       let a = M .0 in
       let b = I .low in
+      let c = Q .count in
       record {
         high = I .high;
         few = omega arith;
-        tree = indicated (I .by) (named (useAt s i));
-        noted = record { places = i ∷ []; names = indicated-uses (I .by) (named (useAt s i)); rise = (omega arith, omega arith); counted = refl; wrote = w };
+        tree = indicated (indicatorAt s e) (named (useAt s i));
+        noted = record { places = i ∷ []; names = indicated-uses (indicatorAt s e) (named (useAt s i)); rise = (omega arith, omega arith); counted = c; wrote = w };
+        built = Q .repeated .built (n - start) t (named (useAt s i)) (built-name (n - start) (useAt s i) t x E);
         same = λ f fs h. M .3 (λ n. inUse i n f fs h) (use-naming i f fs h) ∙ I .same (inUse i (nameIn (drop i s)) f fs h) (named (useAt s i)) (f ∷ fs) h (at-name (M .2));
       }
 
@@ -200,28 +215,29 @@ module _ (f : Frame) (fs : List Frame) (h : Head) (k b : ℕ) where
   unfolding step
   due-open d e t g = no (expecting f fs h) _ d ∙ no (inUse k (b ∷ []) f fs h) _ e ∙ ap (λ (x : Bool). cond x (expecting fresh (f ∷ fs) h) dead) g
 
-module _ {s : List ℕ} {at i : ℕ} (depth n : ℕ) (o : List ℕ) (K : Skipped s at i) where
+module _ {s : List ℕ} {at i : ℕ} (depth n start : ℕ) (o t : List ℕ) (K : Skipped s at i) where
   due-to : (f : Frame) (fs : List Frame) (h : Head) → from (expecting f fs h) s at ≡ from (expecting f fs h) s i
   due-to f fs h = K .same (expecting f fs h) refl (λ k b e. due-blank f fs h k b e)
 
-  pub particle-end : (o′ : List ℕ) → length s ≤ i → ParticledAs s at depth n o o′ (PartFail i)
-  particle-end o′ l f fs h e = due-to f fs h ∙ at-end s i (expecting f fs h) l
+  pub particle-end : (o′ t′ : List ℕ) → length s ≤ i → ParticledAs s at depth n start o o′ t t′ (PartFail i)
+  particle-end o′ t′ l f fs h e = due-to f fs h ∙ at-end s i (expecting f fs h) l
 
   module _ (l : i < length s) where
-    pub particle-name : (o′ : List ℕ) (r : PartRead) → startsName (byteAt s i) ≡ true → NamePartAs s i n o o′ r → ParticledAs s at depth n o o′ r
-    particle-name o′ (PartPast p) e N =
+    pub particle-name : (o′ t′ : List ℕ) (r : PartRead) → startsName (byteAt s i) ≡ true → NamePartAs s i n start o o′ t t′ r → ParticledAs s at depth n start o o′ t t′ r
+    particle-name o′ t′ (PartPast p) e N =
         record {
           high = N .high;
           few = N .few;
           tree = N .tree;
           noted = noted-wider at (K .low) (omega arith) (N .noted);
+          built = N .built;
           same = λ f fs h g. due-to f fs h ∙ step-at s i (expecting f fs h) (inUse i (byteAt s i ∷ []) f fs h) l (due-name f fs h i (byteAt s i) (K .stop l) e) refl ∙ N .same f fs h;
         }
-    particle-name o′ (PartFail j) e N = λ f fs h g. due-to f fs h ∙ step-at s i (expecting f fs h) (inUse i (byteAt s i ∷ []) f fs h) l (due-name f fs h i (byteAt s i) (K .stop l) e) refl ∙ N f fs h
+    particle-name o′ t′ (PartFail j) e N = λ f fs h g. due-to f fs h ∙ step-at s i (expecting f fs h) (inUse i (byteAt s i ∷ []) f fs h) l (due-name f fs h i (byteAt s i) (K .stop l) e) refl ∙ N f fs h
 
     module _ (e : startsName (byteAt s i) ≡ false) where
-      pub particle-not : (o′ : List ℕ) → (byteAt s i ≡ 0x28 → ⊥) → ParticledAs s at depth n o o′ (PartFail i)
-      particle-not o′ g f fs h d =
+      pub particle-not : (o′ t′ : List ℕ) → (byteAt s i ≡ 0x28 → ⊥) → ParticledAs s at depth n start o o′ t t′ (PartFail i)
+      particle-not o′ t′ g f fs h d =
           due-to f fs h ∙ dead-at s i (expecting f fs h) l
           (due-open f fs h i (byteAt s i) (K .stop l) e false (ap (λ (t : Bool). t && ltb (suc (length fs)) 8) (ne-eqb (byteAt s i) 0x28 g)))
 
@@ -229,100 +245,129 @@ module _ {s : List ℕ} {at i : ℕ} (depth n : ℕ) (o : List ℕ) (K : Skipped
         opens : (f : Frame) (fs : List Frame) (h : Head) (t : Bool) → ltb (suc (length fs)) 8 ≡ t → step (expecting f fs h) i (byteAt s i) ≡ cond t (expecting fresh (f ∷ fs) h) dead
         opens f fs h t q = due-open f fs h i (byteAt s i) (K .stop l) e t (ap (λ (x : Bool). x && ltb (suc (length fs)) 8) (eq-eqb (byteAt s i) 0x28 g) ∙ q)
 
-        pub particle-deep : (o′ : List ℕ) → 7 ≤ depth → ParticledAs s at depth n o o′ (PartFail i)
-        particle-deep o′ d f fs h q = due-to f fs h ∙ dead-at s i (expecting f fs h) l (opens f fs h false (le-ltb (suc (length fs)) 8 (omega arith)))
+        pub particle-deep : (o′ t′ : List ℕ) → 7 ≤ depth → ParticledAs s at depth n start o o′ t t′ (PartFail i)
+        particle-deep o′ t′ d f fs h q = due-to f fs h ∙ dead-at s i (expecting f fs h) l (opens f fs h false (le-ltb (suc (length fs)) 8 (omega arith)))
 
         module _ (d : depth < 7) where
           into : (f : Frame) (fs : List Frame) (h : Head) → length fs ≡ depth → from (expecting f fs h) s at ≡ from (expecting fresh (f ∷ fs) h) s (i + 1)
           into f fs h q = due-to f fs h ∙ step-at s i (expecting f fs h) (expecting fresh (f ∷ fs) h) l (opens f fs h true (lt-ltb (suc (length fs)) 8 (omega arith))) refl
 
-          module _ {o′ : List ℕ} {r : PartRead} (G : Grouped s (i + 1) (depth + 1) n o o′ r) where
-            pub open-fail : {j : ℕ} → r ≡ PartFail j → ParticledAs s at depth n o o′ (PartFail j)
-            open-fail u f fs h q = into f fs h q ∙ subst (Grouped s (i + 1) (depth + 1) n o o′) u G .says (f ∷ fs) h (omega arith)
+          module _ {o′ t′ : List ℕ} {r : PartRead} (G : Grouped s (i + 1) (depth + 1) n start o o′ t t′ r) where
+            pub open-fail : {j : ℕ} → r ≡ PartFail j → ParticledAs s at depth n start o o′ t t′ (PartFail j)
+            open-fail u f fs h q = into f fs h q ∙ subst (Grouped s (i + 1) (depth + 1) n start o o′ t t′) u G .says (f ∷ fs) h (omega arith)
 
             pub open-high : (p : Part) → r ≡ PartPast p → p .at ≤ length s
-            open-high p u = subst (Grouped s (i + 1) (depth + 1) n o o′) u G .says .high
+            open-high p u = subst (Grouped s (i + 1) (depth + 1) n start o o′ t t′) u G .says .high
 
-            pub open-past : {p : Part} {y : ℕ} → r ≡ PartPast p → Indicated s (p .at) y → ParticledAs s at depth n o o′ (PartPast (record { at = y; n = p .n }))
-            open-past {p} {y} u I =
-                let R : GroupRead s (i + 1) (depth + 1) n o o′ p = subst (Grouped s (i + 1) (depth + 1) n o o′) u G .says in
+            pub open-past : {p y : Part} {t″ : List ℕ} → r ≡ PartPast p → PartIndicated s p t′ t″ y → ParticledAs s at depth n start o o′ t t″ (PartPast y)
+            open-past {p} {y} u Q =
+                let R : GroupRead s (i + 1) (depth + 1) n start o o′ t t′ p = subst (Grouped s (i + 1) (depth + 1) n start o o′ t t′) u G .says in
+                let I = Q .by in
                 let a = K .low in
                 let b = I .low in
                 let c = R .few in
+                let d = Q .count in
                 record {
                   high = I .high;
                   few = omega arith;
-                  tree = indicated (I .by) (R .tree);
-                  noted = noted-wider at (omega arith) b (noted-as (sym (indicated-uses (I .by) (R .tree))) (R .noted));
+                  tree = indicated (indicatorAt s (p .at)) (R .tree);
+                  noted = noted-wider at (omega arith) b (noted-count (sym d) (noted-as (sym (indicated-uses (indicatorAt s (p .at)) (R .tree))) (R .noted)));
+                  built = Q .repeated .built (n - start) t (R .tree) (R .built);
                   same = λ f fs h q. into f fs h q ∙ R .same (f ∷ fs) h (omega arith) ∙ I .same (closed (R .tree) (f ∷ fs) h) (R .tree) (f ∷ fs) h at-closed;
                 }
 
 -- ---- a group
-abbrev pub frameUses : Frame → List Use
-frameUses fresh = []
-frameUses (holding s p) = uses p
-
 join-uses : {f : Frame} {sep : ℕ} (p : Particle Use) → Holds f sep → uses (join f p) ≡ frameUses f ++ uses p
 join-uses p holds-none = refl
 join-uses p holds-bar = refl
 join-uses p holds-comma = refl
 
 -- what was read of a group up to i, where its next particle is due
-pub record GroupUpTo (s : List ℕ) (at depth n : ℕ) (o o′ : List ℕ) (i count sep : ℕ) : Type 0 where
+pub record GroupUpTo (s : List ℕ) (at depth n start : ℕ) (o o′ t t′ : List ℕ) (i count sep : ℕ) (ends : Ends) : Type 0 where
   pub high : i ≤ length s
   pub few : count ≤ i
+  pub many : n ≤ count
   pub frame : Frame
   pub holds : Holds frame sep
   pub noted : Noted s at n o o′ i count (frameUses frame)
+  pub built : FrameBuilt (n - start) t t′ ends frame
   pub same : (fs : List Frame) (h : Head) → length fs ≡ depth → from (expecting fresh fs h) s at ≡ from (expecting frame fs h) s i
 
-pub group-start : {s : List ℕ} {at depth n : ℕ} {o : List ℕ} → at ≤ length s → n ≤ at → GroupUpTo s at depth n o o at n 0
-group-start h l = record { high = h; few = l; frame = fresh; holds = holds-none; noted = noted-none (omega arith); same = λ fs h e. refl }
+pub group-start : {s : List ℕ} {at depth n start : ℕ} {o t : List ℕ} (ends : Ends) → at ≤ length s → n ≤ at → GroupUpTo s at depth n start o o t t at n 0 ends
+group-start ends h l =
+    record { high = h; few = l; many = omega arith; frame = fresh; holds = holds-none; noted = noted-none (omega arith); built = built-fresh refl; same = λ fs h e. refl }
 
-pub group-length : {s : List ℕ} {at depth n i count sep : ℕ} {o o′ : List ℕ} → GroupUpTo s at depth n o o′ i count sep → length o′ ≡ length o
-group-length {n = n} {o = o} U = ap length (U .noted .wrote) ∙ length-sets o n (U .noted .places)
+module _ {s : List ℕ} {at depth n start i count sep : ℕ} {o o′ t t′ : List ℕ} {ends : Ends} (U : GroupUpTo s at depth n start o o′ t t′ i count sep ends) where
+  pub group-length : length o′ ≡ length o
+  group-length = ap length (U .noted .wrote) ∙ length-sets o n (U .noted .places)
 
-module _ {s : List ℕ} {at depth n i count sep : ℕ} {o o′ o″ : List ℕ} {r : PartRead} (U : GroupUpTo s at depth n o o′ i count sep) (P : Particled s i depth count o′ o″ r) where
-  pub group-fail : {j : ℕ} → r ≡ PartFail j → GroupedAs s at depth n o o″ (PartFail j)
-  group-fail u fs h e = U .same fs h e ∙ subst (Particled s i depth count o′ o″) u P .says (U .frame) fs h e
+  pub group-table : length t′ ≡ length t
+  group-table = go (U .frame) (U .built)
+    where
+      go : (f : Frame) → FrameBuilt (n - start) t t′ ends f → length t′ ≡ length t
+      go f (built-fresh e) = ap length e
+      go f (built-holding x) = x .long
 
-  module _ {p : Part} (u : r ≡ PartPast p) where
-    read : ParticleRead s i depth count o′ o″ p
-    read = subst (Particled s i depth count o′ o″) u P .says
+  module _ {o″ t″ : List ℕ} {r : PartRead} (low : start ≤ n) (P : Particled s i depth count start o′ o″ t′ t″ r) where
+    pub group-fail : {j : ℕ} → r ≡ PartFail j → GroupedAs s at depth n start o o″ t t″ (PartFail j)
+    group-fail u fs h e = U .same fs h e ∙ subst (Particled s i depth count start o′ o″ t′ t″) u P .says (U .frame) fs h e
 
-    pub particle-high : p .at ≤ length s
-    particle-high = read .high
+    module _ {p : Part} (u : r ≡ PartPast p) where
+      read : ParticleRead s i depth count start o′ o″ t′ t″ p
+      read = subst (Particled s i depth count start o′ o″ t′ t″) u P .says
 
-    up-to : (fs : List Frame) (h : Head) → length fs ≡ depth → from (expecting fresh fs h) s at ≡ from (past (read .tree) (U .frame ∷ fs) h) s (p .at)
-    up-to fs h e = U .same fs h e ∙ read .same (U .frame) fs h e
+      pub particle-high : p .at ≤ length s
+      particle-high = read .high
 
-    noted-to : (j : ℕ) → p .at ≤ j → Noted s at n o o″ j (p .n) (uses (join (U .frame) (read .tree)))
-    noted-to j l = noted-wider at (omega arith) l (noted-as (sym (join-uses (read .tree) (U .holds))) (noted-more (U .noted) (read .noted)))
+      up-to : (fs : List Frame) (h : Head) → length fs ≡ depth → from (expecting fresh fs h) s at ≡ from (past (read .tree) (U .frame ∷ fs) h) s (p .at)
+      up-to fs h e = U .same fs h e ∙ read .same (U .frame) fs h e
 
-    module _ {w : Follow} (F : Followed s (p .at) sep w) where
-      pub group-stop : {j : ℕ} → w ≡ FollowFail j → GroupedAs s at depth n o o″ (PartFail j)
-      group-stop v fs h e = up-to fs h e ∙ subst (Followed s (p .at) sep) v F .says (read .tree) (U .frame) fs h (U .holds)
+      noted-to : (j : ℕ) → p .at ≤ j → Noted s at n o o″ j (p .n) (uses (join (U .frame) (read .tree)))
+      noted-to j l = noted-wider at (omega arith) l (noted-as (sym (join-uses (read .tree) (U .holds))) (noted-more (U .noted) (read .noted)))
 
-      pub group-close : {j : ℕ} → w ≡ Close j → GroupedAs s at depth n o o″ (PartPast (record { at = j; n = p .n }))
-      group-close {j} v =
-          let C : FollowedAs s (p .at) sep (Close j) = subst (Followed s (p .at) sep) v F .says in
-          let a = C .0 in
-          let b = read .few in
-          record { high = C .1; few = omega arith; tree = join (U .frame) (read .tree); noted = noted-to j (omega arith); same = λ fs h e. up-to fs h e ∙ C .2 (read .tree) (U .frame) fs h }
+      -- the particle's positions come after those of the group so far
+      module _ {t‴ : List ℕ} {e : Ends} (J : Joined sep ends (p .ends) t″ t‴ e) where
+        built-to : Built (n - start) t t‴ (join (U .frame) (read .tree)) e
+        built-to =
+            let l = noted-length (U .noted) in
+            let k : count - start ≡ n - start + length (frameUses (U .frame)) = omega arith in
+            J .built (n - start) t t′ (U .frame) (read .tree) (U .holds) (U .built) (subst (λ (m : ℕ). Built m t′ t″ (read .tree) (p .ends)) k (read .built))
 
-      pub group-next : {b j : ℕ} → w ≡ More b j → (i < j) × GroupUpTo s at depth n o o″ j (p .n) b
-      group-next {b} {j} v =
-          let M : FollowedAs s (p .at) sep (More b j) = subst (Followed s (p .at) sep) v F .says in
-          let a = M .0 in
-          let c = read .few in
-          let d = between-low i (p .at) (read .noted .places) (read .noted .rise) in (
-            omega arith,
-            record {
-              high = M .1;
-              few = omega arith;
-              frame = holding (separatorOf b) (join (U .frame) (read .tree));
-              holds = M .2 (read .tree) (U .frame) (U .holds);
-              noted = noted-to j (omega arith);
-              same = λ fs h e. up-to fs h e ∙ M .3 (read .tree) (U .frame) fs h (U .holds);
-            },
-          )
+        module _ {w : Follow} (F : Followed s (p .at) sep w) where
+          pub group-stop : {j : ℕ} → w ≡ FollowFail j → GroupedAs s at depth n start o o″ t t‴ (PartFail j)
+          group-stop v fs h e = up-to fs h e ∙ subst (Followed s (p .at) sep) v F .says (read .tree) (U .frame) fs h (U .holds)
+
+          pub group-close : {j : ℕ} → w ≡ Close j → GroupedAs s at depth n start o o″ t t‴ (PartPast (record { at = j; n = p .n; ends = e }))
+          group-close {j} v =
+              let C : FollowedAs s (p .at) sep (Close j) = subst (Followed s (p .at) sep) v F .says in
+              let a = C .0 in
+              let b = read .few in
+              record {
+                high = C .1;
+                few = omega arith;
+                tree = join (U .frame) (read .tree);
+                noted = noted-to j (omega arith);
+                built = built-to;
+                same = λ fs h e. up-to fs h e ∙ C .2 (read .tree) (U .frame) fs h;
+              }
+
+          pub group-next : {b j : ℕ} → w ≡ More b j → (i < j) × GroupUpTo s at depth n start o o″ t t‴ j (p .n) b e
+          group-next {b} {j} v =
+              let M : FollowedAs s (p .at) sep (More b j) = subst (Followed s (p .at) sep) v F .says in
+              let a = M .0 in
+              let c = read .few in
+              let d = between-low i (p .at) (read .noted .places) (read .noted .rise) in
+              let k = read .noted .counted in
+              let m = U .many in (
+                omega arith,
+                record {
+                  high = M .1;
+                  few = omega arith;
+                  many = omega arith;
+                  frame = holding (separatorOf b) (join (U .frame) (read .tree));
+                  holds = M .2 (read .tree) (U .frame) (U .holds);
+                  noted = noted-to j (omega arith);
+                  built = built-holding built-to;
+                  same = λ fs h e. up-to fs h e ∙ M .3 (read .tree) (U .frame) fs h (U .holds);
+                },
+              )

@@ -3,10 +3,14 @@
 use mathlib.Core.Bool.{Bool, true, false, cond, _||_}
 use mathlib.Core.List.{List, [], _∷_, _++_, map}
 use mathlib.Core.Path.{_≡_}
-use Prim.Native.Nat.{ℕ, suc, _+_, _≤_, _<_}
+use Prim.Native.Nat.{ℕ, suc, _+_, _-_, _≤_, _<_}
 use lib.Dec.{eqb}
 use lib.ListN.{length, drop, getD}
 use lib.Seq.{sets}
+use Rattle.declarations.specs.Building.{Built, Repeated, Holds, ContentBuilt}
+use Rattle.declarations.specs.declared.ContentEnd.{ContentEnd}
+use Rattle.declarations.specs.declared.ContentOutcome.{ContentOutcome}
+use Rattle.declarations.specs.declared.ContentOutcome.the-variants.{Past as ContentPast, Fail as ContentFail}
 use Rattle.declarations.specs.declared.DeclarationEnd.{DeclarationEnd}
 use Rattle.declarations.specs.declared.DeclarationOutcome.{DeclarationOutcome}
 use Rattle.declarations.specs.declared.DeclarationOutcome.the-variants.{Past as DeclPast, Fail as DeclFail}
@@ -17,7 +21,8 @@ use Rattle.declarations.specs.declared.PartRead.{PartRead}
 use Rattle.declarations.specs.declared.PartRead.the-variants.{Past as PartPast, Fail as PartFail}
 use Rattle.declarations.specs.declared.Read.{Read}
 use Rattle.declarations.specs.declared.Read.the-variants.{Past, Fail}
-use Rattle.schema_spec.specs.Declarations.{Use, Declaration, Indicator, indicated, Separator, unparted, byBar, byComma}
+use Rattle.models.specs.declared.Content.{Content as Contents}
+use Rattle.schema_spec.specs.Declarations.{Use, Declaration, Indicator, once, optional, any, oneOrMore, indicated, Separator, byBar, byComma}
 use Rattle.schema_spec.specs.Machine.{Frame, fresh, holding, join, Opening, Head, State, dead, between, beforeName, beforeContent, inPcdata, afterContent, declared, expecting, inUse, closed, past, isDead, longer, matching, step, Parsed, departs, atEnd, run}
 use Rattle.schema_spec.specs.Models.{Particle, named, uses, Content, pcdata, usesIn}
 use Rattle.text_spec.specs.Bytes.{isBlank, continuesName}
@@ -87,11 +92,24 @@ pub data Ended (s : List ℕ) (at : ℕ) : State → Particle Use → List Frame
 abbrev pub isIndicator : ℕ → Bool
 isIndicator b = eqb b 0x3F || (eqb b 0x2A || eqb b 0x2B)
 
+-- what a byte says after a particle, and the byte at a place
+abbrev pub indicatorOf : ℕ → Indicator
+indicatorOf b = cond (eqb b 0x3F) optional (cond (eqb b 0x2A) any (cond (eqb b 0x2B) oneOrMore once))
+
+abbrev pub indicatorAt : List ℕ → ℕ → Indicator
+indicatorAt s at = indicatorOf (byteAt s at)
+
 pub record Indicated (s : List ℕ) (at r : ℕ) : Type 0 where
   pub low : at ≤ r
   pub high : r ≤ length s
-  pub by : Indicator
-  pub same : (q : State) (p : Particle Use) (fs : List Frame) (h : Head) → Ended s at q p fs h → from q s at ≡ from (past (indicated by p) fs h) s r
+  pub same : (q : State) (p : Particle Use) (fs : List Frame) (h : Head) → Ended s at q p fs h
+      → from q s at ≡ from (past (indicated (indicatorAt s at) p) fs h) s r
+
+-- a particle and then the same with its indicator
+pub record PartIndicated (s : List ℕ) (p : Part) (before after : List ℕ) (r : Part) : Type 0 where
+  pub by : Indicated s (p .at) (r .at)
+  pub count : r .n ≡ p .n
+  pub repeated : Repeated (indicatorAt s (p .at)) (p .ends) before after (r .ends)
 
 -- Uses of names: their places, in rising order from `at` to the end, noted in the lent cells from n on.
 abbrev pub Between : ℕ → ℕ → List ℕ → Type 0
@@ -106,56 +124,54 @@ pub record Noted (s : List ℕ) (at n : ℕ) (cells cells′ : List ℕ) (end co
   pub wrote : cells′ ≡ sets cells n places
 
 -- a particle, from the state in which it is due
-pub record ParticleRead (s : List ℕ) (at depth n : ℕ) (cells cells′ : List ℕ) (p : Part) : Type 0 where
+pub record ParticleRead (s : List ℕ) (at depth n start : ℕ) (cells cells′ before after : List ℕ) (p : Part) : Type 0 where
   pub high : p .at ≤ length s
   pub few : p .n ≤ p .at
   pub tree : Particle Use
   pub noted : Noted s at n cells cells′ (p .at) (p .n) (uses tree)
+  pub built : Built (n - start) before after tree (p .ends)
   pub same : (f : Frame) (fs : List Frame) (h : Head) → length fs ≡ depth → from (expecting f fs h) s at ≡ from (past tree (f ∷ fs) h) s (p .at)
 
-abbrev pub ParticledAs : List ℕ → ℕ → ℕ → ℕ → List ℕ → List ℕ → PartRead → Type 0
-ParticledAs s at depth n cells cells′ (PartPast p) = ParticleRead s at depth n cells cells′ p
-ParticledAs s at depth n cells cells′ (PartFail j) = (f : Frame) (fs : List Frame) (h : Head) → length fs ≡ depth → from (expecting f fs h) s at ≡ departs j
+abbrev pub ParticledAs : List ℕ → ℕ → ℕ → ℕ → ℕ → List ℕ → List ℕ → List ℕ → List ℕ → PartRead → Type 0
+ParticledAs s at depth n start cells cells′ before after (PartPast p) = ParticleRead s at depth n start cells cells′ before after p
+ParticledAs s at depth n start cells cells′ before after (PartFail j) = (f : Frame) (fs : List Frame) (h : Head) → length fs ≡ depth → from (expecting f fs h) s at ≡ departs j
 
-pub record Particled (s : List ℕ) (at depth n : ℕ) (cells cells′ : List ℕ) (r : PartRead) : Type 0 where
-  pub says : ParticledAs s at depth n cells cells′ r
+pub record Particled (s : List ℕ) (at depth n start : ℕ) (cells cells′ before after : List ℕ) (r : PartRead) : Type 0 where
+  pub says : ParticledAs s at depth n start cells cells′ before after r
 
 -- a particle that is a name at i
-pub record NameRead (s : List ℕ) (i n : ℕ) (cells cells′ : List ℕ) (p : Part) : Type 0 where
+pub record NameRead (s : List ℕ) (i n start : ℕ) (cells cells′ before after : List ℕ) (p : Part) : Type 0 where
   pub high : p .at ≤ length s
   pub few : p .n ≤ p .at
   pub tree : Particle Use
   pub noted : Noted s i n cells cells′ (p .at) (p .n) (uses tree)
+  pub built : Built (n - start) before after tree (p .ends)
   pub same : (f : Frame) (fs : List Frame) (h : Head) → from (inUse i (byteAt s i ∷ []) f fs h) s (i + 1) ≡ from (past tree (f ∷ fs) h) s (p .at)
 
-abbrev pub NamePartAs : List ℕ → ℕ → ℕ → List ℕ → List ℕ → PartRead → Type 0
-NamePartAs s i n cells cells′ (PartPast p) = NameRead s i n cells cells′ p
-NamePartAs s i n cells cells′ (PartFail j) = (f : Frame) (fs : List Frame) (h : Head) → from (inUse i (byteAt s i ∷ []) f fs h) s (i + 1) ≡ departs j
+abbrev pub NamePartAs : List ℕ → ℕ → ℕ → ℕ → List ℕ → List ℕ → List ℕ → List ℕ → PartRead → Type 0
+NamePartAs s i n start cells cells′ before after (PartPast p) = NameRead s i n start cells cells′ before after p
+NamePartAs s i n start cells cells′ before after (PartFail j) = (f : Frame) (fs : List Frame) (h : Head) → from (inUse i (byteAt s i ∷ []) f fs h) s (i + 1) ≡ departs j
 
-pub record NamePart (s : List ℕ) (i n : ℕ) (cells cells′ : List ℕ) (r : PartRead) : Type 0 where
-  pub says : NamePartAs s i n cells cells′ r
+pub record NamePart (s : List ℕ) (i n start : ℕ) (cells cells′ before after : List ℕ) (r : PartRead) : Type 0 where
+  pub says : NamePartAs s i n start cells cells′ before after r
 
 -- a group, from just after its `(`
-pub record GroupRead (s : List ℕ) (at depth n : ℕ) (cells cells′ : List ℕ) (p : Part) : Type 0 where
+pub record GroupRead (s : List ℕ) (at depth n start : ℕ) (cells cells′ before after : List ℕ) (p : Part) : Type 0 where
   pub high : p .at ≤ length s
   pub few : p .n ≤ p .at
   pub tree : Particle Use
   pub noted : Noted s at n cells cells′ (p .at) (p .n) (uses tree)
+  pub built : Built (n - start) before after tree (p .ends)
   pub same : (fs : List Frame) (h : Head) → length fs ≡ depth → from (expecting fresh fs h) s at ≡ from (closed tree fs h) s (p .at)
 
-abbrev pub GroupedAs : List ℕ → ℕ → ℕ → ℕ → List ℕ → List ℕ → PartRead → Type 0
-GroupedAs s at depth n cells cells′ (PartPast p) = GroupRead s at depth n cells cells′ p
-GroupedAs s at depth n cells cells′ (PartFail j) = (fs : List Frame) (h : Head) → length fs ≡ depth → from (expecting fresh fs h) s at ≡ departs j
+abbrev pub GroupedAs : List ℕ → ℕ → ℕ → ℕ → ℕ → List ℕ → List ℕ → List ℕ → List ℕ → PartRead → Type 0
+GroupedAs s at depth n start cells cells′ before after (PartPast p) = GroupRead s at depth n start cells cells′ before after p
+GroupedAs s at depth n start cells cells′ before after (PartFail j) = (fs : List Frame) (h : Head) → length fs ≡ depth → from (expecting fresh fs h) s at ≡ departs j
 
-pub record Grouped (s : List ℕ) (at depth n : ℕ) (cells cells′ : List ℕ) (r : PartRead) : Type 0 where
-  pub says : GroupedAs s at depth n cells cells′ r
+pub record Grouped (s : List ℕ) (at depth n start : ℕ) (cells cells′ before after : List ℕ) (r : PartRead) : Type 0 where
+  pub says : GroupedAs s at depth n start cells cells′ before after r
 
--- Separators: the code keeps the byte that parts a group, 0 while nothing does.
-pub data Holds : Frame → ℕ → Type 0 where
-  holds-none : Holds fresh 0
-  holds-bar : {p : Particle Use} → Holds (holding byBar p) 0x7C
-  holds-comma : {p : Particle Use} → Holds (holding byComma p) 0x2C
-
+-- Separators: the byte that parts a group.
 abbrev pub separatorOf : ℕ → Separator
 separatorOf b = cond (eqb b 0x7C) byBar byComma
 
@@ -202,28 +218,29 @@ pub record Pcdata (s : List ℕ) (at : ℕ) (r : Read) : Type 0 where
   pub says : PcdataAs s at r
 
 -- after the content comes the state `next`
-pub record ContentRead (q : Head → State) (next : Content Use → Head → State) (s : List ℕ) (at n : ℕ) (cells cells′ : List ℕ) (p : Part) : Type 0 where
+pub record ContentRead (q : Head → State) (next : Content Use → Head → State) (s : List ℕ) (at n : ℕ) (cells cells′ before after : List ℕ) (p : ContentEnd) : Type 0 where
   pub high : p .at ≤ length s
   pub few : p .n ≤ p .at
   pub content : Content Use
   pub noted : Noted s at n cells cells′ (p .at) (p .n) (usesIn content)
+  pub built : ContentBuilt before after content (p .content)
   pub same : (h : Head) → from (q h) s at ≡ from (next content h) s (p .at)
 
-abbrev pub ContentAs : (Head → State) → (Content Use → Head → State) → List ℕ → ℕ → ℕ → List ℕ → List ℕ → PartRead → Type 0
-ContentAs q next s at n cells cells′ (PartPast p) = ContentRead q next s at n cells cells′ p
-ContentAs q next s at n cells cells′ (PartFail j) = (h : Head) → from (q h) s at ≡ departs j
+abbrev pub ContentAs : (Head → State) → (Content Use → Head → State) → List ℕ → ℕ → ℕ → List ℕ → List ℕ → List ℕ → List ℕ → ContentOutcome → Type 0
+ContentAs q next s at n cells cells′ before after (ContentPast p) = ContentRead q next s at n cells cells′ before after p
+ContentAs q next s at n cells cells′ before after (ContentFail j) = (h : Head) → from (q h) s at ≡ departs j
 
-pub record Contented (q : Head → State) (next : Content Use → Head → State) (s : List ℕ) (at n : ℕ) (cells cells′ : List ℕ) (r : PartRead) : Type 0 where
-  pub says : ContentAs q next s at n cells cells′ r
+pub record Contented (q : Head → State) (next : Content Use → Head → State) (s : List ℕ) (at n : ℕ) (cells cells′ before after : List ℕ) (r : ContentOutcome) : Type 0 where
+  pub says : ContentAs q next s at n cells cells′ before after r
 
 -- after a whole declaration
 abbrev pub ended : Content Use → Head → State
 ended c h = between (declared c h ∷ h .opening .done)
 
 -- a part without names leaves the count as it is
-abbrev pub namelessOf : Read → ℕ → PartRead
-namelessOf (Past at) n = PartPast (record { at = at; n = n })
-namelessOf (Fail at) n = PartFail at
+abbrev pub namelessOf : Read → ℕ → Contents → ContentOutcome
+namelessOf (Past at) n c = ContentPast (record { at = at; n = n; content = c })
+namelessOf (Fail at) n c = ContentFail at
 
 -- Declarations: the keyword, the name, the rest.
 abbrev pub KeywordAs : List ℕ → ℕ → Read → Type 0
@@ -240,25 +257,26 @@ HeadAs s i (Fail j) = (o : Opening) → from (beforeName o) s i ≡ departs j
 pub record Headed (s : List ℕ) (i : ℕ) (r : Read) : Type 0 where
   pub says : HeadAs s i r
 
-pub record DeclarationRead (s : List ℕ) (at n : ℕ) (cells cells′ : List ℕ) (d : DeclarationEnd) : Type 0 where
+pub record DeclarationRead (s : List ℕ) (at n : ℕ) (cells cells′ before after : List ℕ) (d : DeclarationEnd) : Type 0 where
   pub high : d .at ≤ length s
   pub few : d .n ≤ d .at
   pub low : at ≤ d .name
   pub named : d .name < d .at
   pub content : Content Use
   pub noted : Noted s at n cells cells′ (d .at) (d .n) (usesIn content)
+  pub built : ContentBuilt before after content (d .content)
   pub same : (ds : List Declaration) → from (between ds) s at ≡ from (between (record { place = at; name = useAt s (d .name); content = content } ∷ ds)) s (d .at)
 
-abbrev pub DeclarationAs : List ℕ → ℕ → ℕ → List ℕ → List ℕ → DeclarationOutcome → Type 0
-DeclarationAs s at n cells cells′ (DeclPast d) = DeclarationRead s at n cells cells′ d
-DeclarationAs s at n cells cells′ (DeclFail j) = (ds : List Declaration) → from (between ds) s at ≡ departs j
+abbrev pub DeclarationAs : List ℕ → ℕ → ℕ → List ℕ → List ℕ → List ℕ → List ℕ → DeclarationOutcome → Type 0
+DeclarationAs s at n cells cells′ before after (DeclPast d) = DeclarationRead s at n cells cells′ before after d
+DeclarationAs s at n cells cells′ before after (DeclFail j) = (ds : List Declaration) → from (between ds) s at ≡ departs j
 
-pub record Declared (s : List ℕ) (at n : ℕ) (cells cells′ : List ℕ) (r : DeclarationOutcome) : Type 0 where
-  pub says : DeclarationAs s at n cells cells′ r
+pub record Declared (s : List ℕ) (at n : ℕ) (cells cells′ before after : List ℕ) (r : DeclarationOutcome) : Type 0 where
+  pub says : DeclarationAs s at n cells cells′ before after r
 
-abbrev pub RestAs : List ℕ → ℕ → ℕ → ℕ → List ℕ → List ℕ → DeclarationOutcome → Type 0
-RestAs s name at n cells cells′ (DeclPast d) = (d .name ≡ name) × ContentRead beforeContent ended s at n cells cells′ (record { at = d .at; n = d .n })
-RestAs s name at n cells cells′ (DeclFail j) = (h : Head) → from (beforeContent h) s at ≡ departs j
+abbrev pub RestAs : List ℕ → ℕ → ℕ → ℕ → List ℕ → List ℕ → List ℕ → List ℕ → DeclarationOutcome → Type 0
+RestAs s name at n cells cells′ before after (DeclPast d) = (d .name ≡ name) × ContentRead beforeContent ended s at n cells cells′ before after (record { at = d .at; n = d .n; content = d .content })
+RestAs s name at n cells cells′ before after (DeclFail j) = (h : Head) → from (beforeContent h) s at ≡ departs j
 
-pub record DeclaredRest (s : List ℕ) (name at n : ℕ) (cells cells′ : List ℕ) (r : DeclarationOutcome) : Type 0 where
-  pub says : RestAs s name at n cells cells′ r
+pub record DeclaredRest (s : List ℕ) (name at n : ℕ) (cells cells′ before after : List ℕ) (r : DeclarationOutcome) : Type 0 where
+  pub says : RestAs s name at n cells cells′ before after r

@@ -1,12 +1,15 @@
-// One declaration of a schema text, by recursive descent: where it ends or departs from the grammar, and the places of the names that it
-// uses.
+// One declaration of a schema text, by recursive descent: where it ends or departs from the grammar, the places of the names that it uses,
+// and the tables of its content model.
 ghost use mathlib.Core.Bool.{true};
 ghost use mathlib.Core.Path.{_≡_};
 ghost use Prim.Native.Nat.{ℕ, _+_, _≤_, _<_};
 ghost use lib.ListN.{length, set};
-ghost use Rattle.declarations.specs.Parts.{byteAt, Skipped, Spelt, Named, isIndicator, Indicated, mayPart, Followed, NamePart, Particled, Grouped, NoBlank, Spaced, Pcdata, Contented, ended, namelessOf, Keyworded, Headed, DeclaredRest, Declared};
+ghost use Rattle.declarations.specs.Parts.{byteAt, Skipped, Spelt, Named, isIndicator, Indicated, indicatorAt, mayPart, Followed, NamePart, Particled, Grouped, PartIndicated, NoBlank, Spaced, Pcdata, Contented, ended, namelessOf, Keyworded, Headed, DeclaredRest, Declared};
+ghost use Rattle.declarations.specs.Building.{Repeated, Joined};
 ghost use Rattle.schema_spec.specs.Machine.{beforeContent, afterOpen, afterContent};
 ghost use Rattle.text_spec.specs.Bytes.{startsName};
+use models::Content;
+use models::Ends;
 
 // The groups of a model that may be open at once.
 pub const MAX_GROUPS: usize = 8;
@@ -22,10 +25,11 @@ pub enum Read {
     Fail(usize),
 }
 
-// A part of a model: the place past it, and the number of names noted so far.
+// A part of a model: the place past it, the number of names noted so far, and where it may begin and end.
 pub struct Part {
     pub at: usize,
     pub n: usize,
+    pub ends: Ends,
 }
 
 pub enum PartRead {
@@ -33,11 +37,24 @@ pub enum PartRead {
     Fail(usize),
 }
 
-// A declaration: the place past it, that of its name, and the number of names noted so far.
+// A content: the place past it, the number of names noted so far, and what it is.
+pub struct ContentEnd {
+    pub at: usize,
+    pub n: usize,
+    pub content: Content,
+}
+
+pub enum ContentOutcome {
+    Past(ContentEnd),
+    Fail(usize),
+}
+
+// A declaration: the place past it, that of its name, the number of names noted so far, and its content.
 pub struct DeclarationEnd {
     pub at: usize,
     pub name: usize,
     pub n: usize,
+    pub content: Content,
 }
 
 pub enum DeclarationOutcome {
@@ -172,32 +189,103 @@ fn after_particle(s: &[u8], at: usize, sep: u8) -> Follow
     Follow::Fail(i)
 }
 
-// Past the name at i and its indicator. Its place is noted at n.
-fn use_name(s: &[u8], i: usize, out: &mut [usize], n: usize) -> PartRead
-    requires { ⌜ (i < length (now s)) × (startsName (byteAt (now s) i) ≡ true) × (n ≤ i) ⌝ }
-    ensures { λ r. ⌜ NamePart (now (s .entry)) i n (now (out .entry)) (now (out .exit)) r ⌝ }
+// What the byte at `at` makes of the ends of a particle that stands before it. What repeats is linked from its last to its first positions.
+fn repetition(s: &[u8], at: usize, ends: Ends, predecessors: &mut [u64]) -> Ends
+    requires { ⌜ at ≤ length (now s) ⌝ }
+    ensures { λ r. ⌜ Repeated (indicatorAt (now (s .entry)) at) ends (now (predecessors .entry)) (now (predecessors .exit)) r ⌝ }
+{
+    if s.len() <= at {
+        return ends;
+    }
+    let b = s[at];
+    if b == 63 {
+        return models::in_repetition(ends, true);
+    }
+    if b == 42 {
+        models::link(predecessors, ends.last, ends.first);
+        return models::in_repetition(ends, true);
+    }
+    if b == 43 {
+        models::link(predecessors, ends.last, ends.first);
+        return models::in_repetition(ends, false);
+    }
+    ends
+}
+
+// A particle with its indicator, if one follows.
+fn indicated(s: &[u8], p: Part, predecessors: &mut [u64]) -> Part
+    requires { ⌜ p .at ≤ length (now s) ⌝ }
+    ensures { λ r. ⌜ PartIndicated (now (s .entry)) p (now (predecessors .entry)) (now (predecessors .exit)) r ⌝ }
+{
+    let end = p.at;
+    let ends = repetition(s, end, p.ends, predecessors);
+    Part {
+        at: indicator(s, end),
+        n: p.n,
+        ends,
+    }
+}
+
+// Where a group begins and ends that `sep` parts, or nothing yet where that is 0: so far `a`, and then the particle `b`.
+fn join(sep: u8, a: Ends, b: Ends, predecessors: &mut [u64]) -> Ends
+    ensures { λ r. ⌜ Joined sep a b (now (predecessors .entry)) (now (predecessors .exit)) r ⌝ }
+{
+    if sep == 0 {
+        return b;
+    }
+    if sep == 44 {
+        models::link(predecessors, a.last, b.first);
+        return models::in_sequence(a, b);
+    }
+    models::in_choice(a, b)
+}
+
+// Past the name at i and its indicator. Its place is noted at n; the names of its model are counted from `start` on.
+fn use_name(
+    s: &[u8],
+    i: usize,
+    out: &mut [usize],
+    n: usize,
+    start: usize,
+    predecessors: &mut [u64],
+) -> PartRead
+    requires { ⌜ (i < length (now s)) × (startsName (byteAt (now s) i) ≡ true) × (n ≤ i) × (start ≤ n) ⌝ }
+    ensures { λ r. ⌜ NamePart (now (s .entry)) i n start (now (out .entry)) (now (out .exit)) (now (predecessors .entry)) (now (predecessors .exit)) r ⌝ }
 {
     note(out, n, i);
     match name_end(s, i) {
-        Read::Past(e) => PartRead::Past(Part {
-            at: indicator(s, e),
-            n: n + 1,
-        }),
+        Read::Past(e) => {
+            let ends = models::named(n - start);
+            let p = Part {
+                at: e,
+                n: n + 1,
+                ends,
+            };
+            PartRead::Past(indicated(s, p, predecessors))
+        }
         Read::Fail(j) => PartRead::Fail(j),
     }
 }
 
 // Past a particle that is due at `at`, after blanks, in a group with `depth` groups around it. The places of its names are noted from n on.
-fn particle(s: &[u8], at: usize, depth: usize, out: &mut [usize], n: usize) -> PartRead
-    requires { ⌜ (at ≤ length (now s)) × (depth ≤ 7) × (n ≤ at) ⌝ }
-    ensures { λ r. ⌜ Particled (now (s .entry)) at depth n (now (out .entry)) (now (out .exit)) r ⌝ }
+fn particle(
+    s: &[u8],
+    at: usize,
+    depth: usize,
+    out: &mut [usize],
+    n: usize,
+    start: usize,
+    predecessors: &mut [u64],
+) -> PartRead
+    requires { ⌜ (at ≤ length (now s)) × (depth ≤ 7) × (n ≤ at) × (start ≤ n) ⌝ }
+    ensures { λ r. ⌜ Particled (now (s .entry)) at depth n start (now (out .entry)) (now (out .exit)) (now (predecessors .entry)) (now (predecessors .exit)) r ⌝ }
 {
     let i = skip(s, at);
     if s.len() <= i {
         return PartRead::Fail(i);
     }
     if text::starts_name(s[i]) {
-        return use_name(s, i, out, n);
+        return use_name(s, i, out, n, start, predecessors);
     }
     if s[i] != 40 {
         return PartRead::Fail(i);
@@ -205,35 +293,48 @@ fn particle(s: &[u8], at: usize, depth: usize, out: &mut [usize], n: usize) -> P
     if DEEPEST <= depth {
         return PartRead::Fail(i);
     }
-    match group(s, i + 1, depth + 1, out, n) {
-        PartRead::Past(p) => {
-            let end = p.at;
-            PartRead::Past(Part {
-                at: indicator(s, end),
-                n: p.n,
-            })
-        }
+    match group(s, i + 1, depth + 1, out, n, start, predecessors) {
+        PartRead::Past(p) => PartRead::Past(indicated(s, p, predecessors)),
         PartRead::Fail(j) => PartRead::Fail(j),
     }
 }
 
 // Past the group whose first particle is due at `at`.
-fn group(s: &[u8], at: usize, depth: usize, out: &mut [usize], n: usize) -> PartRead
-    requires { ⌜ (at ≤ length (now s)) × (depth ≤ 7) × (n ≤ at) ⌝ }
-    ensures { λ r. ⌜ Grouped (now (s .entry)) at depth n (now (out .entry)) (now (out .exit)) r ⌝ }
+fn group(
+    s: &[u8],
+    at: usize,
+    depth: usize,
+    out: &mut [usize],
+    n: usize,
+    start: usize,
+    predecessors: &mut [u64],
+) -> PartRead
+    requires { ⌜ (at ≤ length (now s)) × (depth ≤ 7) × (n ≤ at) × (start ≤ n) ⌝ }
+    ensures { λ r. ⌜ Grouped (now (s .entry)) at depth n start (now (out .entry)) (now (out .exit)) (now (predecessors .entry)) (now (predecessors .exit)) r ⌝ }
 {
     let mut i = at;
     let mut count = n;
     let mut sep: u8 = 0;
+    let mut ends = Ends {
+        first: 0,
+        last: 0,
+        nullable: false,
+    };
     loop {
-        match particle(s, i, depth, out, count) {
+        match particle(s, i, depth, out, count, start, predecessors) {
             PartRead::Fail(j) => return PartRead::Fail(j),
             PartRead::Past(p) => {
                 let end = p.at;
+                let joined = join(sep, ends, p.ends, predecessors);
                 count = p.n;
+                ends = joined;
                 match after_particle(s, end, sep) {
                     Follow::Fail(j) => return PartRead::Fail(j),
-                    Follow::Close(j) => return PartRead::Past(Part { at: j, n: count }),
+                    Follow::Close(j) => return PartRead::Past(Part {
+                        at: j,
+                        n: count,
+                        ends,
+                    }),
                     Follow::More(b, j) => {
                         sep = b;
                         i = j;
@@ -278,73 +379,98 @@ fn pcdata(s: &[u8], at: usize) -> Read
     }
 }
 
-// A part of a model that has no names.
-fn nameless(r: Read, n: usize) -> PartRead
-    ensures { λ p. ⌜ p ≡ namelessOf r n ⌝ }
+// A content that has no names.
+fn nameless(r: Read, n: usize, content: Content) -> ContentOutcome
+    ensures { λ p. ⌜ p ≡ namelessOf r n content ⌝ }
 {
     match r {
-        Read::Past(at) => PartRead::Past(Part { at, n }),
-        Read::Fail(at) => PartRead::Fail(at),
+        Read::Past(at) => ContentOutcome::Past(ContentEnd { at, n, content }),
+        Read::Fail(at) => ContentOutcome::Fail(at),
     }
 }
 
 // Past `(#PCDATA)` or a children model, whose `(` stands before `at`.
-fn model(s: &[u8], at: usize, out: &mut [usize], n: usize) -> PartRead
+fn model(
+    s: &[u8],
+    at: usize,
+    out: &mut [usize],
+    n: usize,
+    predecessors: &mut [u64],
+) -> ContentOutcome
     requires { ⌜ (at ≤ length (now s)) × (n ≤ at) ⌝ }
-    ensures { λ r. ⌜ Contented afterOpen afterContent (now (s .entry)) at n (now (out .entry)) (now (out .exit)) r ⌝ }
+    ensures { λ r. ⌜ Contented afterOpen afterContent (now (s .entry)) at n (now (out .entry)) (now (out .exit)) (now (predecessors .entry)) (now (predecessors .exit)) r ⌝ }
 {
     let i = skip(s, at);
     if s.len() <= i {
-        return PartRead::Fail(i);
+        return ContentOutcome::Fail(i);
     }
     if s[i] == 35 {
-        return nameless(pcdata(s, i + 1), n);
+        return nameless(pcdata(s, i + 1), n, Content::Pcdata);
     }
-    match group(s, i, 0, out, n) {
+    match group(s, i, 0, out, n, n, predecessors) {
         PartRead::Past(p) => {
-            let end = p.at;
-            PartRead::Past(Part {
-                at: indicator(s, end),
-                n: p.n,
+            let q = indicated(s, p, predecessors);
+            let ends = q.ends;
+            ContentOutcome::Past(ContentEnd {
+                at: q.at,
+                n: q.n,
+                content: Content::Children(ends),
             })
         }
-        PartRead::Fail(j) => PartRead::Fail(j),
+        PartRead::Fail(j) => ContentOutcome::Fail(j),
     }
 }
 
 // Past the content at `at`.
-fn content(s: &[u8], at: usize, out: &mut [usize], n: usize) -> PartRead
+fn content(
+    s: &[u8],
+    at: usize,
+    out: &mut [usize],
+    n: usize,
+    predecessors: &mut [u64],
+) -> ContentOutcome
     requires { ⌜ (at ≤ length (now s)) × (n ≤ at) × NoBlank (now s) at ⌝ }
-    ensures { λ r. ⌜ Contented beforeContent afterContent (now (s .entry)) at n (now (out .entry)) (now (out .exit)) r ⌝ }
+    ensures { λ r. ⌜ Contented beforeContent afterContent (now (s .entry)) at n (now (out .entry)) (now (out .exit)) (now (predecessors .entry)) (now (predecessors .exit)) r ⌝ }
 {
     if s.len() <= at {
-        return PartRead::Fail(at);
+        return ContentOutcome::Fail(at);
     }
     if s[at] == 40 {
-        return model(s, at + 1, out, n);
+        return model(s, at + 1, out, n, predecessors);
     }
     if s[at] == 69 {
-        return nameless(spell(s, at + 1, b"MPTY"), n);
+        return nameless(spell(s, at + 1, b"MPTY"), n, Content::Empty);
     }
-    PartRead::Fail(at)
+    ContentOutcome::Fail(at)
 }
 
 // Past the content at `at` and the `>` of its declaration.
-fn body(s: &[u8], at: usize, out: &mut [usize], n: usize) -> PartRead
+fn body(
+    s: &[u8],
+    at: usize,
+    out: &mut [usize],
+    n: usize,
+    predecessors: &mut [u64],
+) -> ContentOutcome
     requires { ⌜ (at ≤ length (now s)) × (n ≤ at) × NoBlank (now s) at ⌝ }
-    ensures { λ r. ⌜ Contented beforeContent ended (now (s .entry)) at n (now (out .entry)) (now (out .exit)) r ⌝ }
+    ensures { λ r. ⌜ Contented beforeContent ended (now (s .entry)) at n (now (out .entry)) (now (out .exit)) (now (predecessors .entry)) (now (predecessors .exit)) r ⌝ }
 {
-    match content(s, at, out, n) {
-        PartRead::Fail(j) => PartRead::Fail(j),
-        PartRead::Past(p) => {
+    match content(s, at, out, n, predecessors) {
+        ContentOutcome::Fail(j) => ContentOutcome::Fail(j),
+        ContentOutcome::Past(p) => {
             let i = skip(s, p.at);
             if s.len() <= i {
-                return PartRead::Fail(i);
+                return ContentOutcome::Fail(i);
             }
             if s[i] == 62 {
-                return PartRead::Past(Part { at: i + 1, n: p.n });
+                let content = p.content;
+                return ContentOutcome::Past(ContentEnd {
+                    at: i + 1,
+                    n: p.n,
+                    content,
+                });
             }
-            PartRead::Fail(i)
+            ContentOutcome::Fail(i)
         }
     }
 }
@@ -381,30 +507,48 @@ fn declared_name(s: &[u8], i: usize) -> Read
 }
 
 // The rest of a declaration whose name stands at `name` and whose content at `at`.
-fn declared(s: &[u8], name: usize, at: usize, out: &mut [usize], n: usize) -> DeclarationOutcome
+fn declared(
+    s: &[u8],
+    name: usize,
+    at: usize,
+    out: &mut [usize],
+    n: usize,
+    predecessors: &mut [u64],
+) -> DeclarationOutcome
     requires { ⌜ (at ≤ length (now s)) × (n ≤ at) × NoBlank (now s) at ⌝ }
-    ensures { λ r. ⌜ DeclaredRest (now (s .entry)) name at n (now (out .entry)) (now (out .exit)) r ⌝ }
+    ensures { λ r. ⌜ DeclaredRest (now (s .entry)) name at n (now (out .entry)) (now (out .exit)) (now (predecessors .entry)) (now (predecessors .exit)) r ⌝ }
 {
-    match body(s, at, out, n) {
-        PartRead::Past(p) => DeclarationOutcome::Past(DeclarationEnd {
-            at: p.at,
-            name,
-            n: p.n,
-        }),
-        PartRead::Fail(j) => DeclarationOutcome::Fail(j),
+    match body(s, at, out, n, predecessors) {
+        ContentOutcome::Past(p) => {
+            let content = p.content;
+            DeclarationOutcome::Past(DeclarationEnd {
+                at: p.at,
+                name,
+                n: p.n,
+                content,
+            })
+        }
+        ContentOutcome::Fail(j) => DeclarationOutcome::Fail(j),
     }
 }
 
-// Past the declaration at `at`. The places of the names in its content are noted from n on.
-pub fn declaration(s: &[u8], at: usize, out: &mut [usize], n: usize) -> DeclarationOutcome
+// Past the declaration at `at`. The places of the names in its content are noted from n on, and of the positions of its model those that each
+// may come after.
+pub fn declaration(
+    s: &[u8],
+    at: usize,
+    out: &mut [usize],
+    n: usize,
+    predecessors: &mut [u64],
+) -> DeclarationOutcome
     requires { ⌜ (at < length (now s)) × (n ≤ at) × NoBlank (now s) at ⌝ }
-    ensures { λ r. ⌜ Declared (now (s .entry)) at n (now (out .entry)) (now (out .exit)) r ⌝ }
+    ensures { λ r. ⌜ Declared (now (s .entry)) at n (now (out .entry)) (now (out .exit)) (now (predecessors .entry)) (now (predecessors .exit)) r ⌝ }
 {
     match keyword(s, at) {
         Read::Fail(j) => DeclarationOutcome::Fail(j),
         Read::Past(i) => match declared_name(s, i) {
             Read::Fail(j) => DeclarationOutcome::Fail(j),
-            Read::Past(j) => declared(s, i, j, out, n),
+            Read::Past(j) => declared(s, i, j, out, n, predecessors),
         },
     }
 }

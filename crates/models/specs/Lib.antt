@@ -6,3 +6,4 @@ pub mod Fitting
 pub mod Making
 pub mod Building
 pub mod BuildingLaws
+pub mod Placing

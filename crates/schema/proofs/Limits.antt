@@ -150,7 +150,7 @@ getD-sets l (v ∷ vs) n (suc k) h g =
     ap (λ (j : ℕ). getD (sets (set l n v) (suc n) vs) j 0) e ∙ getD-sets (set l n v) vs (suc n) k (omega arith) (omega arith)
 
 -- ---- the limits after one more declaration
-module _ {s : List ℕ} (ds : List Declaration) {d n i : ℕ} (names : List ℕ) {uses uses′ : List ℕ} (count : length ds ≡ d) (room : length names ≡ maxDeclarations) (room-uses : length uses ≡ maxDeclarations * maxModelNames + 1) (l : i < length s) {p : DeclarationEnd} (R : DeclarationRead s i n uses uses′ p) {j : ℕ} (far : p .at ≤ j) where
+module _ {s : List ℕ} (ds : List Declaration) {d n i : ℕ} (names : List ℕ) {uses uses′ before after : List ℕ} (count : length ds ≡ d) (room : length names ≡ maxDeclarations) (room-uses : length uses ≡ maxDeclarations * maxModelNames + 1) (l : i < length s) {p : DeclarationEnd} (R : DeclarationRead s i n uses uses′ before after p) {j : ℕ} (far : p .at ≤ j) where
   abbrev pub declared-now : Declaration
   declared-now = record { place = i; name = useAt s (p .name); content = R .content }
 
@@ -330,13 +330,13 @@ module _ {s : List ℕ} {i d n over : ℕ} {names uses : List ℕ} (U : UpTo s i
       go [] h = absurd (h refl)
       go (x ∷ ds) h = refl
 
-  module _ (l : i < length s) {uses′ : List ℕ} {r : DeclarationOutcome} (D : Declared s i n uses uses′ r) where
+  module _ (l : i < length s) {uses′ before after : List ℕ} {r : DeclarationOutcome} (D : Declared s i n uses uses′ before after r) where
     pub all-fail : {j : ℕ} → r ≡ DeclFail j → parse s ≡ departs j
-    all-fail u = parsed ∙ subst (Declared s i n uses uses′) u D .says (U .done)
+    all-fail u = parsed ∙ subst (Declared s i n uses uses′ before after) u D .says (U .done)
 
     module _ {p : DeclarationEnd} (u : r ≡ DeclPast p) where
-      read : DeclarationRead s i n uses uses′ p
-      read = subst (Declared s i n uses uses′) u D .says
+      read : DeclarationRead s i n uses uses′ before after p
+      read = subst (Declared s i n uses uses′ before after) u D .says
 
       pub all-known : (n ≤ p .n) × (p .at ≤ length s)
       all-known = (let z = read .noted .counted in omega arith, read .high)

@@ -98,8 +98,10 @@ fn all_declarations(s: &[u8], names: &mut [usize], uses: &mut [usize]) -> All
     let mut d: usize = 0;
     let mut n: usize = 0;
     let mut over = size;
+    // what models are linked like is left to the tables
+    let mut unused = [0u64; 1];
     while i < s.len() {
-        match declarations::declaration(s, i, uses, n) {
+        match declarations::declaration(s, i, uses, n, &mut unused) {
             DeclarationOutcome::Fail(j) => return All::Fail(j),
             DeclarationOutcome::Past(p) => {
                 let end = p.at;

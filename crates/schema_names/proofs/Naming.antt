@@ -14,6 +14,8 @@ use Rattle.declarations.proofs.Judging.{yes, no, name-cons, name-stops}
 use Rattle.schema_names.specs.Names.{nameAt, nameByte}
 use Rattle.declarations.specs.Parts.{byteAt, nameIn}
 use Rattle.schema_spec.specs.Schemas.{indexFrom}
+use Rattle.text_laws.specs.Lists.{bytes-equal}
+use Rattle.text_laws.specs.Tests.{false-of}
 use Rattle.text_spec.specs.Bytes.{continuesName}
 use Rattle.text_spec.specs.Lists.{anyOf, first, valueOr, sameBytes}
 
@@ -46,12 +48,21 @@ module _ (s : List ℕ) (i : ℕ) where
   pub byte-there : i < length s → continuesName (byteAt s i) ≡ true → byteAt s i ≡ nameByte s i
   byte-there h e = sym (ap (λ (n : List ℕ). valueOr 0 (first n)) (name-cons s i h e))
 
-  pub byte-inside : {a : ℕ} → a ≡ nameByte s i → (a ≡ 0 → ⊥) → i < length s
-  byte-inside {a} e h = go (view s i)
-    where
-      go : View s i → i < length s
-      go (over n) = absurd (h (e ∙ ap (λ (n : List ℕ). valueOr 0 (first n)) n))
-      go (byte b l z n) = l
+  -- the name, by its first byte a
+  module _ {a : ℕ} (e : a ≡ nameByte s i) where
+    pub byte-over : a ≡ 0 → nameAt s i ≡ []
+    byte-over h = go (view s i)
+      where
+        go : View s i → nameAt s i ≡ []
+        go (over n) = n
+        go (byte b l z n) = absurd (z (sym (ap (λ (n : List ℕ). valueOr 0 (first n)) n) ∙ sym e ∙ h))
+
+    pub byte-on : (a ≡ 0 → ⊥) → (i < length s) × (length (nameAt s i) ≡ suc (length (nameAt s (i + 1))))
+    byte-on h = go (view s i)
+      where
+        go : View s i → (i < length s) × (length (nameAt s i) ≡ suc (length (nameAt s (i + 1))))
+        go (over n) = absurd (h (e ∙ ap (λ (n : List ℕ). valueOr 0 (first n)) n))
+        go (byte b l z n) = (l, ap length n)
 
 -- ---- two names, by their first bytes a and b and what follows
 module _ (s : List ℕ) (i : ℕ) (t : List ℕ) (j : ℕ) {a b : ℕ} (x : a ≡ nameByte s i) (y : b ≡ nameByte t j) where
@@ -119,3 +130,31 @@ module _ (s ps n : List ℕ) {r : ℕ} (e : r ≡ valueOr (length ps) (indexFrom
       go : {o : Option ℕ} {t : Bool} → Sought (0 + length (map (nameAt s) ps)) o t → r ≡ valueOr (length ps) o → (o ≡ none) × (t ≡ false)
       go nowhere f = (refl, refl)
       go (somewhere j l) f = absurd (omega (arith, length-map ps (nameAt s)))
+
+-- ---- a slice that is no name
+-- a slice of which all bytes are those of its name is that name
+pub name-whole : (t : List ℕ) → length (nameIn t) ≡ length t → nameIn t ≡ t
+name-whole [] e = refl
+name-whole (b ∷ t) e = go (continuesName b) e (name-whole t)
+  where
+    go : (c : Bool) → length (cond c (b ∷ nameIn t) []) ≡ suc (length t) → (length (nameIn t) ≡ length t → nameIn t ≡ t) → cond c (b ∷ nameIn t) [] ≡ b ∷ t
+    go true f h = ap (λ (l : List ℕ). b ∷ l) (h (omega arith))
+    go false f h = absurd (omega arith)
+
+-- a name is a name to its end
+name-again : (t : List ℕ) → nameIn (nameIn t) ≡ nameIn t
+name-again [] = refl
+name-again (b ∷ t) = go (continuesName b) refl (name-again t)
+  where
+    go : (c : Bool) → continuesName b ≡ c → nameIn (nameIn t) ≡ nameIn t → nameIn (cond c (b ∷ nameIn t) []) ≡ cond c (b ∷ nameIn t) []
+    go true e h = yes (b ∷ nameIn (nameIn t)) [] e ∙ ap (λ (l : List ℕ). b ∷ l) h
+    go false e h = refl
+
+-- any other slice is no name of a text
+module _ (t : List ℕ) (e : length (nameIn t) ≡ length t → ⊥) (s : List ℕ) where
+  no-name : (p : ℕ) → sameBytes t (nameAt s p) ≡ false
+  no-name p = false-of (sameBytes t (nameAt s p)) (λ y. let q : t ≡ nameAt s p = bytes-equal t (nameAt s p) y in e (ap length (ap nameIn q ∙ name-again (drop p s) ∙ sym q)))
+
+  pub never-found : (k : ℕ) (ps : List ℕ) → indexFrom k t (map (nameAt s) ps) ≡ none
+  never-found k [] = refl
+  never-found k (p ∷ ps) = no (some k) _ (no-name p) ∙ never-found (suc k) ps

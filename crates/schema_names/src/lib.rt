@@ -1,7 +1,8 @@
-// Names in a text, by their places: which are the same, and the first that is a given one.
+// Names in a text, by their places: which are the same, the first that is a given one, and elements by their names.
 ghost use mathlib.Core.List.{map};
 ghost use mathlib.Core.Path.{_≡_};
 ghost use lib.ListN.{length};
+ghost use Rattle.schema_names.specs.Lookup.{found};
 ghost use Rattle.schema_names.specs.Names.{nameAt, nameByte};
 ghost use Rattle.schema_spec.specs.Schemas.{indexFrom};
 ghost use Rattle.text_spec.specs.Lists.{sameBytes, valueOr};
@@ -52,4 +53,36 @@ pub fn find(s: &[u8], names: &[usize], t: &[u8], p: usize) -> usize
         i += 1;
     }
     names.len()
+}
+
+// How many bytes the name at place p has.
+fn name_size(t: &[u8], p: usize) -> usize
+    ensures { λ r. ⌜ r ≡ length (nameAt (now (t .entry)) p) ⌝ }
+{
+    let mut i = p;
+    while name_byte(t, i) != 0 {
+        i += 1;
+    }
+    i - p
+}
+
+// An element by its index, or no element.
+pub enum Lookup {
+    Element(usize),
+    Absent,
+}
+
+// The first of the elements whose names stand at the places `names` of the text that has this name.
+pub fn element_named(text: &[u8], names: &[usize], name: &[u8]) -> Lookup
+    ensures { λ r. ⌜ found r ≡ indexFrom 0 (now (name .entry)) (map (nameAt (now (text .entry))) (now (names .entry))) ⌝ }
+{
+    let size = name_size(name, 0);
+    if size != name.len() {
+        return Lookup::Absent;
+    }
+    let i = find(text, names, name, 0);
+    if i < names.len() {
+        return Lookup::Element(i);
+    }
+    Lookup::Absent
 }

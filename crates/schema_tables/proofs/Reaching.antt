@@ -11,11 +11,13 @@ use lib.Dec.{T, ltb}
 use lib.ListN.{length, take, drop, getD, getElem?, replicate, length-map, length-reverse}
 use lib.Seq.{getD-take}
 use Rattle.declarations.proofs.Judging.{at-end}
+use Rattle.declarations.specs.Building.{ContentBuilt, built-empty, built-pcdata, built-children}
 use Rattle.declarations.specs.Parts.{from, useAt, Skipped}
 use Rattle.models.specs.Building.{EndsOf, Linked}
 use Rattle.models.specs.BuildingLaws.{whole}
 use Rattle.models.specs.Fitting.{Tables}
 use Rattle.models.specs.Marks.{size-uses}
+use Rattle.models.specs.Placing.{Clear}
 use Rattle.models.specs.Positions.{size}
 use Rattle.models.specs.declared.Content.{Content as Made}
 use Rattle.models.specs.declared.Ends.{Ends}
@@ -30,7 +32,6 @@ use Rattle.schema_spec.specs.Names.{hasBit}
 use Rattle.schema_spec.specs.Records.{schemaIn}
 use Rattle.schema_spec.specs.Schemas.{Schema, Element, declaredNames, resolved, schemaOf, contentOr, contentAt, modelAt}
 use Rattle.schema_tables.proofs.Resolving.{resolved-uses}
-use Rattle.schema_tables.specs.Mock.{Clear, Built, ContentBuilt, built-empty, built-pcdata, built-children}
 use Rattle.schema_tables.specs.Reading.{Located, Reached}
 use Rattle.schema_tables.specs.Rows.{kindIn, endsIn, elementAt}
 use Rattle.schema_tables.specs.Tables.{kindOf}

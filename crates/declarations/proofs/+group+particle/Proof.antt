@@ -1,10 +1,10 @@
 -- `particle` and `group` meet their contracts: each call of one by the other leaves fewer groups that may still open. Assumes nothing.
 use mathlib.Core.Path.{_≡_, sym, _∙_}
-use Prim.Native.Nat.{ℕ, _+_, _*_, _-_, _≤_, _<_}
 use lib.ListN.{length}
-use Rattle.declarations.proofs.Models.{GroupUpTo, group-start, group-length, group-fail, particle-high, group-stop, group-close, group-next, particle-end, particle-name, particle-not, particle-deep, open-high, open-past, open-fail}
+use Rattle.declarations.proofs.Models.{GroupUpTo, group-start, group-length, group-table, group-fail, particle-high, group-stop, group-close, group-next, particle-end, particle-name, particle-not, particle-deep, open-high, open-past, open-fail}
 use borrow.Author.Needs.{needs}
 use native.Mathlib.Omega.{arith}
+use Prim.Native.Nat.{ℕ, _+_, _*_, _-_, _≤_, _<_}
 use borrow.Fn.Kinds.{In}
 use borrow.Fn.PlainCycle.{Measures, is, falls, and}
 use Rattle.declarations.proofs.group.Reads as group
@@ -14,60 +14,70 @@ use Rattle.declarations.proofs.particle.Reads as particle
 use Rattle.declarations.proofs.particle.Kinds as particle-kinds
 use Rattle.declarations.proofs.+group+particle.Lts-particle as particle-lts
 use Rattle.declarations.proofs.after_particle.Reads as after-particle-reads
-use Rattle.declarations.proofs.indicator.Reads as indicator-reads
+use Rattle.declarations.proofs.indicated.Reads as indicated-reads
+use Rattle.declarations.proofs.join.Reads as join-reads
 use Rattle.declarations.proofs.skip.Reads as skip-reads
 use Rattle.declarations.proofs.use_name.Reads as use-name-reads
 use Rattle.text.proofs.starts_name.Reads as starts-name-reads
 use Rattle.declarations.proofs.+group+particle.{statement}
 use Rattle.declarations.proofs.+group+particle.Tie.{close}
 
-abbrev μ-group : Measures 2 group-kinds.ps ℕ
+abbrev μ-group : Measures 3 group-kinds.ps ℕ
 μ-group κs a = 2 * (8 - a .1 .1 .0) + 1
 
-abbrev μ-particle : Measures 2 particle-kinds.ps ℕ
+abbrev μ-particle : Measures 3 particle-kinds.ps ℕ
 μ-particle κs a = 2 * (8 - a .1 .1 .0)
 
-abbrev group-at : ℕ → In 2 group-kinds.ps
-group-at t = and 2 group-kinds.ps (is 2 group-kinds.ps μ-group t) group.Pre
+abbrev group-at : ℕ → In 3 group-kinds.ps
+group-at t = and 3 group-kinds.ps (is 3 group-kinds.ps μ-group t) group.Pre
 
-abbrev group-below : ℕ → In 2 group-kinds.ps
-group-below t = and 2 group-kinds.ps (falls 2 group-kinds.ps _<_ μ-group t) group.Pre
+abbrev group-below : ℕ → In 3 group-kinds.ps
+group-below t = and 3 group-kinds.ps (falls 3 group-kinds.ps _<_ μ-group t) group.Pre
 
-abbrev particle-at : ℕ → In 2 particle-kinds.ps
-particle-at t = and 2 particle-kinds.ps (is 2 particle-kinds.ps μ-particle t) particle.Pre
+abbrev particle-at : ℕ → In 3 particle-kinds.ps
+particle-at t = and 3 particle-kinds.ps (is 3 particle-kinds.ps μ-particle t) particle.Pre
 
-abbrev particle-below : ℕ → In 2 particle-kinds.ps
+abbrev particle-below : ℕ → In 3 particle-kinds.ps
 particle-below t =
-    and 2 particle-kinds.ps (falls 2 particle-kinds.ps _<_ μ-particle t) particle.Pre
+    and 3 particle-kinds.ps (falls 3 particle-kinds.ps _<_ μ-particle t) particle.Pre
 
 abbrev group-Inv-loop : group-lts.InvT-loop
-group-Inv-loop s at depth out₀ n i₀ count₀ sep₀ out i count sep = GroupUpTo s at depth n out₀ out i count sep
+group-Inv-loop s at depth out₀ n start predecessors₀ i₀ count₀ sep₀ ends₀ out predecessors i count sep ends =
+    GroupUpTo s at depth n start out₀ out predecessors₀ predecessors i count sep ends
 
 abbrev group-μ-loop : group-lts.MeasureT-loop
-group-μ-loop s at depth out₀ n i₀ count₀ sep₀ out i count sep = length s - i
+group-μ-loop s at depth out₀ n start predecessors₀ i₀ count₀ sep₀ ends₀ out predecessors i count sep ends =
+    length s - i
 
 group-loop-holds : (t : ℕ) → group-lts.Need-loop-holds (
   particle-below t,
   particle.Post,
+  join-reads.Asked,
+  join-reads.Learnt,
   after-particle-reads.Asked,
   after-particle-reads.Learnt,
 ) (group-at t) group.Post group-Inv-loop group-μ-loop
-group-loop-holds t c = group-start (c .before .before .pre .1 .0) (c .before .before .pre .1 .2)
+group-loop-holds t c = group-start _ (c .before .before .before .pre .1 .0) (c .before .before .before .pre .1 .2)
 
 group-particle-requires : (t : ℕ) → group-lts.Need-particle-requires (
   particle-below t,
   particle.Post,
+  join-reads.Asked,
+  join-reads.Learnt,
   after-particle-reads.Asked,
   after-particle-reads.Learnt,
 ) (group-at t) group.Post group-Inv-loop group-μ-loop
-group-particle-requires t c κs =
-    let z : 2 * (8 - c .before .before .before .before .args .depth) + 1 ≡ t = c .before .before .before .before .pre .0 in
-    let g : 2 * (8 - c .before .before .before .before .args .depth) < t = omega arith in
-    (g, (c .before .loop .inv .high, c .before .before .before .before .pre .1 .1, c .before .loop .inv .few))
+group-particle-requires t c κs = let z : 2 * (8 - c .before .before .before .before .before .before .args .depth) + 1 ≡ t = c .before .before .before .before .before .before .pre .0 in
+    let g : 2 * (8 - c .before .before .before .before .before .before .args .depth) < t = omega arith in
+    let m = c .before .before .loop .inv .many in
+    let l = c .before .before .before .before .before .before .pre .1 .3 in
+    (g, (c .before .before .loop .inv .high, c .before .before .before .before .before .before .pre .1 .1, c .before .before .loop .inv .few, omega arith))
 
 group-enum-known-j : (t : ℕ) → group-lts.Need-enum-known-j (
   particle-below t,
   particle.Post,
+  join-reads.Asked,
+  join-reads.Learnt,
   after-particle-reads.Asked,
   after-particle-reads.Learnt,
 ) (group-at t) group.Post group-Inv-loop group-μ-loop
@@ -76,86 +86,148 @@ group-enum-known-j t c = search needs
 group-same-length : (t : ℕ) → group-lts.Need-same-length (
   particle-below t,
   particle.Post,
+  join-reads.Asked,
+  join-reads.Learnt,
   after-particle-reads.Asked,
   after-particle-reads.Learnt,
 ) (group-at t) group.Post group-Inv-loop group-μ-loop
-group-same-length t c = let l = group-length (c .before .before .before .before .before .before .before .loop .inv) in search needs
+group-same-length t c = let l = group-length (c .before .before .before .before .before .before .before .before .before .before .loop .inv) in search needs
+
+group-same-length-2 : (t : ℕ) → group-lts.Need-same-length-2 (
+  particle-below t,
+  particle.Post,
+  join-reads.Asked,
+  join-reads.Learnt,
+  after-particle-reads.Asked,
+  after-particle-reads.Learnt,
+) (group-at t) group.Post group-Inv-loop group-μ-loop
+group-same-length-2 t c = let l = group-table (c .before .before .before .before .before .before .before .before .before .before .loop .inv) in search needs
 
 group-returns : (t : ℕ) → group-lts.Need-returns (
   particle-below t,
   particle.Post,
+  join-reads.Asked,
+  join-reads.Learnt,
   after-particle-reads.Asked,
   after-particle-reads.Learnt,
 ) (group-at t) group.Post group-Inv-loop group-μ-loop
-group-returns t c = record { says = group-fail (c .before .before .before .before .before .before .before .loop .inv) (c .before .before .before .before .before .particle .ensures) (c .before .j .given .1) }
+group-returns t c = record { says = group-fail (c .before .before .before .before .before .before .before .before .before .before .loop .inv) (c .before .before .before .before .before .before .before .before .before .before .before .before .before .before .pre .1 .3) (c .before .before .before .before .before .before .before .particle .ensures) (c .before .j .given .1) }
 
 group-enum-known-p : (t : ℕ) → group-lts.Need-enum-known-p (
   particle-below t,
   particle.Post,
+  join-reads.Asked,
+  join-reads.Learnt,
   after-particle-reads.Asked,
   after-particle-reads.Learnt,
 ) (group-at t) group.Post group-Inv-loop group-μ-loop
 group-enum-known-p t c = search needs
 
-group-after-particle-requires : (t : ℕ) → group-lts.Need-after-particle-requires (
+group-join-requires : (t : ℕ) → group-lts.Need-join-requires (
   particle-below t,
   particle.Post,
+  join-reads.Asked,
+  join-reads.Learnt,
   after-particle-reads.Asked,
   after-particle-reads.Learnt,
 ) (group-at t) group.Post group-Inv-loop group-μ-loop
-group-after-particle-requires t c κs = particle-high (c .before .before .before .before .before .before .before .loop .inv) (c .before .before .before .before .before .particle .ensures) (c .before .p .given .1)
+group-join-requires t c κs = search needs
+
+group-after-particle-requires : (t : ℕ) → group-lts.Need-after-particle-requires (
+  particle-below t,
+  particle.Post,
+  join-reads.Asked,
+  join-reads.Learnt,
+  after-particle-reads.Asked,
+  after-particle-reads.Learnt,
+) (group-at t) group.Post group-Inv-loop group-μ-loop
+group-after-particle-requires t c κs = particle-high (c .before .before .before .before .before .before .before .before .before .before .before .before .before .before .loop .inv) (c .before .before .before .before .before .before .before .before .before .before .before .before .before .before .before .before .before .before .pre .1 .3) (c .before .before .before .before .before .before .before .before .before .before .before .particle .ensures) (c .before .before .before .before .before .p .given .1)
 
 group-enum-known-j-2 : (t : ℕ) → group-lts.Need-enum-known-j-2 (
   particle-below t,
   particle.Post,
+  join-reads.Asked,
+  join-reads.Learnt,
   after-particle-reads.Asked,
   after-particle-reads.Learnt,
 ) (group-at t) group.Post group-Inv-loop group-μ-loop
 group-enum-known-j-2 t c = search needs
 
-group-same-length-2 : (t : ℕ) → group-lts.Need-same-length-2 (
+group-same-length-3 : (t : ℕ) → group-lts.Need-same-length-3 (
   particle-below t,
   particle.Post,
+  join-reads.Asked,
+  join-reads.Learnt,
   after-particle-reads.Asked,
   after-particle-reads.Learnt,
 ) (group-at t) group.Post group-Inv-loop group-μ-loop
-group-same-length-2 t c = let l = group-length (c .before .before .before .before .before .before .before .before .before .before .before .loop .inv) in search needs
+group-same-length-3 t c = let l = group-length (c .before .before .before .before .before .before .before .before .before .before .before .before .before .before .before .before .before .before .loop .inv) in search needs
+
+group-same-length-4 : (t : ℕ) → group-lts.Need-same-length-4 (
+  particle-below t,
+  particle.Post,
+  join-reads.Asked,
+  join-reads.Learnt,
+  after-particle-reads.Asked,
+  after-particle-reads.Learnt,
+) (group-at t) group.Post group-Inv-loop group-μ-loop
+group-same-length-4 t c = let l = group-table (c .before .before .before .before .before .before .before .before .before .before .before .before .before .before .before .before .before .before .loop .inv) in search needs
 
 group-returns-2 : (t : ℕ) → group-lts.Need-returns-2 (
   particle-below t,
   particle.Post,
+  join-reads.Asked,
+  join-reads.Learnt,
   after-particle-reads.Asked,
   after-particle-reads.Learnt,
 ) (group-at t) group.Post group-Inv-loop group-μ-loop
-group-returns-2 t c = record { says = group-stop (c .before .before .before .before .before .before .before .before .before .before .before .loop .inv) (c .before .before .before .before .before .before .before .before .before .particle .ensures) (c .before .before .before .before .before .p .given .1) (c .before .before .before .after-particle .ensures) (c .before .j2 .given .1) }
+group-returns-2 t c = record { says = group-stop (c .before .before .before .before .before .before .before .before .before .before .before .before .before .before .before .before .before .before .loop .inv) (c .before .before .before .before .before .before .before .before .before .before .before .before .before .before .before .before .before .before .before .before .before .before .pre .1 .3) (c .before .before .before .before .before .before .before .before .before .before .before .before .before .before .before .particle .ensures) (c .before .before .before .before .before .before .before .before .before .p .given .1) (c .before .before .before .before .before .before .join .ensures) (c .before .before .before .after-particle .ensures) (c .before .j2 .given .1) }
 
 group-enum-known-j-3 : (t : ℕ) → group-lts.Need-enum-known-j-3 (
   particle-below t,
   particle.Post,
+  join-reads.Asked,
+  join-reads.Learnt,
   after-particle-reads.Asked,
   after-particle-reads.Learnt,
 ) (group-at t) group.Post group-Inv-loop group-μ-loop
 group-enum-known-j-3 t c = search needs
 
-group-same-length-3 : (t : ℕ) → group-lts.Need-same-length-3 (
+group-same-length-5 : (t : ℕ) → group-lts.Need-same-length-5 (
   particle-below t,
   particle.Post,
+  join-reads.Asked,
+  join-reads.Learnt,
   after-particle-reads.Asked,
   after-particle-reads.Learnt,
 ) (group-at t) group.Post group-Inv-loop group-μ-loop
-group-same-length-3 t c = let l = group-length (c .before .before .before .before .before .before .before .before .before .before .before .loop .inv) in search needs
+group-same-length-5 t c = let l = group-length (c .before .before .before .before .before .before .before .before .before .before .before .before .before .before .before .before .before .before .loop .inv) in search needs
+
+group-same-length-6 : (t : ℕ) → group-lts.Need-same-length-6 (
+  particle-below t,
+  particle.Post,
+  join-reads.Asked,
+  join-reads.Learnt,
+  after-particle-reads.Asked,
+  after-particle-reads.Learnt,
+) (group-at t) group.Post group-Inv-loop group-μ-loop
+group-same-length-6 t c = let l = group-table (c .before .before .before .before .before .before .before .before .before .before .before .before .before .before .before .before .before .before .loop .inv) in search needs
 
 group-returns-3 : (t : ℕ) → group-lts.Need-returns-3 (
   particle-below t,
   particle.Post,
+  join-reads.Asked,
+  join-reads.Learnt,
   after-particle-reads.Asked,
   after-particle-reads.Learnt,
 ) (group-at t) group.Post group-Inv-loop group-μ-loop
-group-returns-3 t c = record { says = group-close (c .before .before .before .before .before .before .before .before .before .before .before .loop .inv) (c .before .before .before .before .before .before .before .before .before .particle .ensures) (c .before .before .before .before .before .p .given .1) (c .before .before .before .after-particle .ensures) (c .before .j3 .given .1) }
+group-returns-3 t c = record { says = group-close (c .before .before .before .before .before .before .before .before .before .before .before .before .before .before .before .before .before .before .loop .inv) (c .before .before .before .before .before .before .before .before .before .before .before .before .before .before .before .before .before .before .before .before .before .before .pre .1 .3) (c .before .before .before .before .before .before .before .before .before .before .before .before .before .before .before .particle .ensures) (c .before .before .before .before .before .before .before .before .before .p .given .1) (c .before .before .before .before .before .before .join .ensures) (c .before .before .before .after-particle .ensures) (c .before .j3 .given .1) }
 
 group-enum-known-b : (t : ℕ) → group-lts.Need-enum-known-b (
   particle-below t,
   particle.Post,
+  join-reads.Asked,
+  join-reads.Learnt,
   after-particle-reads.Asked,
   after-particle-reads.Learnt,
 ) (group-at t) group.Post group-Inv-loop group-μ-loop
@@ -164,11 +236,12 @@ group-enum-known-b t c = search needs
 group-loop-less : (t : ℕ) → group-lts.Need-loop-less (
   particle-below t,
   particle.Post,
+  join-reads.Asked,
+  join-reads.Learnt,
   after-particle-reads.Asked,
   after-particle-reads.Learnt,
 ) (group-at t) group.Post group-Inv-loop group-μ-loop
-group-loop-less t c =
-    let N = group-next (c .before .before .before .before .before .before .before .before .before .before .before .loop .inv) (c .before .before .before .before .before .before .before .before .before .particle .ensures) (c .before .before .before .before .before .p .given .1) (c .before .before .before .after-particle .ensures) (c .before .b .given .1) in
+group-loop-less t c = let N = group-next (c .before .before .before .before .before .before .before .before .before .before .before .before .before .before .before .before .before .before .loop .inv) (c .before .before .before .before .before .before .before .before .before .before .before .before .before .before .before .before .before .before .before .before .before .before .pre .1 .3) (c .before .before .before .before .before .before .before .before .before .before .before .before .before .before .before .particle .ensures) (c .before .before .before .before .before .before .before .before .before .p .given .1) (c .before .before .before .before .before .before .join .ensures) (c .before .before .before .after-particle .ensures) (c .before .b .given .1) in
     let h = N .1 .high in
     let l = N .0 in
     omega arith
@@ -176,10 +249,12 @@ group-loop-less t c =
 group-loop-again : (t : ℕ) → group-lts.Need-loop-again (
   particle-below t,
   particle.Post,
+  join-reads.Asked,
+  join-reads.Learnt,
   after-particle-reads.Asked,
   after-particle-reads.Learnt,
 ) (group-at t) group.Post group-Inv-loop group-μ-loop
-group-loop-again t c = group-next (c .before .before .before .before .before .before .before .before .before .before .before .loop .inv) (c .before .before .before .before .before .before .before .before .before .particle .ensures) (c .before .before .before .before .before .p .given .1) (c .before .before .before .after-particle .ensures) (c .before .b .given .1) .1
+group-loop-again t c = group-next (c .before .before .before .before .before .before .before .before .before .before .before .before .before .before .before .before .before .before .loop .inv) (c .before .before .before .before .before .before .before .before .before .before .before .before .before .before .before .before .before .before .before .before .before .before .pre .1 .3) (c .before .before .before .before .before .before .before .before .before .before .before .before .before .before .before .particle .ensures) (c .before .before .before .before .before .before .before .before .before .p .given .1) (c .before .before .before .before .before .before .join .ensures) (c .before .before .before .after-particle .ensures) (c .before .b .given .1) .1
 
 particle-skip-requires : (t : ℕ) → particle-lts.Need-skip-requires (
   skip-reads.Asked,
@@ -190,10 +265,10 @@ particle-skip-requires : (t : ℕ) → particle-lts.Need-skip-requires (
   use-name-reads.Learnt,
   group-below t,
   group.Post,
-  indicator-reads.Asked,
-  indicator-reads.Learnt,
+  indicated-reads.Asked,
+  indicated-reads.Learnt,
 ) (particle-at t) particle.Post
-particle-skip-requires t c κs = c .before .before .pre .1 .0
+particle-skip-requires t c κs = c .before .before .before .pre .1 .0
 
 particle-returns : (t : ℕ) → particle-lts.Need-returns (
   skip-reads.Asked,
@@ -204,10 +279,10 @@ particle-returns : (t : ℕ) → particle-lts.Need-returns (
   use-name-reads.Learnt,
   group-below t,
   group.Post,
-  indicator-reads.Asked,
-  indicator-reads.Learnt,
+  indicated-reads.Asked,
+  indicated-reads.Learnt,
 ) (particle-at t) particle.Post
-particle-returns t c = record { says = particle-end (c .before .before .before .before .args .depth) (c .before .before .before .before .args .n) (c .before .before .before .before .args .out .now) (c .before .skip .ensures) (c .before .before .before .before .args .out .now) (c .if1 .taken) }
+particle-returns t c = record { says = particle-end (c .before .before .before .before .before .args .depth) (c .before .before .before .before .before .args .n) (c .before .before .before .before .before .args .start) (c .before .before .before .before .before .args .out .now) (c .before .before .before .before .before .args .predecessors .now) (c .before .skip .ensures) (c .before .before .before .before .before .args .out .now) (c .before .before .before .before .before .args .predecessors .now) (c .if1 .taken) }
 
 particle-shared-slice-read-starts-name : (t : ℕ) → particle-lts.Need-shared-slice-read-starts-name (
   skip-reads.Asked,
@@ -218,8 +293,8 @@ particle-shared-slice-read-starts-name : (t : ℕ) → particle-lts.Need-shared-
   use-name-reads.Learnt,
   group-below t,
   group.Post,
-  indicator-reads.Asked,
-  indicator-reads.Learnt,
+  indicated-reads.Asked,
+  indicated-reads.Learnt,
 ) (particle-at t) particle.Post
 particle-shared-slice-read-starts-name t c = search needs
 
@@ -232,8 +307,8 @@ particle-starts-name-requires : (t : ℕ) → particle-lts.Need-starts-name-requ
   use-name-reads.Learnt,
   group-below t,
   group.Post,
-  indicator-reads.Asked,
-  indicator-reads.Learnt,
+  indicated-reads.Asked,
+  indicated-reads.Learnt,
 ) (particle-at t) particle.Post
 particle-starts-name-requires t c κs = search needs
 
@@ -246,13 +321,12 @@ particle-use-name-requires : (t : ℕ) → particle-lts.Need-use-name-requires (
   use-name-reads.Learnt,
   group-below t,
   group.Post,
-  indicator-reads.Asked,
-  indicator-reads.Learnt,
+  indicated-reads.Asked,
+  indicated-reads.Learnt,
 ) (particle-at t) particle.Post
-particle-use-name-requires t c κs =
-    let k = c .before .before .before .before .before .skip .ensures .low in
-    let l = c .before .before .before .before .before .before .before .before .pre .1 .2 in
-    (c .before .before .before .before .if1 .left, sym (c .before .before .starts-name .ensures) ∙ c .before .if2 .taken, omega arith)
+particle-use-name-requires t c κs = let k = c .before .before .before .before .before .before .skip .ensures .low in
+    let l = c .before .before .before .before .before .before .before .before .before .before .pre .1 .2 in
+    (c .before .before .before .before .before .if1 .left, sym (c .before .before .before .starts-name .ensures) ∙ c .before .before .if2 .taken, omega arith, c .before .before .before .before .before .before .before .before .before .before .pre .1 .3)
 
 particle-same-length : (t : ℕ) → particle-lts.Need-same-length (
   skip-reads.Asked,
@@ -263,10 +337,24 @@ particle-same-length : (t : ℕ) → particle-lts.Need-same-length (
   use-name-reads.Learnt,
   group-below t,
   group.Post,
-  indicator-reads.Asked,
-  indicator-reads.Learnt,
+  indicated-reads.Asked,
+  indicated-reads.Learnt,
 ) (particle-at t) particle.Post
 particle-same-length t c = search needs
+
+particle-same-length-2 : (t : ℕ) → particle-lts.Need-same-length-2 (
+  skip-reads.Asked,
+  skip-reads.Learnt,
+  starts-name-reads.Asked,
+  starts-name-reads.Learnt,
+  use-name-reads.Asked,
+  use-name-reads.Learnt,
+  group-below t,
+  group.Post,
+  indicated-reads.Asked,
+  indicated-reads.Learnt,
+) (particle-at t) particle.Post
+particle-same-length-2 t c = search needs
 
 particle-returns-2 : (t : ℕ) → particle-lts.Need-returns-2 (
   skip-reads.Asked,
@@ -277,10 +365,10 @@ particle-returns-2 : (t : ℕ) → particle-lts.Need-returns-2 (
   use-name-reads.Learnt,
   group-below t,
   group.Post,
-  indicator-reads.Asked,
-  indicator-reads.Learnt,
+  indicated-reads.Asked,
+  indicated-reads.Learnt,
 ) (particle-at t) particle.Post
-particle-returns-2 t c = record { says = particle-name (c .before .before .before .before .before .before .before .before .before .before .before .args .depth) (c .before .before .before .before .before .before .before .before .before .before .before .args .n) (c .before .before .before .before .before .before .before .before .before .before .before .args .out .now) (c .before .before .before .before .before .before .before .before .skip .ensures) (c .before .before .before .before .before .before .before .if1 .left) _ (c .before .before .use-name .result) (sym (c .before .before .before .before .before .starts-name .ensures) ∙ c .before .before .before .before .if2 .taken) (c .before .before .use-name .ensures .says) }
+particle-returns-2 t c = record { says = particle-name (c .before .before .before .before .before .before .before .before .before .before .before .before .before .before .before .args .depth) (c .before .before .before .before .before .before .before .before .before .before .before .before .before .before .before .args .n) (c .before .before .before .before .before .before .before .before .before .before .before .before .before .before .before .args .start) (c .before .before .before .before .before .before .before .before .before .before .before .before .before .before .before .args .out .now) (c .before .before .before .before .before .before .before .before .before .before .before .before .before .before .before .args .predecessors .now) (c .before .before .before .before .before .before .before .before .before .before .before .skip .ensures) (c .before .before .before .before .before .before .before .before .before .before .if1 .left) _ _ (c .before .before .before .before .use-name .result) (sym (c .before .before .before .before .before .before .before .before .starts-name .ensures) ∙ c .before .before .before .before .before .before .before .if2 .taken) (c .before .before .before .before .use-name .ensures .says) }
 
 particle-shared-slice-read-if3 : (t : ℕ) → particle-lts.Need-shared-slice-read-if3 (
   skip-reads.Asked,
@@ -291,8 +379,8 @@ particle-shared-slice-read-if3 : (t : ℕ) → particle-lts.Need-shared-slice-re
   use-name-reads.Learnt,
   group-below t,
   group.Post,
-  indicator-reads.Asked,
-  indicator-reads.Learnt,
+  indicated-reads.Asked,
+  indicated-reads.Learnt,
 ) (particle-at t) particle.Post
 particle-shared-slice-read-if3 t c = search needs
 
@@ -305,10 +393,10 @@ particle-returns-3 : (t : ℕ) → particle-lts.Need-returns-3 (
   use-name-reads.Learnt,
   group-below t,
   group.Post,
-  indicator-reads.Asked,
-  indicator-reads.Learnt,
+  indicated-reads.Asked,
+  indicated-reads.Learnt,
 ) (particle-at t) particle.Post
-particle-returns-3 t c = record { says = particle-not (c .before .before .before .before .before .before .before .before .before .args .depth) (c .before .before .before .before .before .before .before .before .before .args .n) (c .before .before .before .before .before .before .before .before .before .args .out .now) (c .before .before .before .before .before .before .skip .ensures) (c .before .before .before .before .before .if1 .left) (sym (c .before .before .before .starts-name .ensures) ∙ c .before .before .if2 .left) (c .before .before .before .before .before .before .before .before .before .args .out .now) (c .if3 .taken) }
+particle-returns-3 t c = record { says = particle-not (c .before .before .before .before .before .before .before .before .before .before .args .depth) (c .before .before .before .before .before .before .before .before .before .before .args .n) (c .before .before .before .before .before .before .before .before .before .before .args .start) (c .before .before .before .before .before .before .before .before .before .before .args .out .now) (c .before .before .before .before .before .before .before .before .before .before .args .predecessors .now) (c .before .before .before .before .before .before .skip .ensures) (c .before .before .before .before .before .if1 .left) (sym (c .before .before .before .starts-name .ensures) ∙ c .before .before .if2 .left) (c .before .before .before .before .before .before .before .before .before .before .args .out .now) (c .before .before .before .before .before .before .before .before .before .before .args .predecessors .now) (c .if3 .taken) }
 
 particle-returns-4 : (t : ℕ) → particle-lts.Need-returns-4 (
   skip-reads.Asked,
@@ -319,10 +407,10 @@ particle-returns-4 : (t : ℕ) → particle-lts.Need-returns-4 (
   use-name-reads.Learnt,
   group-below t,
   group.Post,
-  indicator-reads.Asked,
-  indicator-reads.Learnt,
+  indicated-reads.Asked,
+  indicated-reads.Learnt,
 ) (particle-at t) particle.Post
-particle-returns-4 t c = record { says = particle-deep (c .before .before .before .before .before .before .before .before .before .before .args .depth) (c .before .before .before .before .before .before .before .before .before .before .args .n) (c .before .before .before .before .before .before .before .before .before .before .args .out .now) (c .before .before .before .before .before .before .before .skip .ensures) (c .before .before .before .before .before .before .if1 .left) (sym (c .before .before .before .before .starts-name .ensures) ∙ c .before .before .before .if2 .left) (c .before .if3 .left) (c .before .before .before .before .before .before .before .before .before .before .args .out .now) (c .if4 .taken) }
+particle-returns-4 t c = record { says = particle-deep (c .before .before .before .before .before .before .before .before .before .before .before .args .depth) (c .before .before .before .before .before .before .before .before .before .before .before .args .n) (c .before .before .before .before .before .before .before .before .before .before .before .args .start) (c .before .before .before .before .before .before .before .before .before .before .before .args .out .now) (c .before .before .before .before .before .before .before .before .before .before .before .args .predecessors .now) (c .before .before .before .before .before .before .before .skip .ensures) (c .before .before .before .before .before .before .if1 .left) (sym (c .before .before .before .before .starts-name .ensures) ∙ c .before .before .before .if2 .left) (c .before .if3 .left) (c .before .before .before .before .before .before .before .before .before .before .before .args .out .now) (c .before .before .before .before .before .before .before .before .before .before .before .args .predecessors .now) (c .if4 .taken) }
 
 particle-add-group : (t : ℕ) → particle-lts.Need-add-group (
   skip-reads.Asked,
@@ -333,8 +421,8 @@ particle-add-group : (t : ℕ) → particle-lts.Need-add-group (
   use-name-reads.Learnt,
   group-below t,
   group.Post,
-  indicator-reads.Asked,
-  indicator-reads.Learnt,
+  indicated-reads.Asked,
+  indicated-reads.Learnt,
 ) (particle-at t) particle.Post
 particle-add-group t c = search needs
 
@@ -347,8 +435,8 @@ particle-add-group-2 : (t : ℕ) → particle-lts.Need-add-group-2 (
   use-name-reads.Learnt,
   group-below t,
   group.Post,
-  indicator-reads.Asked,
-  indicator-reads.Learnt,
+  indicated-reads.Asked,
+  indicated-reads.Learnt,
 ) (particle-at t) particle.Post
 particle-add-group-2 t c = search needs
 
@@ -361,17 +449,15 @@ particle-group-requires : (t : ℕ) → particle-lts.Need-group-requires (
   use-name-reads.Learnt,
   group-below t,
   group.Post,
-  indicator-reads.Asked,
-  indicator-reads.Learnt,
+  indicated-reads.Asked,
+  indicated-reads.Learnt,
 ) (particle-at t) particle.Post
-particle-group-requires t c κs =
-    let z : 2 * (8 - c .before .before .before .before .before .before .before .before .before .before .before .args .depth) ≡ t = c .before .before .before .before .before .before .before .before .before .before .before .pre .0 in
-    let d : c .before .before .before .before .before .before .before .before .before .before .before .args .depth < 7 = c .before .if4 .left in
-    let g : 2 * (8 - (c .before .before .before .before .before .before .before .before .before .before .before .args .depth + 1)) + 1 < t = omega arith in
-    let k = c .before .before .before .before .before .before .before .before .skip .ensures .low in
-    let l = c .before .before .before .before .before .before .before .before .before .before .before .pre .1 .2 in
-    let h = c .before .before .before .before .before .before .before .if1 .left in
-    (g, (omega arith, omega arith, omega arith))
+particle-group-requires t c κs = let z : 2 * (8 - c .before .before .before .before .before .before .before .before .before .before .before .before .before .args .depth) ≡ t = c .before .before .before .before .before .before .before .before .before .before .before .before .before .pre .0 in
+    let d : c .before .before .before .before .before .before .before .before .before .before .before .before .before .args .depth < 7 = c .before .before .if4 .left in
+    let g : 2 * (8 - (c .before .before .before .before .before .before .before .before .before .before .before .before .before .args .depth + 1)) + 1 < t = omega arith in
+    let k = c .before .before .before .before .before .before .before .before .before .skip .ensures .low in
+    let l = c .before .before .before .before .before .before .before .before .before .before .before .before .before .pre .1 .2 in
+    (g, (omega (arith, c .before .before .before .before .before .before .before .before .if1 .left), omega arith, omega arith, c .before .before .before .before .before .before .before .before .before .before .before .before .before .pre .1 .3))
 
 particle-enum-known-p : (t : ℕ) → particle-lts.Need-enum-known-p (
   skip-reads.Asked,
@@ -382,12 +468,12 @@ particle-enum-known-p : (t : ℕ) → particle-lts.Need-enum-known-p (
   use-name-reads.Learnt,
   group-below t,
   group.Post,
-  indicator-reads.Asked,
-  indicator-reads.Learnt,
+  indicated-reads.Asked,
+  indicated-reads.Learnt,
 ) (particle-at t) particle.Post
 particle-enum-known-p t c = search needs
 
-particle-indicator-requires : (t : ℕ) → particle-lts.Need-indicator-requires (
+particle-indicated-requires : (t : ℕ) → particle-lts.Need-indicated-requires (
   skip-reads.Asked,
   skip-reads.Learnt,
   starts-name-reads.Asked,
@@ -396,10 +482,10 @@ particle-indicator-requires : (t : ℕ) → particle-lts.Need-indicator-requires
   use-name-reads.Learnt,
   group-below t,
   group.Post,
-  indicator-reads.Asked,
-  indicator-reads.Learnt,
+  indicated-reads.Asked,
+  indicated-reads.Learnt,
 ) (particle-at t) particle.Post
-particle-indicator-requires t c κs = open-high (c .before .before .before .before .before .before .before .before .before .before .before .before .before .before .before .before .before .args .depth) (c .before .before .before .before .before .before .before .before .before .before .before .before .before .before .before .before .before .args .n) (c .before .before .before .before .before .before .before .before .before .before .before .before .before .before .before .before .before .args .out .now) (c .before .before .before .before .before .before .before .before .before .before .before .before .before .before .skip .ensures) (c .before .before .before .before .before .before .before .before .before .before .before .before .before .if1 .left) (sym (c .before .before .before .before .before .before .before .before .before .before .before .starts-name .ensures) ∙ c .before .before .before .before .before .before .before .before .before .before .if2 .left) (c .before .before .before .before .before .before .before .before .if3 .left) (c .before .before .before .before .before .before .before .if4 .left) (c .before .before .before .before .before .group .ensures) _ (c .before .p .given .1)
+particle-indicated-requires t c κs = open-high (c .before .before .before .before .before .before .before .before .before .before .before .before .before .before .before .before .before .before .before .before .before .before .args .depth) (c .before .before .before .before .before .before .before .before .before .before .before .before .before .before .before .before .before .before .before .before .before .before .args .n) (c .before .before .before .before .before .before .before .before .before .before .before .before .before .before .before .before .before .before .before .before .before .before .args .start) (c .before .before .before .before .before .before .before .before .before .before .before .before .before .before .before .before .before .before .before .before .before .before .args .out .now) (c .before .before .before .before .before .before .before .before .before .before .before .before .before .before .before .before .before .before .before .before .before .before .args .predecessors .now) (c .before .before .before .before .before .before .before .before .before .before .before .before .before .before .before .before .before .before .skip .ensures) (c .before .before .before .before .before .before .before .before .before .before .before .before .before .before .before .before .before .if1 .left) (sym (c .before .before .before .before .before .before .before .before .before .before .before .before .before .before .before .starts-name .ensures) ∙ c .before .before .before .before .before .before .before .before .before .before .before .before .before .before .if2 .left) (c .before .before .before .before .before .before .before .before .before .before .before .before .if3 .left) (c .before .before .before .before .before .before .before .before .before .before .before .if4 .left) (c .before .before .before .before .before .before .before .before .group .ensures) _ (c .before .before .p .given .1)
 
 particle-enum-known-j : (t : ℕ) → particle-lts.Need-enum-known-j (
   skip-reads.Asked,
@@ -410,38 +496,10 @@ particle-enum-known-j : (t : ℕ) → particle-lts.Need-enum-known-j (
   use-name-reads.Learnt,
   group-below t,
   group.Post,
-  indicator-reads.Asked,
-  indicator-reads.Learnt,
+  indicated-reads.Asked,
+  indicated-reads.Learnt,
 ) (particle-at t) particle.Post
 particle-enum-known-j t c = search needs
-
-particle-same-length-2 : (t : ℕ) → particle-lts.Need-same-length-2 (
-  skip-reads.Asked,
-  skip-reads.Learnt,
-  starts-name-reads.Asked,
-  starts-name-reads.Learnt,
-  use-name-reads.Asked,
-  use-name-reads.Learnt,
-  group-below t,
-  group.Post,
-  indicator-reads.Asked,
-  indicator-reads.Learnt,
-) (particle-at t) particle.Post
-particle-same-length-2 t c = search needs
-
-particle-returns-5 : (t : ℕ) → particle-lts.Need-returns-5 (
-  skip-reads.Asked,
-  skip-reads.Learnt,
-  starts-name-reads.Asked,
-  starts-name-reads.Learnt,
-  use-name-reads.Asked,
-  use-name-reads.Learnt,
-  group-below t,
-  group.Post,
-  indicator-reads.Asked,
-  indicator-reads.Learnt,
-) (particle-at t) particle.Post
-particle-returns-5 t c = record { says = open-past (c .before .before .before .before .before .before .before .before .before .before .before .before .before .before .before .before .before .before .args .depth) (c .before .before .before .before .before .before .before .before .before .before .before .before .before .before .before .before .before .before .args .n) (c .before .before .before .before .before .before .before .before .before .before .before .before .before .before .before .before .before .before .args .out .now) (c .before .before .before .before .before .before .before .before .before .before .before .before .before .before .before .skip .ensures) (c .before .before .before .before .before .before .before .before .before .before .before .before .before .before .if1 .left) (sym (c .before .before .before .before .before .before .before .before .before .before .before .before .starts-name .ensures) ∙ c .before .before .before .before .before .before .before .before .before .before .before .if2 .left) (c .before .before .before .before .before .before .before .before .before .if3 .left) (c .before .before .before .before .before .before .before .before .if4 .left) (c .before .before .before .before .before .before .group .ensures) (c .before .before .p .given .1) (c .indicator .ensures) }
 
 particle-same-length-3 : (t : ℕ) → particle-lts.Need-same-length-3 (
   skip-reads.Asked,
@@ -452,10 +510,66 @@ particle-same-length-3 : (t : ℕ) → particle-lts.Need-same-length-3 (
   use-name-reads.Learnt,
   group-below t,
   group.Post,
-  indicator-reads.Asked,
-  indicator-reads.Learnt,
+  indicated-reads.Asked,
+  indicated-reads.Learnt,
 ) (particle-at t) particle.Post
 particle-same-length-3 t c = search needs
+
+particle-same-length-4 : (t : ℕ) → particle-lts.Need-same-length-4 (
+  skip-reads.Asked,
+  skip-reads.Learnt,
+  starts-name-reads.Asked,
+  starts-name-reads.Learnt,
+  use-name-reads.Asked,
+  use-name-reads.Learnt,
+  group-below t,
+  group.Post,
+  indicated-reads.Asked,
+  indicated-reads.Learnt,
+) (particle-at t) particle.Post
+particle-same-length-4 t c = let l = c .before .before .indicated .ensures .repeated .long in search needs
+
+particle-returns-5 : (t : ℕ) → particle-lts.Need-returns-5 (
+  skip-reads.Asked,
+  skip-reads.Learnt,
+  starts-name-reads.Asked,
+  starts-name-reads.Learnt,
+  use-name-reads.Asked,
+  use-name-reads.Learnt,
+  group-below t,
+  group.Post,
+  indicated-reads.Asked,
+  indicated-reads.Learnt,
+) (particle-at t) particle.Post
+particle-returns-5 t c = record { says = open-past (c .before .before .before .before .before .before .before .before .before .before .before .before .before .before .before .before .before .before .before .before .before .before .before .before .before .args .depth) (c .before .before .before .before .before .before .before .before .before .before .before .before .before .before .before .before .before .before .before .before .before .before .before .before .before .args .n) (c .before .before .before .before .before .before .before .before .before .before .before .before .before .before .before .before .before .before .before .before .before .before .before .before .before .args .start) (c .before .before .before .before .before .before .before .before .before .before .before .before .before .before .before .before .before .before .before .before .before .before .before .before .before .args .out .now) (c .before .before .before .before .before .before .before .before .before .before .before .before .before .before .before .before .before .before .before .before .before .before .before .before .before .args .predecessors .now) (c .before .before .before .before .before .before .before .before .before .before .before .before .before .before .before .before .before .before .before .before .before .skip .ensures) (c .before .before .before .before .before .before .before .before .before .before .before .before .before .before .before .before .before .before .before .before .if1 .left) (sym (c .before .before .before .before .before .before .before .before .before .before .before .before .before .before .before .before .before .before .starts-name .ensures) ∙ c .before .before .before .before .before .before .before .before .before .before .before .before .before .before .before .before .before .if2 .left) (c .before .before .before .before .before .before .before .before .before .before .before .before .before .before .before .if3 .left) (c .before .before .before .before .before .before .before .before .before .before .before .before .before .before .if4 .left) (c .before .before .before .before .before .before .before .before .before .before .before .group .ensures) (c .before .before .before .before .before .p .given .1) (c .before .before .indicated .ensures) }
+
+particle-same-length-5 : (t : ℕ) → particle-lts.Need-same-length-5 (
+  skip-reads.Asked,
+  skip-reads.Learnt,
+  starts-name-reads.Asked,
+  starts-name-reads.Learnt,
+  use-name-reads.Asked,
+  use-name-reads.Learnt,
+  group-below t,
+  group.Post,
+  indicated-reads.Asked,
+  indicated-reads.Learnt,
+) (particle-at t) particle.Post
+particle-same-length-5 t c = search needs
+
+particle-same-length-6 : (t : ℕ) → particle-lts.Need-same-length-6 (
+  skip-reads.Asked,
+  skip-reads.Learnt,
+  starts-name-reads.Asked,
+  starts-name-reads.Learnt,
+  use-name-reads.Asked,
+  use-name-reads.Learnt,
+  group-below t,
+  group.Post,
+  indicated-reads.Asked,
+  indicated-reads.Learnt,
+) (particle-at t) particle.Post
+particle-same-length-6 t c = search needs
 
 particle-returns-6 : (t : ℕ) → particle-lts.Need-returns-6 (
   skip-reads.Asked,
@@ -466,15 +580,17 @@ particle-returns-6 : (t : ℕ) → particle-lts.Need-returns-6 (
   use-name-reads.Learnt,
   group-below t,
   group.Post,
-  indicator-reads.Asked,
-  indicator-reads.Learnt,
+  indicated-reads.Asked,
+  indicated-reads.Learnt,
 ) (particle-at t) particle.Post
-particle-returns-6 t c = record { says = open-fail (c .before .before .before .before .before .before .before .before .before .before .before .before .before .before .before .before .before .args .depth) (c .before .before .before .before .before .before .before .before .before .before .before .before .before .before .before .before .before .args .n) (c .before .before .before .before .before .before .before .before .before .before .before .before .before .before .before .before .before .args .out .now) (c .before .before .before .before .before .before .before .before .before .before .before .before .before .before .skip .ensures) (c .before .before .before .before .before .before .before .before .before .before .before .before .before .if1 .left) (sym (c .before .before .before .before .before .before .before .before .before .before .before .starts-name .ensures) ∙ c .before .before .before .before .before .before .before .before .before .before .if2 .left) (c .before .before .before .before .before .before .before .before .if3 .left) (c .before .before .before .before .before .before .before .if4 .left) (c .before .before .before .before .before .group .ensures) (c .before .j .given .1) }
+particle-returns-6 t c = record { says = open-fail (c .before .before .before .before .before .before .before .before .before .before .before .before .before .before .before .before .before .before .before .before .before .args .depth) (c .before .before .before .before .before .before .before .before .before .before .before .before .before .before .before .before .before .before .before .before .before .args .n) (c .before .before .before .before .before .before .before .before .before .before .before .before .before .before .before .before .before .before .before .before .before .args .start) (c .before .before .before .before .before .before .before .before .before .before .before .before .before .before .before .before .before .before .before .before .before .args .out .now) (c .before .before .before .before .before .before .before .before .before .before .before .before .before .before .before .before .before .before .before .before .before .args .predecessors .now) (c .before .before .before .before .before .before .before .before .before .before .before .before .before .before .before .before .before .skip .ensures) (c .before .before .before .before .before .before .before .before .before .before .before .before .before .before .before .before .if1 .left) (sym (c .before .before .before .before .before .before .before .before .before .before .before .before .before .before .starts-name .ensures) ∙ c .before .before .before .before .before .before .before .before .before .before .before .before .before .if2 .left) (c .before .before .before .before .before .before .before .before .before .before .before .if3 .left) (c .before .before .before .before .before .before .before .before .before .before .if4 .left) (c .before .before .before .before .before .before .before .group .ensures) (c .before .j .given .1) }
 
 pub +group+particle-spec : {M : Type 1} → statement M
 +group+particle-spec = close μ-group μ-particle (λ t. group-lts.spec (
   particle-below t,
   particle.Post,
+  join-reads.Asked,
+  join-reads.Learnt,
   after-particle-reads.Asked,
   after-particle-reads.Learnt,
 )
@@ -486,14 +602,18 @@ pub +group+particle-spec : {M : Type 1} → statement M
     (group-particle-requires t)
     (group-enum-known-j t)
     (group-same-length t)
+    (group-same-length-2 t)
     (group-returns t)
     (group-enum-known-p t)
+    (group-join-requires t)
     (group-after-particle-requires t)
     (group-enum-known-j-2 t)
-    (group-same-length-2 t)
+    (group-same-length-3 t)
+    (group-same-length-4 t)
     (group-returns-2 t)
     (group-enum-known-j-3 t)
-    (group-same-length-3 t)
+    (group-same-length-5 t)
+    (group-same-length-6 t)
     (group-returns-3 t)
     (group-enum-known-b t)
     (group-loop-less t)
@@ -507,8 +627,8 @@ pub +group+particle-spec : {M : Type 1} → statement M
       use-name-reads.Learnt,
       group-below t,
       group.Post,
-      indicator-reads.Asked,
-      indicator-reads.Learnt,
+      indicated-reads.Asked,
+      indicated-reads.Learnt,
     )
     (particle-at t)
     particle.Post
@@ -518,6 +638,7 @@ pub +group+particle-spec : {M : Type 1} → statement M
     (particle-starts-name-requires t)
     (particle-use-name-requires t)
     (particle-same-length t)
+    (particle-same-length-2 t)
     (particle-returns-2 t)
     (particle-shared-slice-read-if3 t)
     (particle-returns-3 t)
@@ -526,9 +647,11 @@ pub +group+particle-spec : {M : Type 1} → statement M
     (particle-add-group-2 t)
     (particle-group-requires t)
     (particle-enum-known-p t)
-    (particle-indicator-requires t)
+    (particle-indicated-requires t)
     (particle-enum-known-j t)
-    (particle-same-length-2 t)
-    (particle-returns-5 t)
     (particle-same-length-3 t)
+    (particle-same-length-4 t)
+    (particle-returns-5 t)
+    (particle-same-length-5 t)
+    (particle-same-length-6 t)
     (particle-returns-6 t)

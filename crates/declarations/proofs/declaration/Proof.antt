@@ -1,6 +1,6 @@
 -- `declaration` meets its contract: keyword, name, content and end. Assumes nothing.
-use native.Mathlib.Omega.{arith}
 use Rattle.declarations.proofs.Contents.{declaration-fail, name-known, declaration-name-fail, content-known, declaration-read}
+use native.Mathlib.Omega.{arith}
 use borrow.Author.Needs.{needs}
 use Rattle.declarations.proofs.declaration.Statement.{statement}
 use Rattle.declarations.proofs.declaration.Tie as tie
@@ -24,10 +24,9 @@ enum-known-j-3 : tie.Need-enum-known-j-3
 enum-known-j-3 c = search needs
 
 declared-requires : tie.Need-declared-requires
-declared-requires c κs =
-    let k = name-known (c .before .before .before .before .before .before .before .before .keyword .ensures) (c .before .before .before .before .before .before .i .given .1) in
-    let h = content-known (c .before .before .before .before .before .before .before .before .keyword .ensures) (c .before .before .before .before .before .before .i .given .1) (c .before .before .before .before .declared-name .ensures) (c .before .before .j3 .given .1) in
-    let n = c .before .before .before .before .before .before .before .before .before .before .before .pre .1 in
+declared-requires c κs = let k = name-known (c .before .before .before .before .before .before .before .before .before .keyword .ensures) (c .before .before .before .before .before .before .before .i .given .1) in
+    let h = content-known (c .before .before .before .before .before .before .before .before .before .keyword .ensures) (c .before .before .before .before .before .before .before .i .given .1) (c .before .before .before .before .before .declared-name .ensures) (c .before .before .before .j3 .given .1) in
+    let n = c .before .before .before .before .before .before .before .before .before .before .before .before .before .pre .1 in
     let a = k .0 in
     let b = h .0 in
     (h .1, omega arith, h .2)
@@ -41,8 +40,11 @@ returns-2 c = record { says = declaration-name-fail (c .before .before .before .
 same-length : tie.Need-same-length
 same-length c = search needs
 
+same-length-2 : tie.Need-same-length-2
+same-length-2 c = search needs
+
 returns-3 : tie.Need-returns-3
-returns-3 c = record { says = declaration-read (c .before .before .before .before .before .before .before .before .before .before .before .keyword .ensures) (c .before .before .before .before .before .before .before .before .before .i .given .1) (c .before .before .before .before .before .before .before .declared-name .ensures) (c .before .before .before .before .before .j3 .given .1) (c .before .before .declared .ensures) }
+returns-3 c = record { says = declaration-read (c .before .before .before .before .before .before .before .before .before .before .before .before .before .before .keyword .ensures) (c .before .before .before .before .before .before .before .before .before .before .before .before .i .given .1) (c .before .before .before .before .before .before .before .before .before .before .declared-name .ensures) (c .before .before .before .before .before .before .before .before .j3 .given .1) (c .before .before .before .before .declared .ensures) }
 
 pub declaration-spec : {M : Type 1} → statement M
 declaration-spec =
@@ -58,4 +60,5 @@ declaration-spec =
     returns
     returns-2
     same-length
+    same-length-2
     returns-3)

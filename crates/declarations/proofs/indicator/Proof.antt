@@ -5,14 +5,12 @@ use mathlib.Core.Path.{_≡_, refl, sym, ap, _∙_}
 use Prim.Native.Nat.{ℕ, suc, _+_, _-_, _≤_, _<_}
 use native.Mathlib.Omega.{arith}
 use borrow.Author.Needs.{needs}
-use Rattle.declarations.proofs.Judging.{indicatorOf, indicator-there, indicator-absent, indicator-end}
-use Rattle.declarations.specs.Parts.{byteAt}
-use Rattle.schema_spec.specs.Declarations.{once}
+use Rattle.declarations.proofs.Judging.{indicator-there, indicator-absent, indicator-end}
 use Rattle.declarations.proofs.indicator.Statement.{statement}
 use Rattle.declarations.proofs.indicator.Tie as tie
 
 returns : tie.Need-returns
-returns c = record { low = search needs; high = search needs; by = once; same = λ q p fs h E. indicator-end E (c .if1 .taken) }
+returns c = record { low = search needs; high = search needs; same = λ q p fs h E. indicator-end E (c .if1 .taken) }
 
 shared-slice-read-is-indicator : tie.Need-shared-slice-read-is-indicator
 shared-slice-read-is-indicator c = search needs
@@ -24,10 +22,10 @@ add-result : tie.Need-add-result
 add-result c = search needs
 
 returns-2 : tie.Need-returns-2
-returns-2 c = record { low = search needs; high = search needs; by = indicatorOf (byteAt (c .before .before .before .before .before .args .s .now) (c .before .before .before .before .before .args .at)); same = λ q p fs h E. indicator-there E (c .before .before .before .if1 .left) (sym (c .before .is-indicator .ensures) ∙ c .if2 .taken) }
+returns-2 c = record { low = search needs; high = search needs; same = λ q p fs h E. indicator-there E (c .before .before .before .if1 .left) (sym (c .before .is-indicator .ensures) ∙ c .if2 .taken) }
 
 returns-3 : tie.Need-returns-3
-returns-3 c = record { low = search needs; high = search needs; by = once; same = λ q p fs h E. indicator-absent E (c .before .before .before .if1 .left) (sym (c .before .is-indicator .ensures) ∙ c .if2 .left) }
+returns-3 c = record { low = search needs; high = search needs; same = λ q p fs h E. indicator-absent E (c .before .before .before .if1 .left) (sym (c .before .is-indicator .ensures) ∙ c .if2 .left) }
 
 pub indicator-spec : {M : Type 1} → statement M
 indicator-spec =

@@ -15,10 +15,10 @@ enum-known-r-2 : tie.Need-enum-known-r-2
 enum-known-r-2 c = search needs
 
 returns : tie.Need-returns
-returns c = sym (ap (λ (r : Read). namelessOf r (c .before .before .before .args .n)) (c .before .r .given .1))
+returns c = sym (ap (λ (r : Read). namelessOf r (c .before .before .before .args .n) (c .before .before .before .args .content)) (c .before .r .given .1))
 
 returns-2 : tie.Need-returns-2
-returns-2 c = sym (ap (λ (r : Read). namelessOf r (c .before .before .before .args .n)) (c .before .r2 .given .1))
+returns-2 c = sym (ap (λ (r : Read). namelessOf r (c .before .before .before .args .n) (c .before .before .before .args .content)) (c .before .r2 .given .1))
 
 pub nameless-spec : {M : Type 1} → statement M
 nameless-spec = tie.close (tie.spec enum-known-r enum-known-r-2 returns returns-2)

@@ -1,6 +1,6 @@
 -- `use_name` meets its contract: the name, then its indicator. Assumes nothing.
-use native.Mathlib.Omega.{arith}
 use Rattle.declarations.proofs.Models.{name-fail, name-high, name-past}
+use native.Mathlib.Omega.{arith}
 use borrow.Author.Needs.{needs}
 use Rattle.declarations.proofs.use_name.Statement.{statement}
 use Rattle.declarations.proofs.use_name.Tie as tie
@@ -14,11 +14,17 @@ name-end-requires c κs = search needs
 enum-known-e : tie.Need-enum-known-e
 enum-known-e c = search needs
 
-indicator-requires : tie.Need-indicator-requires
-indicator-requires c κs = name-high (c .before .before .before .name-end .ensures) _ (c .before .e .given .1) .1
+sub-named : tie.Need-sub-named
+sub-named c = search needs
 
-add-t13 : tie.Need-add-t13
-add-t13 c = search needs
+named-requires : tie.Need-named-requires
+named-requires c κs = search needs
+
+add-t16 : tie.Need-add-t16
+add-t16 c = search needs
+
+indicated-requires : tie.Need-indicated-requires
+indicated-requires c κs = name-high (c .before .before .before .before .before .name-end .ensures) _ (c .before .before .before .e .given .1) .1
 
 enum-known-j : tie.Need-enum-known-j
 enum-known-j c = search needs
@@ -26,11 +32,14 @@ enum-known-j c = search needs
 same-length : tie.Need-same-length
 same-length c = search needs
 
-returns : tie.Need-returns
-returns c = record { says = name-past (c .before .before .before .before .name-end .ensures) (c .before .before .e .given .1) (c .before .before .before .before .before .before .before .before .before .before .before .pre .2) (c .before .before .before .before .before .before .before .note .ensures) (c .indicator .ensures) }
-
 same-length-2 : tie.Need-same-length-2
-same-length-2 c = search needs
+same-length-2 c = c .before .before .indicated .ensures .repeated .long
+
+returns : tie.Need-returns
+returns c = record { says = name-past (c .before .before .before .before .before .before .before .before .name-end .ensures) (c .before .before .before .before .before .before .e .given .1) (c .before .before .before .before .before .before .before .before .before .before .before .before .before .before .before .before .pre .2) (c .before .before .before .before .named .ensures) (c .before .before .before .before .before .before .before .before .before .before .before .note .ensures) (c .before .before .indicated .ensures) }
+
+same-length-3 : tie.Need-same-length-3
+same-length-3 c = search needs
 
 returns-2 : tie.Need-returns-2
 returns-2 c = record { says = name-fail (c .before .before .before .name-end .ensures) (c .before .j .given .1) }
@@ -42,10 +51,13 @@ use-name-spec =
     note-requires
     name-end-requires
     enum-known-e
-    indicator-requires
-    add-t13
+    sub-named
+    named-requires
+    add-t16
+    indicated-requires
     enum-known-j
     same-length
-    returns
     same-length-2
+    returns
+    same-length-3
     returns-2)

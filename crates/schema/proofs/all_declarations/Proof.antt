@@ -1,47 +1,49 @@
 -- `all_declarations` meets its contract: what was read up to i. Assumes nothing.
-use native.Mathlib.Omega.{arith}
-use borrow.Author.Needs.{needs}
+use mathlib.Core.Path.{_≡_, refl}
 use Prim.Native.Nat.{_-_}
 use lib.ListN.{length}
 use Rattle.schema.proofs.Limits.{all-start, all-none, all-spelt, all-fail, all-known, all-next}
 use Rattle.schema.specs.Whole.{UpTo}
+use borrow.Author.Needs.{needs}
+use native.Mathlib.Omega.{arith}
 use Rattle.schema.proofs.all_declarations.Statement.{statement}
 use Rattle.schema.proofs.all_declarations.Tie as tie
 
 abbrev Inv-loop : tie.InvT-loop
-Inv-loop s names₀ uses₀ size i₀ d₀ n₀ over₀ names uses i d n over = UpTo s i d n over names uses
+Inv-loop s names₀ uses₀ size i₀ d₀ n₀ over₀ unused₀ names uses i d n over unused = UpTo s i d n over names uses × (length unused ≡ 1)
 
 abbrev μ-loop : tie.MeasureT-loop
-μ-loop s names₀ uses₀ size i₀ d₀ n₀ over₀ names uses i d n over = length s - i
+μ-loop s names₀ uses₀ size i₀ d₀ n₀ over₀ unused₀ names uses i d n over unused = length s - i
 
 skip-requires : tie.Need-skip-requires Inv-loop μ-loop
 skip-requires c κs = search needs
 
 loop-holds : tie.Need-loop-holds Inv-loop μ-loop
-loop-holds c = all-start (c .skip .ensures) (c .before .before .before .before .pre .0) (c .before .before .before .before .pre .1)
+loop-holds c = (all-start (c .skip .ensures) (c .before .before .before .before .pre .0) (c .before .before .before .before .pre .1), refl)
+
+slice-aggregate-declaration : tie.Need-slice-aggregate-declaration Inv-loop μ-loop
+slice-aggregate-declaration c = let l = c .before .before .before .loop .inv .1 in search needs
 
 declaration-requires : tie.Need-declaration-requires Inv-loop μ-loop
-declaration-requires c κs = (c .before .loop-test .taken, c .before .before .loop .inv .few-uses, c .before .before .loop .inv .no-blank)
+declaration-requires c κs = (c .before .before .loop-test .taken, c .before .before .before .loop .inv .0 .few-uses, c .before .before .before .loop .inv .0 .no-blank)
 
 enum-known-j : tie.Need-enum-known-j Inv-loop μ-loop
 enum-known-j c = search needs
 
 same-length : tie.Need-same-length Inv-loop μ-loop
-same-length c =
-    let a = c .before .before .before .before .before .before .before .before .loop .inv .room in
-    let b = c .before .before .before .before .before .before .before .before .loop .inv .room-uses in
-    let e = c .before .before .before .before .before .before .before .before .before .before .before .before .before .pre in
+same-length c = let a = c .before .before .before .before .before .before .before .before .before .before .loop .inv .0 .room in
+    let b = c .before .before .before .before .before .before .before .before .before .before .loop .inv .0 .room-uses in
+    let e = c .before .before .before .before .before .before .before .before .before .before .before .before .before .before .before .pre in
     search needs
 
 same-length-2 : tie.Need-same-length-2 Inv-loop μ-loop
-same-length-2 c =
-    let a = c .before .before .before .before .before .before .before .before .loop .inv .room in
-    let b = c .before .before .before .before .before .before .before .before .loop .inv .room-uses in
-    let e = c .before .before .before .before .before .before .before .before .before .before .before .before .before .pre in
+same-length-2 c = let a = c .before .before .before .before .before .before .before .before .before .before .loop .inv .0 .room in
+    let b = c .before .before .before .before .before .before .before .before .before .before .loop .inv .0 .room-uses in
+    let e = c .before .before .before .before .before .before .before .before .before .before .before .before .before .before .before .pre in
     search needs
 
 returns : tie.Need-returns Inv-loop μ-loop
-returns c = record { says = all-fail (c .before .before .before .before .before .before .before .before .loop .inv) (c .before .before .before .before .before .before .before .loop-test .taken) (c .before .before .before .before .before .declaration .ensures) (c .before .j .given .1) }
+returns c = record { says = all-fail (c .before .before .before .before .before .before .before .before .before .before .loop .inv .0) (c .before .before .before .before .before .before .before .before .before .loop-test .taken) (c .before .before .before .before .before .before .declaration .ensures) (c .before .j .given .1) }
 
 enum-known-p : tie.Need-enum-known-p Inv-loop μ-loop
 enum-known-p c = search needs
@@ -50,57 +52,52 @@ note-requires : tie.Need-note-requires Inv-loop μ-loop
 note-requires c κs = search needs
 
 over-limit-requires : tie.Need-over-limit-requires Inv-loop μ-loop
-over-limit-requires c κs = all-known (c .before .before .before .before .before .before .before .before .before .before .before .before .before .loop .inv) (c .before .before .before .before .before .before .before .before .before .before .before .before .loop-test .taken) (c .before .before .before .before .before .before .before .before .before .before .declaration .ensures) (c .before .before .before .before .before .before .p .given .1) .0
+over-limit-requires c κs = all-known (c .before .before .before .before .before .before .before .before .before .before .before .before .before .before .before .loop .inv .0) (c .before .before .before .before .before .before .before .before .before .before .before .before .before .before .loop-test .taken) (c .before .before .before .before .before .before .before .before .before .before .before .declaration .ensures) (c .before .before .before .before .before .before .p .given .1) .0
 
 add-d : tie.Need-add-d Inv-loop μ-loop
-add-d c = let f = c .before .before .before .before .before .before .before .before .before .before .before .before .before .before .loop .inv .few in search needs
+add-d c = let f = c .before .before .before .before .before .before .before .before .before .before .before .before .before .before .before .before .loop .inv .0 .few in search needs
 
 skip-requires-2 : tie.Need-skip-requires-2 Inv-loop μ-loop
-skip-requires-2 c κs = all-known (c .before .before .before .before .before .before .before .before .before .before .before .before .before .before .loop .inv) (c .before .before .before .before .before .before .before .before .before .before .before .before .before .loop-test .taken) (c .before .before .before .before .before .before .before .before .before .before .before .declaration .ensures) (c .before .before .before .before .before .before .before .p .given .1) .1
+skip-requires-2 c κs = all-known (c .before .before .before .before .before .before .before .before .before .before .before .before .before .before .before .before .loop .inv .0) (c .before .before .before .before .before .before .before .before .before .before .before .before .before .before .before .loop-test .taken) (c .before .before .before .before .before .before .before .before .before .before .before .before .declaration .ensures) (c .before .before .before .before .before .before .before .p .given .1) .1
 
 loop-less : tie.Need-loop-less Inv-loop μ-loop
-loop-less c =
-    let x = all-next (c .before .before .before .before .before .before .before .before .before .before .before .before .before .before .before .loop .inv) (c .before .before .before .before .before .before .before .before .before .before .before .before .before .before .loop-test .taken) (c .before .before .before .before .before .before .before .before .before .before .before .before .declaration .ensures) (c .before .before .before .before .before .before .before .before .p .given .1) (c .before .before .before .before .before .note .ensures) (c .before .over-limit .ensures) (c .skip2 .ensures) in
+loop-less c = let x = all-next (c .before .before .before .before .before .before .before .before .before .before .before .before .before .before .before .before .before .loop .inv .0) (c .before .before .before .before .before .before .before .before .before .before .before .before .before .before .before .before .loop-test .taken) (c .before .before .before .before .before .before .before .before .before .before .before .before .before .declaration .ensures) (c .before .before .before .before .before .before .before .before .p .given .1) (c .before .before .before .before .before .note .ensures) (c .before .over-limit .ensures) (c .skip2 .ensures) in
     let y = x .0 in
     let z = x .1 .high in
     omega arith
 
 loop-again : tie.Need-loop-again Inv-loop μ-loop
-loop-again c = all-next (c .before .before .before .before .before .before .before .before .before .before .before .before .before .before .before .loop .inv) (c .before .before .before .before .before .before .before .before .before .before .before .before .before .before .loop-test .taken) (c .before .before .before .before .before .before .before .before .before .before .before .before .declaration .ensures) (c .before .before .before .before .before .before .before .before .p .given .1) (c .before .before .before .before .before .note .ensures) (c .before .over-limit .ensures) (c .skip2 .ensures) .1
+loop-again c = (all-next (c .before .before .before .before .before .before .before .before .before .before .before .before .before .before .before .before .before .loop .inv .0) (c .before .before .before .before .before .before .before .before .before .before .before .before .before .before .before .before .loop-test .taken) (c .before .before .before .before .before .before .before .before .before .before .before .before .before .declaration .ensures) (c .before .before .before .before .before .before .before .before .p .given .1) (c .before .before .before .before .before .note .ensures) (c .before .over-limit .ensures) (c .skip2 .ensures) .1, search needs)
 
 same-length-3 : tie.Need-same-length-3 Inv-loop μ-loop
-same-length-3 c =
-    let a = c .before .before .loop .inv .room in
-    let b = c .before .before .loop .inv .room-uses in
+same-length-3 c = let a = c .before .before .loop .inv .0 .room in
+    let b = c .before .before .loop .inv .0 .room-uses in
     let e = c .before .before .before .before .before .before .before .pre in
     search needs
 
 same-length-4 : tie.Need-same-length-4 Inv-loop μ-loop
-same-length-4 c =
-    let a = c .before .before .loop .inv .room in
-    let b = c .before .before .loop .inv .room-uses in
+same-length-4 c = let a = c .before .before .loop .inv .0 .room in
+    let b = c .before .before .loop .inv .0 .room-uses in
     let e = c .before .before .before .before .before .before .before .pre in
     search needs
 
 returns-2 : tie.Need-returns-2 Inv-loop μ-loop
-returns-2 c = record { says = all-none (c .before .before .loop .inv) (c .before .loop-test .left) (c .if1 .taken) }
+returns-2 c = record { says = all-none (c .before .before .loop .inv .0) (c .before .loop-test .left) (c .if1 .taken) }
 
 same-length-5 : tie.Need-same-length-5 Inv-loop μ-loop
-same-length-5 c =
-    let a = c .before .before .loop .inv .room in
-    let b = c .before .before .loop .inv .room-uses in
+same-length-5 c = let a = c .before .before .loop .inv .0 .room in
+    let b = c .before .before .loop .inv .0 .room-uses in
     let e = c .before .before .before .before .before .before .before .pre in
     search needs
 
 same-length-6 : tie.Need-same-length-6 Inv-loop μ-loop
-same-length-6 c =
-    let a = c .before .before .loop .inv .room in
-    let b = c .before .before .loop .inv .room-uses in
+same-length-6 c = let a = c .before .before .loop .inv .0 .room in
+    let b = c .before .before .loop .inv .0 .room-uses in
     let e = c .before .before .before .before .before .before .before .pre in
     search needs
 
 returns-3 : tie.Need-returns-3 Inv-loop μ-loop
-returns-3 c = record { says = all-spelt (c .before .before .loop .inv) (c .before .loop-test .left) (c .if1 .left) }
+returns-3 c = record { says = all-spelt (c .before .before .loop .inv .0) (c .before .loop-test .left) (c .if1 .left) }
 
 pub all-declarations-spec : {M : Type 1} → statement M
 all-declarations-spec =
@@ -110,6 +107,7 @@ all-declarations-spec =
     μ-loop
     skip-requires
     loop-holds
+    slice-aggregate-declaration
     declaration-requires
     enum-known-j
     same-length

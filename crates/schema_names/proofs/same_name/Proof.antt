@@ -6,7 +6,7 @@ use Prim.Native.Nat.{_-_}
 use lib.ListN.{length}
 use Rattle.schema_names.specs.Names.{nameAt}
 use Rattle.text_spec.specs.Lists.{sameBytes}
-use Rattle.schema_names.proofs.Naming.{byte-inside, same-ended, same-not, same-on}
+use Rattle.schema_names.proofs.Naming.{byte-on, same-ended, same-not, same-on}
 use Rattle.schema_names.proofs.same_name.Statement.{statement}
 use Rattle.schema_names.proofs.same_name.Tie as tie
 
@@ -41,19 +41,19 @@ returns-2 c =
 add-i : tie.Need-add-i Inv-loop μ-loop
 add-i c =
     let g = c .before .before .before .before .before .before .before .args in
-    let h = byte-inside (g .s .now) (c .before .before .before .before .loop .i) (c .before .before .before .name-byte .ensures) (c .before .if1 .left) in
+    let h = byte-on (g .s .now) (c .before .before .before .before .loop .i) (c .before .before .before .name-byte .ensures) (c .before .if1 .left) in
     search needs
 
 add-j : tie.Need-add-j Inv-loop μ-loop
 add-j c =
     let g = c .before .before .before .before .before .before .before .args in
-    let h = byte-inside (g .t .now) (c .before .before .before .before .loop .j) (c .if2 .left ∙ c .before .before .name-byte2 .ensures) (c .before .if1 .left) in
+    let h = byte-on (g .t .now) (c .before .before .before .before .loop .j) (c .if2 .left ∙ c .before .before .name-byte2 .ensures) (c .before .if1 .left) in
     search needs
 
 loop-less : tie.Need-loop-less Inv-loop μ-loop
 loop-less c =
     let g = c .before .before .before .before .before .before .before .args in
-    let h = byte-inside (g .s .now) (c .before .before .before .before .loop .i) (c .before .before .before .name-byte .ensures) (c .before .if1 .left) in
+    let h = byte-on (g .s .now) (c .before .before .before .before .loop .i) (c .before .before .before .name-byte .ensures) (c .before .if1 .left) in
     omega arith
 
 loop-again : tie.Need-loop-again Inv-loop μ-loop
