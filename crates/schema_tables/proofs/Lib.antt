@@ -2,4 +2,5 @@ pub mod Holding
 pub mod Resolving
 pub mod Windows
 pub mod Reaching
+pub mod Rowing
 pub mod Filling

@@ -72,6 +72,17 @@ module _ {text names : List ℕ} (L : Located text names) where
       let l = accepted-length text (schemaIn text) (L .read) in
       omega arith
 
+pub reached-first : {text names : List ℕ} → Located text names → {i : ℕ} → Skipped text 0 i → Reached text names 0 i
+reached-first L K =
+    record {
+      located = L;
+      done = [];
+      same = K .same (between []) refl (λ n b e. between-blank [] n b e);
+      count = refl;
+      high = K .high;
+      no-blank = K .stop;
+    }
+
 module _ {text names : List ℕ} {d i : ℕ} (R : Reached text names d i) where
   spelt-on : from (between (R .done)) text i ≡ spells (all (R .located))
   unfolding parse
@@ -161,7 +172,7 @@ pub clear-all : (before : List ℕ) → before ≡ replicate 64 0 → Clear 0 be
 clear-all before e i j l = ap (λ (t : List ℕ). hasBit (getD t j 0) i) e ∙ ap (λ (w : ℕ). hasBit w i) (cell-clear 64 j) ∙ bit-none i
 
 module _ {before after : List ℕ} (f : Use → ℕ) where
-  built-kind : {content : Content Use} {c : Made} → ContentBuilt before after content c → kindIn c ≡ kindOf (renameContent f content)
+  pub built-kind : {content : Content Use} {c : Made} → ContentBuilt before after content c → kindIn c ≡ kindOf (renameContent f content)
   built-kind (built-empty e) = refl
   built-kind (built-pcdata e) = refl
   built-kind (built-children b) = refl
@@ -171,7 +182,7 @@ module _ {before after : List ℕ} (f : Use → ℕ) where
   built-long (built-pcdata e) = ap length e
   built-long (built-children b) = b .long
 
-  built-tables : {content : Content Use} {c : Made} → ContentBuilt before after content c → before ≡ replicate 64 0 → length (usesIn content) ≤ 64
+  pub built-tables : {content : Content Use} {c : Made} → ContentBuilt before after content c → before ≡ replicate 64 0 → length (usesIn content) ≤ 64
       → (p : Particle ℕ) → renameContent f content ≡ children p → EndsOf 0 p (endsIn c) × Linked 0 p after
   built-tables (built-empty e) z l p q = absurd (let o : _≡_ {A = ℕ} 0 1 = cc in omega arith)
   built-tables (built-pcdata e) z l p q = absurd (let o : _≡_ {A = ℕ} 0 1 = cc in omega arith)

@@ -22,6 +22,18 @@ module _ (b : ℕ) (p q : List ℕ) where
           let m : 64 * b ≡ length l + (64 * b - length l) = omega arith in
           ap (λ (n : ℕ). drop n (l ++ q)) m ∙ drop-append-add l q (64 * b - length l)
 
+-- the part of a column that is lent
+module _ (column : List ℕ) (d : ℕ) where
+  pub lent : take (64 * d + 64 - 64 * d) (drop (64 * d) column) ≡ cellsOf d column
+  lent =
+      let many : 64 * d + 64 - 64 * d ≡ 64 = omega arith in
+      ap (λ (n : ℕ). take n (drop (64 * d) column)) many
+
+  pub lent-long : 64 * d + 64 ≤ length column → length (take (64 * d + 64 - 64 * d) (drop (64 * d) column)) ≡ 64
+  lent-long h =
+      let l = length-drop (64 * d) column in
+      ap length lent ∙ length-take-le 64 (drop (64 * d) column) (omega arith)
+
 -- the column after the cells of element d came back
 abbrev pub putBack : List ℕ → ℕ → ℕ → List ℕ → List ℕ
 putBack column from count cells = take from column ++ (cells ++ drop count (drop from column))

@@ -3,11 +3,14 @@
 ghost use mathlib.Core.Path.{_≡_};
 ghost use mathlib.Core.List.{map};
 ghost use Prim.Native.Nat.{_≤_, _<_};
-ghost use lib.ListN.{length};
+ghost use lib.ListN.{length, replicate};
 ghost use lib.Seq.{sets};
 ghost use Rattle.names.specs.Sets.{member};
 ghost use Rattle.schema_spec.specs.Names.{Name};
+ghost use Rattle.schema_spec.specs.Records.{schemaIn};
+ghost use Rattle.schema_tables.specs.Reading.{Located, Reached, RowMade, RowsOf};
 ghost use Rattle.schema_tables.specs.Rows.{kindIn, endsIn, isAmong, isHeld, elementAt};
+use declarations::DeclarationOutcome;
 use models::Content;
 use models::Ends;
 use names::NameSet;
@@ -130,5 +133,94 @@ fn resolve(s: &[u8], names: &[usize], uses: &[usize], elements: &mut [u8])
         let e = schema_names::find(s, names, s, uses[i]);
         elements[i] = e as u8;
         i += 1;
+    }
+}
+
+// The row of the element d, whose declaration stands at `at`, with its cells of two columns.
+fn element_row(
+    s: &[u8],
+    names: &[usize],
+    d: usize,
+    at: usize,
+    elements: &mut [u8],
+    predecessors: &mut [u64],
+) -> ElementRow
+    requires { ⌜ Reached (now s) (now names) d at × (d < length (now names)) × (length (now elements) ≡ 64) × (now predecessors ≡ replicate 64 0) ⌝ }
+    ensures { λ r. ⌜ RowMade (now (s .entry)) (now (names .entry)) d (now (elements .exit)) (now (predecessors .exit)) r ⌝ }
+{
+    let mut uses = [0usize; 64];
+    match declarations::declaration(s, at, &mut uses, 0, predecessors) {
+        DeclarationOutcome::Past(p) => {
+            let end = p.at;
+            let n = p.n;
+            let content = p.content;
+            resolve(s, names, &uses[..n], elements);
+            let kind = kind_of(content);
+            let ends = ends_of(content);
+            let holds = held(d, kind, &elements[..n]);
+            ElementRow {
+                next: declarations::skip(s, end),
+                kind,
+                first: ends.first,
+                last: ends.last,
+                nullable: ends.nullable,
+                holds,
+            }
+        }
+        // an accepted text departs nowhere from the grammar
+        DeclarationOutcome::Fail(_) => ElementRow {
+            next: at,
+            kind: EMPTY,
+            first: 0,
+            last: 0,
+            nullable: false,
+            holds: NameSet::empty(),
+        },
+    }
+}
+
+// The rows of all elements, whose names stand at `names`.
+fn all_rows(s: &[u8], names: &[usize]) -> Rows
+    requires { ⌜ Located (now s) (now names) ⌝ }
+    ensures { λ r. ⌜ RowsOf (schemaIn (now (s .entry))) r ⌝ }
+{
+    let none = NameSet::empty();
+    let mut kinds = [0u8; 32];
+    let mut firsts = [0u64; 32];
+    let mut lasts = [0u64; 32];
+    let mut nullables = [false; 32];
+    let mut elements = [0u8; 2048];
+    let mut predecessors = [0u64; 2048];
+    let mut holds = [none; 32];
+    let mut at = declarations::skip(s, 0);
+    let mut d = 0;
+    while d < names.len() {
+        let from = 64 * d;
+        let to = from + 64;
+        let row = element_row(
+            s,
+            names,
+            d,
+            at,
+            &mut elements[from..to],
+            &mut predecessors[from..to],
+        );
+        kinds[d] = row.kind;
+        firsts[d] = row.first;
+        lasts[d] = row.last;
+        nullables[d] = row.nullable;
+        let held = row.holds;
+        holds[d] = held;
+        at = row.next;
+        d += 1;
+    }
+    Rows {
+        kinds,
+        firsts,
+        lasts,
+        nullables,
+        elements,
+        predecessors,
+        holds,
     }
 }
