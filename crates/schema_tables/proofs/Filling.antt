@@ -7,10 +7,9 @@ use Prim.Native.Nat.{ℕ, zero, suc, _+_, _*_, _≤_, _<_}
 use native.Mathlib.Nat.{eq-or-lt-of-le}
 use native.Mathlib.Omega.{arith}
 use borrow.Author.Tests.{ltb-true, ltb-false}
-use lib.Dec.{T, ltb}
+use lib.Dec.{ltb}
 use lib.ListN.{length, getD, set, replicate, length-set, length-replicate}
 use lib.Seq.{getD-set-same, getD-set-other}
-use Rattle.closures.specs.Schemas.{TableOf}
 use Rattle.closures.specs.Tables.{relates}
 use Rattle.models.specs.Fitting.{Tables}
 use Rattle.models.specs.declared.Ends.{Ends}
@@ -62,13 +61,19 @@ blank x =
       holds = replicate 32 x;
     }
 
+-- a table of empty sets relates nothing
+pub unheld-at : (x : NameSet) → ((n : Name) → member x n ≡ false) → (n a : ℕ) (b : Name) → relates (replicate n x) a b ≡ false
+unheld-at x none zero a b = nothing-in b
+unheld-at x none (suc n) zero b = none b
+unheld-at x none (suc n) (suc a) b = unheld-at x none n a b
+
 pub filled-first : (s : Schema) (x : NameSet) → ((n : Name) → member x n ≡ false) → Filled s 0 (blank x)
 filled-first s x none =
     record {
       rows = λ a l. absurd (omega arith);
       held = λ a l b. absurd (omega arith);
       clear = λ a l h. clear-cells a 2048 (omega arith);
-      unheld = λ a l b. unheld-at 32 a b;
+      unheld = λ a l b. unheld-at x none 32 a b;
       long =
           record {
             kinds = length-replicate {A = ℕ} 32 0;
@@ -80,11 +85,6 @@ filled-first s x none =
             holds = length-replicate 32 x;
           };
     }
-  where
-    unheld-at : (n a : ℕ) (b : Name) → relates (replicate n x) a b ≡ false
-    unheld-at zero a b = nothing-in b
-    unheld-at (suc n) zero b = none b
-    unheld-at (suc n) (suc a) b = unheld-at n a b
 
 -- the columns with one row more
 abbrev pub withRow : Rows → ℕ → ℕ → ℕ → ElementRow → List ℕ → List ℕ → Rows

@@ -4,3 +4,4 @@ pub mod Windows
 pub mod Reaching
 pub mod Rowing
 pub mod Filling
+pub mod Whole

@@ -26,11 +26,11 @@ use Rattle.schema_laws.specs.Accepted.{Spelt, accepted-spelt, accepted-length, 
 use Rattle.schema_laws.specs.Runs.{run-extends}
 use Rattle.schema_names.specs.Names.{nameAt}
 use Rattle.schema_spec.specs.Declarations.{Use, Declaration}
-use Rattle.schema_spec.specs.Machine.{between, atEnd, Parsed, spells, departs, parse}
-use Rattle.schema_spec.specs.Models.{Particle, Content, empty, pcdata, children, uses, usesIn, renameIn, renameContent}
+use Rattle.schema_spec.specs.Machine.{between, atEnd, spells, departs, parse}
+use Rattle.schema_spec.specs.Models.{Particle, Content, children, uses, usesIn, renameIn, renameContent}
 use Rattle.schema_spec.specs.Names.{hasBit}
 use Rattle.schema_spec.specs.Records.{schemaIn}
-use Rattle.schema_spec.specs.Schemas.{Schema, Element, declaredNames, resolved, schemaOf, contentOr, contentAt, modelAt}
+use Rattle.schema_spec.specs.Schemas.{Schema, declaredNames, resolved, schemaOf, contentOr, contentAt, modelAt}
 use Rattle.schema_tables.proofs.Resolving.{resolved-uses}
 use Rattle.schema_tables.specs.Reading.{Located, Reached}
 use Rattle.schema_tables.specs.Rows.{kindIn, endsIn, elementAt}

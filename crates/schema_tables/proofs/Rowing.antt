@@ -1,20 +1,20 @@
 -- The row of an element, from the declaration that was read. Assumes nothing.
 use mathlib.Core.List.{List, map}
 use mathlib.Core.Path.{_≡_, sym, ap, ap₂, subst, _∙_}
-use Prim.Native.Nat.{ℕ, _+_, _≤_, _<_}
+use Prim.Native.Nat.{ℕ, _≤_, _<_}
 use native.Mathlib.Omega.{arith}
-use lib.ListN.{length, take, replicate, length-map, length-replicate}
+use lib.ListN.{length, take, replicate, length-map}
 use lib.Seq.{sets, length-sets, length-take-le}
 use Rattle.declarations.specs.Parts.{useAt, Skipped, DeclarationRead, Declared}
 use Rattle.declarations.specs.declared.DeclarationEnd.{DeclarationEnd}
 use Rattle.declarations.specs.declared.DeclarationOutcome.{DeclarationOutcome}
 use Rattle.declarations.specs.declared.DeclarationOutcome.the-variants.{Past, Fail}
-use Rattle.models.specs.Building.{EndsOf, Linked}
+use Rattle.models.specs.Building.{EndsOf}
 use Rattle.models.specs.declared.Ends.{Ends}
 use Rattle.names.specs.Sets.{member}
 use Rattle.names.specs.declared.NameSet.{NameSet}
-use Rattle.schema_spec.specs.Declarations.{Use, Declaration}
-use Rattle.schema_spec.specs.Models.{Particle, Content, usesIn, renameContent}
+use Rattle.schema_spec.specs.Declarations.{Declaration}
+use Rattle.schema_spec.specs.Models.{usesIn, renameContent}
 use Rattle.schema_spec.specs.Names.{Name}
 use Rattle.schema_spec.specs.Records.{schemaIn}
 use Rattle.schema_spec.specs.Schemas.{contentAt, modelAt}
@@ -24,7 +24,6 @@ use Rattle.schema_tables.proofs.Resolving.{noted-first}
 use Rattle.schema_tables.specs.Reading.{Reached, RowMade}
 use Rattle.schema_tables.specs.Rows.{kindIn, endsIn, isHeld, elementAt}
 use Rattle.schema_tables.specs.Tables.{kindOf}
-use Rattle.text_spec.specs.Limits.{maxModelNames}
 
 module _ {text names : List ℕ} {d i : ℕ} (R : Reached text names d i) {cells cells′ before after : List ℕ} {r : DeclarationOutcome} (D : Declared text i 0 cells cells′ before after r) where
   pub row-fails : {j : ℕ} → r ≡ Fail j → ⊥

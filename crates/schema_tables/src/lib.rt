@@ -1,19 +1,24 @@
 // The tables that are derived from a schema's record: its names, and for each element its kind, its model's tables, what it holds and
 // what lies below it.
 ghost use mathlib.Core.Path.{_≡_};
-ghost use mathlib.Core.List.{map};
-ghost use Prim.Native.Nat.{_≤_, _<_};
+ghost use mathlib.Core.List.{List, [], map};
+ghost use Prim.Native.Nat.{ℕ, _≤_, _<_};
 ghost use lib.ListN.{length, replicate};
 ghost use lib.Seq.{sets};
 ghost use Rattle.names.specs.Sets.{member};
 ghost use Rattle.schema_spec.specs.Names.{Name};
+ghost use Rattle.schema_spec.specs.Reading.{readSchema};
 ghost use Rattle.schema_spec.specs.Records.{schemaIn};
 ghost use Rattle.schema_tables.specs.Reading.{Located, Reached, RowMade, RowsOf};
 ghost use Rattle.schema_tables.specs.Rows.{kindIn, endsIn, isAmong, isHeld, elementAt};
+ghost use Rattle.schema_tables.specs.Tables.{TablesOf};
+ghost use Rattle.text_spec.specs.Refusals.{accepted};
 use declarations::DeclarationOutcome;
 use models::Content;
 use models::Ends;
 use names::NameSet;
+use schema::All;
+use schema::Answer;
 
 // The kinds of content.
 pub const EMPTY: u8 = 0;
@@ -42,6 +47,27 @@ pub struct SchemaTables {
     pub holds: [NameSet; 32],
     // the names below it
     pub below: [NameSet; 32],
+}
+
+impl SchemaTables {
+    // The tables of a schema with no element.
+    pub fn empty() -> SchemaTables
+        ensures { λ r. ⌜ ((text : List ℕ) → TablesOf text [] r) ⌝ }
+    {
+        let none = NameSet::empty();
+        SchemaTables {
+            count: 0,
+            names: [0; 32],
+            kinds: [0; 32],
+            firsts: [0; 32],
+            lasts: [0; 32],
+            nullables: [false; 32],
+            elements: [0; 2048],
+            predecessors: [0; 2048],
+            holds: [none; 32],
+            below: [none; 32],
+        }
+    }
 }
 
 // The row of one element, and where the next declaration starts.
@@ -222,5 +248,54 @@ fn all_rows(s: &[u8], names: &[usize]) -> Rows
         elements,
         predecessors,
         holds,
+    }
+}
+
+// The tables of an accepted text.
+fn accepted_tables(text: &[u8]) -> SchemaTables
+    requires { ⌜ readSchema (now text) ≡ accepted (schemaIn (now text)) ⌝ }
+    ensures { λ r. ⌜ TablesOf (now (text .entry)) (schemaIn (now (text .entry))) r ⌝ }
+{
+    let mut names = [0usize; 32];
+    let mut uses = [0usize; 2049];
+    match schema::all_declarations(text, &mut names, &mut uses) {
+        All::Past(c) => {
+            let count = c.d;
+            let rows = all_rows(text, &names[..count]);
+            let kinds = rows.kinds;
+            let firsts = rows.firsts;
+            let lasts = rows.lasts;
+            let nullables = rows.nullables;
+            let elements = rows.elements;
+            let predecessors = rows.predecessors;
+            let holds = rows.holds;
+            let below = closures::below(holds, count);
+            SchemaTables {
+                count,
+                names,
+                kinds,
+                firsts,
+                lasts,
+                nullables,
+                elements,
+                predecessors,
+                holds,
+                below,
+            }
+        }
+        // an accepted text departs nowhere from the grammar
+        All::Fail(_) => SchemaTables::empty(),
+    }
+}
+
+// The tables of the schema in a text: the empty ones where the text is refused.
+pub fn tables(text: &[u8]) -> SchemaTables
+    ensures { λ r. ⌜ TablesOf (now (text .entry)) (schemaIn (now (text .entry))) r ⌝ }
+{
+    let read = schema::read_schema(text);
+    let answer = read.answer;
+    match answer {
+        Answer::Accepted(_) => accepted_tables(text),
+        Answer::Refused(_, _) => SchemaTables::empty(),
     }
 }

@@ -4,7 +4,6 @@ use Prim.Native.Nat.{_-_}
 use lib.ListN.{length, getD, length-set}
 use Rattle.schema_tables.proofs.Resolving.{element-most, Noting, noting-next, noting-all}
 use borrow.Author.Needs.{needs}
-use native.Mathlib.Omega.{arith}
 use Rattle.schema_tables.proofs.resolve.Statement.{statement}
 use Rattle.schema_tables.proofs.resolve.Tie as tie
 

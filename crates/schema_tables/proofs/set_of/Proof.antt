@@ -8,7 +8,6 @@ use Rattle.schema_spec.specs.Names.{Name}
 use Rattle.schema_tables.proofs.Holding.{among-first, among-next, among-all}
 use Rattle.schema_tables.specs.Rows.{isAmong}
 use borrow.Author.Needs.{needs}
-use native.Mathlib.Omega.{arith}
 use Rattle.schema_tables.proofs.set_of.Statement.{statement}
 use Rattle.schema_tables.proofs.set_of.Tie as tie
 
