@@ -36,7 +36,7 @@ abbrev pub progressOf : Particle ℕ → State → Progress
 progressOf p Start = started p
 progressOf p (Amid w) = amid (marked 0 p (hasBit w))
 
-eqb-sym : (a b : ℕ) → eqb a b ≡ eqb b a
+pub eqb-sym : (a b : ℕ) → eqb a b ≡ eqb b a
 eqb-sym a b = same-test (eqb a b) (eqb b a) (turned a b) (turned b a)
   where
     turned : (x y : ℕ) → T (eqb x y) → T (eqb y x)

@@ -282,7 +282,7 @@ module _ {s : List ℕ} (ds : List Declaration) {d n i : ℕ} (names : List ℕ)
       go false f false g = shift (now ∙ no i _ f ∙ no (getD uses′ (n + maxModelNames) 0) _ g) (within refl (still-within kept (leb-false maxDeclarations d f) (ltb-false maxModelNames (p .n - n) g) w))
 
 -- ---- the loop
-between-blank : (ds : List Declaration) (k b : ℕ) → isBlank b ≡ true → step (between ds) k b ≡ between ds
+pub between-blank : (ds : List Declaration) (k b : ℕ) → isBlank b ≡ true → step (between ds) k b ≡ between ds
 unfolding step
 between-blank ds k b e = yes (between ds) _ e
 

@@ -88,7 +88,7 @@ twice-places s ns (d ∷ ds) (p ∷ ps) e =
     ap (λ (u : Use). cond (anyOf (sameBytes (u .name)) ns) (u .place ∷ twicePlaces (u .name ∷ ns) ds) (twicePlaces (u .name ∷ ns) ds)) h
     ∙ ap (λ (l : List ℕ). cond (isAmong s ns p) (p ∷ l) l) (twice-places s (nameAt s p ∷ ns) ds ps t)
 
-declared-names : (s : List ℕ) (ds : List Declaration) (ps : List ℕ) → map (λ e. e .name) ds ≡ map (useAt s) ps → declaredNames ds ≡ map (nameAt s) ps
+pub declared-names : (s : List ℕ) (ds : List Declaration) (ps : List ℕ) → map (λ e. e .name) ds ≡ map (useAt s) ps → declaredNames ds ≡ map (nameAt s) ps
 declared-names s [] [] e = refl
 declared-names s [] (p ∷ ps) e = absurd (let z : _≡_ {A = ℕ} 0 1 = cc in omega arith)
 declared-names s (d ∷ ds) [] e = absurd (let z : _≡_ {A = ℕ} 0 1 = cc in omega arith)

@@ -86,7 +86,7 @@ fn over_limit(
 }
 
 // Reads all declarations. The places of the declared names go to `names`, those of the names in models to `uses`.
-fn all_declarations(s: &[u8], names: &mut [usize], uses: &mut [usize]) -> All
+pub fn all_declarations(s: &[u8], names: &mut [usize], uses: &mut [usize]) -> All
     requires { ⌜ (length (now names) ≡ 32) × (length (now uses) ≡ 2049) ⌝ }
     ensures { λ r. ⌜ AllRead (now (s .entry)) (now (names .exit)) (now (uses .exit)) r ⌝ }
 {

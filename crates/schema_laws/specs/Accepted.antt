@@ -134,7 +134,7 @@ module _ (ds : List Declaration) where
       let y : map (λ u. u .place) (drop maxModelNames (usesOf d)) ≡ [] = gather-empty (λ d. map (λ u. u .place) (drop maxModelNames (usesOf d))) (x .1) i in
       drop-empty maxModelNames (usesOf d) (map-empty (λ u. u .place) (drop maxModelNames (usesOf d)) y)
 
-  declared-use : undeclaredPlaces ds ≡ [] → (d : Declaration) (u : Use) → In d ds → In u (usesOf d) → T (anyOf (sameBytes (u .name)) (declaredNames ds))
+  pub declared-use : undeclaredPlaces ds ≡ [] → (d : Declaration) (u : Use) → In d ds → In u (usesOf d) → T (anyOf (sameBytes (u .name)) (declaredNames ds))
   declared-use e d u i j =
       let undeclared : Use → Bool = λ v. not (anyOf (sameBytes (v .name)) (declaredNames ds)) in
       let none-undeclared = map-empty (λ (v : Use). v .place) (filterBy undeclared (gather usesOf ds)) e in
@@ -187,7 +187,7 @@ abbrev pub elementNames : Schema → List (List ℕ)
 elementNames s = map (λ e. e .name) s
 
 -- the names of the elements are those declared, in their order
-names-of-elements : (ns : List (List ℕ)) (ds : List Declaration) → elementNames (map (resolved ns) ds) ≡ declaredNames ds
+pub names-of-elements : (ns : List (List ℕ)) (ds : List Declaration) → elementNames (map (resolved ns) ds) ≡ declaredNames ds
 names-of-elements ns [] = refl
 names-of-elements ns (d ∷ ds) = ap {B = List (List ℕ)} (λ l. d .name .name ∷ l) (names-of-elements ns ds)
 

@@ -1,9 +1,9 @@
 -- A run of the schema machine that spells declarations passes from state to state and ends between declarations; the declared names
 -- are names. Assumes nothing.
 use mathlib.Core.Bool.{Bool, true, false, cond, _&&_}
-use mathlib.Core.List.{List, [], _∷_, _++_, reverse, reverseAux, List·Memᴰ as In, List·Memᴰ·head as here, List·Memᴰ·tail as there}
+use mathlib.Core.List.{List, [], _∷_, _++_, reverse, reverseAux, reverse-append, List·Memᴰ as In, List·Memᴰ·head as here, List·Memᴰ·tail as there}
 use mathlib.Core.Logic.{_⊎_, inl, inr, ⊎-elim}
-use mathlib.Core.Path.{_≡_, sym, ap, subst, _∙_}
+use mathlib.Core.Path.{_≡_, refl, sym, ap, subst, _∙_}
 use Prim.Native.Nat.{ℕ, suc, _<_}
 use native.Mathlib.Omega.{arith}
 use lib.Dec.{T, eqb, ltb, leb, le→leb, ltb→lt}
@@ -55,31 +55,6 @@ module _ (P : State → Type 0) (ds : List Declaration) where
       pick true e h = not-spelt e
       pick false e h = h e
 
--- each declared name is a name of 1 to 31 bytes
-abbrev pub Named : List Declaration → Type 0
-Named ds = (d : Declaration) → In d ds → T (isName (d .name .name))
-
-abbrev NamedHead : Head → Type 0
-NamedHead h = T (isName (h .name .name)) × Named (h .opening .done)
-
-abbrev NamedState : State → Type 0
-NamedState dead = Unit
-NamedState (between ds) = Named ds
-NamedState (inKeyword w o) = Named (o .done)
-NamedState (afterKeyword o) = Named (o .done)
-NamedState (beforeName o) = Named (o .done)
-NamedState (inName j n o) = T (isName n) × Named (o .done)
-NamedState (beforeContent h) = NamedHead h
-NamedState (inEmpty w h) = NamedHead h
-NamedState (afterOpen h) = NamedHead h
-NamedState (inPcdata w h) = NamedHead h
-NamedState (afterPcdata h) = NamedHead h
-NamedState (expecting f fs h) = NamedHead h
-NamedState (inUse j n f fs h) = NamedHead h
-NamedState (closed c fs h) = NamedHead h
-NamedState (past c fs h) = NamedHead h
-NamedState (afterContent c h) = NamedHead h
-
 -- a property of a choice, from that of its branches
 pub by-test : (P : State → Type 0) (b : Bool) (x y : State) → (T b → P x) → P y → P (cond b x y)
 by-test P true x y h k = h tt
@@ -89,45 +64,6 @@ pub by-match : (P : State → Type 0) (w : List ℕ) (b : ℕ) (whole : State) (
 by-match P [] b whole part d h k = d
 by-match P (c ∷ []) b whole part d h k = by-test P (eqb b c) whole dead (λ t. h) d
 by-match P (c ∷ (x ∷ w)) b whole part d h k = by-test P (eqb b c) (part (x ∷ w)) dead (λ t. k (x ∷ w)) d
-
-declared-named : (c : Content Use) (h : Head) → NamedHead h → Named (declared c h ∷ h .opening .done)
-declared-named c h g d (here e) = subst (λ (x : Declaration). T (isName (x .name .name))) (sym e) (g .0)
-declared-named c h g d (there i) = g .1 d i
-
-closing-named : (c : Content Use) (h : Head) (b : ℕ) → NamedHead h → NamedState (closing c h b)
-closing-named c h b g =
-    by-test NamedState (isBlank b) (afterContent c h) _ (λ t. g)
-    (by-test NamedState (eqb b 0x3E) (between (declared c h ∷ h .opening .done)) dead (λ t. declared-named c h g) tt)
-
-separated-named : (s : Separator) (f : Frame) (p : Particle Use) (fs : List Frame) (h : Head) → NamedHead h → NamedState (separated s f p fs h)
-separated-named s fresh p fs h g = g
-separated-named byBar (holding byBar q) p fs h g = g
-separated-named byComma (holding byComma q) p fs h g = g
-separated-named byBar (holding byComma q) p fs h g = tt
-separated-named byComma (holding byBar q) p fs h g = tt
-separated-named byBar (holding unparted q) p fs h g = tt
-separated-named byComma (holding unparted q) p fs h g = tt
-separated-named unparted (holding s q) p fs h g = tt
-
-following-named : (p : Particle Use) (fs : List Frame) (h : Head) (b : ℕ) → NamedHead h → NamedState (following p fs h b)
-following-named p [] h b g = closing-named (children p) h b g
-following-named p (f ∷ fs) h b g =
-    by-test NamedState (isBlank b) (past p (f ∷ fs) h) _ (λ t. g)
-    (by-test NamedState (eqb b 0x29) (closed (join f p) fs h) _ (λ t. g)
-    (by-test NamedState (eqb b 0x7C) (separated byBar f p fs h) _ (λ t. separated-named byBar f p fs h g)
-    (by-test NamedState (eqb b 0x2C) (separated byComma f p fs h) dead (λ t. separated-named byComma f p fs h g) tt)))
-
-indicating-named : (p : Particle Use) (fs : List Frame) (h : Head) (b : ℕ) → NamedHead h → NamedState (indicating p fs h b)
-indicating-named p fs h b g =
-    by-test NamedState (eqb b 0x3F) (past (indicated optional p) fs h) _ (λ t. g)
-    (by-test NamedState (eqb b 0x2A) (past (indicated any p) fs h) _ (λ t. g)
-    (by-test NamedState (eqb b 0x2B) (past (indicated oneOrMore p) fs h) (following p fs h b) (λ t. g) (following-named p fs h b g)))
-
-beginning-named : (f : Frame) (fs : List Frame) (h : Head) (k b : ℕ) → NamedHead h → NamedState (beginning f fs h k b)
-beginning-named f fs h k b g =
-    by-test NamedState (isBlank b) (expecting f fs h) _ (λ t. g)
-    (by-test NamedState (startsName b) (inUse k (b ∷ []) f fs h) _ (λ t. g)
-    (by-test NamedState (eqb b 0x28 && ltb (suc (length fs)) maxGroups) (expecting fresh (f ∷ fs) h) dead (λ t. g) tt))
 
 -- a name of one byte, and a name that goes on
 name-starts : (b : ℕ) → T (startsName b) → T (isName (b ∷ []))
@@ -149,37 +85,100 @@ name-goes-on (c ∷ n) b t u l =
     (and-intro (allOf continuesName (n ++ (b ∷ []))) (leb (length (c ∷ (n ++ (b ∷ [])))) maxNameBytes) (all-append continuesName n b (q .0) u)
     (le→leb (length (c ∷ (n ++ (b ∷ [])))) maxNameBytes (omega (arith, length-append n (b ∷ [])))))
 
-step-named : (q : State) (k b : ℕ) → NamedState q → NamedState (step q k b)
-unfolding step
-step-named dead k b g = tt
-step-named (between ds) k b g =
-    by-test NamedState (isBlank b) (between ds) _ (λ t. g) (by-match NamedState elementKeyword b dead (λ w. inKeyword w (record { place = k; done = ds })) tt tt (λ v. g))
-step-named (inKeyword w o) k b g = by-match NamedState w b (afterKeyword o) (λ v. inKeyword v o) tt g (λ v. g)
-step-named (afterKeyword o) k b g = by-test NamedState (isBlank b) (beforeName o) dead (λ t. g) tt
-step-named (beforeName o) k b g =
-    by-test NamedState (isBlank b) (beforeName o) _ (λ t. g) (by-test NamedState (startsName b) (inName k (b ∷ []) o) dead (λ t. (name-starts b t, g)) tt)
-step-named (inName j n o) k b g =
-    by-test NamedState (continuesName b) (longer n b (inName j (n ++ (b ∷ [])) o)) _
-    (λ t. by-test NamedState (ltb (length n) maxNameBytes) (inName j (n ++ (b ∷ [])) o) dead (λ u. (name-goes-on n b (g .0) t u, g .1)) tt)
-    (by-test NamedState (isBlank b) (beforeContent (headed j n o)) dead (λ t. g) tt)
-step-named (beforeContent h) k b g =
-    by-test NamedState (isBlank b) (beforeContent h) _ (λ t. g)
-    (by-test NamedState (eqb b 0x28) (afterOpen h) _ (λ t. g) (by-match NamedState emptyKeyword b dead (λ w. inEmpty w h) tt tt (λ v. g)))
-step-named (inEmpty w h) k b g = by-match NamedState w b (afterContent empty h) (λ v. inEmpty v h) tt g (λ v. g)
-step-named (afterOpen h) k b g =
-    by-test NamedState (isBlank b) (afterOpen h) _ (λ t. g)
-    (by-test NamedState (eqb b 0x23) _ _ (λ t. by-match NamedState pcdataKeyword b dead (λ w. inPcdata w h) tt tt (λ v. g)) (beginning-named fresh [] h k b g))
-step-named (inPcdata w h) k b g = by-match NamedState w b (afterPcdata h) (λ v. inPcdata v h) tt g (λ v. g)
-step-named (afterPcdata h) k b g =
-    by-test NamedState (isBlank b) (afterPcdata h) _ (λ t. g) (by-test NamedState (eqb b 0x29) (afterContent pcdata h) dead (λ t. g) tt)
-step-named (expecting f fs h) k b g = beginning-named f fs h k b g
-step-named (inUse j n f fs h) k b g =
-    by-test NamedState (continuesName b) (longer n b (inUse j (n ++ (b ∷ [])) f fs h)) _
-    (λ t. by-test NamedState (ltb (length n) maxNameBytes) (inUse j (n ++ (b ∷ [])) f fs h) dead (λ u. g) tt)
-    (indicating-named (named (record { place = j; name = n })) (f ∷ fs) h b g)
-step-named (closed c fs h) k b g = indicating-named c fs h b g
-step-named (past c fs h) k b g = following-named c fs h b g
-step-named (afterContent c h) k b g = closing-named c h b g
+-- A property of the declarations that were read, which one more keeps if its name has 1 to 31 bytes: each state keeps it.
+module _ (Q : List Declaration → Type 0) where
+  abbrev KeptHead : Head → Type 0
+  KeptHead h = T (isName (h .name .name)) × Q (h .opening .done)
+
+  abbrev KeptState : State → Type 0
+  KeptState dead = Unit
+  KeptState (between ds) = Q ds
+  KeptState (inKeyword w o) = Q (o .done)
+  KeptState (afterKeyword o) = Q (o .done)
+  KeptState (beforeName o) = Q (o .done)
+  KeptState (inName j n o) = T (isName n) × Q (o .done)
+  KeptState (beforeContent h) = KeptHead h
+  KeptState (inEmpty w h) = KeptHead h
+  KeptState (afterOpen h) = KeptHead h
+  KeptState (inPcdata w h) = KeptHead h
+  KeptState (afterPcdata h) = KeptHead h
+  KeptState (expecting f fs h) = KeptHead h
+  KeptState (inUse j n f fs h) = KeptHead h
+  KeptState (closed c fs h) = KeptHead h
+  KeptState (past c fs h) = KeptHead h
+  KeptState (afterContent c h) = KeptHead h
+
+module _ (Q : List Declaration → Type 0) (grows : (d : Declaration) (ds : List Declaration) → T (isName (d .name .name)) → Q ds → Q (d ∷ ds)) where
+  closing-kept : (c : Content Use) (h : Head) (b : ℕ) → KeptHead Q h → (KeptState Q) (closing c h b)
+  closing-kept c h b g =
+      by-test (KeptState Q) (isBlank b) (afterContent c h) _ (λ t. g)
+      (by-test (KeptState Q) (eqb b 0x3E) (between (declared c h ∷ h .opening .done)) dead (λ t. grows (declared c h) (h .opening .done) (g .0) (g .1)) tt)
+
+  separated-kept : (s : Separator) (f : Frame) (p : Particle Use) (fs : List Frame) (h : Head) → KeptHead Q h → (KeptState Q) (separated s f p fs h)
+  separated-kept s fresh p fs h g = g
+  separated-kept byBar (holding byBar q) p fs h g = g
+  separated-kept byComma (holding byComma q) p fs h g = g
+  separated-kept byBar (holding byComma q) p fs h g = tt
+  separated-kept byComma (holding byBar q) p fs h g = tt
+  separated-kept byBar (holding unparted q) p fs h g = tt
+  separated-kept byComma (holding unparted q) p fs h g = tt
+  separated-kept unparted (holding s q) p fs h g = tt
+
+  following-kept : (p : Particle Use) (fs : List Frame) (h : Head) (b : ℕ) → KeptHead Q h → (KeptState Q) (following p fs h b)
+  following-kept p [] h b g = closing-kept (children p) h b g
+  following-kept p (f ∷ fs) h b g =
+      by-test (KeptState Q) (isBlank b) (past p (f ∷ fs) h) _ (λ t. g)
+      (by-test (KeptState Q) (eqb b 0x29) (closed (join f p) fs h) _ (λ t. g)
+      (by-test (KeptState Q) (eqb b 0x7C) (separated byBar f p fs h) _ (λ t. separated-kept byBar f p fs h g)
+      (by-test (KeptState Q) (eqb b 0x2C) (separated byComma f p fs h) dead (λ t. separated-kept byComma f p fs h g) tt)))
+
+  indicating-kept : (p : Particle Use) (fs : List Frame) (h : Head) (b : ℕ) → KeptHead Q h → (KeptState Q) (indicating p fs h b)
+  indicating-kept p fs h b g =
+      by-test (KeptState Q) (eqb b 0x3F) (past (indicated optional p) fs h) _ (λ t. g)
+      (by-test (KeptState Q) (eqb b 0x2A) (past (indicated any p) fs h) _ (λ t. g)
+      (by-test (KeptState Q) (eqb b 0x2B) (past (indicated oneOrMore p) fs h) (following p fs h b) (λ t. g) (following-kept p fs h b g)))
+
+  beginning-kept : (f : Frame) (fs : List Frame) (h : Head) (k b : ℕ) → KeptHead Q h → (KeptState Q) (beginning f fs h k b)
+  beginning-kept f fs h k b g =
+      by-test (KeptState Q) (isBlank b) (expecting f fs h) _ (λ t. g)
+      (by-test (KeptState Q) (startsName b) (inUse k (b ∷ []) f fs h) _ (λ t. g)
+      (by-test (KeptState Q) (eqb b 0x28 && ltb (suc (length fs)) maxGroups) (expecting fresh (f ∷ fs) h) dead (λ t. g) tt))
+
+  step-kept : (q : State) (k b : ℕ) → (KeptState Q) q → (KeptState Q) (step q k b)
+  unfolding step
+  step-kept dead k b g = tt
+  step-kept (between ds) k b g =
+      by-test (KeptState Q) (isBlank b) (between ds) _ (λ t. g) (by-match (KeptState Q) elementKeyword b dead (λ w. inKeyword w (record { place = k; done = ds })) tt tt (λ v. g))
+  step-kept (inKeyword w o) k b g = by-match (KeptState Q) w b (afterKeyword o) (λ v. inKeyword v o) tt g (λ v. g)
+  step-kept (afterKeyword o) k b g = by-test (KeptState Q) (isBlank b) (beforeName o) dead (λ t. g) tt
+  step-kept (beforeName o) k b g =
+      by-test (KeptState Q) (isBlank b) (beforeName o) _ (λ t. g) (by-test (KeptState Q) (startsName b) (inName k (b ∷ []) o) dead (λ t. (name-starts b t, g)) tt)
+  step-kept (inName j n o) k b g =
+      by-test (KeptState Q) (continuesName b) (longer n b (inName j (n ++ (b ∷ [])) o)) _
+      (λ t. by-test (KeptState Q) (ltb (length n) maxNameBytes) (inName j (n ++ (b ∷ [])) o) dead (λ u. (name-goes-on n b (g .0) t u, g .1)) tt)
+      (by-test (KeptState Q) (isBlank b) (beforeContent (headed j n o)) dead (λ t. g) tt)
+  step-kept (beforeContent h) k b g =
+      by-test (KeptState Q) (isBlank b) (beforeContent h) _ (λ t. g)
+      (by-test (KeptState Q) (eqb b 0x28) (afterOpen h) _ (λ t. g) (by-match (KeptState Q) emptyKeyword b dead (λ w. inEmpty w h) tt tt (λ v. g)))
+  step-kept (inEmpty w h) k b g = by-match (KeptState Q) w b (afterContent empty h) (λ v. inEmpty v h) tt g (λ v. g)
+  step-kept (afterOpen h) k b g =
+      by-test (KeptState Q) (isBlank b) (afterOpen h) _ (λ t. g)
+      (by-test (KeptState Q) (eqb b 0x23) _ _ (λ t. by-match (KeptState Q) pcdataKeyword b dead (λ w. inPcdata w h) tt tt (λ v. g)) (beginning-kept fresh [] h k b g))
+  step-kept (inPcdata w h) k b g = by-match (KeptState Q) w b (afterPcdata h) (λ v. inPcdata v h) tt g (λ v. g)
+  step-kept (afterPcdata h) k b g =
+      by-test (KeptState Q) (isBlank b) (afterPcdata h) _ (λ t. g) (by-test (KeptState Q) (eqb b 0x29) (afterContent pcdata h) dead (λ t. g) tt)
+  step-kept (expecting f fs h) k b g = beginning-kept f fs h k b g
+  step-kept (inUse j n f fs h) k b g =
+      by-test (KeptState Q) (continuesName b) (longer n b (inUse j (n ++ (b ∷ [])) f fs h)) _
+      (λ t. by-test (KeptState Q) (ltb (length n) maxNameBytes) (inUse j (n ++ (b ∷ [])) f fs h) dead (λ u. g) tt)
+      (indicating-kept (named (record { place = j; name = n })) (f ∷ fs) h b g)
+  step-kept (closed c fs h) k b g = indicating-kept c fs h b g
+  step-kept (past c fs h) k b g = following-kept c fs h b g
+  step-kept (afterContent c h) k b g = closing-kept c h b g
+
+  -- so it holds of the declarations that a run spells
+  run-kept : (done ds : List Declaration) (text : List ℕ) (k : ℕ) → Q done → run (between done) text k ≡ spells ds → Ended (KeptState Q) ds
+  run-kept done ds text k q e = run-ended (KeptState Q) ds step-kept (between done) text k q e
 
 reverseAux-in : {A : Type 0} (xs r : List A) {x : A} → In x (reverseAux xs r) → In x xs ⊎ In x r
 reverseAux-in [] r i = inr i
@@ -193,10 +192,24 @@ reverseAux-in (y ∷ xs) r {x} i = pick (reverseAux-in xs (y ∷ r) i)
 pub reverse-in : {A : Type 0} (xs : List A) {x : A} → In x (reverse xs) → In x xs
 reverse-in xs i = ⊎-elim (λ j. j) (λ j. elim j [ ]) (reverseAux-in xs [] i)
 
+-- each declared name is a name of 1 to 31 bytes
+abbrev pub Named : List Declaration → Type 0
+Named ds = (d : Declaration) → In d ds → T (isName (d .name .name))
+
 -- the declarations that a text spells are some, with names of 1 to 31 bytes
 pub spelt-named : (text : List ℕ) (ds : List Declaration) → parse text ≡ spells ds → (0 < length ds) × Named ds
 unfolding parse
 spelt-named text ds e =
-    let r = run-ended NamedState ds step-named (between []) text 0 (λ d i. elim i [ ]) e in
+    let r = run-kept Named one-more [] ds text 0 (λ d i. elim i [ ]) e in
     let l : length ds ≡ length (r .last ∷ r .before) = ap length (r .reversed) ∙ length-reverse (r .last ∷ r .before) in
     (omega arith, λ d i. r .holds d (reverse-in (r .last ∷ r .before) (subst (λ (x : List Declaration). In d x) (r .reversed) i)))
+  where
+    one-more : (d : Declaration) (es : List Declaration) → T (isName (d .name .name)) → Named es → Named (d ∷ es)
+    one-more d es t h x (here q) = subst (λ (y : Declaration). T (isName (y .name .name))) (sym q) t
+    one-more d es t h x (there i) = h x i
+
+-- what was read before is the beginning of what a text spells
+pub run-extends : (done ds : List Declaration) (text : List ℕ) (k : ℕ) → run (between done) text k ≡ spells ds → (more : List Declaration) × (ds ≡ reverse done ++ more)
+run-extends done ds text k e =
+    let r = run-kept (λ es. (more : List Declaration) × (es ≡ more ++ done)) (λ d es t q. (d ∷ q .0, ap (λ (l : List Declaration). d ∷ l) (q .1))) done ds text k ([], refl) e in
+    (reverse (r .holds .0), r .reversed ∙ ap reverse (r .holds .1) ∙ reverse-append (r .holds .0) done)

@@ -18,7 +18,7 @@ use Rattle.schema_reader.specs.Records.{Recorded, handedBack, ReadAs}
 use Rattle.schema_spec.specs.Reading.{readSchema}
 use Rattle.schema_spec.specs.Records.{normalFrom, normal, recordBy, schemaRecord}
 use Rattle.schema_spec.specs.Schemas.{Schema}
-use Rattle.text_laws.specs.Cells.{padded-zeros, padded-content}
+use Rattle.text_laws.specs.Cells.{drop-replicate, padded-zeros, padded-content}
 use Rattle.text_laws.specs.Refusals.{given-free}
 use Rattle.text_laws.specs.Tests.{false-of, or-right}
 use Rattle.text_spec.specs.Bytes.{isBlank}
@@ -26,11 +26,6 @@ use Rattle.text_spec.specs.Cells.{padded}
 use Rattle.text_spec.specs.Limits.{maxSchemaBytes}
 use Rattle.text_spec.specs.Lists.{isEmpty}
 use Rattle.text_spec.specs.Refusals.{Outcome, accepted, refused, at, badLength}
-
-drop-replicate : (k n a : ℕ) → drop k (replicate n a) ≡ replicate (n - k) a
-drop-replicate zero n a = let e : n ≡ n - 0 = omega arith in ap (λ (m : ℕ). replicate m a) e
-drop-replicate (suc k) zero a = let e : 0 ≡ 0 - suc k = omega arith in ap (λ (m : ℕ). replicate m a) e
-drop-replicate (suc k) (suc n) a = drop-replicate k n a ∙ (let e : n - k ≡ suc n - suc k = omega arith in ap (λ (m : ℕ). replicate m a) e)
 
 -- the normal form in cells that were 0
 pub normal-cells : {s cells : List ℕ} (size : ℕ) {r : ℕ} → length s ≤ size → Normalized s (replicate size 0) cells r → cells ≡ padded size (normal s)

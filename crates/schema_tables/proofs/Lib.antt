@@ -1,0 +1,7 @@
+pub mod Holding
+pub mod Resolving
+pub mod Windows
+pub mod Reaching
+pub mod Rowing
+pub mod Filling
+pub mod Whole

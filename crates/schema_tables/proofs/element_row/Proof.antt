@@ -1,0 +1,94 @@
+-- `element_row` meets its contract: what was read is the declaration of element d. Assumes nothing.
+use native.Mathlib.Omega.{arith}
+use lib.ListN.{length-replicate}
+use Prim.Native.Nat.{ℕ}
+use borrow.Author.Needs.{needs}
+use Rattle.schema_tables.proofs.Reaching.{reached-inside, located-few}
+use Rattle.schema_tables.proofs.Rowing.{row-fails, row-room, row-uses, row-fits, row-high, row-cells, row-made}
+use Rattle.schema_tables.proofs.element_row.Statement.{statement}
+use Rattle.schema_tables.proofs.element_row.Tie as tie
+
+slice-aggregate-declaration : tie.Need-slice-aggregate-declaration
+slice-aggregate-declaration c = search needs
+
+declaration-requires : tie.Need-declaration-requires
+declaration-requires c κs = (reached-inside (c .before .before .before .before .before .before .pre .0) (c .before .before .before .before .before .before .pre .1), omega arith, c .before .before .before .before .before .before .pre .0 .no-blank)
+
+enum-known-p : tie.Need-enum-known-p
+enum-known-p c = search needs
+
+array-share-prefix-uses : tie.Need-array-share-prefix-uses
+array-share-prefix-uses c = row-room (c .before .before .before .before .before .before .before .before .before .before .before .before .before .pre .0) (c .before .before .before .before .before .before .declaration .ensures) (c .before .p .given .1) (length-replicate {A = ℕ} 64 0)
+
+slice-aggregate-resolve : tie.Need-slice-aggregate-resolve
+slice-aggregate-resolve c = row-uses (c .before .before .before .before .before .before .before .before .before .before .before .before .before .before .pre .0) (c .before .before .before .before .before .before .before .declaration .ensures) (c .before .before .p .given .1) (length-replicate {A = ℕ} 64 0)
+
+resolve-requires : tie.Need-resolve-requires
+resolve-requires c κs =
+    let a = located-few (c .before .before .before .before .before .before .before .before .before .before .before .before .before .before .before .pre .0 .located) in
+    let b = row-fits (c .before .before .before .before .before .before .before .before .before .before .before .before .before .before .before .pre .0) (c .before .before .before .before .before .before .before .before .declaration .ensures) (c .before .before .before .p .given .1) (length-replicate {A = ℕ} 64 0) in
+    let l = c .before .before .before .before .before .before .before .before .before .before .before .before .before .before .before .pre .2 in
+    (omega arith, omega arith)
+
+kind-of-requires : tie.Need-kind-of-requires
+kind-of-requires c κs = search needs
+
+ends-of-requires : tie.Need-ends-of-requires
+ends-of-requires c κs = search needs
+
+slice-reshare-prefix-held : tie.Need-slice-reshare-prefix-held
+slice-reshare-prefix-held c = row-cells (c .before .before .before .before .before .before .before .before .before .before .before .before .before .before .before .before .before .before .before .before .pre .0) (c .before .before .before .before .before .before .before .before .before .before .before .before .before .declaration .ensures) (c .before .before .before .before .before .before .before .before .p .given .1) (length-replicate {A = ℕ} 64 0) (c .before .before .before .before .before .before .before .before .before .before .before .before .before .before .before .before .before .before .before .before .args .elements .now) (c .before .before .before .before .resolve .last .1 .1 .1 .0) (c .before .before .before .before .before .before .before .before .before .before .before .before .before .before .before .before .before .before .before .before .pre .2) (c .before .before .before .before .resolve .ensures) .0
+
+slice-aggregate-held : tie.Need-slice-aggregate-held
+slice-aggregate-held c = row-cells (c .before .before .before .before .before .before .before .before .before .before .before .before .before .before .before .before .before .before .before .before .before .pre .0) (c .before .before .before .before .before .before .before .before .before .before .before .before .before .before .declaration .ensures) (c .before .before .before .before .before .before .before .before .before .p .given .1) (length-replicate {A = ℕ} 64 0) (c .before .before .before .before .before .before .before .before .before .before .before .before .before .before .before .before .before .before .before .before .before .args .elements .now) (c .before .before .before .before .before .resolve .last .1 .1 .1 .0) (c .before .before .before .before .before .before .before .before .before .before .before .before .before .before .before .before .before .before .before .before .before .pre .2) (c .before .before .before .before .before .resolve .ensures) .1
+
+held-requires : tie.Need-held-requires
+held-requires c κs = search needs
+
+skip-requires : tie.Need-skip-requires
+skip-requires c κs = row-high (c .before .before .before .before .before .before .before .before .before .before .before .before .before .before .before .before .before .before .before .before .before .before .pre .0) (c .before .before .before .before .before .before .before .before .before .before .before .before .before .before .before .declaration .ensures) (c .before .before .before .before .before .before .before .before .before .before .p .given .1) (length-replicate {A = ℕ} 64 0)
+
+enum-told : tie.Need-enum-told
+enum-told c = search needs
+
+empty-requires : tie.Need-empty-requires
+empty-requires c κs = search needs
+
+same-length : tie.Need-same-length
+same-length c = search needs
+
+same-length-2 : tie.Need-same-length-2
+same-length-2 c = search needs
+
+returns : tie.Need-returns
+returns c = row-made (c .before .before .before .before .before .before .before .before .before .before .before .before .before .before .before .before .before .before .before .before .before .before .before .pre .0) (c .before .before .before .before .before .before .before .before .before .before .before .before .before .before .before .before .declaration .ensures) (c .before .before .before .before .before .before .before .before .before .before .before .p .given .1) (length-replicate {A = ℕ} 64 0) (c .before .before .before .before .before .before .before .before .before .before .before .before .before .before .before .before .before .before .before .before .before .before .before .args .elements .now) (c .before .before .before .before .before .before .before .resolve .last .1 .1 .1 .0) (c .before .before .before .before .before .before .before .before .before .before .before .before .before .before .before .before .before .before .before .before .before .before .before .pre .2) (c .before .before .before .before .before .before .before .resolve .ensures) (c .before .before .before .before .before .before .before .before .before .before .before .before .before .before .before .before .before .before .before .before .before .before .before .pre .1) (c .before .before .before .before .before .before .before .before .before .before .before .before .before .before .before .before .before .before .before .before .before .before .before .pre .3) (c .before .before .before .before .kind-of .ensures) (c .before .before .before .ends-of .ensures) (c .before .held .ensures) (c .skip .ensures)
+
+same-length-3 : tie.Need-same-length-3
+same-length-3 c = search needs
+
+returns-2 : tie.Need-returns-2
+returns-2 c = absurd (row-fails (c .before .before .before .before .before .before .before .before .before .before .before .before .before .pre .0) (c .before .before .before .before .before .before .declaration .ensures) (c .before .enum-told .given .1))
+
+pub element-row-spec : {M : Type 1} → statement M
+element-row-spec =
+    tie.close
+    (tie.spec
+    slice-aggregate-declaration
+    declaration-requires
+    enum-known-p
+    array-share-prefix-uses
+    slice-aggregate-resolve
+    resolve-requires
+    kind-of-requires
+    ends-of-requires
+    slice-reshare-prefix-held
+    slice-aggregate-held
+    held-requires
+    skip-requires
+    enum-told
+    empty-requires
+    same-length
+    same-length-2
+    returns
+    same-length-3
+    returns-2)

@@ -1,0 +1,28 @@
+-- `held` meets its contract. Assumes nothing.
+use borrow.Author.Needs.{needs}
+use borrow.Author.Tests.{eq-eqb, ne-eqb}
+use Rattle.schema_tables.proofs.Holding.{held-text, held-none}
+use Rattle.schema_tables.proofs.held.Statement.{statement}
+use Rattle.schema_tables.proofs.held.Tie as tie
+
+set-of-requires : tie.Need-set-of-requires
+set-of-requires c κs = search needs
+
+insert-text-requires : tie.Need-insert-text-requires
+insert-text-requires c κs = search needs
+
+returns : tie.Need-returns
+returns c =
+    let args = c .before .before .before .before .args in
+    let made = c .before .before .set-of in
+    held-text (args .a) (args .kind) (args .elements .now) (made .result) (made .ensures) (eq-eqb (args .kind) 1 (c .before .if1 .taken)) (c .insert-text .result)
+    (c .insert-text .ensures)
+
+returns-2 : tie.Need-returns-2
+returns-2 c =
+    let args = c .before .before .before .args in
+    let made = c .before .set-of in
+    held-none (args .a) (args .kind) (args .elements .now) (made .result) (made .ensures) (ne-eqb (args .kind) 1 (c .if1 .left))
+
+pub held-spec : {M : Type 1} → statement M
+held-spec = tie.close (tie.spec set-of-requires insert-text-requires returns returns-2)

@@ -1,0 +1,65 @@
+-- `set_of` meets its contract: the elements passed are in the set, the others are still to come. Assumes nothing.
+use mathlib.Core.Bool.{_||_}
+use mathlib.Core.Path.{_≡_}
+use Prim.Native.Nat.{_-_}
+use lib.ListN.{length, drop}
+use Rattle.names.specs.Sets.{member}
+use Rattle.schema_spec.specs.Names.{Name}
+use Rattle.schema_tables.proofs.Holding.{among-first, among-next, among-all}
+use Rattle.schema_tables.specs.Rows.{isAmong}
+use borrow.Author.Needs.{needs}
+use Rattle.schema_tables.proofs.set_of.Statement.{statement}
+use Rattle.schema_tables.proofs.set_of.Tie as tie
+
+abbrev Inv-loop : tie.InvT-loop
+Inv-loop elements set₀ i₀ set i = (n : Name) → (member set n || isAmong (drop i elements) n) ≡ isAmong elements n
+
+abbrev μ-loop : tie.MeasureT-loop
+μ-loop elements set₀ i₀ set i = length elements - i
+
+empty-requires : tie.Need-empty-requires Inv-loop μ-loop
+empty-requires c κs = search needs
+
+loop-holds : tie.Need-loop-holds Inv-loop μ-loop
+loop-holds c = among-first (c .before .before .args .elements .now) (c .empty .result) (c .empty .ensures)
+
+shared-slice-read-wide : tie.Need-shared-slice-read-wide Inv-loop μ-loop
+shared-slice-read-wide c = search needs
+
+wide-requires : tie.Need-wide-requires Inv-loop μ-loop
+wide-requires c κs = search needs
+
+insert-element-requires : tie.Need-insert-element-requires Inv-loop μ-loop
+insert-element-requires c κs = search needs
+
+add-i : tie.Need-add-i Inv-loop μ-loop
+add-i c = search needs
+
+loop-less : tie.Need-loop-less Inv-loop μ-loop
+loop-less c = search needs
+
+loop-again : tie.Need-loop-again Inv-loop μ-loop
+loop-again c =
+    let at = c .before .before .before .before .loop in
+    let elements = c .before .before .before .before .before .before .before .args .elements .now in
+    among-next elements (at .i) (at .set) (c .insert-element .result) (c .before .before .before .loop-test .taken) (at .inv)
+    (rw (c .before .wide .ensures) at (c .insert-element .ensures))
+
+returns : tie.Need-returns Inv-loop μ-loop
+returns c = among-all (c .before .before .before .before .args .elements .now) (c .before .loop .i) (c .before .loop .set) (c .loop-test .left) (c .before .loop .inv)
+
+pub set-of-spec : {M : Type 1} → statement M
+set-of-spec =
+    tie.close
+    (tie.spec
+    Inv-loop
+    μ-loop
+    empty-requires
+    loop-holds
+    shared-slice-read-wide
+    wide-requires
+    insert-element-requires
+    add-i
+    loop-less
+    loop-again
+    returns)

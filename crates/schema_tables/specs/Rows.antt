@@ -1,0 +1,38 @@
+-- How a row is made: the kind and the ends of a content, and what an element holds. Assumes nothing.
+use mathlib.Core.Bool.{Bool, false, _&&_}
+use mathlib.Core.List.{List, map}
+use Prim.Native.Nat.{ℕ}
+use lib.Dec.{eqb, ltb}
+use lib.ListN.{length}
+use Rattle.models.specs.declared.Content.{Content}
+use Rattle.models.specs.declared.Content.the-variants.{Empty, Pcdata, Children}
+use Rattle.models.specs.declared.Ends.{Ends}
+use Rattle.schema_names.specs.Names.{nameAt}
+use Rattle.schema_spec.specs.Names.{Name, element, text}
+use Rattle.schema_spec.specs.Schemas.{indexFrom}
+use Rattle.text_spec.specs.Lists.{anyOf, valueOr}
+
+-- the number of a content's kind
+abbrev pub kindIn : Content → ℕ
+kindIn Empty = 0
+kindIn Pcdata = 1
+kindIn (Children e) = 2
+
+abbrev pub endsIn : Content → Ends
+endsIn Empty = record { first = 0; last = 0; nullable = false }
+endsIn Pcdata = record { first = 0; last = 0; nullable = false }
+endsIn (Children e) = e
+
+-- a name is one of these elements, of which only those below 64 count
+abbrev pub isAmong : List ℕ → Name → Bool
+isAmong elements (element b) = anyOf (λ e. eqb b e && ltb e 64) elements
+isAmong elements (text b) = false
+
+-- a name is held by element a, from its kind and the elements of its model
+abbrev pub isHeld : ℕ → ℕ → List ℕ → Name → Bool
+isHeld a kind elements (element b) = isAmong elements (element b)
+isHeld a kind elements (text b) = (eqb b a && ltb a 64) && eqb kind 1
+
+-- the element whose name stands at p: its index among the names at some places, or their number
+abbrev pub elementAt : List ℕ → List ℕ → ℕ → ℕ
+elementAt s names p = valueOr (length names) (indexFrom 0 (nameAt s p) (map (nameAt s) names))
