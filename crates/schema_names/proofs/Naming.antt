@@ -1,6 +1,7 @@
 -- Laws of names by their places: compared byte by byte, sought among others. Assumes nothing.
 use mathlib.Core.Bool.{Bool, true, false, cond, _&&_, _||_}
 use mathlib.Core.List.{List, [], _∷_, map}
+use mathlib.Core.Logic.{_⊎_, inl, inr}
 use mathlib.Core.Option.{Option, none, some}
 use mathlib.Core.Path.{_≡_, refl, sym, ap, _∙_}
 use Prim.Native.Nat.{ℕ, suc, _+_, _≤_, _<_}
@@ -27,12 +28,12 @@ data View (s : List ℕ) (i : ℕ) : Type 0 where
   over : nameAt s i ≡ [] → View s i
   byte : (b : ℕ) → i < length s → (b ≡ 0 → ⊥) → nameAt s i ≡ b ∷ nameAt s (i + 1) → View s i
 
+continues-not-zero : (b : ℕ) → continuesName b ≡ true → b ≡ 0 → ⊥
+continues-not-zero b e z = let y : continuesName 0 ≡ true = ap continuesName (sym z) ∙ e in let x : _≡_ {A = ℕ} 0 1 = cc in omega arith
+
 view : (s : List ℕ) (i : ℕ) → View s i
 view s i = go (ltb i (length s)) refl
   where
-    continues-not-zero : (b : ℕ) → continuesName b ≡ true → b ≡ 0 → ⊥
-    continues-not-zero b e z = let y : continuesName 0 ≡ true = ap continuesName (sym z) ∙ e in let x : _≡_ {A = ℕ} 0 1 = cc in omega arith
-
     inside : i < length s → (t : Bool) → continuesName (byteAt s i) ≡ t → View s i
     inside h true e = byte (byteAt s i) h (continues-not-zero (byteAt s i) e) (name-cons s i h e)
     inside h false e = over (name-stops s i (λ _. e))
@@ -84,6 +85,59 @@ module _ (s : List ℕ) (i : ℕ) (t : List ℕ) (j : ℕ) {a b : ℕ} (x : a �
 
     pub same-on : a ≡ b → sameBytes (nameAt s i) (nameAt t j) ≡ sameBytes (nameAt s (i + 1)) (nameAt t (j + 1))
     same-on f = by-bytes ∙ no (eqb b 0) _ (ne-eqb a 0 e) ∙ rw (eq-eqb a b f)
+
+-- ---- two names, by the bytes of the texts, where the first is not over
+view-byte : (s : List ℕ) (j : ℕ) → (nameByte s j ≡ 0) ⊎ ((j < length s) × (byteAt s j ≡ nameByte s j))
+view-byte s j = go (ltb j (length s)) refl
+  where
+    inside : j < length s → (c : Bool) → continuesName (byteAt s j) ≡ c → (nameByte s j ≡ 0) ⊎ ((j < length s) × (byteAt s j ≡ nameByte s j))
+    inside l true e = inr (l, byte-there s j l e)
+    inside l false e = inl (sym (byte-none s j (λ _. e)))
+
+    go : (c : Bool) → ltb j (length s) ≡ c → (nameByte s j ≡ 0) ⊎ ((j < length s) × (byteAt s j ≡ nameByte s j))
+    go true e = inside (ltb-true j (length s) e) (continuesName (byteAt s j)) refl
+    go false e = inl (sym (byte-none s j (λ l. absurd (omega (arith, ltb-false j (length s) e)))))
+
+name-left : (t : List ℕ) (i : ℕ) → 0 < length (nameAt t i) → (i < length t) × (continuesName (byteAt t i) ≡ true)
+name-left t i h = go (ltb i (length t)) refl
+  where
+    inside : i < length t → (c : Bool) → continuesName (byteAt t i) ≡ c → (i < length t) × (continuesName (byteAt t i) ≡ true)
+    inside l true e = (l, e)
+    inside l false e = let z = ap length (name-stops t i (λ _. e)) in absurd (omega arith)
+
+    go : (c : Bool) → ltb i (length t) ≡ c → (i < length t) × (continuesName (byteAt t i) ≡ true)
+    go true e = inside (ltb-true i (length t) e) (continuesName (byteAt t i)) refl
+    go false e =
+        let z = ap length (name-stops t i (λ l. absurd (omega (arith, ltb-false i (length t) e)))) in
+        absurd (omega arith)
+
+module _ (t : List ℕ) (i : ℕ) (s : List ℕ) (j : ℕ) (left : 0 < length (nameAt t i)) where
+  first-byte : byteAt t i ≡ nameByte t i
+  first-byte = byte-there t i (name-left t i left .0) (name-left t i left .1)
+
+  not-over : byteAt t i ≡ 0 → ⊥
+  not-over = continues-not-zero (byteAt t i) (name-left t i left .1)
+
+  pub name-goes-on : (i < length t) × (length (nameAt t i) ≡ suc (length (nameAt t (i + 1))))
+  name-goes-on = byte-on t i first-byte not-over
+
+  pub names-differ : (j < length s → byteAt t i ≡ byteAt s j → ⊥) → false ≡ sameBytes (nameAt t i) (nameAt s j)
+  names-differ h = same-not t i s j first-byte refl not-over (λ e. go (view-byte s j) e)
+    where
+      go : (nameByte s j ≡ 0) ⊎ ((j < length s) × (byteAt s j ≡ nameByte s j)) → byteAt t i ≡ nameByte s j → ⊥
+      go (inl z) e = not-over (e ∙ z)
+      go (inr x) e = h (x .0) (e ∙ sym (x .1))
+
+  pub names-agree : j < length s → byteAt t i ≡ byteAt s j → sameBytes (nameAt t i) (nameAt s j) ≡ sameBytes (nameAt t (i + 1)) (nameAt s (j + 1))
+  names-agree l e =
+      same-on t i s j first-byte (byte-there s j l (ap continuesName (sym e) ∙ name-left t i left .1)) not-over e
+
+pub names-ended : (t : List ℕ) (i : ℕ) (s : List ℕ) (j : ℕ) {b : ℕ} → length (nameAt t i) ≡ 0 → b ≡ nameByte s j → eqb b 0 ≡ sameBytes (nameAt t i) (nameAt s j)
+names-ended t i s j h y = same-ended t i s j (go (view t i)) y refl
+  where
+    go : View t i → 0 ≡ nameByte t i
+    go (over n) = sym (ap head n)
+    go (byte c l z n) = let m = ap length n in absurd (omega arith)
 
 -- ---- the first of some names that is n
 module _ (s ps n : List ℕ) (i : ℕ) where
