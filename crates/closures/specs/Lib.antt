@@ -1,4 +1,3 @@
 pub mod Tables
 pub mod Rounds
 pub mod Schemas
-pub mod Making

@@ -1,21 +1,19 @@
 -- Laws of reading contents and declarations. Assumes nothing.
-use mathlib.Core.Bool.{Bool, true, false, cond}
+use mathlib.Core.Bool.{Bool, true, false}
 use mathlib.Core.List.{List, [], _∷_, _++_}
 use mathlib.Core.Path.{_≡_, refl, sym, ap, subst, _∙_}
-use Prim.Native.Nat.{ℕ, suc, _+_, _-_, _≤_, _<_}
-use native.Mathlib.Nat.{add-zero}
+use Prim.Native.Nat.{ℕ, _+_, _-_, _≤_, _<_}
 use native.Mathlib.Omega.{arith}
-use borrow.Author.Tests.{ltb-true, ltb-false, eq-eqb, ne-eqb}
-use lib.Dec.{eqb, ltb}
+use borrow.Author.Tests.{ltb-true, ltb-false, ne-eqb}
+use lib.Dec.{ltb}
 use lib.ListN.{length, drop}
 use Rattle.declarations.proofs.Judging.{yes, no, step-at, dead-at, same-at, at-end, indicated-uses}
 use Rattle.declarations.proofs.Models.{between-low, noted-wider, noted-as, noted-count, noted-none}
-use Rattle.declarations.specs.Building.{Built, ContentBuilt, built-empty, built-pcdata, built-children}
-use Rattle.declarations.specs.Parts.{from, byteAt, Skipped, Keyword, Spelt, SpeltAs, nameIn, useAt, Naming, Named, NamedAs, at-closed, Indicated, indicatorAt, PartIndicated, Noted, GroupRead, Grouped, GroupedAs, Spacing, NoBlank, Spaced, SpacedAs, Pcdata, PcdataAs, ContentRead, ContentAs, Contented, ended, namelessOf, Keyworded, KeywordAs, Headed, HeadAs, DeclarationRead, DeclarationAs, DeclaredRest, RestAs}
+use Rattle.declarations.specs.Building.{Built, built-empty, built-pcdata, built-children}
+use Rattle.declarations.specs.Parts.{from, byteAt, Skipped, Keyword, Spelt, SpeltAs, nameIn, useAt, Naming, Named, NamedAs, at-closed, indicatorAt, PartIndicated, GroupRead, Grouped, Spacing, NoBlank, SpacedAs, Pcdata, PcdataAs, ContentRead, ContentAs, Contented, ended, namelessOf, Keyworded, KeywordAs, Headed, HeadAs, DeclarationAs, DeclaredRest, RestAs}
 use Rattle.declarations.specs.declared.ContentEnd.{ContentEnd}
 use Rattle.declarations.specs.declared.ContentOutcome.{ContentOutcome}
 use Rattle.declarations.specs.declared.ContentOutcome.the-variants.{Past as ContentPast, Fail as ContentFail}
-use Rattle.declarations.specs.declared.DeclarationEnd.{DeclarationEnd}
 use Rattle.declarations.specs.declared.DeclarationOutcome.{DeclarationOutcome}
 use Rattle.declarations.specs.declared.DeclarationOutcome.the-variants.{Past as DeclPast, Fail as DeclFail}
 use Rattle.declarations.specs.declared.Part.{Part}
@@ -23,11 +21,10 @@ use Rattle.declarations.specs.declared.PartRead.{PartRead}
 use Rattle.declarations.specs.declared.PartRead.the-variants.{Past as PartPast, Fail as PartFail}
 use Rattle.declarations.specs.declared.Read.{Read}
 use Rattle.declarations.specs.declared.Read.the-variants.{Past, Fail}
-use Rattle.models.specs.declared.Content.{Content as Contents}
 use Rattle.models.specs.declared.Content.the-variants.{Empty, Pcdata as PcdataContent, Children}
 use Rattle.schema_spec.specs.Declarations.{Use, Declaration, indicated}
-use Rattle.schema_spec.specs.Machine.{fresh, Opening, Head, State, dead, between, inKeyword, afterKeyword, beforeName, inName, beforeContent, inEmpty, afterOpen, inPcdata, afterPcdata, afterContent, declared, expecting, closed, past, isDead, longer, headed, closing, beginning, matching, step, departs, atEnd}
-use Rattle.schema_spec.specs.Models.{Particle, uses, Content, empty, pcdata, children, usesIn}
+use Rattle.schema_spec.specs.Machine.{fresh, Opening, Head, dead, between, inKeyword, afterKeyword, beforeName, inName, beforeContent, inEmpty, afterOpen, inPcdata, afterPcdata, afterContent, expecting, closed, past, longer, headed, beginning, step, departs}
+use Rattle.schema_spec.specs.Models.{Particle, Content, empty, pcdata, children}
 use Rattle.text_spec.specs.Bytes.{isBlank, startsName, continuesName}
 use Rattle.text_spec.specs.Lists.{bytes}
 

@@ -1,20 +1,19 @@
 -- Laws of judging a text a byte at a time: blanks, keywords, names and indicators. Assumes nothing.
-use mathlib.Core.Bool.{Bool, true, false, cond, _&&_, _||_}
-use mathlib.Core.List.{List, [], _∷_, _++_, append-assoc}
-use mathlib.Core.Path.{_≡_, refl, sym, ap, ap₂, subst, _∙_}
+use mathlib.Core.Bool.{Bool, true, false, cond, _||_}
+use mathlib.Core.List.{List, [], _∷_, _++_}
+use mathlib.Core.Path.{_≡_, refl, sym, ap, ap₂, _∙_}
 use Prim.Native.Nat.{ℕ, suc, _+_, _≤_, _<_}
 use native.Mathlib.Numerals.{add-one}
 use native.Mathlib.Omega.{arith}
 use borrow.Author.Tests.{ltb-true, ltb-false, lt-ltb, le-ltb, eq-eqb, ne-eqb}
 use lib.Dec.{eqb, ltb}
-use lib.ListN.{length, drop, getD, length-append, drop-of-length-le, List·getD-eq-default}
+use lib.ListN.{length, drop, getD, drop-of-length-le, List·getD-eq-default}
 use lib.Seq.{drop-cons}
 use Rattle.declarations.specs.Parts.{from, byteAt, Keyword, due, nameIn, Naming, Ended, at-name, at-closed, isIndicator, indicatorOf, indicatorAt}
 use Rattle.schema_spec.specs.Declarations.{Use, Indicator, once, optional, any, oneOrMore, indicated}
-use Rattle.schema_spec.specs.Machine.{Frame, Head, State, dead, inUse, closed, past, isDead, longer, matching, following, indicating, step, Parsed, departs, atEnd, run}
+use Rattle.schema_spec.specs.Machine.{Frame, Head, State, dead, inUse, past, isDead, longer, matching, following, indicating, step, departs, atEnd, run}
 use Rattle.schema_spec.specs.Models.{Particle, named, uses}
-use Rattle.text_spec.specs.Bytes.{isLetter, isDigit, isBlank, startsName, continuesName}
-use Rattle.text_spec.specs.Limits.{maxNameBytes}
+use Rattle.text_spec.specs.Bytes.{isLetter, isDigit, startsName, continuesName}
 
 -- ---- tests
 pub yes : {A : Type 0} {t : Bool} (x y : A) → t ≡ true → cond t x y ≡ x

@@ -1,18 +1,18 @@
 -- Laws of reading content models: names noted in lent cells, particles, separators and groups. Assumes nothing.
 use mathlib.Core.Bool.{Bool, true, false, cond, _&&_, _||_}
-use mathlib.Core.List.{List, [], _∷_, _++_, map, append-assoc, append-nil}
+use mathlib.Core.List.{List, [], _∷_, _++_, map}
 use mathlib.Core.Path.{_≡_, refl, sym, ap, ap₂, subst, _∙_}
 use Prim.Native.Nat.{ℕ, suc, _+_, _-_, _≤_, _<_}
 use native.Mathlib.Nat.{add-zero, add-suc, suc-add}
 use native.Mathlib.Omega.{arith}
-use borrow.Author.Tests.{lt-ltb, le-ltb, eq-eqb, ne-eqb, eqb-true, eqb-false}
+use borrow.Author.Tests.{lt-ltb, le-ltb, eq-eqb, ne-eqb, eqb-true}
 use lib.Dec.{eqb, ltb}
 use lib.ListN.{length, drop, set, length-append, length-map}
 use lib.Seq.{sets, length-sets}
 use Rattle.declarations.proofs.Judging.{yes, no, or-false, step-at, dead-at, at-end, indicated-uses}
 use Rattle.declarations.proofs.Building.{built-name}
 use Rattle.declarations.specs.Building.{Built, Holds, holds-none, holds-bar, holds-comma, frameUses, FrameBuilt, built-fresh, built-holding, Joined}
-use Rattle.declarations.specs.Parts.{NamedAs, NamePartAs, ParticledAs, GroupedAs, FollowedAs, from, byteAt, Skipped, nameIn, useAt, Naming, Named, Ended, at-name, at-closed, Indicated, indicatorAt, Between, Noted, ParticleRead, Particled, NameRead, NamePart, GroupRead, Grouped, PartIndicated, separatorOf, mayPart, Followed}
+use Rattle.declarations.specs.Parts.{NamedAs, NamePartAs, ParticledAs, GroupedAs, FollowedAs, from, byteAt, Skipped, nameIn, useAt, Naming, Named, at-name, at-closed, indicatorAt, Between, Noted, ParticleRead, Particled, NameRead, GroupRead, Grouped, PartIndicated, separatorOf, mayPart, Followed}
 use Rattle.declarations.specs.declared.Follow.{Follow}
 use Rattle.declarations.specs.declared.Follow.the-variants.{Close, More, Fail as FollowFail}
 use Rattle.declarations.specs.declared.Part.{Part}
@@ -22,10 +22,10 @@ use Rattle.declarations.specs.declared.Read.{Read}
 use Rattle.declarations.specs.declared.Read.the-variants.{Past, Fail}
 use Rattle.models.specs.Building.{EndsOf}
 use Rattle.models.specs.declared.Ends.{Ends}
-use Rattle.schema_spec.specs.Declarations.{Use, Indicator, indicated, Separator, unparted, byBar, byComma}
-use Rattle.schema_spec.specs.Machine.{Frame, fresh, holding, join, separated, Head, State, dead, expecting, inUse, closed, past, isDead, longer, indicating, step, Parsed, departs}
+use Rattle.schema_spec.specs.Declarations.{Use, indicated, byBar, byComma}
+use Rattle.schema_spec.specs.Machine.{Frame, fresh, holding, join, separated, Head, State, dead, expecting, inUse, closed, past, longer, indicating, step, departs}
 use Rattle.schema_spec.specs.Models.{Particle, named, uses}
-use Rattle.text_spec.specs.Bytes.{isBlank, startsName, continuesName}
+use Rattle.text_spec.specs.Bytes.{isBlank, startsName}
 
 -- ---- places in rising order
 pub between-low : (low high : ℕ) (ps : List ℕ) → Between low high ps → low ≤ high

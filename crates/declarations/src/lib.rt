@@ -2,7 +2,7 @@
 // and the tables of its content model.
 ghost use mathlib.Core.Bool.{true};
 ghost use mathlib.Core.Path.{_≡_};
-ghost use Prim.Native.Nat.{ℕ, _+_, _≤_, _<_};
+ghost use Prim.Native.Nat.{_+_, _≤_, _<_};
 ghost use lib.ListN.{length, set};
 ghost use Rattle.declarations.specs.Parts.{byteAt, Skipped, Spelt, Named, isIndicator, Indicated, indicatorAt, mayPart, Followed, NamePart, Particled, Grouped, PartIndicated, NoBlank, Spaced, Pcdata, Contented, ended, namelessOf, Keyworded, Headed, DeclaredRest, Declared};
 ghost use Rattle.declarations.specs.Building.{Repeated, Joined};

@@ -78,13 +78,8 @@ module _ (before : List ℕ) (lasts firsts : ℕ) where
       → LinkedTable before lasts firsts now
   linked-all j now past long p = record { long = long; right = λ i m l. p .done m (omega arith) i }
 
--- Links. A name alone comes after nothing; two particles in a row are linked from the last of the one to the first of the other;
--- of two alternatives neither follows the other; what repeats is linked from its last to its first.
-pub named-linked : (k a : ℕ) (before : List ℕ) → getD before k 0 ≡ 0 → Linked k (named a) before
-named-linked k a before e i j l u v =
-    let z : j ≡ k = omega arith in
-    ap (λ (m : ℕ). hasBit (getD before m 0) i) z ∙ ap (λ (w : ℕ). hasBit w i) e ∙ bit-none i
-
+-- Links. Two particles in a row are linked from the last of the one to the first of the other; of two alternatives neither follows the
+-- other; what repeats is linked from its last to its first.
 module _ (k : ℕ) (p q : Particle ℕ) (before : List ℕ) (x : Linked k p before) (y : Linked (k + size p) q before) where
   pub choice-linked : Linked k (choice p q) before
   choice-linked i j l u v = ⊎-elim first second (below-or-past j (k + size p))
@@ -121,12 +116,6 @@ repeated-linked k o p a before after few room x ea h i j l u v =
 -- what does not repeat keeps its links
 pub once-linked : (k : ℕ) (o : Bool) (p : Particle ℕ) (before : List ℕ) → Linked k p before → Linked k (repeated false o p) before
 once-linked k o p before x i j l u v = x i j l u v ∙ sym (or-false (isNext k p i j))
-
--- links elsewhere change nothing here: positions that are no first of the other particle
-pub linked-elsewhere : (k : ℕ) (p : Particle ℕ) (lasts firsts : ℕ) (before after : List ℕ) → k + size p ≤ length before → ((j : ℕ) → k ≤ j → j < k + size p → hasBit firsts j ≡ false)
-    → LinkedTable before lasts firsts after → Linked k p before → Linked k p after
-linked-elsewhere k p lasts firsts before after room other h x i j l u v =
-    h .right i j (omega arith) ∙ ap₂ (λ (c d : Bool). c || (d && hasBit lasts i)) (x i j l u v) (other j u v) ∙ or-false (isNext k p i j)
 
 -- the whole: a particle's ends, links and names are its tables
 pub whole : (p : Particle ℕ) (e : Ends) (elements predecessors : List ℕ) → size p ≤ 64 → size p ≤ length elements → size p ≤ length predecessors

@@ -3,7 +3,6 @@ pub mod Marks
 pub mod Steps
 pub mod StepLaws
 pub mod Fitting
-pub mod Making
 pub mod Building
 pub mod BuildingLaws
 pub mod Placing

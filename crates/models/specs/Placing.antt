@@ -3,14 +3,14 @@
 use mathlib.Core.Bool.{Bool, true, false, _&&_, _||_, or-false}
 use mathlib.Core.List.{List}
 use mathlib.Core.Logic.{⊎-elim}
-use mathlib.Core.Path.{_≡_, refl, sym, ap, ap₂, _∙_}
+use mathlib.Core.Path.{_≡_, refl, sym, ap, _∙_}
 use Prim.Native.Nat.{ℕ, _+_, _≤_, _<_}
 use native.Mathlib.Omega.{arith}
 use lib.ListN.{length, getD, List·getD-eq-default}
 use Rattle.models.specs.Building.{EndsOf, Linked, LinkedTable}
 use Rattle.models.specs.BuildingLaws.{choice-linked, sequence-linked, repeated-linked, once-linked}
 use Rattle.models.specs.Marks.{not-first}
-use Rattle.models.specs.Positions.{size, isFirst}
+use Rattle.models.specs.Positions.{size}
 use Rattle.models.specs.declared.Ends.{Ends}
 use Rattle.schema_spec.specs.Models.{Particle, named, sequence, choice, repeated}
 use Rattle.schema_spec.specs.Names.{hasBit}

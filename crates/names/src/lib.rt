@@ -2,7 +2,6 @@
 ghost use mathlib.Core.Bool.{false, not, _&&_, _||_};
 ghost use mathlib.Core.Logic.{_↔_};
 ghost use mathlib.Core.Path.{_≡_};
-ghost use Prim.Native.Nat.{ℕ};
 ghost use lib.Dec.{T, ltb};
 ghost use Rattle.schema_spec.specs.Names.{Name, element, text, sameName, has, setOfWord, wordOfSet};
 ghost use Rattle.names.specs.Sets.{member, setOf, everyName, overlap};

@@ -8,20 +8,17 @@ use native.Mathlib.Numerals.{add-one}
 use native.Mathlib.Omega.{arith}
 use borrow.Author.Tests.{ltb-true, ltb-false, leb-true, leb-false, lt-ltb, le-ltb}
 use lib.Dec.{leb, ltb}
-use lib.ListN.{length, drop, take, getD, set, length-append, length-set, length-reverse, length-map, drop-of-length-le}
+use lib.ListN.{length, drop, take, getD, set, length-append, length-set, length-reverse, drop-of-length-le}
 use lib.Seq.{sets, sets-eq, length-sets, take-suc-set, take-at, drop-at, drop-cons, drop-nil, length-take-le, getD-set-same, getD-set-other}
 use Rattle.declarations.proofs.Judging.{yes, no, at-end}
 use Rattle.declarations.proofs.Models.{between-low, between-from, between-to, between-join, map-append}
-use Rattle.declarations.specs.Parts.{from, useAt, Skipped, Between, Noted, DeclarationRead, Declared}
-use Rattle.schema.specs.Whole.{overLimit, Kept, Limits, within, passed, UpTo, AllSpelt, AllAs}
-use Rattle.schema.specs.declared.All.the-variants.{Past as AllPast, Fail as AllFail}
-use Rattle.schema.specs.declared.Counts.{Counts}
+use Rattle.declarations.specs.Parts.{from, useAt, Skipped, Between, DeclarationRead, Declared}
+use Rattle.schema.specs.Whole.{overLimit, Kept, Limits, within, passed, UpTo, AllSpelt}
 use Rattle.declarations.specs.declared.DeclarationEnd.{DeclarationEnd}
 use Rattle.declarations.specs.declared.DeclarationOutcome.{DeclarationOutcome}
 use Rattle.declarations.specs.declared.DeclarationOutcome.the-variants.{Past as DeclPast, Fail as DeclFail}
 use Rattle.schema_spec.specs.Declarations.{Use, Declaration}
-use Rattle.schema_spec.specs.Machine.{State, between, step, spells, departs, atEnd, parse}
-use Rattle.schema_spec.specs.Models.{usesIn}
+use Rattle.schema_spec.specs.Machine.{between, step, spells, departs, atEnd, parse}
 use Rattle.schema_spec.specs.Reading.{limitPlaces, usesOf}
 use Rattle.schema_laws.specs.Lists.{in-nothing as none-in}
 use Rattle.text_spec.specs.Bytes.{isBlank}

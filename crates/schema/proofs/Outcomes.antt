@@ -1,36 +1,35 @@
 -- Laws of the reader's answer: each refusal in its order, and acceptance. Assumes nothing.
-use mathlib.Core.Bool.{Bool, true, false, cond, _||_}
+use mathlib.Core.Bool.{Bool, true, false, _||_}
 use mathlib.Core.List.{List, [], _∷_, _++_, map, append-nil, List·Memᴰ as In, List·Memᴰ·head as here}
-use mathlib.Core.Option.{Option, none, some}
+use mathlib.Core.Option.{Option, some}
 use mathlib.Core.Path.{_≡_, refl, sym, ap, ap₂, subst, _∙_}
-use Prim.Native.Nat.{ℕ, zero, suc, _+_, _*_, _-_, _≤_, _<_}
+use Prim.Native.Nat.{ℕ, _+_, _-_, _≤_, _<_}
 use native.Mathlib.Omega.{arith}
 use borrow.Author.Tests.{lt-ltb, le-ltb}
 use lib.Dec.{ltb}
-use lib.ListN.{length, drop, take, replicate, length-map, length-replicate, length-append}
+use lib.ListN.{length, take, length-map}
 use lib.Seq.{take-length, length-take-le}
-use Rattle.declarations.proofs.Judging.{yes, no}
 use Rattle.schema.proofs.Naming.{twice-places, undeclared-places}
 use Rattle.schema.proofs.Order.{Later, later-none, later-all, later-append, least-first, place-found, place-none, places-rise, filter-rise, twice-rise}
-use Rattle.schema.specs.Answers.{reasonOf, meant, sized, JudgedAs, Readable, Spelling}
-use Rattle.schema.specs.Names.{firstPlace, namesBefore, isAmong, twiceAt, missingAt}
+use Rattle.schema.specs.Answers.{reasonOf, sized, JudgedAs, Readable, Spelling}
+use Rattle.schema.specs.Names.{firstPlace, namesBefore, twiceAt, missingAt}
 use Rattle.declarations.specs.Parts.{useAt, Between}
-use Rattle.schema.specs.Whole.{Kept, Limits, within, passed, AllSpelt, AllAs, AllRead}
+use Rattle.schema.specs.Whole.{Kept, Limits, within, passed, AllSpelt, AllRead}
 use Rattle.schema.specs.declared.All.{All}
 use Rattle.schema.specs.declared.All.the-variants.{Past as AllPast, Fail as AllFail}
 use Rattle.schema.specs.declared.Answer.the-variants.{Accepted, Refused}
 use Rattle.schema.specs.declared.Counts.{Counts}
 use Rattle.schema.specs.declared.Kind.{Kind}
 use Rattle.schema.specs.declared.Kind.the-variants.{BadLength, BadByte, BadGrammar, OverLimit, DeclaredTwice, Undeclared}
-use Rattle.schema_spec.specs.Declarations.{Use, Declaration}
+use Rattle.schema_spec.specs.Declarations.{Declaration}
 use Rattle.schema_spec.specs.Machine.{Parsed, spells, departs, parse}
 use Rattle.schema_spec.specs.Reading.{limitPlaces, twicePlaces, undeclaredPlaces, usesOf, parsedRefusals, parsedSchema, schemaRefusals, readSchema}
-use Rattle.schema_spec.specs.Schemas.{Schema, schemaOf, resolved, declaredNames}
+use Rattle.schema_spec.specs.Schemas.{schemaOf, resolved, declaredNames}
 use Rattle.text.specs.Places.{foreignPlace}
 use Rattle.text_spec.specs.Bytes.{isForeign}
 use Rattle.text_spec.specs.Limits.{maxSchemaBytes}
 use Rattle.text_spec.specs.Lists.{isEmpty, placesFrom, gather}
-use Rattle.text_spec.specs.Refusals.{Reason, badLength, badByte, badSchema, overSchemaLimit, declaredTwice, undeclaredInModel, numberOf, Refusal, at, allAt, given, firstOf, Outcome, accepted, refused, byFirst, judged}
+use Rattle.text_spec.specs.Refusals.{Reason, badLength, badByte, badSchema, overSchemaLimit, declaredTwice, undeclaredInModel, numberOf, Refusal, at, allAt, given, firstOf, accepted, refused, byFirst, judged}
 use Rattle.text_spec.specs.Texts.{lengthRefusals, byteRefusals}
 
 -- ---- a refusal

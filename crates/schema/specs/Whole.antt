@@ -1,11 +1,11 @@
 -- What reading all declarations of a text answers: what it spells, the places of its names in lent cells, and the first place that passes
 -- a limit. Assumes nothing.
-use mathlib.Core.Bool.{Bool, true, false, cond}
-use mathlib.Core.List.{List, [], _∷_, map, reverse, List·Memᴰ as In}
+use mathlib.Core.Bool.{cond}
+use mathlib.Core.List.{List, [], map, reverse, List·Memᴰ as In}
 use mathlib.Core.Path.{_≡_}
 use Prim.Native.Nat.{ℕ, _+_, _*_, _-_, _≤_, _<_}
 use lib.Dec.{leb, ltb}
-use lib.ListN.{length, drop, take, getD}
+use lib.ListN.{length, take, getD}
 use Rattle.declarations.specs.Parts.{from, useAt, Between, NoBlank}
 use Rattle.schema.specs.declared.All.{All}
 use Rattle.schema.specs.declared.All.the-variants.{Past, Fail}

@@ -1,27 +1,25 @@
 -- Laws of the record that reading a text hands back. Assumes nothing.
-use mathlib.Core.Bool.{Bool, true, false, cond, _||_}
-use mathlib.Core.List.{List, [], _∷_, _++_}
-use mathlib.Core.Path.{_≡_, refl, sym, ap, subst, _∙_}
-use Prim.Native.Nat.{ℕ, zero, suc, _-_, _≤_, _<_}
+use mathlib.Core.Bool.{_||_}
+use mathlib.Core.List.{List, [], _++_}
+use mathlib.Core.Path.{_≡_, refl, sym, ap, _∙_}
+use Prim.Native.Nat.{ℕ, _-_, _≤_}
 use native.Mathlib.Omega.{arith}
 use borrow.Author.Tests.{ltb-false}
-use lib.Dec.{eqb, ltb}
-use lib.ListN.{length, drop, replicate}
+use lib.Dec.{ltb}
+use lib.ListN.{length, replicate}
 use Rattle.schema.specs.Answers.{meant, sized, JudgedAs}
 use Rattle.schema.specs.declared.Answer.{Answer}
 use Rattle.schema.specs.declared.Answer.the-variants.{Accepted, Refused}
-use Rattle.schema.specs.declared.Kind.{Kind}
 use Rattle.schema.specs.declared.Schema.{Schema as Cells}
 use Rattle.schema_laws.specs.Accepted.{accepted-spelt}
 use Rattle.schema_reader.specs.Normal.{Normalized}
 use Rattle.schema_reader.specs.Records.{Recorded, handedBack, ReadAs}
 use Rattle.schema_spec.specs.Reading.{readSchema}
-use Rattle.schema_spec.specs.Records.{normalFrom, normal, recordBy, schemaRecord}
+use Rattle.schema_spec.specs.Records.{normal, recordBy, schemaRecord}
 use Rattle.schema_spec.specs.Schemas.{Schema}
 use Rattle.text_laws.specs.Cells.{drop-replicate, padded-zeros, padded-content}
 use Rattle.text_laws.specs.Refusals.{given-free}
 use Rattle.text_laws.specs.Tests.{false-of, or-right}
-use Rattle.text_spec.specs.Bytes.{isBlank}
 use Rattle.text_spec.specs.Cells.{padded}
 use Rattle.text_spec.specs.Limits.{maxSchemaBytes}
 use Rattle.text_spec.specs.Lists.{isEmpty}

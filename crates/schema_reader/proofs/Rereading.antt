@@ -1,6 +1,6 @@
 -- Laws of refusal 1: a record passes if reading its text gives it again. Assumes nothing.
 use mathlib.Core.Bool.{Bool, true, false, _&&_}
-use mathlib.Core.List.{List, [], _∷_, _++_}
+use mathlib.Core.List.{List}
 use mathlib.Core.Path.{_≡_, refl, sym, ap, ap₂, subst, _∙_}
 use Prim.Native.Nat.{ℕ, suc, _+_, _-_, _≤_, _<_}
 use native.Mathlib.Numerals.{add-one}
@@ -11,7 +11,6 @@ use lib.ListN.{length, drop, take, getD, drop-of-length-le}
 use lib.Seq.{drop-cons, length-take-le}
 use Rattle.schema.specs.Answers.{meant, sized}
 use Rattle.schema_reader.specs.Records.{ReadAs, passesRecord}
-use Rattle.schema.specs.declared.Answer.{Answer}
 use Rattle.schema.specs.declared.Answer.the-variants.{Accepted, Refused}
 use Rattle.schema.specs.declared.Kind.{Kind}
 use Rattle.schema_reader.specs.declared.SchemaRead.{SchemaRead}
@@ -24,7 +23,7 @@ use Rattle.text_laws.specs.Tests.{passed, true-of, false-of, and-cases, and-int
 use Rattle.text_spec.specs.Cells.{padded}
 use Rattle.text_spec.specs.Limits.{maxSchemaBytes}
 use Rattle.text_spec.specs.Lists.{sameBytes}
-use Rattle.text_spec.specs.Refusals.{Refusal, Outcome, accepted, refused, isAccepted}
+use Rattle.text_spec.specs.Refusals.{Outcome, accepted, refused, isAccepted}
 
 -- ---- two slices
 module _ (a b : List ℕ) where

@@ -1,7 +1,7 @@
 // Reading schema texts: the answer, and the schema in its record, which is the text's normal form.
 ghost use mathlib.Core.Bool.{true, false};
 ghost use mathlib.Core.Path.{_≡_};
-ghost use Prim.Native.Nat.{ℕ, _≤_, _<_};
+ghost use Prim.Native.Nat.{_≤_, _<_};
 ghost use lib.ListN.{length};
 ghost use Rattle.schema_reader.specs.Normal.{Steps, Stored, Normalized};
 ghost use Rattle.schema_reader.specs.Records.{Recorded, handedBack, ReadAs, passesRecord};

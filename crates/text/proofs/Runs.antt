@@ -12,7 +12,6 @@ use types.Run.{OneOf, hit}
 use mir.Val.{hasKey}
 use Rattle.text.specs.Classes.{meant}
 use Rattle.text.specs.declared.Class.{Class}
-use Rattle.text.specs.declared.Class.the-variants.{Blank, Letter, Digit, Markup, Other, Foreign}
 use Rattle.text_laws.specs.Tests.{and-cases}
 use Rattle.text_spec.specs.Bytes as Bytes
 use Rattle.text_spec.specs.Bytes.{classOf, blank, letter, digit, markup, other, foreign}

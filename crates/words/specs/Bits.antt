@@ -1,19 +1,19 @@
 -- Laws of sets of numbers as the bits of a word: what each machine operation does to the bits, and that equal bits make equal words.
 -- Assumes nothing.
-use mathlib.Core.Bool.{Bool, true, false, cond, not, _&&_, _||_, or-false, and-true, and-false, true≢false, false≢true}
+use mathlib.Core.Bool.{Bool, true, false, not, _&&_, _||_, true≢false, false≢true}
 use mathlib.Core.Logic.{_⊎_, inl, inr}
 use mathlib.Core.Path.{_≡_, refl, sym, ap, subst, _∙_}
 use Prim.Native.Nat.{ℕ, zero, suc, _+_, _*_, _-_, _/_, _%_, _^_, _<_, _≤_}
 use native.Mathlib.Nat.{mod-lt, div-eq-of-lt, div-one, one-mul, mul-div-mul-right, div-add-mod', lt-of-lt-of-le, mul-assoc, pow-suc}
 use native.Mathlib.Numerals.{add-one}
 use native.Mathlib.Omega.{arith}
-use borrow.Author.Tests.{eq-eqb, le-ltb}
+use borrow.Author.Tests.{eq-eqb}
 use lib.Bits.{bitAnd, bitOr, bitXor, and-lt, or-shr, or-mod, and-shr, and-mod, xor-shr, xor-mod, shifted-even}
-use lib.Dec.{T, eqb, ltb, eqb→eq, eqb·zero-suc, eqb·suc-zero, eqb·suc-suc}
+use lib.Dec.{T, eqb, eqb→eq, eqb·zero-suc, eqb·suc-zero, eqb·suc-suc}
 use lib.Pow.{pow-pos, pow-lt, pow-mono, pow-add, shl-shr, shr-shr, shr-lt, field, mod-mod-pow}
 use Rattle.schema_spec.specs.Names.{hasBit}
 use Rattle.text_laws.specs.Tests.{passed, failed, false-of, not-intro, not-elim, decided}
-use Rattle.words.specs.Searches.{same-test, anyBelow, any-below, below-any, any-cong, one-more}
+use Rattle.words.specs.Searches.{same-test, anyBelow, any-below, below-any, any-cong}
 
 -- what is left of a number after division by two
 remainder : (n : ℕ) → (n % 2 ≡ 0) ⊎ (n % 2 ≡ 1)
@@ -146,17 +146,3 @@ some-bit w a fits = same-test (not (eqb a 0)) (anyBelow w (hasBit a)) (λ t. fou
 -- two words meet exactly if some bit is in both
 pub meet-bits : (a b : ℕ) → a < 2 ^ 64 → b < 2 ^ 64 → not (eqb (bitAnd a b) 0) ≡ anyBelow 64 (λ i. hasBit a i && hasBit b i)
 meet-bits a b ha hb = some-bit 64 (bitAnd a b) (and-lt 64 a b ha hb) ∙ any-cong 64 (hasBit (bitAnd a b)) (λ i. hasBit a i && hasBit b i) (λ i l. bit-and a b i)
-
--- the word of the numbers below n that pass a test
-unfoldable pub wordOf : ℕ → (ℕ → Bool) → ℕ
-wordOf zero f = 0
-wordOf (suc n) f = cond (f n) (bitOr (wordOf n f) (2 ^ n)) (wordOf n f)
-
-pub wordOf-bit : (n : ℕ) (f : ℕ → Bool) (j : ℕ) → hasBit (wordOf n f) j ≡ (ltb j n && f j)
-unfolding wordOf
-wordOf-bit zero f j = bit-none j ∙ sym (ap (λ (b : Bool). b && f j) (le-ltb j 0 (omega arith)))
-wordOf-bit (suc n) f j = pick (f n) ∙ ap (λ (b : Bool). b || (eqb j n && f n)) (wordOf-bit n f j) ∙ one-more f n j ∙ ap (λ (k : ℕ). ltb j k && f j) (add-one n)
-  where
-    pick : (b : Bool) → hasBit (cond b (bitOr (wordOf n f) (2 ^ n)) (wordOf n f)) j ≡ (hasBit (wordOf n f) j || (eqb j n && b))
-    pick true = bit-or (wordOf n f) (2 ^ n) j ∙ ap (λ (b : Bool). hasBit (wordOf n f) j || b) (bit-one n j ∙ sym (and-true (eqb j n)))
-    pick false = sym (ap (λ (b : Bool). hasBit (wordOf n f) j || b) (and-false (eqb j n)) ∙ or-false (hasBit (wordOf n f) j))

@@ -1,4 +1,3 @@
 pub mod Searches
 pub mod Bits
-pub mod Tabulated
 pub mod Loops

@@ -4,7 +4,7 @@ use lib.ListN.{length}
 use Rattle.declarations.proofs.Models.{GroupUpTo, group-start, group-length, group-table, group-fail, particle-high, group-stop, group-close, group-next, particle-end, particle-name, particle-not, particle-deep, open-high, open-past, open-fail}
 use borrow.Author.Needs.{needs}
 use native.Mathlib.Omega.{arith}
-use Prim.Native.Nat.{ℕ, _+_, _*_, _-_, _≤_, _<_}
+use Prim.Native.Nat.{ℕ, _+_, _*_, _-_, _<_}
 use borrow.Fn.Kinds.{In}
 use borrow.Fn.PlainCycle.{Measures, is, falls, and}
 use Rattle.declarations.proofs.group.Reads as group
@@ -41,6 +41,31 @@ abbrev particle-below : ℕ → In 3 particle-kinds.ps
 particle-below t =
     and 3 particle-kinds.ps (falls 3 particle-kinds.ps _<_ μ-particle t) particle.Pre
 
+-- what each says of the functions that it calls
+abbrev group-claims : ℕ → group-lts.Claims
+group-claims t = (
+  particle-below t,
+  particle.Post,
+  join-reads.Asked,
+  join-reads.Learnt,
+  after-particle-reads.Asked,
+  after-particle-reads.Learnt,
+)
+
+abbrev particle-claims : ℕ → particle-lts.Claims
+particle-claims t = (
+  skip-reads.Asked,
+  skip-reads.Learnt,
+  starts-name-reads.Asked,
+  starts-name-reads.Learnt,
+  use-name-reads.Asked,
+  use-name-reads.Learnt,
+  group-below t,
+  group.Post,
+  indicated-reads.Asked,
+  indicated-reads.Learnt,
+)
+
 abbrev group-Inv-loop : group-lts.InvT-loop
 group-Inv-loop s at depth out₀ n start predecessors₀ i₀ count₀ sep₀ ends₀ out predecessors i count sep ends =
     GroupUpTo s at depth n start out₀ out predecessors₀ predecessors i count sep ends
@@ -49,409 +74,115 @@ abbrev group-μ-loop : group-lts.MeasureT-loop
 group-μ-loop s at depth out₀ n start predecessors₀ i₀ count₀ sep₀ ends₀ out predecessors i count sep ends =
     length s - i
 
-group-loop-holds : (t : ℕ) → group-lts.Need-loop-holds (
-  particle-below t,
-  particle.Post,
-  join-reads.Asked,
-  join-reads.Learnt,
-  after-particle-reads.Asked,
-  after-particle-reads.Learnt,
-) (group-at t) group.Post group-Inv-loop group-μ-loop
+group-loop-holds : (t : ℕ) → group-lts.Need-loop-holds (group-claims t) (group-at t) group.Post group-Inv-loop group-μ-loop
 group-loop-holds t c = group-start _ (c .before .before .before .pre .1 .0) (c .before .before .before .pre .1 .2)
 
-group-particle-requires : (t : ℕ) → group-lts.Need-particle-requires (
-  particle-below t,
-  particle.Post,
-  join-reads.Asked,
-  join-reads.Learnt,
-  after-particle-reads.Asked,
-  after-particle-reads.Learnt,
-) (group-at t) group.Post group-Inv-loop group-μ-loop
+group-particle-requires : (t : ℕ) → group-lts.Need-particle-requires (group-claims t) (group-at t) group.Post group-Inv-loop group-μ-loop
 group-particle-requires t c κs = let z : 2 * (8 - c .before .before .before .before .before .before .args .depth) + 1 ≡ t = c .before .before .before .before .before .before .pre .0 in
     let g : 2 * (8 - c .before .before .before .before .before .before .args .depth) < t = omega arith in
     let m = c .before .before .loop .inv .many in
     let l = c .before .before .before .before .before .before .pre .1 .3 in
     (g, (c .before .before .loop .inv .high, c .before .before .before .before .before .before .pre .1 .1, c .before .before .loop .inv .few, omega arith))
 
-group-enum-known-j : (t : ℕ) → group-lts.Need-enum-known-j (
-  particle-below t,
-  particle.Post,
-  join-reads.Asked,
-  join-reads.Learnt,
-  after-particle-reads.Asked,
-  after-particle-reads.Learnt,
-) (group-at t) group.Post group-Inv-loop group-μ-loop
+group-enum-known-j : (t : ℕ) → group-lts.Need-enum-known-j (group-claims t) (group-at t) group.Post group-Inv-loop group-μ-loop
 group-enum-known-j t c = search needs
 
-group-same-length : (t : ℕ) → group-lts.Need-same-length (
-  particle-below t,
-  particle.Post,
-  join-reads.Asked,
-  join-reads.Learnt,
-  after-particle-reads.Asked,
-  after-particle-reads.Learnt,
-) (group-at t) group.Post group-Inv-loop group-μ-loop
+group-same-length : (t : ℕ) → group-lts.Need-same-length (group-claims t) (group-at t) group.Post group-Inv-loop group-μ-loop
 group-same-length t c = let l = group-length (c .before .before .before .before .before .before .before .before .before .before .loop .inv) in search needs
 
-group-same-length-2 : (t : ℕ) → group-lts.Need-same-length-2 (
-  particle-below t,
-  particle.Post,
-  join-reads.Asked,
-  join-reads.Learnt,
-  after-particle-reads.Asked,
-  after-particle-reads.Learnt,
-) (group-at t) group.Post group-Inv-loop group-μ-loop
+group-same-length-2 : (t : ℕ) → group-lts.Need-same-length-2 (group-claims t) (group-at t) group.Post group-Inv-loop group-μ-loop
 group-same-length-2 t c = let l = group-table (c .before .before .before .before .before .before .before .before .before .before .loop .inv) in search needs
 
-group-returns : (t : ℕ) → group-lts.Need-returns (
-  particle-below t,
-  particle.Post,
-  join-reads.Asked,
-  join-reads.Learnt,
-  after-particle-reads.Asked,
-  after-particle-reads.Learnt,
-) (group-at t) group.Post group-Inv-loop group-μ-loop
+group-returns : (t : ℕ) → group-lts.Need-returns (group-claims t) (group-at t) group.Post group-Inv-loop group-μ-loop
 group-returns t c = record { says = group-fail (c .before .before .before .before .before .before .before .before .before .before .loop .inv) (c .before .before .before .before .before .before .before .before .before .before .before .before .before .before .pre .1 .3) (c .before .before .before .before .before .before .before .particle .ensures) (c .before .j .given .1) }
 
-group-enum-known-p : (t : ℕ) → group-lts.Need-enum-known-p (
-  particle-below t,
-  particle.Post,
-  join-reads.Asked,
-  join-reads.Learnt,
-  after-particle-reads.Asked,
-  after-particle-reads.Learnt,
-) (group-at t) group.Post group-Inv-loop group-μ-loop
+group-enum-known-p : (t : ℕ) → group-lts.Need-enum-known-p (group-claims t) (group-at t) group.Post group-Inv-loop group-μ-loop
 group-enum-known-p t c = search needs
 
-group-join-requires : (t : ℕ) → group-lts.Need-join-requires (
-  particle-below t,
-  particle.Post,
-  join-reads.Asked,
-  join-reads.Learnt,
-  after-particle-reads.Asked,
-  after-particle-reads.Learnt,
-) (group-at t) group.Post group-Inv-loop group-μ-loop
+group-join-requires : (t : ℕ) → group-lts.Need-join-requires (group-claims t) (group-at t) group.Post group-Inv-loop group-μ-loop
 group-join-requires t c κs = search needs
 
-group-after-particle-requires : (t : ℕ) → group-lts.Need-after-particle-requires (
-  particle-below t,
-  particle.Post,
-  join-reads.Asked,
-  join-reads.Learnt,
-  after-particle-reads.Asked,
-  after-particle-reads.Learnt,
-) (group-at t) group.Post group-Inv-loop group-μ-loop
+group-after-particle-requires : (t : ℕ) → group-lts.Need-after-particle-requires (group-claims t) (group-at t) group.Post group-Inv-loop group-μ-loop
 group-after-particle-requires t c κs = particle-high (c .before .before .before .before .before .before .before .before .before .before .before .before .before .before .loop .inv) (c .before .before .before .before .before .before .before .before .before .before .before .before .before .before .before .before .before .before .pre .1 .3) (c .before .before .before .before .before .before .before .before .before .before .before .particle .ensures) (c .before .before .before .before .before .p .given .1)
 
-group-enum-known-j-2 : (t : ℕ) → group-lts.Need-enum-known-j-2 (
-  particle-below t,
-  particle.Post,
-  join-reads.Asked,
-  join-reads.Learnt,
-  after-particle-reads.Asked,
-  after-particle-reads.Learnt,
-) (group-at t) group.Post group-Inv-loop group-μ-loop
+group-enum-known-j-2 : (t : ℕ) → group-lts.Need-enum-known-j-2 (group-claims t) (group-at t) group.Post group-Inv-loop group-μ-loop
 group-enum-known-j-2 t c = search needs
 
-group-same-length-3 : (t : ℕ) → group-lts.Need-same-length-3 (
-  particle-below t,
-  particle.Post,
-  join-reads.Asked,
-  join-reads.Learnt,
-  after-particle-reads.Asked,
-  after-particle-reads.Learnt,
-) (group-at t) group.Post group-Inv-loop group-μ-loop
+group-same-length-3 : (t : ℕ) → group-lts.Need-same-length-3 (group-claims t) (group-at t) group.Post group-Inv-loop group-μ-loop
 group-same-length-3 t c = let l = group-length (c .before .before .before .before .before .before .before .before .before .before .before .before .before .before .before .before .before .before .loop .inv) in search needs
 
-group-same-length-4 : (t : ℕ) → group-lts.Need-same-length-4 (
-  particle-below t,
-  particle.Post,
-  join-reads.Asked,
-  join-reads.Learnt,
-  after-particle-reads.Asked,
-  after-particle-reads.Learnt,
-) (group-at t) group.Post group-Inv-loop group-μ-loop
+group-same-length-4 : (t : ℕ) → group-lts.Need-same-length-4 (group-claims t) (group-at t) group.Post group-Inv-loop group-μ-loop
 group-same-length-4 t c = let l = group-table (c .before .before .before .before .before .before .before .before .before .before .before .before .before .before .before .before .before .before .loop .inv) in search needs
 
-group-returns-2 : (t : ℕ) → group-lts.Need-returns-2 (
-  particle-below t,
-  particle.Post,
-  join-reads.Asked,
-  join-reads.Learnt,
-  after-particle-reads.Asked,
-  after-particle-reads.Learnt,
-) (group-at t) group.Post group-Inv-loop group-μ-loop
+group-returns-2 : (t : ℕ) → group-lts.Need-returns-2 (group-claims t) (group-at t) group.Post group-Inv-loop group-μ-loop
 group-returns-2 t c = record { says = group-stop (c .before .before .before .before .before .before .before .before .before .before .before .before .before .before .before .before .before .before .loop .inv) (c .before .before .before .before .before .before .before .before .before .before .before .before .before .before .before .before .before .before .before .before .before .before .pre .1 .3) (c .before .before .before .before .before .before .before .before .before .before .before .before .before .before .before .particle .ensures) (c .before .before .before .before .before .before .before .before .before .p .given .1) (c .before .before .before .before .before .before .join .ensures) (c .before .before .before .after-particle .ensures) (c .before .j2 .given .1) }
 
-group-enum-known-j-3 : (t : ℕ) → group-lts.Need-enum-known-j-3 (
-  particle-below t,
-  particle.Post,
-  join-reads.Asked,
-  join-reads.Learnt,
-  after-particle-reads.Asked,
-  after-particle-reads.Learnt,
-) (group-at t) group.Post group-Inv-loop group-μ-loop
+group-enum-known-j-3 : (t : ℕ) → group-lts.Need-enum-known-j-3 (group-claims t) (group-at t) group.Post group-Inv-loop group-μ-loop
 group-enum-known-j-3 t c = search needs
 
-group-same-length-5 : (t : ℕ) → group-lts.Need-same-length-5 (
-  particle-below t,
-  particle.Post,
-  join-reads.Asked,
-  join-reads.Learnt,
-  after-particle-reads.Asked,
-  after-particle-reads.Learnt,
-) (group-at t) group.Post group-Inv-loop group-μ-loop
+group-same-length-5 : (t : ℕ) → group-lts.Need-same-length-5 (group-claims t) (group-at t) group.Post group-Inv-loop group-μ-loop
 group-same-length-5 t c = let l = group-length (c .before .before .before .before .before .before .before .before .before .before .before .before .before .before .before .before .before .before .loop .inv) in search needs
 
-group-same-length-6 : (t : ℕ) → group-lts.Need-same-length-6 (
-  particle-below t,
-  particle.Post,
-  join-reads.Asked,
-  join-reads.Learnt,
-  after-particle-reads.Asked,
-  after-particle-reads.Learnt,
-) (group-at t) group.Post group-Inv-loop group-μ-loop
+group-same-length-6 : (t : ℕ) → group-lts.Need-same-length-6 (group-claims t) (group-at t) group.Post group-Inv-loop group-μ-loop
 group-same-length-6 t c = let l = group-table (c .before .before .before .before .before .before .before .before .before .before .before .before .before .before .before .before .before .before .loop .inv) in search needs
 
-group-returns-3 : (t : ℕ) → group-lts.Need-returns-3 (
-  particle-below t,
-  particle.Post,
-  join-reads.Asked,
-  join-reads.Learnt,
-  after-particle-reads.Asked,
-  after-particle-reads.Learnt,
-) (group-at t) group.Post group-Inv-loop group-μ-loop
+group-returns-3 : (t : ℕ) → group-lts.Need-returns-3 (group-claims t) (group-at t) group.Post group-Inv-loop group-μ-loop
 group-returns-3 t c = record { says = group-close (c .before .before .before .before .before .before .before .before .before .before .before .before .before .before .before .before .before .before .loop .inv) (c .before .before .before .before .before .before .before .before .before .before .before .before .before .before .before .before .before .before .before .before .before .before .pre .1 .3) (c .before .before .before .before .before .before .before .before .before .before .before .before .before .before .before .particle .ensures) (c .before .before .before .before .before .before .before .before .before .p .given .1) (c .before .before .before .before .before .before .join .ensures) (c .before .before .before .after-particle .ensures) (c .before .j3 .given .1) }
 
-group-enum-known-b : (t : ℕ) → group-lts.Need-enum-known-b (
-  particle-below t,
-  particle.Post,
-  join-reads.Asked,
-  join-reads.Learnt,
-  after-particle-reads.Asked,
-  after-particle-reads.Learnt,
-) (group-at t) group.Post group-Inv-loop group-μ-loop
+group-enum-known-b : (t : ℕ) → group-lts.Need-enum-known-b (group-claims t) (group-at t) group.Post group-Inv-loop group-μ-loop
 group-enum-known-b t c = search needs
 
-group-loop-less : (t : ℕ) → group-lts.Need-loop-less (
-  particle-below t,
-  particle.Post,
-  join-reads.Asked,
-  join-reads.Learnt,
-  after-particle-reads.Asked,
-  after-particle-reads.Learnt,
-) (group-at t) group.Post group-Inv-loop group-μ-loop
+group-loop-less : (t : ℕ) → group-lts.Need-loop-less (group-claims t) (group-at t) group.Post group-Inv-loop group-μ-loop
 group-loop-less t c = let N = group-next (c .before .before .before .before .before .before .before .before .before .before .before .before .before .before .before .before .before .before .loop .inv) (c .before .before .before .before .before .before .before .before .before .before .before .before .before .before .before .before .before .before .before .before .before .before .pre .1 .3) (c .before .before .before .before .before .before .before .before .before .before .before .before .before .before .before .particle .ensures) (c .before .before .before .before .before .before .before .before .before .p .given .1) (c .before .before .before .before .before .before .join .ensures) (c .before .before .before .after-particle .ensures) (c .before .b .given .1) in
     let h = N .1 .high in
     let l = N .0 in
     omega arith
 
-group-loop-again : (t : ℕ) → group-lts.Need-loop-again (
-  particle-below t,
-  particle.Post,
-  join-reads.Asked,
-  join-reads.Learnt,
-  after-particle-reads.Asked,
-  after-particle-reads.Learnt,
-) (group-at t) group.Post group-Inv-loop group-μ-loop
+group-loop-again : (t : ℕ) → group-lts.Need-loop-again (group-claims t) (group-at t) group.Post group-Inv-loop group-μ-loop
 group-loop-again t c = group-next (c .before .before .before .before .before .before .before .before .before .before .before .before .before .before .before .before .before .before .loop .inv) (c .before .before .before .before .before .before .before .before .before .before .before .before .before .before .before .before .before .before .before .before .before .before .pre .1 .3) (c .before .before .before .before .before .before .before .before .before .before .before .before .before .before .before .particle .ensures) (c .before .before .before .before .before .before .before .before .before .p .given .1) (c .before .before .before .before .before .before .join .ensures) (c .before .before .before .after-particle .ensures) (c .before .b .given .1) .1
 
-particle-skip-requires : (t : ℕ) → particle-lts.Need-skip-requires (
-  skip-reads.Asked,
-  skip-reads.Learnt,
-  starts-name-reads.Asked,
-  starts-name-reads.Learnt,
-  use-name-reads.Asked,
-  use-name-reads.Learnt,
-  group-below t,
-  group.Post,
-  indicated-reads.Asked,
-  indicated-reads.Learnt,
-) (particle-at t) particle.Post
+particle-skip-requires : (t : ℕ) → particle-lts.Need-skip-requires (particle-claims t) (particle-at t) particle.Post
 particle-skip-requires t c κs = c .before .before .before .pre .1 .0
 
-particle-returns : (t : ℕ) → particle-lts.Need-returns (
-  skip-reads.Asked,
-  skip-reads.Learnt,
-  starts-name-reads.Asked,
-  starts-name-reads.Learnt,
-  use-name-reads.Asked,
-  use-name-reads.Learnt,
-  group-below t,
-  group.Post,
-  indicated-reads.Asked,
-  indicated-reads.Learnt,
-) (particle-at t) particle.Post
+particle-returns : (t : ℕ) → particle-lts.Need-returns (particle-claims t) (particle-at t) particle.Post
 particle-returns t c = record { says = particle-end (c .before .before .before .before .before .args .depth) (c .before .before .before .before .before .args .n) (c .before .before .before .before .before .args .start) (c .before .before .before .before .before .args .out .now) (c .before .before .before .before .before .args .predecessors .now) (c .before .skip .ensures) (c .before .before .before .before .before .args .out .now) (c .before .before .before .before .before .args .predecessors .now) (c .if1 .taken) }
 
-particle-shared-slice-read-starts-name : (t : ℕ) → particle-lts.Need-shared-slice-read-starts-name (
-  skip-reads.Asked,
-  skip-reads.Learnt,
-  starts-name-reads.Asked,
-  starts-name-reads.Learnt,
-  use-name-reads.Asked,
-  use-name-reads.Learnt,
-  group-below t,
-  group.Post,
-  indicated-reads.Asked,
-  indicated-reads.Learnt,
-) (particle-at t) particle.Post
+particle-shared-slice-read-starts-name : (t : ℕ) → particle-lts.Need-shared-slice-read-starts-name (particle-claims t) (particle-at t) particle.Post
 particle-shared-slice-read-starts-name t c = search needs
 
-particle-starts-name-requires : (t : ℕ) → particle-lts.Need-starts-name-requires (
-  skip-reads.Asked,
-  skip-reads.Learnt,
-  starts-name-reads.Asked,
-  starts-name-reads.Learnt,
-  use-name-reads.Asked,
-  use-name-reads.Learnt,
-  group-below t,
-  group.Post,
-  indicated-reads.Asked,
-  indicated-reads.Learnt,
-) (particle-at t) particle.Post
+particle-starts-name-requires : (t : ℕ) → particle-lts.Need-starts-name-requires (particle-claims t) (particle-at t) particle.Post
 particle-starts-name-requires t c κs = search needs
 
-particle-use-name-requires : (t : ℕ) → particle-lts.Need-use-name-requires (
-  skip-reads.Asked,
-  skip-reads.Learnt,
-  starts-name-reads.Asked,
-  starts-name-reads.Learnt,
-  use-name-reads.Asked,
-  use-name-reads.Learnt,
-  group-below t,
-  group.Post,
-  indicated-reads.Asked,
-  indicated-reads.Learnt,
-) (particle-at t) particle.Post
+particle-use-name-requires : (t : ℕ) → particle-lts.Need-use-name-requires (particle-claims t) (particle-at t) particle.Post
 particle-use-name-requires t c κs = let k = c .before .before .before .before .before .before .skip .ensures .low in
     let l = c .before .before .before .before .before .before .before .before .before .before .pre .1 .2 in
     (c .before .before .before .before .before .if1 .left, sym (c .before .before .before .starts-name .ensures) ∙ c .before .before .if2 .taken, omega arith, c .before .before .before .before .before .before .before .before .before .before .pre .1 .3)
 
-particle-same-length : (t : ℕ) → particle-lts.Need-same-length (
-  skip-reads.Asked,
-  skip-reads.Learnt,
-  starts-name-reads.Asked,
-  starts-name-reads.Learnt,
-  use-name-reads.Asked,
-  use-name-reads.Learnt,
-  group-below t,
-  group.Post,
-  indicated-reads.Asked,
-  indicated-reads.Learnt,
-) (particle-at t) particle.Post
+particle-same-length : (t : ℕ) → particle-lts.Need-same-length (particle-claims t) (particle-at t) particle.Post
 particle-same-length t c = search needs
 
-particle-same-length-2 : (t : ℕ) → particle-lts.Need-same-length-2 (
-  skip-reads.Asked,
-  skip-reads.Learnt,
-  starts-name-reads.Asked,
-  starts-name-reads.Learnt,
-  use-name-reads.Asked,
-  use-name-reads.Learnt,
-  group-below t,
-  group.Post,
-  indicated-reads.Asked,
-  indicated-reads.Learnt,
-) (particle-at t) particle.Post
+particle-same-length-2 : (t : ℕ) → particle-lts.Need-same-length-2 (particle-claims t) (particle-at t) particle.Post
 particle-same-length-2 t c = search needs
 
-particle-returns-2 : (t : ℕ) → particle-lts.Need-returns-2 (
-  skip-reads.Asked,
-  skip-reads.Learnt,
-  starts-name-reads.Asked,
-  starts-name-reads.Learnt,
-  use-name-reads.Asked,
-  use-name-reads.Learnt,
-  group-below t,
-  group.Post,
-  indicated-reads.Asked,
-  indicated-reads.Learnt,
-) (particle-at t) particle.Post
+particle-returns-2 : (t : ℕ) → particle-lts.Need-returns-2 (particle-claims t) (particle-at t) particle.Post
 particle-returns-2 t c = record { says = particle-name (c .before .before .before .before .before .before .before .before .before .before .before .before .before .before .before .args .depth) (c .before .before .before .before .before .before .before .before .before .before .before .before .before .before .before .args .n) (c .before .before .before .before .before .before .before .before .before .before .before .before .before .before .before .args .start) (c .before .before .before .before .before .before .before .before .before .before .before .before .before .before .before .args .out .now) (c .before .before .before .before .before .before .before .before .before .before .before .before .before .before .before .args .predecessors .now) (c .before .before .before .before .before .before .before .before .before .before .before .skip .ensures) (c .before .before .before .before .before .before .before .before .before .before .if1 .left) _ _ (c .before .before .before .before .use-name .result) (sym (c .before .before .before .before .before .before .before .before .starts-name .ensures) ∙ c .before .before .before .before .before .before .before .if2 .taken) (c .before .before .before .before .use-name .ensures .says) }
 
-particle-shared-slice-read-if3 : (t : ℕ) → particle-lts.Need-shared-slice-read-if3 (
-  skip-reads.Asked,
-  skip-reads.Learnt,
-  starts-name-reads.Asked,
-  starts-name-reads.Learnt,
-  use-name-reads.Asked,
-  use-name-reads.Learnt,
-  group-below t,
-  group.Post,
-  indicated-reads.Asked,
-  indicated-reads.Learnt,
-) (particle-at t) particle.Post
+particle-shared-slice-read-if3 : (t : ℕ) → particle-lts.Need-shared-slice-read-if3 (particle-claims t) (particle-at t) particle.Post
 particle-shared-slice-read-if3 t c = search needs
 
-particle-returns-3 : (t : ℕ) → particle-lts.Need-returns-3 (
-  skip-reads.Asked,
-  skip-reads.Learnt,
-  starts-name-reads.Asked,
-  starts-name-reads.Learnt,
-  use-name-reads.Asked,
-  use-name-reads.Learnt,
-  group-below t,
-  group.Post,
-  indicated-reads.Asked,
-  indicated-reads.Learnt,
-) (particle-at t) particle.Post
+particle-returns-3 : (t : ℕ) → particle-lts.Need-returns-3 (particle-claims t) (particle-at t) particle.Post
 particle-returns-3 t c = record { says = particle-not (c .before .before .before .before .before .before .before .before .before .before .args .depth) (c .before .before .before .before .before .before .before .before .before .before .args .n) (c .before .before .before .before .before .before .before .before .before .before .args .start) (c .before .before .before .before .before .before .before .before .before .before .args .out .now) (c .before .before .before .before .before .before .before .before .before .before .args .predecessors .now) (c .before .before .before .before .before .before .skip .ensures) (c .before .before .before .before .before .if1 .left) (sym (c .before .before .before .starts-name .ensures) ∙ c .before .before .if2 .left) (c .before .before .before .before .before .before .before .before .before .before .args .out .now) (c .before .before .before .before .before .before .before .before .before .before .args .predecessors .now) (c .if3 .taken) }
 
-particle-returns-4 : (t : ℕ) → particle-lts.Need-returns-4 (
-  skip-reads.Asked,
-  skip-reads.Learnt,
-  starts-name-reads.Asked,
-  starts-name-reads.Learnt,
-  use-name-reads.Asked,
-  use-name-reads.Learnt,
-  group-below t,
-  group.Post,
-  indicated-reads.Asked,
-  indicated-reads.Learnt,
-) (particle-at t) particle.Post
+particle-returns-4 : (t : ℕ) → particle-lts.Need-returns-4 (particle-claims t) (particle-at t) particle.Post
 particle-returns-4 t c = record { says = particle-deep (c .before .before .before .before .before .before .before .before .before .before .before .args .depth) (c .before .before .before .before .before .before .before .before .before .before .before .args .n) (c .before .before .before .before .before .before .before .before .before .before .before .args .start) (c .before .before .before .before .before .before .before .before .before .before .before .args .out .now) (c .before .before .before .before .before .before .before .before .before .before .before .args .predecessors .now) (c .before .before .before .before .before .before .before .skip .ensures) (c .before .before .before .before .before .before .if1 .left) (sym (c .before .before .before .before .starts-name .ensures) ∙ c .before .before .before .if2 .left) (c .before .if3 .left) (c .before .before .before .before .before .before .before .before .before .before .before .args .out .now) (c .before .before .before .before .before .before .before .before .before .before .before .args .predecessors .now) (c .if4 .taken) }
 
-particle-add-group : (t : ℕ) → particle-lts.Need-add-group (
-  skip-reads.Asked,
-  skip-reads.Learnt,
-  starts-name-reads.Asked,
-  starts-name-reads.Learnt,
-  use-name-reads.Asked,
-  use-name-reads.Learnt,
-  group-below t,
-  group.Post,
-  indicated-reads.Asked,
-  indicated-reads.Learnt,
-) (particle-at t) particle.Post
+particle-add-group : (t : ℕ) → particle-lts.Need-add-group (particle-claims t) (particle-at t) particle.Post
 particle-add-group t c = search needs
 
-particle-add-group-2 : (t : ℕ) → particle-lts.Need-add-group-2 (
-  skip-reads.Asked,
-  skip-reads.Learnt,
-  starts-name-reads.Asked,
-  starts-name-reads.Learnt,
-  use-name-reads.Asked,
-  use-name-reads.Learnt,
-  group-below t,
-  group.Post,
-  indicated-reads.Asked,
-  indicated-reads.Learnt,
-) (particle-at t) particle.Post
+particle-add-group-2 : (t : ℕ) → particle-lts.Need-add-group-2 (particle-claims t) (particle-at t) particle.Post
 particle-add-group-2 t c = search needs
 
-particle-group-requires : (t : ℕ) → particle-lts.Need-group-requires (
-  skip-reads.Asked,
-  skip-reads.Learnt,
-  starts-name-reads.Asked,
-  starts-name-reads.Learnt,
-  use-name-reads.Asked,
-  use-name-reads.Learnt,
-  group-below t,
-  group.Post,
-  indicated-reads.Asked,
-  indicated-reads.Learnt,
-) (particle-at t) particle.Post
+particle-group-requires : (t : ℕ) → particle-lts.Need-group-requires (particle-claims t) (particle-at t) particle.Post
 particle-group-requires t c κs = let z : 2 * (8 - c .before .before .before .before .before .before .before .before .before .before .before .before .before .args .depth) ≡ t = c .before .before .before .before .before .before .before .before .before .before .before .before .before .pre .0 in
     let d : c .before .before .before .before .before .before .before .before .before .before .before .before .before .args .depth < 7 = c .before .before .if4 .left in
     let g : 2 * (8 - (c .before .before .before .before .before .before .before .before .before .before .before .before .before .args .depth + 1)) + 1 < t = omega arith in
@@ -459,141 +190,35 @@ particle-group-requires t c κs = let z : 2 * (8 - c .before .before .before .be
     let l = c .before .before .before .before .before .before .before .before .before .before .before .before .before .pre .1 .2 in
     (g, (omega (arith, c .before .before .before .before .before .before .before .before .if1 .left), omega arith, omega arith, c .before .before .before .before .before .before .before .before .before .before .before .before .before .pre .1 .3))
 
-particle-enum-known-p : (t : ℕ) → particle-lts.Need-enum-known-p (
-  skip-reads.Asked,
-  skip-reads.Learnt,
-  starts-name-reads.Asked,
-  starts-name-reads.Learnt,
-  use-name-reads.Asked,
-  use-name-reads.Learnt,
-  group-below t,
-  group.Post,
-  indicated-reads.Asked,
-  indicated-reads.Learnt,
-) (particle-at t) particle.Post
+particle-enum-known-p : (t : ℕ) → particle-lts.Need-enum-known-p (particle-claims t) (particle-at t) particle.Post
 particle-enum-known-p t c = search needs
 
-particle-indicated-requires : (t : ℕ) → particle-lts.Need-indicated-requires (
-  skip-reads.Asked,
-  skip-reads.Learnt,
-  starts-name-reads.Asked,
-  starts-name-reads.Learnt,
-  use-name-reads.Asked,
-  use-name-reads.Learnt,
-  group-below t,
-  group.Post,
-  indicated-reads.Asked,
-  indicated-reads.Learnt,
-) (particle-at t) particle.Post
+particle-indicated-requires : (t : ℕ) → particle-lts.Need-indicated-requires (particle-claims t) (particle-at t) particle.Post
 particle-indicated-requires t c κs = open-high (c .before .before .before .before .before .before .before .before .before .before .before .before .before .before .before .before .before .before .before .before .before .before .args .depth) (c .before .before .before .before .before .before .before .before .before .before .before .before .before .before .before .before .before .before .before .before .before .before .args .n) (c .before .before .before .before .before .before .before .before .before .before .before .before .before .before .before .before .before .before .before .before .before .before .args .start) (c .before .before .before .before .before .before .before .before .before .before .before .before .before .before .before .before .before .before .before .before .before .before .args .out .now) (c .before .before .before .before .before .before .before .before .before .before .before .before .before .before .before .before .before .before .before .before .before .before .args .predecessors .now) (c .before .before .before .before .before .before .before .before .before .before .before .before .before .before .before .before .before .before .skip .ensures) (c .before .before .before .before .before .before .before .before .before .before .before .before .before .before .before .before .before .if1 .left) (sym (c .before .before .before .before .before .before .before .before .before .before .before .before .before .before .before .starts-name .ensures) ∙ c .before .before .before .before .before .before .before .before .before .before .before .before .before .before .if2 .left) (c .before .before .before .before .before .before .before .before .before .before .before .before .if3 .left) (c .before .before .before .before .before .before .before .before .before .before .before .if4 .left) (c .before .before .before .before .before .before .before .before .group .ensures) _ (c .before .before .p .given .1)
 
-particle-enum-known-j : (t : ℕ) → particle-lts.Need-enum-known-j (
-  skip-reads.Asked,
-  skip-reads.Learnt,
-  starts-name-reads.Asked,
-  starts-name-reads.Learnt,
-  use-name-reads.Asked,
-  use-name-reads.Learnt,
-  group-below t,
-  group.Post,
-  indicated-reads.Asked,
-  indicated-reads.Learnt,
-) (particle-at t) particle.Post
+particle-enum-known-j : (t : ℕ) → particle-lts.Need-enum-known-j (particle-claims t) (particle-at t) particle.Post
 particle-enum-known-j t c = search needs
 
-particle-same-length-3 : (t : ℕ) → particle-lts.Need-same-length-3 (
-  skip-reads.Asked,
-  skip-reads.Learnt,
-  starts-name-reads.Asked,
-  starts-name-reads.Learnt,
-  use-name-reads.Asked,
-  use-name-reads.Learnt,
-  group-below t,
-  group.Post,
-  indicated-reads.Asked,
-  indicated-reads.Learnt,
-) (particle-at t) particle.Post
+particle-same-length-3 : (t : ℕ) → particle-lts.Need-same-length-3 (particle-claims t) (particle-at t) particle.Post
 particle-same-length-3 t c = search needs
 
-particle-same-length-4 : (t : ℕ) → particle-lts.Need-same-length-4 (
-  skip-reads.Asked,
-  skip-reads.Learnt,
-  starts-name-reads.Asked,
-  starts-name-reads.Learnt,
-  use-name-reads.Asked,
-  use-name-reads.Learnt,
-  group-below t,
-  group.Post,
-  indicated-reads.Asked,
-  indicated-reads.Learnt,
-) (particle-at t) particle.Post
+particle-same-length-4 : (t : ℕ) → particle-lts.Need-same-length-4 (particle-claims t) (particle-at t) particle.Post
 particle-same-length-4 t c = let l = c .before .before .indicated .ensures .repeated .long in search needs
 
-particle-returns-5 : (t : ℕ) → particle-lts.Need-returns-5 (
-  skip-reads.Asked,
-  skip-reads.Learnt,
-  starts-name-reads.Asked,
-  starts-name-reads.Learnt,
-  use-name-reads.Asked,
-  use-name-reads.Learnt,
-  group-below t,
-  group.Post,
-  indicated-reads.Asked,
-  indicated-reads.Learnt,
-) (particle-at t) particle.Post
+particle-returns-5 : (t : ℕ) → particle-lts.Need-returns-5 (particle-claims t) (particle-at t) particle.Post
 particle-returns-5 t c = record { says = open-past (c .before .before .before .before .before .before .before .before .before .before .before .before .before .before .before .before .before .before .before .before .before .before .before .before .before .args .depth) (c .before .before .before .before .before .before .before .before .before .before .before .before .before .before .before .before .before .before .before .before .before .before .before .before .before .args .n) (c .before .before .before .before .before .before .before .before .before .before .before .before .before .before .before .before .before .before .before .before .before .before .before .before .before .args .start) (c .before .before .before .before .before .before .before .before .before .before .before .before .before .before .before .before .before .before .before .before .before .before .before .before .before .args .out .now) (c .before .before .before .before .before .before .before .before .before .before .before .before .before .before .before .before .before .before .before .before .before .before .before .before .before .args .predecessors .now) (c .before .before .before .before .before .before .before .before .before .before .before .before .before .before .before .before .before .before .before .before .before .skip .ensures) (c .before .before .before .before .before .before .before .before .before .before .before .before .before .before .before .before .before .before .before .before .if1 .left) (sym (c .before .before .before .before .before .before .before .before .before .before .before .before .before .before .before .before .before .before .starts-name .ensures) ∙ c .before .before .before .before .before .before .before .before .before .before .before .before .before .before .before .before .before .if2 .left) (c .before .before .before .before .before .before .before .before .before .before .before .before .before .before .before .if3 .left) (c .before .before .before .before .before .before .before .before .before .before .before .before .before .before .if4 .left) (c .before .before .before .before .before .before .before .before .before .before .before .group .ensures) (c .before .before .before .before .before .p .given .1) (c .before .before .indicated .ensures) }
 
-particle-same-length-5 : (t : ℕ) → particle-lts.Need-same-length-5 (
-  skip-reads.Asked,
-  skip-reads.Learnt,
-  starts-name-reads.Asked,
-  starts-name-reads.Learnt,
-  use-name-reads.Asked,
-  use-name-reads.Learnt,
-  group-below t,
-  group.Post,
-  indicated-reads.Asked,
-  indicated-reads.Learnt,
-) (particle-at t) particle.Post
+particle-same-length-5 : (t : ℕ) → particle-lts.Need-same-length-5 (particle-claims t) (particle-at t) particle.Post
 particle-same-length-5 t c = search needs
 
-particle-same-length-6 : (t : ℕ) → particle-lts.Need-same-length-6 (
-  skip-reads.Asked,
-  skip-reads.Learnt,
-  starts-name-reads.Asked,
-  starts-name-reads.Learnt,
-  use-name-reads.Asked,
-  use-name-reads.Learnt,
-  group-below t,
-  group.Post,
-  indicated-reads.Asked,
-  indicated-reads.Learnt,
-) (particle-at t) particle.Post
+particle-same-length-6 : (t : ℕ) → particle-lts.Need-same-length-6 (particle-claims t) (particle-at t) particle.Post
 particle-same-length-6 t c = search needs
 
-particle-returns-6 : (t : ℕ) → particle-lts.Need-returns-6 (
-  skip-reads.Asked,
-  skip-reads.Learnt,
-  starts-name-reads.Asked,
-  starts-name-reads.Learnt,
-  use-name-reads.Asked,
-  use-name-reads.Learnt,
-  group-below t,
-  group.Post,
-  indicated-reads.Asked,
-  indicated-reads.Learnt,
-) (particle-at t) particle.Post
+particle-returns-6 : (t : ℕ) → particle-lts.Need-returns-6 (particle-claims t) (particle-at t) particle.Post
 particle-returns-6 t c = record { says = open-fail (c .before .before .before .before .before .before .before .before .before .before .before .before .before .before .before .before .before .before .before .before .before .args .depth) (c .before .before .before .before .before .before .before .before .before .before .before .before .before .before .before .before .before .before .before .before .before .args .n) (c .before .before .before .before .before .before .before .before .before .before .before .before .before .before .before .before .before .before .before .before .before .args .start) (c .before .before .before .before .before .before .before .before .before .before .before .before .before .before .before .before .before .before .before .before .before .args .out .now) (c .before .before .before .before .before .before .before .before .before .before .before .before .before .before .before .before .before .before .before .before .before .args .predecessors .now) (c .before .before .before .before .before .before .before .before .before .before .before .before .before .before .before .before .before .skip .ensures) (c .before .before .before .before .before .before .before .before .before .before .before .before .before .before .before .before .if1 .left) (sym (c .before .before .before .before .before .before .before .before .before .before .before .before .before .before .starts-name .ensures) ∙ c .before .before .before .before .before .before .before .before .before .before .before .before .before .if2 .left) (c .before .before .before .before .before .before .before .before .before .before .before .if3 .left) (c .before .before .before .before .before .before .before .before .before .before .if4 .left) (c .before .before .before .before .before .before .before .group .ensures) (c .before .j .given .1) }
 
 pub +group+particle-spec : {M : Type 1} → statement M
-+group+particle-spec = close μ-group μ-particle (λ t. group-lts.spec (
-  particle-below t,
-  particle.Post,
-  join-reads.Asked,
-  join-reads.Learnt,
-  after-particle-reads.Asked,
-  after-particle-reads.Learnt,
-)
++group+particle-spec = close μ-group μ-particle (λ t. group-lts.spec (group-claims t)
     (group-at t)
     group.Post
     group-Inv-loop
@@ -618,18 +243,7 @@ pub +group+particle-spec : {M : Type 1} → statement M
     (group-enum-known-b t)
     (group-loop-less t)
     (group-loop-again t))
-    λ t. particle-lts.spec (
-      skip-reads.Asked,
-      skip-reads.Learnt,
-      starts-name-reads.Asked,
-      starts-name-reads.Learnt,
-      use-name-reads.Asked,
-      use-name-reads.Learnt,
-      group-below t,
-      group.Post,
-      indicated-reads.Asked,
-      indicated-reads.Learnt,
-    )
+    λ t. particle-lts.spec (particle-claims t)
     (particle-at t)
     particle.Post
     (particle-skip-requires t)

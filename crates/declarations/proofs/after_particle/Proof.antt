@@ -1,7 +1,6 @@
 -- `after_particle` meets its contract: the byte after the blanks decides. Assumes nothing.
 use mathlib.Core.Path.{sym, _∙_}
 use Rattle.declarations.proofs.Models.{follow-end, follow-close, follow-more, follow-not}
-use native.Mathlib.Omega.{arith}
 use borrow.Author.Needs.{needs}
 use Rattle.declarations.proofs.after_particle.Statement.{statement}
 use Rattle.declarations.proofs.after_particle.Tie as tie

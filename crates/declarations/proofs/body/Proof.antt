@@ -1,6 +1,5 @@
 -- `body` meets its contract: a content and `>`. Assumes nothing.
 use Rattle.declarations.proofs.Contents.{content-high, body-fail, body-end, body-close, body-not}
-use native.Mathlib.Omega.{arith}
 use borrow.Author.Needs.{needs}
 use Rattle.declarations.proofs.body.Statement.{statement}
 use Rattle.declarations.proofs.body.Tie as tie

@@ -1,6 +1,5 @@
 -- `content` meets its contract: `(`, `EMPTY` or neither. Assumes nothing.
 use Rattle.declarations.proofs.Contents.{content-end, content-model, content-empty, content-not}
-use native.Mathlib.Omega.{arith}
 use borrow.Author.Needs.{needs}
 use Rattle.declarations.proofs.content.Statement.{statement}
 use Rattle.declarations.proofs.content.Tie as tie

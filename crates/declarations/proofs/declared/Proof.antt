@@ -1,6 +1,5 @@
 -- `declared` meets its contract. Assumes nothing.
 use Rattle.declarations.proofs.Contents.{rest-past, rest-fail}
-use native.Mathlib.Omega.{arith}
 use borrow.Author.Needs.{needs}
 use Rattle.declarations.proofs.declared.Statement.{statement}
 use Rattle.declarations.proofs.declared.Tie as tie

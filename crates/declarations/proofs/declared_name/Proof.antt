@@ -1,8 +1,7 @@
 -- `declared_name` meets its contract. Assumes nothing.
-use mathlib.Core.Path.{_≡_, refl, sym, ap, _∙_}
+use mathlib.Core.Path.{sym, _∙_}
 use borrow.Author.Tests.{not-true, not-false}
 use Rattle.declarations.proofs.Contents.{head-end, head-not, head-fail, head-high, head-past}
-use native.Mathlib.Omega.{arith}
 use borrow.Author.Needs.{needs}
 use Rattle.declarations.proofs.declared_name.Statement.{statement}
 use Rattle.declarations.proofs.declared_name.Tie as tie

@@ -1,9 +1,6 @@
 -- `indicator` meets its contract: a byte after a particle that is an indicator, or is none. Assumes nothing.
-use mathlib.Core.Bool.{Bool, true, false}
-use mathlib.Core.List.{List, [], _∷_, _++_, append-assoc, append-nil}
-use mathlib.Core.Path.{_≡_, refl, sym, ap, _∙_}
-use Prim.Native.Nat.{ℕ, suc, _+_, _-_, _≤_, _<_}
-use native.Mathlib.Omega.{arith}
+use mathlib.Core.Path.{sym, _∙_}
+use Prim.Native.Nat.{_-_}
 use borrow.Author.Needs.{needs}
 use Rattle.declarations.proofs.Judging.{indicator-there, indicator-absent, indicator-end}
 use Rattle.declarations.proofs.indicator.Statement.{statement}

@@ -1,7 +1,5 @@
 -- `is_indicator` meets its contract: the tests in their order. Assumes nothing.
 use borrow.Author.Tests.{eq-eqb, ne-eqb}
-use borrow.Author.Needs.{needs}
-use native.Mathlib.Omega.{arith}
 use Rattle.declarations.proofs.is_indicator.Statement.{statement}
 use Rattle.declarations.proofs.is_indicator.Tie as tie
 

@@ -1,6 +1,5 @@
 -- `join` meets its contract: nothing, `,` or `|` parts the group. Assumes nothing.
 use Rattle.declarations.proofs.Building.{joined-first, joined-comma, joined-bar}
-use native.Mathlib.Omega.{arith}
 use borrow.Author.Needs.{needs}
 use Rattle.declarations.proofs.join.Statement.{statement}
 use Rattle.declarations.proofs.join.Tie as tie

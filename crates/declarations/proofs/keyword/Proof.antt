@@ -1,7 +1,5 @@
 -- `keyword` meets its contract. Assumes nothing.
-use mathlib.Core.Path.{_≡_, refl, sym, ap, _∙_}
 use Rattle.declarations.proofs.Contents.{keyword-not, keyword-fail, keyword-high, keyword-past}
-use native.Mathlib.Omega.{arith}
 use borrow.Author.Needs.{needs}
 use Rattle.declarations.proofs.keyword.Statement.{statement}
 use Rattle.declarations.proofs.keyword.Tie as tie

@@ -1,7 +1,5 @@
 -- `may_part` meets its contract: the tests in their order. Assumes nothing.
 use borrow.Author.Tests.{eq-eqb, ne-eqb}
-use borrow.Author.Needs.{needs}
-use native.Mathlib.Omega.{arith}
 use Rattle.declarations.proofs.may_part.Statement.{statement}
 use Rattle.declarations.proofs.may_part.Tie as tie
 

@@ -1,6 +1,5 @@
 -- `model` meets its contract: `#` or a group. Assumes nothing.
 use Rattle.declarations.proofs.Contents.{model-end, model-pcdata, model-fail, model-high, model-past}
-use native.Mathlib.Omega.{arith}
 use borrow.Author.Needs.{needs}
 use Rattle.declarations.proofs.model.Statement.{statement}
 use Rattle.declarations.proofs.model.Tie as tie

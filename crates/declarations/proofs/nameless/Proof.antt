@@ -1,9 +1,7 @@
 -- `nameless` meets its contract. Assumes nothing.
 use mathlib.Core.Path.{sym, ap}
-use Prim.Native.Nat.{ℕ}
 use Rattle.declarations.specs.Parts.{namelessOf}
 use Rattle.declarations.specs.declared.Read.{Read}
-use native.Mathlib.Omega.{arith}
 use borrow.Author.Needs.{needs}
 use Rattle.declarations.proofs.nameless.Statement.{statement}
 use Rattle.declarations.proofs.nameless.Tie as tie

@@ -1,7 +1,6 @@
 -- `note` meets its contract. Assumes nothing.
 use mathlib.Core.Path.{sym}
 use lib.Seq.{set-out}
-use native.Mathlib.Omega.{arith}
 use borrow.Author.Needs.{needs}
 use Rattle.declarations.proofs.note.Statement.{statement}
 use Rattle.declarations.proofs.note.Tie as tie

@@ -1,7 +1,5 @@
 -- `pcdata` meets its contract: the keyword, blanks, and the byte after them. Assumes nothing.
-use mathlib.Core.Path.{_≡_, refl, sym, ap, _∙_}
 use Rattle.declarations.proofs.Contents.{pcdata-fail, pcdata-high, pcdata-end, pcdata-close, pcdata-not}
-use native.Mathlib.Omega.{arith}
 use borrow.Author.Needs.{needs}
 use Rattle.declarations.proofs.pcdata.Statement.{statement}
 use Rattle.declarations.proofs.pcdata.Tie as tie

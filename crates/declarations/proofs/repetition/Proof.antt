@@ -3,7 +3,6 @@ use mathlib.Core.Path.{ap}
 use Rattle.declarations.proofs.Building.{repeated-none, repeated-optional, repeated-any, repeated-more}
 use Rattle.declarations.proofs.Judging.{once-past, once-other}
 use Rattle.declarations.specs.Parts.{indicatorOf}
-use native.Mathlib.Omega.{arith}
 use borrow.Author.Needs.{needs}
 use Rattle.declarations.proofs.repetition.Statement.{statement}
 use Rattle.declarations.proofs.repetition.Tie as tie

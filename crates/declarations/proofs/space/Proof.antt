@@ -1,7 +1,6 @@
 -- `space` meets its contract. Assumes nothing.
-use mathlib.Core.Path.{_≡_, refl, sym, ap, _∙_}
+use mathlib.Core.Path.{sym, _∙_}
 use Rattle.declarations.proofs.Contents.{space-end, space-not, space-past}
-use native.Mathlib.Omega.{arith}
 use borrow.Author.Needs.{needs}
 use Rattle.declarations.proofs.space.Statement.{statement}
 use Rattle.declarations.proofs.space.Tie as tie

@@ -1,6 +1,5 @@
 -- `use_name` meets its contract: the name, then its indicator. Assumes nothing.
 use Rattle.declarations.proofs.Models.{name-fail, name-high, name-past}
-use native.Mathlib.Omega.{arith}
 use borrow.Author.Needs.{needs}
 use Rattle.declarations.proofs.use_name.Statement.{statement}
 use Rattle.declarations.proofs.use_name.Tie as tie

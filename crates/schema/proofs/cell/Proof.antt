@@ -1,7 +1,6 @@
 -- `cell` meets its contract. Assumes nothing.
 use mathlib.Core.Path.{sym}
 use lib.ListN.{List·getD-eq-default}
-use native.Mathlib.Omega.{arith}
 use borrow.Author.Needs.{needs}
 use Rattle.schema.proofs.cell.Statement.{statement}
 use Rattle.schema.proofs.cell.Tie as tie

@@ -1,6 +1,5 @@
 -- `judge` meets its contract: 4, then 5, then the names. Assumes nothing.
 use Rattle.schema.proofs.Outcomes.{judge-departs, judge-over, judge-room, judge-spelling}
-use native.Mathlib.Omega.{arith}
 use borrow.Author.Needs.{needs}
 use Rattle.schema.proofs.judge.Statement.{statement}
 use Rattle.schema.proofs.judge.Tie as tie

@@ -1,6 +1,5 @@
 -- `judge_names` meets its contract: 6, then 7, then acceptance. Assumes nothing.
 use Rattle.schema.proofs.Outcomes.{read-twice, read-undeclared, read-accepted}
-use native.Mathlib.Omega.{arith}
 use borrow.Author.Needs.{needs}
 use Rattle.schema.proofs.judge_names.Statement.{statement}
 use Rattle.schema.proofs.judge_names.Tie as tie

@@ -1,6 +1,5 @@
 -- `judge_schema` meets its contract: 2, then 3, then the others. Assumes nothing.
 use Rattle.schema.proofs.Outcomes.{read-empty, read-long, read-foreign, readable}
-use native.Mathlib.Omega.{arith}
 use borrow.Author.Needs.{needs}
 use Rattle.schema.proofs.judge_schema.Statement.{statement}
 use Rattle.schema.proofs.judge_schema.Tie as tie

@@ -2,7 +2,6 @@
 use Prim.Native.Nat.{_-_, _≤_}
 use lib.ListN.{length}
 use borrow.Author.Needs.{needs}
-use native.Mathlib.Omega.{arith}
 use Rattle.schema_cases.proofs.run.Statement.{statement}
 use Rattle.schema_cases.proofs.run.Tie as tie
 

@@ -6,7 +6,6 @@ use native.Mathlib.Nat.{zero-add}
 use Rattle.schema_names.specs.Names.{nameAt}
 use Rattle.schema_names.proofs.Naming.{found-one, found-none, name-whole, never-found}
 use Rattle.schema_spec.specs.Schemas.{indexFrom}
-use native.Mathlib.Omega.{arith}
 use borrow.Author.Needs.{needs}
 use Rattle.schema_names.proofs.element_named.Statement.{statement}
 use Rattle.schema_names.proofs.element_named.Tie as tie

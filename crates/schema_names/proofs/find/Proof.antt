@@ -8,7 +8,6 @@ use Rattle.schema_spec.specs.Schemas.{indexFrom}
 use Rattle.text_spec.specs.Lists.{valueOr}
 use Rattle.schema_names.proofs.Naming.{index-here, index-later, index-none}
 use borrow.Author.Needs.{needs}
-use native.Mathlib.Omega.{arith}
 use Rattle.schema_names.proofs.find.Statement.{statement}
 use Rattle.schema_names.proofs.find.Tie as tie
 

@@ -1,6 +1,6 @@
 -- `same_name` meets its contract: the names are the same if what is left of them is. Assumes nothing.
 use mathlib.Core.Path.{_≡_, refl, sym, _∙_}
-use Prim.Native.Nat.{_+_, _-_, _<_}
+use Prim.Native.Nat.{_+_, _-_}
 use lib.ListN.{length}
 use Rattle.schema_names.specs.Names.{nameAt}
 use Rattle.text_spec.specs.Lists.{sameBytes}

@@ -1,6 +1,5 @@
 -- `read_schema` meets its contract: the answer, and the record that it hands back. Assumes nothing.
 use Rattle.schema_reader.proofs.Records.{read-as}
-use native.Mathlib.Omega.{arith}
 use borrow.Author.Needs.{needs}
 use Rattle.schema_reader.proofs.read_schema.Statement.{statement}
 use Rattle.schema_reader.proofs.read_schema.Tie as tie

@@ -1,8 +1,8 @@
 -- `same_cells` meets its contract: the first i bytes are the same. Assumes nothing.
-use mathlib.Core.Path.{_≡_, refl, sym, ap, _∙_}
+use mathlib.Core.Path.{_≡_, refl, sym, _∙_}
 use borrow.Author.Needs.{needs}
 use native.Mathlib.Omega.{arith}
-use Prim.Native.Nat.{_-_, _≤_, _<_}
+use Prim.Native.Nat.{_-_, _≤_}
 use lib.ListN.{length, drop}
 use Rattle.text_spec.specs.Lists.{sameBytes}
 use Rattle.schema_reader.proofs.Rereading.{cells-sizes, cells-ended, cells-differ, cells-next}

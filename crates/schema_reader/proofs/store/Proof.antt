@@ -1,7 +1,6 @@
 -- `store` meets its contract. Assumes nothing.
 use mathlib.Core.Path.{sym}
 use Rattle.declarations.proofs.Judging.{yes, no}
-use native.Mathlib.Omega.{arith}
 use borrow.Author.Needs.{needs}
 use Rattle.schema_reader.proofs.store.Statement.{statement}
 use Rattle.schema_reader.proofs.store.Tie as tie

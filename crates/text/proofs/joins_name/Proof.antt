@@ -1,7 +1,5 @@
 -- `joins_name` meets its contract: the tests in their order. Assumes nothing.
 use borrow.Author.Tests.{eq-eqb, ne-eqb}
-use borrow.Author.Needs.{needs}
-use native.Mathlib.Omega.{arith}
 use Rattle.text.proofs.joins_name.Statement.{statement}
 use Rattle.text.proofs.joins_name.Tie as tie
 

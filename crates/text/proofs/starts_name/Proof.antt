@@ -1,10 +1,9 @@
 -- `starts_name` meets its contract: class by class, computed over the bytes of the class. Assumes nothing.
 use mathlib.Core.Path.{sym, ap, _∙_}
-use mathlib.Core.Bool.{Bool, true, false}
-use Prim.Native.Nat.{ℕ}
+use mathlib.Core.Bool.{true, false}
 use lib.Dec.{eqb}
 use Rattle.text_spec.specs.Bytes.{classOf, startsName}
-use Rattle.text.specs.Classes.{meant, joinsName}
+use Rattle.text.specs.Classes.{meant}
 use Rattle.text.specs.declared.Class.the-variants.{Blank, Letter, Digit, Markup, Other, Foreign}
 use Rattle.text.proofs.Runs.{agree-in}
 use native.Mathlib.Omega.{arith}
