@@ -3,21 +3,20 @@ use mathlib.Core.Bool.{Bool, true, false, cond}
 use mathlib.Core.List.{List, [], _∷_, _++_, append-assoc, append-nil}
 use mathlib.Core.Option.{Option, some}
 use mathlib.Core.Path.{_≡_, refl, sym, ap, subst, _∙_}
-use Prim.Native.Nat.{ℕ, zero, suc, _+_}
+use Prim.Native.Nat.{ℕ, suc, _+_}
 use native.Mathlib.Omega.{arith}
-use lib.ListN.{length, length-append, take, drop, getElem?}
+use lib.ListN.{length, length-append, take, getElem?}
 use lib.Seq.{take-at, drop-at}
 use Rattle.journal_laws.specs.Judging.Meaning.{accepted-valid}
 use Rattle.journal_laws.specs.Walks.{spell-append}
-use Rattle.journal_spec.specs.Conditions.{ValidJournal}
 use Rattle.journal_spec.specs.Reading.{readJournal}
-use Rattle.journal_spec.specs.Tokens.{Token, startTag, emptyTag, endTag, characters, spellToken, spell}
+use Rattle.journal_spec.specs.Tokens.{Token, startTag, emptyTag, endTag, spellToken, spell}
 use Rattle.journal_spec.specs.Trees.{Forest, nothing, data-node, element-node, Spells, no-tokens, data-next, empty-tag, tag-pair, OneRoot, at-once, after-blanks, WellFormedText, indexOf, countIn, nodesUnder, treeNodes, rowsUnder, treeRows}
-use Rattle.schema_spec.specs.Names.{Name, element, text}
+use Rattle.schema_spec.specs.Names.{element, text}
 use Rattle.schema_spec.specs.Schemas.{Schema, contentAt, isPcdata}
 use Rattle.table_laws.specs.Places.{at-before, at-end}
 use Rattle.table_spec.specs.Nodes.{Node, top, under, attachTo, nodeAt, nodesFrom, nodesOf}
-use Rattle.table_spec.specs.Rows.{Row, textOf}
+use Rattle.table_spec.specs.Rows.{Row}
 use Rattle.text_spec.specs.Lists.{part}
 use Rattle.text_spec.specs.Refusals.{accepted}
 

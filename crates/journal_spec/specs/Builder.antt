@@ -1,5 +1,5 @@
 -- Events turned into rows, with what breaks nesting (12, 13) and what is invalid or too much (14 to 16). Assumes nothing.
-use mathlib.Core.Bool.{Bool, true, false, cond, not, _&&_, _||_}
+use mathlib.Core.Bool.{Bool, true, false, cond, not, _||_}
 use mathlib.Core.List.{List, [], _∷_, _++_}
 use mathlib.Core.Option.{Option, none, some}
 use Prim.Native.Nat.{ℕ, suc}
@@ -7,7 +7,7 @@ use lib.Dec.{eqb, leb, ltb}
 use lib.ListN.{length}
 use Rattle.journal_spec.specs.Lexer.{Event, quiet, starts, empties, ends, runs, Run}
 use Rattle.schema_spec.specs.Models.{Content, empty, pcdata, children, Progress, started, advance, complete}
-use Rattle.schema_spec.specs.Names.{Name, element, text}
+use Rattle.schema_spec.specs.Names.{element, text}
 use Rattle.schema_spec.specs.Schemas.{Schema, elementNamed, contentAt}
 use Rattle.table_spec.specs.Rows.{Row}
 use Rattle.text_spec.specs.Limits.{maxDepth, maxNodes, maxTextBytes}

@@ -1,11 +1,9 @@
 -- The outcome of reading a journal in one pass: refusals 2, 3 and 11 to 16, or the rows. Assumes nothing.
-use mathlib.Core.Bool.{Bool, true, false, cond, not, _&&_, _||_}
+use mathlib.Core.Bool.{false, not, _&&_, _||_}
 use mathlib.Core.List.{List, [], _∷_, _++_, reverse}
-use mathlib.Core.Option.{Option, none, some}
 use Prim.Native.Nat.{ℕ, suc}
-use lib.ListN.{length}
 use Rattle.journal_spec.specs.Builder.{Building, building, onEvent}
-use Rattle.journal_spec.specs.Lexer.{Mode, between, Lexed, lex, lastEvent, misspeltAt}
+use Rattle.journal_spec.specs.Lexer.{Mode, between, lex, lastEvent, misspeltAt}
 use Rattle.schema_spec.specs.Schemas.{Schema}
 use Rattle.table_spec.specs.Rows.{Row}
 use Rattle.text_spec.specs.Bytes.{isForeign}

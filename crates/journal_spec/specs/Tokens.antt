@@ -4,9 +4,8 @@ use mathlib.Core.List.{List, [], _∷_, _++_}
 use mathlib.Core.Path.{_≡_}
 use Prim.Native.Nat.{ℕ, zero, suc, _+_}
 use lib.Dec.{T, eqb}
-use lib.ListN.{length}
-use Rattle.text_spec.specs.Bytes.{isBlank, isName, allBlank}
-use Rattle.text_spec.specs.Lists.{bytes, isEmpty}
+use Rattle.text_spec.specs.Bytes.{isName, allBlank}
+use Rattle.text_spec.specs.Lists.{bytes}
 
 -- a tag with its name and the blanks before its `>` or `/>`; character data as written
 pub data Token : Type 0 where

@@ -1,12 +1,11 @@
 -- Trees of a journal (source document 000, 2.1), what spells them, and their nodes and rows in document order. Assumes nothing.
-use mathlib.Core.Bool.{Bool, true, false, cond}
+use mathlib.Core.Bool.{cond}
 use mathlib.Core.List.{List, [], _∷_, _++_}
-use mathlib.Core.Path.{_≡_}
-use Prim.Native.Nat.{ℕ, suc, _+_, _≤_, max}
+use Prim.Native.Nat.{ℕ, suc, _+_, max}
 use lib.Dec.{T}
 use lib.ListN.{length}
 use Rattle.journal_spec.specs.Tokens.{Token, startTag, emptyTag, endTag, characters, spell, spellToken, Tokens}
-use Rattle.schema_spec.specs.Names.{Name, element, text}
+use Rattle.schema_spec.specs.Names.{element, text}
 use Rattle.schema_spec.specs.Schemas.{Schema, elementNamed, contentAt, isPcdata}
 use Rattle.table_spec.specs.Nodes.{Node, top, under}
 use Rattle.table_spec.specs.Rows.{Row}

@@ -1,5 +1,5 @@
 -- When and where refusals 2, 3, 8, 9 and 10 apply to a bundle text, and what it gives: no machine is mentioned. Assumes nothing.
-use mathlib.Core.List.{List, [], _∷_, map, List·Memᴰ}
+use mathlib.Core.List.{List, map, List·Memᴰ}
 use mathlib.Core.Option.{none}
 use mathlib.Core.Path.{_≡_}
 use Prim.Native.Nat.{ℕ, _<_, _≤_}

@@ -1,11 +1,11 @@
 -- A bundle text read a byte at a time: the paths that it spells, or the first byte after which no bundle could go on. Assumes nothing.
-use mathlib.Core.Bool.{Bool, true, false, cond, _&&_, _||_}
+use mathlib.Core.Bool.{Bool, true, false, cond}
 use mathlib.Core.List.{List, [], _∷_, _++_, map, reverse}
 use Prim.Native.Nat.{ℕ, suc, _-_}
 use lib.Dec.{eqb, ltb}
 use lib.ListN.{length, drop}
 use Rattle.path_spec.specs.Grammar.{PathRead, nodeCall, textCall, orWord}
-use Rattle.path_spec.specs.Paths.{WrittenAxis, writtenAxes, spellAxis, NodeTest, named, anyNode, anyText, WrittenStep, PlainStep, Condition, LocationPath}
+use Rattle.path_spec.specs.Paths.{WrittenAxis, writtenAxes, spellAxis, NodeTest, named, anyNode, anyText, PlainStep, Condition, LocationPath}
 use Rattle.schema_spec.specs.Declarations.{Use}
 use Rattle.text_spec.specs.Bytes.{startsName, continuesName}
 use Rattle.text_spec.specs.Limits.{maxNameBytes}

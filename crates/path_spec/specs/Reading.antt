@@ -1,5 +1,5 @@
 -- The outcome of reading a bundle text under a schema: refusals 2, 3, 8, 9 and 10, or the paths. Assumes nothing.
-use mathlib.Core.Bool.{Bool, true, false, _&&_, _||_}
+use mathlib.Core.Bool.{Bool, _||_}
 use mathlib.Core.List.{List, [], _∷_, _++_, map}
 use Prim.Native.Nat.{ℕ, suc}
 use lib.Dec.{leb, ltb}

@@ -1,13 +1,10 @@
 -- Demand 3, proved over the definitions of document 01: nothing that a path of the bundle looks at is missing.
 -- A DTD is a schema text that is read, a bundle a text that is read under it, a journal a text that is read under it at the library's
 -- length limit. Nothing else is assumed.
-use mathlib.Core.Bool.{Bool, true, false, _&&_}
-use mathlib.Core.List.{List, [], _∷_, List·Memᴰ as In}
-use mathlib.Core.Path.{_≡_, refl, sym, ap, subst, _∙_}
-use Prim.Native.Nat.{ℕ, _≤_, _<_}
-use native.Mathlib.Omega.{arith}
+use mathlib.Core.List.{List, List·Memᴰ as In}
+use mathlib.Core.Path.{_≡_, sym, ap, _∙_}
+use Prim.Native.Nat.{ℕ}
 use lib.Dec.{T}
-use lib.ListN.{length}
 use Rattle.journal_laws.specs.Accepted.{accepted-well-formed}
 use Rattle.journal_spec.specs.Reading.{readJournal}
 use Rattle.path_spec.specs.Paths.{LocationPath}
@@ -15,20 +12,19 @@ use Rattle.path_spec.specs.Reading.{readBundle}
 use Rattle.path_spec.specs.Selection.{selectRows}
 use Rattle.projection_spec.specs.Extracts.Conditions.{SameTables}
 use Rattle.projection_spec.specs.Extracts.Cut.{cut, cutToWord}
-use Rattle.projection_spec.specs.Extracts.Fields.{writeExtract}
 use Rattle.projection_spec.specs.Extracts.Reading.{readExtract}
 use Rattle.projection_spec.specs.Inference.Needed.{neededByPath, needed}
 use Rattle.projection_spec.specs.Laws.Cutting.{cut-well-formed-with}
-use Rattle.projection_spec.specs.Laws.Documents.{SubsetOf, Lawful}
+use Rattle.projection_spec.specs.Laws.Documents.{Lawful}
 use Rattle.projection_spec.specs.Laws.Lawful.{types-lawful}
 use Rattle.projection_spec.specs.Laws.RoundTrip.{write-read}
 use Rattle.projection_spec.specs.Laws.Tables.{cut-selects-same, same-tables-select}
 use Rattle.projection_spec.specs.Laws.TextNames.{text-names}
 use Rattle.projection_spec.specs.Library.Hosts.{extractOf}
-use Rattle.schema_laws.specs.Accepted.{accepted-filled, accepted-closed, accepted-length}
+use Rattle.schema_laws.specs.Accepted.{accepted-filled, accepted-closed}
 use Rattle.schema_laws.specs.Names.{within-in}
 use Rattle.schema_laws.specs.Words.{in-setOfWord}
-use Rattle.schema_spec.specs.Names.{Name, Names, element, namesOf, codeOf, hasBit, setOfWord}
+use Rattle.schema_spec.specs.Names.{Name, codeOf, hasBit, setOfWord}
 use Rattle.schema_spec.specs.Reading.{readSchema}
 use Rattle.schema_spec.specs.Schemas.{Schema}
 use Rattle.schema_spec.specs.Types.{Types, typesOf}

@@ -1,5 +1,5 @@
 -- Relations between names as tables, and the closure of one: one or more steps, by Warshall's method. Assumes nothing.
-use mathlib.Core.Bool.{Bool, true, false, cond, _&&_, _||_}
+use mathlib.Core.Bool.{Bool, cond, _&&_, _||_}
 use mathlib.Core.List.{List, [], _∷_}
 use Rattle.schema_spec.specs.Names.{Name, Names, sameName, has}
 use Rattle.text_spec.specs.Lists.{filterBy}

@@ -1,5 +1,5 @@
 -- When and where refusals 2 to 7 apply to a schema text, and what the text gives: no machine is mentioned. Assumes nothing.
-use mathlib.Core.List.{List, [], _∷_, List·Memᴰ}
+use mathlib.Core.List.{List, List·Memᴰ}
 use mathlib.Core.Path.{_≡_}
 use Prim.Native.Nat.{ℕ, _≤_}
 use Rattle.schema_spec.specs.Declarations.{Use, Declaration}

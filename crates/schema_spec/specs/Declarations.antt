@@ -1,6 +1,6 @@
 -- Declarations as they are written: each name with its place. Assumes nothing.
 use mathlib.Core.Bool.{true, false}
-use mathlib.Core.List.{List, [], _∷_}
+use mathlib.Core.List.{List, []}
 use Prim.Native.Nat.{ℕ}
 use Rattle.schema_spec.specs.Models.{Particle, sequence, choice, repeated, Content}
 use Rattle.text_spec.specs.Lists.{bytes}

@@ -8,7 +8,6 @@ use Rattle.schema_spec.specs.Declarations.{Use, Declaration, elementKeyw
 use Rattle.schema_spec.specs.Models.{Particle, named, Content, empty, pcdata, children}
 use Rattle.text_spec.specs.Bytes.{isBlank, isName}
 use Rattle.text_spec.specs.Limits.{maxGroups}
-use Rattle.text_spec.specs.Lists.{bytes}
 
 -- S?
 pub data Blanks : List ℕ → Type 0 where

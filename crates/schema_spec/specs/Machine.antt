@@ -1,11 +1,11 @@
 -- A schema text read a byte at a time: the declarations that it spells, or the first byte after which no schema text could go on.
 -- The state holds what has been read, with a stack of open groups. Assumes nothing.
-use mathlib.Core.Bool.{Bool, true, false, cond, _&&_, _||_}
+use mathlib.Core.Bool.{Bool, true, false, cond, _&&_}
 use mathlib.Core.List.{List, [], _∷_, _++_, reverse}
 use Prim.Native.Nat.{ℕ, suc}
 use lib.Dec.{eqb, ltb}
 use lib.ListN.{length}
-use Rattle.schema_spec.specs.Declarations.{Use, Declaration, elementKeyword, emptyKeyword, pcdataKeyword, Indicator, optional, any, oneOrMore, indicated, Separator, unparted, byBar, byComma, joinBy}
+use Rattle.schema_spec.specs.Declarations.{Use, Declaration, elementKeyword, emptyKeyword, pcdataKeyword, optional, any, oneOrMore, indicated, Separator, unparted, byBar, byComma, joinBy}
 use Rattle.schema_spec.specs.Models.{Particle, named, Content, empty, pcdata, children}
 use Rattle.text_spec.specs.Bytes.{isBlank, startsName, continuesName}
 use Rattle.text_spec.specs.Limits.{maxNameBytes, maxGroups}

@@ -1,11 +1,10 @@
 -- Names of the type system, sets of them, and their 64-bit encoding. Assumes nothing.
-use mathlib.Core.Bool.{Bool, true, false, cond, _&&_, _||_}
+use mathlib.Core.Bool.{Bool, true, false, cond}
 use mathlib.Core.List.{List, [], _∷_, _++_, map}
 use mathlib.Core.Option.{Option, none, some}
 use Prim.Native.Nat.{ℕ, suc, _+_, _-_, _/_, _%_, _^_}
 use lib.Dec.{eqb, ltb}
-use lib.ListN.{length}
-use Rattle.schema_spec.specs.Schemas.{Schema, Element, isPcdata}
+use Rattle.schema_spec.specs.Schemas.{Schema, isPcdata}
 use Rattle.text_spec.specs.Limits.{maxDeclarations}
 use Rattle.text_spec.specs.Lists.{anyOf, filterBy}
 

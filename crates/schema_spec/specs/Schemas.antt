@@ -4,7 +4,7 @@ use mathlib.Core.List.{List, [], _∷_, map}
 use mathlib.Core.Option.{Option, none, some}
 use Prim.Native.Nat.{ℕ, suc}
 use lib.ListN.{getElem?}
-use Rattle.schema_spec.specs.Declarations.{Use, Declaration}
+use Rattle.schema_spec.specs.Declarations.{Declaration}
 use Rattle.schema_spec.specs.Models.{Content, empty, pcdata, children, renameContent, usesIn}
 use Rattle.text_spec.specs.Lists.{sameBytes, valueOr}
 

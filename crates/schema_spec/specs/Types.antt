@@ -1,7 +1,5 @@
 -- What types are inferred from: the names of a schema, which holds which, below and above. Assumes nothing.
-use mathlib.Core.Bool.{Bool, true, false, _&&_}
-use mathlib.Core.List.{List, [], _∷_}
-use Prim.Native.Nat.{ℕ}
+use mathlib.Core.Bool.{Bool, false, _&&_}
 use lib.Dec.{T, eqb}
 use Rattle.schema_spec.specs.Closure.{Relation, related, closure}
 use Rattle.schema_spec.specs.Names.{Name, Names, element, text, namesOf}

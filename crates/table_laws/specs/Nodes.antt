@@ -1,10 +1,10 @@
 -- The tests on nodes mean what they say: `same` equality, `isParent` an edge, `isAbove` the edges' closure. Assumes nothing.
 use mathlib.Core.Bool.{_&&_}
 use mathlib.Core.Logic.{⊎-elim}
-use mathlib.Core.Path.{_≡_, sym, ap, subst}
+use mathlib.Core.Path.{_≡_, sym, subst}
 use lib.Dec.{T, eqb, eqb→eq, eqb-refl}
 use Rattle.schema_laws.specs.Names.{same-equal, same-name}
-use Rattle.schema_spec.specs.Names.{Name, sameName}
+use Rattle.schema_spec.specs.Names.{sameName}
 use Rattle.table_spec.specs.Nodes.{Node, top, under, same, Edge, edge, Above, parent, higher, isParent, isAbove}
 use Rattle.text_laws.specs.Lists.{bytes-equal, bytes-same}
 use Rattle.text_laws.specs.Tests.{or-left, or-right, or-cases, and-intro, and-cases}

@@ -1,13 +1,12 @@
 -- What document 01 says of a well-formed table, sentence by sentence, over positions of rows: no loop is mentioned. Assumes nothing.
-use mathlib.Core.Bool.{Bool}
-use mathlib.Core.List.{List, [], _∷_, List·Memᴰ}
+use mathlib.Core.List.{List, List·Memᴰ}
 use mathlib.Core.Logic.{_⊎_}
-use mathlib.Core.Option.{Option, none, some}
+use mathlib.Core.Option.{some}
 use mathlib.Core.Path.{_≡_}
 use Prim.Native.Nat.{ℕ, suc, _+_, _<_, _≤_}
 use lib.Dec.{T}
 use lib.ListN.{length, getElem?}
-use Rattle.schema_spec.specs.Names.{Name, element, text, isText}
+use Rattle.schema_spec.specs.Names.{element, text, isText}
 use Rattle.schema_spec.specs.Types.{Types}
 use Rattle.table_spec.specs.Rows.{Row, textOf}
 use Rattle.text_spec.specs.Bytes.{isForeign}

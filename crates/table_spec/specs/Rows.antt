@@ -1,5 +1,5 @@
 -- Rows, and how they stand in lent cells. Assumes nothing.
-use mathlib.Core.List.{List, [], _∷_, map}
+use mathlib.Core.List.{List, [], _∷_}
 use mathlib.Core.Option.{Option, none, some}
 use Prim.Native.Nat.{ℕ}
 use Rattle.schema_spec.specs.Names.{Name, codeOf, nameOfCode}

@@ -4,7 +4,7 @@ use mathlib.Core.List.{List, [], _∷_, _++_}
 use Prim.Native.Nat.{ℕ}
 use lib.Dec.{eqb, leb, ltb}
 use lib.ListN.{length}
-use Rattle.schema_spec.specs.Names.{Name, element, text, isText, sameName, has}
+use Rattle.schema_spec.specs.Names.{Name, element, text, isText, sameName}
 use Rattle.schema_spec.specs.Types.{Types}
 use Rattle.table_spec.specs.Nodes.{Node, top, under, nameOf, numberOf, same, isAbove, depthOf, nodeAt}
 use Rattle.table_spec.specs.Rows.{Row, textOf}

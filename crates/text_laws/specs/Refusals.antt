@@ -1,14 +1,11 @@
 -- Laws of the order of refusals: the first of what was found, and what an accepted text was free of. Assumes nothing.
-use mathlib.Core.Bool.{Bool, true, false, cond, _&&_, _||_}
-use mathlib.Core.List.{List, [], _∷_, _++_, map, List·Memᴰ as In, List·Memᴰ·head as here, List·Memᴰ·tail as there}
-use mathlib.Core.Logic.{_⊎_, inl, inr, ⊎-elim}
-use mathlib.Core.Option.{Option, none, some}
-use mathlib.Core.Path.{_≡_, refl, sym, ap, subst, _∙_}
-use Prim.Native.Nat.{ℕ, _≤_, _<_}
+use mathlib.Core.Bool.{Bool, true, false}
+use mathlib.Core.List.{List, [], _∷_, List·Memᴰ as In, List·Memᴰ·head as here, List·Memᴰ·tail as there}
+use mathlib.Core.Path.{_≡_, refl}
+use Prim.Native.Nat.{ℕ}
 use native.Mathlib.Omega.{arith}
-use lib.Dec.{T, eqb, ltb, eqb→eq, ltb→lt, nltb→le}
-use Rattle.text_laws.specs.Tests.{or-left, or-right, or-cases, and-intro, and-cases, decided, not-intro}
-use Rattle.text_spec.specs.Refusals.{Reason, Refusal, at, allAt, given, numberOf, before, firstFrom, firstOf, Outcome, accepted, refused, judged, byFirst}
+use lib.Dec.{T}
+use Rattle.text_spec.specs.Refusals.{Refusal, given, firstOf, accepted, judged}
 
 -- what an accepted text gives, and that nothing was found against it
 pub judged-accepted : {A : Type 0} (fs : List Refusal) (a b : A) → judged fs a ≡ accepted b → (fs ≡ []) × (a ≡ b)

@@ -1,11 +1,11 @@
 -- Bytes, their six classes, blanks, and names of 1 to 31 bytes. Assumes nothing.
-use mathlib.Core.Bool.{Bool, true, false, cond, not, _&&_, _||_}
+use mathlib.Core.Bool.{Bool, false, cond, not, _&&_, _||_}
 use mathlib.Core.List.{List, [], _∷_}
 use Prim.Native.Nat.{ℕ}
 use lib.Dec.{eqb, leb}
 use lib.ListN.{length}
 use Rattle.text_spec.specs.Limits.{maxNameBytes}
-use Rattle.text_spec.specs.Lists.{bytes, anyOf, allOf, isEmpty}
+use Rattle.text_spec.specs.Lists.{bytes, anyOf, allOf}
 
 abbrev pub within : ℕ → ℕ → ℕ → Bool
 within low high b = leb low b && leb b high

@@ -1,13 +1,13 @@
 -- A journal text is accepted exactly when it spells a tree that is valid under the schema and within the limits, and then its rows are
 -- that tree's nodes. Assumes nothing.
-use mathlib.Core.Bool.{Bool, true, false, not, _&&_, _||_}
-use mathlib.Core.List.{List, [], _∷_, _++_, reverse, List·Memᴰ as In, List·Memᴰ·head as here, Memᴰ·append-right as append-right}
+use mathlib.Core.Bool.{Bool, true, false, not, _||_}
+use mathlib.Core.List.{List, [], _∷_, reverse, List·Memᴰ as In, List·Memᴰ·head as here, Memᴰ·append-right as append-right}
 use mathlib.Core.Logic.{_⊎_, inl, inr, ⊎-elim}
 use mathlib.Core.Option.{Option, none, some}
 use mathlib.Core.Path.{_≡_, refl, sym, ap, subst, _∙_}
-use Prim.Native.Nat.{ℕ, zero, suc, _+_, _≤_, _<_}
+use Prim.Native.Nat.{ℕ, _+_, _≤_, _<_}
 use native.Mathlib.Omega.{arith}
-use lib.Dec.{T, eqb, leb, ltb, eqb→eq, leb→le, ltb→lt, lt→ltb, nltb→le}
+use lib.Dec.{T, eqb, ltb, eqb→eq, ltb→lt, nltb→le}
 use lib.ListN.{length, length-append}
 use Rattle.journal_laws.specs.Contents.{Misplaced, wrong-root, wrong-content, tree-14, tree-15, tree-wrong-root}
 use Rattle.journal_laws.specs.Events.{build, eventsFrom, none-foreign}
@@ -19,10 +19,10 @@ use Rattle.journal_laws.specs.Passes.{tokens-lexed}
 use Rattle.journal_laws.specs.Undeclared.{Late, late-14, late-15, late-16, reasons-of}
 use Rattle.journal_spec.specs.Builder.{Building, wrongRoot}
 use Rattle.journal_spec.specs.Conditions.{JournalApplies, JournalGives, gives, ValidJournal}
-use Rattle.journal_spec.specs.Lexer.{between, misspeltAt}
+use Rattle.journal_spec.specs.Lexer.{between}
 use Rattle.journal_spec.specs.Reading.{initial, run, endsEarly, readJournal}
 use Rattle.journal_spec.specs.Trees.{Forest, WellFormedText, treeRows, treeStarts, NodeStart}
-use Rattle.journal_spec.specs.Validity.{InTree, the-root, ContentFits, Valid}
+use Rattle.journal_spec.specs.Validity.{the-root, ContentFits, Valid}
 use Rattle.schema_spec.specs.Schemas.{Schema, elementNamed, contentAt}
 use Rattle.table_spec.specs.Rows.{Row}
 use Rattle.text_laws.specs.Lists.{all-in, memberless, append-empty, empty-of}
@@ -33,7 +33,7 @@ use Rattle.text_laws.specs.Texts.{length-within, split-at, split-in}
 use Rattle.text_spec.specs.Bytes.{isForeign}
 use Rattle.text_spec.specs.Limits.{maxNodes, maxTextBytes}
 use Rattle.text_spec.specs.Lists.{isEmpty, isNone}
-use Rattle.text_spec.specs.Refusals.{Reason, Refusal, at, allAt, given, misspelt, badContent, undeclaredElement, overNodeLimit, badLength, Outcome, accepted, refused, judged, IsFirst, Judged, turned-back, taken}
+use Rattle.text_spec.specs.Refusals.{Reason, Refusal, at, allAt, misspelt, badContent, undeclaredElement, overNodeLimit, badLength, Outcome, accepted, refused, IsFirst, Judged, turned-back, taken}
 use Rattle.text_spec.specs.Texts.{SplitAt, lengthRefusals}
 
 -- a declared root that is not the wrong one is the schema's

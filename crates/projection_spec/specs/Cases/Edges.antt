@@ -1,17 +1,16 @@
 -- Cases at the edges of the refusals, of the last filter and of refusal 1. Assumes nothing.
 use mathlib.Core.List.{List, [], _∷_, _++_, map}
 use mathlib.Core.Path.{_≡_, refl}
-use Prim.Native.Nat.{ℕ}
 use Rattle.projection_spec.specs.Cases.Opened.{computing}
-use Rattle.projection_spec.specs.Cases.Questions.{Text, Question, schemaRead, bundleRead, journalRead, extractRead, tableLent, names, Answer, taken, turnedBack, theNames, answerTo, Case, case, AllHold, copies, pathsOf}
+use Rattle.projection_spec.specs.Cases.Questions.{Text, schemaRead, bundleRead, journalRead, extractRead, tableLent, names, taken, turnedBack, theNames, answerTo, Case, case, AllHold, copies, pathsOf}
 use Rattle.projection_spec.specs.Cases.Tried.{schemaS, journalJ, steps}
 use Rattle.projection_spec.specs.Inference.Needed.{neededBeforeFilter}
 use Rattle.projection_spec.specs.Library.Lent.{Columns}
-use Rattle.schema_spec.specs.Names.{Name, element, has}
+use Rattle.schema_spec.specs.Names.{element, has}
 use Rattle.schema_spec.specs.Records.{schemaIn}
 use Rattle.schema_spec.specs.Types.{typesOf}
 use Rattle.text_spec.specs.Lists.{bytes, anyOf}
-use mathlib.Core.Bool.{Bool, true, false}
+use mathlib.Core.Bool.{true}
 
 -- an element that may hold all three kinds of content
 abbrev pub schemaA : Text

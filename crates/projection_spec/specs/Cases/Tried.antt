@@ -1,11 +1,11 @@
 -- Document 01's cases: the paths tried on S and J, the two extracts in hex, the fourth row's numbers, the listing, and the pairs
 -- accepted and turned back. One table, one theorem. Assumes nothing.
 use mathlib.Core.List.{List, [], _∷_, _++_, map}
-use mathlib.Core.Path.{_≡_, refl}
+use mathlib.Core.Path.{refl}
 use Prim.Native.Nat.{ℕ, zero, suc}
 use Prim.Native.String.{String}
 use Rattle.projection_spec.specs.Cases.Opened.{computing}
-use Rattle.projection_spec.specs.Cases.Questions.{Text, Question, schemaRead, bundleRead, journalRead, names, nodes, rowsKept, extractMade, printed, Answer, taken, turnedBack, theNames, theNumbers, theBytes, answerTo, Case, case, AllHold, copies}
+use Rattle.projection_spec.specs.Cases.Questions.{Text, schemaRead, bundleRead, journalRead, names, nodes, rowsKept, extractMade, printed, taken, turnedBack, theNames, theNumbers, theBytes, answerTo, Case, case, AllHold, copies}
 use Rattle.projection_spec.specs.Library.Listing.{decimal}
 use Rattle.schema_spec.specs.Names.{Names, element, text}
 use Rattle.text_spec.specs.Lists.{bytes}

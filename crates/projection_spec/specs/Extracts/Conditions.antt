@@ -1,12 +1,12 @@
 -- When refusals 2 and 17 apply to an extract, and what it gives; what a cut keeps: no loop is mentioned. Assumes nothing.
-use mathlib.Core.List.{List, [], _∷_, map, List·Memᴰ}
+use mathlib.Core.List.{List, [], _∷_, List·Memᴰ}
 use mathlib.Core.Path.{_≡_}
 use Prim.Native.Nat.{ℕ}
 use Rattle.projection_spec.specs.Extracts.Fields.{writeExtract}
-use Rattle.schema_spec.specs.Names.{Name, Names}
+use Rattle.schema_spec.specs.Names.{Names}
 use Rattle.schema_spec.specs.Types.{Types}
 use Rattle.table_spec.specs.Conditions.{WellFormedBeside}
-use Rattle.table_spec.specs.Nodes.{Node, nameOf, Above, nodesOf}
+use Rattle.table_spec.specs.Nodes.{Node, nameOf, Above}
 use Rattle.table_spec.specs.Rows.{Row, textOf}
 use Rattle.text_spec.specs.Refusals.{Reason, badLength, badExtract}
 

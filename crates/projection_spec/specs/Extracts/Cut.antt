@@ -1,9 +1,9 @@
 -- Cutting a table to a set of names. Assumes nothing.
-use mathlib.Core.Bool.{Bool, true, false, cond}
+use mathlib.Core.Bool.{Bool, cond}
 use mathlib.Core.List.{List, [], _∷_, _++_}
 use Prim.Native.Nat.{ℕ}
 use lib.ListN.{length, take}
-use Rattle.schema_spec.specs.Names.{Name, Names, has, setOfWord}
+use Rattle.schema_spec.specs.Names.{Names, has, setOfWord}
 use Rattle.schema_spec.specs.Types.{Types}
 use Rattle.table_spec.specs.Nodes.{Node, allNames, nodeAt}
 use Rattle.table_spec.specs.Rows.{Row}

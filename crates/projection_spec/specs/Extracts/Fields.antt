@@ -1,6 +1,5 @@
 -- The bytes of an extract: "fields of a one-byte tag, a two-byte length (high byte first) and a value". Assumes nothing.
-use mathlib.Core.Bool.{Bool, true, false}
-use mathlib.Core.List.{List, [], _∷_, _++_, map}
+use mathlib.Core.List.{List, [], _∷_, _++_}
 use mathlib.Core.Option.{Option, none, some}
 use Prim.Native.Nat.{ℕ, _/_, _%_}
 use lib.ListN.{length, getElem?}

@@ -1,17 +1,17 @@
 -- The outcome of reading an extract under a schema: refusals 2 and 17, or the rows. Assumes nothing.
-use mathlib.Core.Bool.{Bool, true, false, cond, not, _&&_, _||_}
+use mathlib.Core.Bool.{Bool, false, cond, not}
 use mathlib.Core.List.{List, [], _∷_, _++_}
 use mathlib.Core.Option.{Option, none, some}
 use Prim.Native.Nat.{ℕ, zero, suc, _+_, _*_}
 use lib.Dec.{eqb, leb}
 use lib.ListN.{length, take, drop}
 use Rattle.projection_spec.specs.Extracts.Fields.{elementTag, textTag, countTag}
-use Rattle.schema_spec.specs.Names.{Name, element, text}
+use Rattle.schema_spec.specs.Names.{element, text}
 use Rattle.schema_spec.specs.Types.{Types}
 use Rattle.table_spec.specs.Rows.{Row}
 use Rattle.table_spec.specs.Tables.{wellFormedWith}
 use Rattle.text_spec.specs.Lists.{isEmpty}
-use Rattle.text_spec.specs.Refusals.{Refusal, Outcome, judged, at, given, badLength, badExtract}
+use Rattle.text_spec.specs.Refusals.{Outcome, judged, at, given, badLength, badExtract}
 
 -- what a field says; a text also says where its bytes stand
 pub data Item : Type 0 where

@@ -1,10 +1,10 @@
 -- The names that a path and a bundle need (document 01, "Needed names"), computing. Assumes nothing.
-use mathlib.Core.Bool.{Bool, true, false, not, _&&_, _||_}
+use mathlib.Core.Bool.{Bool, true, not, _||_}
 use mathlib.Core.List.{List, [], _∷_, _++_}
 use Prim.Native.Nat.{ℕ}
-use Rattle.path_spec.specs.Paths.{Axis, self, child, descendant, descendantOrSelf, parent, ancestor, ancestorOrSelf, NodeTest, Step, PlainStep, Condition, LocationPath, expand}
+use Rattle.path_spec.specs.Paths.{Axis, self, child, descendant, descendantOrSelf, parent, ancestor, ancestorOrSelf, Step, Condition, LocationPath, expand}
 use Rattle.schema_spec.specs.Closure.{related, closure}
-use Rattle.schema_spec.specs.Names.{Name, Names, sameName, has, within, wordOfSet}
+use Rattle.schema_spec.specs.Names.{Name, Names, sameName, within, wordOfSet}
 use Rattle.schema_spec.specs.Types.{Types, isBelow}
 use Rattle.text_spec.specs.Lists.{anyOf, filterBy, gather, isEmpty}
 use Rattle.projection_spec.specs.Inference.Types.{Env, env, allBelow, allAbove, cutTo, infer, inferAll}

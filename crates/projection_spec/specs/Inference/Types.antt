@@ -1,10 +1,10 @@
 -- Types and contexts, step by step (source document 000, 4.1; document 01, "Needed names"). Sets are lists of names. Assumes nothing.
-use mathlib.Core.Bool.{Bool, true, false, _&&_, _||_}
+use mathlib.Core.Bool.{Bool, _||_}
 use mathlib.Core.List.{List, [], _∷_, _++_}
 use Prim.Native.Nat.{ℕ}
 use Rattle.path_spec.specs.Paths.{Axis, self, child, descendant, descendantOrSelf, parent, ancestor, ancestorOrSelf, NodeTest, Step}
 use Rattle.path_spec.specs.Selection.{passes}
-use Rattle.schema_spec.specs.Names.{Name, Names, sameName, has, within}
+use Rattle.schema_spec.specs.Names.{Name, Names, has, within}
 use Rattle.schema_spec.specs.Types.{Types, isBelow}
 use Rattle.text_spec.specs.Lists.{anyOf, filterBy}
 

@@ -1,13 +1,12 @@
 -- Walks as document 01 says them, and what they need, as relations. Assumes nothing.
-use mathlib.Core.Bool.{Bool, true, false}
+use mathlib.Core.Bool.{Bool}
 use mathlib.Core.List.{List, [], _∷_, List·Memᴰ}
-use mathlib.Core.Path.{_≡_}
 use Prim.Native.Nat.{ℕ}
 use lib.Dec.{T}
 use Rattle.path_spec.specs.Paths.{Axis, self, child, descendant, descendantOrSelf, parent, ancestor, ancestorOrSelf, Step, PlainStep, Condition, LocationPath, expand}
 use Rattle.schema_spec.specs.Names.{Name, Names, element}
 use Rattle.schema_spec.specs.Schemas.{Schema}
-use Rattle.schema_spec.specs.Types.{Types, typesOf, holds, Below}
+use Rattle.schema_spec.specs.Types.{typesOf, holds, Below}
 use Rattle.projection_spec.specs.Inference.Types.{Env, env, cutTo, infer}
 use Rattle.projection_spec.specs.Inference.Needed.{keepsAll, keepsName, atRoot}
 

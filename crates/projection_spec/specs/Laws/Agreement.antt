@@ -1,16 +1,16 @@
 -- The main lemma: two documents that have the same nodes among those whose own and ancestors' names are all needed give a path the same
 -- nodes. It is symmetric in the documents, and speaks of any start, any type and context, and any conditions with two laws.
 -- Assumes nothing.
-use mathlib.Core.Bool.{Bool, true, false}
-use mathlib.Core.List.{List, [], _∷_, _++_, List·Memᴰ as In, List·Memᴰ·head as here, List·Memᴰ·tail as there, Memᴰ·append-left as append-left, Memᴰ·append-right as append-right}
-use mathlib.Core.Path.{_≡_, refl, sym, ap, subst, _∙_}
+use mathlib.Core.Bool.{Bool}
+use mathlib.Core.List.{List, [], _∷_, _++_, List·Memᴰ as In, List·Memᴰ·head as here, Memᴰ·append-left as append-left, Memᴰ·append-right as append-right}
+use mathlib.Core.Path.{refl}
 use Prim.Native.Nat.{ℕ}
 use lib.Dec.{T}
 use Rattle.path_laws.specs.Selection.{test-passes}
-use Rattle.path_spec.specs.Paths.{Axis, WrittenAxis, along, NodeTest, WrittenStep, Step, expandStep, expand}
+use Rattle.path_spec.specs.Paths.{WrittenAxis, along, NodeTest, WrittenStep, Step, expandStep, expand}
 use Rattle.path_spec.specs.Selection.{NodeSet, Passes, passes, OnAxis, OnWritten, on-along, StepSet, PathSet}
 use Rattle.projection_spec.specs.Inference.Needed.{linked, between, complete, need}
-use Rattle.projection_spec.specs.Inference.Types.{Env, env, cutTo, move, narrow, infer, inferAll}
+use Rattle.projection_spec.specs.Inference.Types.{Env, cutTo, move, narrow, infer, inferAll}
 use Rattle.projection_spec.specs.Laws.Documents.{SubsetOf, Within, Valid, AllValid, Lawful}
 use Rattle.projection_spec.specs.Laws.Soundness.{Typed, cut-within, narrow-typed, move-typed, axis-linked, axis-within}
 use Rattle.schema_spec.specs.Names.{Name, Names}

@@ -1,16 +1,16 @@
 -- Steps without brackets and document 01's conditions meet the two laws that the main lemma asks for. Assumes nothing.
-use mathlib.Core.Bool.{Bool, true, false, not, _||_}
-use mathlib.Core.List.{List, [], _∷_, List·Memᴰ as In, List·Memᴰ·head as here, List·Memᴰ·tail as there}
-use mathlib.Core.Path.{_≡_, refl, sym, subst}
+use mathlib.Core.Bool.{Bool, not}
+use mathlib.Core.List.{List, [], _∷_, List·Memᴰ·head as here}
+use mathlib.Core.Path.{refl, sym, subst}
 use Prim.Native.Nat.{ℕ}
 use lib.Dec.{T}
 use Rattle.path_spec.specs.Paths.{PlainStep, Condition, expand}
 use Rattle.path_spec.specs.Selection.{PathSet, Always, Only, Holds, no-condition, alternative}
 use Rattle.projection_spec.specs.Inference.Needed.{need, keepsAll, wantsNothing, keepsName, wantsNames}
-use Rattle.projection_spec.specs.Inference.Types.{Env, env, inferAll}
+use Rattle.projection_spec.specs.Inference.Types.{env, inferAll}
 use Rattle.projection_spec.specs.Laws.Agreement.{Alike, Fair, Trip, trip-of, of-trip, trip-track, track-typed, trip-alike}
 use Rattle.projection_spec.specs.Laws.Documents.{SubsetOf, Within, Valid, AllValid, Lawful}
-use Rattle.schema_spec.specs.Names.{Name, Names}
+use Rattle.schema_spec.specs.Names.{Names}
 use Rattle.schema_spec.specs.Types.{Types}
 use Rattle.table_spec.specs.Nodes.{Node, nameOf}
 use Rattle.text_laws.specs.Lists.{any-in, in-gather, member-fills}

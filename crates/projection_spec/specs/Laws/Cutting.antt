@@ -1,27 +1,26 @@
 -- The nodes of a cut table are the kept nodes of the table, and a cut table is well formed. Assumes nothing.
-use mathlib.Core.Bool.{Bool, true, false, cond, not, _&&_, _||_}
+use mathlib.Core.Bool.{Bool, true, false, cond, _&&_, _||_}
 use mathlib.Core.List.{List, [], _∷_, _++_, map, map-append, List·Memᴰ as In, List·Memᴰ·head as here, List·Memᴰ·tail as there, List·Memᴰ·append-cases as append-cases}
 use mathlib.Core.Logic.{_⊎_, inl, inr, ⊎-elim}
 use mathlib.Core.Option.{Option, none, some}
 use mathlib.Core.Path.{_≡_, refl, sym, ap, subst, _∙_}
 use Prim.Native.Nat.{ℕ, zero, suc, _<_, _≤_}
 use native.Mathlib.Omega.{arith}
-use lib.Dec.{T, eqb, leb, ltb, ltb→lt, lt→ltb}
+use lib.Dec.{T}
 use lib.ListN.{length, length-map, take, getElem?}
 use lib.Seq.{take-nil}
 use Rattle.table_laws.specs.Fits.{RowFits, row-fits, fits-row, Rooted, rooted, rooted-fits}
 use Rattle.table_laws.specs.Nodes.{nodes-equal, equal-same, test-above, above-test}
 use Rattle.table_laws.specs.Places.{at-in}
 use Rattle.projection_spec.specs.Extracts.Cut.{kept, renumbered, cutFrom, cut}
-use Rattle.projection_spec.specs.Laws.Rows.{bare, bare-kept, bare-node, bare-filter, filtered-at, Grown, no-rows, next-row, root-grown}
-use Rattle.schema_spec.specs.Names.{Name, Names, element, text, has, isText, sameName}
+use Rattle.projection_spec.specs.Laws.Rows.{bare, bare-kept, bare-node, bare-filter, filtered-at, Grown, next-row, root-grown}
+use Rattle.schema_spec.specs.Names.{Name, Names, element, text, has, isText}
 use Rattle.schema_spec.specs.Types.{Types}
-use Rattle.table_spec.specs.Nodes.{Node, top, under, nameOf, numberOf, depthOf, same, Edge, edge, Above, parent, higher, isAbove, attachTo, nodeAt, nodesFrom, nodesOf}
+use Rattle.table_spec.specs.Nodes.{Node, top, under, nameOf, numberOf, same, Edge, edge, Above, parent, higher, isAbove, attachTo, nodeAt, nodesFrom, nodesOf}
 use Rattle.table_spec.specs.Rows.{Row, textOf}
 use Rattle.table_spec.specs.Tables.{parentOpen, parentHolds, sameParent, firstText, textFits, rowFits, laterRows, wellFormed, textInside, wellFormedWith}
-use Rattle.text_laws.specs.Lists.{filter-append, filter-in, in-filter, any-in, in-any, all-in, in-all}
-use Rattle.text_laws.specs.Tests.{or-left, or-right, or-cases, and-intro, and-cases, not-intro, not-elim, passed, true-of, false-of}
-use Rattle.text_spec.specs.Limits.{maxNodes, maxDepth}
+use Rattle.text_laws.specs.Lists.{filter-append, filter-in, any-in, in-any}
+use Rattle.text_laws.specs.Tests.{or-left, or-right, or-cases, and-intro, and-cases, not-intro, not-elim, passed}
 use Rattle.text_spec.specs.Lists.{filterBy, anyOf, allOf}
 
 append-nothing : {A : Type 0} (l : List A) → l ++ [] ≡ l

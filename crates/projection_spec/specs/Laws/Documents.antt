@@ -1,10 +1,8 @@
 -- Nodes of valid documents: their names against holdings, and sets that have the names of a node and of all its ancestors.
 -- Assumes nothing.
-use mathlib.Core.Bool.{Bool, true, false, _&&_, _||_}
-use mathlib.Core.List.{List, [], _∷_, _++_, List·Memᴰ as In, List·Memᴰ·head as here, List·Memᴰ·tail as there}
-use mathlib.Core.Logic.{_⊎_, inl, inr, ⊎-elim}
-use mathlib.Core.Path.{_≡_, refl, sym, ap, subst, _∙_}
-use Prim.Native.Nat.{ℕ}
+use mathlib.Core.List.{List, List·Memᴰ as In}
+use mathlib.Core.Logic.{_⊎_, inl, inr}
+use mathlib.Core.Path.{_≡_, sym, subst}
 use lib.Dec.{T}
 use Rattle.projection_spec.specs.Extracts.Cut.{kept}
 use Rattle.schema_laws.specs.Names.{has-in, in-has}

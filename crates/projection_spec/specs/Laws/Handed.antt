@@ -1,10 +1,9 @@
 -- Refusal 1 on tables: the test passes exactly the lent columns whose first rows are a well-formed table beside their text.
 -- Assumes nothing.
-use mathlib.Core.Bool.{Bool, true, false, _&&_}
-use mathlib.Core.List.{List, [], _∷_}
+use mathlib.Core.List.{List}
 use mathlib.Core.Option.{Option, none, some}
 use mathlib.Core.Path.{_≡_, refl, sym, ap, subst, _∙_}
-use Prim.Native.Nat.{ℕ, _≤_}
+use Prim.Native.Nat.{ℕ}
 use lib.Dec.{T, eqb, eqb→eq, eqb-refl, leb, leb→le, le→leb}
 use lib.ListN.{length}
 use Rattle.projection_spec.specs.Library.Conditions.{EqualSizes, equal-sizes, TableHanded}
@@ -13,7 +12,7 @@ use Rattle.projection_spec.specs.Library.Records.{cellsFrom, passesRows,
 use Rattle.schema_spec.specs.Schemas.{Schema}
 use Rattle.schema_spec.specs.Types.{Types, typesOf}
 use Rattle.table_laws.specs.WellFormed.{well-formed-beside}
-use Rattle.table_spec.specs.Rows.{Row, Cells, rowsOf}
+use Rattle.table_spec.specs.Rows.{Row, rowsOf}
 use Rattle.text_laws.specs.Tests.{and-intro, and-cases}
 
 pub sizes-equal : (z : Sizes) → T (equalSizes z) → EqualSizes z

@@ -1,17 +1,17 @@
 -- The two host functions' outcomes are what document 01 says: 1 before any text, the texts in turn, 18 last. Assumes nothing.
-use mathlib.Core.Bool.{Bool, true, false, cond, not, _&&_, _||_}
-use mathlib.Core.List.{List, [], _∷_, _++_}
+use mathlib.Core.Bool.{Bool, true, false, not, _&&_, _||_}
+use mathlib.Core.List.{List, [], _∷_}
 use mathlib.Core.Logic.{_⊎_, inl, inr, ⊎-elim}
-use mathlib.Core.Option.{Option, none, some}
+use mathlib.Core.Option.{some}
 use mathlib.Core.Path.{_≡_, refl, sym, ap, subst, _∙_}
-use Prim.Native.Nat.{ℕ, zero, suc, _<_, _≤_}
+use Prim.Native.Nat.{ℕ, zero, suc, _<_}
 use native.Mathlib.Omega.{arith}
 use lib.Dec.{T, leb, ltb, leb→le, ltb→lt, lt→ltb, nleb→lt}
 use lib.ListN.{length, getElem?}
 use Rattle.journal_laws.specs.Judging.{journal-judged}
 use Rattle.journal_spec.specs.Conditions.{JournalApplies, JournalGives}
 use Rattle.journal_spec.specs.Reading.{readJournal}
-use Rattle.path_laws.specs.Reading.{bundle-read, bundle-read-once}
+use Rattle.path_laws.specs.Reading.{bundle-read}
 use Rattle.path_spec.specs.Conditions.{BundleApplies, BundleGives}
 use Rattle.path_spec.specs.Paths.{LocationPath}
 use Rattle.path_spec.specs.Reading.{readBundle}
@@ -23,7 +23,7 @@ use Rattle.projection_spec.specs.Laws.Fields.{AreBytes}
 use Rattle.projection_spec.specs.Laws.RoundTrip.{extract-judged}
 use Rattle.projection_spec.specs.Laws.TextNames.{text-names}
 use Rattle.projection_spec.specs.Library.Conditions as conditions
-use Rattle.projection_spec.specs.Library.Conditions.{SchemaTaken, BundleTaken, JournalTaken, ExtractTaken, EqualSizes, TooFewCells, Makes, makes, OutOfRange, never, not-here, Selects, selects}
+use Rattle.projection_spec.specs.Library.Conditions.{SchemaTaken, BundleTaken, EqualSizes, TooFewCells, Makes, makes, OutOfRange, never, not-here, Selects, selects}
 use Rattle.projection_spec.specs.Library.Hosts.{Answer, answer, extractOf, tested, inCells, makeExtract, pathsOf, inRange, pathOr, pathAt, selectFrom}
 use Rattle.projection_spec.specs.Library.Lent.{Sizes, equalSizes, tooSmall}
 use Rattle.schema_reading_laws.specs.Reading.{schema-read, schema-read-once}
@@ -32,7 +32,7 @@ use Rattle.schema_spec.specs.Reading.{readSchema}
 use Rattle.schema_spec.specs.Schemas.{Schema}
 use Rattle.schema_spec.specs.Types.{typesOf}
 use Rattle.table_spec.specs.Rows.{Row}
-use Rattle.text_laws.specs.Tests.{or-left, or-right, or-cases, and-intro, and-cases, passed, failed, not-intro, not-elim}
+use Rattle.text_laws.specs.Tests.{or-left, or-right, or-cases, and-intro, and-cases, passed, failed, not-intro}
 use Rattle.text_spec.specs.Limits.{maxJournalBytes, maxPaths}
 use Rattle.text_spec.specs.Refusals.{Outcome, accepted, refused, judged, andThen, at, given, badRecord, tooFewCells, firstOf, Judged, turned-back, taken}
 

@@ -1,16 +1,15 @@
 -- A cut keeps exactly the rows that document 01 says, with their numbers. Assumes nothing.
-use mathlib.Core.Bool.{Bool, true, false}
-use mathlib.Core.List.{List, [], _∷_, List·Memᴰ as In}
-use mathlib.Core.Path.{_≡_, sym, subst}
+use mathlib.Core.List.{List, List·Memᴰ as In}
+use mathlib.Core.Path.{sym, subst}
 use Prim.Native.Nat.{ℕ}
 use lib.Dec.{T}
 use Rattle.projection_spec.specs.Extracts.Conditions.{Kept}
 use Rattle.projection_spec.specs.Extracts.Cut.{kept, cut}
 use Rattle.projection_spec.specs.Laws.Cutting.{rows-cut}
 use Rattle.projection_spec.specs.Laws.Documents.{Within, own-within, above-within, within-kept, kept-within}
-use Rattle.schema_spec.specs.Names.{Name, Names}
+use Rattle.schema_spec.specs.Names.{Names}
 use Rattle.schema_spec.specs.Types.{Types}
-use Rattle.table_spec.specs.Nodes.{Node, top, under, nameOf, edge, Above, parent, higher, nodesOf}
+use Rattle.table_spec.specs.Nodes.{Node, top, under, edge, parent, higher, nodesOf}
 use Rattle.table_spec.specs.Rows.{Row}
 use Rattle.table_spec.specs.Tables.{wellFormed}
 use Rattle.text_laws.specs.Lists.{in-filter, filter-in}

@@ -1,11 +1,8 @@
 -- The types of an accepted schema meet what the main lemma asks of them. Assumes nothing.
-use mathlib.Core.List.{List, [], _∷_, List·Memᴰ as In}
-use mathlib.Core.Path.{_≡_}
-use Prim.Native.Nat.{ℕ, _<_}
-use lib.Dec.{T}
+use Prim.Native.Nat.{_<_}
 use lib.ListN.{length}
 use Rattle.projection_spec.specs.Laws.Documents.{Lawful}
-use Rattle.schema_laws.specs.Closure.{Closed, Chain, one, chain-join, closure-chain, chain-closure, holder-in, held-in}
+use Rattle.schema_laws.specs.Closure.{Closed, one, chain-join, closure-chain, chain-closure, holder-in, held-in}
 use Rattle.schema_laws.specs.Names.{element-in}
 use Rattle.schema_spec.specs.Names.{namesOf}
 use Rattle.schema_spec.specs.Schemas.{Schema}

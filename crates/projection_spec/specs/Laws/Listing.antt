@@ -1,9 +1,9 @@
 -- The selected nodes of a listing, and the path that each line names. Assumes nothing.
-use mathlib.Core.Bool.{Bool, true, false, cond, _||_}
+use mathlib.Core.Bool.{Bool, true, false, cond}
 use mathlib.Core.List.{List, [], _∷_, _++_, map, List·Memᴰ as In, List·Memᴰ·head as here, List·Memᴰ·tail as there}
-use mathlib.Core.Logic.{_⊎_, inl, inr, ⊎-elim}
+use mathlib.Core.Logic.{_⊎_, ⊎-elim}
 use mathlib.Core.Path.{_≡_, refl, sym, ap, subst, _∙_}
-use Prim.Native.Nat.{ℕ, zero, suc, _+_}
+use Prim.Native.Nat.{ℕ, suc, _+_}
 use native.Mathlib.Omega.{arith}
 use lib.Dec.{T, eqb, eqb→eq, eqb-refl}
 use lib.ListN.{length}
@@ -12,15 +12,15 @@ use Rattle.path_spec.specs.Paths.{LocationPath}
 use Rattle.path_spec.specs.Selection.{Selected, selected, select}
 use Rattle.projection_spec.specs.Laws.Numbers.{node-known}
 use Rattle.projection_spec.specs.Library.Conditions.{Chosen, FirstPath, Lines, no-lines, next-line}
-use Rattle.projection_spec.specs.Library.Listing.{Listed, listed, isIn, selectedNodes, firstSelecting, lineOf}
+use Rattle.projection_spec.specs.Library.Listing.{listed, isIn, selectedNodes, firstSelecting, lineOf}
 use Rattle.schema_spec.specs.Schemas.{Schema}
 use Rattle.schema_spec.specs.Types.{Types}
 use Rattle.table_spec.specs.Nodes.{Node, numberOf, nodesOf}
 use Rattle.table_spec.specs.Rows.{Row}
 use Rattle.table_spec.specs.Tables.{wellFormed}
-use Rattle.text_laws.specs.Lists.{any-in, in-any, in-filter, filter-in, in-map, map-in}
-use Rattle.text_laws.specs.Tests.{or-left, or-right, or-cases}
-use Rattle.text_spec.specs.Lists.{anyOf, filterBy, gather}
+use Rattle.text_laws.specs.Lists.{any-in, in-any, filter-in, in-map, map-in}
+use Rattle.text_laws.specs.Tests.{or-cases}
+use Rattle.text_spec.specs.Lists.{anyOf, gather}
 
 module _ (types : Types) (journal : List ℕ) (rows : List Row) (ok : T (wellFormed types rows)) (s : Schema) (ps : List (LocationPath ℕ)) where
   abbrev doc : List Node

@@ -1,9 +1,9 @@
 -- Cutting a document to a set that has a path's needed names changes nothing of what the path selects: the theorem on nodes.
 -- Assumes nothing.
-use mathlib.Core.Bool.{Bool, true, false, _||_}
-use mathlib.Core.List.{List, [], _∷_, map, List·Memᴰ as In, List·Memᴰ·head as here, List·Memᴰ·tail as there}
-use mathlib.Core.Logic.{_⊎_, inl, inr, ⊎-elim}
-use mathlib.Core.Path.{_≡_, refl, sym, ap, subst, _∙_}
+use mathlib.Core.Bool.{Bool, _||_}
+use mathlib.Core.List.{List, map, List·Memᴰ as In, List·Memᴰ·head as here}
+use mathlib.Core.Logic.{_⊎_, ⊎-elim}
+use mathlib.Core.Path.{_≡_, sym, ap, subst, _∙_}
 use Prim.Native.Nat.{ℕ}
 use lib.Dec.{T}
 use Rattle.path_laws.specs.Selection.{selected-sound, selected-complete, selected-filters}
@@ -13,7 +13,7 @@ use Rattle.projection_spec.specs.Extracts.Cut.{kept}
 use Rattle.projection_spec.specs.Inference.Needed.{keepsName, wantsNames, fromRoot, atRoot, neededBeforeFilter, neededByPath, needed}
 use Rattle.projection_spec.specs.Laws.Agreement.{Alike, alike-turned, trip-of, of-trip, trip-track, track-complete, complete-needed, trip-alike}
 use Rattle.projection_spec.specs.Laws.Conditions.{condition-fair}
-use Rattle.projection_spec.specs.Laws.Documents.{SubsetOf, Within, Valid, AllValid, Lawful, own-within, wider, within-kept, kept-within, name-in}
+use Rattle.projection_spec.specs.Laws.Documents.{SubsetOf, Within, Valid, AllValid, Lawful, own-within, wider, within-kept, name-in}
 use Rattle.projection_spec.specs.Laws.Soundness.{Typed}
 use Rattle.schema_laws.specs.Closure.{Chain, one, chain-join, closure-chain, chain-closure}
 use Rattle.schema_laws.specs.Names.{same-equal, same-name, in-within}
@@ -23,7 +23,7 @@ use Rattle.schema_spec.specs.Types.{Types}
 use Rattle.table_spec.specs.Nodes.{Node, top, under, nameOf, numberOf, isTop}
 use Rattle.text_laws.specs.Lists.{in-filter, filter-in, filter-filter, in-gather}
 use Rattle.text_laws.specs.Tests.{or-left, or-right, or-cases}
-use Rattle.text_spec.specs.Lists.{filterBy, gather}
+use Rattle.text_spec.specs.Lists.{filterBy}
 
 -- ---- The last filter: the names of a valid node and of its ancestors, all in a set, are reached from the root inside it.
 module _ (s : Types) (law : Lawful s) (r : Names) where

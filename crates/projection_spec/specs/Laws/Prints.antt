@@ -1,9 +1,9 @@
 -- What `listing` prints is what document 01 says: the first refused file, 18 only where all three are accepted, or the header with the
 -- lengths of the three lists and a line for each selected node. Assumes nothing.
-use mathlib.Core.Bool.{Bool, true, false, cond}
-use mathlib.Core.List.{List, [], _∷_, _++_}
-use mathlib.Core.Path.{_≡_, refl, sym, ap, subst, _∙_}
-use Prim.Native.Nat.{ℕ, _<_, _≤_}
+use mathlib.Core.Bool.{Bool, true, false}
+use mathlib.Core.List.{List, _++_}
+use mathlib.Core.Path.{_≡_, refl, sym, subst}
+use Prim.Native.Nat.{ℕ}
 use lib.Dec.{T, ltb, ltb→lt, nltb→le}
 use lib.ListN.{length}
 use Rattle.journal_laws.specs.Accepted.{accepted-well-formed}
@@ -20,19 +20,18 @@ use Rattle.projection_spec.specs.Laws.Listing.{chosen-nodes, chosen-line
 use Rattle.projection_spec.specs.Laws.Numbers.{nodes-count}
 use Rattle.projection_spec.specs.Library.Conditions.{SchemaTaken, BundleTaken, JournalTaken, Prints, schema-refused, bundle-refused, journal-refused, too-many-rows, lists}
 use Rattle.projection_spec.specs.Library.Lent.{tooSmall}
-use Rattle.projection_spec.specs.Library.Listing.{Listed, listed, judgeFiles, selectedNodes, lineOf, header, headerOf, refusedLine, printed, listing}
+use Rattle.projection_spec.specs.Library.Listing.{Listed, listed, judgeFiles, selectedNodes, lineOf, header, headerOf, printed, listing}
 use Rattle.schema_reading_laws.specs.Reading.{schema-read}
 use Rattle.schema_spec.specs.Conditions.{SchemaApplies, SchemaGives}
 use Rattle.schema_spec.specs.Reading.{readSchema}
 use Rattle.schema_spec.specs.Schemas.{Schema}
 use Rattle.schema_spec.specs.Types.{typesOf}
-use Rattle.table_spec.specs.Nodes.{nodesOf}
 use Rattle.table_spec.specs.Rows.{Row}
 use Rattle.table_spec.specs.Tables.{wellFormed, wellFormedWith, textInside}
 use Rattle.text_laws.specs.Tests.{and-cases, not-intro, failed, passed}
 use Rattle.text_spec.specs.Limits.{listingJournalBytes, listingRows}
 use Rattle.text_spec.specs.Lists.{allOf, gather}
-use Rattle.text_spec.specs.Refusals.{Refusal, Outcome, accepted, refused, judged, andThen, at, given, tooFewCells, firstOf, Judged, turned-back, taken}
+use Rattle.text_spec.specs.Refusals.{Outcome, accepted, refused, judged, andThen, at, given, tooFewCells, firstOf, Judged, turned-back, taken}
 
 module _ (schema bundle journal : List ℕ) where
   -- the text that is printed for an outcome of the three files

@@ -1,11 +1,10 @@
 -- Refusal 1 on records: the test passes exactly the records that some accepted text gives. Assumes nothing.
-use mathlib.Core.Bool.{Bool, true, false, _&&_}
-use mathlib.Core.List.{List, [], _∷_}
+use mathlib.Core.List.{List}
 use mathlib.Core.Path.{_≡_, refl, sym, ap, subst, _∙_}
 use Prim.Native.Nat.{ℕ, _≤_}
 use native.Mathlib.Omega.{arith}
 use lib.Dec.{T, leb, leb→le, le→leb}
-use lib.ListN.{length, take, length-take}
+use lib.ListN.{length, length-take}
 use Rattle.path_laws.specs.Reading.{bundle-read, bundle-read-once}
 use Rattle.path_spec.specs.Conditions.{BundleApplies, BundleGives}
 use Rattle.path_spec.specs.Paths.{LocationPath}
@@ -14,7 +13,7 @@ use Rattle.projection_spec.specs.Library.Conditions.{BundleTaken, Schema
 use Rattle.projection_spec.specs.Library.Records.{TextRecord, textIn, recordOf, isRecord, passesSchema, passesBundle}
 use Rattle.schema_laws.specs.Accepted.{accepted-spelt}
 use Rattle.schema_laws.specs.Records.{record-producible, producible-record, record-accepted}
-use Rattle.schema_spec.specs.Records.{schemaIn, SchemaProducible, isSchemaRecord}
+use Rattle.schema_spec.specs.Records.{schemaIn, isSchemaRecord}
 use Rattle.schema_spec.specs.Schemas.{Schema}
 use Rattle.text_laws.specs.Lists.{append-empty, bytes-equal, bytes-same}
 use Rattle.text_laws.specs.Refusals.{judged-accepted}

@@ -1,23 +1,23 @@
 -- Types and contexts are sound for every axis (source document 000, lemma 4.2): a node that a step reaches has its name in the type,
 -- and the names of it and of all its ancestors in the context. Assumes nothing.
-use mathlib.Core.Bool.{Bool, true, false, _&&_, _||_}
-use mathlib.Core.List.{List, [], _∷_, _++_, List·Memᴰ as In, List·Memᴰ·head as here, List·Memᴰ·tail as there, Memᴰ·append-left as append-left, Memᴰ·append-right as append-right}
+use mathlib.Core.Bool.{Bool, _||_}
+use mathlib.Core.List.{List·Memᴰ as In, Memᴰ·append-left as append-left, Memᴰ·append-right as append-right}
 use mathlib.Core.Logic.{_⊎_, inl, inr, ⊎-elim}
-use mathlib.Core.Path.{_≡_, refl, sym, ap, subst, _∙_}
+use mathlib.Core.Path.{refl, sym, subst}
 use Prim.Native.Nat.{ℕ}
 use lib.Dec.{T}
-use Rattle.path_spec.specs.Paths.{Axis, self, child, descendant, descendantOrSelf, parent, ancestor, ancestorOrSelf, NodeTest}
+use Rattle.path_spec.specs.Paths.{Axis, child, parent, NodeTest}
 use Rattle.path_spec.specs.Selection.{OnAxis, on-self, on-child, on-descendant, here-or-below, below-or-here, on-parent, on-ancestor, here-or-above, above-or-here, passes}
 use Rattle.projection_spec.specs.Inference.Needed.{linked, between}
-use Rattle.projection_spec.specs.Inference.Types.{heldBy, holding, allBelow, allAbove, unionOf, cutTo, Env, env, move, narrow}
-use Rattle.projection_spec.specs.Laws.Documents.{SubsetOf, Within, Valid, Lawful, own-within, edge-within, above-within, child-within, edge-valid, edge-holds, name-in, above-below, Reaches, down-within}
-use Rattle.schema_laws.specs.Names.{has-in, in-has, same-name, in-within}
+use Rattle.projection_spec.specs.Inference.Types.{heldBy, holding, allBelow, allAbove, unionOf, cutTo, Env, move, narrow}
+use Rattle.projection_spec.specs.Laws.Documents.{SubsetOf, Within, Valid, Lawful, own-within, edge-within, above-within, child-within, edge-valid, edge-holds, name-in, above-below, down-within}
+use Rattle.schema_laws.specs.Names.{in-has, same-name, in-within}
 use Rattle.schema_spec.specs.Names.{Name, Names, has, within, sameName}
 use Rattle.schema_spec.specs.Types.{Types, isBelow}
 use Rattle.table_spec.specs.Nodes as nodes
-use Rattle.table_spec.specs.Nodes.{Node, top, under, nameOf, Edge, edge, Above}
-use Rattle.text_laws.specs.Lists.{any-in, in-any, in-filter, filter-in}
-use Rattle.text_laws.specs.Tests.{or-left, or-right, or-cases}
+use Rattle.table_spec.specs.Nodes.{Node, top, under, nameOf, Edge, Above}
+use Rattle.text_laws.specs.Lists.{any-in, in-filter, filter-in}
+use Rattle.text_laws.specs.Tests.{or-left, or-right}
 use Rattle.text_spec.specs.Lists.{anyOf, filterBy}
 
 -- what the inference knows of a node

@@ -1,8 +1,7 @@
 -- Demand 3 on tables: a path of a bundle selects the same nodes on a well-formed table and on the table cut to any set that has the
 -- bundle's needed names; and tables that are the same but for text starts have the same nodes. Assumes nothing.
-use mathlib.Core.Bool.{Bool, true, false, _&&_}
-use mathlib.Core.List.{List, [], _∷_, _++_, List·Memᴰ as In}
-use mathlib.Core.Path.{_≡_, refl, sym, ap, subst, _∙_}
+use mathlib.Core.List.{List, List·Memᴰ as In}
+use mathlib.Core.Path.{_≡_, sym, ap, _∙_}
 use Prim.Native.Nat.{ℕ}
 use lib.Dec.{T}
 use Rattle.path_spec.specs.Paths.{LocationPath}

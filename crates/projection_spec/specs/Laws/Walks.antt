@@ -1,29 +1,29 @@
 -- The needed names that are computed are the names on document 01's walks. Assumes nothing.
-use mathlib.Core.Bool.{Bool, true, false, _||_}
-use mathlib.Core.List.{List, [], _∷_, _++_, List·Memᴰ as In, List·Memᴰ·head as here, List·Memᴰ·tail as there, List·Memᴰ·append-cases as append-cases, Memᴰ·append-left as append-left, Memᴰ·append-right as append-right}
+use mathlib.Core.Bool.{Bool, _||_}
+use mathlib.Core.List.{List, [], _∷_, List·Memᴰ as In, List·Memᴰ·append-cases as append-cases, Memᴰ·append-left as append-left, Memᴰ·append-right as append-right}
 use mathlib.Core.Logic.{_⊎_, inl, inr, ⊎-elim}
-use mathlib.Core.Path.{_≡_, refl, sym, ap, subst, _∙_}
+use mathlib.Core.Path.{_≡_, refl, sym, subst}
 use Prim.Native.Nat.{ℕ, _<_}
 use lib.Dec.{T}
 use lib.ListN.{length}
-use Rattle.path_spec.specs.Paths.{Axis, self, child, descendant, descendantOrSelf, parent, ancestor, ancestorOrSelf, NodeTest, Step, PlainStep, Condition, LocationPath, expand}
+use Rattle.path_spec.specs.Paths.{Axis, self, child, descendant, descendantOrSelf, parent, ancestor, ancestorOrSelf, NodeTest, Step, Condition, LocationPath, expand}
 use Rattle.path_spec.specs.Selection.{passes}
 use Rattle.projection_spec.specs.Inference.Needed.{linked, between, complete, need, keepsAll, wantsNothing, keepsName, wantsNames, fromRoot, atRoot, neededBeforeFilter, neededByPath, needed}
-use Rattle.projection_spec.specs.Inference.Types.{Env, env, heldBy, holding, allBelow, allAbove, unionOf, cutTo, move, narrow, infer}
+use Rattle.projection_spec.specs.Inference.Types.{Env, env, holding, allBelow, allAbove, unionOf, cutTo, move, narrow, infer}
 use Rattle.projection_spec.specs.Inference.Walks as walks
 use Rattle.projection_spec.specs.Inference.Walks.{Linked, by-self, by-child, by-descendant, stays-down, goes-down, by-parent, by-ancestor, stays-up, goes-up, Passing, descends, descends-or-stays, Walk, at-last, onward, Asks, own, conditional, later, Needs, WantsNothing, WantsNames, by-alternative, PathNeeds, Reached, root, next, BundleNeeds, by-path}
 use Rattle.projection_spec.specs.Laws.Documents.{Lawful}
 use Rattle.projection_spec.specs.Laws.Lawful.{types-lawful}
 use Rattle.projection_spec.specs.Laws.Soundness.{in-below, in-above}
-use Rattle.schema_laws.specs.Closure.{Closed, Chain, one, more, chain-from, chain-join, closure-chain, chain-closure, holder-in, held-in, isBelow-below, below-isBelow, below-names}
+use Rattle.schema_laws.specs.Closure.{Closed, Chain, one, more, chain-from, chain-join, closure-chain, chain-closure, held-in, isBelow-below, below-isBelow, below-names}
 use Rattle.schema_laws.specs.Names.{same-equal, same-name, has-in, in-within, within-in, element-in}
 use Rattle.schema_spec.specs.Closure.{related, closure}
-use Rattle.schema_spec.specs.Names.{Name, Names, element, namesOf, sameName, has, within}
+use Rattle.schema_spec.specs.Names.{Name, Names, element, sameName, has, within}
 use Rattle.schema_spec.specs.Schemas.{Schema}
 use Rattle.schema_spec.specs.Types.{Types, typesOf, holds, Below, held, further, isBelow}
 use Rattle.text_laws.specs.Lists.{any-in, in-any, in-filter, filter-in, in-gather, gather-in}
 use Rattle.text_laws.specs.Tests.{or-left, or-right, or-cases}
-use Rattle.text_spec.specs.Lists.{anyOf, filterBy, gather}
+use Rattle.text_spec.specs.Lists.{anyOf, gather}
 
 below-join : {s : Schema} {a b c : Name} → Below s a b → Below s b c → Below s a c
 below-join (held t) d = further t d

@@ -1,12 +1,11 @@
 -- Lent outputs: tables as columns of cells; refusal 18. Assumes nothing.
-use mathlib.Core.Bool.{Bool, true, false, _&&_, _||_}
-use mathlib.Core.List.{List, [], _∷_, _++_, map}
-use mathlib.Core.Path.{_≡_}
-use Prim.Native.Nat.{ℕ, zero, suc, _-_, _≤_}
-use lib.Dec.{eqb, leb, ltb}
-use lib.ListN.{length, replicate}
+use mathlib.Core.Bool.{Bool, _&&_}
+use mathlib.Core.List.{List, map}
+use Prim.Native.Nat.{ℕ}
+use lib.Dec.{eqb, ltb}
+use lib.ListN.{length}
 use Rattle.schema_spec.specs.Names.{codeOf}
-use Rattle.table_spec.specs.Rows.{Row, Cells, cellsOf}
+use Rattle.table_spec.specs.Rows.{Row}
 use Rattle.text_spec.specs.Cells.{padded}
 
 -- a table as lent columns of numbers

@@ -1,13 +1,13 @@
 -- Refusal 1 on what is handed in: records that no reader can produce, and tables with the text lent beside them. Assumes nothing.
-use mathlib.Core.Bool.{Bool, true, false, cond, _&&_, _||_}
+use mathlib.Core.Bool.{Bool, false, _&&_}
 use mathlib.Core.List.{List, [], _∷_}
 use mathlib.Core.Option.{Option, none, some}
 use Prim.Native.Nat.{ℕ, zero, suc}
-use lib.Dec.{leb, ltb}
+use lib.Dec.{leb}
 use lib.ListN.{length, take, getD}
 use Rattle.projection_spec.specs.Library.Lent.{Columns, sizesOf, equalSizes}
 use Rattle.path_spec.specs.Reading.{isBundleRecord}
-use Rattle.schema_spec.specs.Records.{isSchemaRecord, schemaIn}
+use Rattle.schema_spec.specs.Records.{isSchemaRecord}
 use Rattle.schema_spec.specs.Schemas.{Schema}
 use Rattle.schema_spec.specs.Types.{Types, typesOf}
 use Rattle.table_spec.specs.Rows.{Row, Cells, rowsOf}
