@@ -11,7 +11,6 @@ pub mod Walks
 pub mod Tables
 pub mod Numbers
 pub mod Listing
-pub mod Lent
 pub mod Records
 pub mod Handed
 pub mod Hosts

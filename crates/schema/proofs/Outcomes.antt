@@ -12,9 +12,8 @@ use lib.Seq.{take-length, length-take-le}
 use Rattle.declarations.proofs.Judging.{yes, no}
 use Rattle.schema.proofs.Naming.{twice-places, undeclared-places}
 use Rattle.schema.proofs.Order.{Later, later-none, later-all, later-append, least-first, place-found, place-none, places-rise, filter-rise, twice-rise}
-use Rattle.schema.specs.Answers.{reasonOf, meant, sized, inCells, ReadAs, Readable, Spelling}
+use Rattle.schema.specs.Answers.{reasonOf, meant, sized, JudgedAs, Readable, Spelling}
 use Rattle.schema.specs.Names.{firstPlace, namesBefore, isAmong, twiceAt, missingAt}
-use Rattle.schema.specs.Normal.{Normalized}
 use Rattle.declarations.specs.Parts.{useAt, Between}
 use Rattle.schema.specs.Whole.{Kept, Limits, within, passed, AllSpelt, AllAs, AllRead}
 use Rattle.schema.specs.declared.All.{All}
@@ -23,11 +22,9 @@ use Rattle.schema.specs.declared.Answer.the-variants.{Accepted, Refused}
 use Rattle.schema.specs.declared.Counts.{Counts}
 use Rattle.schema.specs.declared.Kind.{Kind}
 use Rattle.schema.specs.declared.Kind.the-variants.{BadLength, BadByte, BadGrammar, OverLimit, DeclaredTwice, Undeclared}
-use Rattle.schema.specs.declared.SchemaRead.{SchemaRead}
 use Rattle.schema_spec.specs.Declarations.{Use, Declaration}
 use Rattle.schema_spec.specs.Machine.{Parsed, spells, departs, parse}
 use Rattle.schema_spec.specs.Reading.{limitPlaces, twicePlaces, undeclaredPlaces, usesOf, parsedRefusals, parsedSchema, schemaRefusals, readSchema}
-use Rattle.schema_spec.specs.Records.{normal, recordBy, schemaRecord}
 use Rattle.schema_spec.specs.Schemas.{Schema, schemaOf, resolved, declaredNames}
 use Rattle.text.specs.Places.{foreignPlace}
 use Rattle.text_spec.specs.Bytes.{isForeign}
@@ -45,26 +42,13 @@ first-outcome : (text : List ℕ) (f : Refusal) → FirstIs text f → readSchem
 unfolding readSchema
 first-outcome text f e = ap (λ (o : Option Refusal). byFirst o (parsedSchema (parse text))) e
 
-empty-record : (text : List ℕ) (f : Refusal) → readSchema text ≡ refused f → schemaRecord text ≡ []
-unfolding schemaRecord
-empty-record text f e = ap (λ (o : Outcome Schema). recordBy o (normal text)) e
-
--- what `refused` answers
-module _ (text : List ℕ) {k : Kind} {p : ℕ} {r : SchemaRead} (a : (r .answer ≡ Refused k p) × (r .schema .bytes ≡ replicate 8192 0) × (r .schema .len ≡ 0)) where
-  read-refused : FirstIs text (at (reasonOf k) p) → ReadAs text r
-  read-refused e =
-      let o = first-outcome text (at (reasonOf k) p) e in
-      let n = empty-record text (at (reasonOf k) p) o in
-      record { outcome = ap meant (a .0) ∙ ap sized (sym o); bytes = a .1 ∙ ap (inCells 8192) (sym n); size = a .2 ∙ ap length (sym n) }
+read-refused : (text : List ℕ) (k : Kind) (p : ℕ) → FirstIs text (at (reasonOf k) p) → JudgedAs text (Refused k p)
+read-refused text k p e = record { outcome = ap sized (sym (first-outcome text (at (reasonOf k) p) e)) }
 
 -- ---- acceptance
 accepted-outcome : (text : List ℕ) {ds : List Declaration} → parse text ≡ spells ds → schemaRefusals text ≡ [] → readSchema text ≡ accepted (schemaOf ds)
 unfolding readSchema firstOf
 accepted-outcome text e f = ap₂ (λ (fs : List Refusal) (q : Parsed). judged fs (parsedSchema q)) f e
-
-accepted-record : (text : List ℕ) {s : Schema} → readSchema text ≡ accepted s → schemaRecord text ≡ normal text
-unfolding schemaRecord
-accepted-record text e = ap (λ (o : Outcome Schema). recordBy o (normal text)) e
 
 elements : (ds : List Declaration) → length (schemaOf ds) ≡ length ds
 unfolding schemaOf
@@ -92,15 +76,15 @@ module _ (text : List ℕ) where
       (later-append badLength (byteRefusals text) (parsedRefusals (parse text)) (later-all badLength badByte (placesFrom 0 isForeign text) (omega arith)) (parsed-later badLength (omega arith) (parse text)))
       (0 ∷ []) 0 (here refl) (λ x i. omega arith)
 
-  pub read-empty : {r : SchemaRead} → (r .answer ≡ Refused BadLength 0) × (r .schema .bytes ≡ replicate 8192 0) × (r .schema .len ≡ 0) → length text ≡ 0 → ReadAs text r
-  read-empty a e = read-refused text a (length-first (go text e))
+  pub read-empty : length text ≡ 0 → JudgedAs text (Refused BadLength 0)
+  read-empty e = read-refused text BadLength 0 (length-first (go text e))
     where
       go : (t : List ℕ) → length t ≡ 0 → (isEmpty t || ltb maxSchemaBytes (length t)) ≡ true
       go [] e = refl
       go (b ∷ t) e = absurd (omega arith)
 
-  pub read-long : {r : SchemaRead} → (r .answer ≡ Refused BadLength 0) × (r .schema .bytes ≡ replicate 8192 0) × (r .schema .len ≡ 0) → 8192 < length text → ReadAs text r
-  read-long a h = read-refused text a (length-first (go (isEmpty text)))
+  pub read-long : 8192 < length text → JudgedAs text (Refused BadLength 0)
+  read-long h = read-refused text BadLength 0 (length-first (go (isEmpty text)))
     where
       go : (t : Bool) → (t || ltb maxSchemaBytes (length text)) ≡ true
       go true = refl
@@ -118,8 +102,8 @@ module _ (text : List ℕ) (n : length text ≡ 0 → ⊥) (h : length text ≤ 
   rising = subst (λ (k : ℕ). Between 0 k (placesFrom 0 isForeign text)) (let e : 0 + length text ≡ length text = omega arith in e) (places-rise isForeign 0 text)
 
   module _ {k : ℕ} (e : k ≡ foreignPlace text) where
-    pub read-foreign : {r : SchemaRead} → (r .answer ≡ Refused BadByte k) × (r .schema .bytes ≡ replicate 8192 0) × (r .schema .len ≡ 0) → k < length text → ReadAs text r
-    read-foreign a l = read-refused text a (go (place-found text (placesFrom 0 isForeign text) rising e l))
+    pub read-foreign : k < length text → JudgedAs text (Refused BadByte k)
+    read-foreign l = read-refused text BadByte k (go (place-found text (placesFrom 0 isForeign text) rising e l))
       where
         go : In k (placesFrom 0 isForeign text) × ((x : ℕ) → In x (placesFrom 0 isForeign text) → k ≤ x) → FirstIs text (at badByte k)
         go z = byte-first text length-passes k (z .0) (z .1)
@@ -133,16 +117,15 @@ module _ (text : List ℕ) (R : Readable text) where
   unfolding schemaRefusals
   refusals-from e = ap₂ (λ (x y : List Refusal). x ++ (y ++ parsedRefusals (parse text))) (R .right-length) (R .right-bytes) ∙ ap parsedRefusals e
 
-  pub read-departs : {j : ℕ} {r : SchemaRead} → (r .answer ≡ Refused BadGrammar j) × (r .schema .bytes ≡ replicate 8192 0) × (r .schema .len ≡ 0) → parse text ≡ departs j → ReadAs text r
-  read-departs {j} a e = read-refused text a (ap firstOf (refusals-from e) ∙ least-first badSchema [] (later-none badSchema) (j ∷ []) j (here refl) (λ x i. only i))
+  pub read-departs : {j : ℕ} → parse text ≡ departs j → JudgedAs text (Refused BadGrammar j)
+  read-departs {j} e = read-refused text BadGrammar j (ap firstOf (refusals-from e) ∙ least-first badSchema [] (later-none badSchema) (j ∷ []) j (here refl) (λ x i. only i))
     where
       only : {x : ℕ} → In x (j ∷ []) → j ≤ x
       only (here q) = omega arith
 
-  pub read-over : {ds : List Declaration} {k : ℕ} {r : SchemaRead} → (r .answer ≡ Refused OverLimit k) × (r .schema .bytes ≡ replicate 8192 0) × (r .schema .len ≡ 0) → parse text ≡ spells ds
-      → In k (limitPlaces ds) → ((x : ℕ) → In x (limitPlaces ds) → k ≤ x) → ReadAs text r
-  read-over {ds} {k} a e i l =
-      read-refused text a
+  pub read-over : {ds : List Declaration} (k : ℕ) → parse text ≡ spells ds → In k (limitPlaces ds) → ((x : ℕ) → In x (limitPlaces ds) → k ≤ x) → JudgedAs text (Refused OverLimit k)
+  read-over {ds} k e i l =
+      read-refused text OverLimit k
       (ap firstOf (refusals-from e)
       ∙ least-first overSchemaLimit (allAt declaredTwice (twicePlaces [] ds) ++ allAt undeclaredInModel (undeclaredPlaces ds))
       (later-append overSchemaLimit (allAt declaredTwice (twicePlaces [] ds)) (allAt undeclaredInModel (undeclaredPlaces ds)) (later-all overSchemaLimit declaredTwice (twicePlaces [] ds) (omega arith))
@@ -169,10 +152,10 @@ module _ {text names uses : List ℕ} (S : Spelling text names uses) where
       ∙ ap₂ (λ (x y : List ℕ). allAt declaredTwice x ++ allAt undeclaredInModel y) (twice-places text [] (S .declarations) names declared-by) (undeclared-places text (S .declarations) names uses declared-by used-by)
 
   module _ {again : ℕ} (t : again ≡ firstPlace text (twiceAt text [] names)) where
-    pub read-twice : {r : SchemaRead} → (r .answer ≡ Refused DeclaredTwice again) × (r .schema .bytes ≡ replicate 8192 0) × (r .schema .len ≡ 0) → again < length text → ReadAs text r
-    read-twice a l =
+    pub read-twice : again < length text → JudgedAs text (Refused DeclaredTwice again)
+    read-twice l =
         let z = place-found text (twiceAt text [] names) (twice-rise text [] 0 (length text) names names-rise) t l in
-        read-refused text a
+        read-refused text DeclaredTwice again
         (ap firstOf all-refusals
         ∙ least-first declaredTwice (allAt undeclaredInModel (missingAt text (namesBefore text names (length names)) uses))
         (later-all declaredTwice undeclaredInModel (missingAt text (namesBefore text names (length names)) uses) (omega arith)) (twiceAt text [] names) again (z .0) (z .1))
@@ -187,49 +170,39 @@ module _ {text names uses : List ℕ} (S : Spelling text names uses) where
       lost-rise : Between 0 (length text) (missingAt text (namesBefore text names (length names)) uses)
       lost-rise = filter-rise _ 0 (length text) uses uses-rise
 
-      pub read-undeclared : {r : SchemaRead} → (r .answer ≡ Refused Undeclared lost) × (r .schema .bytes ≡ replicate 8192 0) × (r .schema .len ≡ 0) → lost < length text → ReadAs text r
-      read-undeclared a h =
+      pub read-undeclared : lost < length text → JudgedAs text (Refused Undeclared lost)
+      read-undeclared h =
           let z = place-found text (missingAt text (namesBefore text names (length names)) uses) lost-rise u h in
-          read-refused text a
+          read-refused text Undeclared lost
           (ap firstOf (lost-refusals ∙ sym (append-nil (allAt undeclaredInModel (missingAt text (namesBefore text names (length names)) uses))))
           ∙ least-first undeclaredInModel [] (later-none undeclaredInModel) (missingAt text (namesBefore text names (length names)) uses) lost (z .0) (z .1))
 
       free : length text ≤ lost → schemaRefusals text ≡ []
       free h = lost-refusals ∙ ap (allAt undeclaredInModel) (place-none text (missingAt text (namesBefore text names (length names)) uses) lost-rise u h)
 
-      pub read-accepted : {r : SchemaRead} → (r .answer ≡ Accepted (length names)) × (r .schema .bytes ≡ inCells 8192 (normal text)) × (r .schema .len ≡ length (normal text)) → length text ≤ lost → ReadAs text r
-      read-accepted a h =
-          let o = accepted-outcome text (S .spelt) (free h) in
-          let n = accepted-record text o in
+      pub read-accepted : length text ≤ lost → JudgedAs text (Accepted (length names))
+      read-accepted h =
           record {
-            outcome = ap meant (a .0) ∙ ap accepted (sym (elements (S .declarations) ∙ sym (length-map (S .declarations) (λ e. e .name)) ∙ ap length declared-by ∙ length-map names (useAt text))) ∙ ap sized (sym o);
-            bytes = a .1 ∙ ap (inCells 8192) (sym n);
-            size = a .2 ∙ ap length (sym n);
+            outcome =
+                ap accepted (sym (elements (S .declarations) ∙ sym (length-map (S .declarations) (λ e. e .name)) ∙ ap length declared-by ∙ length-map names (useAt text)))
+                ∙ ap sized (sym (accepted-outcome text (S .spelt) (free h)));
           }
 
--- ---- from the lent cells
-pub drop-replicate : (k n a : ℕ) → drop k (replicate n a) ≡ replicate (n - k) a
-drop-replicate zero n a = let e : n ≡ n - 0 = omega arith in ap (λ (m : ℕ). replicate m a) e
-drop-replicate (suc k) zero a = let e : 0 ≡ 0 - suc k = omega arith in ap (λ (m : ℕ). replicate m a) e
-drop-replicate (suc k) (suc n) a = drop-replicate k n a ∙ (let e : n - k ≡ suc n - suc k = omega arith in ap (λ (m : ℕ). replicate m a) e)
-
-pub normal-cells : {s cells : List ℕ} (size : ℕ) {r : ℕ} → Normalized s (replicate size 0) cells r → cells ≡ inCells size (normal s)
-normal-cells {s} size {r} N = N .wrote ∙ ap (λ (l : List ℕ). normal s ++ l) (drop-replicate r size 0 ∙ ap (λ (k : ℕ). replicate (size - k) 0) (N .size))
-
+-- ---- from the lent places
 module _ {s names uses : List ℕ} {r : All} (A : AllRead s names uses r) where
-  pub judge-departs : {j : ℕ} {q : SchemaRead} → Readable s → (q .answer ≡ Refused BadGrammar j) × (q .schema .bytes ≡ replicate 8192 0) × (q .schema .len ≡ 0) → r ≡ AllFail j → ReadAs s q
-  judge-departs R a u = read-departs s R a (subst (AllRead s names uses) u A .says)
+  pub judge-departs : {j : ℕ} → Readable s → r ≡ AllFail j → JudgedAs s (Refused BadGrammar j)
+  judge-departs R u = read-departs s R (subst (AllRead s names uses) u A .says)
 
   module _ {c : Counts} (u : r ≡ AllPast c) where
     spelt : AllSpelt s c names uses
     spelt = subst (AllRead s names uses) u A .says
 
-    pub judge-over : {q : SchemaRead} → Readable s → (q .answer ≡ Refused OverLimit (c .over)) × (q .schema .bytes ≡ replicate 8192 0) × (q .schema .len ≡ 0) → c .over < length s → ReadAs s q
-    judge-over {q} R a h = go (spelt .limits)
+    pub judge-over : Readable s → c .over < length s → JudgedAs s (Refused OverLimit (c .over))
+    judge-over R h = go (spelt .limits)
       where
-        go : Limits s (spelt .declarations) (c .d) (c .n) (c .over) (length s) names uses → ReadAs s q
+        go : Limits s (spelt .declarations) (c .d) (c .n) (c .over) (length s) names uses → JudgedAs s (Refused OverLimit (c .over))
         go (within e k) = absurd (omega arith)
-        go (passed b d i l) = read-over s R a (spelt .spelt) i l
+        go (passed b d i l) = read-over s R (c .over) (spelt .spelt) i l
 
     module _ (h : length s ≤ c .over) where
       kept-all : Kept s (spelt .declarations) (c .d) (c .n) (length s) names uses

@@ -1,25 +1,25 @@
--- What the schema reader answers, in the definition's terms. Assumes nothing.
-use mathlib.Core.Bool.{Bool, _&&_}
-use mathlib.Core.List.{List, [], _++_}
+-- What judging a schema text answers, in the definition's terms. Assumes nothing.
+use mathlib.Core.List.{List, []}
 use mathlib.Core.Path.{_≡_}
-use Prim.Native.Nat.{ℕ, _-_, _≤_}
-use lib.Dec.{leb}
-use lib.ListN.{length, take, replicate}
+use Prim.Native.Nat.{ℕ, _≤_}
+use lib.ListN.{length, replicate}
 use Rattle.schema.specs.declared.Answer.{Answer}
 use Rattle.schema.specs.declared.Answer.the-variants.{Accepted, Refused}
 use Rattle.schema.specs.declared.Kind.{Kind}
 use Rattle.schema.specs.declared.Kind.the-variants.{BadLength, BadByte, BadGrammar, OverLimit, DeclaredTwice, Undeclared}
-use Rattle.schema.specs.declared.SchemaRead.{SchemaRead}
+use Rattle.schema.specs.declared.Schema.{Schema as Record}
 use Rattle.schema.specs.Whole.{Kept}
 use Rattle.schema_spec.specs.Declarations.{Declaration}
 use Rattle.schema_spec.specs.Machine.{spells, parse}
 use Rattle.schema_spec.specs.Reading.{readSchema}
-use Rattle.schema_spec.specs.Records.{schemaRecord, isSchemaRecord}
 use Rattle.schema_spec.specs.Schemas.{Schema}
 use Rattle.text_spec.specs.Limits.{maxSchemaBytes}
-use Rattle.text_spec.specs.Lists.{sameBytes}
 use Rattle.text_spec.specs.Refusals.{Reason, badLength, badByte, badSchema, overSchemaLimit, declaredTwice, undeclaredInModel, at, Outcome, accepted, refused}
 use Rattle.text_spec.specs.Texts.{lengthRefusals, byteRefusals}
+
+-- the schema that is handed back on refusal
+abbrev pub emptySchema : Record
+emptySchema = record { bytes = replicate maxSchemaBytes 0; len = 0 }
 
 -- the kinds of refusal as document 01's: 2 to 7
 abbrev pub reasonOf : Kind → Reason
@@ -39,15 +39,9 @@ abbrev pub sized : Outcome Schema → Outcome ℕ
 sized (accepted s) = accepted (length s)
 sized (refused f) = refused f
 
--- a text in so many cells; the others are 0
-abbrev pub inCells : ℕ → List ℕ → List ℕ
-inCells size text = text ++ replicate (size - length text) 0
-
--- reading a text answers so: the outcome, and the record, which is the empty one on refusal
-pub record ReadAs (text : List ℕ) (r : SchemaRead) : Type 0 where
-  pub outcome : meant (r .answer) ≡ sized (readSchema text)
-  pub bytes : r .schema .bytes ≡ inCells maxSchemaBytes (schemaRecord text)
-  pub size : r .schema .len ≡ length (schemaRecord text)
+-- judging a text answers so
+pub record JudgedAs (text : List ℕ) (r : Answer) : Type 0 where
+  pub outcome : meant r ≡ sized (readSchema text)
 
 -- a text that passes 2 and 3
 pub record Readable (text : List ℕ) : Type 0 where
@@ -61,7 +55,3 @@ pub record Spelling (text names uses : List ℕ) : Type 0 where
   pub declarations : List Declaration
   pub spelt : parse text ≡ spells declarations
   pub kept : Kept text declarations (length names) (length uses) (length text) names uses
-
--- Refusal 1: a record in cells, with its length, is one that an accepted text gives.
-abbrev pub passesRecord : List ℕ → ℕ → Bool
-passesRecord cells size = leb size maxSchemaBytes && (sameBytes cells (inCells maxSchemaBytes (take size cells)) && isSchemaRecord (take size cells))

@@ -1,15 +1,12 @@
-// Reading schema texts. Refusals 2 and 3 are a test and a scan. 4 is found declaration by declaration, with the places of the names and the
-// first place that passes a limit (5). 6 and 7 are loops over those places. The record is the text's normal form.
+// Schemas, and judging their texts. Refusals 2 and 3 are a test and a scan. 4 is found declaration by declaration, with the places of the
+// names and the first place that passes a limit (5). 6 and 7 are loops over those places.
 ghost use mathlib.Core.List.{[]};
 ghost use mathlib.Core.Path.{_≡_};
 ghost use Prim.Native.Nat.{ℕ, _+_, _≤_, _<_};
-ghost use lib.ListN.{length, getD, replicate};
+ghost use lib.ListN.{length, getD};
 ghost use Rattle.schema.specs.Whole.{overLimit, AllRead};
 ghost use Rattle.schema.specs.Names.{firstPlace, namesBefore, twiceAt, missingAt};
-ghost use Rattle.schema.specs.Normal.{Steps, Stored, Normalized};
-ghost use Rattle.schema.specs.Answers.{reasonOf, inCells, Readable, Spelling, ReadAs, passesRecord};
-ghost use Rattle.schema_spec.specs.Records.{normal};
-ghost use Rattle.text_spec.specs.Lists.{sameBytes};
+ghost use Rattle.schema.specs.Answers.{emptySchema, reasonOf, Readable, Spelling, JudgedAs};
 ghost use Rattle.text_spec.specs.Refusals.{numberOf};
 use declarations::DeclarationOutcome;
 
@@ -32,7 +29,7 @@ impl Schema {
 
     // The schema that the reader hands back on refusal.
     pub fn empty() -> Self
-        ensures { λ r. ⌜ (r .bytes ≡ replicate 8192 0) × (r .len ≡ 0) ⌝ }
+        ensures { λ r. ⌜ r ≡ emptySchema ⌝ }
     {
         Schema {
             bytes: [0; 8192],
@@ -150,96 +147,6 @@ fn undeclared(s: &[u8], names: &[usize], uses: &[usize]) -> usize
     s.len()
 }
 
-// One byte on in the normal form: how many required blanks are due and whether a run of blanks goes on, and the byte that is kept, if any.
-pub struct NormalStep {
-    pub due: u8,
-    pub run: bool,
-    pub keep: bool,
-    pub byte: u8,
-}
-
-fn normal_step(due: u8, run: bool, b: u8) -> NormalStep
-    ensures { λ r. ⌜ Steps due run b r ⌝ }
-{
-    if text::is_blank(b) {
-        if due == 0 {
-            return NormalStep {
-                due,
-                run: true,
-                keep: false,
-                byte: b,
-            };
-        }
-        if run {
-            return NormalStep {
-                due,
-                run: true,
-                keep: false,
-                byte: b,
-            };
-        }
-        return NormalStep {
-            due: due - 1,
-            run: true,
-            keep: true,
-            byte: 32,
-        };
-    }
-    if due != 0 {
-        return NormalStep {
-            due,
-            run: false,
-            keep: true,
-            byte: b,
-        };
-    }
-    if b == 60 {
-        return NormalStep {
-            due: 2,
-            run: false,
-            keep: true,
-            byte: b,
-        };
-    }
-    NormalStep {
-        due,
-        run: false,
-        keep: true,
-        byte: b,
-    }
-}
-
-// Stores the byte at n, if it is kept, and gives the next place.
-fn store(out: &mut [u8], n: usize, keep: bool, byte: u8) -> usize
-    requires { ⌜ n < length (now out) ⌝ }
-    ensures { λ r. ⌜ Stored (now (out .entry)) (now (out .exit)) n keep byte r ⌝ }
-{
-    if keep {
-        out[n] = byte;
-        return n + 1;
-    }
-    n
-}
-
-// Writes the normal form of the text and gives its length.
-fn write_normal(s: &[u8], out: &mut [u8]) -> usize
-    requires { ⌜ length (now s) ≤ length (now out) ⌝ }
-    ensures { λ r. ⌜ Normalized (now (s .entry)) (now (out .entry)) (now (out .exit)) r ⌝ }
-{
-    let mut i = 0;
-    let mut n = 0;
-    let mut due: u8 = 0;
-    let mut run = false;
-    while i < s.len() {
-        let r = normal_step(due, run, s[i]);
-        n = store(out, n, r.keep, r.byte);
-        due = r.due;
-        run = r.run;
-        i += 1;
-    }
-    n
-}
-
 // Why a schema text is turned back: refusals 2 to 7.
 pub enum Kind {
     BadLength,
@@ -272,125 +179,56 @@ pub enum Answer {
     Refused(Kind, usize),
 }
 
-pub struct SchemaRead {
-    pub answer: Answer,
-    pub schema: Schema,
-}
-
-// On refusal the empty schema is handed back.
-fn refused(kind: Kind, place: usize) -> SchemaRead
-    ensures { λ r. ⌜ (r .answer ≡ Answer.Refused kind place) × (r .schema .bytes ≡ replicate 8192 0) × (r .schema .len ≡ 0) ⌝ }
-{
-    SchemaRead {
-        answer: Answer::Refused(kind, place),
-        schema: Schema::empty(),
-    }
-}
-
-// An accepted text with d declarations, in its normal form.
-fn accepted(s: &[u8], d: usize) -> SchemaRead
-    requires { ⌜ length (now s) ≤ 8192 ⌝ }
-    ensures { λ r. ⌜ (r .answer ≡ Answer.Accepted d) × (r .schema .bytes ≡ inCells 8192 (normal (now (s .entry)))) × (r .schema .len ≡ length (normal (now (s .entry)))) ⌝ }
-{
-    let mut bytes = [0u8; 8192];
-    let len = write_normal(s, &mut bytes);
-    SchemaRead {
-        answer: Answer::Accepted(d),
-        schema: Schema { bytes, len },
-    }
-}
-
 // Judges 6 and 7 on a text whose names are declared at `names` and used at `uses`.
-fn judge_names(s: &[u8], names: &[usize], uses: &[usize]) -> SchemaRead
+fn judge_names(s: &[u8], names: &[usize], uses: &[usize]) -> Answer
     requires { ⌜ Spelling (now s) (now names) (now uses) ⌝ }
-    ensures { λ r. ⌜ ReadAs (now (s .entry)) r ⌝ }
+    ensures { λ r. ⌜ JudgedAs (now (s .entry)) r ⌝ }
 {
     let again = twice(s, names);
     if again < s.len() {
-        return refused(Kind::DeclaredTwice, again);
+        return Answer::Refused(Kind::DeclaredTwice, again);
     }
     let missing = undeclared(s, names, uses);
     if missing < s.len() {
-        return refused(Kind::Undeclared, missing);
+        return Answer::Refused(Kind::Undeclared, missing);
     }
-    accepted(s, names.len())
+    Answer::Accepted(names.len())
 }
 
 // Judges 4 to 7 on a text that passes 2 and 3.
-fn judge(s: &[u8]) -> SchemaRead
+fn judge(s: &[u8]) -> Answer
     requires { ⌜ Readable (now s) ⌝ }
-    ensures { λ r. ⌜ ReadAs (now (s .entry)) r ⌝ }
+    ensures { λ r. ⌜ JudgedAs (now (s .entry)) r ⌝ }
 {
     let mut names = [0usize; 32];
     let mut uses = [0usize; 2049];
     match all_declarations(s, &mut names, &mut uses) {
-        All::Fail(j) => refused(Kind::BadGrammar, j),
+        All::Fail(j) => Answer::Refused(Kind::BadGrammar, j),
         All::Past(c) => {
             let d = c.d;
             let n = c.n;
             let over = c.over;
             if over < s.len() {
-                return refused(Kind::OverLimit, over);
+                return Answer::Refused(Kind::OverLimit, over);
             }
             judge_names(s, &names[..d], &uses[..n])
         }
     }
 }
 
-// Reads a schema text: the refusal that comes first, or the schema.
-pub fn read_schema(text: &[u8]) -> SchemaRead
-    ensures { λ r. ⌜ ReadAs (now (text .entry)) r ⌝ }
+// Judges a schema text: the number of elements, or the refusal that comes first.
+pub fn judge_schema(text: &[u8]) -> Answer
+    ensures { λ r. ⌜ JudgedAs (now (text .entry)) r ⌝ }
 {
     if text.len() == 0 {
-        return refused(Kind::BadLength, 0);
+        return Answer::Refused(Kind::BadLength, 0);
     }
     if Schema::MAX_BYTES < text.len() {
-        return refused(Kind::BadLength, 0);
+        return Answer::Refused(Kind::BadLength, 0);
     }
     let foreign = text::first_foreign(text);
     if foreign < text.len() {
-        return refused(Kind::BadByte, foreign);
+        return Answer::Refused(Kind::BadByte, foreign);
     }
     judge(text)
-}
-
-// Whether two slices hold the same bytes.
-fn same_cells(a: &[u8], b: &[u8]) -> bool
-    ensures { λ r. ⌜ r ≡ sameBytes (now (a .entry)) (now (b .entry)) ⌝ }
-{
-    if a.len() != b.len() {
-        return false;
-    }
-    let mut i = 0;
-    while i < a.len() {
-        if a[i] != b[i] {
-            return false;
-        }
-        i += 1;
-    }
-    true
-}
-
-// Whether the record is one that `read_schema` can hand back for an accepted text: reading it again gives it again.
-pub fn is_schema_record(schema: Schema) -> bool
-    ensures { λ r. ⌜ r ≡ passesRecord (schema .bytes) (schema .len) ⌝ }
-{
-    let bytes = schema.bytes;
-    let len = schema.len;
-    if Schema::MAX_BYTES < len {
-        return false;
-    }
-    let read = read_schema(&bytes[..len]);
-    let answer = read.answer;
-    match answer {
-        Answer::Refused(_, _) => false,
-        Answer::Accepted(_) => {
-            let again = read.schema;
-            let cells = again.bytes;
-            if again.len != len {
-                return false;
-            }
-            same_cells(&cells, &bytes)
-        }
-    }
 }

@@ -1,12 +1,12 @@
 // Reads the schema texts of tests/vectors from standard input and writes each one's outcome. A text is preceded by its length, in two bytes.
 
 fn show(text: &[u8]) {
-    let read = schema::read_schema(text);
+    let read = schema_reader::read_schema(text);
     let answer = read.answer;
     match answer {
         schema::Answer::Accepted(n) => {
             let record = read.schema;
-            if !schema::is_schema_record(record) {
+            if !schema_reader::is_schema_record(record) {
                 io::write_all(1, b"no record: ");
             }
             io::write_all(1, b"ok ");

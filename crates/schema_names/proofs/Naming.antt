@@ -1,8 +1,9 @@
--- Laws of names by their places: compared byte by byte. Assumes nothing.
+-- Laws of names by their places: compared byte by byte, sought among others. Assumes nothing.
 use mathlib.Core.Bool.{Bool, true, false, cond, _&&_, _||_}
 use mathlib.Core.List.{List, [], _∷_, map}
+use mathlib.Core.Logic.{_⊎_, inl, inr}
 use mathlib.Core.Option.{Option, none, some}
-use mathlib.Core.Path.{_≡_, refl, sym, ap, ap₂, _∙_}
+use mathlib.Core.Path.{_≡_, refl, sym, ap, _∙_}
 use Prim.Native.Nat.{ℕ, suc, _+_, _≤_, _<_}
 use native.Mathlib.Numerals.{add-one}
 use native.Mathlib.Omega.{arith}
@@ -19,34 +20,34 @@ use Rattle.text_laws.specs.Tests.{false-of}
 use Rattle.text_spec.specs.Bytes.{continuesName}
 use Rattle.text_spec.specs.Lists.{anyOf, first, valueOr, sameBytes}
 
+abbrev head : List ℕ → ℕ
+head n = valueOr 0 (first n)
+
 -- ---- the name at a place: over, or a byte and the name after it
 data View (s : List ℕ) (i : ℕ) : Type 0 where
   over : nameAt s i ≡ [] → View s i
   byte : (b : ℕ) → i < length s → (b ≡ 0 → ⊥) → nameAt s i ≡ b ∷ nameAt s (i + 1) → View s i
 
+continues-not-zero : (b : ℕ) → continuesName b ≡ true → b ≡ 0 → ⊥
+continues-not-zero b e z = let y : continuesName 0 ≡ true = ap continuesName (sym z) ∙ e in let x : _≡_ {A = ℕ} 0 1 = cc in omega arith
+
 view : (s : List ℕ) (i : ℕ) → View s i
 view s i = go (ltb i (length s)) refl
   where
-    continues-not-zero : (b : ℕ) → continuesName b ≡ true → b ≡ 0 → ⊥
-    continues-not-zero b e z = let y : continuesName 0 ≡ true = ap continuesName (sym z) ∙ e in let x : _≡_ {A = ℕ} 0 1 = cc in omega arith
-
     inside : i < length s → (t : Bool) → continuesName (byteAt s i) ≡ t → View s i
     inside h true e = byte (byteAt s i) h (continues-not-zero (byteAt s i) e) (name-cons s i h e)
     inside h false e = over (name-stops s i (λ _. e))
 
     go : (t : Bool) → ltb i (length s) ≡ t → View s i
     go true e = inside (ltb-true i (length s) e) (continuesName (byteAt s i)) refl
-    go false e = over (ap nameIn (drop-of-length-le s (ltb-false i (length s) e)))
+    go false e = over (name-stops s i (λ h. absurd (omega (arith, ltb-false i (length s) e))))
 
 module _ (s : List ℕ) (i : ℕ) where
-  pub byte-none : length s ≤ i → 0 ≡ nameByte s i
-  byte-none h = sym (ap (λ (n : List ℕ). valueOr 0 (first n)) (name-stops s i (λ l. absurd (omega arith))))
-
-  pub byte-not : continuesName (byteAt s i) ≡ false → 0 ≡ nameByte s i
-  byte-not e = sym (ap (λ (n : List ℕ). valueOr 0 (first n)) (name-stops s i (λ l. e)))
+  pub byte-none : (i < length s → continuesName (byteAt s i) ≡ false) → 0 ≡ nameByte s i
+  byte-none e = sym (ap head (name-stops s i e))
 
   pub byte-there : i < length s → continuesName (byteAt s i) ≡ true → byteAt s i ≡ nameByte s i
-  byte-there h e = sym (ap (λ (n : List ℕ). valueOr 0 (first n)) (name-cons s i h e))
+  byte-there h e = sym (ap head (name-cons s i h e))
 
   -- the name, by its first byte a
   module _ {a : ℕ} (e : a ≡ nameByte s i) where
@@ -55,13 +56,13 @@ module _ (s : List ℕ) (i : ℕ) where
       where
         go : View s i → nameAt s i ≡ []
         go (over n) = n
-        go (byte b l z n) = absurd (z (sym (ap (λ (n : List ℕ). valueOr 0 (first n)) n) ∙ sym e ∙ h))
+        go (byte b l z n) = absurd (z (sym (ap head n) ∙ sym e ∙ h))
 
     pub byte-on : (a ≡ 0 → ⊥) → (i < length s) × (length (nameAt s i) ≡ suc (length (nameAt s (i + 1))))
     byte-on h = go (view s i)
       where
         go : View s i → (i < length s) × (length (nameAt s i) ≡ suc (length (nameAt s (i + 1))))
-        go (over n) = absurd (h (e ∙ ap (λ (n : List ℕ). valueOr 0 (first n)) n))
+        go (over n) = absurd (h (e ∙ ap head n))
         go (byte b l z n) = (l, ap length n)
 
 -- ---- two names, by their first bytes a and b and what follows
@@ -84,6 +85,59 @@ module _ (s : List ℕ) (i : ℕ) (t : List ℕ) (j : ℕ) {a b : ℕ} (x : a �
 
     pub same-on : a ≡ b → sameBytes (nameAt s i) (nameAt t j) ≡ sameBytes (nameAt s (i + 1)) (nameAt t (j + 1))
     same-on f = by-bytes ∙ no (eqb b 0) _ (ne-eqb a 0 e) ∙ rw (eq-eqb a b f)
+
+-- ---- two names, by the bytes of the texts, where the first is not over
+view-byte : (s : List ℕ) (j : ℕ) → (nameByte s j ≡ 0) ⊎ ((j < length s) × (byteAt s j ≡ nameByte s j))
+view-byte s j = go (ltb j (length s)) refl
+  where
+    inside : j < length s → (c : Bool) → continuesName (byteAt s j) ≡ c → (nameByte s j ≡ 0) ⊎ ((j < length s) × (byteAt s j ≡ nameByte s j))
+    inside l true e = inr (l, byte-there s j l e)
+    inside l false e = inl (sym (byte-none s j (λ _. e)))
+
+    go : (c : Bool) → ltb j (length s) ≡ c → (nameByte s j ≡ 0) ⊎ ((j < length s) × (byteAt s j ≡ nameByte s j))
+    go true e = inside (ltb-true j (length s) e) (continuesName (byteAt s j)) refl
+    go false e = inl (sym (byte-none s j (λ l. absurd (omega (arith, ltb-false j (length s) e)))))
+
+name-left : (t : List ℕ) (i : ℕ) → 0 < length (nameAt t i) → (i < length t) × (continuesName (byteAt t i) ≡ true)
+name-left t i h = go (ltb i (length t)) refl
+  where
+    inside : i < length t → (c : Bool) → continuesName (byteAt t i) ≡ c → (i < length t) × (continuesName (byteAt t i) ≡ true)
+    inside l true e = (l, e)
+    inside l false e = let z = ap length (name-stops t i (λ _. e)) in absurd (omega arith)
+
+    go : (c : Bool) → ltb i (length t) ≡ c → (i < length t) × (continuesName (byteAt t i) ≡ true)
+    go true e = inside (ltb-true i (length t) e) (continuesName (byteAt t i)) refl
+    go false e =
+        let z = ap length (name-stops t i (λ l. absurd (omega (arith, ltb-false i (length t) e)))) in
+        absurd (omega arith)
+
+module _ (t : List ℕ) (i : ℕ) (s : List ℕ) (j : ℕ) (left : 0 < length (nameAt t i)) where
+  first-byte : byteAt t i ≡ nameByte t i
+  first-byte = byte-there t i (name-left t i left .0) (name-left t i left .1)
+
+  not-over : byteAt t i ≡ 0 → ⊥
+  not-over = continues-not-zero (byteAt t i) (name-left t i left .1)
+
+  pub name-goes-on : (i < length t) × (length (nameAt t i) ≡ suc (length (nameAt t (i + 1))))
+  name-goes-on = byte-on t i first-byte not-over
+
+  pub names-differ : (j < length s → byteAt t i ≡ byteAt s j → ⊥) → false ≡ sameBytes (nameAt t i) (nameAt s j)
+  names-differ h = same-not t i s j first-byte refl not-over (λ e. go (view-byte s j) e)
+    where
+      go : (nameByte s j ≡ 0) ⊎ ((j < length s) × (byteAt s j ≡ nameByte s j)) → byteAt t i ≡ nameByte s j → ⊥
+      go (inl z) e = not-over (e ∙ z)
+      go (inr x) e = h (x .0) (e ∙ sym (x .1))
+
+  pub names-agree : j < length s → byteAt t i ≡ byteAt s j → sameBytes (nameAt t i) (nameAt s j) ≡ sameBytes (nameAt t (i + 1)) (nameAt s (j + 1))
+  names-agree l e =
+      same-on t i s j first-byte (byte-there s j l (ap continuesName (sym e) ∙ name-left t i left .1)) not-over e
+
+pub names-ended : (t : List ℕ) (i : ℕ) (s : List ℕ) (j : ℕ) {b : ℕ} → length (nameAt t i) ≡ 0 → b ≡ nameByte s j → eqb b 0 ≡ sameBytes (nameAt t i) (nameAt s j)
+names-ended t i s j h y = same-ended t i s j (go (view t i)) y refl
+  where
+    go : View t i → 0 ≡ nameByte t i
+    go (over n) = sym (ap head n)
+    go (byte c l z n) = let m = ap length n in absurd (omega arith)
 
 -- ---- the first of some names that is n
 module _ (s ps n : List ℕ) (i : ℕ) where
@@ -137,7 +191,8 @@ pub name-whole : (t : List ℕ) → length (nameIn t) ≡ length t → nameIn t 
 name-whole [] e = refl
 name-whole (b ∷ t) e = go (continuesName b) e (name-whole t)
   where
-    go : (c : Bool) → length (cond c (b ∷ nameIn t) []) ≡ suc (length t) → (length (nameIn t) ≡ length t → nameIn t ≡ t) → cond c (b ∷ nameIn t) [] ≡ b ∷ t
+    go : (c : Bool) → length (cond c (b ∷ nameIn t) []) ≡ suc (length t) → (length (nameIn t) ≡ length t → nameIn t ≡ t)
+        → cond c (b ∷ nameIn t) [] ≡ b ∷ t
     go true f h = ap (λ (l : List ℕ). b ∷ l) (h (omega arith))
     go false f h = absurd (omega arith)
 
@@ -153,7 +208,10 @@ name-again (b ∷ t) = go (continuesName b) refl (name-again t)
 -- any other slice is no name of a text
 module _ (t : List ℕ) (e : length (nameIn t) ≡ length t → ⊥) (s : List ℕ) where
   no-name : (p : ℕ) → sameBytes t (nameAt s p) ≡ false
-  no-name p = false-of (sameBytes t (nameAt s p)) (λ y. let q : t ≡ nameAt s p = bytes-equal t (nameAt s p) y in e (ap length (ap nameIn q ∙ name-again (drop p s) ∙ sym q)))
+  no-name p =
+      false-of (sameBytes t (nameAt s p)) (λ y.
+      let q : t ≡ nameAt s p = bytes-equal t (nameAt s p) y in
+      e (ap length (ap nameIn q ∙ name-again (drop p s) ∙ sym q)))
 
   pub never-found : (k : ℕ) (ps : List ℕ) → indexFrom k t (map (nameAt s) ps) ≡ none
   never-found k [] = refl

@@ -14,6 +14,7 @@ found (Element i) = some i
 found Absent = none
 
 -- where the elements' names stand at the places ps of a text, the first of these names that is n is the element with the name n
-pub element-by-place : (text ps : List ℕ) (s : Schema) (n : List ℕ) → map (nameAt text) ps ≡ map (λ e. e .name) s → indexFrom 0 n (map (nameAt text) ps) ≡ elementNamed s n
+pub element-by-place : (text ps : List ℕ) (s : Schema) (n : List ℕ) → map (nameAt text) ps ≡ map (λ e. e .name) s
+    → indexFrom 0 n (map (nameAt text) ps) ≡ elementNamed s n
 unfolding elementNamed
 element-by-place text ps s n e = ap (indexFrom 0 n) e

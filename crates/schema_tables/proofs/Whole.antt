@@ -13,14 +13,14 @@ use Rattle.closures.specs.Tables.{relates, Below}
 use Rattle.names.specs.Sets.{member}
 use Rattle.names.specs.declared.NameSet.{NameSet}
 use Rattle.schema.proofs.Naming.{declared-names}
-use Rattle.schema.specs.Answers.{meant, sized, ReadAs}
+use Rattle.schema.specs.declared.Answer.{Answer}
+use Rattle.schema.specs.Answers.{meant, sized, JudgedAs}
 use Rattle.schema.specs.Whole.{Kept, Limits, within, passed, AllSpelt, AllRead}
 use Rattle.schema.specs.declared.All.{All}
 use Rattle.schema.specs.declared.All.the-variants.{Past, Fail}
 use Rattle.schema.specs.declared.Answer.the-variants.{Accepted, Refused}
 use Rattle.schema.specs.declared.Counts.{Counts}
 use Rattle.schema.specs.declared.Kind.{Kind}
-use Rattle.schema.specs.declared.SchemaRead.{SchemaRead}
 use Rattle.schema_laws.specs.Accepted.{Spelt, accepted-spelt, accepted-closed, names-of-elements}
 use Rattle.schema_laws.specs.Lists.{in-nothing}
 use Rattle.schema_spec.specs.Closure.{byWayOf, closure}
@@ -38,8 +38,8 @@ use Rattle.schema_tables.specs.declared.Rows.{Rows}
 use Rattle.text_spec.specs.Refusals.{Outcome, accepted, refused, resultOr}
 
 -- ---- a refused text has the schema with no element
-module _ (text : List ℕ) {r : SchemaRead} (R : ReadAs text r) where
-  pub read-accepted : {n : ℕ} → r .answer ≡ Accepted n → readSchema text ≡ accepted (schemaIn text)
+module _ (text : List ℕ) {r : Answer} (R : JudgedAs text r) where
+  pub read-accepted : {n : ℕ} → r ≡ Accepted n → readSchema text ≡ accepted (schemaIn text)
   unfolding schemaIn
   read-accepted {n} u = pick (readSchema text) (sym (ap meant u) ∙ R .outcome)
     where
@@ -47,7 +47,7 @@ module _ (text : List ℕ) {r : SchemaRead} (R : ReadAs text r) where
       pick (accepted s) e = refl
       pick (refused f) e = absurd (let z : _≡_ {A = ℕ} 0 1 = cc in omega arith)
 
-  pub read-refused : {k : Kind} {p : ℕ} → r .answer ≡ Refused k p → schemaIn text ≡ []
+  pub read-refused : {k : Kind} {p : ℕ} → r ≡ Refused k p → schemaIn text ≡ []
   unfolding schemaIn
   read-refused {k} {p} u = pick (readSchema text) (sym (ap meant u) ∙ R .outcome)
     where

@@ -290,9 +290,7 @@ fn accepted_tables(text: &[u8]) -> SchemaTables
 pub fn tables(text: &[u8]) -> SchemaTables
     ensures { λ r. ⌜ TablesOf (now (text .entry)) (schemaIn (now (text .entry))) r ⌝ }
 {
-    let read = schema::read_schema(text);
-    let answer = read.answer;
-    match answer {
+    match schema::judge_schema(text) {
         Answer::Accepted(_) => accepted_tables(text),
         Answer::Refused(_, _) => SchemaTables::empty(),
     }

@@ -4,3 +4,4 @@ pub mod Refusals
 pub mod Order
 pub mod Texts
 pub mod Departures
+pub mod Cells

@@ -3,3 +3,4 @@ pub mod Bytes
 pub mod Limits
 pub mod Refusals
 pub mod Texts
+pub mod Cells

@@ -10,9 +10,7 @@ use Rattle.path_laws.specs.Reading.{bundle-read, bundle-read-once}
 use Rattle.path_spec.specs.Conditions.{BundleApplies, BundleGives}
 use Rattle.path_spec.specs.Paths.{LocationPath}
 use Rattle.path_spec.specs.Reading.{bundleRefusals, readBundle, isBundleRecord}
-use Rattle.projection_spec.specs.Laws.Lent.{padded-length, padded-take}
 use Rattle.projection_spec.specs.Library.Conditions.{BundleTaken, SchemaHanded, of-schema, BundleHanded, of-bundle}
-use Rattle.projection_spec.specs.Library.Lent.{padded}
 use Rattle.projection_spec.specs.Library.Records.{TextRecord, textIn, recordOf, isRecord, passesSchema, passesBundle}
 use Rattle.schema_laws.specs.Accepted.{accepted-spelt}
 use Rattle.schema_laws.specs.Records.{record-producible, producible-record, record-accepted}
@@ -22,6 +20,8 @@ use Rattle.text_laws.specs.Lists.{append-empty, bytes-equal, bytes-same}
 use Rattle.text_laws.specs.Refusals.{judged-accepted}
 use Rattle.text_laws.specs.Tests.{and-intro, and-cases}
 use Rattle.text_laws.specs.Texts.{length-within}
+use Rattle.text_laws.specs.Cells.{padded-length, padded-take}
+use Rattle.text_spec.specs.Cells.{padded}
 use Rattle.text_spec.specs.Limits.{maxSchemaBytes, maxBundleBytes}
 use Rattle.text_spec.specs.Lists.{sameBytes}
 use Rattle.text_spec.specs.Refusals.{Outcome, accepted, refused, isAccepted, Judged}

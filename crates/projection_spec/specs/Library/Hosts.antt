@@ -9,7 +9,7 @@ use Rattle.projection_spec.specs.Extracts.Cut.{cut}
 use Rattle.projection_spec.specs.Extracts.Fields.{writeExtract}
 use Rattle.projection_spec.specs.Extracts.Reading.{readExtract}
 use Rattle.journal_spec.specs.Reading.{readJournal}
-use Rattle.projection_spec.specs.Library.Lent.{Sizes, equalSizes, Columns, columnsOf, padded, tooSmall}
+use Rattle.projection_spec.specs.Library.Lent.{Sizes, equalSizes, Columns, columnsOf, tooSmall}
 use Rattle.path_spec.specs.Paths.{LocationPath}
 use Rattle.path_spec.specs.Reading.{readBundle}
 use Rattle.path_spec.specs.Selection.{selectRows}
@@ -17,6 +17,7 @@ use Rattle.schema_spec.specs.Reading.{readSchema}
 use Rattle.schema_spec.specs.Schemas.{Schema}
 use Rattle.schema_spec.specs.Types.{typesOf}
 use Rattle.table_spec.specs.Rows.{Row}
+use Rattle.text_spec.specs.Cells.{padded}
 use Rattle.text_spec.specs.Limits.{maxJournalBytes, maxPaths}
 use Rattle.text_spec.specs.Refusals.{Outcome, accepted, refused, judged, andThen, numberOf, at, given, badRecord, tooFewCells}
 use Rattle.projection_spec.specs.Inference.Needed.{needed}

@@ -1,4 +1,4 @@
--- Lent outputs: the answer and then zeros, or all zeros on refusal; refusal 18. Assumes nothing.
+-- Lent outputs: tables as columns of cells; refusal 18. Assumes nothing.
 use mathlib.Core.Bool.{Bool, true, false, _&&_, _||_}
 use mathlib.Core.List.{List, [], _∷_, _++_, map}
 use mathlib.Core.Path.{_≡_}
@@ -7,21 +7,7 @@ use lib.Dec.{eqb, leb, ltb}
 use lib.ListN.{length, replicate}
 use Rattle.schema_spec.specs.Names.{codeOf}
 use Rattle.table_spec.specs.Rows.{Row, Cells, cellsOf}
-
--- "On success the cells past the answer are 0": an answer in so many cells
-abbrev pub padded : ℕ → List ℕ → List ℕ
-padded zero xs = []
-padded (suc n) [] = 0 ∷ padded n []
-padded (suc n) (x ∷ xs) = x ∷ padded n xs
-
--- the same as a relation
-pub record InCells (size : ℕ) (answer cells : List ℕ) : Type 0 where
-  pub room : length answer ≤ size
-  pub content : cells ≡ answer ++ replicate (size - length answer) 0
-
--- "every cell of every lent output is then 0": no answer
-abbrev pub cleared : ℕ → List ℕ
-cleared size = padded size []
+use Rattle.text_spec.specs.Cells.{padded}
 
 -- a table as lent columns of numbers
 pub record Columns : Type 0 where

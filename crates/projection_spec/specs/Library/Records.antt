@@ -5,13 +5,14 @@ use mathlib.Core.Option.{Option, none, some}
 use Prim.Native.Nat.{ℕ, zero, suc}
 use lib.Dec.{leb, ltb}
 use lib.ListN.{length, take, getD}
-use Rattle.projection_spec.specs.Library.Lent.{Columns, sizesOf, equalSizes, padded}
+use Rattle.projection_spec.specs.Library.Lent.{Columns, sizesOf, equalSizes}
 use Rattle.path_spec.specs.Reading.{isBundleRecord}
 use Rattle.schema_spec.specs.Records.{isSchemaRecord, schemaIn}
 use Rattle.schema_spec.specs.Schemas.{Schema}
 use Rattle.schema_spec.specs.Types.{Types, typesOf}
 use Rattle.table_spec.specs.Rows.{Row, Cells, rowsOf}
 use Rattle.table_spec.specs.Tables.{wellFormedWith}
+use Rattle.text_spec.specs.Cells.{padded}
 use Rattle.text_spec.specs.Limits.{maxSchemaBytes, maxBundleBytes}
 use Rattle.text_spec.specs.Lists.{sameBytes}
 

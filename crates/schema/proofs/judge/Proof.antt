@@ -1,8 +1,7 @@
 -- `judge` meets its contract: 4, then 5, then the names. Assumes nothing.
-use mathlib.Core.Path.{_≡_, refl, sym, ap, _∙_}
-use borrow.Author.Needs.{needs}
-use native.Mathlib.Omega.{arith}
 use Rattle.schema.proofs.Outcomes.{judge-departs, judge-over, judge-room, judge-spelling}
+use native.Mathlib.Omega.{arith}
+use borrow.Author.Needs.{needs}
 use Rattle.schema.proofs.judge.Statement.{statement}
 use Rattle.schema.proofs.judge.Tie as tie
 
@@ -18,17 +17,11 @@ all-declarations-requires c κs = search needs
 enum-known-j : tie.Need-enum-known-j
 enum-known-j c = search needs
 
-refused-requires : tie.Need-refused-requires
-refused-requires c κs = search needs
-
 enum-known-c : tie.Need-enum-known-c
 enum-known-c c = search needs
 
-refused-requires-2 : tie.Need-refused-requires-2
-refused-requires-2 c κs = search needs
-
 returns : tie.Need-returns
-returns c = judge-over (c .before .before .before .before .before .before .before .all-declarations .ensures) (c .before .before .before .c .given .1) (c .before .before .before .before .before .before .before .before .before .before .before .pre) (c .refused2 .ensures) (c .before .if1 .taken)
+returns c = judge-over (c .before .before .before .before .before .before .all-declarations .ensures) (c .before .before .c .given .1) (c .before .before .before .before .before .before .before .before .before .before .pre) (c .if1 .taken)
 
 array-share-prefix-names : tie.Need-array-share-prefix-names
 array-share-prefix-names c = judge-room (c .before .before .before .before .before .before .all-declarations .ensures) (c .before .before .c .given .1) (c .if1 .left) .0
@@ -46,7 +39,7 @@ judge-names-requires : tie.Need-judge-names-requires
 judge-names-requires c κs = judge-spelling (c .before .before .before .before .before .before .before .before .all-declarations .ensures) (c .before .before .before .before .c .given .1) (c .before .before .if1 .left) (c .before .before .before .before .before .before .before .before .before .before .before .before .pre)
 
 returns-2 : tie.Need-returns-2
-returns-2 c = judge-departs (c .before .before .before .before .before .before .all-declarations .ensures) (c .before .before .before .before .before .before .before .before .before .before .pre) (c .refused .ensures) (c .before .before .j .given .1)
+returns-2 c = judge-departs (c .before .before .before .before .before .all-declarations .ensures) (c .before .before .before .before .before .before .before .before .before .pre) (c .before .j .given .1)
 
 returns-3 : tie.Need-returns-3
 returns-3 c = search needs
@@ -59,9 +52,7 @@ judge-spec =
     slice-aggregate-all-declarations-2
     all-declarations-requires
     enum-known-j
-    refused-requires
     enum-known-c
-    refused-requires-2
     returns
     array-share-prefix-names
     slice-aggregate-judge-names

@@ -1,5 +1,5 @@
 -- `twice` meets its contract: none of the first i names is declared before it. Assumes nothing.
-use mathlib.Core.Path.{_≡_, refl, sym, ap, _∙_}
+use mathlib.Core.Path.{_≡_, refl, sym, _∙_}
 use borrow.Author.Needs.{needs}
 use native.Mathlib.Omega.{arith}
 use mathlib.Core.List.{[]}
@@ -12,7 +12,9 @@ use Rattle.schema.proofs.twice.Statement.{statement}
 use Rattle.schema.proofs.twice.Tie as tie
 
 abbrev Inv-loop : tie.InvT-loop
-Inv-loop s names i₀ i = (i ≤ length names) × (firstPlace s (twiceAt s [] names) ≡ firstPlace s (twiceAt s (namesBefore s names i) (drop i names)))
+Inv-loop s names i₀ i =
+    (i ≤ length names)
+    × (firstPlace s (twiceAt s [] names) ≡ firstPlace s (twiceAt s (namesBefore s names i) (drop i names)))
 
 abbrev μ-loop : tie.MeasureT-loop
 μ-loop s names i₀ i = length names - i
@@ -27,7 +29,8 @@ shared-slice-read-p : tie.Need-shared-slice-read-p Inv-loop μ-loop
 shared-slice-read-p c = search needs
 
 slice-aggregate-find : tie.Need-slice-aggregate-find Inv-loop μ-loop
-slice-aggregate-find c = sym (length-take-le (c .before .before .before .loop .i) (c .before .before .before .before .before .before .args .names .now) (omega arith))
+slice-aggregate-find c =
+    sym (length-take-le (c .before .before .before .loop .i) (c .before .before .before .before .before .before .args .names .now) (omega arith))
 
 find-requires : tie.Need-find-requires Inv-loop μ-loop
 find-requires c κs = search needs
@@ -37,7 +40,8 @@ returns c =
     let l = c .before .before .before .before .before .loop in
     let g = c .before .before .before .before .before .before .before .before .args in
     let h = c .before .before .before .before .loop-test .taken in
-    sym (l .inv .1 ∙ twice-here (g .s .now) (g .names .now) (l .i) h (among-found (g .s .now) (g .names .now) _ (l .i) (getD (g .names .now) (l .i) 0) (omega arith) refl (c .before .find .ensures) (c .if1 .taken)))
+    sym (l .inv .1 ∙ twice-here (g .s .now) (g .names .now) (l .i) h
+    (among-found (g .s .now) (g .names .now) _ (l .i) (getD (g .names .now) (l .i) 0) (omega arith) refl (c .before .find .ensures) (c .if1 .taken)))
 
 add-i : tie.Need-add-i Inv-loop μ-loop
 add-i c = search needs
@@ -49,11 +53,19 @@ loop-again : tie.Need-loop-again Inv-loop μ-loop
 loop-again c =
     let l = c .before .before .before .before .before .loop in
     let g = c .before .before .before .before .before .before .before .before .args in
-    let h = c .before .before .before .before .loop-test .taken in
-    (search needs, l .inv .1 ∙ twice-later (g .s .now) (g .names .now) (l .i) h (among-none (g .s .now) (g .names .now) _ (l .i) (getD (g .names .now) (l .i) 0) (omega arith) refl (c .before .find .ensures) (c .if1 .left)))
+    let h = c .before .before .before .before .loop-test .taken in (
+      search needs,
+      l .inv .1 ∙ twice-later (g .s .now) (g .names .now) (l .i) h
+          (among-none (g .s .now) (g .names .now) _ (l .i) (getD (g .names .now) (l .i) 0) (omega arith) refl (c .before .find .ensures) (c .if1 .left)),
+    )
 
 returns-2 : tie.Need-returns-2 Inv-loop μ-loop
-returns-2 c = sym (c .before .loop .inv .1 ∙ twice-never (c .before .before .before .before .args .s .now) (c .before .before .before .before .args .names .now) (c .before .loop .i) (c .loop-test .left))
+returns-2 c =
+    let l = c .before .loop in
+    let g = c .before .before .before .before .args in
+    sym (l .inv .1 ∙ twice-never (g .s .now) (g .names .now) (l .i) (c .loop-test .left))
 
 pub twice-spec : {M : Type 1} → statement M
-twice-spec = tie.close (tie.spec Inv-loop μ-loop loop-holds mul-p shared-slice-read-p slice-aggregate-find find-requires returns add-i loop-less loop-again returns-2)
+twice-spec =
+    tie.close
+    (tie.spec Inv-loop μ-loop loop-holds mul-p shared-slice-read-p slice-aggregate-find find-requires returns add-i loop-less loop-again returns-2)

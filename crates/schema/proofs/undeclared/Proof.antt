@@ -1,5 +1,5 @@
 -- `undeclared` meets its contract: the first i names are declared. Assumes nothing.
-use mathlib.Core.Path.{_≡_, refl, sym, ap, _∙_}
+use mathlib.Core.Path.{_≡_, refl, sym, _∙_}
 use borrow.Author.Needs.{needs}
 use native.Mathlib.Omega.{arith}
 use Prim.Native.Nat.{_-_, _≤_}
@@ -11,7 +11,10 @@ use Rattle.schema.proofs.undeclared.Statement.{statement}
 use Rattle.schema.proofs.undeclared.Tie as tie
 
 abbrev Inv-loop : tie.InvT-loop
-Inv-loop s names uses i₀ i = (i ≤ length uses) × (firstPlace s (missingAt s (namesBefore s names (length names)) uses) ≡ firstPlace s (missingAt s (namesBefore s names (length names)) (drop i uses)))
+Inv-loop s names uses i₀ i =
+    (i ≤ length uses)
+    × (firstPlace s (missingAt s (namesBefore s names (length names)) uses)
+    ≡ firstPlace s (missingAt s (namesBefore s names (length names)) (drop i uses)))
 
 abbrev μ-loop : tie.MeasureT-loop
 μ-loop s names uses i₀ i = length uses - i
@@ -34,7 +37,8 @@ returns c =
     let g = c .before .before .before .before .before .before .before .before .args in
     let h = c .before .before .before .loop-test .taken in
     sym (l .inv .1 ∙ missing-here (g .s .now) (namesBefore (g .s .now) (g .names .now) (length (g .names .now))) (g .uses .now) (l .i) h
-    (among-none (g .s .now) (g .names .now) _ (length (g .names .now)) (getD (g .uses .now) (l .i) 0) (omega arith) (sym (take-length (g .names .now))) (c .before .find .ensures) (c .if1 .taken)))
+    (among-none (g .s .now) (g .names .now) _ (length (g .names .now)) (getD (g .uses .now) (l .i) 0) (omega arith) (sym (take-length (g .names .now)))
+    (c .before .find .ensures) (c .if1 .taken)))
 
 add-i : tie.Need-add-i Inv-loop μ-loop
 add-i c = search needs
@@ -49,7 +53,8 @@ loop-again c =
     let h = c .before .before .before .loop-test .taken in (
       search needs,
       l .inv .1 ∙ missing-later (g .s .now) (namesBefore (g .s .now) (g .names .now) (length (g .names .now))) (g .uses .now) (l .i) h
-          (among-found (g .s .now) (g .names .now) _ (length (g .names .now)) (getD (g .uses .now) (l .i) 0) (omega arith) (sym (take-length (g .names .now))) (c .before .find .ensures) (c .if1 .left)),
+          (among-found (g .s .now) (g .names .now) _ (length (g .names .now)) (getD (g .uses .now) (l .i) 0) (omega arith) (sym (take-length (g .names .now)))
+          (c .before .find .ensures) (c .if1 .left)),
     )
 
 returns-2 : tie.Need-returns-2 Inv-loop μ-loop

@@ -1,36 +1,38 @@
 -- `element_named` meets its contract: a slice that is not a name from its start to its end is no name of the text. Assumes nothing.
 use mathlib.Core.List.{List, map}
-use mathlib.Core.Path.{_≡_, sym, ap, _∙_}
-use borrow.Author.Needs.{needs}
+use mathlib.Core.Path.{sym, ap, _∙_}
 use Prim.Native.Nat.{ℕ}
+use native.Mathlib.Nat.{zero-add}
 use Rattle.schema_names.specs.Names.{nameAt}
 use Rattle.schema_names.proofs.Naming.{found-one, found-none, name-whole, never-found}
+use Rattle.schema_spec.specs.Schemas.{indexFrom}
+use native.Mathlib.Omega.{arith}
+use borrow.Author.Needs.{needs}
 use Rattle.schema_names.proofs.element_named.Statement.{statement}
 use Rattle.schema_names.proofs.element_named.Tie as tie
-use Rattle.schema_spec.specs.Schemas.{indexFrom}
 
-name-size-requires : tie.Need-name-size-requires
-name-size-requires c κs = search needs
+past-name-requires : tie.Need-past-name-requires
+past-name-requires c κs = search needs
 
 returns : tie.Need-returns
-returns c =
-    let g = c .before .before .before .before .before .args in
-    sym (never-found (g .name .now) (λ e. c .if1 .taken (c .before .name-size .ensures ∙ e)) (g .text .now) 0 (g .names .now))
+returns c = let g = c .before .before .before .before .before .args in
+    sym (never-found (g .name .now) (λ e. c .if1 .taken (c .before .past-name .ensures ∙ zero-add _ ∙ e)) (g .text .now) 0 (g .names .now))
 
 find-requires : tie.Need-find-requires
 find-requires c κs = search needs
 
 returns-2 : tie.Need-returns-2
-returns-2 c =
-    let g = c .before .before .before .before .before .before .before .args in
-    let w = name-whole (g .name .now) (sym (c .before .before .before .name-size .ensures) ∙ c .before .before .if1 .left) in
-    sym (ap (λ (n : List ℕ). indexFrom 0 n (map (nameAt (g .text .now)) (g .names .now))) (sym w) ∙ found-one (g .text .now) (g .names .now) (nameAt (g .name .now) 0) (c .before .find .ensures) (c .if2 .taken) .0)
+returns-2 c = let g = c .before .before .before .before .before .before .before .args in
+    let w = name-whole (g .name .now) (sym (c .before .before .before .past-name .ensures ∙ zero-add _) ∙ c .before .before .if1 .left) in
+    sym (ap (λ (n : List ℕ). indexFrom 0 n (map (nameAt (g .text .now)) (g .names .now))) (sym w)
+    ∙ found-one (g .text .now) (g .names .now) (nameAt (g .name .now) 0) (c .before .find .ensures) (c .if2 .taken) .0)
 
 returns-3 : tie.Need-returns-3
-returns-3 c =
-    let g = c .before .before .before .before .before .before .before .args in
-    let w = name-whole (g .name .now) (sym (c .before .before .before .name-size .ensures) ∙ c .before .before .if1 .left) in
-    sym (ap (λ (n : List ℕ). indexFrom 0 n (map (nameAt (g .text .now)) (g .names .now))) (sym w) ∙ found-none (g .text .now) (g .names .now) (nameAt (g .name .now) 0) (c .before .find .ensures) (c .if2 .left) .0)
+returns-3 c = let g = c .before .before .before .before .before .before .before .args in
+    let w = name-whole (g .name .now) (sym (c .before .before .before .past-name .ensures ∙ zero-add _) ∙ c .before .before .if1 .left) in
+    sym (ap (λ (n : List ℕ). indexFrom 0 n (map (nameAt (g .text .now)) (g .names .now))) (sym w)
+    ∙ found-none (g .text .now) (g .names .now) (nameAt (g .name .now) 0) (c .before .find .ensures) (c .if2 .left) .0)
 
 pub element-named-spec : {M : Type 1} → statement M
-element-named-spec = tie.close (tie.spec name-size-requires returns find-requires returns-2 returns-3)
+element-named-spec =
+    tie.close (tie.spec past-name-requires returns find-requires returns-2 returns-3)

@@ -1,22 +1,27 @@
 -- `find` meets its contract: none of the first i names is the one sought. Assumes nothing.
 use mathlib.Core.List.{map}
 use mathlib.Core.Path.{_≡_, refl, sym, ap, _∙_}
-use borrow.Author.Needs.{needs}
-use native.Mathlib.Omega.{arith}
 use Prim.Native.Nat.{_-_, _≤_}
 use lib.ListN.{length, drop}
 use Rattle.schema_names.specs.Names.{nameAt}
 use Rattle.schema_spec.specs.Schemas.{indexFrom}
 use Rattle.text_spec.specs.Lists.{valueOr}
 use Rattle.schema_names.proofs.Naming.{index-here, index-later, index-none}
+use borrow.Author.Needs.{needs}
+use native.Mathlib.Omega.{arith}
 use Rattle.schema_names.proofs.find.Statement.{statement}
 use Rattle.schema_names.proofs.find.Tie as tie
 
 abbrev Inv-loop : tie.InvT-loop
-Inv-loop s names t p i₀ i = (i ≤ length names) × (indexFrom 0 (nameAt t p) (map (nameAt s) names) ≡ indexFrom i (nameAt t p) (map (nameAt s) (drop i names)))
+Inv-loop s names t p end i₀ i =
+    (i ≤ length names)
+    × (indexFrom 0 (nameAt t p) (map (nameAt s) names) ≡ indexFrom i (nameAt t p) (map (nameAt s) (drop i names)))
 
 abbrev μ-loop : tie.MeasureT-loop
-μ-loop s names t p i₀ i = length names - i
+μ-loop s names t p end i₀ i = length names - i
+
+past-name-requires : tie.Need-past-name-requires Inv-loop μ-loop
+past-name-requires c κs = search needs
 
 loop-holds : tie.Need-loop-holds Inv-loop μ-loop
 loop-holds c = (search needs, refl)
@@ -28,13 +33,13 @@ shared-slice-read-same-name : tie.Need-shared-slice-read-same-name Inv-loop μ-l
 shared-slice-read-same-name c = search needs
 
 same-name-requires : tie.Need-same-name-requires Inv-loop μ-loop
-same-name-requires c κs = search needs
+same-name-requires c κs = c .before .before .before .past-name .ensures
 
 returns : tie.Need-returns Inv-loop μ-loop
-returns c =
-    let l = c .before .before .before .before .loop in
-    let g = c .before .before .before .before .before .before .before .before .args in
-    sym (ap (valueOr (length (g .names .now))) (l .inv .1 ∙ index-here (g .s .now) (g .names .now) (nameAt (g .t .now) (g .p)) (l .i) (c .before .before .before .loop-test .taken) (sym (c .before .same-name .ensures) ∙ c .if1 .taken)))
+returns c = let l = c .before .before .before .before .loop in
+    let g = c .before .before .before .before .before .before .before .before .before .args in
+    sym (ap (valueOr (length (g .names .now))) (l .inv .1
+    ∙ index-here (g .s .now) (g .names .now) (nameAt (g .t .now) (g .p)) (l .i) (c .before .before .before .loop-test .taken) (sym (c .before .same-name .ensures) ∙ c .if1 .taken)))
 
 add-i : tie.Need-add-i Inv-loop μ-loop
 add-i c = search needs
@@ -43,18 +48,31 @@ loop-less : tie.Need-loop-less Inv-loop μ-loop
 loop-less c = search needs
 
 loop-again : tie.Need-loop-again Inv-loop μ-loop
-loop-again c =
-    let l = c .before .before .before .before .loop in
-    let g = c .before .before .before .before .before .before .before .before .args in
-    (search needs, l .inv .1 ∙ index-later (g .s .now) (g .names .now) (nameAt (g .t .now) (g .p)) (l .i) (c .before .before .before .loop-test .taken) (sym (c .before .same-name .ensures) ∙ c .if1 .left))
+loop-again c = let l = c .before .before .before .before .loop in
+    let g = c .before .before .before .before .before .before .before .before .before .args in (
+      search needs,
+      l .inv .1
+          ∙ index-later (g .s .now) (g .names .now) (nameAt (g .t .now) (g .p)) (l .i) (c .before .before .before .loop-test .taken) (sym (c .before .same-name .ensures) ∙ c .if1 .left),
+    )
 
 returns-2 : tie.Need-returns-2 Inv-loop μ-loop
-returns-2 c =
-    let l = c .before .loop in
-    let g = c .before .before .before .before .before .args in
+returns-2 c = let l = c .before .loop in
+    let g = c .before .before .before .before .before .before .args in
     sym (ap (valueOr (length (g .names .now))) (l .inv .1 ∙ index-none (g .s .now) (g .names .now) (nameAt (g .t .now) (g .p)) (l .i) (c .loop-test .left)))
 
 pub find-spec : {M : Type 1} → statement M
 find-spec =
     tie.close
-    (tie.spec Inv-loop μ-loop loop-holds mul-same-name shared-slice-read-same-name same-name-requires returns add-i loop-less loop-again returns-2)
+    (tie.spec
+    Inv-loop
+    μ-loop
+    past-name-requires
+    loop-holds
+    mul-same-name
+    shared-slice-read-same-name
+    same-name-requires
+    returns
+    add-i
+    loop-less
+    loop-again
+    returns-2)

@@ -1,13 +1,13 @@
 -- `name_byte` meets its contract. Assumes nothing.
-use mathlib.Core.Path.{_≡_, refl, sym, ap, _∙_}
+use mathlib.Core.Path.{sym, _∙_}
 use borrow.Author.Needs.{needs}
 use native.Mathlib.Omega.{arith}
-use Rattle.schema_names.proofs.Naming.{byte-none, byte-not, byte-there}
+use Rattle.schema_names.proofs.Naming.{byte-none, byte-there}
 use Rattle.schema_names.proofs.name_byte.Statement.{statement}
 use Rattle.schema_names.proofs.name_byte.Tie as tie
 
 returns : tie.Need-returns
-returns c = byte-none (c .before .before .args .s .now) (c .before .before .args .i) (c .if1 .taken)
+returns c = byte-none (c .before .before .args .s .now) (c .before .before .args .i) (λ l. absurd (omega arith))
 
 shared-slice-read-b : tie.Need-shared-slice-read-b
 shared-slice-read-b c = search needs
@@ -16,10 +16,14 @@ continues-name-requires : tie.Need-continues-name-requires
 continues-name-requires c κs = search needs
 
 returns-2 : tie.Need-returns-2
-returns-2 c = byte-there (c .before .before .before .before .before .args .s .now) (c .before .before .before .before .before .args .i) (c .before .before .before .if1 .left) (sym (c .before .continues-name .ensures) ∙ c .if2 .taken)
+returns-2 c =
+    let g = c .before .before .before .before .before .args in
+    byte-there (g .s .now) (g .i) (c .before .before .before .if1 .left) (sym (c .before .continues-name .ensures) ∙ c .if2 .taken)
 
 returns-3 : tie.Need-returns-3
-returns-3 c = byte-not (c .before .before .before .before .before .args .s .now) (c .before .before .before .before .before .args .i) (sym (c .before .continues-name .ensures) ∙ c .if2 .left)
+returns-3 c =
+    let g = c .before .before .before .before .before .args in
+    byte-none (g .s .now) (g .i) (λ _. sym (c .before .continues-name .ensures) ∙ c .if2 .left)
 
 pub name-byte-spec : {M : Type 1} → statement M
 name-byte-spec = tie.close (tie.spec returns shared-slice-read-b continues-name-requires returns-2 returns-3)

@@ -1,20 +1,21 @@
 -- `tables` meets its contract. Assumes nothing.
-use borrow.Author.Needs.{needs}
 use mathlib.Core.Path.{sym, subst}
 use Rattle.schema_spec.specs.Schemas.{Schema}
 use Rattle.schema_tables.proofs.Whole.{read-accepted, read-refused}
 use Rattle.schema_tables.specs.Tables.{TablesOf}
+use native.Mathlib.Omega.{arith}
+use borrow.Author.Needs.{needs}
 use Rattle.schema_tables.proofs.tables.Statement.{statement}
 use Rattle.schema_tables.proofs.tables.Tie as tie
 
-read-schema-requires : tie.Need-read-schema-requires
-read-schema-requires c κs = search needs
+judge-schema-requires : tie.Need-judge-schema-requires
+judge-schema-requires c κs = search needs
 
 enum-told : tie.Need-enum-told
 enum-told c = search needs
 
 accepted-tables-requires : tie.Need-accepted-tables-requires
-accepted-tables-requires c κs = read-accepted (c .before .before .before .before .args .text .now) (c .before .before .read-schema .ensures) (c .enum-told .given .1)
+accepted-tables-requires c κs = read-accepted (c .before .before .before .before .args .text .now) (c .before .before .judge-schema .ensures) (c .enum-told .given .1)
 
 enum-told-2 : tie.Need-enum-told-2
 enum-told-2 c = search needs
@@ -26,15 +27,14 @@ returns : tie.Need-returns
 returns c = search needs
 
 returns-2 : tie.Need-returns-2
-returns-2 c =
-    let text = c .before .before .before .before .before .args .text .now in
-    subst (λ (s : Schema). TablesOf text s (c .empty .result)) (sym (read-refused text (c .before .before .before .read-schema .ensures) (c .before .enum-told2 .given .1))) (c .empty .ensures text)
+returns-2 c = let text = c .before .before .before .before .before .args .text .now in
+    subst (λ (s : Schema). TablesOf text s (c .empty .result)) (sym (read-refused text (c .before .before .before .judge-schema .ensures) (c .before .enum-told2 .given .1))) (c .empty .ensures text)
 
 pub tables-spec : {M : Type 1} → statement M
 tables-spec =
     tie.close
     (tie.spec
-    read-schema-requires
+    judge-schema-requires
     enum-told
     accepted-tables-requires
     enum-told-2

@@ -1,0 +1,61 @@
+-- Laws of the record that reading a text hands back. Assumes nothing.
+use mathlib.Core.Bool.{Bool, true, false, cond, _||_}
+use mathlib.Core.List.{List, [], _∷_, _++_}
+use mathlib.Core.Path.{_≡_, refl, sym, ap, subst, _∙_}
+use Prim.Native.Nat.{ℕ, zero, suc, _-_, _≤_, _<_}
+use native.Mathlib.Omega.{arith}
+use borrow.Author.Tests.{ltb-false}
+use lib.Dec.{eqb, ltb}
+use lib.ListN.{length, drop, replicate}
+use Rattle.schema.specs.Answers.{meant, sized, JudgedAs}
+use Rattle.schema.specs.declared.Answer.{Answer}
+use Rattle.schema.specs.declared.Answer.the-variants.{Accepted, Refused}
+use Rattle.schema.specs.declared.Kind.{Kind}
+use Rattle.schema.specs.declared.Schema.{Schema as Cells}
+use Rattle.schema_laws.specs.Accepted.{accepted-spelt}
+use Rattle.schema_reader.specs.Normal.{Normalized}
+use Rattle.schema_reader.specs.Records.{Recorded, handedBack, ReadAs}
+use Rattle.schema_spec.specs.Reading.{readSchema}
+use Rattle.schema_spec.specs.Records.{normalFrom, normal, recordBy, schemaRecord}
+use Rattle.schema_spec.specs.Schemas.{Schema}
+use Rattle.text_laws.specs.Cells.{drop-replicate, padded-zeros, padded-content}
+use Rattle.text_laws.specs.Refusals.{given-free}
+use Rattle.text_laws.specs.Tests.{false-of, or-right}
+use Rattle.text_spec.specs.Bytes.{isBlank}
+use Rattle.text_spec.specs.Cells.{padded}
+use Rattle.text_spec.specs.Limits.{maxSchemaBytes}
+use Rattle.text_spec.specs.Lists.{isEmpty}
+use Rattle.text_spec.specs.Refusals.{Outcome, accepted, refused, at, badLength}
+
+-- the normal form in cells that were 0
+pub normal-cells : {s cells : List ℕ} (size : ℕ) {r : ℕ} → length s ≤ size → Normalized s (replicate size 0) cells r → cells ≡ padded size (normal s)
+normal-cells {s} size {r} h N =
+    let a = N .size in
+    let b = N .short in
+    N .wrote ∙ ap (λ (l : List ℕ). normal s ++ l) (drop-replicate r size 0 ∙ ap (λ (k : ℕ). replicate (size - k) 0) (N .size))
+    ∙ sym (padded-content size (normal s) (omega arith))
+
+-- an accepted text is not too long
+accepted-short : (text : List ℕ) (s : Schema) → readSchema text ≡ accepted s → length text ≤ maxSchemaBytes
+accepted-short text s e =
+    let l = accepted-spelt text s e .right-length in
+    let f = false-of (ltb maxSchemaBytes (length text)) (λ t. given-free (isEmpty text || ltb maxSchemaBytes (length text)) (at badLength 0) l (or-right (isEmpty text) (ltb maxSchemaBytes (length text)) t)) in
+    ltb-false maxSchemaBytes (length text) f
+
+pub read-as : (text : List ℕ) (a : Answer) (s : Cells) → JudgedAs text a → Recorded text s → ReadAs text (record { answer = a; schema = handedBack a s })
+unfolding schemaRecord
+read-as text (Accepted n) s J R = go (readSchema text) refl (J .outcome)
+  where
+    go : (o : Outcome Schema) → readSchema text ≡ o → meant (Accepted n) ≡ sized o → ReadAs text (record { answer = Accepted n; schema = s })
+    go (accepted t) e q =
+        let h = accepted-short text t e in
+        let again : schemaRecord text ≡ normal text = ap (λ (o : Outcome Schema). recordBy o (normal text)) e in
+        record { outcome = J .outcome; bytes = R .bytes h ∙ ap (padded maxSchemaBytes) (sym again); size = R .size h ∙ ap length (sym again) }
+    go (refused f) e q = absurd (let z : _≡_ {A = ℕ} 0 1 = cc in omega arith)
+read-as text (Refused k p) s J R = go (readSchema text) refl (J .outcome)
+  where
+    go : (o : Outcome Schema) → readSchema text ≡ o → meant (Refused k p) ≡ sized o → ReadAs text (record { answer = Refused k p; schema = handedBack (Refused k p) s })
+    go (accepted t) e q = absurd (let z : _≡_ {A = ℕ} 0 1 = cc in omega arith)
+    go (refused f) e q =
+        let none : schemaRecord text ≡ [] = ap (λ (o : Outcome Schema). recordBy o (normal text)) e in
+        record { outcome = J .outcome; bytes = sym (padded-zeros 8192) ∙ ap (padded maxSchemaBytes) (sym none); size = ap length (sym none) }

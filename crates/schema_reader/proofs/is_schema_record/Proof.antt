@@ -1,0 +1,48 @@
+-- `is_schema_record` meets its contract: the length, then the re-reading. Assumes nothing.
+use mathlib.Core.Path.{_≡_, refl, sym, ap, _∙_}
+use borrow.Author.Needs.{needs}
+use native.Mathlib.Omega.{arith}
+use lib.ListN.{length}
+use lib.Seq.{length-take-le}
+use Rattle.schema_reader.proofs.Rereading.{record-long, record-refused, record-size, record-cells}
+use Rattle.schema_reader.proofs.is_schema_record.Statement.{statement}
+use Rattle.schema_reader.proofs.is_schema_record.Tie as tie
+
+returns : tie.Need-returns
+returns c = sym (record-long (c .before .before .args .schema .bytes) (c .before .before .args .schema .len) (c .if1 .taken))
+
+array-share-prefix-bytes : tie.Need-array-share-prefix-bytes
+array-share-prefix-bytes c = let h : length (c .before .before .args .schema .bytes) ≡ 8192 = search needs in omega arith
+
+slice-aggregate-read-schema : tie.Need-slice-aggregate-read-schema
+slice-aggregate-read-schema c = let h : length (c .before .before .before .args .schema .bytes) ≡ 8192 = search needs in sym (length-take-le (c .before .before .before .args .schema .len) (c .before .before .before .args .schema .bytes) (omega arith))
+
+read-schema-requires : tie.Need-read-schema-requires
+read-schema-requires c κs = search needs
+
+enum-told : tie.Need-enum-told
+enum-told c = search needs
+
+enum-told-2 : tie.Need-enum-told-2
+enum-told-2 c = search needs
+
+returns-2 : tie.Need-returns-2
+returns-2 c = sym (record-size (c .before .before .before .before .before .before .before .before .before .before .args .schema .bytes) (c .before .before .before .before .before .before .before .before .before .before .args .schema .len) (c .before .before .before .before .before .before .read-schema .ensures) (c .before .before .before .before .enum-told2 .given .1) (c .if2 .taken))
+
+slice-aggregate-same-cells : tie.Need-slice-aggregate-same-cells
+slice-aggregate-same-cells c = search needs
+
+slice-aggregate-same-cells-2 : tie.Need-slice-aggregate-same-cells-2
+slice-aggregate-same-cells-2 c = search needs
+
+same-cells-requires : tie.Need-same-cells-requires
+same-cells-requires c κs = search needs
+
+returns-3 : tie.Need-returns-3
+returns-3 c = sym (record-refused (c .before .before .before .before .before .before .args .schema .bytes) (c .before .before .before .before .before .before .args .schema .len) (c .before .before .read-schema .ensures) (c .enum-told .given .1))
+
+returns-4 : tie.Need-returns-4
+returns-4 c = record-cells (c .before .before .before .before .before .before .before .before .before .before .before .before .before .args .schema .bytes) (c .before .before .before .before .before .before .before .before .before .before .before .before .before .args .schema .len) (c .before .before .before .before .before .before .before .before .before .read-schema .ensures) (c .before .before .before .before .before .before .before .enum-told2 .given .1) (c .before .before .before .before .before .before .before .before .before .before .before .if1 .left) (c .before .before .before .if2 .left) (c .same-cells .ensures)
+
+pub is-schema-record-spec : {M : Type 1} → statement M
+is-schema-record-spec = tie.close (tie.spec returns array-share-prefix-bytes slice-aggregate-read-schema read-schema-requires enum-told enum-told-2 returns-2 slice-aggregate-same-cells slice-aggregate-same-cells-2 same-cells-requires returns-3 returns-4)

@@ -1,0 +1,16 @@
+-- Answers in lent cells: the answer and then zeros, or all zeros on refusal. Assumes nothing.
+use mathlib.Core.List.{List, [], _∷_, _++_}
+use mathlib.Core.Path.{_≡_}
+use Prim.Native.Nat.{ℕ, zero, suc, _-_, _≤_}
+use lib.ListN.{length, replicate}
+
+-- "On success the cells past the answer are 0": an answer in so many cells. Of no answer "every cell of every lent output is then 0".
+abbrev pub padded : ℕ → List ℕ → List ℕ
+padded zero xs = []
+padded (suc n) [] = 0 ∷ padded n []
+padded (suc n) (x ∷ xs) = x ∷ padded n xs
+
+-- the same as a relation
+pub record InCells (size : ℕ) (answer cells : List ℕ) : Type 0 where
+  pub room : length answer ≤ size
+  pub content : cells ≡ answer ++ replicate (size - length answer) 0
