@@ -17,6 +17,7 @@ use Rattle.schema_spec.specs.Models.{Particle, named, sequence, choice, repeate
 use Rattle.schema_spec.specs.Machine.{parse, spells, departs, Parsed}
 use Rattle.schema_spec.specs.Names.{Name, element, text as text-name, namesOf}
 use Rattle.schema_spec.specs.Reading.{usesOf, limitPlaces, twicePlaces, undeclaredPlaces, parsedRefusals, parsedSchema, schemaRefusals, readSchema}
+use Rattle.schema_spec.specs.Records.{schemaIn}
 use Rattle.schema_spec.specs.Schemas.{Schema, Element, schemaOf, declaredNames, resolved, indexFrom, modelAt}
 use Rattle.schema_spec.specs.Types.{holds, Below, typesOf, isBelow}
 use Rattle.text_laws.specs.Lists.{append-empty, any-in, in-gather, map-in, bytes-same}
@@ -25,7 +26,7 @@ use Rattle.text_laws.specs.Tests.{failed}
 use Rattle.text_spec.specs.Bytes.{isName}
 use Rattle.text_spec.specs.Limits.{maxDeclarations, maxModelNames, maxSchemaBytes}
 use Rattle.text_spec.specs.Lists.{anyOf, sameBytes, gather, filterBy, valueOr}
-use Rattle.text_spec.specs.Refusals.{Refusal, at, allAt, accepted, overSchemaLimit, declaredTwice, undeclaredInModel}
+use Rattle.text_spec.specs.Refusals.{Refusal, at, allAt, Outcome, accepted, refused, resultOr, overSchemaLimit, declaredTwice, undeclaredInModel}
 use Rattle.text_spec.specs.Texts.{lengthRefusals, byteRefusals}
 
 -- the declarations that an accepted text spells, against which nothing was found
@@ -255,3 +256,19 @@ module _ (text : List ℕ) (s : Schema) (e : readSchema text ≡ accepted s) whe
   -- 'below' computed is one or more holdings
   pub accepted-below : (a b : Name) → T (isBelow (typesOf s) a b) ↔ Below s a b
   accepted-below = isBelow-decides s accepted-closed
+
+-- the schema in any text: that of an accepted one, or the one with no element
+module _ (text : List ℕ) where
+  pub schemaIn-by : (P : Schema → Type 0) → ((s : Schema) → readSchema text ≡ accepted s → P s) → P [] → P (schemaIn text)
+  unfolding schemaIn
+  schemaIn-by P h none = pick (readSchema text) refl
+    where
+      pick : (o : Outcome Schema) → readSchema text ≡ o → P (resultOr [] o)
+      pick (accepted s) e = h s e
+      pick (refused f) e = none
+
+  pub schemaIn-length : length (schemaIn text) ≤ maxDeclarations
+  schemaIn-length = schemaIn-by (λ s. length s ≤ maxDeclarations) (accepted-length text) (omega arith)
+
+  pub schemaIn-closed : Closed (schemaIn text)
+  schemaIn-closed = schemaIn-by Closed (accepted-closed text) (λ a b i. elim i [ ])

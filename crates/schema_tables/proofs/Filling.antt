@@ -18,14 +18,14 @@ use Rattle.names.specs.Sets.{member, nothing}
 use Rattle.names.specs.declared.NameSet.{NameSet}
 use Rattle.schema_laws.specs.Closure.{holder-in}
 use Rattle.schema_laws.specs.Names.{in-element}
-use Rattle.schema_spec.specs.Models.{Particle, Content, children}
+use Rattle.schema_spec.specs.Models.{Particle, children}
 use Rattle.schema_spec.specs.Names.{Name, element}
 use Rattle.schema_spec.specs.Records.{schemaIn}
 use Rattle.schema_spec.specs.Schemas.{Schema, contentAt}
 use Rattle.schema_spec.specs.Types.{holds}
 use Rattle.schema_tables.proofs.Windows.{putBack, back-here, back-before, back-after, back-long, clear-cells}
-use Rattle.schema_tables.specs.Reading.{RowMade, RowsOf}
-use Rattle.schema_tables.specs.Tables.{kindOf, cellsOf, endsAt, RowOf}
+use Rattle.schema_tables.specs.Reading.{RowMade, RowAt, RowsOf}
+use Rattle.schema_tables.specs.Tables.{kindOf, cellsOf, endsAt}
 use Rattle.schema_tables.specs.declared.ElementRow.{ElementRow}
 use Rattle.schema_tables.specs.declared.Rows.{Rows}
 use Rattle.text_laws.specs.Tests.{false-of}
@@ -43,7 +43,7 @@ pub record Long (r : Rows) : Type 0 where
 
 -- the first n rows are those of the schema, and the others are as they were made
 pub record Filled (s : Schema) (n : ℕ) (r : Rows) : Type 0 where
-  pub rows : (a : ℕ) → a < n → RowOf (contentAt s a) a (r .kinds) (r .firsts) (r .lasts) (r .nullables) (r .elements) (r .predecessors)
+  pub rows : (a : ℕ) → a < n → RowAt s a r
   pub held : (a : ℕ) → a < n → (b : Name) → relates (r .holds) a b ≡ holds s (element a) b
   pub clear : (a : ℕ) → n ≤ a → a < maxDeclarations → cellsOf a (r .predecessors) ≡ replicate 64 0
   pub unheld : (a : ℕ) → n ≤ a → (b : Name) → relates (r .holds) a b ≡ false
@@ -103,9 +103,6 @@ module _ (text names : List ℕ) (d from count : ℕ) (r : Rows) (x : ElementRow
   abbrev next : Rows
   next = withRow r d from count x es ps
 
-  long : Long r
-  long = filled .long
-
   room-elements : from + 64 ≤ length (r .elements)
   room-elements =
       let l = filled .long .elements in
@@ -116,38 +113,40 @@ module _ (text names : List ℕ) (d from count : ℕ) (r : Rows) (x : ElementRow
       let l = filled .long .predecessors in
       omega arith
 
+  abbrev nextEnds : ℕ → Ends
+  nextEnds = endsAt (next .firsts) (next .lasts) (next .nullables)
+
   -- a row from its parts
-  row-of : (a : ℕ) (c : Content ℕ) (kind : ℕ) (e : Ends) (us qs : List ℕ) → kind ≡ kindOf c → ((p : Particle ℕ) → c ≡ children p → Tables p e us qs)
-      → getD (next .kinds) a 0 ≡ kind → endsAt (next .firsts) (next .lasts) (next .nullables) a ≡ e → cellsOf a (next .elements) ≡ us → cellsOf a (next .predecessors) ≡ qs
-      → RowOf c a (next .kinds) (next .firsts) (next .lasts) (next .nullables) (next .elements) (next .predecessors)
-  row-of a c kind e us qs k t gk ge gu gq =
+  row-of : (a kind : ℕ) (e : Ends) (us qs : List ℕ) → kind ≡ kindOf (contentAt (schemaIn text) a)
+      → ((p : Particle ℕ) → contentAt (schemaIn text) a ≡ children p → Tables p e us qs) → getD (next .kinds) a 0 ≡ kind → nextEnds a ≡ e
+      → cellsOf a (next .elements) ≡ us → cellsOf a (next .predecessors) ≡ qs → RowAt (schemaIn text) a next
+  row-of a kind e us qs k t gk ge gu gq =
       record {
         kind = gk ∙ k;
         model =
             λ p q.
-            subst (λ (z : List ℕ). Tables p (endsAt (next .firsts) (next .lasts) (next .nullables) a) (cellsOf a (next .elements)) z) (sym gq)
-            (subst (λ (z : List ℕ). Tables p (endsAt (next .firsts) (next .lasts) (next .nullables) a) z qs) (sym gu)
-            (subst (λ (z : Ends). Tables p z us qs) (sym ge) (t p q)));
+            subst (λ (z : List ℕ). Tables p (nextEnds a) (cellsOf a (next .elements)) z) (sym gq)
+            (subst (λ (z : List ℕ). Tables p (nextEnds a) z qs) (sym gu) (subst (λ (z : Ends). Tables p z us qs) (sym ge) (t p q)));
       }
 
   ends-same : {f g : ℕ} {m n : ℕ} {u v : Bool} → f ≡ g → m ≡ n → u ≡ v → _≡_ {A = Ends} (record { first = f; last = m; nullable = u }) (record { first = g; last = n; nullable = v })
   ends-same {f} {g} {m} {n} {u} {v} a b c =
       ap₂ (λ (y z : ℕ). record { first = y; last = z; nullable = u }) a b ∙ ap (λ (w : Bool). record { first = g; last = n; nullable = w }) c
 
-  row-before : (a : ℕ) → a < d → RowOf (contentAt (schemaIn text) a) a (next .kinds) (next .firsts) (next .lasts) (next .nullables) (next .elements) (next .predecessors)
+  row-before : (a : ℕ) → a < d → RowAt (schemaIn text) a next
   row-before a l =
       let old = filled .rows a l in
-      row-of a (contentAt (schemaIn text) a) (getD (r .kinds) a 0) (endsAt (r .firsts) (r .lasts) (r .nullables) a) (cellsOf a (r .elements)) (cellsOf a (r .predecessors)) (old .kind) (old .model)
+      row-of a (getD (r .kinds) a 0) (endsAt (r .firsts) (r .lasts) (r .nullables) a) (cellsOf a (r .elements)) (cellsOf a (r .predecessors)) (old .kind) (old .model)
       (getD-set-other (r .kinds) d a (x .kind) 0 (λ e. omega arith))
       (ends-same (getD-set-other (r .firsts) d a (x .first) 0 (λ e. omega arith)) (getD-set-other (r .lasts) d a (x .last) 0 (λ e. omega arith))
       (getD-set-other (r .nullables) d a (x .nullable) false (λ e. omega arith)))
       (back-before (r .elements) es d from count start many room-elements (made .long .0) a l)
       (back-before (r .predecessors) ps d from count start many room-predecessors (made .long .1) a l)
 
-  row-here : RowOf (contentAt (schemaIn text) d) d (next .kinds) (next .firsts) (next .lasts) (next .nullables) (next .elements) (next .predecessors)
+  row-here : RowAt (schemaIn text) d next
   row-here =
       let l = filled .long in
-      row-of d (contentAt (schemaIn text) d) (x .kind) (record { first = x .first; last = x .last; nullable = x .nullable }) es ps (made .kind) (made .model)
+      row-of d (x .kind) (record { first = x .first; last = x .last; nullable = x .nullable }) es ps (made .kind) (made .model)
       (getD-set-same (r .kinds) d (x .kind) 0 (omega arith))
       (ends-same (getD-set-same (r .firsts) d (x .first) 0 (omega arith)) (getD-set-same (r .lasts) d (x .last) 0 (omega arith))
       (getD-set-same (r .nullables) d (x .nullable) false (omega arith)))
@@ -164,7 +163,7 @@ module _ (text names : List ℕ) (d from count : ℕ) (r : Rows) (x : ElementRow
         rows =
             λ a h.
             ⊎-elim
-            (λ e. subst (λ (n : ℕ). RowOf (contentAt (schemaIn text) n) n (next .kinds) (next .firsts) (next .lasts) (next .nullables) (next .elements) (next .predecessors)) (sym e) row-here)
+            (λ e. subst (λ (n : ℕ). RowAt (schemaIn text) n next) (sym e) row-here)
             (λ g. row-before a g) (eq-or-lt-of-le (at-most a h));
         held =
             λ a h b.

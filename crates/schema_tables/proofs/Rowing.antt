@@ -9,8 +9,6 @@ use Rattle.declarations.specs.Parts.{useAt, Skipped, DeclarationRead, Declared}
 use Rattle.declarations.specs.declared.DeclarationEnd.{DeclarationEnd}
 use Rattle.declarations.specs.declared.DeclarationOutcome.{DeclarationOutcome}
 use Rattle.declarations.specs.declared.DeclarationOutcome.the-variants.{Past, Fail}
-use Rattle.models.specs.Building.{EndsOf}
-use Rattle.models.specs.declared.Ends.{Ends}
 use Rattle.names.specs.Sets.{member}
 use Rattle.names.specs.declared.NameSet.{NameSet}
 use Rattle.schema_spec.specs.Declarations.{Declaration}
@@ -22,8 +20,9 @@ use Rattle.schema_tables.proofs.Holding.{held-right}
 use Rattle.schema_tables.proofs.Reaching.{index, located-few, located-small, reached-fails, content-here, uses-few, elements-here, reached-next, built-kind, built-long, built-tables, tables-here}
 use Rattle.schema_tables.proofs.Resolving.{noted-first}
 use Rattle.schema_tables.specs.Reading.{Reached, RowMade}
-use Rattle.schema_tables.specs.Rows.{kindIn, endsIn, isHeld, elementAt}
+use Rattle.schema_tables.specs.Rows.{kindIn, endsIn, isHeld, rowOf, elementAt}
 use Rattle.schema_tables.specs.Tables.{kindOf}
+use Rattle.schema_tables.specs.declared.ElementRow.{ElementRow}
 
 module _ {text names : List ℕ} {d i : ℕ} (R : Reached text names d i) {cells cells′ before after : List ℕ} {r : DeclarationOutcome} (D : Declared text i 0 cells cells′ before after r) where
   pub row-fails : {j : ℕ} → r ≡ Fail j → ⊥
@@ -97,23 +96,24 @@ module _ {text names : List ℕ} {d i : ℕ} (R : Reached text names d i) {cells
           let b = still-long in
           (omega arith, sym (length-take-le (p .n) elements′ (omega arith)))
 
-      pub row-made : d < length names → before ≡ replicate 64 0 → {k kind : ℕ} {ends : Ends} {set : NameSet} → kind ≡ kindIn (p .content) → ends ≡ endsIn (p .content)
+      pub row-made : d < length names → before ≡ replicate 64 0 → {k kind : ℕ} {set : NameSet} {row : ElementRow} → kind ≡ kindIn (p .content)
           → ((n : Name) → member set n ≡ isHeld d kind (take (p .n) elements′) n) → Skipped text (p .at) k
-          → RowMade text names d elements′ after (record { next = k; kind = kind; first = ends .first; last = ends .last; nullable = ends .nullable; holds = set })
-      row-made l clear {k} {kind} {ends} {set} ek ee eh K =
-          record {
+          → row ≡ rowOf k (p .content) set → RowMade text names d elements′ after row
+      row-made l clear {k} {kind} {set} ek eh K er =
+          subst (RowMade text names d elements′ after) (sym er)
+          (record {
             next = reached-next R here (p .at) (read .same (R .done)) (read .high) K;
-            kind = kind-right;
+            kind = sym ek ∙ kind-right;
             model =
                 λ q e.
                 let t = built-tables (index R) (read .built) clear (uses-few R here (p .at) (read .same (R .done))) q (sym content-here-now ∙ e) in
-                tables-here (contentAt (schemaIn text) d) ends elements′ after still-long deep few-now noted-now q e (subst (λ (x : Ends). EndsOf 0 q x) (sym ee) (t .0)) (t .1);
+                tables-here (contentAt (schemaIn text) d) (endsIn (p .content)) elements′ after still-long deep few-now noted-now q e (t .0) (t .1);
             held =
                 λ n.
                 let f = located-few (R .located) in
                 eh n ∙ held-right (schemaIn text) d kind (take (p .n) elements′) (omega arith) kind-right first-elements (located-small (R .located) d) n;
             long = (still-long, deep);
-          }
+          })
         where
           content-here-now : contentAt (schemaIn text) d ≡ renameContent (index R) (read .content)
           content-here-now = content-here R here (p .at) (read .same (R .done))

@@ -45,7 +45,11 @@ pub record RowMade (text names : List ℕ) (d : ℕ) (elements predecessors : Li
   pub held : (n : Name) → member (r .holds) n ≡ holds (schemaIn text) (element d) n
   pub long : (length elements ≡ 64) × (length predecessors ≡ 64)
 
+-- the row of an element of a schema
+abbrev pub RowAt : Schema → ℕ → Rows → Type 0
+RowAt s a r = RowOf (contentAt s a) a (r .kinds) (r .firsts) (r .lasts) (r .nullables) (r .elements) (r .predecessors)
+
 -- the rows of all elements
 pub record RowsOf (s : Schema) (r : Rows) : Type 0 where
-  pub rows : (a : ℕ) → a < length s → RowOf (contentAt s a) a (r .kinds) (r .firsts) (r .lasts) (r .nullables) (r .elements) (r .predecessors)
+  pub rows : (a : ℕ) → a < length s → RowAt s a r
   pub held : TableOf (holds s) (r .holds)

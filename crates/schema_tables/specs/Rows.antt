@@ -7,9 +7,11 @@ use lib.ListN.{length}
 use Rattle.models.specs.declared.Content.{Content}
 use Rattle.models.specs.declared.Content.the-variants.{Empty, Pcdata, Children}
 use Rattle.models.specs.declared.Ends.{Ends}
+use Rattle.names.specs.declared.NameSet.{NameSet}
 use Rattle.schema_names.specs.Names.{nameAt}
 use Rattle.schema_spec.specs.Names.{Name, element, text}
 use Rattle.schema_spec.specs.Schemas.{indexFrom}
+use Rattle.schema_tables.specs.declared.ElementRow.{ElementRow}
 use Rattle.text_spec.specs.Lists.{anyOf, valueOr}
 
 -- the number of a content's kind
@@ -32,6 +34,11 @@ isAmong elements (text b) = false
 abbrev pub isHeld : ℕ → ℕ → List ℕ → Name → Bool
 isHeld a kind elements (element b) = isAmong elements (element b)
 isHeld a kind elements (text b) = (eqb b a && ltb a 64) && eqb kind 1
+
+-- the row of an element with a content, which holds some names
+abbrev pub rowOf : ℕ → Content → NameSet → ElementRow
+rowOf next c h =
+    record { next = next; kind = kindIn c; first = endsIn c .first; last = endsIn c .last; nullable = endsIn c .nullable; holds = h }
 
 -- the element whose name stands at p: its index among the names at some places, or their number
 abbrev pub elementAt : List ℕ → List ℕ → ℕ → ℕ

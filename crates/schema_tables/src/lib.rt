@@ -10,7 +10,7 @@ ghost use Rattle.schema_spec.specs.Names.{Name};
 ghost use Rattle.schema_spec.specs.Reading.{readSchema};
 ghost use Rattle.schema_spec.specs.Records.{schemaIn};
 ghost use Rattle.schema_tables.specs.Reading.{Located, Reached, RowMade, RowsOf};
-ghost use Rattle.schema_tables.specs.Rows.{kindIn, endsIn, isAmong, isHeld, elementAt};
+ghost use Rattle.schema_tables.specs.Rows.{kindIn, endsIn, isAmong, isHeld, rowOf, elementAt};
 ghost use Rattle.schema_tables.specs.Tables.{TablesOf};
 ghost use Rattle.text_spec.specs.Refusals.{accepted};
 use declarations::DeclarationOutcome;
@@ -162,6 +162,21 @@ fn resolve(s: &[u8], names: &[usize], uses: &[usize], elements: &mut [u8])
     }
 }
 
+// The row of an element with this content, which holds these names.
+fn row_of(next: usize, content: Content, holds: NameSet) -> ElementRow
+    ensures { λ r. ⌜ r ≡ rowOf next content holds ⌝ }
+{
+    let ends = ends_of(content);
+    ElementRow {
+        next,
+        kind: kind_of(content),
+        first: ends.first,
+        last: ends.last,
+        nullable: ends.nullable,
+        holds,
+    }
+}
+
 // The row of the element d, whose declaration stands at `at`, with its cells of two columns.
 fn element_row(
     s: &[u8],
@@ -181,27 +196,11 @@ fn element_row(
             let n = p.n;
             let content = p.content;
             resolve(s, names, &uses[..n], elements);
-            let kind = kind_of(content);
-            let ends = ends_of(content);
-            let holds = held(d, kind, &elements[..n]);
-            ElementRow {
-                next: declarations::skip(s, end),
-                kind,
-                first: ends.first,
-                last: ends.last,
-                nullable: ends.nullable,
-                holds,
-            }
+            let holds = held(d, kind_of(content), &elements[..n]);
+            row_of(declarations::skip(s, end), content, holds)
         }
         // an accepted text departs nowhere from the grammar
-        DeclarationOutcome::Fail(_) => ElementRow {
-            next: at,
-            kind: EMPTY,
-            first: 0,
-            last: 0,
-            nullable: false,
-            holds: NameSet::empty(),
-        },
+        DeclarationOutcome::Fail(_) => row_of(at, Content::Empty, NameSet::empty()),
     }
 }
 
@@ -210,26 +209,25 @@ fn all_rows(s: &[u8], names: &[usize]) -> Rows
     requires { ⌜ Located (now s) (now names) ⌝ }
     ensures { λ r. ⌜ RowsOf (schemaIn (now (s .entry))) r ⌝ }
 {
-    let none = NameSet::empty();
     let mut kinds = [0u8; 32];
     let mut firsts = [0u64; 32];
     let mut lasts = [0u64; 32];
     let mut nullables = [false; 32];
     let mut elements = [0u8; 2048];
     let mut predecessors = [0u64; 2048];
-    let mut holds = [none; 32];
+    let mut holds = [NameSet::empty(); 32];
     let mut at = declarations::skip(s, 0);
     let mut d = 0;
     while d < names.len() {
-        let from = 64 * d;
-        let to = from + 64;
+        let a = 64 * d;
+        let b = a + 64;
         let row = element_row(
             s,
             names,
             d,
             at,
-            &mut elements[from..to],
-            &mut predecessors[from..to],
+            &mut elements[a..b],
+            &mut predecessors[a..b],
         );
         kinds[d] = row.kind;
         firsts[d] = row.first;

@@ -36,11 +36,11 @@ loop-holds c = (
   filled-first (schemaIn (c .before .before .before .before .args .s .now)) (c .before .empty .result) (c .before .empty .ensures),
 )
 
-mul-from : tie.Need-mul-from Inv-loop μ-loop
-mul-from c = search needs
+mul-a : tie.Need-mul-a Inv-loop μ-loop
+mul-a c = search needs
 
-add-to : tie.Need-add-to Inv-loop μ-loop
-add-to c = search needs
+add-b : tie.Need-add-b Inv-loop μ-loop
+add-b c = search needs
 
 sub-element-row : tie.Need-sub-element-row Inv-loop μ-loop
 sub-element-row c = search needs
@@ -141,8 +141,8 @@ all-rows-spec =
     empty-requires
     skip-requires
     loop-holds
-    mul-from
-    add-to
+    mul-a
+    add-b
     sub-element-row
     part-elements-start
     part-elements-end

@@ -1,8 +1,8 @@
 -- `element_row` meets its contract: what was read is the declaration of element d. Assumes nothing.
 use native.Mathlib.Omega.{arith}
-use lib.ListN.{length-replicate}
-use Prim.Native.Nat.{ℕ}
 use borrow.Author.Needs.{needs}
+use Prim.Native.Nat.{ℕ}
+use lib.ListN.{length-replicate}
 use Rattle.schema_tables.proofs.Reaching.{reached-inside, located-few}
 use Rattle.schema_tables.proofs.Rowing.{row-fails, row-room, row-uses, row-fits, row-high, row-cells, row-made}
 use Rattle.schema_tables.proofs.element_row.Statement.{statement}
@@ -12,7 +12,9 @@ slice-aggregate-declaration : tie.Need-slice-aggregate-declaration
 slice-aggregate-declaration c = search needs
 
 declaration-requires : tie.Need-declaration-requires
-declaration-requires c κs = (reached-inside (c .before .before .before .before .before .before .pre .0) (c .before .before .before .before .before .before .pre .1), omega arith, c .before .before .before .before .before .before .pre .0 .no-blank)
+declaration-requires c κs =
+    let pre = c .before .before .before .before .before .before .pre in
+    (reached-inside (pre .0) (pre .1), omega arith, pre .0 .no-blank)
 
 enum-known-p : tie.Need-enum-known-p
 enum-known-p c = search needs
@@ -33,26 +35,29 @@ resolve-requires c κs =
 kind-of-requires : tie.Need-kind-of-requires
 kind-of-requires c κs = search needs
 
-ends-of-requires : tie.Need-ends-of-requires
-ends-of-requires c κs = search needs
-
 slice-reshare-prefix-held : tie.Need-slice-reshare-prefix-held
-slice-reshare-prefix-held c = row-cells (c .before .before .before .before .before .before .before .before .before .before .before .before .before .before .before .before .before .before .before .before .pre .0) (c .before .before .before .before .before .before .before .before .before .before .before .before .before .declaration .ensures) (c .before .before .before .before .before .before .before .before .p .given .1) (length-replicate {A = ℕ} 64 0) (c .before .before .before .before .before .before .before .before .before .before .before .before .before .before .before .before .before .before .before .before .args .elements .now) (c .before .before .before .before .resolve .last .1 .1 .1 .0) (c .before .before .before .before .before .before .before .before .before .before .before .before .before .before .before .before .before .before .before .before .pre .2) (c .before .before .before .before .resolve .ensures) .0
+slice-reshare-prefix-held c = row-cells (c .before .before .before .before .before .before .before .before .before .before .before .before .before .before .before .before .before .before .before .pre .0) (c .before .before .before .before .before .before .before .before .before .before .before .before .declaration .ensures) (c .before .before .before .before .before .before .before .p .given .1) (length-replicate {A = ℕ} 64 0) (c .before .before .before .before .before .before .before .before .before .before .before .before .before .before .before .before .before .before .before .args .elements .now) (c .before .before .before .resolve .last .1 .1 .1 .0) (c .before .before .before .before .before .before .before .before .before .before .before .before .before .before .before .before .before .before .before .pre .2) (c .before .before .before .resolve .ensures) .0
 
 slice-aggregate-held : tie.Need-slice-aggregate-held
-slice-aggregate-held c = row-cells (c .before .before .before .before .before .before .before .before .before .before .before .before .before .before .before .before .before .before .before .before .before .pre .0) (c .before .before .before .before .before .before .before .before .before .before .before .before .before .before .declaration .ensures) (c .before .before .before .before .before .before .before .before .before .p .given .1) (length-replicate {A = ℕ} 64 0) (c .before .before .before .before .before .before .before .before .before .before .before .before .before .before .before .before .before .before .before .before .before .args .elements .now) (c .before .before .before .before .before .resolve .last .1 .1 .1 .0) (c .before .before .before .before .before .before .before .before .before .before .before .before .before .before .before .before .before .before .before .before .before .pre .2) (c .before .before .before .before .before .resolve .ensures) .1
+slice-aggregate-held c = row-cells (c .before .before .before .before .before .before .before .before .before .before .before .before .before .before .before .before .before .before .before .before .pre .0) (c .before .before .before .before .before .before .before .before .before .before .before .before .before .declaration .ensures) (c .before .before .before .before .before .before .before .before .p .given .1) (length-replicate {A = ℕ} 64 0) (c .before .before .before .before .before .before .before .before .before .before .before .before .before .before .before .before .before .before .before .before .args .elements .now) (c .before .before .before .before .resolve .last .1 .1 .1 .0) (c .before .before .before .before .before .before .before .before .before .before .before .before .before .before .before .before .before .before .before .before .pre .2) (c .before .before .before .before .resolve .ensures) .1
 
 held-requires : tie.Need-held-requires
 held-requires c κs = search needs
 
 skip-requires : tie.Need-skip-requires
-skip-requires c κs = row-high (c .before .before .before .before .before .before .before .before .before .before .before .before .before .before .before .before .before .before .before .before .before .before .pre .0) (c .before .before .before .before .before .before .before .before .before .before .before .before .before .before .before .declaration .ensures) (c .before .before .before .before .before .before .before .before .before .before .p .given .1) (length-replicate {A = ℕ} 64 0)
+skip-requires c κs = row-high (c .before .before .before .before .before .before .before .before .before .before .before .before .before .before .before .before .before .before .before .before .before .pre .0) (c .before .before .before .before .before .before .before .before .before .before .before .before .before .before .declaration .ensures) (c .before .before .before .before .before .before .before .before .before .p .given .1) (length-replicate {A = ℕ} 64 0)
+
+row-of-requires : tie.Need-row-of-requires
+row-of-requires c κs = search needs
 
 enum-told : tie.Need-enum-told
 enum-told c = search needs
 
 empty-requires : tie.Need-empty-requires
 empty-requires c κs = search needs
+
+row-of-requires-2 : tie.Need-row-of-requires-2
+row-of-requires-2 c κs = search needs
 
 same-length : tie.Need-same-length
 same-length c = search needs
@@ -61,13 +66,13 @@ same-length-2 : tie.Need-same-length-2
 same-length-2 c = search needs
 
 returns : tie.Need-returns
-returns c = row-made (c .before .before .before .before .before .before .before .before .before .before .before .before .before .before .before .before .before .before .before .before .before .before .before .pre .0) (c .before .before .before .before .before .before .before .before .before .before .before .before .before .before .before .before .declaration .ensures) (c .before .before .before .before .before .before .before .before .before .before .before .p .given .1) (length-replicate {A = ℕ} 64 0) (c .before .before .before .before .before .before .before .before .before .before .before .before .before .before .before .before .before .before .before .before .before .before .before .args .elements .now) (c .before .before .before .before .before .before .before .resolve .last .1 .1 .1 .0) (c .before .before .before .before .before .before .before .before .before .before .before .before .before .before .before .before .before .before .before .before .before .before .before .pre .2) (c .before .before .before .before .before .before .before .resolve .ensures) (c .before .before .before .before .before .before .before .before .before .before .before .before .before .before .before .before .before .before .before .before .before .before .before .pre .1) (c .before .before .before .before .before .before .before .before .before .before .before .before .before .before .before .before .before .before .before .before .before .before .before .pre .3) (c .before .before .before .before .kind-of .ensures) (c .before .before .before .ends-of .ensures) (c .before .held .ensures) (c .skip .ensures)
+returns c = row-made (c .before .before .before .before .before .before .before .before .before .before .before .before .before .before .before .before .before .before .before .before .before .before .before .pre .0) (c .before .before .before .before .before .before .before .before .before .before .before .before .before .before .before .before .declaration .ensures) (c .before .before .before .before .before .before .before .before .before .before .before .p .given .1) (length-replicate {A = ℕ} 64 0) (c .before .before .before .before .before .before .before .before .before .before .before .before .before .before .before .before .before .before .before .before .before .before .before .args .elements .now) (c .before .before .before .before .before .before .before .resolve .last .1 .1 .1 .0) (c .before .before .before .before .before .before .before .before .before .before .before .before .before .before .before .before .before .before .before .before .before .before .before .pre .2) (c .before .before .before .before .before .before .before .resolve .ensures) (c .before .before .before .before .before .before .before .before .before .before .before .before .before .before .before .before .before .before .before .before .before .before .before .pre .1) (c .before .before .before .before .before .before .before .before .before .before .before .before .before .before .before .before .before .before .before .before .before .before .before .pre .3) (c .before .before .before .before .kind-of .ensures) (c .before .before .held .ensures) (c .before .skip .ensures) (c .row-of .ensures)
 
 same-length-3 : tie.Need-same-length-3
 same-length-3 c = search needs
 
 returns-2 : tie.Need-returns-2
-returns-2 c = absurd (row-fails (c .before .before .before .before .before .before .before .before .before .before .before .before .before .pre .0) (c .before .before .before .before .before .before .declaration .ensures) (c .before .enum-told .given .1))
+returns-2 c = absurd (row-fails (c .before .before .before .before .before .before .before .before .before .before .before .before .before .before .pre .0) (c .before .before .before .before .before .before .before .declaration .ensures) (c .before .before .enum-told .given .1))
 
 pub element-row-spec : {M : Type 1} → statement M
 element-row-spec =
@@ -80,13 +85,14 @@ element-row-spec =
     slice-aggregate-resolve
     resolve-requires
     kind-of-requires
-    ends-of-requires
     slice-reshare-prefix-held
     slice-aggregate-held
     held-requires
     skip-requires
+    row-of-requires
     enum-told
     empty-requires
+    row-of-requires-2
     same-length
     same-length-2
     returns
