@@ -38,7 +38,11 @@ same-length-4 : tie.Need-same-length-4
 same-length-4 c = search needs
 
 returns-2 : tie.Need-returns-2
-returns-2 c = record { says = body-close (c .before .before .before .before .before .before .before .before .before .before .before .content .ensures) (c .before .before .before .before .before .p .given .1) (c .before .before .before .skip .ensures) (c .before .before .if1 .left) (c .if2 .taken) }
+returns-2 c =
+    let at-skip = c .before .before .before in
+    let at-p = at-skip .before .before in
+    let at-content = at-p .before .before .before .before .before .before in
+    record { says = body-close (at-content .content .ensures) (at-p .p .given .1) (at-skip .skip .ensures) (c .before .before .if1 .left) (c .if2 .taken) }
 
 same-length-5 : tie.Need-same-length-5
 same-length-5 c = search needs
@@ -56,7 +60,11 @@ same-length-8 : tie.Need-same-length-8
 same-length-8 c = search needs
 
 returns-4 : tie.Need-returns-4
-returns-4 c = record { says = body-not (c .before .before .before .before .before .before .before .before .before .before .before .content .ensures) (c .before .before .before .before .before .p .given .1) (c .before .before .before .skip .ensures) (c .before .before .if1 .left) (c .if2 .left) }
+returns-4 c =
+    let at-skip = c .before .before .before in
+    let at-p = at-skip .before .before in
+    let at-content = at-p .before .before .before .before .before .before in
+    record { says = body-not (at-content .content .ensures) (at-p .p .given .1) (at-skip .skip .ensures) (c .before .before .if1 .left) (c .if2 .left) }
 
 pub body-spec : {M : Type 1} → statement M
 body-spec =

@@ -5,7 +5,9 @@ use Rattle.declarations.proofs.content.Statement.{statement}
 use Rattle.declarations.proofs.content.Tie as tie
 
 returns : tie.Need-returns
-returns c = record { says = content-end (c .before .before .before .before .args .s .now) (c .before .before .before .before .args .at) (c .before .before .before .before .args .n) (c .before .before .before .before .args .out .now) (c .before .before .before .before .args .predecessors .now) (c .if1 .taken) }
+returns c =
+    let start = c .before .before .before .before in
+    record { says = content-end (start .args .s .now) (start .args .at) (start .args .n) (start .args .out .now) (start .args .predecessors .now) (c .if1 .taken) }
 
 shared-slice-read-if2 : tie.Need-shared-slice-read-if2
 shared-slice-read-if2 c = search needs
@@ -23,7 +25,12 @@ same-length-2 : tie.Need-same-length-2
 same-length-2 c = search needs
 
 returns-2 : tie.Need-returns-2
-returns-2 c = record { says = content-model (c .before .before .before .before .before .before .before .before .before .before .before .before .before .args .s .now) (c .before .before .before .before .before .before .before .before .before .before .before .before .before .args .at) (c .before .before .before .before .before .before .before .before .before .before .before .before .before .args .n) (c .before .before .before .before .before .before .before .before .before .before .before .before .before .args .out .now) (c .before .before .before .before .before .before .before .before .before .before .before .before .before .args .predecessors .now) (c .before .before .before .before .before .before .before .before .before .if1 .left) (c .before .before .before .before .before .before .before .if2 .taken) (c .before .before .before .before .model .ensures) }
+returns-2 c =
+    let at-model = c .before .before .before .before in
+    let at-if2 = at-model .before .before .before in
+    let at-if1 = at-if2 .before .before in
+    let start = at-if1 .before .before .before .before in
+    record { says = content-model (start .args .s .now) (start .args .at) (start .args .n) (start .args .out .now) (start .args .predecessors .now) (at-if1 .if1 .left) (at-if2 .if2 .taken) (at-model .model .ensures) }
 
 shared-slice-read-if3 : tie.Need-shared-slice-read-if3
 shared-slice-read-if3 c = search needs
@@ -41,10 +48,17 @@ nameless-requires : tie.Need-nameless-requires
 nameless-requires c κs = search needs
 
 returns-3 : tie.Need-returns-3
-returns-3 c = record { says = content-empty (c .before .before .before .before .before .before .before .before .before .before .before .args .s .now) (c .before .before .before .before .before .before .before .before .before .before .before .args .at) (c .before .before .before .before .before .before .before .before .before .before .before .args .n) (c .before .before .before .before .before .before .before .before .before .before .before .args .out .now) (c .before .before .before .before .before .before .before .before .before .before .before .args .predecessors .now) (c .before .before .before .before .before .before .before .if1 .left) (c .before .before .before .if3 .taken) (c .before .before .before .before .before .before .before .before .before .before .before .pre .1) (c .before .spell .ensures) (c .nameless .ensures) }
+returns-3 c =
+    let at-if3 = c .before .before .before in
+    let at-if1 = at-if3 .before .before .before .before in
+    let start = at-if1 .before .before .before .before in
+    record { says = content-empty (start .args .s .now) (start .args .at) (start .args .n) (start .args .out .now) (start .args .predecessors .now) (at-if1 .if1 .left) (at-if3 .if3 .taken) (start .pre .1) (c .before .spell .ensures) (c .nameless .ensures) }
 
 returns-4 : tie.Need-returns-4
-returns-4 c = record { says = content-not (c .before .before .before .before .before .before .before .before .args .s .now) (c .before .before .before .before .before .before .before .before .args .at) (c .before .before .before .before .before .before .before .before .args .n) (c .before .before .before .before .before .before .before .before .args .out .now) (c .before .before .before .before .before .before .before .before .args .predecessors .now) (c .before .before .before .before .if1 .left) (c .before .before .before .before .before .before .before .before .pre .2 (c .before .before .before .before .if1 .left)) (c .before .before .if2 .left) (c .if3 .left) }
+returns-4 c =
+    let at-if1 = c .before .before .before .before in
+    let start = at-if1 .before .before .before .before in
+    record { says = content-not (start .args .s .now) (start .args .at) (start .args .n) (start .args .out .now) (start .args .predecessors .now) (at-if1 .if1 .left) (start .pre .2 (at-if1 .if1 .left)) (c .before .before .if2 .left) (c .if3 .left) }
 
 pub content-spec : {M : Type 1} → statement M
 content-spec =

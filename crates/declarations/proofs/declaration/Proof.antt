@@ -24,9 +24,15 @@ enum-known-j-3 : tie.Need-enum-known-j-3
 enum-known-j-3 c = search needs
 
 declared-requires : tie.Need-declared-requires
-declared-requires c κs = let k = name-known (c .before .before .before .before .before .before .before .before .before .keyword .ensures) (c .before .before .before .before .before .before .before .i .given .1) in
-    let h = content-known (c .before .before .before .before .before .before .before .before .before .keyword .ensures) (c .before .before .before .before .before .before .before .i .given .1) (c .before .before .before .before .before .declared-name .ensures) (c .before .before .before .j3 .given .1) in
-    let n = c .before .before .before .before .before .before .before .before .before .before .before .before .before .pre .1 in
+declared-requires c κs =
+    let at-j3 = c .before .before .before in
+    let at-declared-name = at-j3 .before .before in
+    let at-i = at-declared-name .before .before in
+    let at-keyword = at-i .before .before in
+    let start = at-keyword .before .before .before .before in
+    let k = name-known (at-keyword .keyword .ensures) (at-i .i .given .1) in
+    let h = content-known (at-keyword .keyword .ensures) (at-i .i .given .1) (at-declared-name .declared-name .ensures) (at-j3 .j3 .given .1) in
+    let n = start .pre .1 in
     let a = k .0 in
     let b = h .0 in
     (h .1, omega arith, h .2)
@@ -35,7 +41,11 @@ returns : tie.Need-returns
 returns c = record { says = declaration-fail (c .before .before .before .keyword .ensures) (c .before .j .given .1) }
 
 returns-2 : tie.Need-returns-2
-returns-2 c = record { says = declaration-name-fail (c .before .before .before .before .before .before .before .keyword .ensures) (c .before .before .before .before .before .i .given .1) (c .before .before .before .declared-name .ensures) (c .before .j2 .given .1) }
+returns-2 c =
+    let at-declared-name = c .before .before .before in
+    let at-i = at-declared-name .before .before in
+    let at-keyword = at-i .before .before in
+    record { says = declaration-name-fail (at-keyword .keyword .ensures) (at-i .i .given .1) (at-declared-name .declared-name .ensures) (c .before .j2 .given .1) }
 
 same-length : tie.Need-same-length
 same-length c = search needs
@@ -44,7 +54,13 @@ same-length-2 : tie.Need-same-length-2
 same-length-2 c = search needs
 
 returns-3 : tie.Need-returns-3
-returns-3 c = record { says = declaration-read (c .before .before .before .before .before .before .before .before .before .before .before .before .before .before .keyword .ensures) (c .before .before .before .before .before .before .before .before .before .before .before .before .i .given .1) (c .before .before .before .before .before .before .before .before .before .before .declared-name .ensures) (c .before .before .before .before .before .before .before .before .j3 .given .1) (c .before .before .before .before .declared .ensures) }
+returns-3 c =
+    let at-declared = c .before .before .before .before in
+    let at-j3 = at-declared .before .before .before .before in
+    let at-declared-name = at-j3 .before .before in
+    let at-i = at-declared-name .before .before in
+    let at-keyword = at-i .before .before in
+    record { says = declaration-read (at-keyword .keyword .ensures) (at-i .i .given .1) (at-declared-name .declared-name .ensures) (at-j3 .j3 .given .1) (at-declared .declared .ensures) }
 
 pub declaration-spec : {M : Type 1} → statement M
 declaration-spec =

@@ -16,7 +16,10 @@ starts-name-requires : tie.Need-starts-name-requires
 starts-name-requires c κs = search needs
 
 returns-2 : tie.Need-returns-2
-returns-2 c = record { says = head-not (c .before .before .before .before .before .args .s .now) (c .before .before .before .before .before .args .i) (c .before .before .before .if1 .left) (c .before .before .before .before .before .pre .1 (c .before .before .before .if1 .left)) (sym (c .before .starts-name .ensures) ∙ not-true _ (c .if2 .taken)) }
+returns-2 c =
+    let at-if1 = c .before .before .before in
+    let start = at-if1 .before .before in
+    record { says = head-not (start .args .s .now) (start .args .i) (at-if1 .if1 .left) (start .pre .1 (at-if1 .if1 .left)) (sym (c .before .starts-name .ensures) ∙ not-true _ (c .if2 .taken)) }
 
 name-end-requires : tie.Need-name-end-requires
 name-end-requires c κs = (c .before .before .before .if1 .left, sym (c .before .starts-name .ensures) ∙ not-false _ (c .if2 .left))
@@ -25,16 +28,34 @@ enum-known-e : tie.Need-enum-known-e
 enum-known-e c = search needs
 
 space-requires : tie.Need-space-requires
-space-requires c κs = head-high (c .before .before .before .before .before .before .before .before .before .args .s .now) (c .before .before .before .before .before .before .before .before .before .args .i) (c .before .before .before .before .before .before .before .if1 .left) (c .before .before .before .before .before .before .before .before .before .pre .1 (c .before .before .before .before .before .before .before .if1 .left)) (sym (c .before .before .before .before .before .starts-name .ensures) ∙ not-false _ (c .before .before .before .before .if2 .left)) (c .before .before .before .name-end .ensures) _ (c .before .e .given .1)
+space-requires c κs =
+    let at-name-end = c .before .before .before in
+    let at-if2 = at-name-end .before in
+    let at-starts-name = at-if2 .before in
+    let at-if1 = at-starts-name .before .before in
+    let start = at-if1 .before .before in
+    head-high (start .args .s .now) (start .args .i) (at-if1 .if1 .left) (start .pre .1 (at-if1 .if1 .left)) (sym (at-starts-name .starts-name .ensures) ∙ not-false _ (at-if2 .if2 .left)) (at-name-end .name-end .ensures) _ (c .before .e .given .1)
 
 enum-known-j : tie.Need-enum-known-j
 enum-known-j c = search needs
 
 returns-3 : tie.Need-returns-3
-returns-3 c = record { says = head-past (c .before .before .before .before .before .before .before .before .before .before .args .s .now) (c .before .before .before .before .before .before .before .before .before .before .args .i) (c .before .before .before .before .before .before .before .before .if1 .left) (c .before .before .before .before .before .before .before .before .before .before .pre .1 (c .before .before .before .before .before .before .before .before .if1 .left)) (sym (c .before .before .before .before .before .before .starts-name .ensures) ∙ not-false _ (c .before .before .before .before .before .if2 .left)) (c .before .before .before .before .name-end .ensures) (c .before .before .e .given .1) (c .space .result) (c .space .ensures .says) }
+returns-3 c =
+    let at-name-end = c .before .before .before .before in
+    let at-if2 = at-name-end .before in
+    let at-starts-name = at-if2 .before in
+    let at-if1 = at-starts-name .before .before in
+    let start = at-if1 .before .before in
+    record { says = head-past (start .args .s .now) (start .args .i) (at-if1 .if1 .left) (start .pre .1 (at-if1 .if1 .left)) (sym (at-starts-name .starts-name .ensures) ∙ not-false _ (at-if2 .if2 .left)) (at-name-end .name-end .ensures) (c .before .before .e .given .1) (c .space .result) (c .space .ensures .says) }
 
 returns-4 : tie.Need-returns-4
-returns-4 c = record { says = head-fail (c .before .before .before .before .before .before .before .before .before .args .s .now) (c .before .before .before .before .before .before .before .before .before .args .i) (c .before .before .before .before .before .before .before .if1 .left) (c .before .before .before .before .before .before .before .before .before .pre .1 (c .before .before .before .before .before .before .before .if1 .left)) (sym (c .before .before .before .before .before .starts-name .ensures) ∙ not-false _ (c .before .before .before .before .if2 .left)) (c .before .before .before .name-end .ensures) (c .before .j .given .1) }
+returns-4 c =
+    let at-name-end = c .before .before .before in
+    let at-if2 = at-name-end .before in
+    let at-starts-name = at-if2 .before in
+    let at-if1 = at-starts-name .before .before in
+    let start = at-if1 .before .before in
+    record { says = head-fail (start .args .s .now) (start .args .i) (at-if1 .if1 .left) (start .pre .1 (at-if1 .if1 .left)) (sym (at-starts-name .starts-name .ensures) ∙ not-false _ (at-if2 .if2 .left)) (at-name-end .name-end .ensures) (c .before .j .given .1) }
 
 pub declared-name-spec : {M : Type 1} → statement M
 declared-name-spec =

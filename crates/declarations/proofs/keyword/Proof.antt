@@ -8,7 +8,9 @@ shared-slice-read-if1 : tie.Need-shared-slice-read-if1
 shared-slice-read-if1 c = search needs
 
 returns : tie.Need-returns
-returns c = record { says = keyword-not (c .before .before .before .args .s .now) (c .before .before .before .args .at) (c .before .before .before .pre .0) (c .before .before .before .pre .1 (c .before .before .before .pre .0)) (c .if1 .taken) }
+returns c =
+    let start = c .before .before .before in
+    record { says = keyword-not (start .args .s .now) (start .args .at) (start .pre .0) (start .pre .1 (start .pre .0)) (c .if1 .taken) }
 
 add-spell : tie.Need-add-spell
 add-spell c = search needs
@@ -23,16 +25,28 @@ enum-known-j : tie.Need-enum-known-j
 enum-known-j c = search needs
 
 space-requires : tie.Need-space-requires
-space-requires c κs = keyword-high (c .before .before .before .before .before .before .before .before .args .s .now) (c .before .before .before .before .before .before .before .before .args .at) (c .before .before .before .before .before .before .before .before .pre .0) (c .before .before .before .before .before .if1 .left) (c .before .before .before .spell .ensures) _ (c .before .j .given .1)
+space-requires c κs =
+    let at-spell = c .before .before .before in
+    let at-if1 = at-spell .before .before in
+    let start = at-if1 .before .before .before in
+    keyword-high (start .args .s .now) (start .args .at) (start .pre .0) (at-if1 .if1 .left) (at-spell .spell .ensures) _ (c .before .j .given .1)
 
 enum-known-j-2 : tie.Need-enum-known-j-2
 enum-known-j-2 c = search needs
 
 returns-2 : tie.Need-returns-2
-returns-2 c = record { says = keyword-past (c .before .before .before .before .before .before .before .before .before .args .s .now) (c .before .before .before .before .before .before .before .before .before .args .at) (c .before .before .before .before .before .before .before .before .before .pre .0) (c .before .before .before .before .before .before .if1 .left) (c .before .before .before .before .spell .ensures) (c .before .before .j .given .1) (c .space .result) (c .space .ensures .says) }
+returns-2 c =
+    let at-spell = c .before .before .before .before in
+    let at-if1 = at-spell .before .before in
+    let start = at-if1 .before .before .before in
+    record { says = keyword-past (start .args .s .now) (start .args .at) (start .pre .0) (at-if1 .if1 .left) (at-spell .spell .ensures) (c .before .before .j .given .1) (c .space .result) (c .space .ensures .says) }
 
 returns-3 : tie.Need-returns-3
-returns-3 c = record { says = keyword-fail (c .before .before .before .before .before .before .before .before .args .s .now) (c .before .before .before .before .before .before .before .before .args .at) (c .before .before .before .before .before .before .before .before .pre .0) (c .before .before .before .before .before .if1 .left) (c .before .before .before .spell .ensures) (c .before .j2 .given .1) }
+returns-3 c =
+    let at-spell = c .before .before .before in
+    let at-if1 = at-spell .before .before in
+    let start = at-if1 .before .before .before in
+    record { says = keyword-fail (start .args .s .now) (start .args .at) (start .pre .0) (at-if1 .if1 .left) (at-spell .spell .ensures) (c .before .j2 .given .1) }
 
 pub keyword-spec : {M : Type 1} → statement M
 keyword-spec =

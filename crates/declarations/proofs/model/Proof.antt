@@ -8,7 +8,9 @@ skip-requires : tie.Need-skip-requires
 skip-requires c κs = search needs
 
 returns : tie.Need-returns
-returns c = record { says = model-end (c .before .before .before .before .before .args .n) (c .before .before .before .before .before .args .out .now) (c .before .before .before .before .before .args .predecessors .now) (c .before .skip .ensures) (c .if1 .taken) }
+returns c =
+    let start = c .before .before .before .before .before in
+    record { says = model-end (start .args .n) (start .args .out .now) (start .args .predecessors .now) (c .before .skip .ensures) (c .if1 .taken) }
 
 shared-slice-read-if2 : tie.Need-shared-slice-read-if2
 shared-slice-read-if2 c = search needs
@@ -23,7 +25,11 @@ nameless-requires : tie.Need-nameless-requires
 nameless-requires c κs = search needs
 
 returns-2 : tie.Need-returns-2
-returns-2 c = record { says = model-pcdata (c .before .before .before .before .before .before .before .before .before .args .n) (c .before .before .before .before .before .before .before .before .before .args .out .now) (c .before .before .before .before .before .before .before .before .before .args .predecessors .now) (c .before .before .before .before .before .skip .ensures) (c .before .before .before .before .if1 .left) (c .before .before .if2 .taken) (c .before .before .before .before .before .before .before .before .before .pre .1) (c .before .pcdata .ensures) (c .nameless .ensures) }
+returns-2 c =
+    let at-if1 = c .before .before .before .before in
+    let at-skip = at-if1 .before in
+    let start = at-skip .before .before .before .before in
+    record { says = model-pcdata (start .args .n) (start .args .out .now) (start .args .predecessors .now) (at-skip .skip .ensures) (at-if1 .if1 .left) (c .before .before .if2 .taken) (start .pre .1) (c .before .pcdata .ensures) (c .nameless .ensures) }
 
 group-requires : tie.Need-group-requires
 group-requires c κs = search needs
@@ -32,7 +38,13 @@ enum-known-p : tie.Need-enum-known-p
 enum-known-p c = search needs
 
 indicated-requires : tie.Need-indicated-requires
-indicated-requires c κs = model-high (c .before .before .before .before .before .before .before .before .before .before .before .before .before .before .before .before .before .before .args .n) (c .before .before .before .before .before .before .before .before .before .before .before .before .before .before .before .before .before .before .args .out .now) (c .before .before .before .before .before .before .before .before .before .before .before .before .before .before .before .before .before .before .args .predecessors .now) (c .before .before .before .before .before .before .before .before .before .before .before .before .before .before .skip .ensures) (c .before .before .before .before .before .before .before .before .before .before .before .before .before .if1 .left) (c .before .before .before .before .before .before .before .before .before .before .before .if2 .left) (c .before .before .before .before .before .before .before .before .group .ensures) _ (c .before .before .p .given .1)
+indicated-requires c κs =
+    let at-group = c .before .before .before .before .before .before .before .before in
+    let at-if2 = at-group .before .before .before in
+    let at-if1 = at-if2 .before .before in
+    let at-skip = at-if1 .before in
+    let start = at-skip .before .before .before .before in
+    model-high (start .args .n) (start .args .out .now) (start .args .predecessors .now) (at-skip .skip .ensures) (at-if1 .if1 .left) (at-if2 .if2 .left) (at-group .group .ensures) _ (c .before .before .p .given .1)
 
 enum-known-j : tie.Need-enum-known-j
 enum-known-j c = search needs
@@ -44,7 +56,15 @@ same-length-2 : tie.Need-same-length-2
 same-length-2 c = let l = c .before .before .before .indicated .ensures .repeated .long in search needs
 
 returns-3 : tie.Need-returns-3
-returns-3 c = record { says = model-past (c .before .before .before .before .before .before .before .before .before .before .before .before .before .before .before .before .before .before .before .before .before .before .args .n) (c .before .before .before .before .before .before .before .before .before .before .before .before .before .before .before .before .before .before .before .before .before .before .args .out .now) (c .before .before .before .before .before .before .before .before .before .before .before .before .before .before .before .before .before .before .before .before .before .before .args .predecessors .now) (c .before .before .before .before .before .before .before .before .before .before .before .before .before .before .before .before .before .before .skip .ensures) (c .before .before .before .before .before .before .before .before .before .before .before .before .before .before .before .before .before .if1 .left) (c .before .before .before .before .before .before .before .before .before .before .before .before .before .before .before .if2 .left) (c .before .before .before .before .before .before .before .before .before .before .before .before .group .ensures) (c .before .before .before .before .before .before .p .given .1) (c .before .before .before .indicated .ensures) }
+returns-3 c =
+    let at-indicated = c .before .before .before in
+    let at-p = at-indicated .before .before .before in
+    let at-group = at-p .before .before .before .before .before .before in
+    let at-if2 = at-group .before .before .before in
+    let at-if1 = at-if2 .before .before in
+    let at-skip = at-if1 .before in
+    let start = at-skip .before .before .before .before in
+    record { says = model-past (start .args .n) (start .args .out .now) (start .args .predecessors .now) (at-skip .skip .ensures) (at-if1 .if1 .left) (at-if2 .if2 .left) (at-group .group .ensures) (at-p .p .given .1) (at-indicated .indicated .ensures) }
 
 same-length-3 : tie.Need-same-length-3
 same-length-3 c = search needs
@@ -53,7 +73,13 @@ same-length-4 : tie.Need-same-length-4
 same-length-4 c = search needs
 
 returns-4 : tie.Need-returns-4
-returns-4 c = record { says = model-fail (c .before .before .before .before .before .before .before .before .before .before .before .before .before .before .before .before .before .args .n) (c .before .before .before .before .before .before .before .before .before .before .before .before .before .before .before .before .before .args .out .now) (c .before .before .before .before .before .before .before .before .before .before .before .before .before .before .before .before .before .args .predecessors .now) (c .before .before .before .before .before .before .before .before .before .before .before .before .before .skip .ensures) (c .before .before .before .before .before .before .before .before .before .before .before .before .if1 .left) (c .before .before .before .before .before .before .before .before .before .before .if2 .left) (c .before .before .before .before .before .before .before .group .ensures) (c .before .j .given .1) }
+returns-4 c =
+    let at-group = c .before .before .before .before .before .before .before in
+    let at-if2 = at-group .before .before .before in
+    let at-if1 = at-if2 .before .before in
+    let at-skip = at-if1 .before in
+    let start = at-skip .before .before .before .before in
+    record { says = model-fail (start .args .n) (start .args .out .now) (start .args .predecessors .now) (at-skip .skip .ensures) (at-if1 .if1 .left) (at-if2 .if2 .left) (at-group .group .ensures) (c .before .j .given .1) }
 
 pub model-spec : {M : Type 1} → statement M
 model-spec =

@@ -29,13 +29,21 @@ add-t15 : tie.Need-add-t15
 add-t15 c = search needs
 
 returns-2 : tie.Need-returns-2
-returns-2 c = record { says = pcdata-close (c .before .before .before .before .before .before .before .spell .ensures) (c .before .before .before .before .before .j2 .given .1) (c .before .before .before .skip .ensures) (c .before .before .if1 .left) (c .if2 .taken) }
+returns-2 c =
+    let at-skip = c .before .before .before in
+    let at-j2 = at-skip .before .before in
+    let at-spell = at-j2 .before .before in
+    record { says = pcdata-close (at-spell .spell .ensures) (at-j2 .j2 .given .1) (at-skip .skip .ensures) (c .before .before .if1 .left) (c .if2 .taken) }
 
 returns-3 : tie.Need-returns-3
 returns-3 c = record { says = pcdata-fail (c .before .before .before .spell .ensures) (c .before .j .given .1) }
 
 returns-4 : tie.Need-returns-4
-returns-4 c = record { says = pcdata-not (c .before .before .before .before .before .before .before .spell .ensures) (c .before .before .before .before .before .j2 .given .1) (c .before .before .before .skip .ensures) (c .before .before .if1 .left) (c .if2 .left) }
+returns-4 c =
+    let at-skip = c .before .before .before in
+    let at-j2 = at-skip .before .before in
+    let at-spell = at-j2 .before .before in
+    record { says = pcdata-not (at-spell .spell .ensures) (at-j2 .j2 .given .1) (at-skip .skip .ensures) (c .before .before .if1 .left) (c .if2 .left) }
 
 pub pcdata-spec : {M : Type 1} → statement M
 pcdata-spec =

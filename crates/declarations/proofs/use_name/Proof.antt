@@ -35,7 +35,13 @@ same-length-2 : tie.Need-same-length-2
 same-length-2 c = c .before .before .indicated .ensures .repeated .long
 
 returns : tie.Need-returns
-returns c = record { says = name-past (c .before .before .before .before .before .before .before .before .name-end .ensures) (c .before .before .before .before .before .before .e .given .1) (c .before .before .before .before .before .before .before .before .before .before .before .before .before .before .before .before .pre .2) (c .before .before .before .before .named .ensures) (c .before .before .before .before .before .before .before .before .before .before .before .note .ensures) (c .before .before .indicated .ensures) }
+returns c =
+    let at-named = c .before .before .before .before in
+    let at-e = at-named .before .before in
+    let at-name-end = at-e .before .before in
+    let at-note = at-name-end .before .before .before in
+    let start = at-note .before .before .before .before .before in
+    record { says = name-past (at-name-end .name-end .ensures) (at-e .e .given .1) (start .pre .2) (at-named .named .ensures) (at-note .note .ensures) (c .before .before .indicated .ensures) }
 
 same-length-3 : tie.Need-same-length-3
 same-length-3 c = search needs

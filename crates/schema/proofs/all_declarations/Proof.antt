@@ -43,7 +43,11 @@ same-length-2 c = let a = c .before .before .before .before .before .before .bef
     search needs
 
 returns : tie.Need-returns Inv-loop μ-loop
-returns c = record { says = all-fail (c .before .before .before .before .before .before .before .before .before .before .loop .inv .0) (c .before .before .before .before .before .before .before .before .before .loop-test .taken) (c .before .before .before .before .before .before .declaration .ensures) (c .before .j .given .1) }
+returns c =
+    let at-declaration = c .before .before .before .before .before .before in
+    let at-loop-test = at-declaration .before .before .before in
+    let at-loop = at-loop-test .before in
+    record { says = all-fail (at-loop .loop .inv .0) (at-loop-test .loop-test .taken) (at-declaration .declaration .ensures) (c .before .j .given .1) }
 
 enum-known-p : tie.Need-enum-known-p Inv-loop μ-loop
 enum-known-p c = search needs
@@ -52,22 +56,44 @@ note-requires : tie.Need-note-requires Inv-loop μ-loop
 note-requires c κs = search needs
 
 over-limit-requires : tie.Need-over-limit-requires Inv-loop μ-loop
-over-limit-requires c κs = all-known (c .before .before .before .before .before .before .before .before .before .before .before .before .before .before .before .loop .inv .0) (c .before .before .before .before .before .before .before .before .before .before .before .before .before .before .loop-test .taken) (c .before .before .before .before .before .before .before .before .before .before .before .declaration .ensures) (c .before .before .before .before .before .before .p .given .1) .0
+over-limit-requires c κs =
+    let at-p = c .before .before .before .before .before .before in
+    let at-declaration = at-p .before .before .before .before .before in
+    let at-loop-test = at-declaration .before .before .before in
+    let at-loop = at-loop-test .before in
+    all-known (at-loop .loop .inv .0) (at-loop-test .loop-test .taken) (at-declaration .declaration .ensures) (at-p .p .given .1) .0
 
 add-d : tie.Need-add-d Inv-loop μ-loop
 add-d c = let f = c .before .before .before .before .before .before .before .before .before .before .before .before .before .before .before .before .loop .inv .0 .few in search needs
 
 skip-requires-2 : tie.Need-skip-requires-2 Inv-loop μ-loop
-skip-requires-2 c κs = all-known (c .before .before .before .before .before .before .before .before .before .before .before .before .before .before .before .before .loop .inv .0) (c .before .before .before .before .before .before .before .before .before .before .before .before .before .before .before .loop-test .taken) (c .before .before .before .before .before .before .before .before .before .before .before .before .declaration .ensures) (c .before .before .before .before .before .before .before .p .given .1) .1
+skip-requires-2 c κs =
+    let at-p = c .before .before .before .before .before .before .before in
+    let at-declaration = at-p .before .before .before .before .before in
+    let at-loop-test = at-declaration .before .before .before in
+    let at-loop = at-loop-test .before in
+    all-known (at-loop .loop .inv .0) (at-loop-test .loop-test .taken) (at-declaration .declaration .ensures) (at-p .p .given .1) .1
 
 loop-less : tie.Need-loop-less Inv-loop μ-loop
-loop-less c = let x = all-next (c .before .before .before .before .before .before .before .before .before .before .before .before .before .before .before .before .before .loop .inv .0) (c .before .before .before .before .before .before .before .before .before .before .before .before .before .before .before .before .loop-test .taken) (c .before .before .before .before .before .before .before .before .before .before .before .before .before .declaration .ensures) (c .before .before .before .before .before .before .before .before .p .given .1) (c .before .before .before .before .before .note .ensures) (c .before .over-limit .ensures) (c .skip2 .ensures) in
+loop-less c =
+    let at-note = c .before .before .before .before .before in
+    let at-p = at-note .before .before .before in
+    let at-declaration = at-p .before .before .before .before .before in
+    let at-loop-test = at-declaration .before .before .before in
+    let at-loop = at-loop-test .before in
+    let x = all-next (at-loop .loop .inv .0) (at-loop-test .loop-test .taken) (at-declaration .declaration .ensures) (at-p .p .given .1) (at-note .note .ensures) (c .before .over-limit .ensures) (c .skip2 .ensures) in
     let y = x .0 in
     let z = x .1 .high in
     omega arith
 
 loop-again : tie.Need-loop-again Inv-loop μ-loop
-loop-again c = (all-next (c .before .before .before .before .before .before .before .before .before .before .before .before .before .before .before .before .before .loop .inv .0) (c .before .before .before .before .before .before .before .before .before .before .before .before .before .before .before .before .loop-test .taken) (c .before .before .before .before .before .before .before .before .before .before .before .before .before .declaration .ensures) (c .before .before .before .before .before .before .before .before .p .given .1) (c .before .before .before .before .before .note .ensures) (c .before .over-limit .ensures) (c .skip2 .ensures) .1, search needs)
+loop-again c =
+    let at-note = c .before .before .before .before .before in
+    let at-p = at-note .before .before .before in
+    let at-declaration = at-p .before .before .before .before .before in
+    let at-loop-test = at-declaration .before .before .before in
+    let at-loop = at-loop-test .before in
+    (all-next (at-loop .loop .inv .0) (at-loop-test .loop-test .taken) (at-declaration .declaration .ensures) (at-p .p .given .1) (at-note .note .ensures) (c .before .over-limit .ensures) (c .skip2 .ensures) .1, search needs)
 
 same-length-3 : tie.Need-same-length-3 Inv-loop μ-loop
 same-length-3 c = let a = c .before .before .loop .inv .0 .room in

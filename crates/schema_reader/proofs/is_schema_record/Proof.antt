@@ -15,7 +15,9 @@ array-share-prefix-bytes : tie.Need-array-share-prefix-bytes
 array-share-prefix-bytes c = let h : length (c .before .before .args .schema .bytes) ≡ 8192 = search needs in omega arith
 
 slice-aggregate-read-schema : tie.Need-slice-aggregate-read-schema
-slice-aggregate-read-schema c = let h : length (c .before .before .before .args .schema .bytes) ≡ 8192 = search needs in sym (length-take-le (c .before .before .before .args .schema .len) (c .before .before .before .args .schema .bytes) (omega arith))
+slice-aggregate-read-schema c =
+    let start = c .before .before .before in
+    let h : length (start .args .schema .bytes) ≡ 8192 = search needs in sym (length-take-le (start .args .schema .len) (start .args .schema .bytes) (omega arith))
 
 read-schema-requires : tie.Need-read-schema-requires
 read-schema-requires c κs = search needs
@@ -27,7 +29,11 @@ enum-told-2 : tie.Need-enum-told-2
 enum-told-2 c = search needs
 
 returns-2 : tie.Need-returns-2
-returns-2 c = sym (record-size (c .before .before .before .before .before .before .before .before .before .before .args .schema .bytes) (c .before .before .before .before .before .before .before .before .before .before .args .schema .len) (c .before .before .before .before .before .before .read-schema .ensures) (c .before .before .before .before .enum-told2 .given .1) (c .if2 .taken))
+returns-2 c =
+    let at-enum-told2 = c .before .before .before .before in
+    let at-read-schema = at-enum-told2 .before .before in
+    let start = at-read-schema .before .before .before .before in
+    sym (record-size (start .args .schema .bytes) (start .args .schema .len) (at-read-schema .read-schema .ensures) (at-enum-told2 .enum-told2 .given .1) (c .if2 .taken))
 
 slice-aggregate-same-cells : tie.Need-slice-aggregate-same-cells
 slice-aggregate-same-cells c = search needs
@@ -39,10 +45,18 @@ same-cells-requires : tie.Need-same-cells-requires
 same-cells-requires c κs = search needs
 
 returns-3 : tie.Need-returns-3
-returns-3 c = sym (record-refused (c .before .before .before .before .before .before .args .schema .bytes) (c .before .before .before .before .before .before .args .schema .len) (c .before .before .read-schema .ensures) (c .enum-told .given .1))
+returns-3 c =
+    let start = c .before .before .before .before .before .before in
+    sym (record-refused (start .args .schema .bytes) (start .args .schema .len) (c .before .before .read-schema .ensures) (c .enum-told .given .1))
 
 returns-4 : tie.Need-returns-4
-returns-4 c = record-cells (c .before .before .before .before .before .before .before .before .before .before .before .before .before .args .schema .bytes) (c .before .before .before .before .before .before .before .before .before .before .before .before .before .args .schema .len) (c .before .before .before .before .before .before .before .before .before .read-schema .ensures) (c .before .before .before .before .before .before .before .enum-told2 .given .1) (c .before .before .before .before .before .before .before .before .before .before .before .if1 .left) (c .before .before .before .if2 .left) (c .same-cells .ensures)
+returns-4 c =
+    let at-if2 = c .before .before .before in
+    let at-enum-told2 = at-if2 .before .before .before .before in
+    let at-read-schema = at-enum-told2 .before .before in
+    let at-if1 = at-read-schema .before .before in
+    let start = at-if1 .before .before in
+    record-cells (start .args .schema .bytes) (start .args .schema .len) (at-read-schema .read-schema .ensures) (at-enum-told2 .enum-told2 .given .1) (at-if1 .if1 .left) (at-if2 .if2 .left) (c .same-cells .ensures)
 
 pub is-schema-record-spec : {M : Type 1} → statement M
 is-schema-record-spec = tie.close (tie.spec returns array-share-prefix-bytes slice-aggregate-read-schema read-schema-requires enum-told enum-told-2 returns-2 slice-aggregate-same-cells slice-aggregate-same-cells-2 same-cells-requires returns-3 returns-4)

@@ -20,32 +20,55 @@ enum-known-p : tie.Need-enum-known-p
 enum-known-p c = search needs
 
 array-share-prefix-uses : tie.Need-array-share-prefix-uses
-array-share-prefix-uses c = row-room (c .before .before .before .before .before .before .before .before .before .before .before .before .before .pre .0) (c .before .before .before .before .before .before .declaration .ensures) (c .before .p .given .1) (length-replicate {A = ℕ} 64 0)
+array-share-prefix-uses c =
+    let at-declaration = c .before .before .before .before .before .before in
+    let start = at-declaration .before .before .before .before .before .before .before in
+    row-room (start .pre .0) (at-declaration .declaration .ensures) (c .before .p .given .1) (length-replicate {A = ℕ} 64 0)
 
 slice-aggregate-resolve : tie.Need-slice-aggregate-resolve
-slice-aggregate-resolve c = row-uses (c .before .before .before .before .before .before .before .before .before .before .before .before .before .before .pre .0) (c .before .before .before .before .before .before .before .declaration .ensures) (c .before .before .p .given .1) (length-replicate {A = ℕ} 64 0)
+slice-aggregate-resolve c =
+    let at-declaration = c .before .before .before .before .before .before .before in
+    let start = at-declaration .before .before .before .before .before .before .before in
+    row-uses (start .pre .0) (at-declaration .declaration .ensures) (c .before .before .p .given .1) (length-replicate {A = ℕ} 64 0)
 
 resolve-requires : tie.Need-resolve-requires
 resolve-requires c κs =
-    let a = located-few (c .before .before .before .before .before .before .before .before .before .before .before .before .before .before .before .pre .0 .located) in
-    let b = row-fits (c .before .before .before .before .before .before .before .before .before .before .before .before .before .before .before .pre .0) (c .before .before .before .before .before .before .before .before .declaration .ensures) (c .before .before .before .p .given .1) (length-replicate {A = ℕ} 64 0) in
-    let l = c .before .before .before .before .before .before .before .before .before .before .before .before .before .before .before .pre .2 in
+    let at-p = c .before .before .before in
+    let at-declaration = at-p .before .before .before .before .before in
+    let start = at-declaration .before .before .before .before .before .before .before in
+    let a = located-few (start .pre .0 .located) in
+    let b = row-fits (start .pre .0) (at-declaration .declaration .ensures) (at-p .p .given .1) (length-replicate {A = ℕ} 64 0) in
+    let l = start .pre .2 in
     (omega arith, omega arith)
 
 kind-of-requires : tie.Need-kind-of-requires
 kind-of-requires c κs = search needs
 
 slice-reshare-prefix-held : tie.Need-slice-reshare-prefix-held
-slice-reshare-prefix-held c = row-cells (c .before .before .before .before .before .before .before .before .before .before .before .before .before .before .before .before .before .before .before .pre .0) (c .before .before .before .before .before .before .before .before .before .before .before .before .declaration .ensures) (c .before .before .before .before .before .before .before .p .given .1) (length-replicate {A = ℕ} 64 0) (c .before .before .before .before .before .before .before .before .before .before .before .before .before .before .before .before .before .before .before .args .elements .now) (c .before .before .before .resolve .last .1 .1 .1 .0) (c .before .before .before .before .before .before .before .before .before .before .before .before .before .before .before .before .before .before .before .pre .2) (c .before .before .before .resolve .ensures) .0
+slice-reshare-prefix-held c =
+    let at-resolve = c .before .before .before in
+    let at-p = at-resolve .before .before .before .before in
+    let at-declaration = at-p .before .before .before .before .before in
+    let start = at-declaration .before .before .before .before .before .before .before in
+    row-cells (start .pre .0) (at-declaration .declaration .ensures) (at-p .p .given .1) (length-replicate {A = ℕ} 64 0) (start .args .elements .now) (at-resolve .resolve .last .1 .1 .1 .0) (start .pre .2) (at-resolve .resolve .ensures) .0
 
 slice-aggregate-held : tie.Need-slice-aggregate-held
-slice-aggregate-held c = row-cells (c .before .before .before .before .before .before .before .before .before .before .before .before .before .before .before .before .before .before .before .before .pre .0) (c .before .before .before .before .before .before .before .before .before .before .before .before .before .declaration .ensures) (c .before .before .before .before .before .before .before .before .p .given .1) (length-replicate {A = ℕ} 64 0) (c .before .before .before .before .before .before .before .before .before .before .before .before .before .before .before .before .before .before .before .before .args .elements .now) (c .before .before .before .before .resolve .last .1 .1 .1 .0) (c .before .before .before .before .before .before .before .before .before .before .before .before .before .before .before .before .before .before .before .before .pre .2) (c .before .before .before .before .resolve .ensures) .1
+slice-aggregate-held c =
+    let at-resolve = c .before .before .before .before in
+    let at-p = at-resolve .before .before .before .before in
+    let at-declaration = at-p .before .before .before .before .before in
+    let start = at-declaration .before .before .before .before .before .before .before in
+    row-cells (start .pre .0) (at-declaration .declaration .ensures) (at-p .p .given .1) (length-replicate {A = ℕ} 64 0) (start .args .elements .now) (at-resolve .resolve .last .1 .1 .1 .0) (start .pre .2) (at-resolve .resolve .ensures) .1
 
 held-requires : tie.Need-held-requires
 held-requires c κs = search needs
 
 skip-requires : tie.Need-skip-requires
-skip-requires c κs = row-high (c .before .before .before .before .before .before .before .before .before .before .before .before .before .before .before .before .before .before .before .before .before .pre .0) (c .before .before .before .before .before .before .before .before .before .before .before .before .before .before .declaration .ensures) (c .before .before .before .before .before .before .before .before .before .p .given .1) (length-replicate {A = ℕ} 64 0)
+skip-requires c κs =
+    let at-p = c .before .before .before .before .before .before .before .before .before in
+    let at-declaration = at-p .before .before .before .before .before in
+    let start = at-declaration .before .before .before .before .before .before .before in
+    row-high (start .pre .0) (at-declaration .declaration .ensures) (at-p .p .given .1) (length-replicate {A = ℕ} 64 0)
 
 row-of-requires : tie.Need-row-of-requires
 row-of-requires c κs = search needs
@@ -66,13 +89,22 @@ same-length-2 : tie.Need-same-length-2
 same-length-2 c = search needs
 
 returns : tie.Need-returns
-returns c = row-made (c .before .before .before .before .before .before .before .before .before .before .before .before .before .before .before .before .before .before .before .before .before .before .before .pre .0) (c .before .before .before .before .before .before .before .before .before .before .before .before .before .before .before .before .declaration .ensures) (c .before .before .before .before .before .before .before .before .before .before .before .p .given .1) (length-replicate {A = ℕ} 64 0) (c .before .before .before .before .before .before .before .before .before .before .before .before .before .before .before .before .before .before .before .before .before .before .before .args .elements .now) (c .before .before .before .before .before .before .before .resolve .last .1 .1 .1 .0) (c .before .before .before .before .before .before .before .before .before .before .before .before .before .before .before .before .before .before .before .before .before .before .before .pre .2) (c .before .before .before .before .before .before .before .resolve .ensures) (c .before .before .before .before .before .before .before .before .before .before .before .before .before .before .before .before .before .before .before .before .before .before .before .pre .1) (c .before .before .before .before .before .before .before .before .before .before .before .before .before .before .before .before .before .before .before .before .before .before .before .pre .3) (c .before .before .before .before .kind-of .ensures) (c .before .before .held .ensures) (c .before .skip .ensures) (c .row-of .ensures)
+returns c =
+    let at-kind-of = c .before .before .before .before in
+    let at-resolve = at-kind-of .before .before .before in
+    let at-p = at-resolve .before .before .before .before in
+    let at-declaration = at-p .before .before .before .before .before in
+    let start = at-declaration .before .before .before .before .before .before .before in
+    row-made (start .pre .0) (at-declaration .declaration .ensures) (at-p .p .given .1) (length-replicate {A = ℕ} 64 0) (start .args .elements .now) (at-resolve .resolve .last .1 .1 .1 .0) (start .pre .2) (at-resolve .resolve .ensures) (start .pre .1) (start .pre .3) (at-kind-of .kind-of .ensures) (c .before .before .held .ensures) (c .before .skip .ensures) (c .row-of .ensures)
 
 same-length-3 : tie.Need-same-length-3
 same-length-3 c = search needs
 
 returns-2 : tie.Need-returns-2
-returns-2 c = absurd (row-fails (c .before .before .before .before .before .before .before .before .before .before .before .before .before .before .pre .0) (c .before .before .before .before .before .before .before .declaration .ensures) (c .before .before .enum-told .given .1))
+returns-2 c =
+    let at-declaration = c .before .before .before .before .before .before .before in
+    let start = at-declaration .before .before .before .before .before .before .before in
+    absurd (row-fails (start .pre .0) (at-declaration .declaration .ensures) (c .before .before .enum-told .given .1))
 
 pub element-row-spec : {M : Type 1} → statement M
 element-row-spec =
