@@ -1,4 +1,4 @@
-// Reads the schema texts of tests/vectors from standard input and writes each one's outcome. A text is preceded by its length, in two bytes.
+// Reads the schema texts of tests/vectors from standard input and writes each one's outcome.
 
 fn show(text: &[u8]) {
     let read = schema_reader::read_schema(text);
@@ -22,25 +22,16 @@ fn show(text: &[u8]) {
     io::write_all(1, b"\n");
 }
 
-// A number of two bytes.
-fn number(high: u8, low: u8) -> usize {
-    (high as usize) * 256 + (low as usize)
-}
-
 fn run(input: &[u8]) {
     let mut at = 0;
-    while at < input.len() {
-        if input.len() - at < 2 {
-            return;
+    loop {
+        match cases::next_text(input, at) {
+            cases::Next::Text(start, end) => {
+                show(&input[start..end]);
+                at = end;
+            }
+            cases::Next::Over => return,
         }
-        let size = number(input[at], input[at + 1]);
-        let start = at + 2;
-        if input.len() - start < size {
-            return;
-        }
-        let end = start + size;
-        show(&input[start..end]);
-        at = end;
     }
 }
 
