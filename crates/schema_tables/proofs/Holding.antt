@@ -15,41 +15,41 @@ use Rattle.schema_spec.specs.Models.{Content, empty, pcdata, children}
 use Rattle.schema_spec.specs.Names.{Name, element, text, sameName}
 use Rattle.schema_spec.specs.Schemas.{Schema, contentAt, modelAt, isPcdata}
 use Rattle.schema_spec.specs.Types.{holds}
-use Rattle.schema_tables.specs.Rows.{isAmong, isHeld}
+use Rattle.schema_tables.specs.Rows.{isOneOf, isHeld}
 use Rattle.schema_tables.specs.Tables.{kindOf}
 use Rattle.text_spec.specs.Lists.{anyOf}
 
 -- one element more
 module _ (elements : List ℕ) where
-  pub among-first : (set : NameSet) → ((n : Name) → member set n ≡ false) → (n : Name) → (member set n || isAmong elements n) ≡ isAmong elements n
-  among-first set h n = ap (λ (b : Bool). b || isAmong elements n) (h n)
+  pub among-first : (set : NameSet) → ((n : Name) → member set n ≡ false) → (n : Name) → (member set n || isOneOf elements n) ≡ isOneOf elements n
+  among-first set h n = ap (λ (b : Bool). b || isOneOf elements n) (h n)
 
-  pub among-next : (i : ℕ) (set next : NameSet) → i < length elements → ((n : Name) → (member set n || isAmong (drop i elements) n) ≡ isAmong elements n)
+  pub among-next : (i : ℕ) (set next : NameSet) → i < length elements → ((n : Name) → (member set n || isOneOf (drop i elements) n) ≡ isOneOf elements n)
       → ((n : Name) → member next n ≡ (member set n || (sameName n (element (getD elements i 0)) && ltb (getD elements i 0) 64)))
-      → (n : Name) → (member next n || isAmong (drop (i + 1) elements) n) ≡ isAmong elements n
-  among-next i set next l inv new n = ap (λ (b : Bool). b || isAmong (drop (i + 1) elements) n) (new n) ∙ rw (add-one i) (go n) ∙ inv n
+      → (n : Name) → (member next n || isOneOf (drop (i + 1) elements) n) ≡ isOneOf elements n
+  among-next i set next l inv new n = ap (λ (b : Bool). b || isOneOf (drop (i + 1) elements) n) (new n) ∙ rw (add-one i) (go n) ∙ inv n
     where
       or-assoc : (a b c : Bool) → ((a || b) || c) ≡ (a || (b || c))
       or-assoc true b c = refl
       or-assoc false b c = refl
 
-      go : (m : Name) → ((member set m || (sameName m (element (getD elements i 0)) && ltb (getD elements i 0) 64)) || isAmong (drop (suc i) elements) m)
-          ≡ (member set m || isAmong (drop i elements) m)
+      go : (m : Name) → ((member set m || (sameName m (element (getD elements i 0)) && ltb (getD elements i 0) 64)) || isOneOf (drop (suc i) elements) m)
+          ≡ (member set m || isOneOf (drop i elements) m)
       go (element b) =
-          or-assoc (member set (element b)) (eqb b (getD elements i 0) && ltb (getD elements i 0) 64) (isAmong (drop (suc i) elements) (element b))
-          ∙ ap (λ (es : List ℕ). member set (element b) || isAmong es (element b)) (sym (drop-cons elements i 0 l))
+          or-assoc (member set (element b)) (eqb b (getD elements i 0) && ltb (getD elements i 0) 64) (isOneOf (drop (suc i) elements) (element b))
+          ∙ ap (λ (es : List ℕ). member set (element b) || isOneOf es (element b)) (sym (drop-cons elements i 0 l))
       go (text b) = or-assoc (member set (text b)) false false
 
-  pub among-all : (i : ℕ) (set : NameSet) → length elements ≤ i → ((n : Name) → (member set n || isAmong (drop i elements) n) ≡ isAmong elements n)
-      → (n : Name) → member set n ≡ isAmong elements n
+  pub among-all : (i : ℕ) (set : NameSet) → length elements ≤ i → ((n : Name) → (member set n || isOneOf (drop i elements) n) ≡ isOneOf elements n)
+      → (n : Name) → member set n ≡ isOneOf elements n
   among-all i set l inv n = sym (or-false (member set n)) ∙ ap (λ (b : Bool). member set n || b) (sym (none n)) ∙ inv n
     where
-      none : (m : Name) → isAmong (drop i elements) m ≡ false
-      none (element b) = ap (λ (es : List ℕ). isAmong es (element b)) (drop-of-length-le elements l)
+      none : (m : Name) → isOneOf (drop i elements) m ≡ false
+      none (element b) = ap (λ (es : List ℕ). isOneOf es (element b)) (drop-of-length-le elements l)
       none (text b) = refl
 
 -- with the text name, or without it
-module _ (a kind : ℕ) (elements : List ℕ) (set : NameSet) (from : (n : Name) → member set n ≡ isAmong elements n) where
+module _ (a kind : ℕ) (elements : List ℕ) (set : NameSet) (from : (n : Name) → member set n ≡ isOneOf elements n) where
   pub held-text : eqb kind 1 ≡ true → (next : NameSet) → ((n : Name) → member next n ≡ (member set n || (sameName n (text a) && ltb a 64)))
       → (n : Name) → member next n ≡ isHeld a kind elements n
   held-text e next new (element b) = new (element b) ∙ or-false (member set (element b)) ∙ from (element b)

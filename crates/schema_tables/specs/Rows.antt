@@ -26,13 +26,13 @@ endsIn Pcdata = record { first = 0; last = 0; nullable = false }
 endsIn (Children e) = e
 
 -- a name is one of these elements, of which only those below 64 count
-abbrev pub isAmong : List ℕ → Name → Bool
-isAmong elements (element b) = anyOf (λ e. eqb b e && ltb e 64) elements
-isAmong elements (text b) = false
+abbrev pub isOneOf : List ℕ → Name → Bool
+isOneOf elements (element b) = anyOf (λ e. eqb b e && ltb e 64) elements
+isOneOf elements (text b) = false
 
 -- a name is held by element a, from its kind and the elements of its model
 abbrev pub isHeld : ℕ → ℕ → List ℕ → Name → Bool
-isHeld a kind elements (element b) = isAmong elements (element b)
+isHeld a kind elements (element b) = isOneOf elements (element b)
 isHeld a kind elements (text b) = (eqb b a && ltb a 64) && eqb kind 1
 
 -- the row of an element with a content, which holds some names

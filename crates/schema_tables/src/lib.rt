@@ -10,7 +10,7 @@ ghost use Rattle.schema_spec.specs.Names.{Name};
 ghost use Rattle.schema_spec.specs.Reading.{readSchema};
 ghost use Rattle.schema_spec.specs.Records.{schemaIn};
 ghost use Rattle.schema_tables.specs.Reading.{Located, Reached, RowMade, RowsOf};
-ghost use Rattle.schema_tables.specs.Rows.{kindIn, endsIn, isAmong, isHeld, rowOf, elementAt};
+ghost use Rattle.schema_tables.specs.Rows.{kindIn, endsIn, isOneOf, isHeld, rowOf, elementAt};
 ghost use Rattle.schema_tables.specs.Tables.{TablesOf};
 ghost use Rattle.text_spec.specs.Refusals.{accepted};
 use declarations::DeclarationOutcome;
@@ -125,7 +125,7 @@ fn wide(x: u8) -> usize
 
 // The set of these elements.
 fn set_of(elements: &[u8]) -> NameSet
-    ensures { λ r. ⌜ ((n : Name) → member r n ≡ isAmong (now (elements .entry)) n) ⌝ }
+    ensures { λ r. ⌜ ((n : Name) → member r n ≡ isOneOf (now (elements .entry)) n) ⌝ }
 {
     let mut set = NameSet::empty();
     let mut i = 0;

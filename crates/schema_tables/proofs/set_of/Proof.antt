@@ -6,13 +6,13 @@ use lib.ListN.{length, drop}
 use Rattle.names.specs.Sets.{member}
 use Rattle.schema_spec.specs.Names.{Name}
 use Rattle.schema_tables.proofs.Holding.{among-first, among-next, among-all}
-use Rattle.schema_tables.specs.Rows.{isAmong}
+use Rattle.schema_tables.specs.Rows.{isOneOf}
 use borrow.Author.Needs.{needs}
 use Rattle.schema_tables.proofs.set_of.Statement.{statement}
 use Rattle.schema_tables.proofs.set_of.Tie as tie
 
 abbrev Inv-loop : tie.InvT-loop
-Inv-loop elements set₀ i₀ set i = (n : Name) → (member set n || isAmong (drop i elements) n) ≡ isAmong elements n
+Inv-loop elements set₀ i₀ set i = (n : Name) → (member set n || isOneOf (drop i elements) n) ≡ isOneOf elements n
 
 abbrev μ-loop : tie.MeasureT-loop
 μ-loop elements set₀ i₀ set i = length elements - i
