@@ -1,5 +1,5 @@
-/* A plain C reading of schema texts, to compare times with: the same input and output as the program schema_cases, each accepted text
-   read a second time from its record. Nothing here is proved. */
+/* A plain C reading of schema texts, to compare times with: the same input and output as the program schema_cases, up to the first text of
+   which tables are shown. Each accepted text is read a second time from its record, as there. Nothing here is proved. */
 #include <stdio.h>
 #include <string.h>
 

@@ -1,4 +1,86 @@
-// Reads the schema texts of tests/vectors from standard input and writes each one's outcome.
+// Reads schema texts from standard input, each after its length in two bytes, and writes each one's outcome. Where 128 is added to the first
+// byte it also writes what the text's tables say: of each element its kind, the names that it holds and those below it, as 64 bits, and for a
+// children model which lists of at most two children fit it.
+ghost use Prim.Native.Nat.{_<_};
+ghost use lib.ListN.{length};
+ghost use Rattle.schema_cases.specs.Cases.{Within};
+use models::Ends;
+use names::NameSet;
+
+// The children that are tried are the first elements, declared or not.
+const TRIED: u8 = 5;
+
+fn show_fit(fits: bool) {
+    if fits {
+        io::write_all(1, b"1");
+    } else {
+        io::write_all(1, b"0");
+    }
+}
+
+fn show_pairs(ends: Ends, elements: &[u8], predecessors: &[u64], first: u8) {
+    let mut second: u8 = 0;
+    while second < TRIED {
+        let children = [first, second];
+        show_fit(models::fits(ends, elements, predecessors, &children));
+        second += 1;
+    }
+}
+
+fn show_fits(ends: Ends, elements: &[u8], predecessors: &[u64]) {
+    let none = [0u8; 1];
+    show_fit(models::fits(ends, elements, predecessors, &none[..0]));
+    let mut first: u8 = 0;
+    while first < TRIED {
+        let child = [first];
+        show_fit(models::fits(ends, elements, predecessors, &child));
+        show_pairs(ends, elements, predecessors, first);
+        first += 1;
+    }
+}
+
+fn show_element(kind: u8, holds: NameSet, below: NameSet) {
+    io::print_decimal(1, kind as u64);
+    io::write_all(1, b" ");
+    io::print_decimal(1, holds.to_word());
+    io::write_all(1, b" ");
+    io::print_decimal(1, below.to_word());
+    io::write_all(1, b" ");
+}
+
+// A line for each element.
+fn show_tables(text: &[u8]) {
+    let t = schema_tables::tables(text);
+    let count = t.count;
+    let kinds = t.kinds;
+    let firsts = t.firsts;
+    let lasts = t.lasts;
+    let nullables = t.nullables;
+    let elements = t.elements;
+    let predecessors = t.predecessors;
+    let holds = t.holds;
+    let below = t.below;
+    let mut a: usize = 0;
+    while a < 32 {
+        if a < count {
+            let held = holds[a];
+            let beneath = below[a];
+            show_element(kinds[a], held, beneath);
+            if kinds[a] == schema_tables::CHILDREN {
+                let ends = Ends {
+                    first: firsts[a],
+                    last: lasts[a],
+                    nullable: nullables[a],
+                };
+                let from = 64 * a;
+                let to = from + 64;
+                show_fits(ends, &elements[from..to], &predecessors[from..to]);
+            }
+            io::write_all(1, b"\n");
+        }
+        a += 1;
+    }
+}
 
 fn show(text: &[u8]) {
     let read = schema_reader::read_schema(text);
@@ -22,15 +104,50 @@ fn show(text: &[u8]) {
     io::write_all(1, b"\n");
 }
 
+fn show_case(high: u8, text: &[u8]) {
+    show(text);
+    if 128 <= high {
+        show_tables(text);
+    }
+}
+
+// Where the next text starts and ends, or that no whole one is left.
+pub enum Next {
+    Text(usize, usize),
+    Over,
+}
+
+// A number of two bytes.
+fn number(high: u8, low: u8) -> usize {
+    ((high % 128) as usize) * 256 + (low as usize)
+}
+
+fn next_text(input: &[u8], at: usize) -> Next
+    ensures { λ r. ⌜ Within (length (now (input .entry))) at r ⌝ }
+{
+    if input.len() <= at {
+        return Next::Over;
+    }
+    if input.len() - at < 2 {
+        return Next::Over;
+    }
+    let size = number(input[at], input[at + 1]);
+    let start = at + 2;
+    if input.len() - start < size {
+        return Next::Over;
+    }
+    Next::Text(start, start + size)
+}
+
 fn run(input: &[u8]) {
     let mut at = 0;
     loop {
-        match cases::next_text(input, at) {
-            cases::Next::Text(start, end) => {
-                show(&input[start..end]);
+        match next_text(input, at) {
+            Next::Text(start, end) => {
+                show_case(input[at], &input[start..end]);
                 at = end;
             }
-            cases::Next::Over => return,
+            Next::Over => return,
         }
     }
 }

@@ -1,8 +1,8 @@
 -- A text of the input lies within it, past the place where it was sought. Assumes nothing.
 use mathlib.Core.Path.{_≡_, subst}
 use Prim.Native.Nat.{ℕ, _≤_, _<_}
-use Rattle.cases.specs.declared.Next.{Next}
-use Rattle.cases.specs.declared.Next.the-variants.{Text, Over}
+use Rattle.schema_cases.specs.declared.Next.{Next}
+use Rattle.schema_cases.specs.declared.Next.the-variants.{Text, Over}
 
 abbrev pub WithinAs : ℕ → ℕ → Next → Type 0
 WithinAs size at (Text start end) = (at < start) × (start ≤ end) × (end ≤ size)
