@@ -95,7 +95,7 @@ pub fn all_declarations(s: &[u8], names: &mut [usize], uses: &mut [usize]) -> Al
     let mut d: usize = 0;
     let mut n: usize = 0;
     let mut over = size;
-    // what models are linked like is left to the tables
+    // judging needs no links between positions, so it lends a single cell for them
     let mut unused = [0u64; 1];
     while i < s.len() {
         match declarations::declaration(s, i, uses, n, &mut unused) {
