@@ -52,14 +52,15 @@ fn show_element(kind: u8, holds: NameSet, below: NameSet) {
 fn show_tables(text: &[u8]) {
     let t = schema_tables::tables(text);
     let count = t.count;
-    let kinds = t.kinds;
-    let firsts = t.firsts;
-    let lasts = t.lasts;
-    let nullables = t.nullables;
-    let elements = t.elements;
-    let predecessors = t.predecessors;
-    let holds = t.holds;
     let below = t.below;
+    let rows = t.rows;
+    let kinds = rows.kinds;
+    let firsts = rows.firsts;
+    let lasts = rows.lasts;
+    let nullables = rows.nullables;
+    let elements = rows.elements;
+    let predecessors = rows.predecessors;
+    let holds = rows.holds;
     let mut a: usize = 0;
     while a < 32 {
         if a < count {

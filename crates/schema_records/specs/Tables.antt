@@ -29,13 +29,13 @@ use Rattle.text_spec.specs.Refusals.{accepted}
 module _ (text : List ℕ) (s : Schema) (read : readSchema text ≡ accepted s) (t : SchemaTables) (made : TablesOf text s t) where
   -- `closures::related_from` and `related_to` on a set x
   module _ (x r : NameSet) where
-    pub held-right : ((b : Name) → member r b ≡ relatedFrom (t .holds) x b) → setOf (namesOf s) r ≡ heldBy (typesOf s) (setOf (namesOf s) x)
+    pub held-right : ((b : Name) → member r b ≡ relatedFrom (t .rows .holds) x b) → setOf (namesOf s) r ≡ heldBy (typesOf s) (setOf (namesOf s) x)
     unfolding typesOf
-    held-right = from-right s (accepted-length text s read) (holds s) (holds-relating s (accepted-closed text s read)) (t .holds) (made .held) x r
+    held-right = from-right s (accepted-length text s read) (holds s) (holds-relating s (accepted-closed text s read)) (t .rows .holds) (made .rows .held) x r
 
-    pub holding-right : ((n : Name) → member r n ≡ relatedTo (t .holds) x n) → setOf (namesOf s) r ≡ holding (typesOf s) (setOf (namesOf s) x)
+    pub holding-right : ((n : Name) → member r n ≡ relatedTo (t .rows .holds) x n) → setOf (namesOf s) r ≡ holding (typesOf s) (setOf (namesOf s) x)
     unfolding typesOf
-    holding-right = to-right s (accepted-length text s read) (holds s) (holds-relating s (accepted-closed text s read)) (t .holds) (made .held) x r
+    holding-right = to-right s (accepted-length text s read) (holds s) (holds-relating s (accepted-closed text s read)) (t .rows .holds) (made .rows .held) x r
 
     pub below-right : ((b : Name) → member r b ≡ relatedFrom (t .below) x b) → setOf (namesOf s) r ≡ allBelow (typesOf s) (setOf (namesOf s) x)
     unfolding typesOf
@@ -51,5 +51,5 @@ module _ (text : List ℕ) (s : Schema) (read : readSchema text ≡ accepted s) 
 
   -- `models::fits` over the cells of an element
   pub fit-right : (a : ℕ) → a < length s → (p : Particle ℕ) → contentAt s a ≡ children p → (w : List ℕ) (r : Bool)
-      → ((q : Particle ℕ) → Tables q (endsAt (t .firsts) (t .lasts) (t .nullables) a) (cellsOf a (t .elements)) (cellsOf a (t .predecessors)) → T r ↔ Fits q w) → T r ↔ Fits p w
-  fit-right a l p e w r h = h p (made .rows a l .model p e)
+      → ((q : Particle ℕ) → Tables q (endsAt (t .rows .firsts) (t .rows .lasts) (t .rows .nullables) a) (cellsOf a (t .rows .elements)) (cellsOf a (t .rows .predecessors)) → T r ↔ Fits q w) → T r ↔ Fits p w
+  fit-right a l p e w r h = h p (made .rows .rows a l .model p e)

@@ -24,8 +24,8 @@ use Rattle.schema_spec.specs.Records.{schemaIn}
 use Rattle.schema_spec.specs.Schemas.{Schema, contentAt}
 use Rattle.schema_spec.specs.Types.{holds}
 use Rattle.schema_tables.proofs.Windows.{putBack, back-here, back-before, back-after, back-long, clear-cells}
-use Rattle.schema_tables.specs.Reading.{RowMade, RowAt, RowsOf}
-use Rattle.schema_tables.specs.Tables.{kindOf, cellsOf, endsAt}
+use Rattle.schema_tables.specs.Reading.{RowMade}
+use Rattle.schema_tables.specs.Tables.{kindOf, cellsOf, endsAt, RowAt, RowsOf}
 use Rattle.schema_tables.specs.declared.ElementRow.{ElementRow}
 use Rattle.schema_tables.specs.declared.Rows.{Rows}
 use Rattle.text_laws.specs.Tests.{false-of}

@@ -32,8 +32,8 @@ use Rattle.schema_spec.specs.Schemas.{Schema, Element, declaredNames, schemaOf}
 use Rattle.schema_spec.specs.Types.{typesOf, isBelow}
 use Rattle.schema_tables.proofs.Filling.{blank, filled-first, filled-all, unheld-at}
 use Rattle.schema_tables.proofs.Reaching.{located-long}
-use Rattle.schema_tables.specs.Reading.{Located, RowsOf}
-use Rattle.schema_tables.specs.Tables.{TablesOf}
+use Rattle.schema_tables.specs.Reading.{Located}
+use Rattle.schema_tables.specs.Tables.{RowsOf, TablesOf}
 use Rattle.schema_tables.specs.declared.Rows.{Rows}
 use Rattle.text_spec.specs.Refusals.{Outcome, accepted, refused, resultOr}
 
@@ -59,26 +59,12 @@ none-below : (a b : Name) → isBelow (typesOf []) a b ≡ false
 unfolding typesOf closure byWayOf namesOf
 none-below a b = refl
 
-pub empty-tables : (x : NameSet) → ((n : Name) → member x n ≡ false) → (text : List ℕ) → TablesOf text []
-    (record {
-      count = 0;
-      names = replicate 32 0;
-      kinds = replicate 32 0;
-      firsts = replicate 32 0;
-      lasts = replicate 32 0;
-      nullables = replicate 32 false;
-      elements = replicate 2048 0;
-      predecessors = replicate 2048 0;
-      holds = replicate 32 x;
-      below = replicate 32 x;
-    })
+pub empty-tables : (x : NameSet) → ((n : Name) → member x n ≡ false) → (text : List ℕ) → TablesOf text [] (record { count = 0; names = replicate 32 0; rows = blank x; below = replicate 32 x })
 empty-tables x none text =
-    let r = filled-all [] 0 (blank x) (omega arith) (filled-first [] x none) in
     record {
       counted = refl;
       named = refl;
-      rows = r .rows;
-      held = r .held;
+      rows = filled-all [] 0 (blank x) (omega arith) (filled-first [] x none);
       beneath = λ a b. unheld-at x none 32 a b ∙ sym (none-below (element a) b);
     }
 
@@ -131,25 +117,13 @@ module _ {text names uses : List ℕ} {r : All} (read : readSchema text ≡ acce
     -- so the rows, and what lies below each element by what each holds, are the text's tables
     pub all-tables : (rows : Rows) (below : List NameSet) → RowsOf (schemaIn text) rows → ((a : ℕ) (b : Name) → T (relates below a b) ↔ Below (rows .holds) (c .d) a b)
         → TablesOf text (schemaIn text)
-        (record {
-          count = c .d;
-          names = names;
-          kinds = rows .kinds;
-          firsts = rows .firsts;
-          lasts = rows .lasts;
-          nullables = rows .nullables;
-          elements = rows .elements;
-          predecessors = rows .predecessors;
-          holds = rows .holds;
-          below = below;
-        })
+        (record { count = c .d; names = names; rows = rows; below = below })
     all-tables rows below made lies =
         let l = located-long all-located in
         let t = all-taken in
         record {
           counted = t ∙ sym l;
           named = all-located .named;
-          rows = made .rows;
-          held = made .held;
+          rows = made;
           beneath = below-right (schemaIn text) (accepted-closed text (schemaIn text) read) (rows .holds) (c .d) (omega arith) (made .held) below lies;
         }

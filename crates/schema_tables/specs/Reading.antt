@@ -1,9 +1,8 @@
 -- What the functions that fill the columns are given and give: an accepted text, read declaration by declaration. Assumes nothing.
 use mathlib.Core.List.{List, [], map}
 use mathlib.Core.Path.{_≡_}
-use Prim.Native.Nat.{ℕ, _+_, _≤_, _<_}
+use Prim.Native.Nat.{ℕ, _+_, _≤_}
 use lib.ListN.{length}
-use Rattle.closures.specs.Schemas.{TableOf}
 use Rattle.declarations.specs.Parts.{from, NoBlank}
 use Rattle.models.specs.Fitting.{Tables}
 use Rattle.names.specs.Sets.{member}
@@ -14,11 +13,10 @@ use Rattle.schema_spec.specs.Models.{Particle, children}
 use Rattle.schema_spec.specs.Names.{Name, element}
 use Rattle.schema_spec.specs.Reading.{readSchema}
 use Rattle.schema_spec.specs.Records.{schemaIn}
-use Rattle.schema_spec.specs.Schemas.{Schema, contentAt}
+use Rattle.schema_spec.specs.Schemas.{contentAt}
 use Rattle.schema_spec.specs.Types.{holds}
-use Rattle.schema_tables.specs.Tables.{kindOf, RowOf}
+use Rattle.schema_tables.specs.Tables.{kindOf}
 use Rattle.schema_tables.specs.declared.ElementRow.{ElementRow}
-use Rattle.schema_tables.specs.declared.Rows.{Rows}
 use Rattle.text_spec.specs.Refusals.{accepted}
 
 -- an accepted text, and the places of the names that it declares
@@ -44,12 +42,3 @@ pub record RowMade (text names : List ℕ) (d : ℕ) (elements predecessors : Li
       → Tables p (record { first = r .first; last = r .last; nullable = r .nullable }) elements predecessors
   pub held : (n : Name) → member (r .holds) n ≡ holds (schemaIn text) (element d) n
   pub long : (length elements ≡ 64) × (length predecessors ≡ 64)
-
--- the row of an element of a schema
-abbrev pub RowAt : Schema → ℕ → Rows → Type 0
-RowAt s a r = RowOf (contentAt s a) a (r .kinds) (r .firsts) (r .lasts) (r .nullables) (r .elements) (r .predecessors)
-
--- the rows of all elements
-pub record RowsOf (s : Schema) (r : Rows) : Type 0 where
-  pub rows : (a : ℕ) → a < length s → RowAt s a r
-  pub held : TableOf (holds s) (r .holds)

@@ -11,6 +11,7 @@ use Rattle.schema_names.specs.Names.{nameAt}
 use Rattle.schema_spec.specs.Models.{Particle, Content, empty, pcdata, children}
 use Rattle.schema_spec.specs.Schemas.{Schema, contentAt}
 use Rattle.schema_spec.specs.Types.{holds, typesOf, isBelow}
+use Rattle.schema_tables.specs.declared.Rows.{Rows}
 use Rattle.schema_tables.specs.declared.SchemaTables.{SchemaTables}
 
 -- the number of a content's kind
@@ -33,10 +34,18 @@ pub record RowOf (c : Content ℕ) (a : ℕ) (kinds firsts lasts : List ℕ) (nu
   pub kind : getD kinds a 0 ≡ kindOf c
   pub model : (p : Particle ℕ) → c ≡ children p → Tables p (endsAt firsts lasts nullables a) (cellsOf a elements) (cellsOf a predecessors)
 
+-- the row of an element of a schema
+abbrev pub RowAt : Schema → ℕ → Rows → Type 0
+RowAt s a r = RowOf (contentAt s a) a (r .kinds) (r .firsts) (r .lasts) (r .nullables) (r .elements) (r .predecessors)
+
+-- the rows of all elements
+pub record RowsOf (s : Schema) (r : Rows) : Type 0 where
+  pub rows : (a : ℕ) → a < length s → RowAt s a r
+  pub held : TableOf (holds s) (r .holds)
+
 -- the tables of a schema whose names stand in a text
 pub record TablesOf (text : List ℕ) (s : Schema) (t : SchemaTables) : Type 0 where
   pub counted : t .count ≡ length s
   pub named : map (nameAt text) (take (t .count) (t .names)) ≡ map (λ e. e .name) s
-  pub rows : (a : ℕ) → a < length s → RowOf (contentAt s a) a (t .kinds) (t .firsts) (t .lasts) (t .nullables) (t .elements) (t .predecessors)
-  pub held : TableOf (holds s) (t .holds)
+  pub rows : RowsOf s (t .rows)
   pub beneath : TableOf (isBelow (typesOf s)) (t .below)

@@ -9,9 +9,9 @@ ghost use Rattle.names.specs.Sets.{member};
 ghost use Rattle.schema_spec.specs.Names.{Name};
 ghost use Rattle.schema_spec.specs.Reading.{readSchema};
 ghost use Rattle.schema_spec.specs.Records.{schemaIn};
-ghost use Rattle.schema_tables.specs.Reading.{Located, Reached, RowMade, RowsOf};
+ghost use Rattle.schema_tables.specs.Reading.{Located, Reached, RowMade};
 ghost use Rattle.schema_tables.specs.Rows.{kindIn, endsIn, isOneOf, isHeld, rowOf, elementAt};
-ghost use Rattle.schema_tables.specs.Tables.{TablesOf};
+ghost use Rattle.schema_tables.specs.Tables.{RowsOf, TablesOf};
 ghost use Rattle.text_spec.specs.Refusals.{accepted};
 use declarations::DeclarationOutcome;
 use models::Content;
@@ -27,12 +27,9 @@ pub const PCDATA: u8 = 1;
 
 pub const CHILDREN: u8 = 2;
 
-// Elements are numbered in the order of their declarations. The columns have a cell for each element, `elements` and `predecessors` 64.
-pub struct SchemaTables {
-    // how many elements there are
-    pub count: usize,
-    // the place of the element's name in the text
-    pub names: [usize; 32],
+// What is known of each element. Elements are numbered in the order of their declarations. The columns have a cell for each, `elements` and
+// `predecessors` 64.
+pub struct Rows {
     // EMPTY, PCDATA or CHILDREN
     pub kinds: [u8; 32],
     // where its model may begin and end, and whether it may have no child (as models::Ends)
@@ -45,7 +42,15 @@ pub struct SchemaTables {
     pub predecessors: [u64; 2048],
     // the names that it holds
     pub holds: [NameSet; 32],
-    // the names below it
+}
+
+pub struct SchemaTables {
+    // how many elements there are
+    pub count: usize,
+    // the place of each element's name in the text
+    pub names: [usize; 32],
+    pub rows: Rows,
+    // the names below each element
     pub below: [NameSet; 32],
 }
 
@@ -55,9 +60,7 @@ impl SchemaTables {
         ensures { λ r. ⌜ ((text : List ℕ) → TablesOf text [] r) ⌝ }
     {
         let none = NameSet::empty();
-        SchemaTables {
-            count: 0,
-            names: [0; 32],
+        let rows = Rows {
             kinds: [0; 32],
             firsts: [0; 32],
             lasts: [0; 32],
@@ -65,6 +68,11 @@ impl SchemaTables {
             elements: [0; 2048],
             predecessors: [0; 2048],
             holds: [none; 32],
+        };
+        SchemaTables {
+            count: 0,
+            names: [0; 32],
+            rows,
             below: [none; 32],
         }
     }
@@ -78,17 +86,6 @@ pub struct ElementRow {
     pub last: u64,
     pub nullable: bool,
     pub holds: NameSet,
-}
-
-// The columns that are filled declaration by declaration.
-pub struct Rows {
-    pub kinds: [u8; 32],
-    pub firsts: [u64; 32],
-    pub lasts: [u64; 32],
-    pub nullables: [bool; 32],
-    pub elements: [u8; 2048],
-    pub predecessors: [u64; 2048],
-    pub holds: [NameSet; 32],
 }
 
 fn kind_of(content: Content) -> u8
@@ -260,24 +257,12 @@ fn accepted_tables(text: &[u8]) -> SchemaTables
         All::Past(c) => {
             let count = c.d;
             let rows = all_rows(text, &names[..count]);
-            let kinds = rows.kinds;
-            let firsts = rows.firsts;
-            let lasts = rows.lasts;
-            let nullables = rows.nullables;
-            let elements = rows.elements;
-            let predecessors = rows.predecessors;
             let holds = rows.holds;
             let below = closures::below(holds, count);
             SchemaTables {
                 count,
                 names,
-                kinds,
-                firsts,
-                lasts,
-                nullables,
-                elements,
-                predecessors,
-                holds,
+                rows,
                 below,
             }
         }

@@ -7,124 +7,124 @@ use Rattle.schema_cases.proofs.show_tables.Statement.{statement}
 use Rattle.schema_cases.proofs.show_tables.Tie as tie
 
 abbrev Inv-loop : tie.InvT-loop
-Inv-loop text count kinds firsts lasts nullables elements predecessors holds below a₀ t18 a = a ≤ 32
+Inv-loop text count below kinds firsts lasts nullables elements predecessors holds a₀ t19 a = a ≤ 32
 
 abbrev μ-loop : tie.MeasureT-loop
-μ-loop text count kinds firsts lasts nullables elements predecessors holds below a₀ t18 a = 32 - a
+μ-loop text count below kinds firsts lasts nullables elements predecessors holds a₀ t19 a = 32 - a
 
 -- src/main.rt:53:9
 tables-requires : tie.Need-tables-requires Inv-loop μ-loop
 tables-requires c κs = search needs
 
--- src/main.rt:64:5
+-- src/main.rt:65:5
 loop-holds : tie.Need-loop-holds Inv-loop μ-loop
 loop-holds c = search needs
 
--- src/main.rt:66:24
+-- src/main.rt:67:24
 mul-held : tie.Need-mul-held Inv-loop μ-loop
 mul-held c = search needs
 
--- src/main.rt:66:24
+-- src/main.rt:67:24
 array-copy-out-held : tie.Need-array-copy-out-held Inv-loop μ-loop
 array-copy-out-held c = search needs
 
--- src/main.rt:67:27
+-- src/main.rt:68:27
 mul-beneath : tie.Need-mul-beneath Inv-loop μ-loop
 mul-beneath c = search needs
 
--- src/main.rt:67:27
+-- src/main.rt:68:27
 array-copy-out-beneath : tie.Need-array-copy-out-beneath Inv-loop μ-loop
 array-copy-out-beneath c = search needs
 
--- src/main.rt:68:26
+-- src/main.rt:69:26
 array-read-show-element : tie.Need-array-read-show-element Inv-loop μ-loop
 array-read-show-element c = search needs
 
--- src/main.rt:68:13
+-- src/main.rt:69:13
 show-element-requires : tie.Need-show-element-requires Inv-loop μ-loop
 show-element-requires c κs = search needs
 
--- src/main.rt:69:16
+-- src/main.rt:70:16
 array-read-if2 : tie.Need-array-read-if2 Inv-loop μ-loop
 array-read-if2 c = search needs
 
--- src/main.rt:71:28
-mul-t33 : tie.Need-mul-t33 Inv-loop μ-loop
-mul-t33 c = search needs
+-- src/main.rt:72:28
+mul-t34 : tie.Need-mul-t34 Inv-loop μ-loop
+mul-t34 c = search needs
 
--- src/main.rt:71:28
-array-read-t36 : tie.Need-array-read-t36 Inv-loop μ-loop
-array-read-t36 c = search needs
+-- src/main.rt:72:28
+array-read-t37 : tie.Need-array-read-t37 Inv-loop μ-loop
+array-read-t37 c = search needs
 
--- src/main.rt:72:27
-mul-t37 : tie.Need-mul-t37 Inv-loop μ-loop
-mul-t37 c = search needs
+-- src/main.rt:73:27
+mul-t38 : tie.Need-mul-t38 Inv-loop μ-loop
+mul-t38 c = search needs
 
--- src/main.rt:72:27
-array-read-t40 : tie.Need-array-read-t40 Inv-loop μ-loop
-array-read-t40 c = search needs
+-- src/main.rt:73:27
+array-read-t41 : tie.Need-array-read-t41 Inv-loop μ-loop
+array-read-t41 c = search needs
 
--- src/main.rt:73:31
-array-read-t43 : tie.Need-array-read-t43 Inv-loop μ-loop
-array-read-t43 c = search needs
+-- src/main.rt:74:31
+array-read-t44 : tie.Need-array-read-t44 Inv-loop μ-loop
+array-read-t44 c = search needs
 
--- src/main.rt:75:28
+-- src/main.rt:76:28
 mul-from : tie.Need-mul-from Inv-loop μ-loop
 mul-from c = search needs
 
--- src/main.rt:76:26
+-- src/main.rt:77:26
 add-to : tie.Need-add-to Inv-loop μ-loop
 add-to c = search needs
 
--- src/main.rt:77:33
+-- src/main.rt:78:33
 sub-show-fits : tie.Need-sub-show-fits Inv-loop μ-loop
 sub-show-fits c = search needs
 
--- src/main.rt:77:33
+-- src/main.rt:78:33
 part-show-fits-start : tie.Need-part-show-fits-start Inv-loop μ-loop
 part-show-fits-start c = search needs
 
--- src/main.rt:77:33
+-- src/main.rt:78:33
 part-show-fits-end : tie.Need-part-show-fits-end Inv-loop μ-loop
-part-show-fits-end c = let h : length (c .before .before .before .before .before .before .before .before .before .before .before .before .before .before .before .before .tables .result .elements) ≡ 2048 = search needs in search needs
+part-show-fits-end c = let h : length (c .before .before .before .before .before .before .before .before .before .before .before .before .before .before .before .before .before .tables .result .rows .elements) ≡ 2048 = search needs in search needs
 
--- src/main.rt:77:54
+-- src/main.rt:78:54
 mul-show-fits : tie.Need-mul-show-fits Inv-loop μ-loop
 mul-show-fits c = search needs
 
--- src/main.rt:77:54
+-- src/main.rt:78:54
 sub-show-fits-2 : tie.Need-sub-show-fits-2 Inv-loop μ-loop
 sub-show-fits-2 c = search needs
 
--- src/main.rt:77:54
+-- src/main.rt:78:54
 part-show-fits-start-2 : tie.Need-part-show-fits-start-2 Inv-loop μ-loop
 part-show-fits-start-2 c = search needs
 
--- src/main.rt:77:54
+-- src/main.rt:78:54
 part-show-fits-end-2 : tie.Need-part-show-fits-end-2 Inv-loop μ-loop
-part-show-fits-end-2 c = let h : length (c .before .before .before .before .before .before .before .before .before .before .before .before .before .before .before .before .before .before .tables .result .predecessors) ≡ 2048 = search needs in search needs
+part-show-fits-end-2 c = let h : length (c .before .before .before .before .before .before .before .before .before .before .before .before .before .before .before .before .before .before .before .tables .result .rows .predecessors) ≡ 2048 = search needs in search needs
 
--- src/main.rt:77:17
+-- src/main.rt:78:17
 show-fits-requires : tie.Need-show-fits-requires Inv-loop μ-loop
 show-fits-requires c κs = search needs
 
--- src/main.rt:79:30
+-- src/main.rt:80:30
 slice-aggregate-write-all : tie.Need-slice-aggregate-write-all Inv-loop μ-loop
 slice-aggregate-write-all c = search needs
 
--- src/main.rt:79:13
+-- src/main.rt:80:13
 write-all-requires : tie.Need-write-all-requires Inv-loop μ-loop
 write-all-requires c κs = search needs
 
--- src/main.rt:81:9
+-- src/main.rt:82:9
 add-a : tie.Need-add-a Inv-loop μ-loop
 add-a c = search needs
 
--- src/main.rt:64:5
+-- src/main.rt:65:5
 loop-less : tie.Need-loop-less Inv-loop μ-loop
 loop-less c = search needs
 
--- src/main.rt:64:5
+-- src/main.rt:65:5
 loop-again : tie.Need-loop-again Inv-loop μ-loop
 loop-again c = search needs
 
@@ -147,11 +147,11 @@ show-tables-spec =
     array-read-show-element
     show-element-requires
     array-read-if2
-    mul-t33
-    array-read-t36
-    mul-t37
-    array-read-t40
-    array-read-t43
+    mul-t34
+    array-read-t37
+    mul-t38
+    array-read-t41
+    array-read-t44
     mul-from
     add-to
     sub-show-fits

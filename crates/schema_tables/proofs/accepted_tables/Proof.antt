@@ -20,10 +20,16 @@ array-share-prefix-names : tie.Need-array-share-prefix-names
 array-share-prefix-names c = all-room (c .before .before .before .before .before .before .before .before .before .pre) (c .before .before .before .before .before .all-declarations .ensures) (c .before .c .given .1)
 
 slice-aggregate-all-rows : tie.Need-slice-aggregate-all-rows
-slice-aggregate-all-rows c = all-taken (c .before .before .before .before .before .before .before .before .before .before .pre) (c .before .before .before .before .before .before .all-declarations .ensures) (c .before .before .c .given .1)
+slice-aggregate-all-rows c =
+    let at-all-declarations = c .before .before .before .before .before .before in
+    let start = at-all-declarations .before .before .before .before in
+    all-taken (start .pre) (at-all-declarations .all-declarations .ensures) (c .before .before .c .given .1)
 
 all-rows-requires : tie.Need-all-rows-requires
-all-rows-requires c κs = all-located (c .before .before .before .before .before .before .before .before .before .before .pre) (c .before .before .before .before .before .before .all-declarations .ensures) (c .before .before .c .given .1)
+all-rows-requires c κs =
+    let at-all-declarations = c .before .before .before .before .before .before in
+    let start = at-all-declarations .before .before .before .before in
+    all-located (start .pre) (at-all-declarations .all-declarations .ensures) (c .before .before .c .given .1)
 
 below-requires : tie.Need-below-requires
 below-requires c κs = search needs
@@ -35,7 +41,11 @@ empty-requires : tie.Need-empty-requires
 empty-requires c κs = search needs
 
 returns : tie.Need-returns
-returns c = all-tables (c .before .before .before .before .before .before .before .before .before .before .before .before .before .before .before .before .before .before .before .pre) (c .before .before .before .before .before .before .before .before .before .before .before .before .before .before .before .all-declarations .ensures) (c .before .before .before .before .before .before .before .before .before .before .before .c .given .1) (c .before .before .before .before .before .before .before .before .all-rows .result) (c .below .result) (c .before .before .before .before .before .before .before .before .all-rows .ensures) (c .below .ensures)
+returns c =
+    let at-c = c .before .before .before .before .before in
+    let at-all-declarations = at-c .before .before .before .before in
+    let start = at-all-declarations .before .before .before .before in
+    all-tables (start .pre) (at-all-declarations .all-declarations .ensures) (at-c .c .given .1) (c .before .before .all-rows .result) (c .below .result) (c .before .before .all-rows .ensures) (c .below .ensures)
 
 returns-2 : tie.Need-returns-2
 returns-2 c = absurd (all-fails (c .before .before .before .before .before .before .before .before .before .pre) (c .before .before .before .before .before .all-declarations .ensures) (c .before .enum-told .given .1))

@@ -3,7 +3,6 @@ use mathlib.Core.Path.{sym, subst}
 use Rattle.schema_spec.specs.Schemas.{Schema}
 use Rattle.schema_tables.proofs.Whole.{read-accepted, read-refused}
 use Rattle.schema_tables.specs.Tables.{TablesOf}
-use native.Mathlib.Omega.{arith}
 use borrow.Author.Needs.{needs}
 use Rattle.schema_tables.proofs.tables.Statement.{statement}
 use Rattle.schema_tables.proofs.tables.Tie as tie
