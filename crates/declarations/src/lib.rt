@@ -8,6 +8,7 @@ ghost use Rattle.declarations.specs.Parts.{byteAt, Skipped, Spelt, Named
 ghost use Rattle.declarations.specs.Building.{Repeated, Joined};
 ghost use Rattle.schema_spec.specs.Machine.{beforeContent, afterOpen, afterContent};
 ghost use Rattle.text_spec.specs.Bytes.{startsName};
+ghost use Rattle.text_spec.specs.Limits.{maxGroups};
 use models::Content;
 use models::Ends;
 
@@ -277,7 +278,7 @@ fn particle(
     start: usize,
     predecessors: &mut [u64],
 ) -> PartRead
-    requires { ⌜ (at ≤ length (now s)) × (depth ≤ 7) × (n ≤ at) × (start ≤ n) ⌝ }
+    requires { ⌜ (at ≤ length (now s)) × (depth < maxGroups) × (n ≤ at) × (start ≤ n) ⌝ }
     ensures { λ r. ⌜ Particled (now (s .entry)) at depth n start (now (out .entry)) (now (out .exit)) (now (predecessors .entry)) (now (predecessors .exit)) r ⌝ }
 {
     let i = skip(s, at);
@@ -309,7 +310,7 @@ fn group(
     start: usize,
     predecessors: &mut [u64],
 ) -> PartRead
-    requires { ⌜ (at ≤ length (now s)) × (depth ≤ 7) × (n ≤ at) × (start ≤ n) ⌝ }
+    requires { ⌜ (at ≤ length (now s)) × (depth < maxGroups) × (n ≤ at) × (start ≤ n) ⌝ }
     ensures { λ r. ⌜ Grouped (now (s .entry)) at depth n start (now (out .entry)) (now (out .exit)) (now (predecessors .entry)) (now (predecessors .exit)) r ⌝ }
 {
     let mut i = at;

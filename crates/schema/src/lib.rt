@@ -2,11 +2,12 @@
 // names and the first place that passes a limit (5). 6 and 7 are loops over those places.
 ghost use mathlib.Core.List.{[]};
 ghost use mathlib.Core.Path.{_≡_};
-ghost use Prim.Native.Nat.{_+_, _≤_, _<_};
+ghost use Prim.Native.Nat.{_+_, _*_, _≤_, _<_};
 ghost use lib.ListN.{length, getD};
 ghost use Rattle.schema.specs.Whole.{overLimit, AllRead};
 ghost use Rattle.schema.specs.Names.{firstPlace, namesBefore, twiceAt, missingAt};
 ghost use Rattle.schema.specs.Answers.{emptySchema, reasonOf, Readable, Spelling, JudgedAs};
+ghost use Rattle.text_spec.specs.Limits.{maxDeclarations, maxModelNames};
 ghost use Rattle.text_spec.specs.Refusals.{numberOf};
 use declarations::DeclarationOutcome;
 
@@ -87,7 +88,7 @@ fn over_limit(
 
 // Reads all declarations. The places of the declared names go to `names`, those of the names in models to `uses`.
 pub fn all_declarations(s: &[u8], names: &mut [usize], uses: &mut [usize]) -> All
-    requires { ⌜ (length (now names) ≡ 32) × (length (now uses) ≡ 2049) ⌝ }
+    requires { ⌜ (length (now names) ≡ maxDeclarations) × (length (now uses) ≡ maxDeclarations * maxModelNames + 1) ⌝ }
     ensures { λ r. ⌜ AllRead (now (s .entry)) (now (names .exit)) (now (uses .exit)) r ⌝ }
 {
     let size = s.len();

@@ -11,14 +11,15 @@ use Rattle.names.specs.declared.NameSet.{NameSet}
 use Rattle.schema_names.specs.Names.{nameAt}
 use Rattle.schema_spec.specs.Names.{Name, element, text}
 use Rattle.schema_spec.specs.Schemas.{indexFrom}
+use Rattle.schema_tables.specs.Tables.{emptyKind, pcdataKind, childrenKind}
 use Rattle.schema_tables.specs.declared.ElementRow.{ElementRow}
 use Rattle.text_spec.specs.Lists.{anyOf, valueOr}
 
 -- the number of a content's kind
 abbrev pub kindIn : Content → ℕ
-kindIn Empty = 0
-kindIn Pcdata = 1
-kindIn (Children e) = 2
+kindIn Empty = emptyKind
+kindIn Pcdata = pcdataKind
+kindIn (Children e) = childrenKind
 
 abbrev pub endsIn : Content → Ends
 endsIn Empty = record { first = 0; last = 0; nullable = false }
@@ -33,7 +34,7 @@ isOneOf elements (text b) = false
 -- a name is held by element a, from its kind and the elements of its model
 abbrev pub isHeld : ℕ → ℕ → List ℕ → Name → Bool
 isHeld a kind elements (element b) = isOneOf elements (element b)
-isHeld a kind elements (text b) = (eqb b a && ltb a 64) && eqb kind 1
+isHeld a kind elements (text b) = (eqb b a && ltb a 64) && eqb kind pcdataKind
 
 -- the row of an element with a content, which holds some names
 abbrev pub rowOf : ℕ → Content → NameSet → ElementRow

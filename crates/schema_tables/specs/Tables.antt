@@ -14,11 +14,20 @@ use Rattle.schema_spec.specs.Types.{holds, typesOf, isBelow}
 use Rattle.schema_tables.specs.declared.Rows.{Rows}
 use Rattle.schema_tables.specs.declared.SchemaTables.{SchemaTables}
 
--- the number of a content's kind
+-- the numbers of the kinds of content
+abbrev pub emptyKind : ℕ
+emptyKind = 0
+
+abbrev pub pcdataKind : ℕ
+pcdataKind = 1
+
+abbrev pub childrenKind : ℕ
+childrenKind = 2
+
 abbrev pub kindOf : Content ℕ → ℕ
-kindOf empty = 0
-kindOf pcdata = 1
-kindOf (children p) = 2
+kindOf empty = emptyKind
+kindOf pcdata = pcdataKind
+kindOf (children p) = childrenKind
 
 -- the 64 cells of an element
 abbrev pub cellsOf : ℕ → List ℕ → List ℕ

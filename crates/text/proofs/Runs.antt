@@ -6,7 +6,6 @@ use mathlib.Core.Logic.{inl, inr, ⊎-elim}
 use Prim.Native.Nat.{ℕ, zero, suc, _+_, _≤_, _<_}
 use native.Mathlib.Nat.{eq-or-lt-of-le}
 use native.Mathlib.Omega.{arith}
-use borrow.Author.Tests.{eq-eqb}
 use lib.Dec.{T, eqb, eqb→eq}
 use types.Run.{OneOf, hit}
 use mir.Val.{hasKey}
@@ -117,10 +116,8 @@ same-equal true false t = absurd t
 same-equal false true t = absurd t
 same-equal false false t = refl
 
--- two tests that agree on the bytes of a class, by computing over all 256
-pub agree-in : (k : Class) (f g : ℕ → Bool) (b : ℕ) → T (run (λ x. not (isClass k x) || same (f x) (g x)) [] 0 256) → b < 256 → meant k ≡ classOf b → f b ≡ g b
-agree-in k f g b t h e =
-    same-equal (f b) (g b)
-    (subst (λ (c : Bool). T (not c || same (f b) (g b)))
-    (ap (λ (c : Bytes.Class). eqb (number (meant k)) (number c)) (sym e) ∙ eq-eqb (number (meant k)) (number (meant k)) refl)
-    (ranged (λ x. not (isClass k x) || same (f x) (g x)) [] 0 256 t (omega arith) (omega arith) tt))
+-- a test by class that agrees with a test on the byte, by computing over all 256
+pub by-class : (f : Bytes.Class → ℕ → Bool) (g : ℕ → Bool) (b : ℕ) {k : Bytes.Class} → T (run (λ x. same (f (classOf x) x) (g x)) [] 0 256) → b < 256 → k ≡ classOf b → f k b ≡ g b
+by-class f g b t h e =
+    ap (λ (c : Bytes.Class). f c b) e
+    ∙ same-equal (f (classOf b) b) (g b) (ranged (λ x. same (f (classOf x) x) (g x)) [] 0 256 t (omega arith) (omega arith) tt)

@@ -1,6 +1,6 @@
 // Bytes of a text: their classes, blanks, names, and the first byte that may stand in no text.
 ghost use mathlib.Core.Path.{_≡_};
-ghost use Rattle.text.specs.Classes.{meant, joinsName};
+ghost use Rattle.text.specs.Classes.{meant, joinsName, isForeignClass, inName};
 ghost use Rattle.text.specs.Places.{foreignPlace};
 ghost use Rattle.text_spec.specs.Bytes.{classOf, isBlank, isForeign, startsName, continuesName};
 
@@ -39,11 +39,10 @@ pub fn is_blank(b: u8) -> bool
     b == 10
 }
 
-// A byte that fails refusal 3.
-pub fn is_foreign(b: u8) -> bool
-    ensures { λ r. ⌜ r ≡ isForeign b ⌝ }
+fn foreign(class: Class) -> bool
+    ensures { λ r. ⌜ r ≡ isForeignClass (meant class) ⌝ }
 {
-    match class_of(b) {
+    match class {
         Class::Foreign => true,
         Class::Blank => false,
         Class::Letter => false,
@@ -53,17 +52,31 @@ pub fn is_foreign(b: u8) -> bool
     }
 }
 
-pub fn starts_name(b: u8) -> bool
-    ensures { λ r. ⌜ r ≡ startsName b ⌝ }
+// A byte that fails refusal 3.
+pub fn is_foreign(b: u8) -> bool
+    ensures { λ r. ⌜ r ≡ isForeign b ⌝ }
 {
-    match class_of(b) {
+    foreign(class_of(b))
+}
+
+// Whether a byte of this class may stand in a name, where digits may or may not, and this byte may or may not if it is another.
+fn in_name(class: Class, digits: bool, other: bool) -> bool
+    ensures { λ r. ⌜ r ≡ inName (meant class) digits other ⌝ }
+{
+    match class {
         Class::Letter => true,
-        Class::Other => b == 95,
+        Class::Digit => digits,
+        Class::Other => other,
         Class::Blank => false,
-        Class::Digit => false,
         Class::Markup => false,
         Class::Foreign => false,
     }
+}
+
+pub fn starts_name(b: u8) -> bool
+    ensures { λ r. ⌜ r ≡ startsName b ⌝ }
+{
+    in_name(class_of(b), false, b == 95)
 }
 
 // `-`, `.` or `_`, which a name may have after its first byte.
@@ -82,14 +95,7 @@ fn joins_name(b: u8) -> bool
 pub fn continues_name(b: u8) -> bool
     ensures { λ r. ⌜ r ≡ continuesName b ⌝ }
 {
-    match class_of(b) {
-        Class::Letter => true,
-        Class::Digit => true,
-        Class::Other => joins_name(b),
-        Class::Blank => false,
-        Class::Markup => false,
-        Class::Foreign => false,
-    }
+    in_name(class_of(b), true, joins_name(b))
 }
 
 // The place of the first byte that fails refusal 3, or the length.

@@ -80,7 +80,7 @@ neededBeforeFilter s p = need s (keepsName s) (wantsNames s) (expand p) (atRoot 
 unfoldable pub neededByPath : Types → LocationPath ℕ → Names
 neededByPath s p = fromRoot s (neededBeforeFilter s p)
 
--- "A bundle's needed names are the unionOf", in the schema's order
+-- "A bundle's needed names are the union", in the schema's order
 unfoldable pub needed : Types → List (LocationPath ℕ) → Names
 needed s ps = within (s .names) (gather (neededByPath s) ps)
 

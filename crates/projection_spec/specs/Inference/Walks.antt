@@ -69,6 +69,6 @@ pub data Reached (s : Schema) (In : Name → Type 0) : Name → Type 0 where
   root : In (element 0) → Reached s In (element 0)
   next : {a b : Name} → Reached s In a → T (holds s a b) → In b → Reached s In b
 
--- what a bundle needs: "the unionOf"
+-- what a bundle needs: "the union"
 pub data BundleNeeds (s : Schema) (ps : List (LocationPath ℕ)) (n : Name) : Type 0 where
   by-path : (p : LocationPath ℕ) → List·Memᴰ p ps → Reached s (PathNeeds s p) n → BundleNeeds s ps n

@@ -36,7 +36,7 @@ module _ (s : Types) (law : Lawful s) where
   pub in-above : (t : Names) {n b : Name} → In b t → In n (s .names) → T (isBelow s n b) → In n (allAbove s t)
   in-above t {n} i j h = in-filter (λ m. anyOf (λ c. isBelow s m c) t) j (any-in (λ c. isBelow s n c) i h)
 
-  -- a unionOf has the names of a valid node that the first set has
+  -- a union has the names of a valid node that the first set has
   union-within : (a b : Names) (y : Node) → Valid s y → Within a y → Within (unionOf s a b) y
   union-within a b (top k n) v w = in-union a b (name-in s law (top k n) v) (inl w)
   union-within a b (under k n x p) v w = (in-union a b (name-in s law (under k n x p) v) (inl (w .0)), union-within a b p (v .1) (w .1))
