@@ -1,6 +1,6 @@
 -- What is computed once over a run of bytes holds at each byte of the run. Assumes nothing.
 use mathlib.Core.Path.{_≡_, refl, sym, ap, subst, _∙_}
-use mathlib.Core.Bool.{Bool, true, false, not, _||_, _&&_}
+use mathlib.Core.Bool.{Bool, true, false, cond, not, _||_, _&&_}
 use mathlib.Core.List.{List, [], _∷_}
 use mathlib.Core.Logic.{inl, inr, ⊎-elim}
 use Prim.Native.Nat.{ℕ, zero, suc, _+_, _≤_, _<_}
@@ -61,43 +61,20 @@ number markup = 3
 number other = 4
 number foreign = 5
 
+classNumbered : ℕ → Bytes.Class
+classNumbered n = cond (eqb n 0) blank (cond (eqb n 1) letter (cond (eqb n 2) digit (cond (eqb n 3) markup (cond (eqb n 4) other foreign))))
+
+class-back : (k : Bytes.Class) → classNumbered (number k) ≡ k
+unfolding classNumbered
+class-back blank = refl
+class-back letter = refl
+class-back digit = refl
+class-back markup = refl
+class-back other = refl
+class-back foreign = refl
+
 number-apart : (k l : Bytes.Class) → number k ≡ number l → k ≡ l
-number-apart blank blank e = refl
-number-apart blank letter e = absurd (omega arith)
-number-apart blank digit e = absurd (omega arith)
-number-apart blank markup e = absurd (omega arith)
-number-apart blank other e = absurd (omega arith)
-number-apart blank foreign e = absurd (omega arith)
-number-apart letter blank e = absurd (omega arith)
-number-apart letter letter e = refl
-number-apart letter digit e = absurd (omega arith)
-number-apart letter markup e = absurd (omega arith)
-number-apart letter other e = absurd (omega arith)
-number-apart letter foreign e = absurd (omega arith)
-number-apart digit blank e = absurd (omega arith)
-number-apart digit letter e = absurd (omega arith)
-number-apart digit digit e = refl
-number-apart digit markup e = absurd (omega arith)
-number-apart digit other e = absurd (omega arith)
-number-apart digit foreign e = absurd (omega arith)
-number-apart markup blank e = absurd (omega arith)
-number-apart markup letter e = absurd (omega arith)
-number-apart markup digit e = absurd (omega arith)
-number-apart markup markup e = refl
-number-apart markup other e = absurd (omega arith)
-number-apart markup foreign e = absurd (omega arith)
-number-apart other blank e = absurd (omega arith)
-number-apart other letter e = absurd (omega arith)
-number-apart other digit e = absurd (omega arith)
-number-apart other markup e = absurd (omega arith)
-number-apart other other e = refl
-number-apart other foreign e = absurd (omega arith)
-number-apart foreign blank e = absurd (omega arith)
-number-apart foreign letter e = absurd (omega arith)
-number-apart foreign digit e = absurd (omega arith)
-number-apart foreign markup e = absurd (omega arith)
-number-apart foreign other e = absurd (omega arith)
-number-apart foreign foreign e = refl
+number-apart k l e = sym (class-back k) ∙ ap classNumbered e ∙ class-back l
 
 -- the byte is of that class
 abbrev pub isClass : Class → ℕ → Bool
