@@ -14,8 +14,6 @@ import tempfile
 HERE = os.path.dirname(os.path.abspath(__file__))
 CRATES = os.path.join(HERE, "..", "crates")
 SPECS = ["text_spec", "schema_spec", "table_spec", "journal_spec", "path_spec", "projection_spec"]
-# Theorems that stand beside the definitions of projection_spec, which the cases do not need.
-THEOREMS = ["Laws", "Laws.antt", "Demand3.antt"]
 JOURNAL_LIMIT = 1048576
 
 # The prover's limit of steps for one declaration does not suffice for the nodes of 4,096 rows.
@@ -169,12 +167,7 @@ def main():
         body += ["-- %s" % ascii(case["case"]), "case-%d : %s ≡ %s" % (i, asked(case), expected(case)), "unfolding computing neededWord wordOfSet", "case-%d = refl" % i, ""]
     with tempfile.TemporaryDirectory() as scratch:
         for name in SPECS:
-            shutil.copytree(os.path.join(CRATES, name), os.path.join(scratch, "crates", name), ignore=shutil.ignore_patterns("must-fail", *THEOREMS))
-            root = os.path.join(scratch, "crates", name, "specs", "Lib.antt")
-            with open(root) as declared:
-                kept = [line for line in declared if line.split()[-1] not in ("Laws", "Demand3")]
-            with open(root, "w") as out:
-                out.write("".join(kept))
+            shutil.copytree(os.path.join(CRATES, name), os.path.join(scratch, "crates", name), ignore=shutil.ignore_patterns("must-fail"))
         crate = os.path.join(scratch, "crates", "vectors")
         os.makedirs(os.path.join(crate, "src"))
         os.makedirs(os.path.join(crate, "specs"))
@@ -183,11 +176,9 @@ def main():
             with open(os.path.join(crate, path), "w") as out:
                 out.write(content)
         with open(os.path.join(CRATES, "..", "crates.txt")) as listed:
-            dependencies = dict(line.strip().split(":") for line in listed if line.split(":")[0] in SPECS)
-        dependencies["vectors"] = " ".join(SPECS)
+            kept = [line for line in listed if line.split(":")[0] in SPECS]
         with open(os.path.join(scratch, "crates.txt"), "w") as out:
-            for name, needs in dependencies.items():
-                out.write("%s: %s\n" % (name, " ".join(d for d in needs.split() if d in SPECS)))
+            out.write("".join(kept) + "vectors: %s\n" % " ".join(SPECS))
         run = subprocess.run(["rt", "check"], cwd=scratch, capture_output=True, text=True)
     if run.returncode != 0:
         sys.stdout.write(run.stdout + run.stderr)

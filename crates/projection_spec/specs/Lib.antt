@@ -2,5 +2,3 @@ pub mod Inference
 pub mod Extracts
 pub mod Library
 pub mod Cases
-pub mod Laws
-pub mod Demand3

@@ -16,20 +16,8 @@ Inv-loop count rounds rows₀ k₀ rows k = (k ≤ rounds) × Reached rows₀ k 
 abbrev μ-loop : tie.MeasureT-loop
 μ-loop count rounds rows₀ k₀ rows k = rounds - k
 
-rounds-of-requires : tie.Need-rounds-of-requires Inv-loop μ-loop
-rounds-of-requires c κs = search needs
-
 loop-holds : tie.Need-loop-holds Inv-loop μ-loop
 loop-holds c = (omega arith, reached-first (c .before .args .«holds»))
-
-round-requires : tie.Need-round-requires Inv-loop μ-loop
-round-requires c κs = search needs
-
-add-k : tie.Need-add-k Inv-loop μ-loop
-add-k c = search needs
-
-loop-less : tie.Need-loop-less Inv-loop μ-loop
-loop-less c = search needs
 
 loop-again : tie.Need-loop-again Inv-loop μ-loop
 loop-again c =
@@ -54,10 +42,10 @@ below-spec =
     (tie.spec
     Inv-loop
     μ-loop
-    rounds-of-requires
+    (λ c κs. search needs)
     loop-holds
-    round-requires
-    add-k
-    loop-less
+    (λ c κs. search needs)
+    (λ c. search needs)
+    (λ c. search needs)
     loop-again
     returns)

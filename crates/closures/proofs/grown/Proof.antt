@@ -6,12 +6,6 @@ use borrow.Author.Needs.{needs}
 use Rattle.closures.proofs.grown.Statement.{statement}
 use Rattle.closures.proofs.grown.Tie as tie
 
-has-element-requires : tie.Need-has-element-requires
-has-element-requires c κs = search needs
-
-union-requires : tie.Need-union-requires
-union-requires c κs = search needs
-
 returns : tie.Need-returns
 returns c b =
     let args = c .before .before .before .args in
@@ -23,4 +17,4 @@ returns-2 c b =
     sym (ap (λ (t : Bool). member (args .out) b || (t && member (args .row) b)) (sym (c .before .has-element .ensures) ∙ c .if1 .left) ∙ or-false (member (args .out) b))
 
 pub grown-spec : {M : Type 1} → statement M
-grown-spec = tie.close (tie.spec has-element-requires union-requires returns returns-2)
+grown-spec = tie.close (tie.spec (λ c κs. search needs) (λ c κs. search needs) returns returns-2)

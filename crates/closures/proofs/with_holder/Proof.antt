@@ -10,12 +10,6 @@ use borrow.Author.Needs.{needs}
 use Rattle.closures.proofs.with_holder.Statement.{statement}
 use Rattle.closures.proofs.with_holder.Tie as tie
 
-meets-requires : tie.Need-meets-requires
-meets-requires c κs = search needs
-
-insert-element-requires : tie.Need-insert-element-requires
-insert-element-requires c κs = search needs
-
 returns : tie.Need-returns
 returns c n =
     let args = c .before .before .before .args in
@@ -30,4 +24,4 @@ returns-2 c n =
     ∙ ap (λ (b : Bool). member (args .out) n || b) (and-false (sameName n (element (args .k)))) ∙ or-false (member (args .out) n))
 
 pub with-holder-spec : {M : Type 1} → statement M
-with-holder-spec = tie.close (tie.spec meets-requires insert-element-requires returns returns-2)
+with-holder-spec = tie.close (tie.spec (λ c κs. search needs) (λ c κs. search needs) returns returns-2)

@@ -9,21 +9,6 @@ returns c =
     let start = c .before .before .before .before in
     record { says = content-end (start .args .s .now) (start .args .at) (start .args .n) (start .args .out .now) (start .args .predecessors .now) (c .if1 .taken) }
 
-shared-slice-read-if2 : tie.Need-shared-slice-read-if2
-shared-slice-read-if2 c = search needs
-
-add-model : tie.Need-add-model
-add-model c = search needs
-
-model-requires : tie.Need-model-requires
-model-requires c κs = search needs
-
-same-length : tie.Need-same-length
-same-length c = search needs
-
-same-length-2 : tie.Need-same-length-2
-same-length-2 c = search needs
-
 returns-2 : tie.Need-returns-2
 returns-2 c =
     let at-model = c .before .before .before .before in
@@ -31,21 +16,6 @@ returns-2 c =
     let at-if1 = at-if2 .before .before in
     let start = at-if1 .before .before .before .before in
     record { says = content-model (start .args .s .now) (start .args .at) (start .args .n) (start .args .out .now) (start .args .predecessors .now) (at-if1 .if1 .left) (at-if2 .if2 .taken) (at-model .model .ensures) }
-
-shared-slice-read-if3 : tie.Need-shared-slice-read-if3
-shared-slice-read-if3 c = search needs
-
-add-spell : tie.Need-add-spell
-add-spell c = search needs
-
-slice-aggregate-spell : tie.Need-slice-aggregate-spell
-slice-aggregate-spell c = search needs
-
-spell-requires : tie.Need-spell-requires
-spell-requires c κs = search needs
-
-nameless-requires : tie.Need-nameless-requires
-nameless-requires c κs = search needs
 
 returns-3 : tie.Need-returns-3
 returns-3 c =
@@ -65,16 +35,16 @@ content-spec =
     tie.close
     (tie.spec
     returns
-    shared-slice-read-if2
-    add-model
-    model-requires
-    same-length
-    same-length-2
+    (λ c. search needs)
+    (λ c. search needs)
+    (λ c κs. search needs)
+    (λ c. search needs)
+    (λ c. search needs)
     returns-2
-    shared-slice-read-if3
-    add-spell
-    slice-aggregate-spell
-    spell-requires
-    nameless-requires
+    (λ c. search needs)
+    (λ c. search needs)
+    (λ c. search needs)
+    (λ c κs. search needs)
+    (λ c κs. search needs)
     returns-3
     returns-4)

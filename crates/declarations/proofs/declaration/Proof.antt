@@ -5,23 +5,8 @@ use borrow.Author.Needs.{needs}
 use Rattle.declarations.proofs.declaration.Statement.{statement}
 use Rattle.declarations.proofs.declaration.Tie as tie
 
-keyword-requires : tie.Need-keyword-requires
-keyword-requires c κs = search needs
-
-enum-known-j : tie.Need-enum-known-j
-enum-known-j c = search needs
-
-enum-known-i : tie.Need-enum-known-i
-enum-known-i c = search needs
-
 declared-name-requires : tie.Need-declared-name-requires
 declared-name-requires c κs = let k = name-known (c .before .before .before .keyword .ensures) (c .before .i .given .1) in (k .1, k .2)
-
-enum-known-j-2 : tie.Need-enum-known-j-2
-enum-known-j-2 c = search needs
-
-enum-known-j-3 : tie.Need-enum-known-j-3
-enum-known-j-3 c = search needs
 
 declared-requires : tie.Need-declared-requires
 declared-requires c κs =
@@ -47,12 +32,6 @@ returns-2 c =
     let at-keyword = at-i .before .before in
     record { says = declaration-name-fail (at-keyword .keyword .ensures) (at-i .i .given .1) (at-declared-name .declared-name .ensures) (c .before .j2 .given .1) }
 
-same-length : tie.Need-same-length
-same-length c = search needs
-
-same-length-2 : tie.Need-same-length-2
-same-length-2 c = search needs
-
 returns-3 : tie.Need-returns-3
 returns-3 c =
     let at-declared = c .before .before .before .before in
@@ -66,15 +45,15 @@ pub declaration-spec : {M : Type 1} → statement M
 declaration-spec =
     tie.close
     (tie.spec
-    keyword-requires
-    enum-known-j
-    enum-known-i
+    (λ c κs. search needs)
+    (λ c. search needs)
+    (λ c. search needs)
     declared-name-requires
-    enum-known-j-2
-    enum-known-j-3
+    (λ c. search needs)
+    (λ c. search needs)
     declared-requires
     returns
     returns-2
-    same-length
-    same-length-2
+    (λ c. search needs)
+    (λ c. search needs)
     returns-3)

@@ -9,12 +9,6 @@ use Rattle.declarations.proofs.declared_name.Tie as tie
 returns : tie.Need-returns
 returns c = record { says = head-end (c .before .before .args .s .now) (c .before .before .args .i) (c .if1 .taken) }
 
-shared-slice-read-starts-name : tie.Need-shared-slice-read-starts-name
-shared-slice-read-starts-name c = search needs
-
-starts-name-requires : tie.Need-starts-name-requires
-starts-name-requires c κs = search needs
-
 returns-2 : tie.Need-returns-2
 returns-2 c =
     let at-if1 = c .before .before .before in
@@ -24,9 +18,6 @@ returns-2 c =
 name-end-requires : tie.Need-name-end-requires
 name-end-requires c κs = (c .before .before .before .if1 .left, sym (c .before .starts-name .ensures) ∙ not-false _ (c .if2 .left))
 
-enum-known-e : tie.Need-enum-known-e
-enum-known-e c = search needs
-
 space-requires : tie.Need-space-requires
 space-requires c κs =
     let at-name-end = c .before .before .before in
@@ -35,9 +26,6 @@ space-requires c κs =
     let at-if1 = at-starts-name .before .before in
     let start = at-if1 .before .before in
     head-high (start .args .s .now) (start .args .i) (at-if1 .if1 .left) (start .pre .1 (at-if1 .if1 .left)) (sym (at-starts-name .starts-name .ensures) ∙ not-false _ (at-if2 .if2 .left)) (at-name-end .name-end .ensures) _ (c .before .e .given .1)
-
-enum-known-j : tie.Need-enum-known-j
-enum-known-j c = search needs
 
 returns-3 : tie.Need-returns-3
 returns-3 c =
@@ -62,12 +50,12 @@ declared-name-spec =
     tie.close
     (tie.spec
     returns
-    shared-slice-read-starts-name
-    starts-name-requires
+    (λ c. search needs)
+    (λ c κs. search needs)
     returns-2
     name-end-requires
-    enum-known-e
+    (λ c. search needs)
     space-requires
-    enum-known-j
+    (λ c. search needs)
     returns-3
     returns-4)

@@ -9,15 +9,6 @@ use Rattle.declarations.proofs.indicator.Tie as tie
 returns : tie.Need-returns
 returns c = record { low = search needs; high = search needs; same = λ q p fs h E. indicator-end E (c .if1 .taken) }
 
-shared-slice-read-is-indicator : tie.Need-shared-slice-read-is-indicator
-shared-slice-read-is-indicator c = search needs
-
-is-indicator-requires : tie.Need-is-indicator-requires
-is-indicator-requires c κs = search needs
-
-add-result : tie.Need-add-result
-add-result c = search needs
-
 returns-2 : tie.Need-returns-2
 returns-2 c = record { low = search needs; high = search needs; same = λ q p fs h E. indicator-there E (c .before .before .before .if1 .left) (sym (c .before .is-indicator .ensures) ∙ c .if2 .taken) }
 
@@ -29,8 +20,8 @@ indicator-spec =
     tie.close
     (tie.spec
     returns
-    shared-slice-read-is-indicator
-    is-indicator-requires
-    add-result
+    (λ c. search needs)
+    (λ c κs. search needs)
+    (λ c. search needs)
     returns-2
     returns-3)

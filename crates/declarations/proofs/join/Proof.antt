@@ -7,20 +7,8 @@ use Rattle.declarations.proofs.join.Tie as tie
 returns : tie.Need-returns
 returns c = joined-first _ _ _ (c .if1 .taken)
 
-link-requires : tie.Need-link-requires
-link-requires c κs = search needs
-
-in-sequence-requires : tie.Need-in-sequence-requires
-in-sequence-requires c κs = search needs
-
-same-length : tie.Need-same-length
-same-length c = search needs
-
 returns-2 : tie.Need-returns-2
 returns-2 c = joined-comma _ _ _ (c .before .before .before .before .before .if2 .taken) _ _ (c .before .before .before .link .ensures) (c .in-sequence .ensures)
-
-in-choice-requires : tie.Need-in-choice-requires
-in-choice-requires c κs = search needs
 
 returns-3 : tie.Need-returns-3
 returns-3 c = joined-bar _ _ _ (c .before .before .if1 .left) (c .before .if2 .left) _ (c .in-choice .ensures)
@@ -30,9 +18,9 @@ join-spec =
     tie.close
     (tie.spec
     returns
-    link-requires
-    in-sequence-requires
-    same-length
+    (λ c κs. search needs)
+    (λ c κs. search needs)
+    (λ c. search needs)
     returns-2
-    in-choice-requires
+    (λ c κs. search needs)
     returns-3)

@@ -4,25 +4,10 @@ use borrow.Author.Needs.{needs}
 use Rattle.declarations.proofs.keyword.Statement.{statement}
 use Rattle.declarations.proofs.keyword.Tie as tie
 
-shared-slice-read-if1 : tie.Need-shared-slice-read-if1
-shared-slice-read-if1 c = search needs
-
 returns : tie.Need-returns
 returns c =
     let start = c .before .before .before in
     record { says = keyword-not (start .args .s .now) (start .args .at) (start .pre .0) (start .pre .1 (start .pre .0)) (c .if1 .taken) }
-
-add-spell : tie.Need-add-spell
-add-spell c = search needs
-
-slice-aggregate-spell : tie.Need-slice-aggregate-spell
-slice-aggregate-spell c = search needs
-
-spell-requires : tie.Need-spell-requires
-spell-requires c κs = search needs
-
-enum-known-j : tie.Need-enum-known-j
-enum-known-j c = search needs
 
 space-requires : tie.Need-space-requires
 space-requires c κs =
@@ -30,9 +15,6 @@ space-requires c κs =
     let at-if1 = at-spell .before .before in
     let start = at-if1 .before .before .before in
     keyword-high (start .args .s .now) (start .args .at) (start .pre .0) (at-if1 .if1 .left) (at-spell .spell .ensures) _ (c .before .j .given .1)
-
-enum-known-j-2 : tie.Need-enum-known-j-2
-enum-known-j-2 c = search needs
 
 returns-2 : tie.Need-returns-2
 returns-2 c =
@@ -52,13 +34,13 @@ pub keyword-spec : {M : Type 1} → statement M
 keyword-spec =
     tie.close
     (tie.spec
-    shared-slice-read-if1
+    (λ c. search needs)
     returns
-    add-spell
-    slice-aggregate-spell
-    spell-requires
-    enum-known-j
+    (λ c. search needs)
+    (λ c. search needs)
+    (λ c κs. search needs)
+    (λ c. search needs)
     space-requires
-    enum-known-j-2
+    (λ c. search needs)
     returns-2
     returns-3)

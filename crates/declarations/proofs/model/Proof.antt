@@ -4,25 +4,10 @@ use borrow.Author.Needs.{needs}
 use Rattle.declarations.proofs.model.Statement.{statement}
 use Rattle.declarations.proofs.model.Tie as tie
 
-skip-requires : tie.Need-skip-requires
-skip-requires c κs = search needs
-
 returns : tie.Need-returns
 returns c =
     let start = c .before .before .before .before .before in
     record { says = model-end (start .args .n) (start .args .out .now) (start .args .predecessors .now) (c .before .skip .ensures) (c .if1 .taken) }
-
-shared-slice-read-if2 : tie.Need-shared-slice-read-if2
-shared-slice-read-if2 c = search needs
-
-add-pcdata : tie.Need-add-pcdata
-add-pcdata c = search needs
-
-pcdata-requires : tie.Need-pcdata-requires
-pcdata-requires c κs = search needs
-
-nameless-requires : tie.Need-nameless-requires
-nameless-requires c κs = search needs
 
 returns-2 : tie.Need-returns-2
 returns-2 c =
@@ -30,12 +15,6 @@ returns-2 c =
     let at-skip = at-if1 .before in
     let start = at-skip .before .before .before .before in
     record { says = model-pcdata (start .args .n) (start .args .out .now) (start .args .predecessors .now) (at-skip .skip .ensures) (at-if1 .if1 .left) (c .before .before .if2 .taken) (start .pre .1) (c .before .pcdata .ensures) (c .nameless .ensures) }
-
-group-requires : tie.Need-group-requires
-group-requires c κs = search needs
-
-enum-known-p : tie.Need-enum-known-p
-enum-known-p c = search needs
 
 indicated-requires : tie.Need-indicated-requires
 indicated-requires c κs =
@@ -45,12 +24,6 @@ indicated-requires c κs =
     let at-skip = at-if1 .before in
     let start = at-skip .before .before .before .before in
     model-high (start .args .n) (start .args .out .now) (start .args .predecessors .now) (at-skip .skip .ensures) (at-if1 .if1 .left) (at-if2 .if2 .left) (at-group .group .ensures) _ (c .before .before .p .given .1)
-
-enum-known-j : tie.Need-enum-known-j
-enum-known-j c = search needs
-
-same-length : tie.Need-same-length
-same-length c = search needs
 
 same-length-2 : tie.Need-same-length-2
 same-length-2 c = let l = c .before .before .before .indicated .ensures .repeated .long in search needs
@@ -66,12 +39,6 @@ returns-3 c =
     let start = at-skip .before .before .before .before in
     record { says = model-past (start .args .n) (start .args .out .now) (start .args .predecessors .now) (at-skip .skip .ensures) (at-if1 .if1 .left) (at-if2 .if2 .left) (at-group .group .ensures) (at-p .p .given .1) (at-indicated .indicated .ensures) }
 
-same-length-3 : tie.Need-same-length-3
-same-length-3 c = search needs
-
-same-length-4 : tie.Need-same-length-4
-same-length-4 c = search needs
-
 returns-4 : tie.Need-returns-4
 returns-4 c =
     let at-group = c .before .before .before .before .before .before .before in
@@ -85,20 +52,20 @@ pub model-spec : {M : Type 1} → statement M
 model-spec =
     tie.close
     (tie.spec
-    skip-requires
+    (λ c κs. search needs)
     returns
-    shared-slice-read-if2
-    add-pcdata
-    pcdata-requires
-    nameless-requires
+    (λ c. search needs)
+    (λ c. search needs)
+    (λ c κs. search needs)
+    (λ c κs. search needs)
     returns-2
-    group-requires
-    enum-known-p
+    (λ c κs. search needs)
+    (λ c. search needs)
     indicated-requires
-    enum-known-j
-    same-length
+    (λ c. search needs)
+    (λ c. search needs)
     same-length-2
     returns-3
-    same-length-3
-    same-length-4
+    (λ c. search needs)
+    (λ c. search needs)
     returns-4)

@@ -30,20 +30,11 @@ Inv-loop s j i₀ i = (j < i) × (i ≤ length s) × (i ≤ j + 31) × Begun s j
 abbrev μ-loop : tie.MeasureT-loop
 μ-loop s j i₀ i = length s - i
 
-add-i : tie.Need-add-i Inv-loop μ-loop
-add-i c = search needs
-
 loop-holds : tie.Need-loop-holds Inv-loop μ-loop
 loop-holds c =
     let s = c .before .args .s .now in
     let j = c .before .args .j in
     (search needs, search needs, search needs, record { bytes = byteAt s j ∷ []; many = omega arith; name = name-cons s j (c .before .pre .0) (starts-continues (byteAt s j) (c .before .pre .1)); same = λ q N. refl })
-
-shared-slice-read-continues-name : tie.Need-shared-slice-read-continues-name Inv-loop μ-loop
-shared-slice-read-continues-name c = search needs
-
-continues-name-requires : tie.Need-continues-name-requires Inv-loop μ-loop
-continues-name-requires c κs = search needs
 
 returns : tie.Need-returns Inv-loop μ-loop
 returns c =
@@ -53,9 +44,6 @@ returns c =
     let e = sym (c .before .continues-name .ensures) ∙ not-true _ (c .if1 .taken) in
     record { says = (search needs, search needs, (λ _. e), λ q N. R .same q N ∙ ap (λ (n : List ℕ). from (q n) s i) (whole R (λ _. e))) }
 
-sub-if2 : tie.Need-sub-if2 Inv-loop μ-loop
-sub-if2 c = search needs
-
 returns-2 : tie.Need-returns-2 Inv-loop μ-loop
 returns-2 c =
     let s = c .before .before .before .before .before .before .before .args .s .now in
@@ -63,12 +51,6 @@ returns-2 c =
     let R = c .before .before .before .before .before .loop .inv .3 in
     let m = R .many in
     record { says = λ q N. R .same q N ∙ name-long s i q N (R .bytes) (c .before .before .before .before .loop-test .taken) (omega arith) (sym (c .before .before .continues-name .ensures) ∙ not-false _ (c .before .if1 .left)) }
-
-add-i-2 : tie.Need-add-i-2 Inv-loop μ-loop
-add-i-2 c = search needs
-
-loop-less : tie.Need-loop-less Inv-loop μ-loop
-loop-less c = search needs
 
 loop-again : tie.Need-loop-again Inv-loop μ-loop
 loop-again c =
@@ -104,14 +86,14 @@ name-end-spec =
     (tie.spec
     Inv-loop
     μ-loop
-    add-i
+    (λ c. search needs)
     loop-holds
-    shared-slice-read-continues-name
-    continues-name-requires
+    (λ c. search needs)
+    (λ c κs. search needs)
     returns
-    sub-if2
+    (λ c. search needs)
     returns-2
-    add-i-2
-    loop-less
+    (λ c. search needs)
+    (λ c. search needs)
     loop-again
     returns-3)

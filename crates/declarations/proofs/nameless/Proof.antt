@@ -6,12 +6,6 @@ use borrow.Author.Needs.{needs}
 use Rattle.declarations.proofs.nameless.Statement.{statement}
 use Rattle.declarations.proofs.nameless.Tie as tie
 
-enum-known-r : tie.Need-enum-known-r
-enum-known-r c = search needs
-
-enum-known-r-2 : tie.Need-enum-known-r-2
-enum-known-r-2 c = search needs
-
 returns : tie.Need-returns
 returns c = sym (ap (λ (r : Read). namelessOf r (c .before .before .before .args .n) (c .before .before .before .args .content)) (c .before .r .given .1))
 
@@ -19,4 +13,4 @@ returns-2 : tie.Need-returns-2
 returns-2 c = sym (ap (λ (r : Read). namelessOf r (c .before .before .before .args .n) (c .before .before .before .args .content)) (c .before .r2 .given .1))
 
 pub nameless-spec : {M : Type 1} → statement M
-nameless-spec = tie.close (tie.spec enum-known-r enum-known-r-2 returns returns-2)
+nameless-spec = tie.close (tie.spec (λ c. search needs) (λ c. search needs) returns returns-2)

@@ -4,29 +4,11 @@ use borrow.Author.Needs.{needs}
 use Rattle.declarations.proofs.pcdata.Statement.{statement}
 use Rattle.declarations.proofs.pcdata.Tie as tie
 
-slice-aggregate-spell : tie.Need-slice-aggregate-spell
-slice-aggregate-spell c = search needs
-
-spell-requires : tie.Need-spell-requires
-spell-requires c κs = search needs
-
-enum-known-j : tie.Need-enum-known-j
-enum-known-j c = search needs
-
-enum-known-j-2 : tie.Need-enum-known-j-2
-enum-known-j-2 c = search needs
-
 skip-requires : tie.Need-skip-requires
 skip-requires c κs = pcdata-high (c .before .before .before .spell .ensures) (c .before .j2 .given .1)
 
 returns : tie.Need-returns
 returns c = record { says = pcdata-end (c .before .before .before .before .before .spell .ensures) (c .before .before .before .j2 .given .1) (c .before .skip .ensures) (c .if1 .taken) }
-
-shared-slice-read-if2 : tie.Need-shared-slice-read-if2
-shared-slice-read-if2 c = search needs
-
-add-t15 : tie.Need-add-t15
-add-t15 c = search needs
 
 returns-2 : tie.Need-returns-2
 returns-2 c =
@@ -49,14 +31,14 @@ pub pcdata-spec : {M : Type 1} → statement M
 pcdata-spec =
     tie.close
     (tie.spec
-    slice-aggregate-spell
-    spell-requires
-    enum-known-j
-    enum-known-j-2
+    (λ c. search needs)
+    (λ c κs. search needs)
+    (λ c. search needs)
+    (λ c. search needs)
     skip-requires
     returns
-    shared-slice-read-if2
-    add-t15
+    (λ c. search needs)
+    (λ c. search needs)
     returns-2
     returns-3
     returns-4)

@@ -8,18 +8,6 @@ use Rattle.declarations.proofs.space.Tie as tie
 returns : tie.Need-returns
 returns c = record { says = space-end (c .if1 .taken) }
 
-shared-slice-read-is-blank : tie.Need-shared-slice-read-is-blank
-shared-slice-read-is-blank c = search needs
-
-is-blank-requires : tie.Need-is-blank-requires
-is-blank-requires c κs = search needs
-
-add-skip : tie.Need-add-skip
-add-skip c = search needs
-
-skip-requires : tie.Need-skip-requires
-skip-requires c κs = search needs
-
 returns-2 : tie.Need-returns-2
 returns-2 c = record { says = space-past (c .before .before .before .before .if1 .left) (sym (c .before .before .is-blank .ensures) ∙ c .before .if2 .taken) (c .skip .ensures) }
 
@@ -31,9 +19,9 @@ space-spec =
     tie.close
     (tie.spec
     returns
-    shared-slice-read-is-blank
-    is-blank-requires
-    add-skip
-    skip-requires
+    (λ c. search needs)
+    (λ c κs. search needs)
+    (λ c. search needs)
+    (λ c κs. search needs)
     returns-2
     returns-3)

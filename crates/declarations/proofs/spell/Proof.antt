@@ -22,23 +22,8 @@ loop-holds c = (search needs, search needs, search needs, λ q p K. refl)
 returns : tie.Need-returns Inv-loop μ-loop
 returns c = record { says = λ q p K. c .before .before .loop .inv .3 q p K ∙ spell-short K (c .before .before .before .args .w .now) (c .before .before .before .args .s .now) (c .before .before .loop .i) (c .before .before .loop .k) (c .before .loop-test .taken) (c .if1 .taken) }
 
-shared-slice-read-if2 : tie.Need-shared-slice-read-if2 Inv-loop μ-loop
-shared-slice-read-if2 c = search needs
-
-shared-slice-read-if2-2 : tie.Need-shared-slice-read-if2-2 Inv-loop μ-loop
-shared-slice-read-if2-2 c = search needs
-
 returns-2 : tie.Need-returns-2 Inv-loop μ-loop
 returns-2 c = record { says = λ q p K. c .before .before .before .before .before .loop .inv .3 q p K ∙ spell-not K (c .before .before .before .before .before .before .args .w .now) (c .before .before .before .before .before .before .args .s .now) (c .before .before .before .before .before .loop .i) (c .before .before .before .before .before .loop .k) (c .before .before .before .before .loop-test .taken) (c .before .before .before .if1 .left) (c .if2 .taken) }
-
-add-i : tie.Need-add-i Inv-loop μ-loop
-add-i c = search needs
-
-add-k : tie.Need-add-k Inv-loop μ-loop
-add-k c = search needs
-
-loop-less : tie.Need-loop-less Inv-loop μ-loop
-loop-less c = search needs
 
 loop-again : tie.Need-loop-again Inv-loop μ-loop
 loop-again c = (search needs, search needs, search needs, λ q p K. c .before .before .before .before .before .loop .inv .3 q p K ∙ spell-on K (c .before .before .before .before .before .before .args .w .now) (c .before .before .before .before .before .before .args .s .now) (c .before .before .before .before .before .loop .i) (c .before .before .before .before .before .loop .k) (c .before .before .before .before .loop-test .taken) (c .before .before .before .if1 .left) (c .if2 .left))
@@ -54,11 +39,11 @@ spell-spec =
     μ-loop
     loop-holds
     returns
-    shared-slice-read-if2
-    shared-slice-read-if2-2
+    (λ c. search needs)
+    (λ c. search needs)
     returns-2
-    add-i
-    add-k
-    loop-less
+    (λ c. search needs)
+    (λ c. search needs)
+    (λ c. search needs)
     loop-again
     returns-3)

@@ -7,9 +7,6 @@ use borrow.Author.Needs.{needs}
 use Rattle.models.proofs.goes.Statement.{statement}
 use Rattle.models.proofs.goes.Tie as tie
 
-enters-requires : tie.Need-enters-requires
-enters-requires c κs = search needs
-
 returns : tie.Need-returns
 returns c =
     let args = c .before .before .args in
@@ -22,4 +19,4 @@ returns-2 c =
     sym (ap (λ (b : Bool). b && entered (args .ends) (args .before) (args .state) (args .p)) (ne-eqb (args .here) (args .child) (c .if1 .left)))
 
 pub goes-spec : {M : Type 1} → statement M
-goes-spec = tie.close (tie.spec enters-requires returns returns-2)
+goes-spec = tie.close (tie.spec (λ c κs. search needs) returns returns-2)

@@ -4,13 +4,10 @@ use borrow.Author.Needs.{needs}
 use Rattle.models.proofs.in_choice.Statement.{statement}
 use Rattle.models.proofs.in_choice.Tie as tie
 
-either-requires : tie.Need-either-requires
-either-requires c κs = search needs
-
 returns : tie.Need-returns
 returns c k p q x y =
     let made = c .before .before .before .before in
     choice-ends (made .before .args .a) (made .before .args .b) k p q x y (made .either .result) (made .either .ensures)
 
 pub in-choice-spec : {M : Type 1} → statement M
-in-choice-spec = tie.close (tie.spec either-requires returns)
+in-choice-spec = tie.close (tie.spec (λ c κs. search needs) returns)

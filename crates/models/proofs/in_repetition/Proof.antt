@@ -4,13 +4,10 @@ use borrow.Author.Needs.{needs}
 use Rattle.models.proofs.in_repetition.Statement.{statement}
 use Rattle.models.proofs.in_repetition.Tie as tie
 
-either-requires : tie.Need-either-requires
-either-requires c κs = search needs
-
 returns : tie.Need-returns
 returns c k m p x =
     let args = c .before .args in
     repeated-ends (args .a) k m (args .absent) p (c .either .result) (c .either .ensures) x
 
 pub in-repetition-spec : {M : Type 1} → statement M
-in-repetition-spec = tie.close (tie.spec either-requires returns)
+in-repetition-spec = tie.close (tie.spec (λ c κs. search needs) returns)

@@ -4,15 +4,6 @@ use borrow.Author.Needs.{needs}
 use Rattle.models.proofs.in_sequence.Statement.{statement}
 use Rattle.models.proofs.in_sequence.Tie as tie
 
-joined-if-requires : tie.Need-joined-if-requires
-joined-if-requires c κs = search needs
-
-joined-if-requires-2 : tie.Need-joined-if-requires-2
-joined-if-requires-2 c κs = search needs
-
-both-requires : tie.Need-both-requires
-both-requires c κs = search needs
-
 returns : tie.Need-returns
 returns c k p q x y =
     let args = c .before .before .before .args in
@@ -21,4 +12,4 @@ returns c k p q x y =
 
 pub in-sequence-spec : {M : Type 1} → statement M
 in-sequence-spec =
-    tie.close (tie.spec joined-if-requires joined-if-requires-2 both-requires returns)
+    tie.close (tie.spec (λ c κs. search needs) (λ c κs. search needs) (λ c κs. search needs) returns)

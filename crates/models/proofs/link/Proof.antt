@@ -21,30 +21,6 @@ loop-holds c =
     let args = c .before .args in
     (omega arith, (refl, passed-first (LinkedAt (args .predecessors .now) (args .lasts) (args .firsts)) 0 (args .predecessors .now)))
 
-has-bit-requires : tie.Need-has-bit-requires Inv-loop μ-loop
-has-bit-requires c κs = search needs
-
-mul-joined-if : tie.Need-mul-joined-if Inv-loop μ-loop
-mul-joined-if c = search needs
-
-slice-read-joined-if : tie.Need-slice-read-joined-if Inv-loop μ-loop
-slice-read-joined-if c = search needs
-
-joined-if-requires : tie.Need-joined-if-requires Inv-loop μ-loop
-joined-if-requires c κs = search needs
-
-mul-predecessors : tie.Need-mul-predecessors Inv-loop μ-loop
-mul-predecessors c = search needs
-
-slice-write-predecessors : tie.Need-slice-write-predecessors Inv-loop μ-loop
-slice-write-predecessors c = search needs
-
-add-j : tie.Need-add-j Inv-loop μ-loop
-add-j c = search needs
-
-loop-less : tie.Need-loop-less Inv-loop μ-loop
-loop-less c = search needs
-
 loop-again : tie.Need-loop-again Inv-loop μ-loop
 loop-again c =
     let at = c .before .before .before .before .loop in
@@ -59,9 +35,6 @@ loop-again c =
       ),
     )
 
-same-length : tie.Need-same-length Inv-loop μ-loop
-same-length c = search needs
-
 returns : tie.Need-returns Inv-loop μ-loop
 returns c =
     let at = c .before .loop in
@@ -75,14 +48,14 @@ link-spec =
     Inv-loop
     μ-loop
     loop-holds
-    has-bit-requires
-    mul-joined-if
-    slice-read-joined-if
-    joined-if-requires
-    mul-predecessors
-    slice-write-predecessors
-    add-j
-    loop-less
+    (λ c κs. search needs)
+    (λ c. search needs)
+    (λ c. search needs)
+    (λ c κs. search needs)
+    (λ c. search needs)
+    (λ c. search needs)
+    (λ c. search needs)
+    (λ c. search needs)
     loop-again
-    same-length
+    (λ c. search needs)
     returns)

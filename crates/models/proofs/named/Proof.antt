@@ -4,11 +4,8 @@ use borrow.Author.Needs.{needs}
 use Rattle.models.proofs.named.Statement.{statement}
 use Rattle.models.proofs.named.Tie as tie
 
-with-bit-requires : tie.Need-with-bit-requires
-with-bit-requires c κs = search needs
-
 returns : tie.Need-returns
 returns c = named-ends (c .before .args .p) (c .with-bit .result) (c .with-bit .ensures)
 
 pub named-spec : {M : Type 1} → statement M
-named-spec = tie.close (tie.spec with-bit-requires returns)
+named-spec = tie.close (tie.spec (λ c κs. search needs) returns)

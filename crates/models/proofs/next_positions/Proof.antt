@@ -21,27 +21,6 @@ loop-holds c =
     let args = c .before .before .args in
     (omega arith, next-first (args .ends) (args .elements .now) (args .predecessors .now) (args .state) (args .child))
 
-shared-slice-read-goes : tie.Need-shared-slice-read-goes Inv-loop μ-loop
-shared-slice-read-goes c = search needs
-
-mul-goes : tie.Need-mul-goes Inv-loop μ-loop
-mul-goes c = search needs
-
-shared-slice-read-goes-2 : tie.Need-shared-slice-read-goes-2 Inv-loop μ-loop
-shared-slice-read-goes-2 c = search needs
-
-goes-requires : tie.Need-goes-requires Inv-loop μ-loop
-goes-requires c κs = search needs
-
-with-position-requires : tie.Need-with-position-requires Inv-loop μ-loop
-with-position-requires c κs = search needs
-
-add-p : tie.Need-add-p Inv-loop μ-loop
-add-p c = search needs
-
-loop-less : tie.Need-loop-less Inv-loop μ-loop
-loop-less c = search needs
-
 loop-again : tie.Need-loop-again Inv-loop μ-loop
 loop-again c =
     let at = c .before .before .before .before .before .loop in
@@ -65,12 +44,12 @@ next-positions-spec =
     Inv-loop
     μ-loop
     loop-holds
-    shared-slice-read-goes
-    mul-goes
-    shared-slice-read-goes-2
-    goes-requires
-    with-position-requires
-    add-p
-    loop-less
+    (λ c. search needs)
+    (λ c. search needs)
+    (λ c. search needs)
+    (λ c κs. search needs)
+    (λ c κs. search needs)
+    (λ c. search needs)
+    (λ c. search needs)
     loop-again
     returns)

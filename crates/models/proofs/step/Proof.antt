@@ -6,15 +6,6 @@ use borrow.Author.Needs.{needs}
 use Rattle.models.proofs.step.Statement.{statement}
 use Rattle.models.proofs.step.Tie as tie
 
-fewer-requires : tie.Need-fewer-requires
-fewer-requires c κs = search needs
-
-fewer-requires-2 : tie.Need-fewer-requires-2
-fewer-requires-2 c κs = search needs
-
-next-positions-requires : tie.Need-next-positions-requires
-next-positions-requires c κs = search needs
-
 returns : tie.Need-returns
 returns c =
     let args = c .before .before .before .before .before .args in
@@ -22,4 +13,4 @@ returns c =
     (c .before .fewer2 .ensures ∙ ap (min 64) (c .before .before .fewer .ensures)) (c .next-positions .ensures)
 
 pub step-spec : {M : Type 1} → statement M
-step-spec = tie.close (tie.spec fewer-requires fewer-requires-2 next-positions-requires returns)
+step-spec = tie.close (tie.spec (λ c κs. search needs) (λ c κs. search needs) (λ c κs. search needs) returns)

@@ -10,9 +10,6 @@ use borrow.Author.Needs.{needs}
 use Rattle.models.proofs.with_position.Statement.{statement}
 use Rattle.models.proofs.with_position.Tie as tie
 
-with-bit-requires : tie.Need-with-bit-requires
-with-bit-requires c κs = search needs
-
 returns : tie.Need-returns
 returns c j =
     let args = c .before .before .args in
@@ -26,4 +23,4 @@ returns-2 c j =
     ∙ ap (λ (b : Bool). hasBit (args .set) j || b) (and-false (eqb j (args .p))) ∙ or-false (hasBit (args .set) j))
 
 pub with-position-spec : {M : Type 1} → statement M
-with-position-spec = tie.close (tie.spec with-bit-requires returns returns-2)
+with-position-spec = tie.close (tie.spec (λ c κs. search needs) returns returns-2)

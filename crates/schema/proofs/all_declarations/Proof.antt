@@ -15,9 +15,6 @@ Inv-loop s names₀ uses₀ size i₀ d₀ n₀ over₀ unused₀ names uses i d
 abbrev μ-loop : tie.MeasureT-loop
 μ-loop s names₀ uses₀ size i₀ d₀ n₀ over₀ unused₀ names uses i d n over unused = length s - i
 
-skip-requires : tie.Need-skip-requires Inv-loop μ-loop
-skip-requires c κs = search needs
-
 loop-holds : tie.Need-loop-holds Inv-loop μ-loop
 loop-holds c = (all-start (c .skip .ensures) (c .before .before .before .before .pre .0) (c .before .before .before .before .pre .1), refl)
 
@@ -26,9 +23,6 @@ slice-aggregate-declaration c = let l = c .before .before .before .loop .inv .1 
 
 declaration-requires : tie.Need-declaration-requires Inv-loop μ-loop
 declaration-requires c κs = (c .before .before .loop-test .taken, c .before .before .before .loop .inv .0 .few-uses, c .before .before .before .loop .inv .0 .no-blank)
-
-enum-known-j : tie.Need-enum-known-j Inv-loop μ-loop
-enum-known-j c = search needs
 
 same-length : tie.Need-same-length Inv-loop μ-loop
 same-length c = let a = c .before .before .before .before .before .before .before .before .before .before .loop .inv .0 .room in
@@ -48,12 +42,6 @@ returns c =
     let at-loop-test = at-declaration .before .before .before in
     let at-loop = at-loop-test .before in
     record { says = all-fail (at-loop .loop .inv .0) (at-loop-test .loop-test .taken) (at-declaration .declaration .ensures) (c .before .j .given .1) }
-
-enum-known-p : tie.Need-enum-known-p Inv-loop μ-loop
-enum-known-p c = search needs
-
-note-requires : tie.Need-note-requires Inv-loop μ-loop
-note-requires c κs = search needs
 
 over-limit-requires : tie.Need-over-limit-requires Inv-loop μ-loop
 over-limit-requires c κs =
@@ -131,16 +119,16 @@ all-declarations-spec =
     (tie.spec
     Inv-loop
     μ-loop
-    skip-requires
+    (λ c κs. search needs)
     loop-holds
     slice-aggregate-declaration
     declaration-requires
-    enum-known-j
+    (λ c. search needs)
     same-length
     same-length-2
     returns
-    enum-known-p
-    note-requires
+    (λ c. search needs)
+    (λ c κs. search needs)
     over-limit-requires
     add-d
     skip-requires-2

@@ -4,21 +4,6 @@ use borrow.Author.Needs.{needs}
 use Rattle.schema.proofs.judge.Statement.{statement}
 use Rattle.schema.proofs.judge.Tie as tie
 
-slice-aggregate-all-declarations : tie.Need-slice-aggregate-all-declarations
-slice-aggregate-all-declarations c = search needs
-
-slice-aggregate-all-declarations-2 : tie.Need-slice-aggregate-all-declarations-2
-slice-aggregate-all-declarations-2 c = search needs
-
-all-declarations-requires : tie.Need-all-declarations-requires
-all-declarations-requires c κs = search needs
-
-enum-known-j : tie.Need-enum-known-j
-enum-known-j c = search needs
-
-enum-known-c : tie.Need-enum-known-c
-enum-known-c c = search needs
-
 returns : tie.Need-returns
 returns c =
     let at-all-declarations = c .before .before .before .before .before .before in
@@ -50,18 +35,15 @@ judge-names-requires c κs =
 returns-2 : tie.Need-returns-2
 returns-2 c = judge-departs (c .before .before .before .before .before .all-declarations .ensures) (c .before .before .before .before .before .before .before .before .before .pre) (c .before .j .given .1)
 
-returns-3 : tie.Need-returns-3
-returns-3 c = search needs
-
 pub judge-spec : {M : Type 1} → statement M
 judge-spec =
     tie.close
     (tie.spec
-    slice-aggregate-all-declarations
-    slice-aggregate-all-declarations-2
-    all-declarations-requires
-    enum-known-j
-    enum-known-c
+    (λ c. search needs)
+    (λ c. search needs)
+    (λ c κs. search needs)
+    (λ c. search needs)
+    (λ c. search needs)
     returns
     array-share-prefix-names
     slice-aggregate-judge-names
@@ -69,4 +51,4 @@ judge-spec =
     slice-aggregate-judge-names-2
     judge-names-requires
     returns-2
-    returns-3)
+    (λ c. search needs))

@@ -4,14 +4,8 @@ use borrow.Author.Needs.{needs}
 use Rattle.schema.proofs.judge_names.Statement.{statement}
 use Rattle.schema.proofs.judge_names.Tie as tie
 
-twice-requires : tie.Need-twice-requires
-twice-requires c κs = search needs
-
 returns : tie.Need-returns
 returns c = read-twice (c .before .before .before .before .before .pre) (c .before .twice .ensures) (c .if1 .taken)
-
-undeclared-requires : tie.Need-undeclared-requires
-undeclared-requires c κs = search needs
 
 returns-2 : tie.Need-returns-2
 returns-2 c = read-undeclared (c .before .before .before .before .before .before .before .pre) (c .before .before .before .twice .ensures) (c .before .before .if1 .left) (c .before .undeclared .ensures) (c .if2 .taken)
@@ -21,4 +15,4 @@ returns-3 c = read-accepted (c .before .before .before .before .before .before .
 
 pub judge-names-spec : {M : Type 1} → statement M
 judge-names-spec =
-    tie.close (tie.spec twice-requires returns undeclared-requires returns-2 returns-3)
+    tie.close (tie.spec (λ c κs. search needs) returns (λ c κs. search needs) returns-2 returns-3)

@@ -10,19 +10,13 @@ returns c = read-empty (c .before .before .args .text .now) (c .if1 .taken)
 returns-2 : tie.Need-returns-2
 returns-2 c = read-long (c .before .before .before .args .text .now) (c .if2 .taken)
 
-first-foreign-requires : tie.Need-first-foreign-requires
-first-foreign-requires c κs = search needs
-
 returns-3 : tie.Need-returns-3
 returns-3 c = read-foreign (c .before .before .before .before .before .args .text .now) (c .before .before .before .if1 .left) (c .before .before .if2 .left) (c .before .first-foreign .ensures) (c .if3 .taken)
 
 judge-requires : tie.Need-judge-requires
 judge-requires c κs = readable (c .before .before .before .before .before .args .text .now) (c .before .before .before .if1 .left) (c .before .before .if2 .left) (c .before .first-foreign .ensures) (c .if3 .left)
 
-returns-4 : tie.Need-returns-4
-returns-4 c = search needs
-
 pub judge-schema-spec : {M : Type 1} → statement M
 judge-schema-spec =
     tie.close
-    (tie.spec returns returns-2 first-foreign-requires returns-3 judge-requires returns-4)
+    (tie.spec returns returns-2 (λ c κs. search needs) returns-3 judge-requires (λ c. search needs))

@@ -13,15 +13,6 @@ returns c = sym (yes _ _ (lt-ltb (c .before .before .args .over) (c .before .bef
 returns-2 : tie.Need-returns-2
 returns-2 c = sym (no _ _ (le-ltb (c .before .before .before .args .over) (c .before .before .before .args .size) (c .before .if1 .left)) ∙ yes _ _ (le-leb 32 (c .before .before .before .args .d) (c .if2 .taken)))
 
-sub-if3 : tie.Need-sub-if3
-sub-if3 c = search needs
-
-add-cell : tie.Need-add-cell
-add-cell c = search needs
-
-cell-requires : tie.Need-cell-requires
-cell-requires c κs = search needs
-
 returns-3 : tie.Need-returns-3
 returns-3 c = c .cell .ensures ∙ sym (no _ _ (le-ltb (c .before .before .before .before .before .args .over) (c .before .before .before .before .before .args .size) (c .before .before .before .if1 .left)) ∙ no _ _ (lt-leb 32 (c .before .before .before .before .before .args .d) (c .before .before .if2 .left)) ∙ yes _ _ (lt-ltb 64 (c .before .before .before .before .before .args .m - c .before .before .before .before .before .args .n) (c .before .if3 .taken)))
 
@@ -30,4 +21,4 @@ returns-4 c = sym (no _ _ (le-ltb (c .before .before .before .before .args .over
 
 pub over-limit-spec : {M : Type 1} → statement M
 over-limit-spec =
-    tie.close (tie.spec returns returns-2 sub-if3 add-cell cell-requires returns-3 returns-4)
+    tie.close (tie.spec returns returns-2 (λ c. search needs) (λ c. search needs) (λ c κs. search needs) returns-3 returns-4)

@@ -22,18 +22,9 @@ abbrev μ-loop : tie.MeasureT-loop
 loop-holds : tie.Need-loop-holds Inv-loop μ-loop
 loop-holds c = (search needs, refl)
 
-mul-p : tie.Need-mul-p Inv-loop μ-loop
-mul-p c = search needs
-
-shared-slice-read-p : tie.Need-shared-slice-read-p Inv-loop μ-loop
-shared-slice-read-p c = search needs
-
 slice-aggregate-find : tie.Need-slice-aggregate-find Inv-loop μ-loop
 slice-aggregate-find c =
     sym (length-take-le (c .before .before .before .loop .i) (c .before .before .before .before .before .before .args .names .now) (omega arith))
-
-find-requires : tie.Need-find-requires Inv-loop μ-loop
-find-requires c κs = search needs
 
 returns : tie.Need-returns Inv-loop μ-loop
 returns c =
@@ -42,12 +33,6 @@ returns c =
     let h = c .before .before .before .before .loop-test .taken in
     sym (l .inv .1 ∙ twice-here (g .s .now) (g .names .now) (l .i) h
     (among-found (g .s .now) (g .names .now) _ (l .i) (getD (g .names .now) (l .i) 0) (omega arith) refl (c .before .find .ensures) (c .if1 .taken)))
-
-add-i : tie.Need-add-i Inv-loop μ-loop
-add-i c = search needs
-
-loop-less : tie.Need-loop-less Inv-loop μ-loop
-loop-less c = search needs
 
 loop-again : tie.Need-loop-again Inv-loop μ-loop
 loop-again c =
@@ -68,4 +53,4 @@ returns-2 c =
 pub twice-spec : {M : Type 1} → statement M
 twice-spec =
     tie.close
-    (tie.spec Inv-loop μ-loop loop-holds mul-p shared-slice-read-p slice-aggregate-find find-requires returns add-i loop-less loop-again returns-2)
+    (tie.spec Inv-loop μ-loop loop-holds (λ c. search needs) (λ c. search needs) slice-aggregate-find (λ c κs. search needs) returns (λ c. search needs) (λ c. search needs) loop-again returns-2)

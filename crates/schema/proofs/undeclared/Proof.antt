@@ -22,15 +22,6 @@ abbrev μ-loop : tie.MeasureT-loop
 loop-holds : tie.Need-loop-holds Inv-loop μ-loop
 loop-holds c = (search needs, refl)
 
-mul-p : tie.Need-mul-p Inv-loop μ-loop
-mul-p c = search needs
-
-shared-slice-read-p : tie.Need-shared-slice-read-p Inv-loop μ-loop
-shared-slice-read-p c = search needs
-
-find-requires : tie.Need-find-requires Inv-loop μ-loop
-find-requires c κs = search needs
-
 returns : tie.Need-returns Inv-loop μ-loop
 returns c =
     let l = c .before .before .before .before .loop in
@@ -39,12 +30,6 @@ returns c =
     sym (l .inv .1 ∙ missing-here (g .s .now) (namesBefore (g .s .now) (g .names .now) (length (g .names .now))) (g .uses .now) (l .i) h
     (among-none (g .s .now) (g .names .now) _ (length (g .names .now)) (getD (g .uses .now) (l .i) 0) (omega arith) (sym (take-length (g .names .now)))
     (c .before .find .ensures) (c .if1 .taken)))
-
-add-i : tie.Need-add-i Inv-loop μ-loop
-add-i c = search needs
-
-loop-less : tie.Need-loop-less Inv-loop μ-loop
-loop-less c = search needs
 
 loop-again : tie.Need-loop-again Inv-loop μ-loop
 loop-again c =
@@ -64,4 +49,4 @@ returns-2 c =
     sym (l .inv .1 ∙ missing-never (g .s .now) (namesBefore (g .s .now) (g .names .now) (length (g .names .now))) (g .uses .now) (l .i) (c .loop-test .left))
 
 pub undeclared-spec : {M : Type 1} → statement M
-undeclared-spec = tie.close (tie.spec Inv-loop μ-loop loop-holds mul-p shared-slice-read-p find-requires returns add-i loop-less loop-again returns-2)
+undeclared-spec = tie.close (tie.spec Inv-loop μ-loop loop-holds (λ c. search needs) (λ c. search needs) (λ c κs. search needs) returns (λ c. search needs) (λ c. search needs) loop-again returns-2)

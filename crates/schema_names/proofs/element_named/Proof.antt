@@ -10,15 +10,9 @@ use borrow.Author.Needs.{needs}
 use Rattle.schema_names.proofs.element_named.Statement.{statement}
 use Rattle.schema_names.proofs.element_named.Tie as tie
 
-past-name-requires : tie.Need-past-name-requires
-past-name-requires c κs = search needs
-
 returns : tie.Need-returns
 returns c = let g = c .before .before .before .before .before .args in
     sym (never-found (g .name .now) (λ e. c .if1 .taken (c .before .past-name .ensures ∙ zero-add _ ∙ e)) (g .text .now) 0 (g .names .now))
-
-find-requires : tie.Need-find-requires
-find-requires c κs = search needs
 
 returns-2 : tie.Need-returns-2
 returns-2 c = let g = c .before .before .before .before .before .before .before .args in
@@ -34,4 +28,4 @@ returns-3 c = let g = c .before .before .before .before .before .before .before 
 
 pub element-named-spec : {M : Type 1} → statement M
 element-named-spec =
-    tie.close (tie.spec past-name-requires returns find-requires returns-2 returns-3)
+    tie.close (tie.spec (λ c κs. search needs) returns (λ c κs. search needs) returns-2 returns-3)

@@ -19,17 +19,8 @@ Inv-loop s names t p end i₀ i =
 abbrev μ-loop : tie.MeasureT-loop
 μ-loop s names t p end i₀ i = length names - i
 
-past-name-requires : tie.Need-past-name-requires Inv-loop μ-loop
-past-name-requires c κs = search needs
-
 loop-holds : tie.Need-loop-holds Inv-loop μ-loop
 loop-holds c = (search needs, refl)
-
-mul-same-name : tie.Need-mul-same-name Inv-loop μ-loop
-mul-same-name c = search needs
-
-shared-slice-read-same-name : tie.Need-shared-slice-read-same-name Inv-loop μ-loop
-shared-slice-read-same-name c = search needs
 
 same-name-requires : tie.Need-same-name-requires Inv-loop μ-loop
 same-name-requires c κs = c .before .before .before .past-name .ensures
@@ -39,12 +30,6 @@ returns c = let l = c .before .before .before .before .loop in
     let g = c .before .before .before .before .before .before .before .before .before .args in
     sym (ap (valueOr (length (g .names .now))) (l .inv .1
     ∙ index-here (g .s .now) (g .names .now) (nameAt (g .t .now) (g .p)) (l .i) (c .before .before .before .loop-test .taken) (sym (c .before .same-name .ensures) ∙ c .if1 .taken)))
-
-add-i : tie.Need-add-i Inv-loop μ-loop
-add-i c = search needs
-
-loop-less : tie.Need-loop-less Inv-loop μ-loop
-loop-less c = search needs
 
 loop-again : tie.Need-loop-again Inv-loop μ-loop
 loop-again c = let l = c .before .before .before .before .loop in
@@ -65,13 +50,13 @@ find-spec =
     (tie.spec
     Inv-loop
     μ-loop
-    past-name-requires
+    (λ c κs. search needs)
     loop-holds
-    mul-same-name
-    shared-slice-read-same-name
+    (λ c. search needs)
+    (λ c. search needs)
     same-name-requires
     returns
-    add-i
-    loop-less
+    (λ c. search needs)
+    (λ c. search needs)
     loop-again
     returns-2)

@@ -9,12 +9,6 @@ use Rattle.schema_names.proofs.name_byte.Tie as tie
 returns : tie.Need-returns
 returns c = byte-none (c .before .before .args .s .now) (c .before .before .args .i) (λ l. absurd (omega arith))
 
-shared-slice-read-b : tie.Need-shared-slice-read-b
-shared-slice-read-b c = search needs
-
-continues-name-requires : tie.Need-continues-name-requires
-continues-name-requires c κs = search needs
-
 returns-2 : tie.Need-returns-2
 returns-2 c =
     let g = c .before .before .before .before .before .args in
@@ -26,4 +20,4 @@ returns-3 c =
     byte-none (g .s .now) (g .i) (λ _. sym (c .before .continues-name .ensures) ∙ c .if2 .left)
 
 pub name-byte-spec : {M : Type 1} → statement M
-name-byte-spec = tie.close (tie.spec returns shared-slice-read-b continues-name-requires returns-2 returns-3)
+name-byte-spec = tie.close (tie.spec returns (λ c. search needs) (λ c κs. search needs) returns-2 returns-3)

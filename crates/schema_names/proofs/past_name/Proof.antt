@@ -15,12 +15,6 @@ Inv-loop t p i₀ i = p + length (nameAt t p) ≡ i + length (nameAt t i)
 abbrev μ-loop : tie.MeasureT-loop
 μ-loop t p i₀ i = length t - i
 
-loop-holds : tie.Need-loop-holds Inv-loop μ-loop
-loop-holds c = refl
-
-name-byte-requires : tie.Need-name-byte-requires Inv-loop μ-loop
-name-byte-requires c κs = search needs
-
 add-i : tie.Need-add-i Inv-loop μ-loop
 add-i c = let h = byte-on (c .before .before .before .before .args .t .now) (c .before .before .loop .i) (c .before .name-byte .ensures) (c .if1 .taken) in
     search needs
@@ -40,4 +34,4 @@ returns c = let h = ap length (byte-over (c .before .before .before .before .arg
 pub past-name-spec : {M : Type 1} → statement M
 past-name-spec =
     tie.close
-    (tie.spec Inv-loop μ-loop loop-holds name-byte-requires add-i loop-less loop-again returns)
+    (tie.spec Inv-loop μ-loop (λ c. refl) (λ c κs. search needs) add-i loop-less loop-again returns)

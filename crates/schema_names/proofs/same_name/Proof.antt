@@ -30,9 +30,6 @@ shared-slice-read-if2 c = let z = c .before .before .before .loop .inv .0 in
     let h = name-goes-on (c .before .before .before .before .before .before .args .t .now) (c .before .before .before .loop .i) (c .before .before .before .before .before .before .args .s .now) (c .before .before .before .loop .j) (omega arith) .0 in
     search needs
 
-shared-slice-read-if2-2 : tie.Need-shared-slice-read-if2-2 Inv-loop μ-loop
-shared-slice-read-if2-2 c = search needs
-
 returns-2 : tie.Need-returns-2 Inv-loop μ-loop
 returns-2 c = let l = c .before .before .before .before .before .loop in
     let z = l .inv .0 in
@@ -43,20 +40,11 @@ add-i c = let z = c .before .before .before .before .before .loop .inv .0 in
     let h = name-goes-on (c .before .before .before .before .before .before .before .before .args .t .now) (c .before .before .before .before .before .loop .i) (c .before .before .before .before .before .before .before .before .args .s .now) (c .before .before .before .before .before .loop .j) (omega arith) .0 in
     search needs
 
-add-j : tie.Need-add-j Inv-loop μ-loop
-add-j c = search needs
-
-loop-less : tie.Need-loop-less Inv-loop μ-loop
-loop-less c = search needs
-
 loop-again : tie.Need-loop-again Inv-loop μ-loop
 loop-again c = let l = c .before .before .before .before .before .loop in
     let z = l .inv .0 in
     let h = name-goes-on (c .before .before .before .before .before .before .before .before .args .t .now) (l .i) (c .before .before .before .before .before .before .before .before .args .s .now) (l .j) (omega arith) .1 in
     (omega arith, l .inv .1 ∙ names-agree (c .before .before .before .before .before .before .before .before .args .t .now) (l .i) (c .before .before .before .before .before .before .before .before .args .s .now) (l .j) (omega arith) (c .before .before .before .if1 .left) (c .if2 .left))
-
-name-byte-requires : tie.Need-name-byte-requires Inv-loop μ-loop
-name-byte-requires c κs = search needs
 
 returns-3 : tie.Need-returns-3 Inv-loop μ-loop
 returns-3 c = let l = c .before .before .loop in
@@ -72,11 +60,11 @@ same-name-spec =
     loop-holds
     returns
     shared-slice-read-if2
-    shared-slice-read-if2-2
+    (λ c. search needs)
     returns-2
     add-i
-    add-j
-    loop-less
+    (λ c. search needs)
+    (λ c. search needs)
     loop-again
-    name-byte-requires
+    (λ c κs. search needs)
     returns-3)

@@ -19,30 +19,12 @@ slice-aggregate-read-schema c =
     let start = c .before .before .before in
     let h : length (start .args .schema .bytes) ≡ 8192 = search needs in sym (length-take-le (start .args .schema .len) (start .args .schema .bytes) (omega arith))
 
-read-schema-requires : tie.Need-read-schema-requires
-read-schema-requires c κs = search needs
-
-enum-told : tie.Need-enum-told
-enum-told c = search needs
-
-enum-told-2 : tie.Need-enum-told-2
-enum-told-2 c = search needs
-
 returns-2 : tie.Need-returns-2
 returns-2 c =
     let at-enum-told2 = c .before .before .before .before in
     let at-read-schema = at-enum-told2 .before .before in
     let start = at-read-schema .before .before .before .before in
     sym (record-size (start .args .schema .bytes) (start .args .schema .len) (at-read-schema .read-schema .ensures) (at-enum-told2 .enum-told2 .given .1) (c .if2 .taken))
-
-slice-aggregate-same-cells : tie.Need-slice-aggregate-same-cells
-slice-aggregate-same-cells c = search needs
-
-slice-aggregate-same-cells-2 : tie.Need-slice-aggregate-same-cells-2
-slice-aggregate-same-cells-2 c = search needs
-
-same-cells-requires : tie.Need-same-cells-requires
-same-cells-requires c κs = search needs
 
 returns-3 : tie.Need-returns-3
 returns-3 c =
@@ -59,4 +41,4 @@ returns-4 c =
     record-cells (start .args .schema .bytes) (start .args .schema .len) (at-read-schema .read-schema .ensures) (at-enum-told2 .enum-told2 .given .1) (at-if1 .if1 .left) (at-if2 .if2 .left) (c .same-cells .ensures)
 
 pub is-schema-record-spec : {M : Type 1} → statement M
-is-schema-record-spec = tie.close (tie.spec returns array-share-prefix-bytes slice-aggregate-read-schema read-schema-requires enum-told enum-told-2 returns-2 slice-aggregate-same-cells slice-aggregate-same-cells-2 same-cells-requires returns-3 returns-4)
+is-schema-record-spec = tie.close (tie.spec returns array-share-prefix-bytes slice-aggregate-read-schema (λ c κs. search needs) (λ c. search needs) (λ c. search needs) returns-2 (λ c. search needs) (λ c. search needs) (λ c κs. search needs) returns-3 returns-4)

@@ -21,20 +21,8 @@ returns c = sym (cells-sizes (c .before .args .a .now) (c .before .args .b .now)
 loop-holds : tie.Need-loop-holds Inv-loop μ-loop
 loop-holds c = (search needs, refl)
 
-shared-slice-read-if2 : tie.Need-shared-slice-read-if2 Inv-loop μ-loop
-shared-slice-read-if2 c = search needs
-
-shared-slice-read-if2-2 : tie.Need-shared-slice-read-if2-2 Inv-loop μ-loop
-shared-slice-read-if2-2 c = search needs
-
 returns-2 : tie.Need-returns-2 Inv-loop μ-loop
 returns-2 c = let e = c .before .before .before .before .before .if1 .left in sym (c .before .before .before .before .loop .inv .1 ∙ cells-differ (c .before .before .before .before .before .before .args .a .now) (c .before .before .before .before .before .before .args .b .now) (c .before .before .before .before .loop .i) (c .before .before .before .loop-test .taken) (omega arith) (c .if2 .taken))
-
-add-i : tie.Need-add-i Inv-loop μ-loop
-add-i c = search needs
-
-loop-less : tie.Need-loop-less Inv-loop μ-loop
-loop-less c = search needs
 
 loop-again : tie.Need-loop-again Inv-loop μ-loop
 loop-again c = let e = c .before .before .before .before .before .if1 .left in (search needs, c .before .before .before .before .loop .inv .1 ∙ cells-next (c .before .before .before .before .before .before .args .a .now) (c .before .before .before .before .before .before .args .b .now) (c .before .before .before .before .loop .i) (c .before .before .before .loop-test .taken) (omega arith) (c .if2 .left))
@@ -43,4 +31,4 @@ returns-3 : tie.Need-returns-3 Inv-loop μ-loop
 returns-3 c = let e = c .before .before .if1 .left in sym (c .before .loop .inv .1 ∙ cells-ended (c .before .before .before .args .a .now) (c .before .before .before .args .b .now) (c .before .loop .i) (c .loop-test .left) (omega arith))
 
 pub same-cells-spec : {M : Type 1} → statement M
-same-cells-spec = tie.close (tie.spec Inv-loop μ-loop returns loop-holds shared-slice-read-if2 shared-slice-read-if2-2 returns-2 add-i loop-less loop-again returns-3)
+same-cells-spec = tie.close (tie.spec Inv-loop μ-loop returns loop-holds (λ c. search needs) (λ c. search needs) returns-2 (λ c. search needs) (λ c. search needs) loop-again returns-3)

@@ -16,12 +16,6 @@ abbrev μ-loop : tie.MeasureT-loop
 loop-holds : tie.Need-loop-holds Inv-loop μ-loop
 loop-holds c = written-start (c .before .before .args .s .now) (c .before .before .args .out .now)
 
-shared-slice-read-normal-step : tie.Need-shared-slice-read-normal-step Inv-loop μ-loop
-shared-slice-read-normal-step c = search needs
-
-normal-step-requires : tie.Need-normal-step-requires Inv-loop μ-loop
-normal-step-requires c κs = search needs
-
 store-requires : tie.Need-store-requires Inv-loop μ-loop
 store-requires c κs =
     let a = c .before .before .before .before .loop .inv .few in
@@ -29,12 +23,6 @@ store-requires c κs =
     let e = c .before .before .before .before .before .before .before .pre in
     let l = c .before .before .before .loop-test .taken in
     omega arith
-
-add-i : tie.Need-add-i Inv-loop μ-loop
-add-i c = search needs
-
-loop-less : tie.Need-loop-less Inv-loop μ-loop
-loop-less c = search needs
 
 loop-again : tie.Need-loop-again Inv-loop μ-loop
 loop-again c = written-next (c .before .before .before .before .before .before .before .loop .inv) (c .before .before .before .before .before .before .loop-test .taken) (c .before .before .before .before .before .before .before .before .before .before .pre) (c .before .before .before .before .normal-step .ensures) (c .before .before .store .ensures)
@@ -52,11 +40,11 @@ write-normal-spec =
     Inv-loop
     μ-loop
     loop-holds
-    shared-slice-read-normal-step
-    normal-step-requires
+    (λ c. search needs)
+    (λ c κs. search needs)
     store-requires
-    add-i
-    loop-less
+    (λ c. search needs)
+    (λ c. search needs)
     loop-again
     same-length
     returns)

@@ -22,12 +22,6 @@ abbrev μ-loop : tie.MeasureT-loop
 μ-loop s names kinds₀ firsts₀ lasts₀ nullables₀ elements₀ predecessors₀ holds₀ at₀ d₀ kinds firsts lasts nullables elements predecessors holds at d =
     length names - d
 
-empty-requires : tie.Need-empty-requires Inv-loop μ-loop
-empty-requires c κs = search needs
-
-skip-requires : tie.Need-skip-requires Inv-loop μ-loop
-skip-requires c κs = search needs
-
 loop-holds : tie.Need-loop-holds Inv-loop μ-loop
 loop-holds c = (
   omega arith,
@@ -35,33 +29,6 @@ loop-holds c = (
   reached-first (c .before .before .before .before .pre) (c .skip .ensures),
   filled-first (schemaIn (c .before .before .before .before .args .s .now)) (c .before .empty .result) (c .before .empty .ensures),
 )
-
-mul-a : tie.Need-mul-a Inv-loop μ-loop
-mul-a c = search needs
-
-add-b : tie.Need-add-b Inv-loop μ-loop
-add-b c = search needs
-
-sub-element-row : tie.Need-sub-element-row Inv-loop μ-loop
-sub-element-row c = search needs
-
-part-elements-start : tie.Need-part-elements-start Inv-loop μ-loop
-part-elements-start c = search needs
-
-part-elements-end : tie.Need-part-elements-end Inv-loop μ-loop
-part-elements-end c = search needs
-
-mul-predecessors : tie.Need-mul-predecessors Inv-loop μ-loop
-mul-predecessors c = search needs
-
-sub-element-row-2 : tie.Need-sub-element-row-2 Inv-loop μ-loop
-sub-element-row-2 c = search needs
-
-part-predecessors-start : tie.Need-part-predecessors-start Inv-loop μ-loop
-part-predecessors-start c = search needs
-
-part-predecessors-end : tie.Need-part-predecessors-end Inv-loop μ-loop
-part-predecessors-end c = search needs
 
 element-row-requires : tie.Need-element-row-requires Inv-loop μ-loop
 element-row-requires c κs =
@@ -73,36 +40,6 @@ element-row-requires c κs =
       lent-long (at .elements) (at .d) (omega arith),
       lent (at .predecessors) (at .d) ∙ filled .clear (at .d) (omega arith) (omega arith),
     )
-
-array-write-kinds : tie.Need-array-write-kinds Inv-loop μ-loop
-array-write-kinds c = search needs
-
-mul-firsts : tie.Need-mul-firsts Inv-loop μ-loop
-mul-firsts c = search needs
-
-array-write-firsts : tie.Need-array-write-firsts Inv-loop μ-loop
-array-write-firsts c = search needs
-
-mul-lasts : tie.Need-mul-lasts Inv-loop μ-loop
-mul-lasts c = search needs
-
-array-write-lasts : tie.Need-array-write-lasts Inv-loop μ-loop
-array-write-lasts c = search needs
-
-array-write-nullables : tie.Need-array-write-nullables Inv-loop μ-loop
-array-write-nullables c = search needs
-
-mul-holds : tie.Need-mul-holds Inv-loop μ-loop
-mul-holds c = search needs
-
-array-set-from-holds : tie.Need-array-set-from-holds Inv-loop μ-loop
-array-set-from-holds c = search needs
-
-add-d : tie.Need-add-d Inv-loop μ-loop
-add-d c = search needs
-
-loop-less : tie.Need-loop-less Inv-loop μ-loop
-loop-less c = search needs
 
 loop-again : tie.Need-loop-again Inv-loop μ-loop
 loop-again c =
@@ -138,28 +75,28 @@ all-rows-spec =
     (tie.spec
     Inv-loop
     μ-loop
-    empty-requires
-    skip-requires
+    (λ c κs. search needs)
+    (λ c κs. search needs)
     loop-holds
-    mul-a
-    add-b
-    sub-element-row
-    part-elements-start
-    part-elements-end
-    mul-predecessors
-    sub-element-row-2
-    part-predecessors-start
-    part-predecessors-end
+    (λ c. search needs)
+    (λ c. search needs)
+    (λ c. search needs)
+    (λ c. search needs)
+    (λ c. search needs)
+    (λ c. search needs)
+    (λ c. search needs)
+    (λ c. search needs)
+    (λ c. search needs)
     element-row-requires
-    array-write-kinds
-    mul-firsts
-    array-write-firsts
-    mul-lasts
-    array-write-lasts
-    array-write-nullables
-    mul-holds
-    array-set-from-holds
-    add-d
-    loop-less
+    (λ c. search needs)
+    (λ c. search needs)
+    (λ c. search needs)
+    (λ c. search needs)
+    (λ c. search needs)
+    (λ c. search needs)
+    (λ c. search needs)
+    (λ c. search needs)
+    (λ c. search needs)
+    (λ c. search needs)
     loop-again
     returns)

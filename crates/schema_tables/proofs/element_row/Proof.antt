@@ -8,16 +8,10 @@ use Rattle.schema_tables.proofs.Rowing.{row-fails, row-room, row-uses, 
 use Rattle.schema_tables.proofs.element_row.Statement.{statement}
 use Rattle.schema_tables.proofs.element_row.Tie as tie
 
-slice-aggregate-declaration : tie.Need-slice-aggregate-declaration
-slice-aggregate-declaration c = search needs
-
 declaration-requires : tie.Need-declaration-requires
 declaration-requires c κs =
     let pre = c .before .before .before .before .before .before .pre in
     (reached-inside (pre .0) (pre .1), omega arith, pre .0 .no-blank)
-
-enum-known-p : tie.Need-enum-known-p
-enum-known-p c = search needs
 
 array-share-prefix-uses : tie.Need-array-share-prefix-uses
 array-share-prefix-uses c =
@@ -41,9 +35,6 @@ resolve-requires c κs =
     let l = start .pre .2 in
     (omega arith, omega arith)
 
-kind-of-requires : tie.Need-kind-of-requires
-kind-of-requires c κs = search needs
-
 slice-reshare-prefix-held : tie.Need-slice-reshare-prefix-held
 slice-reshare-prefix-held c =
     let at-resolve = c .before .before .before in
@@ -60,33 +51,12 @@ slice-aggregate-held c =
     let start = at-declaration .before .before .before .before .before .before .before in
     row-cells (start .pre .0) (at-declaration .declaration .ensures) (at-p .p .given .1) (length-replicate {A = ℕ} 64 0) (start .args .elements .now) (at-resolve .resolve .last .1 .1 .1 .0) (start .pre .2) (at-resolve .resolve .ensures) .1
 
-held-requires : tie.Need-held-requires
-held-requires c κs = search needs
-
 skip-requires : tie.Need-skip-requires
 skip-requires c κs =
     let at-p = c .before .before .before .before .before .before .before .before .before in
     let at-declaration = at-p .before .before .before .before .before in
     let start = at-declaration .before .before .before .before .before .before .before in
     row-high (start .pre .0) (at-declaration .declaration .ensures) (at-p .p .given .1) (length-replicate {A = ℕ} 64 0)
-
-row-of-requires : tie.Need-row-of-requires
-row-of-requires c κs = search needs
-
-enum-told : tie.Need-enum-told
-enum-told c = search needs
-
-empty-requires : tie.Need-empty-requires
-empty-requires c κs = search needs
-
-row-of-requires-2 : tie.Need-row-of-requires-2
-row-of-requires-2 c κs = search needs
-
-same-length : tie.Need-same-length
-same-length c = search needs
-
-same-length-2 : tie.Need-same-length-2
-same-length-2 c = search needs
 
 returns : tie.Need-returns
 returns c =
@@ -96,9 +66,6 @@ returns c =
     let at-declaration = at-p .before .before .before .before .before in
     let start = at-declaration .before .before .before .before .before .before .before in
     row-made (start .pre .0) (at-declaration .declaration .ensures) (at-p .p .given .1) (length-replicate {A = ℕ} 64 0) (start .args .elements .now) (at-resolve .resolve .last .1 .1 .1 .0) (start .pre .2) (at-resolve .resolve .ensures) (start .pre .1) (start .pre .3) (at-kind-of .kind-of .ensures) (c .before .before .held .ensures) (c .before .skip .ensures) (c .row-of .ensures)
-
-same-length-3 : tie.Need-same-length-3
-same-length-3 c = search needs
 
 returns-2 : tie.Need-returns-2
 returns-2 c =
@@ -110,23 +77,23 @@ pub element-row-spec : {M : Type 1} → statement M
 element-row-spec =
     tie.close
     (tie.spec
-    slice-aggregate-declaration
+    (λ c. search needs)
     declaration-requires
-    enum-known-p
+    (λ c. search needs)
     array-share-prefix-uses
     slice-aggregate-resolve
     resolve-requires
-    kind-of-requires
+    (λ c κs. search needs)
     slice-reshare-prefix-held
     slice-aggregate-held
-    held-requires
+    (λ c κs. search needs)
     skip-requires
-    row-of-requires
-    enum-told
-    empty-requires
-    row-of-requires-2
-    same-length
-    same-length-2
+    (λ c κs. search needs)
+    (λ c. search needs)
+    (λ c κs. search needs)
+    (λ c κs. search needs)
+    (λ c. search needs)
+    (λ c. search needs)
     returns
-    same-length-3
+    (λ c. search needs)
     returns-2)

@@ -5,12 +5,6 @@ use Rattle.schema_tables.proofs.Holding.{held-text, held-none}
 use Rattle.schema_tables.proofs.held.Statement.{statement}
 use Rattle.schema_tables.proofs.held.Tie as tie
 
-set-of-requires : tie.Need-set-of-requires
-set-of-requires c κs = search needs
-
-insert-text-requires : tie.Need-insert-text-requires
-insert-text-requires c κs = search needs
-
 returns : tie.Need-returns
 returns c =
     let args = c .before .before .before .before .args in
@@ -25,4 +19,4 @@ returns-2 c =
     held-none (args .a) (args .kind) (args .elements .now) (made .result) (made .ensures) (ne-eqb (args .kind) 1 (c .if1 .left))
 
 pub held-spec : {M : Type 1} → statement M
-held-spec = tie.close (tie.spec set-of-requires insert-text-requires returns returns-2)
+held-spec = tie.close (tie.spec (λ c κs. search needs) (λ c κs. search needs) returns returns-2)

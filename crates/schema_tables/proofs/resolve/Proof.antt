@@ -16,30 +16,12 @@ abbrev μ-loop : tie.MeasureT-loop
 loop-holds : tie.Need-loop-holds Inv-loop μ-loop
 loop-holds c = (refl, refl)
 
-mul-find : tie.Need-mul-find Inv-loop μ-loop
-mul-find c = search needs
-
-shared-slice-read-find : tie.Need-shared-slice-read-find Inv-loop μ-loop
-shared-slice-read-find c = search needs
-
-find-requires : tie.Need-find-requires Inv-loop μ-loop
-find-requires c κs = search needs
-
 cast-elements : tie.Need-cast-elements Inv-loop μ-loop
 cast-elements c =
     let args = c .before .before .before .before .before .before .before .before .args in
     let most = element-most (args .s .now) (args .names .now) (getD (args .uses .now) (c .before .before .before .loop .i) 0) in
     let same = c .find .ensures in
     search needs
-
-slice-write-elements : tie.Need-slice-write-elements Inv-loop μ-loop
-slice-write-elements c = search needs
-
-add-i : tie.Need-add-i Inv-loop μ-loop
-add-i c = search needs
-
-loop-less : tie.Need-loop-less Inv-loop μ-loop
-loop-less c = search needs
 
 loop-again : tie.Need-loop-again Inv-loop μ-loop
 loop-again c =
@@ -49,9 +31,6 @@ loop-again c =
       noting-next (args .s .now) (args .names .now) (args .elements .now) (args .uses .now) (at .i) (at .elements) (c .find .result) (c .before .before .loop-test .taken)
           (c .find .ensures) (at .inv .1),
     )
-
-same-length : tie.Need-same-length Inv-loop μ-loop
-same-length c = search needs
 
 returns : tie.Need-returns Inv-loop μ-loop
 returns c =
@@ -66,13 +45,13 @@ resolve-spec =
     Inv-loop
     μ-loop
     loop-holds
-    mul-find
-    shared-slice-read-find
-    find-requires
+    (λ c. search needs)
+    (λ c. search needs)
+    (λ c κs. search needs)
     cast-elements
-    slice-write-elements
-    add-i
-    loop-less
+    (λ c. search needs)
+    (λ c. search needs)
+    (λ c. search needs)
     loop-again
-    same-length
+    (λ c. search needs)
     returns)

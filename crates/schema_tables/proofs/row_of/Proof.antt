@@ -6,16 +6,10 @@ use Rattle.models.specs.declared.Ends.{Ends}
 use Rattle.schema_tables.proofs.row_of.Statement.{statement}
 use Rattle.schema_tables.proofs.row_of.Tie as tie
 
-ends-of-requires : tie.Need-ends-of-requires
-ends-of-requires c κs = search needs
-
-kind-of-requires : tie.Need-kind-of-requires
-kind-of-requires c κs = search needs
-
 returns : tie.Need-returns
 returns c =
     let args = c .before .before .args in
     ap₂ (λ (k : ℕ) (e : Ends). record { next = args .next; kind = k; first = e .first; last = e .last; nullable = e .nullable; holds = args .«holds» }) (c .kind-of .ensures) (c .before .ends-of .ensures)
 
 pub row-of-spec : {M : Type 1} → statement M
-row-of-spec = tie.close (tie.spec ends-of-requires kind-of-requires returns)
+row-of-spec = tie.close (tie.spec (λ c κs. search needs) (λ c κs. search needs) returns)

@@ -17,26 +17,8 @@ Inv-loop elements set₀ i₀ set i = (n : Name) → (member set n || isOneOf (d
 abbrev μ-loop : tie.MeasureT-loop
 μ-loop elements set₀ i₀ set i = length elements - i
 
-empty-requires : tie.Need-empty-requires Inv-loop μ-loop
-empty-requires c κs = search needs
-
 loop-holds : tie.Need-loop-holds Inv-loop μ-loop
 loop-holds c = among-first (c .before .before .args .elements .now) (c .empty .result) (c .empty .ensures)
-
-shared-slice-read-wide : tie.Need-shared-slice-read-wide Inv-loop μ-loop
-shared-slice-read-wide c = search needs
-
-wide-requires : tie.Need-wide-requires Inv-loop μ-loop
-wide-requires c κs = search needs
-
-insert-element-requires : tie.Need-insert-element-requires Inv-loop μ-loop
-insert-element-requires c κs = search needs
-
-add-i : tie.Need-add-i Inv-loop μ-loop
-add-i c = search needs
-
-loop-less : tie.Need-loop-less Inv-loop μ-loop
-loop-less c = search needs
 
 loop-again : tie.Need-loop-again Inv-loop μ-loop
 loop-again c =
@@ -54,12 +36,12 @@ set-of-spec =
     (tie.spec
     Inv-loop
     μ-loop
-    empty-requires
+    (λ c κs. search needs)
     loop-holds
-    shared-slice-read-wide
-    wide-requires
-    insert-element-requires
-    add-i
-    loop-less
+    (λ c. search needs)
+    (λ c κs. search needs)
+    (λ c κs. search needs)
+    (λ c. search needs)
+    (λ c. search needs)
     loop-again
     returns)

@@ -9,19 +9,10 @@ use borrow.Author.Needs.{needs}
 use Rattle.text.proofs.continues_name.Statement.{statement}
 use Rattle.text.proofs.continues_name.Tie as tie
 
-class-of-requires : tie.Need-class-of-requires
-class-of-requires c κs = search needs
-
-joins-name-requires : tie.Need-joins-name-requires
-joins-name-requires c κs = search needs
-
-in-name-requires : tie.Need-in-name-requires
-in-name-requires c κs = search needs
-
 returns : tie.Need-returns
 unfolding classOf
 returns c = c .in-name .ensures ∙ ap (inName (meant (c .before .before .class-of .result)) true) (c .before .joins-name .ensures) ∙ by-class (λ k x. inName k true (joinsName x)) continuesName (c .before .before .before .args .b) tt (omega arith) (c .before .before .class-of .ensures)
 
 pub continues-name-spec : {M : Type 1} → statement M
 continues-name-spec =
-    tie.close (tie.spec class-of-requires joins-name-requires in-name-requires returns)
+    tie.close (tie.spec (λ c κs. search needs) (λ c κs. search needs) (λ c κs. search needs) returns)

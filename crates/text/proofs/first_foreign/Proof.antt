@@ -40,23 +40,11 @@ none-left s i h = ap (λ (l : List ℕ). valueOr (length s) (first (placesFrom i
 loop-holds : tie.Need-loop-holds Inv-loop μ-loop
 loop-holds c = (search needs, refl)
 
-shared-slice-read-is-foreign : tie.Need-shared-slice-read-is-foreign Inv-loop μ-loop
-shared-slice-read-is-foreign c = search needs
-
-is-foreign-requires : tie.Need-is-foreign-requires Inv-loop μ-loop
-is-foreign-requires c κs = search needs
-
 returns : tie.Need-returns Inv-loop μ-loop
 returns c =
     let b = c .before .before .before in
     let s = b .before .before .before .args .text .now in
     sym (b .before .loop .inv .1 ∙ found s (b .before .loop .i) (b .loop-test .taken) (c .before .is-foreign .ensures) (c .if1 .taken))
-
-add-i : tie.Need-add-i Inv-loop μ-loop
-add-i c = search needs
-
-loop-less : tie.Need-loop-less Inv-loop μ-loop
-loop-less c = search needs
 
 loop-again : tie.Need-loop-again Inv-loop μ-loop
 loop-again c =
@@ -72,4 +60,4 @@ returns-2 c =
     h ∙ sym (c .before .loop .inv .1 ∙ none-left s i (c .loop-test .left))
 
 pub first-foreign-spec : {M : Type 1} → statement M
-first-foreign-spec = tie.close (tie.spec Inv-loop μ-loop loop-holds shared-slice-read-is-foreign is-foreign-requires returns add-i loop-less loop-again returns-2)
+first-foreign-spec = tie.close (tie.spec Inv-loop μ-loop loop-holds (λ c. search needs) (λ c κs. search needs) returns (λ c. search needs) (λ c. search needs) loop-again returns-2)

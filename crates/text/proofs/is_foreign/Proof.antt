@@ -8,15 +8,9 @@ use borrow.Author.Needs.{needs}
 use Rattle.text.proofs.is_foreign.Statement.{statement}
 use Rattle.text.proofs.is_foreign.Tie as tie
 
-class-of-requires : tie.Need-class-of-requires
-class-of-requires c κs = search needs
-
-foreign-requires : tie.Need-foreign-requires
-foreign-requires c κs = search needs
-
 returns : tie.Need-returns
 unfolding classOf
 returns c = c .foreign .ensures ∙ by-class (λ k x. isForeignClass k) isForeign (c .before .before .args .b) tt (omega arith) (c .before .class-of .ensures)
 
 pub is-foreign-spec : {M : Type 1} → statement M
-is-foreign-spec = tie.close (tie.spec class-of-requires foreign-requires returns)
+is-foreign-spec = tie.close (tie.spec (λ c κs. search needs) (λ c κs. search needs) returns)

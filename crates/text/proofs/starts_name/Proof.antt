@@ -10,15 +10,9 @@ use borrow.Author.Needs.{needs}
 use Rattle.text.proofs.starts_name.Statement.{statement}
 use Rattle.text.proofs.starts_name.Tie as tie
 
-class-of-requires : tie.Need-class-of-requires
-class-of-requires c κs = search needs
-
-in-name-requires : tie.Need-in-name-requires
-in-name-requires c κs = search needs
-
 returns : tie.Need-returns
 unfolding classOf
 returns c = c .in-name .ensures ∙ by-class (λ k x. inName k false (eqb x 95)) startsName (c .before .before .args .b) tt (omega arith) (c .before .class-of .ensures)
 
 pub starts-name-spec : {M : Type 1} → statement M
-starts-name-spec = tie.close (tie.spec class-of-requires in-name-requires returns)
+starts-name-spec = tie.close (tie.spec (λ c κs. search needs) (λ c κs. search needs) returns)

@@ -6,14 +6,8 @@ use Rattle.words.specs.Bits.{bit-past}
 use Rattle.words.proofs.has_bit.Statement.{statement}
 use Rattle.words.proofs.has_bit.Tie as tie
 
-shr-result : tie.Need-shr-result
-shr-result c = search needs
-
-returns : tie.Need-returns
-returns c = search needs
-
 returns-2 : tie.Need-returns-2
 returns-2 c = sym (bit-past 64 (c .before .args .word) (c .before .args .i) (omega arith) (omega arith))
 
 pub has-bit-spec : {M : Type 1} → statement M
-has-bit-spec = tie.close (tie.spec shr-result returns returns-2)
+has-bit-spec = tie.close (tie.spec (λ c. search needs) (λ c. search needs) returns-2)

@@ -24,9 +24,6 @@ added a i j h =
 kept : (b : Bool) (j i : ℕ) → 64 ≤ i → b ≡ (b || (eqb j i && ltb i 64))
 kept b j i h = sym (ap (λ (t : Bool). b || (eqb j i && t)) (le-ltb i 64 h) ∙ ap (λ (t : Bool). b || t) (and-false (eqb j i)) ∙ or-false b)
 
-shl-result : tie.Need-shl-result
-shl-result c = search needs
-
 returns : tie.Need-returns
 returns c j =
     let i = c .before .args .i in
@@ -36,4 +33,4 @@ returns-2 : tie.Need-returns-2
 returns-2 c j = kept (hasBit (c .before .args .word) j) j (c .before .args .i) (c .if1 .left)
 
 pub with-bit-spec : {M : Type 1} → statement M
-with-bit-spec = tie.close (tie.spec shl-result returns returns-2)
+with-bit-spec = tie.close (tie.spec (λ c. search needs) returns returns-2)

@@ -12,12 +12,6 @@ use Rattle.names.proofs.NameSet.meets.Tie as tie
 texts : NameSet → NameSet → Bool
 texts s t = anyBelow 64 (λ e. member s (text e) && member t (text e))
 
-meets-requires : tie.Need-meets-requires
-meets-requires c κs = search needs
-
-meets-requires-2 : tie.Need-meets-requires-2
-meets-requires-2 c κs = search needs
-
 returns : tie.Need-returns
 unfolding overlap texts
 returns c =
@@ -31,4 +25,4 @@ returns-2 c =
     c .meets2 .ensures ∙ sym (ap (λ (b : Bool). b || texts (start .self) (start .other)) (sym (c .before .before .meets .ensures) ∙ c .before .if1 .left))
 
 pub meets-spec : {M : Type 1} → statement M
-meets-spec = tie.close (tie.spec meets-requires meets-requires-2 returns returns-2)
+meets-spec = tie.close (tie.spec (λ c κs. search needs) (λ c κs. search needs) returns returns-2)

@@ -4,11 +4,8 @@ use Rattle.schema_tables.proofs.Whole.{empty-tables}
 use Rattle.schema_tables.proofs.SchemaTables.empty.Statement.{statement}
 use Rattle.schema_tables.proofs.SchemaTables.empty.Tie as tie
 
-empty-requires : tie.Need-empty-requires
-empty-requires c κs = search needs
-
 returns : tie.Need-returns
 returns c = empty-tables (c .empty .result) (c .empty .ensures)
 
 pub empty-spec : {M : Type 1} → statement M
-empty-spec = tie.close (tie.spec empty-requires returns)
+empty-spec = tie.close (tie.spec (λ c κs. search needs) returns)

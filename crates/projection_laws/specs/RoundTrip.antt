@@ -8,14 +8,14 @@ use Prim.Native.Nat.{ℕ, _≤_}
 use native.Mathlib.Omega.{arith}
 use lib.Dec.{T}
 use lib.ListN.{length, getElem?}
 use Rattle.projection_spec.specs.Extracts.Conditions.{IsExtract, ExtractApplies, length-2, extract-17, SameTables, no-rows, next-row, ExtractGives, gives}
 use Rattle.projection_spec.specs.Extracts.Fields.{countTag, twoBytes, field, fieldOf, writeExtract}
 use Rattle.projection_spec.specs.Extracts.Reading.{itemsOf, rowsOfItems, readExtract, isTable, rowsOr}
-use Rattle.projection_spec.specs.Laws.Fields.{AreBytes}
-use Rattle.projection_spec.specs.Laws.Moved.{restarted, same-rows, same-all-inside, root-moved}
-use Rattle.projection_spec.specs.Laws.ReadBack.{fields-back}
-use Rattle.projection_spec.specs.Laws.TextNames.{TextNames}
-use Rattle.projection_spec.specs.Laws.Written.{written-long, table-items}
+use Rattle.projection_laws.specs.Fields.{AreBytes}
+use Rattle.projection_laws.specs.Moved.{restarted, same-rows, same-all-inside, root-moved}
+use Rattle.projection_laws.specs.ReadBack.{fields-back}
+use Rattle.projection_laws.specs.TextNames.{TextNames}
+use Rattle.projection_laws.specs.Written.{written-long, table-items}
 use Rattle.schema_spec.specs.Types.{Types}
 use Rattle.table_laws.specs.Fits.{rooted, cellsFit, all-cells}
 use Rattle.table_laws.specs.Places.{none-some}

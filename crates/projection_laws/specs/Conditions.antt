@@ -6,10 +6,10 @@ use Prim.Native.Nat.{ℕ}
 use lib.Dec.{T}
 use Rattle.path_spec.specs.Paths.{PlainStep, Condition, expand}
 use Rattle.path_spec.specs.Selection.{PathSet, Always, Only, Holds, no-condition, alternative}
 use Rattle.projection_spec.specs.Inference.Needed.{need, keepsAll, wantsNothing, keepsName, wantsNames}
 use Rattle.projection_spec.specs.Inference.Types.{env, inferAll}
-use Rattle.projection_spec.specs.Laws.Agreement.{Alike, Fair, Trip, trip-of, of-trip, trip-track, track-typed, trip-alike}
-use Rattle.projection_spec.specs.Laws.Documents.{SubsetOf, Within, Valid, AllValid, Lawful}
+use Rattle.projection_laws.specs.Agreement.{Alike, Fair, Trip, trip-of, of-trip, trip-track, track-typed, trip-alike}
+use Rattle.projection_laws.specs.Documents.{SubsetOf, Within, Valid, AllValid, Lawful}
 use Rattle.schema_spec.specs.Names.{Names}
 use Rattle.schema_spec.specs.Types.{Types}
 use Rattle.table_spec.specs.Nodes.{Node, nameOf}

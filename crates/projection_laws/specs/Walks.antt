@@ -8,13 +8,13 @@ use lib.Dec.{T}
 use lib.ListN.{length}
 use Rattle.path_spec.specs.Paths.{Axis, self, child, descendant, descendantOrSelf, parent, ancestor, ancestorOrSelf, NodeTest, Step, Condition, LocationPath, expand}
 use Rattle.path_spec.specs.Selection.{passes}
 use Rattle.projection_spec.specs.Inference.Needed.{linked, between, complete, need, keepsAll, wantsNothing, keepsName, wantsNames, fromRoot, atRoot, neededBeforeFilter, neededByPath, needed}
 use Rattle.projection_spec.specs.Inference.Types.{Env, env, holding, allBelow, allAbove, unionOf, cutTo, move, narrow, infer}
 use Rattle.projection_spec.specs.Inference.Walks as walks
 use Rattle.projection_spec.specs.Inference.Walks.{Linked, by-self, by-child, by-descendant, stays-down, goes-down, by-parent, by-ancestor, stays-up, goes-up, Passing, descends, descends-or-stays, Walk, at-last, onward, Asks, own, conditional, later, Needs, WantsNothing, WantsNames, by-alternative, PathNeeds, Reached, root, next, BundleNeeds, by-path}
-use Rattle.projection_spec.specs.Laws.Documents.{Lawful}
-use Rattle.projection_spec.specs.Laws.Lawful.{types-lawful}
-use Rattle.projection_spec.specs.Laws.Soundness.{in-below, in-above}
+use Rattle.projection_laws.specs.Documents.{Lawful}
+use Rattle.projection_laws.specs.Lawful.{types-lawful}
+use Rattle.projection_laws.specs.Soundness.{in-below, in-above}
 use Rattle.schema_laws.specs.Closure.{Closed, Chain, one, more, chain-from, chain-join, closure-chain, chain-closure, held-in, isBelow-below, below-isBelow, below-names}
 use Rattle.schema_laws.specs.Names.{same-equal, same-name, has-in, in-within, within-in, element-in}
 use Rattle.schema_spec.specs.Closure.{related, closure}

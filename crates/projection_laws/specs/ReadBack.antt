@@ -8,11 +8,11 @@ use native.Mathlib.Omega.{arith}
 use lib.Dec.{T, eqb, leb, eqb→eq, leb→le}
 use lib.ListN.{length, take, drop, getElem?, length-append, take-append-drop}
 use lib.Seq.{length-take-le}
 use Rattle.projection_spec.specs.Extracts.Fields.{elementTag, textTag, countTag, twoBytes, field, numberAt, fieldOf}
 use Rattle.projection_spec.specs.Extracts.Reading.{Item, elementItem, textItem, countItem, noItem, inTwo, elementValue, textValue, countValue, itemOf, itemsFrom, Placed, openFrom, topRow, topElement, consRow, elementRow, textRow, laterRows, rowsOfItems}
-use Rattle.projection_spec.specs.Laws.Fields.{AreBytes, two-bytes-written, text-cut}
-use Rattle.projection_spec.specs.Laws.Items.{opensAfter, rowAt, restWritten}
-use Rattle.projection_spec.specs.Laws.Opens.{placed}
+use Rattle.projection_laws.specs.Fields.{AreBytes, two-bytes-written, text-cut}
+use Rattle.projection_laws.specs.Items.{opensAfter, rowAt, restWritten}
+use Rattle.projection_laws.specs.Opens.{placed}
 use Rattle.schema_spec.specs.Names.{element, text, Name}
 use Rattle.table_laws.specs.Places.{none-some, at-before, at-end}
 use Rattle.table_spec.specs.Rows.{Row}

@@ -25,3 +25,4 @@ pub mod ReadBack
 pub mod RoundTrip
 pub mod SameTables
 pub mod WrittenBytes
+pub mod Demand3

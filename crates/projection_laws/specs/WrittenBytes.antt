@@ -7,8 +7,8 @@ use Prim.Native.Nat.{ℕ, _<_}
 use native.Mathlib.Omega.{arith}
 use lib.Dec.{T, eqb, leb, eqb→eq, leb→le, lit<}
 use lib.ListN.{length, getElem?}
 use Rattle.projection_spec.specs.Extracts.Fields.{elementTag, textTag, countTag, twoBytes, field, rowField, numberAt, fieldOf, writeExtract}
-use Rattle.projection_spec.specs.Laws.Fields.{AreBytes}
+use Rattle.projection_laws.specs.Fields.{AreBytes}
 use Rattle.schema_spec.specs.Names.{Name, element, text, isText}
 use Rattle.schema_spec.specs.Types.{Types}
 use Rattle.table_laws.specs.WellFormed.{well-formed-beside}

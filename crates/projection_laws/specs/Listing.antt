@@ -10,9 +10,9 @@ use lib.ListN.{length}
 use Rattle.path_laws.specs.Selection.{selected-sound, selected-complete, selected-filters}
 use Rattle.path_spec.specs.Paths.{LocationPath}
 use Rattle.path_spec.specs.Selection.{Selected, selected, select}
-use Rattle.projection_spec.specs.Laws.Numbers.{node-known}
+use Rattle.projection_laws.specs.Numbers.{node-known}
 use Rattle.projection_spec.specs.Library.Conditions.{Chosen, FirstPath, Lines, no-lines, next-line}
 use Rattle.projection_spec.specs.Library.Listing.{listed, isIn, selectedNodes, firstSelecting, lineOf}
 use Rattle.schema_spec.specs.Schemas.{Schema}
 use Rattle.schema_spec.specs.Types.{Types}
 use Rattle.table_spec.specs.Nodes.{Node, numberOf, nodesOf}

@@ -16,16 +16,16 @@ use Rattle.path_spec.specs.Conditions.{BundleApplies, BundleGives}
 use Rattle.path_spec.specs.Paths.{LocationPath}
 use Rattle.path_spec.specs.Reading.{readBundle}
 use Rattle.path_spec.specs.Selection.{selectRows}
 use Rattle.projection_spec.specs.Extracts.Conditions.{ExtractApplies, ExtractGives}
 use Rattle.projection_spec.specs.Extracts.Reading.{readExtract}
-use Rattle.projection_spec.specs.Laws.Handed.{sizes-equal, equal-sized}
-use Rattle.projection_spec.specs.Laws.Fields.{AreBytes}
-use Rattle.projection_spec.specs.Laws.RoundTrip.{extract-judged}
-use Rattle.projection_spec.specs.Laws.TextNames.{text-names}
+use Rattle.projection_laws.specs.Handed.{sizes-equal, equal-sized}
+use Rattle.projection_laws.specs.Fields.{AreBytes}
+use Rattle.projection_laws.specs.RoundTrip.{extract-judged}
+use Rattle.projection_laws.specs.TextNames.{text-names}
 use Rattle.projection_spec.specs.Library.Conditions as conditions
 use Rattle.projection_spec.specs.Library.Conditions.{SchemaTaken, BundleTaken, EqualSizes, TooFewCells, Makes, makes, OutOfRange, never, not-here, Selects, selects}
 use Rattle.projection_spec.specs.Library.Hosts.{Answer, answer, extractOf, tested, inCells, makeExtract, pathsOf, inRange, pathOr, pathAt, selectFrom}
 use Rattle.projection_spec.specs.Library.Lent.{Sizes, equalSizes, tooSmall}
 use Rattle.schema_reading_laws.specs.Reading.{schema-read, schema-read-once}
 use Rattle.schema_spec.specs.Conditions.{SchemaApplies, SchemaGives}
 use Rattle.schema_spec.specs.Reading.{readSchema}

@@ -7,10 +7,10 @@ use native.Mathlib.Omega.{arith}
 use lib.Dec.{T, eqb, leb, eqb→eq, eqb-refl, leb→le, le→leb}
 use lib.ListN.{length, length-append, length-take, length-drop}
 use lib.Seq.{drop-nil}
 use Rattle.projection_spec.specs.Extracts.Conditions.{SameButStarts, SameTables, no-rows, next-row}
 use Rattle.projection_spec.specs.Extracts.Fields.{rowField, fieldOf}
-use Rattle.projection_spec.specs.Laws.Fields.{text-cut}
-use Rattle.projection_spec.specs.Laws.Items.{startAt, sizeAt, parentNumber}
+use Rattle.projection_laws.specs.Fields.{text-cut}
+use Rattle.projection_laws.specs.Items.{startAt, sizeAt, parentNumber}
 use Rattle.schema_spec.specs.Names.{element, text, Name, isText}
 use Rattle.schema_spec.specs.Types.{Types}
 use Rattle.table_laws.specs.Fits.{row-fits, rooted, cellsFit}

@@ -3,10 +3,10 @@ use mathlib.Core.List.{List, List·Memᴰ as In}
 use mathlib.Core.Path.{sym, subst}
 use Prim.Native.Nat.{ℕ}
 use lib.Dec.{T}
 use Rattle.projection_spec.specs.Extracts.Conditions.{Kept}
 use Rattle.projection_spec.specs.Extracts.Cut.{kept, cut}
-use Rattle.projection_spec.specs.Laws.Cutting.{rows-cut}
-use Rattle.projection_spec.specs.Laws.Documents.{Within, own-within, above-within, within-kept, kept-within}
+use Rattle.projection_laws.specs.Cutting.{rows-cut}
+use Rattle.projection_laws.specs.Documents.{Within, own-within, above-within, within-kept, kept-within}
 use Rattle.schema_spec.specs.Names.{Names}
 use Rattle.schema_spec.specs.Types.{Types}
 use Rattle.table_spec.specs.Nodes.{Node, top, under, edge, parent, higher, nodesOf}

@@ -1,7 +1,7 @@
 -- The types of an accepted schema meet what the main lemma asks of them. Assumes nothing.
 use Prim.Native.Nat.{_<_}
 use lib.ListN.{length}
-use Rattle.projection_spec.specs.Laws.Documents.{Lawful}
+use Rattle.projection_laws.specs.Documents.{Lawful}
 use Rattle.schema_laws.specs.Closure.{Closed, one, chain-join, closure-chain, chain-closure, holder-in, held-in}
 use Rattle.schema_laws.specs.Names.{element-in}
 use Rattle.schema_spec.specs.Names.{namesOf}

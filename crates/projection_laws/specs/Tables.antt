@@ -6,14 +6,14 @@ use Prim.Native.Nat.{ℕ}
 use lib.Dec.{T}
 use Rattle.path_spec.specs.Paths.{LocationPath}
 use Rattle.path_spec.specs.Selection.{select, selectRows}
 use Rattle.projection_spec.specs.Extracts.Conditions.{SameTables}
 use Rattle.projection_spec.specs.Extracts.Cut.{cut}
 use Rattle.projection_spec.specs.Inference.Needed.{needed}
-use Rattle.projection_spec.specs.Laws.Cutting.{rows-cut}
-use Rattle.projection_spec.specs.Laws.Documents.{SubsetOf, Lawful}
-use Rattle.projection_spec.specs.Laws.Nodes.{select-cut, path-needed}
-use Rattle.projection_spec.specs.Laws.Rows.{rows-valid}
-use Rattle.projection_spec.specs.Laws.SameTables.{same-nodes}
+use Rattle.projection_laws.specs.Cutting.{rows-cut}
+use Rattle.projection_laws.specs.Documents.{SubsetOf, Lawful}
+use Rattle.projection_laws.specs.Nodes.{select-cut, path-needed}
+use Rattle.projection_laws.specs.Rows.{rows-valid}
+use Rattle.projection_laws.specs.SameTables.{same-nodes}
 use Rattle.schema_spec.specs.Names.{Names}
 use Rattle.schema_spec.specs.Types.{Types}
 use Rattle.table_spec.specs.Nodes.{Node, nodesOf}

@@ -14,13 +14,13 @@ use Rattle.path_laws.specs.Reading.{bundle-read}
 use Rattle.path_spec.specs.Conditions.{BundleApplies, BundleGives}
 use Rattle.path_spec.specs.Paths.{LocationPath}
 use Rattle.path_spec.specs.Reading.{readBundle}
 use Rattle.projection_spec.specs.Extracts.Cut.{cut}
 use Rattle.projection_spec.specs.Inference.Needed.{needed}
-use Rattle.projection_spec.specs.Laws.Listing.{chosen-nodes, chosen-lines}
-use Rattle.projection_spec.specs.Laws.Numbers.{nodes-count}
+use Rattle.projection_laws.specs.Listing.{chosen-nodes, chosen-lines}
+use Rattle.projection_laws.specs.Numbers.{nodes-count}
 use Rattle.projection_spec.specs.Library.Conditions.{SchemaTaken, BundleTaken, JournalTaken, Prints, schema-refused, bundle-refused, journal-refused, too-many-rows, lists}
 use Rattle.projection_spec.specs.Library.Lent.{tooSmall}
 use Rattle.projection_spec.specs.Library.Listing.{Listed, listed, judgeFiles, selectedNodes, lineOf, header, headerOf, printed, listing}
 use Rattle.schema_reading_laws.specs.Reading.{schema-read}
 use Rattle.schema_spec.specs.Conditions.{SchemaApplies, SchemaGives}
 use Rattle.schema_spec.specs.Reading.{readSchema}

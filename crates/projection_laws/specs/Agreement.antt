@@ -9,10 +9,10 @@ use lib.Dec.{T}
 use Rattle.path_laws.specs.Selection.{test-passes}
 use Rattle.path_spec.specs.Paths.{WrittenAxis, along, NodeTest, WrittenStep, Step, expandStep, expand}
 use Rattle.path_spec.specs.Selection.{NodeSet, Passes, passes, OnAxis, OnWritten, on-along, StepSet, PathSet}
 use Rattle.projection_spec.specs.Inference.Needed.{linked, between, complete, need}
 use Rattle.projection_spec.specs.Inference.Types.{Env, cutTo, move, narrow, infer, inferAll}
-use Rattle.projection_spec.specs.Laws.Documents.{SubsetOf, Within, Valid, AllValid, Lawful}
-use Rattle.projection_spec.specs.Laws.Soundness.{Typed, cut-within, narrow-typed, move-typed, axis-linked, axis-within}
+use Rattle.projection_laws.specs.Documents.{SubsetOf, Within, Valid, AllValid, Lawful}
+use Rattle.projection_laws.specs.Soundness.{Typed, cut-within, narrow-typed, move-typed, axis-linked, axis-within}
 use Rattle.schema_spec.specs.Names.{Name, Names}
 use Rattle.schema_spec.specs.Types.{Types}
 use Rattle.table_spec.specs.Nodes.{Node, nameOf}

@@ -4,10 +4,10 @@ use mathlib.Core.Option.{some}
 use mathlib.Core.Path.{_≡_, refl}
 use Prim.Native.Nat.{ℕ, suc, _+_, _<_}
 use lib.ListN.{length, getElem?}
 use Rattle.projection_spec.specs.Extracts.Fields.{countTag, twoBytes, field, rowField, numberAt, fieldOf}
 use Rattle.projection_spec.specs.Extracts.Reading.{Item, elementItem, textItem, itemsFrom, Placed, openFrom, laterRows, rowsOfItems}
-use Rattle.projection_spec.specs.Laws.Fields.{element-read, text-read}
-use Rattle.projection_spec.specs.Laws.Opens.{placed}
+use Rattle.projection_laws.specs.Fields.{element-read, text-read}
+use Rattle.projection_laws.specs.Opens.{placed}
 use Rattle.schema_spec.specs.Names.{element, text, Name}
 use Rattle.table_spec.specs.Rows.{Row}
 use Rattle.text_spec.specs.Lists.{gather}

@@ -6,13 +6,13 @@ use Prim.Native.Nat.{ℕ, zero, suc, _+_, _<_, _≤_}
 use native.Mathlib.Omega.{arith}
 use lib.Dec.{T, eqb, eqb-refl}
 use lib.ListN.{length, getElem?, length-append}
 use Rattle.projection_spec.specs.Extracts.Fields.{countTag, twoBytes, field, rowField, fieldOf, writeExtract}
 use Rattle.projection_spec.specs.Extracts.Reading.{itemsFrom, itemsOf, Placed, openFrom, laterRows, rowsOfItems}
-use Rattle.projection_spec.specs.Laws.Fields.{count-read}
-use Rattle.projection_spec.specs.Laws.Items.{opensAfter, field-item, item-row, root-item, parentNumber, restWritten}
-use Rattle.projection_spec.specs.Laws.Moved.{HasText, has-text, restart, restarted}
-use Rattle.projection_spec.specs.Laws.Opens.{placed, Opens, open-element, open-text, opens-grow, Found, opens-found, opens-first, Reached, row-of-node, same-count, reached-first, reached-next}
-use Rattle.projection_spec.specs.Laws.TextNames.{TextNames}
+use Rattle.projection_laws.specs.Fields.{count-read}
+use Rattle.projection_laws.specs.Items.{opensAfter, field-item, item-row, root-item, parentNumber, restWritten}
+use Rattle.projection_laws.specs.Moved.{HasText, has-text, restart, restarted}
+use Rattle.projection_laws.specs.Opens.{placed, Opens, open-element, open-text, opens-grow, Found, opens-found, opens-first, Reached, row-of-node, same-count, reached-first, reached-next}
+use Rattle.projection_laws.specs.TextNames.{TextNames}
 use Rattle.schema_spec.specs.Names.{element, text, Name, isText}
 use Rattle.schema_spec.specs.Types.{Types}
 use Rattle.table_laws.specs.Fits.{attached-number, RowFits, row-fits, Rooted, rooted, Fitting, fitting}

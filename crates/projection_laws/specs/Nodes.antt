@@ -9,12 +9,12 @@ use lib.Dec.{T}
 use Rattle.path_laws.specs.Selection.{selected-sound, selected-complete, selected-filters}
 use Rattle.path_spec.specs.Paths.{LocationPath, expand}
 use Rattle.path_spec.specs.Selection.{Holds, Roots, Selected, selected, select}
 use Rattle.projection_spec.specs.Extracts.Cut.{kept}
 use Rattle.projection_spec.specs.Inference.Needed.{keepsName, wantsNames, fromRoot, atRoot, neededBeforeFilter, neededByPath, needed}
-use Rattle.projection_spec.specs.Laws.Agreement.{Alike, alike-turned, trip-of, of-trip, trip-track, track-complete, complete-needed, trip-alike}
-use Rattle.projection_spec.specs.Laws.Conditions.{condition-fair}
-use Rattle.projection_spec.specs.Laws.Documents.{SubsetOf, Within, Valid, AllValid, Lawful, own-within, wider, within-kept, name-in}
-use Rattle.projection_spec.specs.Laws.Soundness.{Typed}
+use Rattle.projection_laws.specs.Agreement.{Alike, alike-turned, trip-of, of-trip, trip-track, track-complete, complete-needed, trip-alike}
+use Rattle.projection_laws.specs.Conditions.{condition-fair}
+use Rattle.projection_laws.specs.Documents.{SubsetOf, Within, Valid, AllValid, Lawful, own-within, wider, within-kept, name-in}
+use Rattle.projection_laws.specs.Soundness.{Typed}
 use Rattle.schema_laws.specs.Closure.{Chain, one, chain-join, closure-chain, chain-closure}
 use Rattle.schema_laws.specs.Names.{same-equal, same-name, in-within}
 use Rattle.schema_spec.specs.Closure.{related, closure}

@@ -10,17 +10,17 @@ use Rattle.journal_spec.specs.Reading.{readJournal}
 use Rattle.path_spec.specs.Paths.{LocationPath}
 use Rattle.path_spec.specs.Reading.{readBundle}
 use Rattle.path_spec.specs.Selection.{selectRows}
 use Rattle.projection_spec.specs.Extracts.Conditions.{SameTables}
 use Rattle.projection_spec.specs.Extracts.Cut.{cut, cutToWord}
 use Rattle.projection_spec.specs.Extracts.Reading.{readExtract}
 use Rattle.projection_spec.specs.Inference.Needed.{neededByPath, needed}
-use Rattle.projection_spec.specs.Laws.Cutting.{cut-well-formed-with}
-use Rattle.projection_spec.specs.Laws.Documents.{Lawful}
-use Rattle.projection_spec.specs.Laws.Lawful.{types-lawful}
-use Rattle.projection_spec.specs.Laws.RoundTrip.{write-read}
-use Rattle.projection_spec.specs.Laws.Tables.{cut-selects-same, same-tables-select}
-use Rattle.projection_spec.specs.Laws.TextNames.{text-names}
+use Rattle.projection_laws.specs.Cutting.{cut-well-formed-with}
+use Rattle.projection_laws.specs.Documents.{Lawful}
+use Rattle.projection_laws.specs.Lawful.{types-lawful}
+use Rattle.projection_laws.specs.RoundTrip.{write-read}
+use Rattle.projection_laws.specs.Tables.{cut-selects-same, same-tables-select}
+use Rattle.projection_laws.specs.TextNames.{text-names}
 use Rattle.projection_spec.specs.Library.Hosts.{extractOf}
 use Rattle.schema_laws.specs.Accepted.{accepted-filled, accepted-closed}
 use Rattle.schema_laws.specs.Names.{within-in}
 use Rattle.schema_laws.specs.Words.{in-setOfWord}
