@@ -5,7 +5,7 @@ use Rattle.projection_spec.specs.Cases.Opened.{computing}
 use Rattle.projection_spec.specs.Cases.Questions.{Text, schemaRead, bundleRead, journalRead, extractRead, tableLent, names, taken, turnedBack, theNames, answerTo, Case, case, AllHold, copies, pathsOf}
 use Rattle.projection_spec.specs.Cases.Tried.{schemaS, journalJ, steps}
 use Rattle.projection_spec.specs.Inference.Needed.{neededBeforeFilter}
-use Rattle.projection_spec.specs.Library.Lent.{Columns}
+use Rattle.table_spec.specs.Columns.{Columns}
 use Rattle.schema_spec.specs.Names.{element, has}
 use Rattle.schema_spec.specs.Records.{schemaIn}
 use Rattle.schema_spec.specs.Types.{typesOf}

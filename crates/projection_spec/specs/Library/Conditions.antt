@@ -15,9 +15,9 @@ use Rattle.projection_spec.specs.Extracts.Conditions.{ExtractApplies, Ex
 use Rattle.projection_spec.specs.Extracts.Cut.{cut}
 use Rattle.projection_spec.specs.Inference.Needed.{needed}
 use Rattle.projection_spec.specs.Library.Hosts.{Answer, answer, extractOf}
-use Rattle.projection_spec.specs.Library.Lent.{Sizes, Columns, sizesOf}
+use Rattle.table_spec.specs.Columns.{Sizes, Columns, sizesOf, cellsFrom}
 use Rattle.projection_spec.specs.Library.Listing.{decimal, lineFeed, chain, header, refusedLine}
-use Rattle.projection_spec.specs.Library.Records.{TextRecord, recordOf, cellsFrom}
+use Rattle.projection_spec.specs.Library.Records.{TextRecord, recordOf}
 use Rattle.schema_spec.specs.Conditions.{SchemaApplies, SchemaGives}
 use Rattle.schema_spec.specs.Records.{SchemaProducible}
 use Rattle.schema_spec.specs.Schemas.{Schema}

@@ -9,7 +9,8 @@ use Rattle.projection_spec.specs.Extracts.Cut.{cut}
 use Rattle.projection_spec.specs.Extracts.Fields.{writeExtract}
 use Rattle.projection_spec.specs.Extracts.Reading.{readExtract}
 use Rattle.journal_spec.specs.Reading.{readJournal}
-use Rattle.projection_spec.specs.Library.Lent.{Sizes, equalSizes, Columns, columnsOf, tooSmall}
+use Rattle.table_spec.specs.Columns.{Sizes, equalSizes, Columns, columnsOf}
+use Rattle.text_spec.specs.Cells.{tooSmall}
 use Rattle.path_spec.specs.Paths.{LocationPath}
 use Rattle.path_spec.specs.Reading.{readBundle}
 use Rattle.path_spec.specs.Selection.{selectRows}
