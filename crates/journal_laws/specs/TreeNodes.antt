@@ -170,7 +170,7 @@ tree-nodes {journal = journal} {n = n} {c = c} s w =
     subst (λ (x : List ℕ). OwnBytes x (w .nested .forest)) (append-nil (spell (w .tokens)) ∙ sym (w .spelt .joined)) (own-bytes [] [] refl (w .nested .spelt)) in
     ap (λ (l : List Node). y ∷ l) (under-nodes journal s i c (y ∷ []) 0 1 y refl refl (root-own journal (w .nested .oneRoot) own))
 
--- "its rows are its nodes in document order with their own text"
+-- Demand 2: the rows of an accepted journal are its nodes in document order, with their own text.
 pub accepted-nodes : (limit : ℕ) (s : Schema) (journal : List ℕ) (rows : List Row) (e : readJournal limit s journal ≡ accepted rows)
     → nodesOf journal rows ≡ treeNodes s (accepted-valid limit s journal rows e .name) (accepted-valid limit s journal rows e .content)
 accepted-nodes limit s journal rows e =

@@ -162,6 +162,6 @@ onUnbroken s (empties n k) b =
     cond (isNone (c .broken)) (onEnd n k c) c
 onUnbroken s (runs r size) b = onRun r size b
 
--- "Nothing from the first tag that opens depth 65 on counts": after 12 or 13 no event does
+-- "Nothing from the first tag that opens depth 65 on counts here", and after 12 nothing more can: after 12 or 13 no event does
 unfoldable pub onEvent : Schema → Event → Building → Building
 onEvent s e b = cond (isNone (b .broken)) (onUnbroken s e b) b

@@ -57,10 +57,11 @@ height nothing = 0
 height (data-node k w f) = height f
 height (element-node k n c f) = max (suc (height c)) (height f)
 
--- how many nodes a forest makes under an element: "in `(#PCDATA)` the whole non-empty text is one node", elsewhere text makes none
+-- the element with a name; an undeclared one gets index 0, which is never seen: refusal 14 applies
 abbrev pub indexOf : Schema → List ℕ → ℕ
 indexOf s n = valueOr 0 (elementNamed s n)
 
+-- how many nodes a forest makes under an element: "in `(#PCDATA)` the whole non-empty text is one node", elsewhere text makes none
 abbrev pub countIn : Schema → ℕ → Forest → ℕ
 countIn s e nothing = 0
 countIn s e (data-node k w f) = cond (isPcdata (contentAt s e)) (suc (countIn s e f)) (countIn s e f)

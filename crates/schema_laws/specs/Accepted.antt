@@ -208,7 +208,7 @@ module _ (text : List ℕ) (s : Schema) (e : readSchema text ≡ accepted s) whe
       let p = accepted-spelt text s e in
       subst Closed (p .gives) (gives-closed (p .declarations) (p .all-declared))
 
-  -- "at most 64 names in a model"
+  -- "At most 32 declarations, 64 names in a model": the second
   pub accepted-models : (a : ℕ) → length (modelAt s a) ≤ maxModelNames
   accepted-models a =
       let p = accepted-spelt text s e in

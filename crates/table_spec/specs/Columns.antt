@@ -30,7 +30,7 @@ allOfSize n = record { numbers = n; names = n; parents = n; starts = n; lengths 
 abbrev pub sizesOf : Columns → Sizes
 sizesOf c = record { numbers = length (c .numbers); names = length (c .names); parents = length (c .parents); starts = length (c .starts); lengths = length (c .lengths) }
 
--- "Columns of unequal length .. : 1"
+-- columns of unequal length are refused by 1
 abbrev pub equalSizes : Sizes → Bool
 equalSizes z = eqb (z .names) (z .numbers) && (eqb (z .parents) (z .numbers) && (eqb (z .starts) (z .numbers) && eqb (z .lengths) (z .numbers)))
 

@@ -6,7 +6,7 @@ use Prim.Native.Nat.{ℕ, zero, suc, _-_, _≤_}
 use lib.Dec.{ltb}
 use lib.ListN.{length, replicate}
 
--- "On success the cells past the answer are 0": an answer in so many cells. Of no answer "every cell of every lent output is then 0".
+-- "On success the cells past the answer are 0": an answer in so many cells. Where there is no answer every cell is 0 (demand 1).
 abbrev pub padded : ℕ → List ℕ → List ℕ
 padded zero xs = []
 padded (suc n) [] = 0 ∷ padded n []

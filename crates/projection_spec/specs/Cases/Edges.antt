@@ -16,7 +16,7 @@ use mathlib.Core.Bool.{true}
 abbrev pub schemaA : Text
 schemaA = bytes "<!ELEMENT a (a|b|t)*><!ELEMENT b EMPTY><!ELEMENT t (#PCDATA)>"
 
--- "the last filter .. is not vacuous": elements r, m, z, y, x, a, q
+-- a schema for which the last filter drops a name: elements r, m, z, y, x, a, q
 abbrev pub schemaR : Text
 schemaR = bytes "<!ELEMENT r (x|m)*><!ELEMENT m (z)*><!ELEMENT z (y|q)*><!ELEMENT y (a)*><!ELEMENT x (a|q)*><!ELEMENT a EMPTY><!ELEMENT q EMPTY>"
 

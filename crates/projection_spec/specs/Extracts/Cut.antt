@@ -9,7 +9,7 @@ use Rattle.table_spec.specs.Nodes.{Node, allNames, nodeAt}
 use Rattle.table_spec.specs.Rows.{Row, withParent}
 use Rattle.text_spec.specs.Lists.{filterBy}
 
--- "a row is kept if its name and the names of all its ancestors are in the set"
+-- "keeps a row if its name and the names of all its ancestors are in the set"
 abbrev pub kept : Names → Node → Bool
 kept set y = allNames (λ n. has n set) y
 

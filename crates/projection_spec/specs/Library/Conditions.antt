@@ -80,7 +80,7 @@ pub data Makes (schema bundle journal : List ℕ) (z : Sizes) (size : ℕ) : Out
       → JournalTaken maxJournalBytes s journal rows → (TooFewCells z size (answer rows (extractOf s ps journal rows)) → ⊥)
       → Makes schema bundle journal z size (accepted (answer rows (extractOf s ps journal rows)))
 
--- "path number out of range: 1"
+-- a path number out of range is refused by 1
 pub data OutOfRange (schema bundle : List ℕ) (path : ℕ) : Type 0 where
   never : maxPaths ≤ path → OutOfRange schema bundle path
   not-here : {s : Schema} {ps : List (LocationPath ℕ)} → SchemaTaken schema s → BundleTaken s bundle ps → length ps ≤ path → OutOfRange schema bundle path

@@ -31,7 +31,7 @@ pub record Answer : Type 0 where
 abbrev pub answer : List Row → List ℕ → Answer
 answer rows items = record { rows = rows; items = items }
 
--- "the extract made holds the journal's rows cut to the bundle's needed names"
+-- Demand 2: the extract made holds the journal's rows cut to the bundle's needed names.
 unfoldable pub extractOf : Schema → List (LocationPath ℕ) → List ℕ → List Row → List ℕ
 extractOf s ps journal rows = writeExtract journal (cut (needed (typesOf s) ps) rows)
 
@@ -55,7 +55,7 @@ makeExtract schema bundle journal z size =
 unfoldable pub pathsOf : List ℕ → List ℕ → Outcome (List (LocationPath ℕ))
 pathsOf schema bundle = andThen (readSchema schema) (λ s. readBundle s bundle)
 
--- "path number out of range: 1": no bundle has such a path, or this one has not; a bundle that is refused has no range
+-- a path number out of range is refused by 1: no bundle has such a path, or this one has not; a bundle that is refused has no range
 abbrev pub inRange : ℕ → Outcome (List (LocationPath ℕ)) → Bool
 inRange i (accepted ps) = not (leb (length ps) i)
 inRange i (refused f) = not (leb maxPaths i)

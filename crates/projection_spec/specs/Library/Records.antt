@@ -42,8 +42,8 @@ abbrev pub passesRows : Types → List ℕ → Option (List Row) → Bool
 passesRows s lent none = false
 passesRows s lent (some rows) = wellFormedWith s lent rows
 
--- "a table is not well formed, or a text row points outside its text or at a byte that fails 3"; "columns of unequal length, or a count
--- above their length: 1"
+-- "a table is not well formed, or a text row points outside its text or at a byte that fails 3"; columns of
+-- unequal length and a count above their length are refused by 1, too
 unfoldable pub passesTable : Schema → Columns → ℕ → List ℕ → Bool
 passesTable s c count lent =
     equalSizes (sizesOf c) && (leb count (length (c .numbers)) && passesRows (typesOf s) lent (rowsOf (cellsFrom c 0 count)))
