@@ -10,7 +10,7 @@ use Rattle.projection_spec.specs.Extracts.Fields.{writeExtract}
 use Rattle.projection_spec.specs.Extracts.Reading.{readExtract}
 use Rattle.journal_spec.specs.Reading.{readJournal}
 use Rattle.projection_spec.specs.Library.Lent.{Sizes, equalSizes, Columns, columnsOf, tooSmall}
-use Rattle.path_spec.specs.Paths.{LocationPath}
+use Rattle.path_spec.specs.Paths.{LocationPath, fromRootElement}
 use Rattle.path_spec.specs.Reading.{readBundle}
 use Rattle.path_spec.specs.Selection.{selectRows}
 use Rattle.schema_spec.specs.Reading.{readSchema}
@@ -60,7 +60,7 @@ inRange i (accepted ps) = not (leb (length ps) i)
 inRange i (refused f) = not (leb maxPaths i)
 
 abbrev pub pathOr : Option (LocationPath ℕ) → LocationPath ℕ
-pathOr none = []
+pathOr none = fromRootElement []
 pathOr (some p) = p
 
 -- the path of a bundle by its number, counted from 0
