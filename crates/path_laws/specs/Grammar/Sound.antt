@@ -9,9 +9,9 @@ use lib.Dec.{T, eqb, ltb, eqb→eq, ltb→lt}
 use lib.ListN.{length, length-append}
 use Rattle.path_laws.specs.Grammar.Joined.{Before, none-before, one-more, slash, lineFeed, alternative-joined, condition-joined, path-joined, Line, a-line, Lines, no-lines, some-lines, lines-joined, reversed-filled}
 use Rattle.path_laws.specs.Grammar.Runs.{final, run-spells}
-use Rattle.path_spec.specs.Grammar.{PathRead, nodeCall, textCall, orWord, TestText, a-name, any-node, any-text, PlainText, plain, AlternativeText, StepText, bare, conditional, PathText, BundleText}
+use Rattle.path_spec.specs.Grammar.{PathRead, pathRead, nodeCall, textCall, orWord, TestText, a-name, any-node, any-text, PlainText, plain, AlternativeText, StepText, bare, conditional, PathText, BundleText}
 use Rattle.path_spec.specs.Machine.{Choice, allChoices, Outer, Inner, Context, outside, inside, State, dead, lineStart, inAxis, beforeTest, inTest, inCall, afterCall, inOr, afterBrackets, goesOn, goingOn, axisBy, beginStep, withStep, withPlain, withAlternative, bracketed, stepDone, tested, callOf, orByte, step, spells, parse}
-use Rattle.path_spec.specs.Paths.{WrittenAxis, spellAxis, NodeTest, named, WrittenStep, PlainStep, Condition, LocationPath}
+use Rattle.path_spec.specs.Paths.{WrittenAxis, spellAxis, NodeTest, named, WrittenStep, PlainStep, Condition, alternatives}
 use Rattle.schema_spec.specs.Declarations.{Use}
 use Rattle.text_laws.specs.Bytes.{one-byte-name, name-snoc}
 use Rattle.text_laws.specs.Lists.{bytes-equal}
@@ -21,7 +21,7 @@ use Rattle.text_spec.specs.Lists.{bytes, isEmpty, sameBytes}
 
 -- ---- a path before one of its steps: lines, then steps
 data InPath : Outer → List ℕ → Type 0 where
-  in-path : {ps : List PathRead} {l u : List ℕ} {s : LocationPath Use} → Before lineFeed Line 0 l ps → Before slash StepText (length l) u s
+  in-path : {ps : List PathRead} {l u : List ℕ} {s : List (WrittenStep Use (Condition Use))} → Before lineFeed Line 0 l ps → Before slash StepText (length l) u s
       → InPath (record { paths = ps; start = length l; steps = s }) (l ++ u)
 
 -- a path after one of its steps
@@ -35,18 +35,18 @@ done-slash (step-done {w = w} {p = p} (in-path {ps = ps} {l = l} {u = u} {s = s}
     (in-path b (one-more c (subst (λ (j : ℕ). StepText j w p) (length-append l u) t)))
 
 done-line : {o : Outer} {u : List ℕ} → StepDone o u
-    → Before lineFeed Line 0 (u ++ lineFeed) (record { place = o .start; size = length u - o .start; steps = reverse (o .steps) } ∷ o .paths)
+    → Before lineFeed Line 0 (u ++ lineFeed) (pathRead (o .start) (length u - o .start) (reverse (o .steps)) ∷ o .paths)
 done-line (step-done {w = w} {p = p} (in-path {ps = ps} {l = l} {u = u} {s = s} b c) t) =
     let q : PathText (length l) (u ++ w) (reverse (p ∷ s)) = path-joined c (subst (λ (j : ℕ). StepText j w p) (length-append l u) t) in
-    let r : Line (0 + length l) (u ++ w) (record { place = length l; size = length (u ++ w); steps = reverse (p ∷ s) }) = rw zero-add (a-line q) in
+    let r : Line (0 + length l) (u ++ w) (pathRead (length l) (length (u ++ w)) (reverse (p ∷ s))) = rw zero-add (a-line q) in
     let e : length (u ++ w) ≡ length (l ++ u ++ w) - length l = omega (arith, length-append (l ++ u) w, length-append l u, length-append u w) in
-    subst (λ (r : List ℕ). Before lineFeed Line 0 r (record { place = length l; size = length (l ++ u ++ w) - length l; steps = reverse (p ∷ s) } ∷ ps)) (simp append-assoc)
-    (subst (λ (n : ℕ). Before lineFeed Line 0 (l ++ (u ++ w ++ lineFeed)) (record { place = length l; size = n; steps = reverse (p ∷ s) } ∷ ps)) e
+    subst (λ (r : List ℕ). Before lineFeed Line 0 r (pathRead (length l) (length (l ++ u ++ w) - length l) (reverse (p ∷ s)) ∷ ps)) (simp append-assoc)
+    (subst (λ (n : ℕ). Before lineFeed Line 0 (l ++ (u ++ w ++ lineFeed)) (pathRead (length l) n (reverse (p ∷ s)) ∷ ps)) e
     (one-more b r))
 
 -- ---- brackets before a step of one of their alternatives: the path, the step that carries them, alternatives, steps
 data InAlternative : Inner → List ℕ → Type 0 where
-  in-alternative : {o : Outer} {a : WrittenAxis} {t : NodeTest Use} {u w c s : List ℕ} {qs : Condition Use} {ps : List (PlainStep Use)}
+  in-alternative : {o : Outer} {a : WrittenAxis} {t : NodeTest Use} {u w c s : List ℕ} {qs : List (List (PlainStep Use))} {ps : List (PlainStep Use)}
       → InPath o u → PlainText (length u) w (record { axis = a; test = t; condition = tt })
       → Before orWord AlternativeText (suc (length u + length w)) c qs → Before slash PlainText (suc (length u + length w) + length c) s ps
       → InAlternative (record { outer = o; axis = a; test = t; alternatives = qs; steps = ps }) (u ++ (w ++ (0x5B ∷ (c ++ s))))
@@ -71,7 +71,7 @@ plain-or (plain-done {w = v} {p = p} (in-alternative {o = o} {a = a} {t = t} {u 
 
 plain-closed : {i : Inner} {u : List ℕ} → PlainDone i u → StepDone (bracketed (withAlternative i)) (u ++ (0x5D ∷ []))
 plain-closed (plain-done {w = v} {p = p} (in-alternative {o = o} {a = a} {t = t} {u = u} {w = w} {c = c} {s = s} {qs = qs} {ps = ps} b f d e) x) =
-    subst (StepDone (withStep a t (reverse (reverse (p ∷ ps) ∷ qs)) o)) (simp append-assoc)
+    subst (StepDone (withStep a t (alternatives (reverse (reverse (p ∷ ps) ∷ qs))) o)) (simp append-assoc)
     (step-done b (conditional f (condition-joined d (alternative-joined e (subst (λ (j : ℕ). PlainText j v p) (plain-place u w c s) x)))))
 
 data InContext : Context → List ℕ → Type 0 where

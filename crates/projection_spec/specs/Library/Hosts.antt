@@ -9,16 +9,15 @@ use Rattle.projection_spec.specs.Extracts.Cut.{cut}
 use Rattle.projection_spec.specs.Extracts.Fields.{writeExtract}
 use Rattle.projection_spec.specs.Extracts.Reading.{readExtract}
 use Rattle.journal_spec.specs.Reading.{readJournal}
+use Rattle.path_spec.specs.Paths.{LocationPath, fromRootElement}
 use Rattle.table_spec.specs.Columns.{Sizes, equalSizes, Columns, columnsOf}
-use Rattle.text_spec.specs.Cells.{tooSmall}
-use Rattle.path_spec.specs.Paths.{LocationPath}
+use Rattle.text_spec.specs.Cells.{tooSmall, padded}
 use Rattle.path_spec.specs.Reading.{readBundle}
 use Rattle.path_spec.specs.Selection.{selectRows}
 use Rattle.schema_spec.specs.Reading.{readSchema}
 use Rattle.schema_spec.specs.Schemas.{Schema}
 use Rattle.schema_spec.specs.Types.{typesOf}
 use Rattle.table_spec.specs.Rows.{Row}
-use Rattle.text_spec.specs.Cells.{padded}
 use Rattle.text_spec.specs.Limits.{maxJournalBytes, maxPaths}
 use Rattle.text_spec.specs.Refusals.{Outcome, accepted, refused, judged, andThen, numberOf, at, given, badRecord, tooFewCells}
 use Rattle.projection_spec.specs.Inference.Needed.{needed}
@@ -61,7 +60,7 @@ inRange i (accepted ps) = not (leb (length ps) i)
 inRange i (refused f) = not (leb maxPaths i)
 
 abbrev pub pathOr : Option (LocationPath ℕ) → LocationPath ℕ
-pathOr none = []
+pathOr none = fromRootElement []
 pathOr (some p) = p
 
 -- the path of a bundle by its number, counted from 0
