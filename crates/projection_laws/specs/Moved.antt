@@ -16,7 +16,7 @@ use Rattle.schema_spec.specs.Types.{Types}
 use Rattle.table_laws.specs.Fits.{row-fits, rooted, cellsFit}
 use Rattle.table_spec.specs.Nodes.{Node, top, nodeAt}
 use Rattle.table_spec.specs.Rows.{Row, textOf, withStart}
-use Rattle.table_spec.specs.Tables.{wellFormed, textFits, rowFits, laterRows as laterFit, textInside}
+use Rattle.table_spec.specs.Tables.{wellFormed, textFits, rowFits, laterRows, textInside}
 use Rattle.text_laws.specs.Tests.{true-of, and-cases, and-intro, or-right}
 use Rattle.text_spec.specs.Bytes.{isForeign}
 use Rattle.text_spec.specs.Limits.{maxTextBytes}
@@ -61,12 +61,12 @@ node-moved : (k : ℕ) (before : List Node) (r : Row) → nodeAt [] before (rest
 node-moved k before r = rw (drop-nil {A = ℕ} (startAt (r .name) k), drop-nil {A = ℕ} (r .start))
 
 -- moved texts leave a table well formed
-later-moved : (s : Types) (before : List Node) (previous : Node) (f : Row → List ℕ) (k : ℕ) (rs : List Row) → T (laterFit s before previous rs)
-    → T (laterFit s before previous (restarted f k rs))
+later-moved : (s : Types) (before : List Node) (previous : Node) (f : Row → List ℕ) (k : ℕ) (rs : List Row) → T (laterRows s before previous rs)
+    → T (laterRows s before previous (restarted f k rs))
 later-moved s before previous f k [] t = tt
 later-moved s before previous f k (r ∷ rs) t =
     let y = nodeAt [] before r in
-    let u = and-cases (rowFits s before previous r y) (laterFit s (before ++ (y ∷ [])) y rs) t in
+    let u = and-cases (rowFits s before previous r y) (laterRows s (before ++ (y ∷ [])) y rs) t in
     rw (node-moved k before r)
     (and-intro (rowFits s before previous (restart k r) y) _ (rw (same-cells k r (row-fits s before previous r y (u .0) .cells)) (u .0))
     (later-moved s (before ++ (y ∷ [])) y f (k + length (f r)) rs (u .1)))
@@ -129,5 +129,5 @@ root-moved s f k (r ∷ rs) t =
     let y = top (r .number) (r .name) in
     let rs′ = restarted f (k + length (f r)) rs in
     let moved = later-moved s (y ∷ []) y f (k + length (f r)) rs (c .later) in
-    let same-later : laterFit s (y ∷ []) y rs′ ≡ laterFit s (y ∷ []) y rs = true-of _ moved ∙ sym (true-of _ (c .later)) in
+    let same-later : laterRows s (y ∷ []) y rs′ ≡ laterRows s (y ∷ []) y rs = true-of _ moved ∙ sym (true-of _ (c .later)) in
     rw (same-cells k r (c .cells), same-later) t
