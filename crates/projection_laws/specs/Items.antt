@@ -4,7 +4,7 @@ use mathlib.Core.Option.{some}
 use mathlib.Core.Path.{_≡_, refl}
 use Prim.Native.Nat.{ℕ, suc, _+_, _<_}
 use lib.ListN.{length, getElem?}
-use Rattle.projection_spec.specs.Extracts.Fields.{countTag, twoBytes, field, rowField, numberAt, fieldOf}
+use Rattle.projection_spec.specs.Extracts.Fields.{countTag, twoBytes, field, rowField, numberAt, fieldOf, startAt}
 use Rattle.projection_spec.specs.Extracts.Reading.{Item, elementItem, textItem, itemsFrom, Placed, openFrom, rowsOfLaterItems, rowsOfItems}
 use Rattle.projection_laws.specs.Fields.{element-read, text-read}
 use Rattle.projection_laws.specs.Opens.{placed}
@@ -16,10 +16,6 @@ use Rattle.text_spec.specs.Lists.{gather}
 abbrev pub itemAt : Name → ℕ → ℕ → ℕ → ℕ → Item
 itemAt (element e) k number parent size = elementItem number parent e
 itemAt (text e) k number parent size = textItem number parent (k + 3 + 4) size
-
-abbrev pub startAt : Name → ℕ → ℕ
-startAt (element e) k = 0
-startAt (text e) k = k + 3 + 4
 
 abbrev pub sizeAt : Name → ℕ → ℕ
 sizeAt (element e) size = 0

@@ -6,11 +6,11 @@ use Prim.Native.Nat.{ℕ, zero, suc, _+_, _<_, _≤_}
 use native.Mathlib.Omega.{arith}
 use lib.Dec.{T, eqb, eqb-refl}
 use lib.ListN.{length, getElem?, length-append}
-use Rattle.projection_spec.specs.Extracts.Fields.{countTag, twoBytes, field, rowField, fieldOf, writeExtract}
+use Rattle.projection_spec.specs.Extracts.Fields.{countTag, twoBytes, field, rowField, fieldOf, writeExtract, rowsAt, extractRows}
 use Rattle.projection_spec.specs.Extracts.Reading.{itemsFrom, itemsOf, Placed, openFrom, rowsOfLaterItems, rowsOfItems}
 use Rattle.projection_laws.specs.Fields.{count-read}
 use Rattle.projection_laws.specs.Items.{opensAfter, field-item, item-row, root-item, parentNumber, restWritten}
-use Rattle.projection_laws.specs.Moved.{HasText, has-text, restart, restarted}
+use Rattle.projection_laws.specs.Moved.{HasText, has-text, restart}
 use Rattle.projection_laws.specs.Opens.{placed, Opens, open-element, open-text, opens-grow, FoundOpen, opens-found, opens-first, ReachedRows, row-of-node, same-count, reached-first, reached-next}
 use Rattle.projection_laws.specs.TextNames.{TextNames}
 use Rattle.schema_spec.specs.Names.{element, text, Name, isText}
@@ -114,7 +114,7 @@ module _ (s : Types) (law : TextNames s) (lent : List ℕ) (all : List Row) wher
   read-later : (done rs : List Row) (before : List Node) (previous : Node) (os : List Placed) (next fuel k : ℕ) → ReachedRows done before previous os
       → all ≡ done ++ rs → next ≡ length done → length all < 65536 → length rs < fuel → nodeNumber previous < maxNodes → T (laterRows s before previous rs)
       → T (allOf (textInside lent) rs)
-      → rowsOfLaterItems next os (itemsFrom fuel k (restWritten lent all rs)) ≡ some (restarted (fieldOf lent all) k rs)
+      → rowsOfLaterItems next os (itemsFrom fuel k (restWritten lent all rs)) ≡ some (rowsAt (fieldOf lent all) k rs)
   read-later done [] before previous os next zero k c e n h f b t i = absurd (omega arith)
   read-later done [] before previous os next (suc fuel) k c e n h f b t i =
       let whole : length all ≡ next = omega (arith, ap length e, length-append done []) in
@@ -127,7 +127,7 @@ module _ (s : Types) (law : TextNames s) (lent : List ℕ) (all : List Row) wher
       let fits = row-fits s before previous r y (u .0) in
       let place = k + length (fieldOf lent all r) in
       let small : nodeNumber y < maxNodes = rw (attached-number (r .number) (r .name) (textOf [] r) (getElem? before (r .parent))) (fits .small) in
-      read-row done rs (restarted (fieldOf lent all) place rs) before previous os r next fuel k c e n b fits (fitting s before previous r fits) (v .0)
+      read-row done rs (rowsAt (fieldOf lent all) place rs) before previous os r next fuel k c e n b fits (fitting s before previous r fits) (v .0)
       (λ os′ c′.
       read-later (done ++ (r ∷ [])) rs (before ++ (y ∷ [])) y os′ (suc next) fuel place c′ (e ∙ sym (append-assoc done (r ∷ []) rs))
       (omega (arith, length-append done (r ∷ []))) h (omega arith) small (u .1) (v .1))
@@ -160,7 +160,7 @@ fields-long lent all (r ∷ rs) =
 -- a whole well-formed table, written and read
 read-table : (s : Types) → TextNames s → (lent : List ℕ) (r : Row) (rs : List Row) → Rooted s r rs → T (allOf (textInside lent) (r ∷ rs)) → (fuel : ℕ)
     → length rs < fuel
-    → rowsOfItems (itemsFrom (suc fuel) 0 (restWritten lent (r ∷ rs) (r ∷ rs))) ≡ some (restarted (fieldOf lent (r ∷ rs)) 0 (r ∷ rs))
+    → rowsOfItems (itemsFrom (suc fuel) 0 (restWritten lent (r ∷ rs) (r ∷ rs))) ≡ some (rowsAt (fieldOf lent (r ∷ rs)) 0 (r ∷ rs))
 read-table s law lent r rs c i fuel h =
     let w = textOf lent r in
     let up = parentNumber all r in
@@ -180,7 +180,7 @@ read-table s law lent r rs c i fuel h =
     after = restWritten lent all rs
 
     rs′ : List Row
-    rs′ = restarted (fieldOf lent all) (0 + length f) rs
+    rs′ = rowsAt (fieldOf lent all) (0 + length f) rs
 
     y : Node
     y = top (r .number) (r .name)
@@ -213,12 +213,12 @@ written-long lent rows =
     omega (arith, fields-long lent rows rows, length-append (gather (fieldOf lent rows) rows) (field countTag (twoBytes (length rows))))
 
 pub table-items : (s : Types) → TextNames s → (lent : List ℕ) (rows : List Row) → T (wellFormed s rows) → T (allOf (textInside lent) rows)
-    → rowsOfItems (itemsOf (writeExtract lent rows)) ≡ some (restarted (fieldOf lent rows) 0 rows)
-unfolding writeExtract itemsOf
+    → rowsOfItems (itemsOf (writeExtract lent rows)) ≡ some (extractRows lent rows)
+unfolding writeExtract itemsOf extractRows
 table-items s law lent [] t i = refl
 table-items s law lent (r ∷ rs) t i = by-length (length (restWritten lent (r ∷ rs) (r ∷ rs))) (written-long lent (r ∷ rs))
   where
     by-length : (m : ℕ) → length (r ∷ rs) + 5 ≤ m
-        → rowsOfItems (itemsFrom m 0 (restWritten lent (r ∷ rs) (r ∷ rs))) ≡ some (restarted (fieldOf lent (r ∷ rs)) 0 (r ∷ rs))
+        → rowsOfItems (itemsFrom m 0 (restWritten lent (r ∷ rs) (r ∷ rs))) ≡ some (rowsAt (fieldOf lent (r ∷ rs)) 0 (r ∷ rs))
     by-length zero h = absurd (omega arith)
     by-length (suc fuel) h = read-table s law lent r rs (rooted s r rs t) i fuel (omega arith)

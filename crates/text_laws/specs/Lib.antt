@@ -8,3 +8,4 @@ pub mod Departures
 pub mod Cells
 pub mod Searches
 pub mod Loops
+pub mod Calls

@@ -4,3 +4,4 @@ pub mod Limits
 pub mod Refusals
 pub mod Texts
 pub mod Cells
+pub mod Calls
