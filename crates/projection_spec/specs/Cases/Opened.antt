@@ -9,9 +9,10 @@ use Rattle.projection_spec.specs.Extracts.Cut.{cut}
 use Rattle.projection_spec.specs.Extracts.Fields.{writeExtract}
 use Rattle.projection_spec.specs.Extracts.Reading.{itemsOf, readExtract}
 use Rattle.projection_spec.specs.Inference.Needed.{fromRoot, neededBeforeFilter, neededByPath, needed}
+use Rattle.projection_spec.specs.Library.Calls.{columnsAfter, recordAfter, schemaRead, bundleRead, journalRead, neededNames, tableCut, extractWritten, extractRead, nodesSelected, rowText, partAfter, rowChain, structsAfter, journalReadRows, tableCutRows, nodesSelectedRows}
 use Rattle.projection_spec.specs.Library.Hosts.{extractOf, makeExtract, bundlePaths, selectFrom, resultOf}
 use Rattle.projection_spec.specs.Library.Listing.{judgeFiles, listingLine, headerOf, refusedLine, listing}
-use Rattle.projection_spec.specs.Library.Records.{passesTable}
+use Rattle.projection_spec.specs.Library.Records.{passesSchema, passesBundle, schemaHeld, bundleHeld, tableHeld, tableBeside}
 use Rattle.schema_spec.specs.Closure.{byWayOf, closure}
 use Rattle.schema_spec.specs.Machine.{step as schemaStep, run as schemaRun, parse as schemaParse}
 use Rattle.schema_spec.specs.Names.{namesOf}
@@ -24,5 +25,5 @@ use Rattle.table_spec.specs.Tables.{wellFormed, wellFormedWith}
 use Rattle.text_spec.specs.Refusals.{firstOf}
 
 unfoldable pub computing : Unit {0}
-unfolding firstOf schemaStep schemaRun schemaParse schemaOf elementNamed schemaRefusals readSchema normal schemaIn isSchemaRecord namesOf byWayOf closure holds typesOf nodesOf wellFormed wellFormedWith lex onEvent journalStep journalRun readJournal bundleStep bundleRun bundleParse bundleRefusals readBundle selected select selectRows fromRoot neededBeforeFilter neededByPath needed cut writeExtract itemsOf readExtract extractOf makeExtract bundlePaths selectFrom resultOf judgeFiles listingLine headerOf refusedLine listing passesTable
+unfolding firstOf schemaStep schemaRun schemaParse schemaOf elementNamed schemaRefusals readSchema normal schemaIn isSchemaRecord namesOf byWayOf closure holds typesOf nodesOf wellFormed wellFormedWith lex onEvent journalStep journalRun readJournal bundleStep bundleRun bundleParse bundleRefusals readBundle selected select selectRows fromRoot neededBeforeFilter neededByPath needed cut writeExtract itemsOf readExtract extractOf makeExtract bundlePaths selectFrom resultOf judgeFiles listingLine headerOf refusedLine listing passesSchema passesBundle schemaHeld bundleHeld tableHeld tableBeside columnsAfter recordAfter schemaRead bundleRead journalRead neededNames tableCut extractWritten extractRead nodesSelected rowText partAfter rowChain structsAfter journalReadRows tableCutRows nodesSelectedRows
 computing = tt

@@ -6,20 +6,21 @@ use lib.Dec.{eqb, ltb}
 use lib.ListN.{length}
 use Rattle.projection_spec.specs.Extracts.Cut.{cut}
 use Rattle.journal_spec.specs.Reading.{readJournal}
+use Rattle.text_spec.specs.Calls.{inRoom}
 use Rattle.text_spec.specs.Cells.{tooSmall}
 use Rattle.path_spec.specs.Paths.{LocationPath}
 use Rattle.path_spec.specs.Reading.{readBundle}
 use Rattle.path_spec.specs.Selection.{select}
-use Rattle.schema_spec.specs.Names.{Name, element, text}
 use Rattle.schema_spec.specs.Reading.{readSchema}
-use Rattle.schema_spec.specs.Schemas.{Schema, nameAt}
+use Rattle.schema_spec.specs.Schemas.{Schema}
 use Rattle.schema_spec.specs.Types.{typesOf}
-use Rattle.table_spec.specs.Nodes.{Node, top, under, nodeNumber, nodesOf}
+use Rattle.table_spec.specs.Nodes.{Node, nodeNumber, nodesOf}
 use Rattle.table_spec.specs.Rows.{Row}
 use Rattle.text_spec.specs.Limits.{listingJournalBytes, listingRows}
 use Rattle.text_spec.specs.Lists.{bytes, anyOf, filterBy, gather}
-use Rattle.text_spec.specs.Refusals.{Refusal, Outcome, accepted, refused, judged, andThen, numberOf, at, given, tooFewCells}
+use Rattle.text_spec.specs.Refusals.{Refusal, Outcome, accepted, refused, andThen, numberOf}
 use Rattle.projection_spec.specs.Inference.Needed.{needed}
+use Rattle.projection_spec.specs.Library.Chains.{chain}
 
 -- a number in decimal; 20 digits are enough for 64 bits
 abbrev pub decimalIn : ℕ → ℕ → List ℕ
@@ -52,7 +53,7 @@ judgeFiles schema bundle journal =
     andThen (readSchema schema) (λ s.
     andThen (readBundle s bundle) (λ ps.
     andThen (readJournal listingJournalBytes s journal) (λ rows.
-    judged (given (tooSmall listingRows rows) (at tooFewCells 0)) (listingData s ps journal rows))))
+    inRoom (tooSmall listingRows rows) (listingData s ps journal rows))))
 
 abbrev pub isIn : ℕ → List ℕ → Bool
 isIn k ks = anyOf (eqb k) ks
@@ -65,15 +66,6 @@ selectedNodes l = filterBy (λ y. anyOf (isIn (nodeNumber y)) (l .selections)) (
 abbrev pub firstSelecting : ℕ → ℕ → List (List ℕ) → ℕ
 firstSelecting i k [] = i
 firstSelecting i k (ks ∷ kss) = cond (isIn k ks) i (firstSelecting (suc i) k kss)
-
--- "the chain of tags from the root down to it, a text ending in `text()`"
-abbrev pub tag : Schema → Name → List ℕ
-tag s (element e) = nameAt s e
-tag s (text e) = bytes "text()"
-
-abbrev pub chain : Schema → Node → List ℕ
-chain s (top k n) = bytes "/" ++ tag s n
-chain s (under k n w p) = chain s p ++ (bytes "/" ++ tag s n)
 
 -- "number, place in the bundle .., and the chain"
 unfoldable pub listingLine : ListingData → Node → List ℕ
