@@ -5,3 +5,5 @@ pub mod Order
 pub mod Texts
 pub mod Departures
 pub mod Cells
+pub mod Machines
+pub mod Scans
