@@ -13,7 +13,7 @@ use Rattle.projection_spec.specs.Library.Hosts.{extractOf, makeExtract, 
 use Rattle.projection_spec.specs.Library.Listing.{judgeFiles, lineOf, headerOf, refusedLine, listing}
 use Rattle.projection_spec.specs.Library.Records.{passesTable}
 use Rattle.schema_spec.specs.Closure.{byWayOf, closure}
-use Rattle.schema_spec.specs.Machine.{step as schemaStep, run as schemaRun, parse as schemaParse}
+use Rattle.schema_spec.specs.Machine.{step as schemaStep, parse as schemaParse}
 use Rattle.schema_spec.specs.Names.{namesOf}
 use Rattle.schema_spec.specs.Reading.{schemaRefusals, readSchema}
 use Rattle.schema_spec.specs.Records.{normal, schemaIn, isSchemaRecord}
@@ -21,8 +21,9 @@ use Rattle.schema_spec.specs.Schemas.{schemaOf, elementNamed}
 use Rattle.schema_spec.specs.Types.{holds, typesOf}
 use Rattle.table_spec.specs.Nodes.{nodesOf}
 use Rattle.table_spec.specs.Tables.{wellFormed, wellFormedWith}
+use Rattle.text_spec.specs.Machines.{run}
 use Rattle.text_spec.specs.Refusals.{firstOf}
 
 unfoldable pub computing : Unit {0}
-unfolding firstOf schemaStep schemaRun schemaParse schemaOf elementNamed schemaRefusals readSchema normal schemaIn isSchemaRecord namesOf byWayOf closure holds typesOf nodesOf wellFormed wellFormedWith lex onEvent journalStep journalRun readJournal bundleStep bundleRun bundleParse bundleRefusals readBundle selected select selectRows fromRoot neededBeforeFilter neededByPath needed cut writeExtract itemsOf readExtract extractOf makeExtract pathsOf selectFrom resultOf judgeFiles lineOf headerOf refusedLine listing passesTable
+unfolding firstOf run schemaStep schemaParse schemaOf elementNamed schemaRefusals readSchema normal schemaIn isSchemaRecord namesOf byWayOf closure holds typesOf nodesOf wellFormed wellFormedWith lex onEvent journalStep journalRun readJournal bundleStep bundleRun bundleParse bundleRefusals readBundle selected select selectRows fromRoot neededBeforeFilter neededByPath needed cut writeExtract itemsOf readExtract extractOf makeExtract pathsOf selectFrom resultOf judgeFiles lineOf headerOf refusedLine listing passesTable
 computing = tt
