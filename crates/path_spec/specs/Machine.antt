@@ -4,8 +4,8 @@ use mathlib.Core.List.{List, [], _∷_, _++_, map, reverse}
 use Prim.Native.Nat.{ℕ, suc, _-_}
 use lib.Dec.{eqb, ltb}
 use lib.ListN.{length, drop}
-use Rattle.path_spec.specs.Grammar.{PathRead, nodeCall, textCall, orWord}
-use Rattle.path_spec.specs.Paths.{WrittenAxis, writtenAxes, spellAxis, NodeTest, named, anyNode, anyText, PlainStep, Condition, LocationPath}
+use Rattle.path_spec.specs.Grammar.{PathRead, pathRead, nodeCall, textCall, orWord}
+use Rattle.path_spec.specs.Paths.{WrittenAxis, writtenAxes, spellAxis, NodeTest, named, anyNode, anyText, WrittenStep, PlainStep, Condition, unconditional, alternatives}
 use Rattle.schema_spec.specs.Declarations.{Use}
 use Rattle.text_spec.specs.Bytes.{startsName, continuesName}
 use Rattle.text_spec.specs.Limits.{maxNameBytes}
@@ -24,14 +24,14 @@ allChoices = map (λ a. record { axis = a; rest = spellAxis a }) writtenAxes
 pub record Outer : Type 0 where
   pub paths : List PathRead
   pub start : ℕ
-  pub steps : LocationPath Use
+  pub steps : List (WrittenStep Use (Condition Use))
 
 -- brackets that are being read: the step that carries them, the complete alternatives and the steps of this one (the last first)
 pub record Inner : Type 0 where
   pub outer : Outer
   pub axis : WrittenAxis
   pub test : NodeTest Use
-  pub alternatives : Condition Use
+  pub alternatives : List (List (PlainStep Use))
   pub steps : List (PlainStep Use)
 
 pub data Context : Type 0 where
@@ -100,18 +100,18 @@ withAlternative i =
 
 -- the brackets are complete, and with them their step
 abbrev pub bracketed : Inner → Outer
-bracketed i = withStep (i .axis) (i .test) (reverse (i .alternatives)) (i .outer)
+bracketed i = withStep (i .axis) (i .test) (alternatives (reverse (i .alternatives))) (i .outer)
 
 -- a step is complete: `/` and another, or the line feed that ends the path
 abbrev pub stepDone : Outer → ℕ → ℕ → State → State
 stepDone o k b otherwise =
     cond (eqb b 0x2F) (beginStep (outside o))
-    (cond (eqb b 0x0A) (lineStart (record { place = o .start; size = k - o .start; steps = reverse (o .steps) } ∷ o .paths)) otherwise)
+    (cond (eqb b 0x0A) (lineStart (pathRead (o .start) (k - o .start) (reverse (o .steps)) ∷ o .paths)) otherwise)
 
 -- the byte after a step's axis and test
 abbrev pub tested : WrittenAxis → NodeTest Use → Context → ℕ → ℕ → State
 tested a t (outside o) k b =
-    stepDone (withStep a t [] o) k b
+    stepDone (withStep a t unconditional o) k b
     (cond (eqb b 0x5B) (beginStep (inside (record { outer = o; axis = a; test = t; alternatives = []; steps = [] }))) dead)
 tested a t (inside i) k b =
     cond (eqb b 0x2F) (beginStep (inside (withPlain a t i)))

@@ -1,13 +1,13 @@
 -- The main lemma: two documents that have the same nodes among those whose own and ancestors' names are all needed give a path the same
--- nodes. It is symmetric in the documents, and speaks of any start, any type and context, and any conditions with two laws.
+-- nodes. It is symmetric in the documents, and speaks of any start, any type and context, and any conditions with five laws.
 -- Assumes nothing.
 use mathlib.Core.Bool.{Bool}
 use mathlib.Core.List.{List, [], _∷_, _++_, List·Memᴰ as In, List·Memᴰ·head as here, Memᴰ·append-left as append-left, Memᴰ·append-right as append-right}
-use mathlib.Core.Path.{refl}
-use Prim.Native.Nat.{ℕ}
+use mathlib.Core.Path.{_≡_, refl}
+use Prim.Native.Nat.{ℕ, suc}
 use lib.Dec.{T}
 use Rattle.path_laws.specs.Selection.{test-passes}
-use Rattle.path_spec.specs.Paths.{WrittenAxis, along, NodeTest, WrittenStep, Step, expandStep, expand}
+use Rattle.path_spec.specs.Paths.{WrittenAxis, along, NodeTest, WrittenStep, Step, expandStep, expandFrom}
 use Rattle.path_spec.specs.Selection.{NodeSet, Passes, passes, OnAxis, OnWritten, on-along, StepSet, PathSet}
 use Rattle.projection_spec.specs.Inference.Needed.{linked, between, complete, need}
 use Rattle.projection_spec.specs.Inference.Types.{Env, cutTo, move, narrow, infer, inferAll}
@@ -28,11 +28,15 @@ pub alike-turned : {r : Names} {d e : List Node} → Alike r d e → Alike r e d
 alike-turned a = record { forth = a .back; back = a .forth }
 
 -- What is asked of conditions: a name that has a node where one holds is kept by it, and where all that it wants is in r it holds in
--- both of two documents that are alike, or in neither.
-pub record Fair {C : Type 0} (s : Types) (Meets : List Node → C → Node → Type 0) (keeps : Names → C → Name → Bool) (wants : Names → C → Name → Names) : Type 0 where
+-- both of two documents that are alike, or in neither. `noCondition`, for the steps that an expansion puts in front of a written one, is
+-- met by every node, keeps every name and wants none.
+pub record Fair {C : Type 0} (s : Types) (Meets : List Node → C → Node → Type 0) (keeps : Names → C → Name → Bool) (wants : Names → C → Name → Names) (noCondition : C) : Type 0 where
   pub keeps-name : (doc : List Node) → AllValid s doc → (c : C) (k : Names) (y : Node) → Valid s y → Within k y → Meets doc c y → T (keeps k c (nameOf y))
   pub agrees : (r : Names) (d e : List Node) → AllValid s d → AllValid s e → Alike r d e → (c : C) (k : Names) (y : Node) → Valid s y → Within k y
       → Within r y → SubsetOf (wants k c (nameOf y)) r → Meets d c y → Meets e c y
+  pub none-met : (doc : List Node) (y : Node) → Meets doc noCondition y
+  pub none-keeps : (k : Names) (a : Name) → T (keeps k noCondition a)
+  pub none-wants : (k : Names) (a : Name) → wants k noCondition a ≡ []
 
 module _ {C : Type 0} (s : Types) (Meets : List Node → C → Node → Type 0) (doc : List Node) where
   -- an analysed step from one node to another; the nodes are valid, and need not be in the document
@@ -74,21 +78,21 @@ module _ {C : Type 0} (s : Types) (Meets : List Node → C → Node → Type 0) 
   of-trip S {x} i (stride {p = p} h t) =
       of-trip (StepSet doc (Meets doc) p S) (record { from = x; member = i; axis = h .axis; present = h .present; test = h .test; condition = h .condition }) t
 
+module _ {C : Type 0} (s : Types) (Meets : List Node → C → Node → Type 0) (noCondition : C) (none-met : (doc : List Node) (y : Node) → Meets doc noCondition y) (doc : List Node) where
   -- a written step, in valid nodes, is a track of the steps by which it is analysed
-  pub written-track : {a : WrittenAxis} {t : NodeTest ℕ} {c : C} {x y : Node} → OnWritten a x y → Valid s y → Passes t (nameOf y) → Meets doc c y
-      → Track (expandStep a t c) x y
-  written-track (on-along o) v q m = hop (record { valid = v; axis = o; test = q; condition = m }) stay
+  pub written-track : (i : ℕ) {a : WrittenAxis} {t : NodeTest ℕ} {c : C} {x y : Node} → OnWritten a x y → Valid s y → Passes t (nameOf y) → Meets doc c y
+      → Track s Meets doc (expandStep noCondition i a t c) x y
+  written-track i (on-along o) v q m = hop (record { valid = v; axis = o; test = q; condition = m }) stay
 
-  pub trip-track : AllValid s doc → {ps : List (WrittenStep ℕ C)} {x m : Node} → Trip ps x m → Track (expand ps) x m
-  trip-track ok stay = stay
-  trip-track ok (stride {y = y} h t) = track-join (written-track (h .axis) (ok y (h .present)) (h .test) (h .condition)) (trip-track ok t)
+  pub trip-track : AllValid s doc → (i : ℕ) {ps : List (WrittenStep ℕ C)} {x m : Node} → Trip s Meets doc ps x m → Track s Meets doc (expandFrom noCondition i ps) x m
+  trip-track ok i stay = stay
+  trip-track ok i (stride {y = y} h t) = track-join s Meets doc (written-track i (h .axis) (ok y (h .present)) (h .test) (h .condition)) (trip-track ok (suc i) t)
 
--- the condition of a written step stands at the end of its track
-track-condition : {C : Type 0} (s : Types) (Meets : List Node → C → Node → Type 0) (doc : List Node) (a : WrittenAxis) (t : NodeTest ℕ) (c : C) (x y : Node)
-    → Track s Meets doc (expandStep a t c) x y → Meets doc c y
-track-condition s Meets doc (along a) t c x y (hop h stay) = h .condition
+  -- the condition of a written step stands at the end of its track
+  pub track-condition : (i : ℕ) (a : WrittenAxis) (t : NodeTest ℕ) (c : C) (x y : Node) → Track s Meets doc (expandStep noCondition i a t c) x y → Meets doc c y
+  track-condition i (along a) t c x y (hop h stay) = h .condition
 
-module _ {C : Type 0} (s : Types) (law : Lawful s) (Meets : List Node → C → Node → Type 0) (keeps : Names → C → Name → Bool) (wants : Names → C → Name → Names) (fair : Fair s Meets keeps wants) where
+module _ {C : Type 0} (s : Types) (law : Lawful s) (Meets : List Node → C → Node → Type 0) (keeps : Names → C → Name → Bool) (wants : Names → C → Name → Names) (noCondition : C) (fair : Fair s Meets keeps wants noCondition) where
   -- ---- in one document: types and contexts follow a track, and it runs along a complete walk
   hop-typed : (doc : List Node) → AllValid s doc → (p : Step ℕ C) (e : Env) {x y : Node} → Valid s x → Typed e x → Hop s Meets doc p x y → Typed (infer s keeps p e) y
   hop-typed doc ok p e {x} {y} v f h =
@@ -157,21 +161,21 @@ module _ {C : Type 0} (s : Types) (law : Lawful s) (Meets : List Node → C → 
         }
 
     -- the same for written steps: a trip in the one document is a trip in the other, and its end is safe
-    pub trip-alike : {ps : List (WrittenStep ℕ C)} (v : Env) {x m : Node} → Valid s x → Typed v x → Within r x → SubsetOf (need s keeps wants (expand ps) v) r
+    pub trip-alike : (i : ℕ) {ps : List (WrittenStep ℕ C)} (v : Env) {x m : Node} → Valid s x → Typed v x → Within r x → SubsetOf (need s keeps wants (expandFrom noCondition i ps) v) r
         → Trip s Meets d ps x m → Trip s Meets e ps x m × Within r m
-    trip-alike v o f w sub stay = (stay, w)
-    trip-alike v {x} o f w sub (stride {p = p} {ps = ps} {y = y} h t) =
-        let q = expandStep (p .axis) (p .test) (p .condition) in
+    trip-alike i v o f w sub stay = (stay, w)
+    trip-alike i v {x} o f w sub (stride {p = p} {ps = ps} {y = y} h t) =
+        let q = expandStep noCondition i (p .axis) (p .test) (p .condition) in
         let u : Valid s y = dv y (h .present) in
-        let a : Arrived r e q (expand ps) v x y =
-        track-alike v o f w sub (written-track s Meets d (h .axis) u (h .test) (h .condition)) (trip-track s Meets d dv t) in
-        let z = trip-alike (inferAll s keeps q v) u (a .typed) (a .safe) (a .left) t in (
+        let a : Arrived r e q (expandFrom noCondition (suc i) ps) v x y =
+        track-alike v o f w sub (written-track s Meets noCondition (fair .none-met) d i (h .axis) u (h .test) (h .condition)) (trip-track s Meets noCondition (fair .none-met) d dv (suc i) t) in
+        let z = trip-alike (suc i) (inferAll s keeps q v) u (a .typed) (a .safe) (a .left) t in (
           stride
               (record {
                 axis = h .axis;
                 present = al .forth y (a .safe) (h .present);
                 test = h .test;
-                condition = track-condition s Meets e (p .axis) (p .test) (p .condition) x y (a .track);
+                condition = track-condition s Meets noCondition (fair .none-met) e i (p .axis) (p .test) (p .condition) x y (a .track);
               })
               (z .0),
           z .1,

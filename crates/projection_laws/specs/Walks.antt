@@ -6,9 +6,9 @@ use mathlib.Core.Path.{_≡_, refl, sym, subst}
 use Prim.Native.Nat.{ℕ, _<_}
 use lib.Dec.{T}
 use lib.ListN.{length}
-use Rattle.path_spec.specs.Paths.{Axis, self, child, descendant, descendantOrSelf, parent, ancestor, ancestorOrSelf, NodeTest, Step, Condition, LocationPath, expand}
+use Rattle.path_spec.specs.Paths.{Axis, self, child, descendant, descendantOrSelf, parent, ancestor, ancestorOrSelf, NodeTest, Step, Condition, unconditional, conditionPaths, LocationPath, expand}
 use Rattle.path_spec.specs.Selection.{passes}
-use Rattle.projection_spec.specs.Inference.Needed.{linked, between, complete, need, keepsAll, wantsNothing, keepsName, wantsNames, fromRoot, atRoot, neededBeforeFilter, neededByPath, needed}
+use Rattle.projection_spec.specs.Inference.Needed.{linked, between, complete, need, keepsAll, wantsNothing, keepsName, wantsNames, fromRoot, atStart, neededBeforeFilter, neededByPath, needed}
 use Rattle.projection_spec.specs.Inference.Types.{Env, env, holding, allBelow, allAbove, unionOf, cutTo, move, narrow, infer}
 use Rattle.projection_spec.specs.Inference.Walks as walks
 use Rattle.projection_spec.specs.Inference.Walks.{Linked, by-self, by-child, by-descendant, stays-down, goes-down, by-parent, by-ancestor, stays-up, goes-up, Passing, descends, descends-or-stays, Walk, at-last, onward, Asks, own, conditional, later, Needs, WantsNothing, WantsNames, by-alternative, PathNeeds, Reached, root, next, BundleNeeds, by-path}
@@ -263,22 +263,22 @@ module _ (s : Schema) (full : 0 < length s) (closed : Closed s) where
   condition-listed =
       record {
         sound = λ k c a n i.
-            let q = gather-in (λ l. need types keepsAll wantsNothing (expand l) (env (a ∷ []) k)) c i in
-            by-alternative (q .0) (q .1) (need-sound keepsAll wantsNothing WantsNothing plain-listed (expand (q .0)) (env (a ∷ []) k) (q .2));
+            let q = gather-in (λ l. need types keepsAll wantsNothing (expand tt l) (env (a ∷ []) k)) (conditionPaths c) i in
+            by-alternative (q .0) (q .1) (need-sound keepsAll wantsNothing WantsNothing plain-listed (expand tt (q .0)) (env (a ∷ []) k) (q .2));
         complete = wanted;
       }
     where
       wanted : (k : Names) (c : Condition ℕ) (a n : Name) → WantsNames s k c a n → In n (wantsNames types k c a)
       wanted k c a n (by-alternative q i z) =
-          in-gather (λ l. need types keepsAll wantsNothing (expand l) (env (a ∷ []) k)) i (need-complete keepsAll wantsNothing WantsNothing plain-listed (expand q) (env (a ∷ []) k) z)
+          in-gather (λ l. need types keepsAll wantsNothing (expand tt l) (env (a ∷ []) k)) i (need-complete keepsAll wantsNothing WantsNothing plain-listed (expand tt q) (env (a ∷ []) k) z)
 
   pub path-needs : (p : LocationPath ℕ) (n : Name) → In n (neededBeforeFilter types p) → PathNeeds s p n
   unfolding neededBeforeFilter
-  path-needs p n i = need-sound (keepsName types) (wantsNames types) (WantsNames s) condition-listed (expand p) (atRoot types) i
+  path-needs p n i = need-sound (keepsName types) (wantsNames types) (WantsNames s) condition-listed (expand unconditional (p .steps)) (atStart types (p .start)) i
 
   pub needs-path : (p : LocationPath ℕ) (n : Name) → PathNeeds s p n → In n (neededBeforeFilter types p)
   unfolding neededBeforeFilter
-  needs-path p n z = need-complete (keepsName types) (wantsNames types) (WantsNames s) condition-listed (expand p) (atRoot types) z
+  needs-path p n z = need-complete (keepsName types) (wantsNames types) (WantsNames s) condition-listed (expand unconditional (p .steps)) (atStart types (p .start)) z
 
   -- "names that the root reaches by holdings inside this set"
   module _ (r : Names) (P : Name → Type 0) where

@@ -1,5 +1,6 @@
 pub mod Tests
 pub mod Lists
+pub mod Bytes
 pub mod Refusals
 pub mod Order
 pub mod Texts
@@ -7,3 +8,5 @@ pub mod Departures
 pub mod Cells
 pub mod Machines
 pub mod Scans
+pub mod Searches
+pub mod Loops

@@ -8,9 +8,9 @@ use lib.Dec.{T, eqb, leb, ltb, leb→le, lt→ltb}
 use lib.ListN.{length, length-append}
 use Rattle.path_laws.specs.Grammar.Joined.{reversed-filled}
 use Rattle.path_laws.specs.Grammar.Runs.{final, final-append, run-alive}
-use Rattle.path_spec.specs.Grammar.{PathRead, orWord, TestText, a-name, any-node, any-text, PlainText, plain, AlternativeText, one-step, more-steps, ConditionText, one-alternative, more-alternatives, StepText, bare, conditional, PathText, last-step, next-step, BundleText, last-path, next-path}
+use Rattle.path_spec.specs.Grammar.{PathRead, pathRead, orWord, TestText, a-name, any-node, any-text, PlainText, plain, AlternativeText, one-step, more-steps, ConditionText, one-alternative, more-alternatives, StepText, bare, conditional, PathText, last-step, next-step, BundleText, last-path, next-path}
 use Rattle.path_spec.specs.Machine.{Outer, Inner, Context, outside, inside, State, lineStart, beforeTest, inTest, afterCall, afterBrackets, beginStep, withStep, withPlain, withAlternative, bracketed, tested, isDead, step, spells, atEnd, parse}
-use Rattle.path_spec.specs.Paths.{self, child, descendant, descendantOrSelf, parent, ancestor, ancestorOrSelf, WrittenAxis, along, spellAxis, NodeTest, named, WrittenStep, PlainStep, Condition, LocationPath}
+use Rattle.path_spec.specs.Paths.{self, child, descendant, descendantOrSelf, parent, ancestor, ancestorOrSelf, WrittenAxis, along, spellAxis, NodeTest, named, WrittenStep, PlainStep, Condition, unconditional, alternatives}
 use Rattle.schema_spec.specs.Declarations.{Use}
 use Rattle.text_laws.specs.Tests.{and-cases, true-of}
 use Rattle.text_spec.specs.Bytes.{startsName, continuesName, isName}
@@ -108,10 +108,10 @@ condition-closed : {q : State} {i : Inner} → ConditionEnd q i → (k : ℕ) �
 condition-closed (condition-end e) k = alternative-closed e k
 
 -- the brackets of a step of o, with complete alternatives
-abbrev opened : Outer → WrittenAxis → NodeTest Use → Condition Use → Inner
+abbrev opened : Outer → WrittenAxis → NodeTest Use → List (List (PlainStep Use)) → Inner
 opened o a t c = record { outer = o; axis = a; test = t; alternatives = c; steps = [] }
 
-condition-read : {k : ℕ} {w : List ℕ} {c : Condition Use} → ConditionText k w c → (o : Outer) (a : WrittenAxis) (t : NodeTest Use) (d : Condition Use)
+condition-read : {k : ℕ} {w : List ℕ} {c : List (List (PlainStep Use))} → ConditionText k w c → (o : Outer) (a : WrittenAxis) (t : NodeTest Use) (d : List (List (PlainStep Use)))
     → ConditionEnd (final (beginStep (inside (opened o a t d))) w k) (opened o a t (reverseAux c d))
 unfolding withSteps
 condition-read {k} {w} (one-alternative {q = q} x) o a t d =
@@ -124,7 +124,7 @@ condition-read {k} (more-alternatives {w = w} {r = r} {q = q} {qs = qs} x y) o a
 
 -- ---- a state after a step, with the path that it leaves
 data StepEnd : State → Outer → Type 0 where
-  bare-end : {q : State} {a : WrittenAxis} {t : NodeTest Use} {o : Outer} → TestEnd q a t (outside o) → StepEnd q (withStep a t [] o)
+  bare-end : {q : State} {a : WrittenAxis} {t : NodeTest Use} {o : Outer} → TestEnd q a t (outside o) → StepEnd q (withStep a t unconditional o)
   brackets-end : {o : Outer} → StepEnd (afterBrackets o) o
 
 next-in-path : {q : State} {o : Outer} → StepEnd q o → (k : ℕ) → step q k 0x2F ≡ beginStep (outside o)
@@ -133,7 +133,7 @@ next-in-path (bare-end c) k = test-end-step c k 0x2F refl refl
 next-in-path brackets-end k = refl
 
 path-closed : {q : State} {o : Outer} → StepEnd q o → (k : ℕ)
-    → step q k 0x0A ≡ lineStart (record { place = o .start; size = k - o .start; steps = reverse (o .steps) } ∷ o .paths)
+    → step q k 0x0A ≡ lineStart (pathRead (o .start) (k - o .start) (reverse (o .steps)) ∷ o .paths)
 unfolding step
 path-closed (bare-end c) k = test-end-step c k 0x0A refl refl
 path-closed brackets-end k = refl
@@ -141,20 +141,20 @@ path-closed brackets-end k = refl
 step-read : {k : ℕ} {w : List ℕ} {p : WrittenStep Use (Condition Use)} → StepText k w p → (o : Outer)
     → StepEnd (final (beginStep (outside o)) w k) (withStep (p .axis) (p .test) (p .condition) o)
 step-read (bare p) o = bare-end (plain-read p (outside o))
-step-read {k} (conditional {w = w} {r = r} {p = p} {c = c} s d) o = subst (λ (q : State). StepEnd q (withStep (p .axis) (p .test) c o)) (sym closed) brackets-end
+step-read {k} (conditional {w = w} {r = r} {p = p} {qs = qs} s d) o = subst (λ (q : State). StepEnd q (withStep (p .axis) (p .test) (alternatives qs) o)) (sym closed) brackets-end
   where
-    closed : final (beginStep (outside o)) (w ++ (0x5B ∷ (r ++ (0x5D ∷ [])))) k ≡ afterBrackets (withStep (p .axis) (p .test) c o)
+    closed : final (beginStep (outside o)) (w ++ (0x5B ∷ (r ++ (0x5D ∷ [])))) k ≡ afterBrackets (withStep (p .axis) (p .test) (alternatives qs) o)
     closed =
         final-append (beginStep (outside o)) w (0x5B ∷ (r ++ (0x5D ∷ []))) k
         ∙ ap (λ (q : State). final q (r ++ (0x5D ∷ [])) (suc (k + length w))) (test-end-step (plain-read s (outside o)) (k + length w) 0x5B refl refl)
         ∙ final-append (beginStep (inside (opened o (p .axis) (p .test) []))) r (0x5D ∷ []) (suc (k + length w))
         ∙ condition-closed (condition-read d o (p .axis) (p .test) []) (suc (k + length w) + length r)
-        ∙ ap (λ (b : Condition Use). afterBrackets (withStep (p .axis) (p .test) b o)) (reverse-reverse c)
+        ∙ ap (λ (l : List (List (PlainStep Use))). afterBrackets (withStep (p .axis) (p .test) (alternatives l) o)) (reverse-reverse qs)
 
-withPath : LocationPath Use → Outer → Outer
+withPath : List (WrittenStep Use (Condition Use)) → Outer → Outer
 withPath p o = record { paths = o .paths; start = o .start; steps = reverseAux p (o .steps) }
 
-path-read : {k : ℕ} {w : List ℕ} {p : LocationPath Use} → PathText k w p → (o : Outer) → StepEnd (final (beginStep (outside o)) w k) (withPath p o)
+path-read : {k : ℕ} {w : List ℕ} {p : List (WrittenStep Use (Condition Use))} → PathText k w p → (o : Outer) → StepEnd (final (beginStep (outside o)) w k) (withPath p o)
 unfolding withPath
 path-read (last-step s) o = step-read s o
 path-read {k} (next-step {w = w} {r = r} {p = p} s q) o =
@@ -182,7 +182,7 @@ step-filled : {k : ℕ} {w : List ℕ} {p : WrittenStep Use (Condition Use)} →
 step-filled (bare p) = plain-filled p
 step-filled (conditional {w = w} {r = r} p c) = append-filled w (0x5B ∷ (r ++ (0x5D ∷ []))) (plain-filled p)
 
-path-filled : {k : ℕ} {w : List ℕ} {p : LocationPath Use} → PathText k w p → isEmpty w ≡ false
+path-filled : {k : ℕ} {w : List ℕ} {p : List (WrittenStep Use (Condition Use))} → PathText k w p → isEmpty w ≡ false
 path-filled (last-step s) = step-filled s
 path-filled (next-step {w = w} {r = r} s q) = append-filled w (0x2F ∷ r) (step-filled s)
 
@@ -195,8 +195,8 @@ unfolding step
 line-begins [] e ps k = cc
 line-begins (b ∷ w) e ps k = refl
 
-line-read : {k : ℕ} {w : List ℕ} {p : LocationPath Use} → PathText k w p → (r : List ℕ) (ps : List PathRead)
-    → final (lineStart ps) (w ++ (0x0A ∷ r)) k ≡ final (lineStart (record { place = k; size = length w; steps = p } ∷ ps)) r (suc (k + length w))
+line-read : {k : ℕ} {w : List ℕ} {p : List (WrittenStep Use (Condition Use))} → PathText k w p → (r : List ℕ) (ps : List PathRead)
+    → final (lineStart ps) (w ++ (0x0A ∷ r)) k ≡ final (lineStart (pathRead k (length w) p ∷ ps)) r (suc (k + length w))
 unfolding withPath
 line-read {k} {w} {p} t r ps =
     line-begins (w ++ (0x0A ∷ r)) (append-filled w (0x0A ∷ r) (path-filled t)) ps k
@@ -204,12 +204,12 @@ line-read {k} {w} {p} t r ps =
     ∙ ap (λ (q : State). final q r (suc (k + length w))) (path-closed (path-read t (line ps k)) (k + length w) ∙ same-path (omega arith) (reverse-reverse p))
   where
     same-path : k + length w - k ≡ length w → reverse (reverse p) ≡ p
-        → lineStart (record { place = k; size = k + length w - k; steps = reverse (reverse p) } ∷ ps) ≡ lineStart (record { place = k; size = length w; steps = p } ∷ ps)
+        → lineStart (pathRead k (k + length w - k) (reverse (reverse p)) ∷ ps) ≡ lineStart (pathRead k (length w) p ∷ ps)
     same-path e f = rw (e, f)
 
 lines-read : {k : ℕ} {w : List ℕ} {ps : List PathRead} → BundleText k w ps → (qs : List PathRead) → final (lineStart qs) w k ≡ lineStart (reverseAux ps qs)
 lines-read (last-path t) qs = line-read t [] qs
-lines-read {k} (next-path {w = w} {r = r} {p = p} t b) qs = line-read t r qs ∙ lines-read b (record { place = k; size = length w; steps = p } ∷ qs)
+lines-read {k} (next-path {w = w} {r = r} {s = s} t b) qs = line-read t r qs ∙ lines-read b (pathRead k (length w) s ∷ qs)
 
 spelt : (qs : List PathRead) (k : ℕ) → isEmpty qs ≡ false → atEnd (lineStart qs) k ≡ spells (reverse qs)
 spelt [] k e = cc
@@ -217,7 +217,7 @@ spelt (q ∷ qs) k e = refl
 
 bundle-filled : {k : ℕ} {w : List ℕ} {ps : List PathRead} → BundleText k w ps → isEmpty (reverse ps) ≡ false
 bundle-filled (last-path t) = refl
-bundle-filled {k} (next-path {w = w} {p = p} {ps = ps} t b) = reversed-filled ps (record { place = k; size = length w; steps = p } ∷ []) refl
+bundle-filled {k} (next-path {w = w} {s = s} {ps = ps} t b) = reversed-filled ps (pathRead k (length w) s ∷ []) refl
 
 pub parse-complete : {text : List ℕ} {ps : List PathRead} → BundleText 0 text ps → parse text ≡ spells ps
 unfolding parse

@@ -3,12 +3,12 @@ use mathlib.Core.Bool.{Bool}
 use mathlib.Core.List.{List, [], _∷_, List·Memᴰ}
 use Prim.Native.Nat.{ℕ}
 use lib.Dec.{T}
-use Rattle.path_spec.specs.Paths.{Axis, self, child, descendant, descendantOrSelf, parent, ancestor, ancestorOrSelf, Step, PlainStep, Condition, LocationPath, expand}
+use Rattle.path_spec.specs.Paths.{Axis, self, child, descendant, descendantOrSelf, parent, ancestor, ancestorOrSelf, Step, PlainStep, Condition, unconditional, conditionPaths, LocationPath, expand}
 use Rattle.schema_spec.specs.Names.{Name, Names, element}
 use Rattle.schema_spec.specs.Schemas.{Schema}
 use Rattle.schema_spec.specs.Types.{typesOf, holds, Below}
 use Rattle.projection_spec.specs.Inference.Types.{Env, env, cutTo, infer}
-use Rattle.projection_spec.specs.Inference.Needed.{keepsAll, keepsName, atRoot}
+use Rattle.projection_spec.specs.Inference.Needed.{keepsAll, keepsName, atStart}
 
 -- two neighbours of a walk
 pub data Linked (s : Schema) : Axis → Name → Name → Type 0 where
@@ -58,11 +58,11 @@ pub data WantsNothing : Names → Unit {0} → Name → Name → Type 0 where
 
 -- the names of a condition from a name
 pub data WantsNames (s : Schema) (k : Names) (c : Condition ℕ) (a n : Name) : Type 0 where
-  by-alternative : (q : List (PlainStep ℕ)) → List·Memᴰ q c → Needs s keepsAll WantsNothing (expand q) (env (a ∷ []) k) n → WantsNames s k c a n
+  by-alternative : (q : List (PlainStep ℕ)) → List·Memᴰ q (conditionPaths c) → Needs s keepsAll WantsNothing (expand tt q) (env (a ∷ []) k) n → WantsNames s k c a n
 
 -- the names that a path needs before the last filter
 abbrev pub PathNeeds : Schema → LocationPath ℕ → Name → Type 0
-PathNeeds s p n = Needs s (keepsName (typesOf s)) (WantsNames s) (expand p) (atRoot (typesOf s)) n
+PathNeeds s p n = Needs s (keepsName (typesOf s)) (WantsNames s) (expand unconditional (p .steps)) (atStart (typesOf s) (p .start)) n
 
 -- "names that the root reaches by holdings inside this set"
 pub data Reached (s : Schema) (In : Name → Type 0) : Name → Type 0 where
