@@ -23,7 +23,7 @@ module _ {A C : Type 0} (noCondition : C) where
   pub record ComesFrom (i : ℕ) (ps : List (WrittenStep A C)) (q : Step A C) : Type 0 where
     pub place : ℕ
     pub step : WrittenStep A C
-    pub there : getElem? ps place ≡ some step
+    pub present : getElem? ps place ≡ some step
     pub number : q .written ≡ i + place
     pub analysed : In q (expandStep noCondition (q .written) (step .axis) (step .test) (step .condition))
 
@@ -38,13 +38,13 @@ module _ {A C : Type 0} (noCondition : C) where
           record {
             place = 0;
             step = p;
-            there = refl;
+            present = refl;
             number = omega arith;
             analysed = subst (λ (j : ℕ). In q (expandStep noCondition j (p .axis) (p .test) (p .condition))) (sym e) n;
           }
       by (inr n) later =
           let r = later n in
-          record { place = suc (r .place); step = r .step; there = r .there; number = omega arith; analysed = r .analysed }
+          record { place = suc (r .place); step = r .step; present = r .present; number = omega arith; analysed = r .analysed }
 
   -- In the base the expansion is one to one, so the numbers are 1, 2, .., one for each written step.
   expand-numbered-from : (i : ℕ) (ps : List (WrittenStep A C)) → map (λ q. q .written) (expandFrom noCondition i ps) ≡ numbersFrom i ps
