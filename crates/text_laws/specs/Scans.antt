@@ -1,6 +1,6 @@
 -- Laws of judging a text from a place on, for any machine: a byte, blanks, a keyword, a name. What stands in the text is said by its
 -- places alone, so that a reader of any grammar cites them.
-use mathlib.Core.Bool.{Bool, true, false, cond, _||_}
+use mathlib.Core.Bool.{Bool, true, false, cond}
 use mathlib.Core.List.{List, [], _∷_, _++_, append-assoc, append-nil}
 use mathlib.Core.Option.{Option, none}
 use mathlib.Core.Path.{_≡_, refl, sym, ap, _∙_}
@@ -9,27 +9,18 @@ use native.Mathlib.Nat.{add-zero}
 use native.Mathlib.Numerals.{add-one}
 use native.Mathlib.Omega.{arith}
 use borrow.Author.Tests.{ltb-true, ltb-false, lt-ltb, le-ltb, eq-eqb, ne-eqb}
-use lib.Dec.{eqb, ltb}
+use lib.Dec.{T, eqb, ltb, eqb-refl}
 use lib.ListN.{length, drop, drop-of-length-le, length-append}
 use lib.Seq.{drop-cons}
-use Rattle.text_laws.specs.Tests.{cond-yes, cond-no}
-use Rattle.text_spec.specs.Bytes.{isBlank, isLetter, isDigit, startsName, continuesName}
+use Rattle.text_laws.specs.Machines.{final}
+use Rattle.text_laws.specs.Tests.{true-of, and-cases, cond-true, cond-yes, cond-no}
+use Rattle.text_spec.specs.Bytes.{isBlank, continuesName}
 use Rattle.text_spec.specs.Limits.{maxNameBytes}
+use Rattle.text_spec.specs.Lists.{allOf}
 use Rattle.text_spec.specs.Machines.{departs, Machine, spelt, atEnd, run, from, matching, longer}
 use Rattle.text_spec.specs.Scans.{byteAt, Each, Stops, Begins, nameIn, nameAt}
 
 -- ---- the name at a place
--- what starts a name may go on with it
-pub starts-continues : (b : ℕ) → startsName b ≡ true → continuesName b ≡ true
-starts-continues b e = go (isLetter b) (isDigit b) (eqb b 0x2D) (eqb b 0x2E) (eqb b 0x5F) e
-  where
-    go : (l d x y z : Bool) → (l || z) ≡ true → (l || (d || (x || (y || z)))) ≡ true
-    go true d x y z e = refl
-    go false true x y z e = refl
-    go false false true y z e = refl
-    go false false false true z e = refl
-    go false false false false z e = e
-
 module _ (s : List ℕ) (i : ℕ) where
   pub name-cons : i < length s → continuesName (byteAt s i) ≡ true → nameAt s i ≡ byteAt s i ∷ nameAt s (i + 1)
   name-cons h e = ap nameIn (drop-cons s i 0 h) ∙ cond-yes (byteAt s i ∷ nameIn (drop (suc i) s)) [] e ∙ rw (add-one i)
@@ -126,6 +117,12 @@ module _ {State A : Type 0} {M : Machine State A} {dead whole : State} {part : L
   due-live [] = K .live
   due-live (c ∷ w) = K .lives (c ∷ w)
 
+  -- the bytes of a keyword lead to the state after it
+  pub keyword-final : (w : List ℕ) (k : ℕ) → final M (due whole part w) w k ≡ whole
+  keyword-final [] k = refl
+  keyword-final (c ∷ w) k =
+      ap (λ (q : State). final M q w (suc k)) (K .goes (c ∷ w) k c ∙ matching-due c w c ∙ cond-true (eqb c c) (due whole part w) dead (eqb-refl c)) ∙ keyword-final w (suc k)
+
   -- the byte i of the text s, and the byte n of the keyword w
   module _ (w s : List ℕ) (n i : ℕ) (more : n < length w) where
     opened : due whole part (drop n w) ≡ part (byteAt w n ∷ drop (suc n) w)
@@ -172,6 +169,18 @@ pub record Naming {State A : Type 0} (M : Machine State A) (dead : State) (q : L
   pub lives : (n : List ℕ) → M .isDead (q n) ≡ false
   pub goes : (n : List ℕ) (k b : ℕ) → continuesName b ≡ true → M .step (q n) k b ≡ longer dead n b q
 
+module _ {State A : Type 0} {M : Machine State A} {dead : State} {q : List ℕ → State} (N : Naming M dead q) where
+  longer-step : (n : List ℕ) (k b : ℕ) → continuesName b ≡ true → length n < maxNameBytes → M .step (q n) k b ≡ q (n ++ (b ∷ []))
+  longer-step n k b e l = N .goes n k b e ∙ cond-yes (q (n ++ (b ∷ []))) dead (lt-ltb (length n) maxNameBytes l)
+
+  -- the rest of a name
+  pub name-final : (n m : List ℕ) (k : ℕ) → T (allOf continuesName m) → length n + length m ≤ maxNameBytes → final M (q n) m k ≡ q (n ++ m)
+  name-final n [] k t l = ap q (sym (append-nil n))
+  name-final n (b ∷ m) k t l =
+      let c = and-cases (continuesName b) (allOf continuesName m) t in
+      ap (λ (r : State). final M r m (suc k)) (longer-step n k b (true-of (continuesName b) (c .0)) (omega arith))
+      ∙ name-final (n ++ (b ∷ [])) m (suc k) (c .1) (omega (arith, length-append n (b ∷ []))) ∙ ap q (append-assoc n (b ∷ []) m)
+
 module _ {State A : Type 0} {M : Machine State A} {dead : State} {q : List ℕ → State} (N : Naming M dead q) (s : List ℕ) where
   -- what n more bytes from i on add to a name of which m has been read
   record Read (m : List ℕ) (i n : ℕ) : Type 0 where
@@ -193,7 +202,7 @@ module _ {State A : Type 0} {M : Machine State A} {dead : State} {q : List ℕ �
         many = ap suc (r .many);
         name = name-cons s i (omega arith) c ∙ ap (λ (v : List ℕ). b ∷ v) (r .name ∙ ap (λ (k : ℕ). r .bytes ++ nameAt s k) e);
         same =
-            step-at M s i (q m) (q (m ++ (b ∷ []))) (omega arith) (N .goes m i b c ∙ cond-yes (q (m ++ (b ∷ []))) dead (lt-ltb (length m) maxNameBytes (omega arith))) (N .lives (m ++ (b ∷ [])))
+            step-at M s i (q m) (q (m ++ (b ∷ []))) (omega arith) (longer-step N m i b c (omega arith)) (N .lives (m ++ (b ∷ [])))
             ∙ r .same ∙ ap (from M (q (m ++ (b ∷ []) ++ r .bytes)) s) e ∙ ap (λ (v : List ℕ). from M (q v) s (i + suc n)) (append-assoc m (b ∷ []) (r .bytes));
       }
 
