@@ -38,11 +38,11 @@ bundle-unique {text} {ps} {qs} b c =
     cc
 
 -- what was found are the places at which one refusal applies
-pub record Found (r : Reason) (fs : List Refusal) (Applies : ℕ → Type 0) : Type 0 where
+pub record FoundBy (r : Reason) (fs : List Refusal) (Applies : ℕ → Type 0) : Type 0 where
   pub sound : (f : Refusal) → In f fs → (f .reason ≡ r) × Applies (f .place)
   pub complete : (k : ℕ) → Applies k → In (at r k) fs
 
-all-found : (r : Reason) (ks : List ℕ) {Applies : ℕ → Type 0} → ((k : ℕ) → In k ks → Applies k) → ((k : ℕ) → Applies k → In k ks) → Found r (allAt r ks) Applies
+all-found : (r : Reason) (ks : List ℕ) {Applies : ℕ → Type 0} → ((k : ℕ) → In k ks → Applies k) → ((k : ℕ) → Applies k → In k ks) → FoundBy r (allAt r ks) Applies
 all-found r ks {Applies} s c =
     record {
       sound = λ f i.
@@ -126,7 +126,7 @@ in-limits i [] p v t =
 in-limits i (q ∷ u) p v t =
     append-right (given (passesLimit i q) (at overPathLimit (q .place))) (in-limits (suc i) u p v (subst (λ (k : ℕ). TooMuch k p) (omega arith) t))
 
-pub limits-found : (ps : List PathRead) → Found overPathLimit (limitRefusals 0 ps) (OverLimit ps)
+pub limits-found : (ps : List PathRead) → FoundBy overPathLimit (limitRefusals 0 ps) (OverLimit ps)
 limits-found ps = record { sound = to; complete = from }
   where
     to : (f : Refusal) → In f (limitRefusals 0 ps) → (f .reason ≡ overPathLimit) × OverLimit ps (f .place)
@@ -142,7 +142,7 @@ limits-found ps = record { sound = to; complete = from }
         (in-limits 0 (s .before) (s .here) (s .after) (subst (λ (j : ℕ). TooMuch j (s .here)) (omega (arith, s .placed)) t))
 
 -- ---- refusal 10
-pub undeclared-found : (s : Schema) (ps : List PathRead) → Found undeclaredInPath (allAt undeclaredInPath (undeclaredPlaces s ps)) (Undeclared s ps)
+pub undeclared-found : (s : Schema) (ps : List PathRead) → FoundBy undeclaredInPath (allAt undeclaredInPath (undeclaredPlaces s ps)) (Undeclared s ps)
 undeclared-found s ps = all-found undeclaredInPath (undeclaredPlaces s ps) to from
   where
     isUndeclared : Use → Bool
@@ -164,7 +164,7 @@ undeclared-found s ps = all-found undeclaredInPath (undeclaredPlaces s ps) to fr
 
 -- ---- refusal 8
 -- what the machine found is where the text departs
-pub departs-found : (text : List ℕ) (k : ℕ) → parse text ≡ departs k → Found badPath (at badPath k ∷ []) (Departs Grammatical text)
+pub departs-found : (text : List ℕ) (k : ℕ) → parse text ≡ departs k → FoundBy badPath (at badPath k ∷ []) (Departs Grammatical text)
 departs-found text k e = record { sound = to; complete = λ j d. here (ap (at badPath) (departs-once Grammatical d (parse-departs text k e))) }
   where
     to : (f : Refusal) → In f (at badPath k ∷ []) → (f .reason ≡ badPath) × Departs Grammatical text (f .place)
@@ -174,7 +174,7 @@ departs-found text k e = record { sound = to; complete = λ j d. here (ap (at ba
 -- ---- the outcome
 module _ (s : Schema) (text : List ℕ) where
   -- a refusal that was found applies
-  applies-at : {r : Reason} {fs : List Refusal} {P : ℕ → Type 0} → Found r fs P → ((k : ℕ) → P k → BundleApplies s text r k) → (f : Refusal) → In f fs
+  applies-at : {r : Reason} {fs : List Refusal} {P : ℕ → Type 0} → FoundBy r fs P → ((k : ℕ) → P k → BundleApplies s text r k) → (f : Refusal) → In f fs
       → BundleApplies s text (f .reason) (f .place)
   applies-at {r} n h f i =
       let p = n .sound f i in

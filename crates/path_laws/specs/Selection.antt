@@ -15,7 +15,7 @@ use Rattle.path_spec.specs.Selection.{NodeSet, Passes, passes-name, passes-node
 use Rattle.schema_spec.specs.Names.{Name, element, text}
 use Rattle.schema_spec.specs.Types.{Types}
 use Rattle.table_spec.specs.Conditions.{RowAt, WellFormed}
-use Rattle.table_spec.specs.Nodes.{Node, nodeAt, nodesFrom, nodesOf, numberOf, nameOf, isTop, same, isAbove}
+use Rattle.table_spec.specs.Nodes.{Node, nodeAt, nodesFrom, nodesOf, nodeNumber, nameOf, isTop, same, isAbove}
 use Rattle.table_spec.specs.Rows.{Row, textOf}
 use Rattle.text_laws.specs.Lists.{any-in, in-any, in-filter, filter-in, member-fills}
 use Rattle.text_laws.specs.Tests.{or-left, or-right, or-cases, and-intro, and-cases, not-intro}
@@ -180,19 +180,19 @@ sublist-map f (Sublistᴰ·cons s) = Sublistᴰ·cons (sublist-map f s)
 sublist-map f (Sublistᴰ·cons-cons e s) = Sublistᴰ·cons-cons (ap f e) (sublist-map f s)
 
 -- the numbers selected rise, where those of the document do
-pub select-rises : (doc : List Node) (p : LocationPath ℕ) → Pairwise _<_ (map numberOf doc) → Pairwise _<_ (select doc p)
+pub select-rises : (doc : List Node) (p : LocationPath ℕ) → Pairwise _<_ (map nodeNumber doc) → Pairwise _<_ (select doc p)
 unfolding select
-select-rises doc p r = Pairwise·sublistᴰ (sublist-map numberOf (selected-in-order doc p)) r
+select-rises doc p r = Pairwise·sublistᴰ (sublist-map nodeNumber (selected-in-order doc p)) r
 
 -- ---- on a table
-nodes-from-numbered : (lent : List ℕ) (before : List Node) (rows : List Row) → map numberOf (nodesFrom lent before rows) ≡ map (λ r. r .number) rows
+nodes-from-numbered : (lent : List ℕ) (before : List Node) (rows : List Row) → map nodeNumber (nodesFrom lent before rows) ≡ map (λ r. r .number) rows
 nodes-from-numbered lent before [] = refl
 nodes-from-numbered lent before (r ∷ rows) =
     let y = nodeAt lent before r in
-    ap (λ (k : ℕ). k ∷ map numberOf (nodesFrom lent (before ++ (y ∷ [])) rows)) (attached-number (r .number) (r .name) (textOf lent r) (getElem? before (r .parent)))
+    ap (λ (k : ℕ). k ∷ map nodeNumber (nodesFrom lent (before ++ (y ∷ [])) rows)) (attached-number (r .number) (r .name) (textOf lent r) (getElem? before (r .parent)))
     ∙ ap (λ (l : List ℕ). r .number ∷ l) (nodes-from-numbered lent (before ++ (y ∷ [])) rows)
 
-pub nodes-numbered : (lent : List ℕ) (rows : List Row) → map numberOf (nodesOf lent rows) ≡ map (λ r. r .number) rows
+pub nodes-numbered : (lent : List ℕ) (rows : List Row) → map nodeNumber (nodesOf lent rows) ≡ map (λ r. r .number) rows
 unfolding nodesOf
 nodes-numbered lent rows = nodes-from-numbered lent [] rows
 

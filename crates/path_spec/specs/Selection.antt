@@ -6,7 +6,7 @@ use Prim.Native.Nat.{ℕ}
 use lib.Dec.{T, eqb}
 use Rattle.path_spec.specs.Paths.{Axis, self, child, descendant, descendantOrSelf, parent, ancestor, ancestorOrSelf, WrittenAxis, along, NodeTest, named, anyNode, anyText, WrittenStep, PlainStep, Condition, unconditional, alternatives, Start, rootElement, LocationPath}
 use Rattle.schema_spec.specs.Names.{Name, element, text}
-use Rattle.table_spec.specs.Nodes.{Node, numberOf, nameOf, isTop, same, Edge, Above, isParent, isAbove, nodesOf}
+use Rattle.table_spec.specs.Nodes.{Node, nodeNumber, nameOf, isTop, same, Edge, Above, isParent, isAbove, nodesOf}
 use Rattle.table_spec.specs.Rows.{Row}
 use Rattle.text_spec.specs.Lists.{anyOf, filterBy, isEmpty}
 
@@ -115,7 +115,7 @@ selected doc p = pathFrom holdsAt doc (p .steps) (startNodes (p .start) doc)
 
 -- "Selection is a set, given in document order"; "a node is known by its number"
 unfoldable pub select : List Node → LocationPath ℕ → List ℕ
-select doc p = map numberOf (selected doc p)
+select doc p = map nodeNumber (selected doc p)
 
 -- on a table with the text lent beside it; "on an empty table nothing is selected"
 unfoldable pub selectRows : List ℕ → List Row → LocationPath ℕ → List ℕ

@@ -11,7 +11,7 @@ use Rattle.path_spec.specs.Paths.{unconditional, Start, rootElement, LocationPa
 use Rattle.path_spec.specs.Selection.{Holds, StartSet, Selected, selected, select}
 use Rattle.projection_spec.specs.Extracts.Cut.{kept}
 use Rattle.projection_spec.specs.Inference.Needed.{keepsName, wantsNames, fromRoot, atStart, neededBeforeFilter, neededByPath, needed}
-use Rattle.projection_laws.specs.Agreement.{Alike, alike-turned, trip-of, of-trip, trip-track, track-complete, complete-needed, trip-alike}
+use Rattle.projection_laws.specs.Agreement.{Alike, alike-turned, navigation-of, of-navigation, written-expands, navigation-complete, complete-needed, written-alike}
 use Rattle.projection_laws.specs.Conditions.{condition-fair}
 use Rattle.projection_laws.specs.Documents.{SubsetOf, Within, Valid, AllValid, Lawful, own-within, wider, within-kept, name-in}
 use Rattle.projection_laws.specs.Soundness.{Typed}
@@ -20,7 +20,7 @@ use Rattle.schema_laws.specs.Names.{same-equal, same-name, in-within}
 use Rattle.schema_spec.specs.Closure.{related, closure}
 use Rattle.schema_spec.specs.Names.{Name, Names, sameName, within}
 use Rattle.schema_spec.specs.Types.{Types}
-use Rattle.table_spec.specs.Nodes.{Node, top, under, nameOf, numberOf, isTop}
+use Rattle.table_spec.specs.Nodes.{Node, top, under, nameOf, nodeNumber, isTop}
 use Rattle.text_laws.specs.Lists.{in-filter, filter-in, filter-filter, in-gather}
 use Rattle.text_laws.specs.Tests.{or-left, or-right, or-cases}
 use Rattle.text_spec.specs.Lists.{filterBy}
@@ -75,22 +75,22 @@ module _ (s : Types) (law : Lawful s) (p : LocationPath ℕ) where
   pub selected-alike : (d e : List Node) → AllValid s d → AllValid s e → Alike (neededBeforeFilter s p) d e → (m : Node) → Selected d p m → Selected e p m
   unfolding neededBeforeFilter
   selected-alike d e dv ev al m i =
-      let fair = condition-fair s law in
+      let laws = condition-fair s law in
       let keeps = keepsName s in
       let wants = wantsNames s in
       let r = neededBeforeFilter s p in
       let a = p .start in
       let start = atStart s a in
-      let t = trip-of s Holds d (p .steps) (StartSet a d) m i in
+      let t = navigation-of s Holds d (p .steps) (StartSet a d) m i in
       let x = t .0 in
       let v : Valid s x = start-valid s a d dv x (t .1) in
       let f : Typed start x = start-typed s a d x v (t .1) in
       let w : Within r x =
       start-within a d r x (t .1)
-      (complete-needed s law Holds keeps wants unconditional fair (expand unconditional (p .steps)) start (nameOf x)
-      (track-complete s law Holds keeps wants unconditional fair d dv start v f (trip-track s Holds unconditional (fair .none-met) d dv 1 (t .2)))) in
-      of-trip s Holds e (StartSet a e) (start-alike a r d e al x w (t .1))
-      (trip-alike s law Holds keeps wants unconditional fair r d e dv ev al 1 start v f w (λ n j. j) (t .2) .0)
+      (complete-needed s law Holds keeps wants unconditional laws (expand unconditional (p .steps)) start (nameOf x)
+      (navigation-complete s law Holds keeps wants unconditional laws d dv start v f (written-expands s Holds unconditional (laws .none-met) d dv 1 (t .2)))) in
+      of-navigation s Holds e (StartSet a e) (start-alike a r d e al x w (t .1))
+      (written-alike s law Holds keeps wants unconditional laws r d e dv ev al 1 start v f w (λ n j. j) (t .2) .0)
 
   module _ (doc : List Node) (ok : AllValid s doc) (a : Names) (enough : SubsetOf (neededByPath s p) a) where
     abbrev cut : List Node
@@ -125,7 +125,7 @@ module _ (s : Types) (law : Lawful s) (p : LocationPath ℕ) where
 
     pub select-cut : select doc p ≡ select cut p
     unfolding select
-    select-cut = ap (map numberOf) selected-cut
+    select-cut = ap (map nodeNumber) selected-cut
 
 -- a bundle's needed names have those of each of its paths
 pub path-needed : (s : Types) {p : LocationPath ℕ} (ps : List (LocationPath ℕ)) → In p ps → SubsetOf (neededByPath s p) (needed s ps)

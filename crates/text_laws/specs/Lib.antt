@@ -10,3 +10,4 @@ pub mod Machines
 pub mod Scans
 pub mod Searches
 pub mod Loops
+pub mod Calls

@@ -6,3 +6,4 @@ pub mod Texts
 pub mod Cells
 pub mod Machines
 pub mod Scans
+pub mod Calls

@@ -9,8 +9,8 @@ use Rattle.projection_spec.specs.Extracts.Cut.{cut}
 use Rattle.projection_spec.specs.Extracts.Fields.{writeExtract}
 use Rattle.projection_spec.specs.Extracts.Reading.{itemsOf, readExtract}
 use Rattle.projection_spec.specs.Inference.Needed.{fromRoot, neededBeforeFilter, neededByPath, needed}
-use Rattle.projection_spec.specs.Library.Hosts.{extractOf, makeExtract, pathsOf, selectFrom, resultOf}
-use Rattle.projection_spec.specs.Library.Listing.{judgeFiles, lineOf, headerOf, refusedLine, listing}
+use Rattle.projection_spec.specs.Library.Hosts.{extractOf, makeExtract, bundlePaths, selectFrom, resultOf}
+use Rattle.projection_spec.specs.Library.Listing.{judgeFiles, listingLine, headerOf, refusedLine, listing}
 use Rattle.projection_spec.specs.Library.Records.{passesTable}
 use Rattle.schema_spec.specs.Closure.{byWayOf, closure}
 use Rattle.schema_spec.specs.Machine.{step as schemaStep, parse as schemaParse}
@@ -25,5 +25,9 @@ use Rattle.text_spec.specs.Machines.{run as machineRun}
 use Rattle.text_spec.specs.Refusals.{firstOf}
 
 unfoldable pub computing : Unit {0}
+<<<<<<< HEAD
 unfolding firstOf machineRun schemaStep schemaParse schemaOf elementNamed schemaRefusals readSchema normal schemaIn isSchemaRecord namesOf byWayOf closure holds typesOf nodesOf wellFormed wellFormedWith lex onEvent journalStep journalRun readJournal bundleStep bundleParse bundleRefusals readBundle selected select selectRows fromRoot neededBeforeFilter neededByPath needed cut writeExtract itemsOf readExtract extractOf makeExtract pathsOf selectFrom resultOf judgeFiles lineOf headerOf refusedLine listing passesTable
+=======
+unfolding firstOf schemaStep schemaRun schemaParse schemaOf elementNamed schemaRefusals readSchema normal schemaIn isSchemaRecord namesOf byWayOf closure holds typesOf nodesOf wellFormed wellFormedWith lex onEvent journalStep journalRun readJournal bundleStep bundleRun bundleParse bundleRefusals readBundle selected select selectRows fromRoot neededBeforeFilter neededByPath needed cut writeExtract itemsOf readExtract extractOf makeExtract bundlePaths selectFrom resultOf judgeFiles listingLine headerOf refusedLine listing passesTable
+>>>>>>> e7129c74e49644c73867019dc4c40cf96fdd1705
 computing = tt
