@@ -25,9 +25,5 @@ use Rattle.text_spec.specs.Machines.{run as machineRun}
 use Rattle.text_spec.specs.Refusals.{firstOf}
 
 unfoldable pub computing : Unit {0}
-<<<<<<< HEAD
-unfolding firstOf machineRun schemaStep schemaParse schemaOf elementNamed schemaRefusals readSchema normal schemaIn isSchemaRecord namesOf byWayOf closure holds typesOf nodesOf wellFormed wellFormedWith lex onEvent journalStep journalRun readJournal bundleStep bundleParse bundleRefusals readBundle selected select selectRows fromRoot neededBeforeFilter neededByPath needed cut writeExtract itemsOf readExtract extractOf makeExtract pathsOf selectFrom resultOf judgeFiles lineOf headerOf refusedLine listing passesTable
-=======
-unfolding firstOf schemaStep schemaRun schemaParse schemaOf elementNamed schemaRefusals readSchema normal schemaIn isSchemaRecord namesOf byWayOf closure holds typesOf nodesOf wellFormed wellFormedWith lex onEvent journalStep journalRun readJournal bundleStep bundleRun bundleParse bundleRefusals readBundle selected select selectRows fromRoot neededBeforeFilter neededByPath needed cut writeExtract itemsOf readExtract extractOf makeExtract bundlePaths selectFrom resultOf judgeFiles listingLine headerOf refusedLine listing passesTable
->>>>>>> e7129c74e49644c73867019dc4c40cf96fdd1705
+unfolding firstOf machineRun schemaStep schemaParse schemaOf elementNamed schemaRefusals readSchema normal schemaIn isSchemaRecord namesOf byWayOf closure holds typesOf nodesOf wellFormed wellFormedWith lex onEvent journalStep journalRun readJournal bundleStep bundleParse bundleRefusals readBundle selected select selectRows fromRoot neededBeforeFilter neededByPath needed cut writeExtract itemsOf readExtract extractOf makeExtract bundlePaths selectFrom resultOf judgeFiles listingLine headerOf refusedLine listing passesTable
 computing = tt
