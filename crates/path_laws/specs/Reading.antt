@@ -14,7 +14,7 @@ use Rattle.path_laws.specs.Grammar.Places.{parse-departs}
 use Rattle.path_laws.specs.Grammar.Sound.{parse-sound}
 use Rattle.path_spec.specs.Conditions.{Grammatical, TooMuch, paths, steps, pathBytes, conditionCount, conditionSteps, OverLimit, over, Undeclared, undeclared, BundleApplies, length-2, byte-3, grammar-8, limit-9, undeclared-10, BundleGives, gives}
 use Rattle.path_spec.specs.Grammar.{PathRead, BundleText}
-use Rattle.path_spec.specs.Machine.{Parsed, spells, departs, parse}
+use Rattle.path_spec.specs.Machine.{parse}
 use Rattle.path_spec.specs.Paths.{WrittenStep, Condition, conditionPaths, LocationPath, pathUses, resolvedPath}
 use Rattle.path_spec.specs.Reading.{passesConditionLimit, passesLimit, limitRefusals, undeclaredPlaces, parsedRefusals, parsedPaths, bundleRefusals, readBundle}
 use Rattle.schema_spec.specs.Declarations.{Use}
@@ -27,6 +27,7 @@ use Rattle.text_laws.specs.Tests.{or-left, or-right, or-cases}
 use Rattle.text_laws.specs.Texts.{split-first, split-later, length-found, length-listed, bytes-found, bytes-listed}
 use Rattle.text_spec.specs.Limits.{maxSteps, maxAlternatives, maxAlternativeSteps, maxPathBytes, maxPaths, maxBundleBytes}
 use Rattle.text_spec.specs.Lists.{anyOf, filterBy, gather, isNone}
+use Rattle.text_spec.specs.Machines.{Parsed, spells, departs}
 use Rattle.text_spec.specs.Refusals.{Reason, Refusal, at, allAt, given, badLength, badByte, badPath, overPathLimit, undeclaredInPath, Outcome, judged, Judged}
 use Rattle.text_spec.specs.Texts.{SplitAt, LengthApplies, ByteApplies, Departs, lengthRefusals, byteRefusals}
 
@@ -183,7 +184,7 @@ module _ (s : Schema) (text : List ℕ) where
   abbrev withTextual : List Refusal → List Refusal
   withTextual fs = lengthRefusals maxBundleBytes text ++ (byteRefusals text ++ fs)
 
-  abbrev Means : Parsed → Type 0
+  abbrev Means : Parsed (List PathRead) → Type 0
   Means r = Judged (BundleApplies s text) (BundleGives s text) (judged (withTextual (parsedRefusals s r)) (parsedPaths s r))
 
   found-sound : (fs : List Refusal) → ((f : Refusal) → In f fs → BundleApplies s text (f .reason) (f .place)) → (f : Refusal)
@@ -246,7 +247,7 @@ module _ (s : Schema) (text : List ℕ) where
           parsed-in found
           (append-right (limitRefusals 0 ps) (undeclared-found s ps .complete j (subst (λ (qs : List PathRead). Undeclared s qs j) (bundle-unique b bundle) u)))
 
-  by-parse : (r : Parsed) → parse text ≡ r → Means r
+  by-parse : (r : Parsed (List PathRead)) → parse text ≡ r → Means r
   by-parse (departs k) e = departed k e
   by-parse (spells ps) e = spelt ps e
 

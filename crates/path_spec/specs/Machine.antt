@@ -1,22 +1,23 @@
--- A bundle text read a byte at a time: the paths that it spells, or the first byte after which no bundle could go on. Assumes nothing.
+-- The machine that reads a bundle text: its state holds the paths that have been read, and what has been read of the last one.
 use mathlib.Core.Bool.{Bool, true, false, cond}
 use mathlib.Core.List.{List, [], _∷_, _++_, map, reverse}
-use Prim.Native.Nat.{ℕ, suc, _-_}
-use lib.Dec.{eqb, ltb}
-use lib.ListN.{length, drop}
+use mathlib.Core.Option.{Option, none, some}
+use Prim.Native.Nat.{ℕ, _-_}
+use lib.Dec.{eqb}
+use lib.ListN.{drop}
 use Rattle.path_spec.specs.Grammar.{PathRead, pathRead, nodeCall, textCall, orWord}
 use Rattle.path_spec.specs.Paths.{WrittenAxis, writtenAxes, spellAxis, NodeTest, named, anyNode, anyText, WrittenStep, PlainStep, Condition, unconditional, alternatives}
 use Rattle.schema_spec.specs.Declarations.{Use}
 use Rattle.text_spec.specs.Bytes.{startsName, continuesName}
-use Rattle.text_spec.specs.Limits.{maxNameBytes}
 use Rattle.text_spec.specs.Lists.{bytes, isEmpty, sameBytes}
+use Rattle.text_spec.specs.Machines as machines
 
 -- an axis that may still be meant, and what is to come of it
 pub record Choice : Type 0 where
   pub axis : WrittenAxis
   pub rest : List ℕ
 
--- "Axis names are judged byte by byte as one choice."
+-- axis names are judged byte by byte, all at once
 abbrev pub allChoices : List Choice
 allChoices = map (λ a. record { axis = a; rest = spellAxis a }) writtenAxes
 
@@ -122,11 +123,6 @@ tested a t (inside i) k b =
 abbrev pub callOf : WrittenAxis → List ℕ → Context → State
 callOf a n x = cond (sameBytes (n ++ bytes "()") nodeCall) (inCall a anyNode x) (cond (sameBytes (n ++ bytes "()") textCall) (inCall a anyText x) dead)
 
-abbrev pub orByte : List ℕ → Inner → ℕ → State
-orByte [] i b = dead
-orByte (c ∷ []) i b = cond (eqb b c) (beginStep (inside i)) dead
-orByte (c ∷ d ∷ w) i b = cond (eqb b c) (inOr (d ∷ w) i) dead
-
 -- the byte b at the place k
 unfoldable pub step : State → ℕ → ℕ → State
 step dead k b = dead
@@ -134,35 +130,28 @@ step (lineStart ps) k b = axisByte allChoices (outside (record { paths = ps; sta
 step (inAxis cs x) k b = axisByte cs x b
 step (beforeTest a x) k b = cond (startsName b) (inTest a k (b ∷ []) x) dead
 step (inTest a j n x) k b =
-    cond (continuesName b) (cond (ltb (length n) maxNameBytes) (inTest a j (n ++ (b ∷ [])) x) dead)
+    cond (continuesName b) (machines.longer dead n b (λ m. inTest a j m x))
     (cond (eqb b 0x28) (callOf a n x) (tested a (named (record { place = j; name = n })) x k b))
 step (inCall a t x) k b = cond (eqb b 0x29) (afterCall a t x) dead
 step (afterCall a t x) k b = tested a t x k b
-step (inOr w i) k b = orByte w i b
+step (inOr w i) k b = machines.matching dead w b (beginStep (inside i)) (λ v. inOr v i)
 step (afterBrackets o) k b = stepDone o k b dead
 
-pub data Parsed : Type 0 where
-  spells : List PathRead → Parsed
-  departs : ℕ → Parsed
+-- a text ends after at least one path
+abbrev pub ends : State → Option (List PathRead)
+ends (lineStart []) = none
+ends (lineStart (p ∷ ps)) = some (reverse (p ∷ ps))
+ends dead = none
+ends (inAxis cs x) = none
+ends (beforeTest a x) = none
+ends (inTest a j n x) = none
+ends (inCall a t x) = none
+ends (afterCall a t x) = none
+ends (inOr w i) = none
+ends (afterBrackets o) = none
 
--- "its length if it stops short"
-abbrev pub atEnd : State → ℕ → Parsed
-atEnd (lineStart []) k = departs k
-atEnd (lineStart (p ∷ ps)) k = spells (reverse (p ∷ ps))
-atEnd dead k = departs k
-atEnd (inAxis cs x) k = departs k
-atEnd (beforeTest a x) k = departs k
-atEnd (inTest a j n x) k = departs k
-atEnd (inCall a t x) k = departs k
-atEnd (afterCall a t x) k = departs k
-atEnd (inOr w i) k = departs k
-atEnd (afterBrackets o) k = departs k
+abbrev pub bundleMachine : machines.Machine State (List PathRead)
+bundleMachine = record { start = lineStart []; isDead = isDead; step = step; ends = ends }
 
-unfoldable pub run : State → List ℕ → ℕ → Parsed
-run q [] k = atEnd q k
-run q (b ∷ bs) k =
-    let r = step q k b in
-    cond (isDead r) (departs k) (run r bs (suc k))
-
-unfoldable pub parse : List ℕ → Parsed
-parse text = run (lineStart []) text 0
+unfoldable pub parse : List ℕ → machines.Parsed (List PathRead)
+parse = machines.parse bundleMachine

@@ -5,12 +5,13 @@ use Prim.Native.Nat.{ℕ, suc}
 use lib.Dec.{leb, ltb}
 use lib.ListN.{length}
 use Rattle.path_spec.specs.Grammar.{PathRead}
-use Rattle.path_spec.specs.Machine.{Parsed, spells, departs, parse}
+use Rattle.path_spec.specs.Machine.{parse}
 use Rattle.path_spec.specs.Paths.{Condition, conditionPaths, LocationPath, pathUses, resolvedPath}
 use Rattle.schema_spec.specs.Declarations.{Use}
 use Rattle.schema_spec.specs.Schemas.{Schema, elementNamed}
 use Rattle.text_spec.specs.Limits.{maxSteps, maxAlternatives, maxAlternativeSteps, maxPathBytes, maxPaths, maxBundleBytes}
 use Rattle.text_spec.specs.Lists.{anyOf, filterBy, gather, isNone}
+use Rattle.text_spec.specs.Machines.{Parsed, spells, departs}
 use Rattle.text_spec.specs.Refusals.{Refusal, Outcome, judged, isAccepted, at, allAt, given, badPath, overPathLimit, undeclaredInPath}
 use Rattle.text_spec.specs.Texts.{lengthRefusals, byteRefusals}
 
@@ -31,11 +32,11 @@ limitRefusals i (p ∷ ps) = given (passesLimit i p) (at overPathLimit (p .place
 abbrev pub undeclaredPlaces : Schema → List PathRead → List ℕ
 undeclaredPlaces s ps = map (λ u. u .place) (filterBy (λ u. isNone (elementNamed s (u .name))) (gather (λ p. pathUses (p .path)) ps))
 
-abbrev pub parsedRefusals : Schema → Parsed → List Refusal
+abbrev pub parsedRefusals : Schema → Parsed (List PathRead) → List Refusal
 parsedRefusals s (departs k) = at badPath k ∷ []
 parsedRefusals s (spells ps) = limitRefusals 0 ps ++ allAt undeclaredInPath (undeclaredPlaces s ps)
 
-abbrev pub parsedPaths : Schema → Parsed → List (LocationPath ℕ)
+abbrev pub parsedPaths : Schema → Parsed (List PathRead) → List (LocationPath ℕ)
 parsedPaths s (departs k) = []
 parsedPaths s (spells ps) = map (λ p. resolvedPath s (p .path)) ps
 

@@ -18,13 +18,14 @@ use Rattle.declarations.specs.declared.DeclarationEnd.{DeclarationEnd}
 use Rattle.declarations.specs.declared.DeclarationOutcome.{DeclarationOutcome}
 use Rattle.declarations.specs.declared.DeclarationOutcome.the-variants.{Past as DeclPast, Fail as DeclFail}
 use Rattle.schema_spec.specs.Declarations.{Use, Declaration}
-use Rattle.schema_spec.specs.Machine.{between, step, spells, departs, atEnd, parse}
+use Rattle.schema_spec.specs.Machine.{between, step, atEnd, parse}
 use Rattle.schema_spec.specs.Reading.{limitPlaces, usesOf}
 use Rattle.schema_laws.specs.Lists.{in-nothing as none-in}
 use Rattle.text_laws.specs.Lists.{memberless}
 use Rattle.text_spec.specs.Bytes.{isBlank}
 use Rattle.text_spec.specs.Limits.{maxDeclarations, maxModelNames}
 use Rattle.text_spec.specs.Lists.{gather}
+use Rattle.text_spec.specs.Machines.{spells, departs}
 
 -- ---- lists
 module _ {A : Type 0} where

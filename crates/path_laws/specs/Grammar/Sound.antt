@@ -1,4 +1,4 @@
--- What the machine spells is a bundle text of the grammar: what each state says of the text read so far. Assumes nothing.
+-- What the machine spells is a bundle text of the grammar: what each state says of the text read so far.
 use mathlib.Core.Bool.{Bool, true, false, cond}
 use mathlib.Core.List.{List, [], _∷_, _++_, reverse, append-assoc, append-nil}
 use mathlib.Core.Path.{_≡_, refl, sym, ap, subst, _∙_}
@@ -8,16 +8,19 @@ use native.Mathlib.Omega.{arith}
 use lib.Dec.{T, eqb, ltb, eqb→eq, ltb→lt}
 use lib.ListN.{length, length-append}
 use Rattle.path_laws.specs.Grammar.Joined.{Before, none-before, one-more, slash, lineFeed, alternative-joined, condition-joined, path-joined, Line, a-line, Lines, no-lines, some-lines, lines-joined, reversed-filled}
-use Rattle.path_laws.specs.Grammar.Runs.{final, run-spells}
+use Rattle.path_laws.specs.Grammar.Machine.{ends-line}
 use Rattle.path_spec.specs.Grammar.{PathRead, pathRead, nodeCall, textCall, orWord, TestText, a-name, any-node, any-text, PlainText, plain, AlternativeText, StepText, bare, conditional, PathText, BundleText}
-use Rattle.path_spec.specs.Machine.{Choice, allChoices, Outer, Inner, Context, outside, inside, State, dead, lineStart, inAxis, beforeTest, inTest, inCall, afterCall, inOr, afterBrackets, goesOn, goingOn, axisBy, beginStep, withStep, withPlain, withAlternative, bracketed, stepDone, tested, callOf, orByte, step, spells, parse}
+use Rattle.path_spec.specs.Machine.{Choice, allChoices, Outer, Inner, Context, outside, inside, State, dead, lineStart, inAxis, beforeTest, inTest, inCall, afterCall, inOr, afterBrackets, goesOn, goingOn, axisBy, beginStep, withStep, withPlain, withAlternative, bracketed, stepDone, tested, callOf, step, bundleMachine, parse}
 use Rattle.path_spec.specs.Paths.{WrittenAxis, spellAxis, NodeTest, named, WrittenStep, PlainStep, Condition, alternatives}
 use Rattle.schema_spec.specs.Declarations.{Use}
 use Rattle.text_laws.specs.Bytes.{one-byte-name, name-snoc}
 use Rattle.text_laws.specs.Lists.{bytes-equal}
+use Rattle.text_laws.specs.Machines.{final, run-spells}
+use Rattle.text_laws.specs.Tests.{never}
 use Rattle.text_spec.specs.Bytes.{startsName, continuesName, isName}
 use Rattle.text_spec.specs.Limits.{maxNameBytes}
 use Rattle.text_spec.specs.Lists.{bytes, isEmpty, sameBytes}
+use Rattle.text_spec.specs.Machines.{spells, matching}
 
 -- ---- a path before one of its steps: lines, then steps
 data InPath : Outer → List ℕ → Type 0 where
@@ -167,7 +170,7 @@ call-of a n i =
     (λ e. by-test (sameBytes (n ++ bytes "()") textCall) (λ h. calls n textCall i (λ k. any-text) h) (λ e. no-way))
 
 -- ---- a byte in ` or `
-or-byte : {i : Inner} (u v w : List ℕ) (b : ℕ) → InAlternative i (u ++ (v ++ w)) → Read (orByte w i b) (u ++ v ++ (b ∷ []))
+or-byte : {i : Inner} (u v w : List ℕ) (b : ℕ) → InAlternative i (u ++ (v ++ w)) → Read (matching dead w b (beginStep (inside i)) (λ r. inOr r i)) (u ++ v ++ (b ∷ []))
 or-byte u v [] b x = no-way
 or-byte u v (c ∷ []) b x = by-byte (u ++ v) b c (begins (in-inner (rw append-assoc x))) no-way
 or-byte {i} u v (c ∷ d ∷ w) b x = by-byte (u ++ v) b c (rw append-assoc (in-or {i = i} {w = d ∷ w} u (v ++ (c ∷ [])) (rw append-assoc x))) no-way
@@ -193,23 +196,23 @@ read-byte b (after-call {a = a} i f) = tested-byte b i (plain a (f _))
 read-byte b (in-or {w = w} u v i) = or-byte u v w b i
 read-byte b (after-brackets d) = done-byte b d no-way
 
-read-text : {q : State} {u : List ℕ} (v : List ℕ) → Read q u → Read (final q v (length u)) (u ++ v)
+read-text : {q : State} {u : List ℕ} (v : List ℕ) → Read q u → Read (final bundleMachine q v (length u)) (u ++ v)
 read-text {q} {u} [] r = rw append-nil r
 read-text {q} {u} (b ∷ v) r =
     let e : length (u ++ (b ∷ [])) ≡ suc (length u) = omega (arith, length-append u (b ∷ [])) in
-    subst (λ (k : ℕ). Read (final (step q (length u) b) v k) (u ++ (b ∷ v))) e
-    (subst (Read (final (step q (length u) b) v (length (u ++ (b ∷ []))))) (append-assoc u (b ∷ []) v) (read-text v (read-byte b r)))
+    subst (λ (k : ℕ). Read (final bundleMachine (step q (length u) b) v k) (u ++ (b ∷ v))) e
+    (subst (Read (final bundleMachine (step q (length u) b) v (length (u ++ (b ∷ []))))) (append-assoc u (b ∷ []) v) (read-text v (read-byte b r)))
 
 lines-of : {ps : List PathRead} {u : List ℕ} → Read (lineStart ps) u → Lines 0 u (reverse ps)
 lines-of (at-line b) = lines-joined b
 
 bundle-of : {k : ℕ} {u : List ℕ} {ps : List PathRead} → Lines k u ps → isEmpty ps ≡ false → BundleText k u ps
-bundle-of no-lines e = absurd (let z : _≡_ {A = ℕ} 0 1 = cc in omega arith)
+bundle-of no-lines e = never (cc)
 bundle-of (some-lines b) e = b
 
 pub parse-sound : {text : List ℕ} {ps : List PathRead} → parse text ≡ spells ps → BundleText 0 text ps
 unfolding parse
 parse-sound {text} {ps} e =
-    let r = run-spells (lineStart []) text 0 ps e in
+    let r = ends-line (final bundleMachine (lineStart []) text 0) (run-spells bundleMachine (lineStart []) text 0 e) in
     let l : Lines 0 text (reverse (r .0 ∷ r .1)) = lines-of (subst (λ (q : State). Read q text) (r .2) (read-text text (at-line none-before))) in
     subst (λ (qs : List PathRead). BundleText 0 text qs) (sym (r .3)) (bundle-of l (reversed-filled (r .1) (r .0 ∷ []) refl))
