@@ -16,6 +16,7 @@ pub mod Handed
 pub mod Calls
 pub mod Hosts
 pub mod Prints
+pub mod Limits
 pub mod Fields
 pub mod Items
 pub mod TextNames
