@@ -1,6 +1,6 @@
 -- Both sides of the limits that no other table of cases tries: names in paths, tags and models, tables, paths and bundles. The limits of lengths
 -- and nodes that are too large to compute with are laws (`Limits` of projection_laws).
-use mathlib.Core.List.{List, [], _∷_, _++_, map}
+use mathlib.Core.List.{List, [], _∷_, _++_}
 use mathlib.Core.Path.{refl}
 use Prim.Native.Nat.{ℕ, zero, suc}
 use Rattle.projection_spec.specs.Cases.Exits.{exit}

@@ -6,7 +6,7 @@ use Rattle.journal_spec.specs.Reading.{readJournal}
 use Rattle.path_spec.specs.Paths.{LocationPath}
 use Rattle.path_spec.specs.Reading.{readBundle}
 use Rattle.path_spec.specs.Selection.{selectRows}
-use Rattle.projection_spec.specs.Cases.Exits.{Exit, exit, hostExit, recordExit, rowsExit, structsExit, wordExit, bytesExit, selectionsExit, textExit}
+use Rattle.projection_spec.specs.Cases.Exits.{Exit, hostExit, recordExit, rowsExit, structsExit, wordExit, bytesExit, selectionsExit, textExit}
 use Rattle.projection_spec.specs.Extracts.Cut.{cut}
 use Rattle.projection_spec.specs.Extracts.Reading.{readExtract}
 use Rattle.projection_spec.specs.Inference.Needed.{needed}
