@@ -1,7 +1,7 @@
--- `is_indicator` meets its contract: the tests in their order. Assumes nothing.
+-- `is_indicator` meets its contract: the tests in their order.
 use borrow.Author.Tests.{eq-eqb, ne-eqb}
-use Rattle.declarations.proofs.is_indicator.Statement.{statement}
-use Rattle.declarations.proofs.is_indicator.Tie as tie
+use Rattle.particles.proofs.is_indicator.Statement.{statement}
+use Rattle.particles.proofs.is_indicator.Tie as tie
 
 returns : tie.Need-returns
 returns c = rw (eq-eqb (c .before .args .b) 63 (c .if1 .taken))

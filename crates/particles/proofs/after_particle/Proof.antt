@@ -1,9 +1,9 @@
--- `after_particle` meets its contract: the byte after the blanks decides. Assumes nothing.
+-- `after_particle` meets its contract: the byte after the blanks decides.
 use mathlib.Core.Path.{sym, _∙_}
-use Rattle.declarations.proofs.Models.{follow-end, follow-close, follow-more, follow-not}
+use Rattle.particles.proofs.Particles.{follow-end, follow-close, follow-more, follow-not}
 use borrow.Author.Needs.{needs}
-use Rattle.declarations.proofs.after_particle.Statement.{statement}
-use Rattle.declarations.proofs.after_particle.Tie as tie
+use Rattle.particles.proofs.after_particle.Statement.{statement}
+use Rattle.particles.proofs.after_particle.Tie as tie
 
 returns : tie.Need-returns
 returns c = record { says = follow-end (c .before .before .before .args .sep) (c .before .skip .ensures) (c .if1 .taken) }

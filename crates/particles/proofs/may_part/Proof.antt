@@ -1,7 +1,7 @@
--- `may_part` meets its contract: the tests in their order. Assumes nothing.
+-- `may_part` meets its contract: the tests in their order.
 use borrow.Author.Tests.{eq-eqb, ne-eqb}
-use Rattle.declarations.proofs.may_part.Statement.{statement}
-use Rattle.declarations.proofs.may_part.Tie as tie
+use Rattle.particles.proofs.may_part.Statement.{statement}
+use Rattle.particles.proofs.may_part.Tie as tie
 
 returns : tie.Need-returns
 returns c = rw (eq-eqb (c .before .before .args .sep) 0 (c .before .if1 .taken), eq-eqb (c .before .before .args .b) 124 (c .if2 .taken))

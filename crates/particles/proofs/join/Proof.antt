@@ -1,8 +1,8 @@
--- `join` meets its contract: nothing, `,` or `|` parts the group. Assumes nothing.
-use Rattle.declarations.proofs.Building.{joined-first, joined-comma, joined-bar}
+-- `join` meets its contract: nothing, `,` or `|` parts the group.
+use Rattle.particles.proofs.Automata.{joined-first, joined-comma, joined-bar}
 use borrow.Author.Needs.{needs}
-use Rattle.declarations.proofs.join.Statement.{statement}
-use Rattle.declarations.proofs.join.Tie as tie
+use Rattle.particles.proofs.join.Statement.{statement}
+use Rattle.particles.proofs.join.Tie as tie
 
 returns : tie.Need-returns
 returns c = joined-first _ _ _ (c .if1 .taken)

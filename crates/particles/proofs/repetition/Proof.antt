@@ -1,11 +1,11 @@
--- `repetition` meets its contract: `?`, `*`, `+` or no indicator. Assumes nothing.
+-- `repetition` meets its contract: `?`, `*`, `+` or no indicator.
 use mathlib.Core.Path.{ap}
-use Rattle.declarations.proofs.Building.{repeated-none, repeated-optional, repeated-any, repeated-more}
-use Rattle.declarations.proofs.Judging.{once-past, once-other}
-use Rattle.declarations.specs.Parts.{indicatorOf}
+use Rattle.particles.proofs.Automata.{repeated-none, repeated-optional, repeated-any, repeated-more}
+use Rattle.particles.proofs.Indicators.{once-past, once-other}
+use Rattle.particles.specs.Readings.{indicatorOf}
 use borrow.Author.Needs.{needs}
-use Rattle.declarations.proofs.repetition.Statement.{statement}
-use Rattle.declarations.proofs.repetition.Tie as tie
+use Rattle.particles.proofs.repetition.Statement.{statement}
+use Rattle.particles.proofs.repetition.Tie as tie
 
 returns : tie.Need-returns
 returns c = rw (once-past _ _ (c .if1 .taken)) (repeated-none _ _)

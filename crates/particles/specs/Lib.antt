@@ -1,0 +1,4 @@
+pub mod Judging
+pub mod Automata
+pub mod Readings
+pub mod ReadingLaws
