@@ -23,10 +23,11 @@ use Rattle.declarations.specs.declared.Read.{Read}
 use Rattle.declarations.specs.declared.Read.the-variants.{Past, Fail}
 use Rattle.models.specs.declared.Content.the-variants.{Empty, Pcdata as PcdataContent, Children}
 use Rattle.schema_spec.specs.Declarations.{Use, Declaration, indicated}
-use Rattle.schema_spec.specs.Machine.{fresh, Opening, Head, dead, between, inKeyword, afterKeyword, beforeName, inName, beforeContent, inEmpty, afterOpen, inPcdata, afterPcdata, afterContent, expecting, closed, past, longer, headed, beginning, step, departs}
+use Rattle.schema_spec.specs.Machine.{fresh, Opening, Head, dead, between, inKeyword, afterKeyword, beforeName, inName, beforeContent, inEmpty, afterOpen, inPcdata, afterPcdata, afterContent, expecting, closed, past, longer, headed, beginning, step}
 use Rattle.schema_spec.specs.Models.{Particle, Content, empty, pcdata, children}
 use Rattle.text_spec.specs.Bytes.{isBlank, startsName, continuesName}
 use Rattle.text_spec.specs.Lists.{bytes}
+use Rattle.text_spec.specs.Machines.{departs}
 
 -- ---- blanks of which one is required
 module _ {s : List ℕ} {at : ℕ} where
@@ -321,7 +322,7 @@ module _ (s : List ℕ) (at : ℕ) (l : at < length s) where
 
 declared-naming : (j : ℕ) (o : Opening) → Naming (λ n. inName j n o)
 unfolding step
-declared-naming j o = record { lives = λ n. refl; goes = λ n k b e. yes (longer n b (inName j (n ++ (b ∷ [])) o)) _ e }
+declared-naming j o = record { lives = λ n. refl; goes = λ n k b e. yes (longer n b (λ m. inName j m o)) _ e }
 
 content-spacing : (s : List ℕ) (at j : ℕ) (n : List ℕ) (o : Opening) → (at < length s → continuesName (byteAt s at) ≡ false) → Spacing s at (inName j n o) (beforeContent (headed j n o))
 unfolding step
@@ -330,7 +331,7 @@ content-spacing s at j n o e =
       live = refl;
       stays = λ k b f. yes (beforeContent (headed j n o)) _ f;
       ends = λ k. refl;
-      goes = λ l. no (longer n (byteAt s at) (inName j (n ++ (byteAt s at ∷ [])) o)) _ (e l);
+      goes = λ l. no (longer n (byteAt s at) (λ m. inName j m o)) _ (e l);
     }
 
 module _ (o : Opening) (k b : ℕ) where

@@ -11,9 +11,10 @@ use lib.ListN.{length, drop, getD, drop-of-length-le, List·getD-eq-default}
 use lib.Seq.{drop-cons}
 use Rattle.declarations.specs.Parts.{from, byteAt, Keyword, due, nameIn, Naming, Ended, at-name, at-closed, isIndicator, indicatorOf, indicatorAt}
 use Rattle.schema_spec.specs.Declarations.{Use, Indicator, once, optional, any, oneOrMore, indicated}
-use Rattle.schema_spec.specs.Machine.{Frame, Head, State, dead, inUse, past, isDead, longer, matching, following, indicating, step, departs, atEnd, run}
+use Rattle.schema_spec.specs.Machine.{Frame, Head, State, dead, inUse, past, isDead, longer, matching, following, indicating, step, atEnd, run}
 use Rattle.schema_spec.specs.Models.{Particle, named, uses}
 use Rattle.text_spec.specs.Bytes.{isLetter, isDigit, startsName, continuesName}
+use Rattle.text_spec.specs.Machines.{departs, run as machine-run}
 
 -- ---- tests
 pub yes : {A : Type 0} {t : Bool} (x y : A) → t ≡ true → cond t x y ≡ x
@@ -29,7 +30,7 @@ or-false false b e = (refl, e)
 -- ---- a byte
 module _ (s : List ℕ) (i : ℕ) where
   at-byte : (q : State) → i < length s → from q s i ≡ cond (isDead (step q i (byteAt s i))) (departs i) (from (step q i (byteAt s i)) s (i + 1))
-  unfolding run
+  unfolding machine-run
   at-byte q h = ap (λ (l : List ℕ). run q l i) (drop-cons s i 0 h) ∙ rw (add-one i)
 
   pub step-at : (q r : State) → i < length s → step q i (byteAt s i) ≡ r → isDead r ≡ false → from q s i ≡ from r s (i + 1)
@@ -42,7 +43,7 @@ module _ (s : List ℕ) (i : ℕ) where
   same-at p q h e = at-byte p h ∙ ap (λ (t : State). cond (isDead t) (departs i) (from t s (i + 1))) e ∙ sym (at-byte q h)
 
   pub at-end : (q : State) → length s ≤ i → from q s i ≡ atEnd q i
-  unfolding run
+  unfolding machine-run
   at-end q h = ap (λ (l : List ℕ). run q l i) (drop-of-length-le s h)
 
 -- ---- keywords
@@ -147,7 +148,7 @@ module _ {s : List ℕ} {i : ℕ} where
   ended-step : {q : State} {p : Particle Use} {fs : List Frame} {h : Head} → Ended s i q p fs h → i < length s → step q i (byteAt s i) ≡ indicating p fs h (byteAt s i)
   unfolding step
   ended-step (at-name {j} {n} {f} {fs} {h} e) l =
-      no (longer n (byteAt s i) (inUse j (n ++ (byteAt s i ∷ [])) f fs h)) (indicating (named (record { place = j; name = n })) (f ∷ fs) h (byteAt s i)) (e l)
+      no (longer n (byteAt s i) (λ m. inUse j m f fs h)) (indicating (named (record { place = j; name = n })) (f ∷ fs) h (byteAt s i)) (e l)
   ended-step at-closed l = refl
 
   pub indicator-there : {q : State} {p : Particle Use} {fs : List Frame} {h : Head} → Ended s i q p fs h → i < length s → isIndicator (byteAt s i) ≡ true

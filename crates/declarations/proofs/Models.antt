@@ -23,9 +23,10 @@ use Rattle.declarations.specs.declared.Read.the-variants.{Past, Fail}
 use Rattle.models.specs.Building.{EndsOf}
 use Rattle.models.specs.declared.Ends.{Ends}
 use Rattle.schema_spec.specs.Declarations.{Use, indicated, byBar, byComma}
-use Rattle.schema_spec.specs.Machine.{Frame, fresh, holding, join, separated, Head, State, dead, expecting, inUse, closed, past, longer, indicating, step, departs}
+use Rattle.schema_spec.specs.Machine.{Frame, fresh, holding, join, separated, Head, State, dead, expecting, inUse, closed, past, longer, indicating, step}
 use Rattle.schema_spec.specs.Models.{Particle, named, uses}
 use Rattle.text_spec.specs.Bytes.{isBlank, startsName}
+use Rattle.text_spec.specs.Machines.{departs}
 
 -- ---- places in rising order
 pub between-low : (low high : ℕ) (ps : List ℕ) → Between low high ps → low ≤ high
@@ -87,7 +88,7 @@ unfolding step
 use-naming j f fs h =
     record {
       lives = λ n. refl;
-      goes = λ n k b e. yes (longer n b (inUse j (n ++ (b ∷ [])) f fs h)) (indicating (named (record { place = j; name = n })) (f ∷ fs) h b) e;
+      goes = λ n k b e. yes (longer n b (λ m. inUse j m f fs h)) (indicating (named (record { place = j; name = n })) (f ∷ fs) h b) e;
     }
 
 module _ {s : List ℕ} {i : ℕ} {r : Read} (N : Named s i r) where

@@ -23,13 +23,14 @@ use Rattle.declarations.specs.declared.Read.{Read}
 use Rattle.declarations.specs.declared.Read.the-variants.{Past, Fail}
 use Rattle.models.specs.declared.Content.{Content as Contents}
 use Rattle.schema_spec.specs.Declarations.{Use, Declaration, Indicator, once, optional, any, oneOrMore, indicated, Separator, byBar, byComma}
-use Rattle.schema_spec.specs.Machine.{Frame, fresh, holding, join, Opening, Head, State, dead, between, beforeName, beforeContent, inPcdata, afterContent, declared, expecting, inUse, closed, past, isDead, longer, matching, step, Parsed, departs, atEnd, run}
+use Rattle.schema_spec.specs.Machine.{Frame, fresh, holding, join, Opening, Head, State, dead, between, beforeName, beforeContent, inPcdata, afterContent, declared, expecting, inUse, closed, past, isDead, longer, matching, step, atEnd, run}
 use Rattle.schema_spec.specs.Models.{Particle, named, uses, Content, pcdata, usesIn}
 use Rattle.text_spec.specs.Bytes.{isBlank, continuesName}
 use Rattle.text_spec.specs.Lists.{bytes}
+use Rattle.text_spec.specs.Machines.{Parsed, departs}
 
 -- judging a text from a place on, in a state
-abbrev pub from : State → List ℕ → ℕ → Parsed
+abbrev pub from : State → List ℕ → ℕ → Parsed (List Declaration)
 from q s i = run q (drop i s) i
 
 abbrev pub byteAt : List ℕ → ℕ → ℕ
@@ -72,7 +73,7 @@ useAt s p = record { place = p; name = nameIn (drop p s) }
 -- the states `q n`, in which n has been read of a name
 pub record Naming (q : List ℕ → State) : Type 0 where
   pub lives : (n : List ℕ) → isDead (q n) ≡ false
-  pub goes : (n : List ℕ) (k b : ℕ) → continuesName b ≡ true → step (q n) k b ≡ longer n b (q (n ++ (b ∷ [])))
+  pub goes : (n : List ℕ) (k b : ℕ) → continuesName b ≡ true → step (q n) k b ≡ longer n b q
 
 abbrev pub NamedAs : List ℕ → ℕ → Read → Type 0
 NamedAs s j (Past e) =

@@ -9,7 +9,7 @@ use native.Mathlib.Omega.{arith}
 use lib.Dec.{T, eqb, leb, eqb-refl, le→leb}
 use lib.ListN.{length, take, drop, getElem?, length-append, length-drop}
 use lib.Seq.{length-take-le}
-use Rattle.journal_laws.specs.Derivations.{Derives, finished, root-begins, child-begins, element-ends, blanks-outside, run-inside, text-inside, opening, elementRow, textRow, MakesNoText, no-text-unjudged, no-text-misfit, no-text-unfilled, no-text-children, Accepts, derivation}
+use Rattle.journal_laws.specs.Derivations.{Derives, finished, root-begins, child-begins, element-ends, blanks-outside, run-inside, text-inside, opening, MakesNoText, no-text-unjudged, no-text-misfit, no-text-unfilled, no-text-children, Accepts, derivation}
 use Rattle.journal_laws.specs.Events.{eventsFrom, ended-builds, events-in-turn, none-foreign}
 use Rattle.journal_laws.specs.Fillings.{Completable, all-completable, parent-completable, Fills, fills-begun, fills-child, fills-run, child-held, text-held}
 use Rattle.journal_spec.specs.Builder.{Filling, unjudged, misfit, unfilled, filledByText, filledByChildren, fillingOf, withChild, withRun, Open, Building, refill}
@@ -21,12 +21,12 @@ use Rattle.schema_spec.specs.Types.{Types, typesOf, holds}
 use Rattle.table_laws.specs.Fits.{RowFits, fits-row}
 use Rattle.table_laws.specs.Nodes.{nodes-same, nodes-equal}
 use Rattle.table_laws.specs.Places.{none-some, at-before, at-end, at-in}
-use Rattle.table_spec.specs.Nodes.{Node, top, under, numberOf, nameOf, same, isAbove, depthOf, nodeAt, attachTo}
-use Rattle.table_spec.specs.Rows.{Row, textOf}
+use Rattle.table_spec.specs.Nodes.{Node, top, under, nodeNumber, nameOf, same, isAbove, depthOf, nodeAt, attachTo}
+use Rattle.table_spec.specs.Rows.{Row, textOf, elementRow, textRow}
 use Rattle.table_spec.specs.Tables.{sameParent, firstText, rowFits, laterRows, wellFormed, textInside, wellFormedWith}
 use Rattle.text_laws.specs.Lists.{in-any, in-all, append-empty}
 use Rattle.text_laws.specs.Refusals.{judged-accepted, given-free}
-use Rattle.text_laws.specs.Tests.{or-left, or-right, and-intro, and-cases, not-intro}
+use Rattle.text_laws.specs.Tests.{or-left, or-right, and-intro, and-cases, not-intro, never}
 use Rattle.text_spec.specs.Bytes.{isForeign}
 use Rattle.text_spec.specs.Limits.{maxDepth, maxNodes, maxTextBytes}
 use Rattle.text_spec.specs.Lists.{anyOf, allOf, isNone, isEmpty, listOf}
@@ -51,10 +51,10 @@ up-open p q (above {k = k} {n = n} {w = w} {q = r} h) = or-right (same p (under 
 -- a number is below n, and the parent's number below it
 abbrev ParentBefore : Node → Type 0
 ParentBefore (top k n) = Unit {0}
-ParentBefore (under k n w p) = numberOf p < k
+ParentBefore (under k n w p) = nodeNumber p < k
 
 record Numbered (n : ℕ) (z : Node) : Type 0 where
-  below : numberOf z < n
+  below : nodeNumber z < n
   ordered : ParentBefore z
 
 -- ---- the open elements and their nodes
@@ -104,14 +104,14 @@ later-row ty before previous r y rs e f rest =
     (and-intro (rowFits ty before previous r y) (laterRows ty (before ++ (y ∷ [])) y rs) (fits-row ty before previous r y f) rest)
 
 -- no text row has this parent yet, where the parent's row is the last
-first-of-parent : (before : List Node) (n e : ℕ) (w : List ℕ) (p : Node) → ((z : Node) → In z before → Numbered n z) → suc (numberOf p) ≡ n
+first-of-parent : (before : List Node) (n e : ℕ) (w : List ℕ) (p : Node) → ((z : Node) → In z before → Numbered n z) → suc (nodeNumber p) ≡ n
     → T (firstText before (under n (text e) w p))
 first-of-parent before n e w p numbered last = not-intro (anyOf (λ z. isText (nameOf z) && sameParent z (under n (text e) w p)) before) clash
   where
     no-sibling : (z : Node) → Numbered n z → T (sameParent z (under n (text e) w p)) → ⊥
     no-sibling (top k m) h t = t
     no-sibling (under k m v q) h t =
-        let z : numberOf q ≡ numberOf p = ap numberOf (nodes-equal q p t) in
+        let z : nodeNumber q ≡ nodeNumber p = ap nodeNumber (nodes-equal q p t) in
         omega arith
 
     clash : T (anyOf (λ z. isText (nameOf z) && sameParent z (under n (text e) w p)) before) → ⊥
@@ -137,9 +137,9 @@ record Standing (s : Schema) (t : Bool) (before : List Node) (previous : Node) (
   up : UpFrom node previous
   shallow : length (o ∷ os) ≤ maxDepth
   counted : length before ≡ n
-  last : suc (numberOf previous) ≡ n
+  last : suc (nodeNumber previous) ≡ n
   numbered : (z : Node) → In z before → Numbered n z
-  fresh : t ≡ false → (e : ℕ) → o .filling ≡ filledByText e → numberOf previous ≡ numberOf node
+  fresh : t ≡ false → (e : ℕ) → o .filling ≡ filledByText e → nodeNumber previous ≡ nodeNumber node
 
 data State (s : Schema) (t : Bool) (before : List Node) (previous : Node) (n : ℕ) : List Open → Type 0 where
   after-root : State s t before previous n []
@@ -157,23 +157,23 @@ numbered-more before n y h hy z i = by (append-cases before i)
     by (inr j) = last-one j
 
 not-text : {f : Filling} (e : ℕ) → MakesNoText f → f ≡ filledByText e → ⊥
-not-text e no-text-unjudged h = let z : _≡_ {A = ℕ} 0 1 = cc in omega arith
-not-text e no-text-misfit h = let z : _≡_ {A = ℕ} 0 1 = cc in omega arith
-not-text e no-text-unfilled h = let z : _≡_ {A = ℕ} 0 1 = cc in omega arith
-not-text e no-text-children h = let z : _≡_ {A = ℕ} 0 1 = cc in omega arith
+not-text e no-text-unjudged h = never (cc)
+not-text e no-text-misfit h = never (cc)
+not-text e no-text-unfilled h = never (cc)
+not-text e no-text-children h = never (cc)
 
 true-false : true ≡ false → ⊥
-true-false e = let z : _≡_ {A = ℕ} 0 1 = cc in omega arith
+true-false e = never (cc)
 
 module _ (s : Schema) (before : List Node) (previous : Node) (n : ℕ) (o : Open) (os : List Open) where
   -- the node of a row under the innermost open element
   abbrev newNode : Node → Name → Row → Node
   newNode p a r = under n a (textOf [] r) p
 
-  node-before : {t : Bool} (h : Standing s t before previous n o os) → numberOf (h .node) < n
+  node-before : {t : Bool} (h : Standing s t before previous n o os) → nodeNumber (h .node) < n
   node-before h = numbered-below (h .numbered (h .node) (at-in before (o .row) (h .node) (chain-node (h .chain))))
     where
-      numbered-below : {z : Node} → Numbered n z → numberOf z < n
+      numbered-below : {z : Node} → Numbered n z → nodeNumber z < n
       numbered-below k = k .below
 
   longer : {t : Bool} (h : Standing s t before previous n o os) (y : Node) → length (before ++ (y ∷ [])) ≡ suc n
@@ -263,7 +263,7 @@ child-row s size final before previous n e o os rs h c deep few l =
     let y = newNode s before previous n o os (h .node) (element e) r in
     let named = chain-name (h .chain) in
     let depth : depthOf (h .node) ≡ length (o ∷ os) = chain-depth (h .chain) in
-    let prior : suc (numberOf previous) ≡ n = h .last in
+    let prior : suc (nodeNumber previous) ≡ n = h .last in
     record {
       rows = r ∷ l .rows;
       joined = l .joined;
@@ -295,9 +295,9 @@ text-row s size final before previous n e start l o os rs h f pos small fits few
     let r = textRow n e (o .row) start l in
     let y = newNode s before previous n o os (h .node) (text e) r in
     let depth : depthOf (h .node) ≡ length (o ∷ os) = chain-depth (h .chain) in
-    let prior : suc (numberOf previous) ≡ n = h .last in
+    let prior : suc (nodeNumber previous) ≡ n = h .last in
     let deep : length (o ∷ os) ≤ maxDepth = h .shallow in
-    let at-last : numberOf previous ≡ numberOf (h .node) = h .fresh refl e f in
+    let at-last : nodeNumber previous ≡ nodeNumber (h .node) = h .fresh refl e f in
     let named = chain-name (h .chain) in
     record {
       rows = r ∷ z .rows;
@@ -408,7 +408,7 @@ text-lies-inside lent r native h = by (isText (r .name)) h
 
 none-listed : {A : Type 0} (o : Option A) → listOf o ≡ [] → o ≡ none
 none-listed none e = refl
-none-listed (some x) e = let z : _≡_ {A = ℕ} 0 1 = cc in absurd (omega arith)
+none-listed (some x) e = never (cc)
 
 closed-at-end : (o : Option Refusal) (os : List Open) (rt : Bool) → o ≡ none → (T (isNone o && (not (isEmpty os) || not rt)) → ⊥) → (os ≡ []) × (rt ≡ true)
 closed-at-end none [] true e h = (refl, refl)
@@ -440,8 +440,7 @@ free-of m b e =
     no-places : (ks : List ℕ) → allAt misspelt ks ≡ [] → ks ≡ []
     no-places [] e = refl
     no-places (k ∷ ks) e =
-        let z : _≡_ {A = ℕ} 0 1 = cc in
-        absurd (omega arith)
+        never (cc)
 
 accepted-free : (limit : ℕ) (s : Schema) (lent : List ℕ) (rows : List Row) → readJournal limit s lent ≡ accepted rows
     → Free (run s initial lent) (ended s (run s initial lent)) × (reverse (ended s (run s initial lent) .rows) ≡ rows)

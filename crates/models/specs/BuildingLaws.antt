@@ -17,8 +17,8 @@ use Rattle.models.specs.declared.Ends.{Ends}
 use Rattle.schema_spec.specs.Models.{Particle, named, sequence, choice, repeated, uses}
 use Rattle.schema_spec.specs.Names.{hasBit}
 use Rattle.words.specs.Bits.{bit-none, bit-or}
-use Rattle.words.specs.Loops.{Passed}
-use Rattle.words.specs.Searches.{below-or-past}
+use Rattle.text_laws.specs.Loops.{Passed}
+use Rattle.text_laws.specs.Searches.{below-or-past}
 
 pub named-ends : (p w : ℕ) → ((j : ℕ) → hasBit w j ≡ (hasBit 0 j || (eqb j p && ltb p 64))) → p < 64 → (a : ℕ)
     → EndsOf p (named a) (record { first = w; last = w; nullable = false })

@@ -18,7 +18,9 @@ use Rattle.models.specs.declared.State.the-variants.{Start, Amid}
 use Rattle.schema_laws.specs.Models.{fits-decides}
 use Rattle.schema_spec.specs.Models.{Particle, uses, Fits, Position, shift, nullable, Progress, amid, started, advance, complete, advanceAll, fits}
 use Rattle.schema_spec.specs.Names.{hasBit}
-use Rattle.words.specs.Searches.{same-test, anyBelow, any-cong, any-none}
+use Rattle.text_laws.specs.Searches.{any-cong, any-none}
+use Rattle.text_spec.specs.Lists.{anyBelow}
+use Rattle.text_laws.specs.Tests.{same-test}
 
 -- The tables are those of a particle: each of its positions has its element, and the sets have exactly its first and last positions
 -- and those that each may come after. What a table has past the particle's positions is never seen.

@@ -13,7 +13,8 @@ use lib.Seq.{getD-append-add}
 use Rattle.models.specs.Positions.{size, mayBeAbsent, isFirst, isLast, isNext, marked}
 use Rattle.schema_spec.specs.Models.{Particle, named, sequence, choice, repeated, uses, position, unmarked, nullable, final, shift}
 use Rattle.text_laws.specs.Tests.{or-cases, and-cases, true-of, false-of}
-use Rattle.words.specs.Searches.{anyBelow, any-cong, any-only, any-none, any-and, any-or}
+use Rattle.text_laws.specs.Searches.{any-cong, any-only, any-none, any-and, any-or}
+use Rattle.text_spec.specs.Lists.{anyBelow}
 
 -- sets that agree on the particle's positions mark it alike
 pub marked-cong : (k : ℕ) (p : Particle ℕ) (s t : ℕ → Bool) → ((i : ℕ) → k ≤ i → i < k + size p → s i ≡ t i) → marked k p s ≡ marked k p t

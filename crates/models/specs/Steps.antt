@@ -9,7 +9,7 @@ use Rattle.models.specs.declared.Ends.{Ends}
 use Rattle.models.specs.declared.State.{State}
 use Rattle.models.specs.declared.State.the-variants.{Start, Amid}
 use Rattle.schema_spec.specs.Names.{hasBit}
-use Rattle.words.specs.Searches.{anyBelow}
+use Rattle.text_spec.specs.Lists.{anyBelow}
 
 -- the positions that the last child may have
 abbrev pub inState : State → ℕ → Bool

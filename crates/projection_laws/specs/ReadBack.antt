@@ -9,13 +9,14 @@ use lib.Dec.{T, eqb, leb, eqb→eq, leb→le}
 use lib.ListN.{length, take, drop, getElem?, length-append, take-append-drop}
 use lib.Seq.{length-take-le}
 use Rattle.projection_spec.specs.Extracts.Fields.{elementTag, textTag, countTag, twoBytes, field, numberAt, fieldOf}
-use Rattle.projection_spec.specs.Extracts.Reading.{Item, elementItem, textItem, countItem, noItem, inTwo, elementValue, textValue, countValue, itemOf, itemsFrom, Placed, openFrom, topRow, topElement, consRow, elementRow, textRow, laterRows, rowsOfItems}
+use Rattle.projection_spec.specs.Extracts.Reading.{Item, elementItem, textItem, countItem, noItem, inTwo, elementValue, textValue, countValue, itemOf, itemsFrom, Placed, openFrom, topRow, topElement, consRow, rowsOfLaterItems, rowsOfItems}
 use Rattle.projection_laws.specs.Fields.{AreBytes, two-bytes-written, text-cut}
 use Rattle.projection_laws.specs.Items.{opensAfter, rowAt, restWritten}
 use Rattle.projection_laws.specs.Opens.{placed}
 use Rattle.schema_spec.specs.Names.{element, text, Name}
 use Rattle.table_laws.specs.Places.{none-some, at-before, at-end}
-use Rattle.table_spec.specs.Rows.{Row}
+use Rattle.table_spec.specs.Rows.{Row, elementRow, textRow}
+use Rattle.text_laws.specs.Tests.{never}
 use Rattle.text_spec.specs.Lists.{gather, isEmpty, part}
 
 -- what a tag and a value say
@@ -79,7 +80,7 @@ Known done os = (q : Placed) → In q os → (r : Row) × (getElem? done (q .row
 
 open-from : (number : ℕ) (os : List Placed) (q : Placed) (qs : List Placed) → openFrom number os ≡ q ∷ qs
     → (q .number ≡ number) × ((p : Placed) → In p (q ∷ qs) → In p os)
-open-from number [] q qs e = let z : _≡_ {A = ℕ} 0 1 = cc in absurd (omega arith)
+open-from number [] q qs e = never (cc)
 open-from number (o ∷ os) q qs e = pick (eqb (o .number) number) (eqb→eq (o .number) number) e (open-from number os q qs)
   where
     pick : (b : Bool) → (T b → o .number ≡ number) → cond b (o ∷ os) (openFrom number os) ≡ q ∷ qs
@@ -99,19 +100,19 @@ record Under (nameBy : Placed → Name) (k number parent size next : ℕ) (os : 
   pub later : List Row
   pub found : openFrom parent os ≡ first ∷ above
   pub made : rs ≡ rowAt (nameBy first) k number (first .row) size ∷ later
-  pub read : laterRows (suc next) (opensAfter (nameBy first) next number (first ∷ above)) items ≡ some later
+  pub read : rowsOfLaterItems (suc next) (opensAfter (nameBy first) next number (first ∷ above)) items ≡ some later
 
 abbrev consedUnder : (Placed → Name) → ℕ → ℕ → ℕ → ℕ → List Item → List Placed → Option (List Row)
 consedUnder nameBy k number size next items [] = none
 consedUnder nameBy k number size next items (q ∷ qs) =
-    consRow (rowAt (nameBy q) k number (q .row) size) (laterRows (suc next) (opensAfter (nameBy q) next number (q ∷ qs)) items)
+    consRow (rowAt (nameBy q) k number (q .row) size) (rowsOfLaterItems (suc next) (opensAfter (nameBy q) next number (q ∷ qs)) items)
 
 under-read : (nameBy : Placed → Name) (k number parent size next : ℕ) (os : List Placed) (items : List Item) (rs : List Row)
     → consedUnder nameBy k number size next items (openFrom parent os) ≡ some rs → Under nameBy k number parent size next os items rs
 under-read nameBy k number parent size next os items rs e = by-open (openFrom parent os) refl e
   where
     by-later : (q : Placed) (qs : List Placed) (o : Option (List Row)) → openFrom parent os ≡ q ∷ qs
-        → laterRows (suc next) (opensAfter (nameBy q) next number (q ∷ qs)) items ≡ o
+        → rowsOfLaterItems (suc next) (opensAfter (nameBy q) next number (q ∷ qs)) items ≡ o
         → consRow (rowAt (nameBy q) k number (q .row) size) o ≡ some rs → Under nameBy k number parent size next os items rs
     by-later q qs none f l u = none-some u
     by-later q qs (some rs′) f l u = record { first = q; above = qs; later = rs′; found = f; made = cc; read = l }
@@ -119,25 +120,25 @@ under-read nameBy k number parent size next os items rs e = by-open (openFrom pa
     by-open : (x : List Placed) → openFrom parent os ≡ x → consedUnder nameBy k number size next items x ≡ some rs
         → Under nameBy k number parent size next os items rs
     by-open [] f u = none-some u
-    by-open (q ∷ qs) f u = by-later q qs (laterRows (suc next) (opensAfter (nameBy q) next number (q ∷ qs)) items) f refl u
+    by-open (q ∷ qs) f u = by-later q qs (rowsOfLaterItems (suc next) (opensAfter (nameBy q) next number (q ∷ qs)) items) f refl u
 
 element-under : (k number parent size next e : ℕ) (os : List Placed) (items : List Item) (rs : List Row)
-    → laterRows next os (elementItem number parent e ∷ items) ≡ some rs
+    → rowsOfLaterItems next os (elementItem number parent e ∷ items) ≡ some rs
     → Under (λ q. element e) k number parent size next os items rs
 element-under k number parent size next e os items rs r = under-read (λ q. element e) k number parent size next os items rs (same (openFrom parent os) ∙ r)
   where
     same : (x : List Placed) → consedUnder (λ q. element e) k number size next items x
-        ≡ cond (isEmpty x) none (consRow (elementRow number (topRow x) e) (laterRows (suc next) (placed next number e ∷ x) items))
+        ≡ cond (isEmpty x) none (consRow (elementRow number e (topRow x)) (rowsOfLaterItems (suc next) (placed next number e ∷ x) items))
     same [] = refl
     same (q ∷ qs) = refl
 
 text-under : (k number parent size next : ℕ) (os : List Placed) (items : List Item) (rs : List Row)
-    → laterRows next os (textItem number parent (k + 3 + 4) size ∷ items) ≡ some rs
+    → rowsOfLaterItems next os (textItem number parent (k + 3 + 4) size ∷ items) ≡ some rs
     → Under (λ q. text (q .element)) k number parent size next os items rs
 text-under k number parent size next os items rs r = under-read (λ q. text (q .element)) k number parent size next os items rs (same (openFrom parent os) ∙ r)
   where
     same : (x : List Placed) → consedUnder (λ q. text (q .element)) k number size next items x
-        ≡ cond (isEmpty x) none (consRow (textRow number (topRow x) (topElement x) (k + 3 + 4) size) (laterRows (suc next) x items))
+        ≡ cond (isEmpty x) none (consRow (textRow number (topElement x) (topRow x) (k + 3 + 4) size) (rowsOfLaterItems (suc next) x items))
     same [] = refl
     same (q ∷ qs) = refl
 
@@ -151,7 +152,7 @@ known-after (element e) done os r known q (here i) = (r, rw i (at-end done r [])
 known-after (element e) done os r known q (there i) = known-next done os r known q i
 known-after (text e) done os r known q i = known-next done os r known q i
 
-count-last : (n next : ℕ) (os : List Placed) (items : List Item) (rs : List Row) → laterRows next os (countItem n ∷ items) ≡ some rs
+count-last : (n next : ℕ) (os : List Placed) (items : List Item) (rs : List Row) → rowsOfLaterItems next os (countItem n ∷ items) ≡ some rs
     → (items ≡ []) × (n ≡ next) × (rs ≡ [])
 count-last n next os [] rs e =
     let c = pick (eqb n next) (eqb→eq n next) e in
@@ -166,7 +167,7 @@ count-last n next os (i ∷ is) rs e = none-some e
 module _ (full : List ℕ) (all : List Row) where
   abbrev Written : List Item → List ℕ → Type 0
   Written items rest =
-      (done rs : List Row) (os : List Placed) → all ≡ done ++ rs → Known done os → laterRows (length done) os items ≡ some rs → restWritten full all rs ≡ rest
+      (done rs : List Row) (os : List Placed) → all ≡ done ++ rs → Known done os → rowsOfLaterItems (length done) os items ≡ some rs → restWritten full all rs ≡ rest
 
   row-back : (r : Row) (rs : List Row) (f rest : List ℕ) → fieldOf full all r ≡ f → restWritten full all rs ≡ rest → restWritten full all (r ∷ rs) ≡ f ++ rest
   row-back r rs f rest e h =
@@ -243,13 +244,13 @@ cut-first fuel k (tag ∷ high ∷ low ∷ bs) = pick (leb n (length bs)) (leb�
 
 no-items : (fuel k : ℕ) (cur : List ℕ) → itemsFrom fuel k cur ≡ [] → cur ≡ []
 no-items zero k [] e = refl
-no-items zero k (tag ∷ bs) e = let z : _≡_ {A = ℕ} 0 1 = cc in absurd (omega arith)
+no-items zero k (tag ∷ bs) e = never (cc)
 no-items (suc fuel) k cur e = pick (cut-first fuel k cur) e
   where
     pick : {items : List Item} → Cut fuel k cur items → items ≡ [] → cur ≡ []
     pick (ended q) u = q
-    pick broken u = let z : _≡_ {A = ℕ} 0 1 = cc in absurd (omega arith)
-    pick (cut tag high low value rest q l) u = let z : _≡_ {A = ℕ} 0 1 = cc in absurd (omega arith)
+    pick broken u = never (cc)
+    pick (cut tag high low value rest q l) u = never (cc)
 
 module _ (full : List ℕ) (all : List Row) where
   -- the bytes after a field, where they are written back wherever they stand
@@ -285,17 +286,17 @@ module _ (full : List ℕ) (all : List Row) where
 
 -- what the root's field turned into
 root-read : (number parent e : ℕ) (items : List Item) (all : List Row) → rowsOfItems (elementItem number parent e ∷ items) ≡ some all
-    → (rs : List Row) × (parent ≡ 0) × (all ≡ elementRow number 0 e ∷ rs) × (laterRows 1 (placed 0 number e ∷ []) items ≡ some rs)
+    → (rs : List Row) × (parent ≡ 0) × (all ≡ elementRow number e 0 ∷ rs) × (rowsOfLaterItems 1 (placed 0 number e ∷ []) items ≡ some rs)
 root-read number parent e items all read = by-parent (eqb parent 0) (eqb→eq parent 0) read
   where
-    by-later : (o : Option (List Row)) → laterRows 1 (placed 0 number e ∷ []) items ≡ o → parent ≡ 0 → consRow (elementRow number 0 e) o ≡ some all
-        → (rs : List Row) × (parent ≡ 0) × (all ≡ elementRow number 0 e ∷ rs) × (laterRows 1 (placed 0 number e ∷ []) items ≡ some rs)
+    by-later : (o : Option (List Row)) → rowsOfLaterItems 1 (placed 0 number e ∷ []) items ≡ o → parent ≡ 0 → consRow (elementRow number e 0) o ≡ some all
+        → (rs : List Row) × (parent ≡ 0) × (all ≡ elementRow number e 0 ∷ rs) × (rowsOfLaterItems 1 (placed 0 number e ∷ []) items ≡ some rs)
     by-later none l p u = none-some u
     by-later (some rs) l p u = (rs, p, cc, l)
 
-    by-parent : (b : Bool) → (T b → parent ≡ 0) → cond b (consRow (elementRow number 0 e) (laterRows 1 (placed 0 number e ∷ []) items)) none ≡ some all
-        → (rs : List Row) × (parent ≡ 0) × (all ≡ elementRow number 0 e ∷ rs) × (laterRows 1 (placed 0 number e ∷ []) items ≡ some rs)
-    by-parent true f u = by-later (laterRows 1 (placed 0 number e ∷ []) items) refl (f tt) u
+    by-parent : (b : Bool) → (T b → parent ≡ 0) → cond b (consRow (elementRow number e 0) (rowsOfLaterItems 1 (placed 0 number e ∷ []) items)) none ≡ some all
+        → (rs : List Row) × (parent ≡ 0) × (all ≡ elementRow number e 0 ∷ rs) × (rowsOfLaterItems 1 (placed 0 number e ∷ []) items ≡ some rs)
+    by-parent true f u = by-later (rowsOfLaterItems 1 (placed 0 number e ∷ []) items) refl (f tt) u
     by-parent false f u = none-some u
 
 -- All fields, where the root's number is 0.
@@ -305,7 +306,7 @@ module _ (full : List ℕ) (all : List Row) (small : AreBytes full) (rootNumber 
       → (items ≡ [] → rest ≡ []) → Written full all items rest → rowsOfItems (i ∷ items) ≡ some all → restWritten full all all ≡ tag ∷ high ∷ low ∷ (value ++ rest)
   root-back tag high low value rest items (an-element {a} {b} {c} {d} {e} t v) q l ends later read =
       let o = root-read (inTwo a b) (inTwo c d) e items all read in
-      let r = elementRow (inTwo a b) 0 e in
+      let r = elementRow (inTwo a b) e 0 in
       let up : numberAt (getElem? all 0) ≡ inTwo c d = rw (o .2) (rootNumber r (rw (o .2)) ∙ sym (o .1)) in
       let bytes = cut-bytes full all full tag high low value rest small q in
       let written : fieldOf full all r ≡ tag ∷ high ∷ low ∷ value = rw t (value-back elementTag high low a b c d (numberAt (getElem? all 0)) value (e ∷ []) v up l bytes) in
@@ -321,7 +322,7 @@ module _ (full : List ℕ) (all : List Row) (small : AreBytes full) (rootNumber 
       (cut-bytes full all full tag high low value rest small q) q refl items ends later [] all [] refl
       (λ p j. elim j [ ]) (same items ∙ read)
     where
-      same : (is : List Item) → laterRows 0 [] (countItem (inTwo a b) ∷ is) ≡ rowsOfItems (countItem (inTwo a b) ∷ is)
+      same : (is : List Item) → rowsOfLaterItems 0 [] (countItem (inTwo a b) ∷ is) ≡ rowsOfItems (countItem (inTwo a b) ∷ is)
       same [] = refl
       same (x ∷ is) = refl
   root-back tag high low value rest items no-field q l ends later read = none-some read

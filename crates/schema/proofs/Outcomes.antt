@@ -22,13 +22,14 @@ use Rattle.schema.specs.declared.Counts.{Counts}
 use Rattle.schema.specs.declared.Kind.{Kind}
 use Rattle.schema.specs.declared.Kind.the-variants.{BadLength, BadByte, BadGrammar, OverLimit, DeclaredTwice, Undeclared}
 use Rattle.schema_spec.specs.Declarations.{Declaration}
-use Rattle.schema_spec.specs.Machine.{Parsed, spells, departs, parse}
+use Rattle.schema_spec.specs.Machine.{parse}
 use Rattle.schema_spec.specs.Reading.{limitPlaces, twicePlaces, undeclaredPlaces, usesOf, parsedRefusals, parsedSchema, schemaRefusals, readSchema}
 use Rattle.schema_spec.specs.Schemas.{schemaOf, resolved, declaredNames}
 use Rattle.text.specs.Places.{foreignPlace}
 use Rattle.text_spec.specs.Bytes.{isForeign}
 use Rattle.text_spec.specs.Limits.{maxSchemaBytes}
 use Rattle.text_spec.specs.Lists.{isEmpty, placesFrom, gather}
+use Rattle.text_spec.specs.Machines.{Parsed, spells, departs}
 use Rattle.text_spec.specs.Refusals.{Reason, badLength, badByte, badSchema, overSchemaLimit, declaredTwice, undeclaredInModel, numberOf, Refusal, at, allAt, given, firstOf, accepted, refused, byFirst, judged}
 use Rattle.text_spec.specs.Texts.{lengthRefusals, byteRefusals}
 
@@ -47,14 +48,14 @@ read-refused text k p e = record { outcome = ap sized (sym (first-outcome text (
 -- ---- acceptance
 accepted-outcome : (text : List ℕ) {ds : List Declaration} → parse text ≡ spells ds → schemaRefusals text ≡ [] → readSchema text ≡ accepted (schemaOf ds)
 unfolding readSchema firstOf
-accepted-outcome text e f = ap₂ (λ (fs : List Refusal) (q : Parsed). judged fs (parsedSchema q)) f e
+accepted-outcome text e f = ap₂ (λ (fs : List Refusal) (q : Parsed (List Declaration)). judged fs (parsedSchema q)) f e
 
 elements : (ds : List Declaration) → length (schemaOf ds) ≡ length ds
 unfolding schemaOf
 elements ds = length-map ds (resolved (declaredNames ds))
 
 -- ---- 2 and 3
-parsed-later : (r : Reason) → numberOf r < 4 → (q : Parsed) → Later r (parsedRefusals q)
+parsed-later : (r : Reason) → numberOf r < 4 → (q : Parsed (List Declaration)) → Later r (parsedRefusals q)
 parsed-later r h (departs k) = later-all r badSchema (k ∷ []) h
 parsed-later r h (spells ds) =
     later-append r (allAt overSchemaLimit (limitPlaces ds)) (allAt declaredTwice (twicePlaces [] ds) ++ allAt undeclaredInModel (undeclaredPlaces ds)) (later-all r overSchemaLimit (limitPlaces ds) (omega arith))
@@ -112,7 +113,7 @@ module _ (text : List ℕ) (n : length text ≡ 0 → ⊥) (h : length text ≤ 
 
 -- ---- 4 to 7
 module _ (text : List ℕ) (R : Readable text) where
-  refusals-from : {q : Parsed} → parse text ≡ q → schemaRefusals text ≡ parsedRefusals q
+  refusals-from : {q : Parsed (List Declaration)} → parse text ≡ q → schemaRefusals text ≡ parsedRefusals q
   unfolding schemaRefusals
   refusals-from e = ap₂ (λ (x y : List Refusal). x ++ (y ++ parsedRefusals (parse text))) (R .right-length) (R .right-bytes) ∙ ap parsedRefusals e
 

@@ -10,10 +10,11 @@ use Rattle.schema.specs.declared.Kind.the-variants.{BadLength, BadByte, 
 use Rattle.schema.specs.declared.Schema.{Schema as Record}
 use Rattle.schema.specs.Whole.{Kept}
 use Rattle.schema_spec.specs.Declarations.{Declaration}
-use Rattle.schema_spec.specs.Machine.{spells, parse}
+use Rattle.schema_spec.specs.Machine.{parse}
 use Rattle.schema_spec.specs.Reading.{readSchema}
 use Rattle.schema_spec.specs.Schemas.{Schema}
 use Rattle.text_spec.specs.Limits.{maxSchemaBytes}
+use Rattle.text_spec.specs.Machines.{spells}
 use Rattle.text_spec.specs.Refusals.{Reason, badLength, badByte, badSchema, overSchemaLimit, declaredTwice, undeclaredInModel, at, Outcome, accepted, refused}
 use Rattle.text_spec.specs.Texts.{lengthRefusals, byteRefusals}
 

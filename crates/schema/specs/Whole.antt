@@ -11,10 +11,11 @@ use Rattle.schema.specs.declared.All.{All}
 use Rattle.schema.specs.declared.All.the-variants.{Past, Fail}
 use Rattle.schema.specs.declared.Counts.{Counts}
 use Rattle.schema_spec.specs.Declarations.{Declaration}
-use Rattle.schema_spec.specs.Machine.{between, spells, departs, parse}
+use Rattle.schema_spec.specs.Machine.{between, parse}
 use Rattle.schema_spec.specs.Reading.{limitPlaces, usesOf}
 use Rattle.text_spec.specs.Limits.{maxDeclarations, maxModelNames}
 use Rattle.text_spec.specs.Lists.{gather}
+use Rattle.text_spec.specs.Machines.{spells, departs}
 
 -- The first place that passes a limit, the text's length while none does: after a declaration that starts at i, is the one with index d and
 -- takes the count of names from n to m.

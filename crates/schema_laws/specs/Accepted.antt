@@ -14,7 +14,7 @@ use Rattle.schema_laws.specs.Names.{in-element, in-text}
 use Rattle.schema_laws.specs.Runs.{spelt-named}
 use Rattle.schema_spec.specs.Declarations.{Use, Declaration}
 use Rattle.schema_spec.specs.Models.{Particle, named, sequence, choice, repeated, Content, empty, pcdata, children, uses, usesIn, renameIn, renameContent}
-use Rattle.schema_spec.specs.Machine.{parse, spells, departs, Parsed}
+use Rattle.schema_spec.specs.Machine.{parse}
 use Rattle.schema_spec.specs.Names.{Name, element, text as text-name, namesOf}
 use Rattle.schema_spec.specs.Reading.{usesOf, limitPlaces, twicePlaces, undeclaredPlaces, parsedRefusals, parsedSchema, schemaRefusals, readSchema}
 use Rattle.schema_spec.specs.Records.{schemaIn}
@@ -22,10 +22,11 @@ use Rattle.schema_spec.specs.Schemas.{Schema, Element, schemaOf, declaredNames,
 use Rattle.schema_spec.specs.Types.{holds, Below, typesOf, isBelow}
 use Rattle.text_laws.specs.Lists.{append-empty, any-in, in-gather, map-in, bytes-same}
 use Rattle.text_laws.specs.Refusals.{judged-accepted, judged-free}
-use Rattle.text_laws.specs.Tests.{failed}
+use Rattle.text_laws.specs.Tests.{failed, not-not}
 use Rattle.text_spec.specs.Bytes.{isName}
 use Rattle.text_spec.specs.Limits.{maxDeclarations, maxModelNames, maxSchemaBytes}
 use Rattle.text_spec.specs.Lists.{anyOf, sameBytes, gather, filterBy, valueOr}
+use Rattle.text_spec.specs.Machines.{Parsed, spells, departs}
 use Rattle.text_spec.specs.Refusals.{Refusal, at, allAt, Outcome, accepted, refused, resultOr, overSchemaLimit, declaredTwice, undeclaredInModel}
 use Rattle.text_spec.specs.Texts.{lengthRefusals, byteRefusals}
 
@@ -48,7 +49,7 @@ accepted-spelt text s e =
     let v = append-empty (byteRefusals text) (parsedRefusals (parse text)) (u .1) in
     pick (parse text) refl (u .0) (v .0) (v .1) (j .1)
   where
-    pick : (p : Parsed) → parse text ≡ p → lengthRefusals maxSchemaBytes text ≡ [] → byteRefusals text ≡ [] → parsedRefusals p ≡ [] → parsedSchema p ≡ s → Spelt text s
+    pick : (p : Parsed (List Declaration)) → parse text ≡ p → lengthRefusals maxSchemaBytes text ≡ [] → byteRefusals text ≡ [] → parsedRefusals p ≡ [] → parsedSchema p ≡ s → Spelt text s
     pick (departs k) q l b r g = absurd (in-nothing r (here refl))
     pick (spells ds) q l b r g =
         let x = append-empty (allAt overSchemaLimit (limitPlaces ds)) (allAt declaredTwice (twicePlaces [] ds) ++ allAt undeclaredInModel (undeclaredPlaces ds)) r in
@@ -118,10 +119,6 @@ index-below n (m ∷ ns) k t = pick (sameBytes n m) t (index-below n ns (suc k))
         let r = h u in
         omega arith
 
-by-failure : (b : Bool) → (T (not b) → ⊥) → T b
-by-failure true n = tt
-by-failure false n = n tt
-
 module _ (ds : List Declaration) where
   -- refusals 5 and 7 against the declarations
   few-declarations : limitPlaces ds ≡ [] → length ds ≤ maxDeclarations
@@ -139,7 +136,7 @@ module _ (ds : List Declaration) where
   declared-use e d u i j =
       let undeclared : Use → Bool = λ v. not (anyOf (sameBytes (v .name)) (declaredNames ds)) in
       let none-undeclared = map-empty (λ (v : Use). v .place) (filterBy undeclared (gather usesOf ds)) e in
-      by-failure (anyOf (sameBytes (u .name)) (declaredNames ds)) (filter-empty undeclared none-undeclared (in-gather usesOf i j))
+      not-not (anyOf (sameBytes (u .name)) (declaredNames ds)) (filter-empty undeclared none-undeclared (in-gather usesOf i j))
 
   gives-length : length (schemaOf ds) ≡ length ds
   unfolding schemaOf
@@ -212,7 +209,7 @@ module _ (text : List ℕ) (s : Schema) (e : readSchema text ≡ accepted s) whe
       let p = accepted-spelt text s e in
       subst Closed (p .gives) (gives-closed (p .declarations) (p .all-declared))
 
-  -- "at most 64 names in a model"
+  -- "At most 32 declarations, 64 names in a model": the second
   pub accepted-models : (a : ℕ) → length (modelAt s a) ≤ maxModelNames
   accepted-models a =
       let p = accepted-spelt text s e in

@@ -13,17 +13,18 @@ use Rattle.schema_laws.specs.Lists.{map-empty, map-reverse, places-none,
 use Rattle.schema_laws.specs.Normal.{normal-goes, normal-twice, normal-byte, normal-length}
 use Rattle.schema_laws.specs.Places.{bareUse, bareDeclaration, bareAll, spells-goes, goes-spells}
 use Rattle.schema_spec.specs.Declarations.{Use, Declaration}
-use Rattle.schema_spec.specs.Machine.{between, parse, spells, run}
+use Rattle.schema_spec.specs.Machine.{between, parse}
 use Rattle.schema_spec.specs.Models.{Particle, named, sequence, choice, repeated, Content, empty, pcdata, children, renameIn, renameContent}
 use Rattle.schema_spec.specs.Reading.{usesOf, limitPlaces, twicePlaces, undeclaredPlaces, readSchema}
 use Rattle.schema_spec.specs.Records.{normal, schemaIn, recordBy, schemaRecord, SchemaProducible, producible, isSchemaRecord}
 use Rattle.schema_spec.specs.Schemas.{Schema, schemaOf, declaredNames, resolved}
 use Rattle.text_laws.specs.Lists.{bytes-equal, bytes-same}
 use Rattle.text_laws.specs.Refusals.{given-free}
-use Rattle.text_laws.specs.Tests.{and-intro, and-cases, or-cases, or-right}
+use Rattle.text_laws.specs.Tests.{and-intro, and-cases, or-cases, or-right, never}
 use Rattle.text_spec.specs.Bytes.{isForeign}
 use Rattle.text_spec.specs.Limits.{maxDeclarations, maxModelNames, maxSchemaBytes}
 use Rattle.text_spec.specs.Lists.{anyOf, filterBy, gather, sameBytes, isEmpty, placesFrom}
+use Rattle.text_spec.specs.Machines.{spells, run}
 use Rattle.text_spec.specs.Refusals.{Refusal, Outcome, accepted, refused, isAccepted, resultOr, at, allAt, given, badLength, badByte}
 use Rattle.text_spec.specs.Texts.{lengthRefusals, byteRefusals}
 
@@ -136,8 +137,7 @@ normal-spells text ds e =
 spells-filled : (text : List ℕ) {ds : List Declaration} → parse text ≡ spells ds → T (isEmpty text) → ⊥
 unfolding parse run
 spells-filled [] e t =
-    let z : _≡_ {A = ℕ} 0 1 = cc in
-    omega arith
+    never (cc)
 spells-filled (b ∷ text) e t = t
 
 -- refusals 2 and 3 against the normal form

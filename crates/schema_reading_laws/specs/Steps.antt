@@ -1,17 +1,17 @@
--- The live steps of the machine as a relation between states, what the machine computes by it, and chains of steps. Assumes nothing.
-use mathlib.Core.Bool.{Bool, true, false, cond, _&&_, _||_}
+-- The live steps of the machine as a relation between states, what the machine computes by it, and chains of steps.
+use mathlib.Core.Bool.{Bool, true, false, cond, _&&_}
 use mathlib.Core.List.{List, [], _∷_, _++_}
-use mathlib.Core.Logic.{⊎-elim}
-use mathlib.Core.Path.{_≡_, refl, sym, ap, subst, _∙_}
+use mathlib.Core.Path.{_≡_, refl, sym, subst, _∙_}
 use Prim.Native.Nat.{ℕ, suc, _+_, _<_}
 use native.Mathlib.Omega.{arith}
 use lib.Dec.{T, eqb, ltb, eqb→eq, eqb-refl, ltb→lt, lt→ltb}
 use lib.ListN.{length}
 use Rattle.schema_spec.specs.Declarations.{Use, Declaration, Indicator, optional, any, oneOrMore, indicated, Separator, unparted, byBar, byComma}
 use Rattle.schema_spec.specs.Grammar.{Parts, first-bar, next-bar, first-comma, next-comma}
-use Rattle.schema_spec.specs.Machine.{Frame, fresh, holding, Opening, Head, State, dead, between, inKeyword, afterKeyword, beforeName, inName, beforeContent, inEmpty, afterOpen, inPcdata, afterPcdata, expecting, inUse, closed, past, afterContent, isDead, declared, closing, join, separated, following, indicating, beginning, longer, headed, matching, step, run, departs}
+use Rattle.schema_spec.specs.Machine.{Frame, fresh, holding, Opening, Head, State, dead, between, inKeyword, afterKeyword, beforeName, inName, beforeContent, inEmpty, afterOpen, inPcdata, afterPcdata, expecting, inUse, closed, past, afterContent, declared, closing, join, separated, following, indicating, beginning, longer, headed, matching, step}
 use Rattle.schema_spec.specs.Models.{Particle, named, Content, empty, pcdata, children}
-use Rattle.text_laws.specs.Tests.{cond-true, cond-false, or-cases, and-cases}
+use Rattle.text_laws.specs.Bytes.{each-blank}
+use Rattle.text_laws.specs.Tests.{cond-true, cond-false, and-cases}
 use Rattle.text_spec.specs.Bytes.{isBlank, startsName, continuesName}
 use Rattle.text_spec.specs.Limits.{maxNameBytes, maxGroups}
 use Rattle.text_spec.specs.Lists.{bytes}
@@ -104,8 +104,8 @@ by-test t l m = by-cases t l (λ n. m)
 by-byte : {q : State} {k : ℕ} (b c : ℕ) {x y : State} → Live q k c x → Live q k b y → Live q k b (cond (eqb b c) x y)
 by-byte {q} {k} b c {x} l m = by-test (eqb b c) (λ t. subst (λ (i : ℕ). Live q k i x) (sym (eqb→eq b c t)) l) m
 
-live-longer : {q : State} {k b : ℕ} (n : List ℕ) {x : State} → (length n < maxNameBytes → Goes q k b x) → Live q k b (longer n b x)
-live-longer n g = by-test (ltb (length n) maxNameBytes) (λ t. goes (g (ltb→lt (length n) maxNameBytes t))) dies
+live-longer : {q : State} {k b : ℕ} (n : List ℕ) (part : List ℕ → State) → (length n < maxNameBytes → Goes q k b (part (n ++ (b ∷ [])))) → Live q k b (longer n b part)
+live-longer n part g = by-test (ltb (length n) maxNameBytes) (λ t. goes (g (ltb→lt (length n) maxNameBytes t))) dies
 
 live-bar : {q : State} {k : ℕ} {p : Particle Use} (f : Frame) {fs : List Frame} {h : Head} → Over q p (f ∷ fs) h → Live q k 0x7C (separated byBar f p fs h)
 live-bar fresh v = goes (over-part v holds-one first-bar)
@@ -158,7 +158,7 @@ live (inKeyword w o) k b = live-spelling w (λ v. inKeyword v o) in-element (λ 
 live (afterKeyword o) k b = by-test (isBlank b) (λ t. goes (keyword-blank t)) dies
 live (beforeName o) k b = by-test (isBlank b) (λ t. goes (idle skip-name t)) (by-test (startsName b) (λ t. goes (begin-name t)) dies)
 live (inName j n o) k b =
-    by-test (continuesName b) (λ t. live-longer n (λ l. grow-name t l)) (by-test (isBlank b) (λ t. goes (name-blank t)) dies)
+    by-test (continuesName b) (λ t. live-longer n (λ m. inName j m o) (λ l. grow-name t l)) (by-test (isBlank b) (λ t. goes (name-blank t)) dies)
 live (beforeContent h) k b =
     by-test (isBlank b) (λ t. goes (idle skip-content t)) (by-byte b 0x28 (goes open-content) (by-byte b 0x45 (goes begin-empty) dies))
 live (inEmpty w h) k b = live-spelling w (λ v. inEmpty v h) in-empty (λ v. in-empty)
@@ -168,21 +168,14 @@ live (afterOpen h) k b =
 live (inPcdata w h) k b = live-spelling w (λ v. inPcdata v h) in-pcdata (λ v. in-pcdata)
 live (afterPcdata h) k b = by-test (isBlank b) (λ t. goes (idle skip-pcdata t)) (by-byte b 0x29 (goes close-pcdata) dies)
 live (expecting f fs h) k b = live-beginning k b due-next (λ t. idle skip-particle t)
-live (inUse j n f fs h) k b = by-test (continuesName b) (λ t. live-longer n (λ l. grow-use t l)) (live-indicating (f ∷ fs) k b at-name)
+live (inUse j n f fs h) k b = by-test (continuesName b) (λ t. live-longer n (λ m. inUse j m f fs h) (λ l. grow-use t l)) (live-indicating (f ∷ fs) k b at-name)
 live (closed p fs h) k b = live-indicating fs k b at-closed
 live (past p fs h) k b = live-following fs k b at-past
 live (afterContent c h) k b = live-closing k b at-content
 
--- Conversely the machine makes each such step. A blank is one of three bytes.
-pub blank-is : (P : ℕ → Type 0) → P 32 → P 9 → P 10 → (b : ℕ) → T (isBlank b) → P b
-blank-is P x y z b t =
-    ⊎-elim (λ e. at 32 e x) (λ u. ⊎-elim (λ e. at 9 e y) (λ e. at 10 e z) (or-cases (eqb b 9) (eqb b 10) u)) (or-cases (eqb b 32) (eqb b 9 || eqb b 10) t)
-  where
-    at : (c : ℕ) → T (eqb b c) → P c → P b
-    at c e p = subst P (sym (eqb→eq b c e)) p
-
+-- Conversely the machine makes each such step.
 begins-no-blank : (b : ℕ) → T (startsName b) → T (isBlank b) → ⊥
-begins-no-blank b s t = blank-is (λ c. T (startsName c) → ⊥) (λ z. z) (λ z. z) (λ z. z) b t s
+begins-no-blank b s t = each-blank (λ c. T (startsName c) → ⊥) (λ z. z) (λ z. z) (λ z. z) b t s
 
 -- a byte that begins a name differs from one that does not
 begins-other : (b c : ℕ) → (T (startsName c) → ⊥) → T (startsName b) → T (eqb b c) → ⊥
@@ -234,9 +227,9 @@ step-mark k at-closed mark-oneOrMore = refl
 
 step-over-blank : {q : State} {p : Particle Use} {f : Frame} {fs : List Frame} {h : Head} (k b : ℕ) → Over q p (f ∷ fs) h → T (isBlank b) → step q k b ≡ past p (f ∷ fs) h
 unfolding step
-step-over-blank {q} {p} {f} {fs} {h} k b (unmarked at-name) t = blank-is (λ c. step q k c ≡ past p (f ∷ fs) h) refl refl refl b t
-step-over-blank {q} {p} {f} {fs} {h} k b (unmarked at-closed) t = blank-is (λ c. step q k c ≡ past p (f ∷ fs) h) refl refl refl b t
-step-over-blank {q} {p} {f} {fs} {h} k b at-past t = blank-is (λ c. step q k c ≡ past p (f ∷ fs) h) refl refl refl b t
+step-over-blank {q} {p} {f} {fs} {h} k b (unmarked at-name) t = each-blank (λ c. step q k c ≡ past p (f ∷ fs) h) refl refl refl b t
+step-over-blank {q} {p} {f} {fs} {h} k b (unmarked at-closed) t = each-blank (λ c. step q k c ≡ past p (f ∷ fs) h) refl refl refl b t
+step-over-blank {q} {p} {f} {fs} {h} k b at-past t = each-blank (λ c. step q k c ≡ past p (f ∷ fs) h) refl refl refl b t
 
 step-over-part : {q : State} {p : Particle Use} {f : Frame} {fs : List Frame} {h : Head} (k : ℕ) {x : ℕ} {s t : Separator} → Over q p (f ∷ fs) h → Holds f s → Parts s x t
     → step q k x ≡ expecting (holding t (join f p)) fs h
@@ -262,9 +255,9 @@ step-over-close k at-past = refl
 
 step-finish-blank : {q : State} {c : Content Use} {h : Head} (k b : ℕ) → Finished q c h → T (isBlank b) → step q k b ≡ afterContent c h
 unfolding step
-step-finish-blank {q} {c} {h} k b (at-model (unmarked at-closed)) t = blank-is (λ i. step q k i ≡ afterContent c h) refl refl refl b t
-step-finish-blank {q} {c} {h} k b (at-model at-past) t = blank-is (λ i. step q k i ≡ afterContent c h) refl refl refl b t
-step-finish-blank {q} {c} {h} k b at-content t = blank-is (λ i. step q k i ≡ afterContent c h) refl refl refl b t
+step-finish-blank {q} {c} {h} k b (at-model (unmarked at-closed)) t = each-blank (λ i. step q k i ≡ afterContent c h) refl refl refl b t
+step-finish-blank {q} {c} {h} k b (at-model at-past) t = each-blank (λ i. step q k i ≡ afterContent c h) refl refl refl b t
+step-finish-blank {q} {c} {h} k b at-content t = each-blank (λ i. step q k i ≡ afterContent c h) refl refl refl b t
 
 step-finish : {q : State} {c : Content Use} {h : Head} (k : ℕ) → Finished q c h → step q k 0x3E ≡ between (declared c h ∷ h .opening .done)
 unfolding step
@@ -281,7 +274,7 @@ goes-step {k} (spelt s) = step-spelt k s
 goes-step {b} (keyword-blank t) = cond-true (isBlank b) _ _ t
 goes-step {b} (begin-name t) = cond-false (isBlank b) _ _ (begins-no-blank b t) ∙ cond-true (startsName b) _ _ t
 goes-step {b} (grow-name {n = n} t l) = cond-true (continuesName b) _ _ t ∙ cond-true (ltb (length n) maxNameBytes) _ _ (lt→ltb (length n) maxNameBytes l)
-goes-step {q} {k} {b} {r} (name-blank t) = blank-is (λ c. step q k c ≡ r) refl refl refl b t
+goes-step {q} {k} {b} {r} (name-blank t) = each-blank (λ c. step q k c ≡ r) refl refl refl b t
 goes-step begin-empty = refl
 goes-step open-content = refl
 goes-step begin-pcdata = refl
@@ -296,39 +289,6 @@ goes-step {k} (over-close v) = step-over-close k v
 goes-step {k} {b} (finish-blank v t) = step-finish-blank k b v t
 goes-step {k} (finish v) = step-finish k v
 
--- after such a step the machine is not dead
-pub goes-live : {q : State} {k b : ℕ} {r : State} → Goes q k b r → isDead r ≡ false
-goes-live (idle skip-between t) = refl
-goes-live (idle skip-name t) = refl
-goes-live (idle skip-content t) = refl
-goes-live (idle skip-open t) = refl
-goes-live (idle skip-pcdata t) = refl
-goes-live (idle skip-particle t) = refl
-goes-live begin-declaration = refl
-goes-live (spell s in-element) = refl
-goes-live (spell s in-empty) = refl
-goes-live (spell s in-pcdata) = refl
-goes-live (spelt in-element) = refl
-goes-live (spelt in-empty) = refl
-goes-live (spelt in-pcdata) = refl
-goes-live (keyword-blank t) = refl
-goes-live (begin-name t) = refl
-goes-live (grow-name t l) = refl
-goes-live (name-blank t) = refl
-goes-live begin-empty = refl
-goes-live open-content = refl
-goes-live begin-pcdata = refl
-goes-live close-pcdata = refl
-goes-live (begin-use v t) = refl
-goes-live (grow-use t l) = refl
-goes-live (open-group v l) = refl
-goes-live (mark v m) = refl
-goes-live (over-blank v t) = refl
-goes-live (over-part v f s) = refl
-goes-live (over-close v) = refl
-goes-live (finish-blank v t) = refl
-goes-live (finish v) = refl
-
 -- a chain of steps over a text that starts at the place k
 pub data Transitions : State → ℕ → List ℕ → State → Type 0 where
   stay : {q : State} {k : ℕ} → Transitions q k [] q
@@ -337,12 +297,3 @@ pub data Transitions : State → ℕ → List ℕ → State → Type 0 where
 pub path-append : {q r z : State} {k j : ℕ} {u v : List ℕ} → Transitions q k u r → j ≡ k + length u → Transitions r j v z → Transitions q k (u ++ v) z
 path-append {r} {z} {k} {j} {v} stay e p = subst (λ (i : ℕ). Transitions r i v z) (omega arith) p
 path-append (go g p) e m = go g (path-append p (omega arith) m)
-
--- the machine runs along a chain
-pub run-path : {q r : State} {k : ℕ} {w : List ℕ} → Transitions q k w r → (v : List ℕ) → run q (w ++ v) k ≡ run r v (k + length w)
-unfolding run
-run-path {r} {k} stay v = ap (run r v) (omega arith)
-run-path {q} {r} {k} (go {r = s} {b = b} {w = w} g p) v =
-    ap (λ (t : State). cond (isDead t) (departs k) (run t (w ++ v) (suc k))) (goes-step g)
-    ∙ ap (λ (t : Bool). cond t (departs k) (run s (w ++ v) (suc k))) (goes-live g)
-    ∙ run-path p v ∙ ap (run r v) (omega arith)

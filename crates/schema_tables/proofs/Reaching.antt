@@ -26,7 +26,7 @@ use Rattle.schema_laws.specs.Accepted.{Spelt, accepted-spelt, accepted-length, 
 use Rattle.schema_laws.specs.Runs.{run-extends}
 use Rattle.schema_names.specs.Names.{nameAt}
 use Rattle.schema_spec.specs.Declarations.{Use, Declaration}
-use Rattle.schema_spec.specs.Machine.{between, atEnd, spells, departs, parse}
+use Rattle.schema_spec.specs.Machine.{between, atEnd, parse}
 use Rattle.schema_spec.specs.Models.{Particle, Content, children, uses, usesIn, renameIn, renameContent}
 use Rattle.schema_spec.specs.Names.{hasBit}
 use Rattle.schema_spec.specs.Records.{schemaIn}
@@ -37,6 +37,7 @@ use Rattle.schema_tables.specs.Rows.{kindIn, endsIn, elementAt}
 use Rattle.schema_tables.specs.Tables.{kindOf}
 use Rattle.text_spec.specs.Limits.{maxDeclarations, maxModelNames}
 use Rattle.text_spec.specs.Lists.{anyOf, sameBytes}
+use Rattle.text_spec.specs.Machines.{spells, departs}
 use Rattle.words.specs.Bits.{bit-none}
 
 at-middle : {A B : Type 0} (f : A → B) (xs ys : List A) (x : A) → getElem? (map f (xs ++ (x ∷ ys))) (length xs) ≡ some (f x)

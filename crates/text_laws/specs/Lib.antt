@@ -1,7 +1,13 @@
 pub mod Tests
 pub mod Lists
+pub mod Bytes
 pub mod Refusals
 pub mod Order
 pub mod Texts
 pub mod Departures
 pub mod Cells
+pub mod Machines
+pub mod Scans
+pub mod Searches
+pub mod Loops
+pub mod Calls

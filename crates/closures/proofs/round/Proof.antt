@@ -4,7 +4,7 @@ use Prim.Native.Nat.{_≤_, _-_}
 use lib.ListN.{length, length-set}
 use Rattle.closures.specs.Rounds.{Grown, grown-row, grown-all}
 use Rattle.names.specs.Sets.{nothing}
-use Rattle.words.specs.Loops.{Passed, passed-first, passed-next}
+use Rattle.text_laws.specs.Loops.{Passed, passed-first, passed-next}
 use borrow.Author.Needs.{needs}
 use native.Mathlib.Omega.{arith}
 use Rattle.closures.proofs.round.Statement.{statement}
