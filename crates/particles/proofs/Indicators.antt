@@ -6,13 +6,13 @@ use Prim.Native.Nat.{ℕ, _+_, _≤_, _<_}
 use borrow.Author.Tests.{ne-eqb}
 use lib.Dec.{eqb}
 use lib.ListN.{length, List·getD-eq-default}
-use Rattle.particles.specs.Judging.{from, step-at, same-at, at-end}
 use Rattle.particles.specs.Readings.{Around, Ended, at-name, at-closed, isIndicator, indicatorOf, indicatorAt}
-use Rattle.scanning.specs.Scans.{byteAt}
 use Rattle.schema_spec.specs.Declarations.{Use, Indicator, once, optional, any, oneOrMore, indicated}
-use Rattle.schema_spec.specs.Machine.{State, past, following, indicating, step, atEnd}
+use Rattle.schema_spec.specs.Machine.{State, past, following, indicating, step, schemaMachine, atEnd, from}
 use Rattle.schema_spec.specs.Models.{Particle}
+use Rattle.text_laws.specs.Scans.{step-at, same-at, at-end}
 use Rattle.text_laws.specs.Tests.{never, or-false, cond-no}
+use Rattle.text_spec.specs.Scans.{byteAt}
 
 -- no indicator stands at i
 module _ (s : List ℕ) (i : ℕ) where
@@ -56,7 +56,7 @@ module _ {s : List ℕ} {i : ℕ} where
   module _ {q : State} {p : Particle Use} {x : Around} (E : Ended s i q p x) where
     pub indicator-there : i < length s → isIndicator (byteAt s i) ≡ true → from q s i ≡ from (beyond (indicatorAt s i) p x) s (i + 1)
     indicator-there l e =
-        step-at s i q (beyond (indicatorAt s i) p x) l
+        step-at schemaMachine s i q (beyond (indicatorAt s i) p x) l
         (ended-step E l ∙ go (eqb (byteAt s i) 0x3F) (eqb (byteAt s i) 0x2A) (eqb (byteAt s i) 0x2B) e (following p (x .frames) (x .head) (byteAt s i))) refl
       where
         go : (a b c : Bool) → (a || (b || c)) ≡ true → (r : State)
@@ -73,7 +73,7 @@ module _ {s : List ℕ} {i : ℕ} where
         cond-no (beyond optional p x) _ (a .0) ∙ cond-no (beyond any p x) _ (a .1) ∙ cond-no (beyond oneOrMore p x) _ (a .2)
 
     pub indicator-absent : i < length s → isIndicator (byteAt s i) ≡ false → from q s i ≡ from (beyond (indicatorAt s i) p x) s i
-    indicator-absent l e = same-at s i q (beyond once p x) l (ended-step E l ∙ other-step e) ∙ as-once s i p x (once-there s i e)
+    indicator-absent l e = same-at schemaMachine s i q (beyond once p x) l (ended-step E l ∙ other-step e) ∙ as-once s i p x (once-there s i e)
 
     pub indicator-end : length s ≤ i → from q s i ≡ from (beyond (indicatorAt s i) p x) s i
-    indicator-end l = at-end s i q l ∙ ended-end E ∙ sym (at-end s i (beyond once p x) l) ∙ as-once s i p x (once-past s i l)
+    indicator-end l = at-end schemaMachine s i q l ∙ ended-end E ∙ sym (at-end schemaMachine s i (beyond once p x) l) ∙ as-once s i p x (once-past s i l)

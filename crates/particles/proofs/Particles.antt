@@ -12,7 +12,6 @@ use Rattle.models.specs.Building.{EndsOf}
 use Rattle.models.specs.declared.Ends.{Ends}
 use Rattle.particles.proofs.Automata.{built-name}
 use Rattle.particles.specs.Automata.{Built, PartedBy, parted-none, parted-bar, parted-comma, frameUses, FrameBuilt, built-fresh, built-holding, Joined}
-use Rattle.particles.specs.Judging.{from, step-at, dead-at, at-end, skipped-same, Naming, named-past, named-fail}
 use Rattle.particles.specs.ReadingLaws.{noted-none, noted-more, noted-wider, noted-as, noted-length, noted-low, reading-from, part-read, indicated-reading}
 use Rattle.particles.specs.Readings.{useAt, Noted, Reading, Fails, PartAs, Around, Inside, outside, AroundAt, InsideAt, particleDue, particlePast, groupDue, ReadsParticle, ReadsName, ReadsGroup, at-name, at-closed, PartIndicated, separatorOf, mayPart, parted, Followed, FollowedAs}
 use Rattle.particles.specs.declared.Follow.{Follow}
@@ -20,16 +19,19 @@ use Rattle.particles.specs.declared.Follow.the-variants.{Close, More, Fa
 use Rattle.particles.specs.declared.Part.{Part}
 use Rattle.particles.specs.declared.PartOutcome.{PartOutcome}
 use Rattle.particles.specs.declared.PartOutcome.the-variants.{Past as PartPast, Fail as PartFail}
-use Rattle.scanning.specs.ScanLaws.{starts-no-blank, named-end}
-use Rattle.scanning.specs.Scans.{byteAt, Stops, Skipped, nameAt, Named}
+use Rattle.scanning.specs.OutcomeLaws.{skipped-same, named-end, named-past, named-fail}
+use Rattle.scanning.specs.Outcomes.{Skipped, Named}
 use Rattle.scanning.specs.declared.Read.{Read}
 use Rattle.scanning.specs.declared.Read.the-variants.{Past, Fail}
 use Rattle.schema_spec.specs.Declarations.{Use, byBar, byComma}
-use Rattle.schema_spec.specs.Machine.{Frame, fresh, holding, join, separated, State, dead, expecting, inUse, closed, past, step, departs}
+use Rattle.schema_spec.specs.Machine.{Frame, fresh, holding, join, separated, State, dead, expecting, inUse, closed, step, schemaMachine, from}
 use Rattle.schema_spec.specs.Models.{Particle, named, uses}
+use Rattle.text_laws.specs.Bytes.{starts-no-blank}
+use Rattle.text_laws.specs.Scans.{step-at, dead-at, at-end, Naming}
 use Rattle.text_laws.specs.Tests.{or-false, cond-yes, cond-no}
 use Rattle.text_spec.specs.Bytes.{isBlank, startsName, continuesName}
 use Rattle.text_spec.specs.Limits.{maxGroups}
+use Rattle.text_spec.specs.Scans.{byteAt, Stops, nameAt}
 
 -- ---- the byte where a particle is due
 module _ (x : Inside) (k b : ℕ) where
@@ -51,16 +53,16 @@ module _ (x : Inside) (k b : ℕ) where
 abbrev inName : ℕ → List ℕ → Inside → State
 inName j n x = inUse j n (x .frame) (x .around .frames) (x .around .head)
 
-use-naming : (j : ℕ) (x : Inside) → Naming (λ n. inName j n x)
+use-naming : (j : ℕ) (x : Inside) → Naming schemaMachine dead (λ n. inName j n x)
 unfolding step
-use-naming j x = record { lives = λ n. refl; goes = λ n k b e. cond-yes _ _ e }
+use-naming j x = record { dies = refl; lives = λ n. refl; goes = λ n k b e. cond-yes _ _ e }
 
 module _ {s : List ℕ} {i : ℕ} {r : Read} (N : Named s i r) (l : i < length s) (e : startsName (byteAt s i) ≡ true) where
   begun : (x : Inside) → from (particleDue x) s i ≡ from (inName i (byteAt s i ∷ []) x) s (i + 1)
-  begun x = step-at s i (particleDue x) (inName i (byteAt s i ∷ []) x) l (due-name x i (byteAt s i) e) refl
+  begun x = step-at schemaMachine s i (particleDue x) (inName i (byteAt s i ∷ []) x) l (due-name x i (byteAt s i) e) refl
 
   pub name-fails : {j : ℕ} → r ≡ Fail j → Fails particleDue s i j
-  name-fails u x = begun x ∙ named-fail (use-naming i x) N u
+  name-fails u x = begun x ∙ named-fail N (use-naming i x) u
 
   pub name-reads : {j n start : ℕ} {o o′ t t′ : List ℕ} {ends : Ends} {y : Part} → r ≡ Past j → n ≤ i → (n - start < 64 → (a : ℕ) → EndsOf (n - start) (named a) ends) → o′ ≡ set o n i
       → PartIndicated s (record { at = j; n = n + 1; ends = ends }) t t′ y → ReadsName s i n start o o′ t t′ (PartPast y)
@@ -78,7 +80,7 @@ module _ {s : List ℕ} {i : ℕ} {r : Read} (N : Named s i r) (l : i < length s
             tree = named (useAt s i);
             noted = record { places = i ∷ []; names = refl; rise = (omega arith, omega arith); counted = refl; wrote = w };
             made = built-name (n - start) (useAt s i) t ends E;
-            same = λ x. begun x ∙ named-past (use-naming i x) N u;
+            same = λ x. begun x ∙ named-past N (use-naming i x) u;
           }
 
 -- ---- separators
@@ -145,16 +147,16 @@ module _ (p : Particle Use) (y : Around) (k : ℕ) where
 
 module _ {s : List ℕ} {at i : ℕ} (sep : ℕ) (K : Skipped s at i) where
   past-to : (p : Particle Use) (x : Inside) → from (particlePast p x) s at ≡ from (particlePast p x) s i
-  past-to p x = skipped-same K (particlePast p x) refl (λ k b e. past-blank p (x .around) k (x .frame) b e)
+  past-to p x = skipped-same schemaMachine K (particlePast p x) refl (λ k b e. past-blank p (x .around) k (x .frame) b e)
 
   pub follow-end : length s ≤ i → FollowedAs s at sep (FollowFail i)
-  follow-end l p x H = past-to p x ∙ at-end s i (particlePast p x) l
+  follow-end l p x H = past-to p x ∙ at-end schemaMachine s i (particlePast p x) l
 
   module _ (l : i < length s) where
     pub follow-close : byteAt s i ≡ 0x29 → FollowedAs s at sep (Close (i + 1))
     follow-close e =
         let a = K .low in
-        (omega arith, omega arith, λ p x. past-to p x ∙ step-at s i (particlePast p x) (closed (join (x .frame) p) (x .around .frames) (x .around .head)) l (past-close p (x .around) i (x .frame) e) refl)
+        (omega arith, omega arith, λ p x. past-to p x ∙ step-at schemaMachine s i (particlePast p x) (closed (join (x .frame) p) (x .around .frames) (x .around .head)) l (past-close p (x .around) i (x .frame) e) refl)
 
     pub follow-more : mayPart sep (byteAt s i) ≡ true → FollowedAs s at sep (More (byteAt s i) (i + 1))
     follow-more e =
@@ -162,19 +164,19 @@ module _ {s : List ℕ} {at i : ℕ} (sep : ℕ) (K : Skipped s at i) where
           omega arith,
           omega arith,
           (λ p x H. moves p (x .around) i (byteAt s i) H e .holds),
-          λ p x H. past-to p x ∙ step-at s i (particlePast p x) (particleDue (parted (byteAt s i) p x)) l (moves p (x .around) i (byteAt s i) H e .goes) refl,
+          λ p x H. past-to p x ∙ step-at schemaMachine s i (particlePast p x) (particleDue (parted (byteAt s i) p x)) l (moves p (x .around) i (byteAt s i) H e .goes) refl,
         )
 
     pub follow-not : (byteAt s i ≡ 0x29 → ⊥) → mayPart sep (byteAt s i) ≡ false → FollowedAs s at sep (FollowFail i)
-    follow-not g e p x H = past-to p x ∙ dead-at s i (particlePast p x) l (stuck p (x .around) i (byteAt s i) H (K .stop l) (ne-eqb (byteAt s i) 0x29 g) e)
+    follow-not g e p x H = past-to p x ∙ dead-at schemaMachine s i (particlePast p x) dead l (stuck p (x .around) i (byteAt s i) H (K .stop l) (ne-eqb (byteAt s i) 0x29 g) e) refl
 
 -- ---- a particle
 module _ {s : List ℕ} {at i : ℕ} (K : Skipped s at i) where
   due-to : (x : Inside) → from (particleDue x) s at ≡ from (particleDue x) s i
-  due-to x = skipped-same K (particleDue x) refl (λ k b e. due-blank x k b e)
+  due-to x = skipped-same schemaMachine K (particleDue x) refl (λ k b e. due-blank x k b e)
 
   pub particle-end : length s ≤ i → Fails particleDue s at i
-  particle-end l x = due-to x ∙ at-end s i (particleDue x) l
+  particle-end l x = due-to x ∙ at-end schemaMachine s i (particleDue x) l
 
   pub particle-name : {depth n start : ℕ} {o o′ t t′ : List ℕ} {r : PartOutcome} → ReadsName s i n start o o′ t t′ r → ReadsParticle s at depth n start o o′ t t′ r
   particle-name {depth} {n} {start} {o} {o′} {t} {t′} {r} N = record { says = go r (N .says) }
@@ -187,8 +189,8 @@ module _ {s : List ℕ} {at i : ℕ} (K : Skipped s at i) where
   module _ (l : i < length s) (e : startsName (byteAt s i) ≡ false) where
     pub particle-not : (byteAt s i ≡ 0x28 → ⊥) → Fails particleDue s at i
     particle-not g x =
-        due-to x ∙ dead-at s i (particleDue x) l
-        (due-open x i (byteAt s i) (K .stop l) e false (ap (λ (t : Bool). t && ltb (suc (length (x .around .frames))) maxGroups) (ne-eqb (byteAt s i) 0x28 g)))
+        due-to x ∙ dead-at schemaMachine s i (particleDue x) dead l
+        (due-open x i (byteAt s i) (K .stop l) e false (ap (λ (t : Bool). t && ltb (suc (length (x .around .frames))) maxGroups) (ne-eqb (byteAt s i) 0x28 g))) refl
 
     module _ (g : byteAt s i ≡ 0x28) where
       opens : (x : Inside) (t : Bool) → ltb (suc (length (x .around .frames))) maxGroups ≡ t → step (particleDue x) i (byteAt s i) ≡ cond t (groupDue (outside x)) dead
@@ -198,7 +200,7 @@ module _ {s : List ℕ} {at i : ℕ} (K : Skipped s at i) where
       pub particle-deep : (depth : ℕ) → maxGroups ≤ depth + 1 → Fails {X = InsideAt depth} (λ x. particleDue (x .0)) s at i
       particle-deep depth d x =
           let f = x .1 in
-          due-to (x .0) ∙ dead-at s i (particleDue (x .0)) l (opens (x .0) false (le-ltb (suc (length (x .0 .around .frames))) maxGroups (omega arith)))
+          due-to (x .0) ∙ dead-at schemaMachine s i (particleDue (x .0)) dead l (opens (x .0) false (le-ltb (suc (length (x .0 .around .frames))) maxGroups (omega arith))) refl
 
       module _ (depth : ℕ) (d : depth + 1 < maxGroups) where
         abbrev inner : InsideAt depth → AroundAt (depth + 1)
@@ -207,7 +209,7 @@ module _ {s : List ℕ} {at i : ℕ} (K : Skipped s at i) where
         into : (x : InsideAt depth) → from (particleDue (x .0)) s at ≡ from (groupDue (outside (x .0))) s (i + 1)
         into x =
             let f = x .1 in
-            due-to (x .0) ∙ step-at s i (particleDue (x .0)) (groupDue (outside (x .0))) l (opens (x .0) true (lt-ltb (suc (length (x .0 .around .frames))) maxGroups (omega arith))) refl
+            due-to (x .0) ∙ step-at schemaMachine s i (particleDue (x .0)) (groupDue (outside (x .0))) l (opens (x .0) true (lt-ltb (suc (length (x .0 .around .frames))) maxGroups (omega arith))) refl
 
         module _ {n start : ℕ} {o o′ t t′ : List ℕ} {r : PartOutcome} (G : ReadsGroup s (i + 1) (depth + 1) n start o o′ t t′ r) where
           pub open-fails : {j : ℕ} → r ≡ PartFail j → Fails {X = InsideAt depth} (λ x. particleDue (x .0)) s at j

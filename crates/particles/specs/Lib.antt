@@ -1,4 +1,3 @@
-pub mod Judging
 pub mod Automata
 pub mod Readings
 pub mod ReadingLaws

@@ -7,12 +7,11 @@ use native.Mathlib.Omega.{arith}
 use lib.ListN.{length, set, length-append, length-map}
 use lib.Seq.{sets}
 use Rattle.particles.specs.Automata.{Built}
-use Rattle.particles.specs.Judging.{from}
 use Rattle.particles.specs.Readings.{useAt, Between, Noted, Reading, PartAs, ReadsPart, Around, Ended, indicatorAt, PartIndicated}
 use Rattle.particles.specs.declared.Part.{Part}
 use Rattle.particles.specs.declared.PartOutcome.{PartOutcome}
 use Rattle.schema_spec.specs.Declarations.{Use, Indicator, once, optional, any, oneOrMore, indicated}
-use Rattle.schema_spec.specs.Machine.{State, past}
+use Rattle.schema_spec.specs.Machine.{State, past, from}
 use Rattle.schema_spec.specs.Models.{Particle, uses}
 
 -- ---- places in rising order

@@ -8,17 +8,17 @@ use lib.Dec.{eqb}
 use lib.ListN.{length}
 use lib.Seq.{sets}
 use Rattle.particles.specs.Automata.{Built, Repeated, PartedBy}
-use Rattle.particles.specs.Judging.{from}
 use Rattle.particles.specs.declared.Follow.{Follow}
 use Rattle.particles.specs.declared.Follow.the-variants.{Close, More, Fail as FollowFail}
 use Rattle.particles.specs.declared.Part.{Part}
 use Rattle.particles.specs.declared.PartOutcome.{PartOutcome}
 use Rattle.particles.specs.declared.PartOutcome.the-variants.{Past, Fail}
-use Rattle.scanning.specs.Scans.{byteAt, Stops, nameAt}
 use Rattle.schema_spec.specs.Declarations.{Use, Indicator, once, optional, any, oneOrMore, indicated, Separator, byBar, byComma}
-use Rattle.schema_spec.specs.Machine.{Frame, fresh, holding, join, Head, State, expecting, inUse, closed, past, departs}
+use Rattle.schema_spec.specs.Machine.{Frame, fresh, holding, join, Head, State, expecting, inUse, closed, past, from}
 use Rattle.schema_spec.specs.Models.{Particle, named, uses}
 use Rattle.text_spec.specs.Bytes.{continuesName}
+use Rattle.text_spec.specs.Machines.{departs}
+use Rattle.text_spec.specs.Scans.{byteAt, Stops, nameAt}
 
 -- ---- names and their places
 abbrev pub useAt : List ℕ → ℕ → Use

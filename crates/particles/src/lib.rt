@@ -6,9 +6,9 @@ ghost use Prim.Native.Nat.{_≤_, _<_};
 ghost use lib.ListN.{length};
 ghost use Rattle.particles.specs.Automata.{Repeated, Joined};
 ghost use Rattle.particles.specs.Readings.{isIndicator, Indicated, indicatorAt, PartIndicated, mayPart, Followed, ReadsName, ReadsParticle, ReadsGroup};
-ghost use Rattle.scanning.specs.Scans.{byteAt};
 ghost use Rattle.text_spec.specs.Bytes.{startsName};
 ghost use Rattle.text_spec.specs.Limits.{maxGroups};
+ghost use Rattle.text_spec.specs.Scans.{byteAt};
 use models::Ends;
 use scanning::Read;
 

@@ -1,2 +1,2 @@
-pub mod Scans
-pub mod ScanLaws
+pub mod Outcomes
+pub mod OutcomeLaws

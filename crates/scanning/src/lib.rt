@@ -3,8 +3,9 @@ ghost use mathlib.Core.Bool.{true};
 ghost use mathlib.Core.Path.{_≡_};
 ghost use Prim.Native.Nat.{_≤_, _<_};
 ghost use lib.ListN.{length, set};
-ghost use Rattle.scanning.specs.Scans.{byteAt, Skipped, Spaced, Spelt, Named};
+ghost use Rattle.scanning.specs.Outcomes.{Skipped, Spaced, Spelt, Named};
 ghost use Rattle.text_spec.specs.Bytes.{startsName};
+ghost use Rattle.text_spec.specs.Scans.{byteAt};
 
 pub const MAX_NAME_BYTES: usize = 31;
 

@@ -1,6 +1,6 @@
 -- `use_name` meets its contract: the name, then its indicator.
 use Rattle.particles.proofs.Particles.{name-fails, name-reads}
-use Rattle.scanning.specs.ScanLaws.{named-end}
+use Rattle.scanning.specs.OutcomeLaws.{named-end}
 use borrow.Author.Needs.{needs}
 use Rattle.particles.proofs.use_name.Statement.{statement}
 use Rattle.particles.proofs.use_name.Tie as tie

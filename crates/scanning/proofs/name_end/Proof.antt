@@ -5,8 +5,9 @@ use native.Mathlib.Omega.{arith}
 use borrow.Author.Needs.{needs}
 use borrow.Author.Tests.{not-true, not-false}
 use lib.ListN.{length}
-use Rattle.scanning.specs.ScanLaws.{each-none, each-more, starts-continues}
-use Rattle.scanning.specs.Scans.{byteAt, Each}
+use Rattle.scanning.proofs.Bytes.{each-none, each-more}
+use Rattle.text_laws.specs.Bytes.{starts-continues}
+use Rattle.text_spec.specs.Scans.{byteAt, Each}
 use Rattle.text_spec.specs.Bytes.{continuesName}
 use Rattle.text_spec.specs.Limits.{maxNameBytes}
 use Rattle.scanning.proofs.name_end.Statement.{statement}

@@ -5,8 +5,8 @@ use native.Mathlib.Omega.{arith}
 use borrow.Author.Needs.{needs}
 use borrow.Author.Tests.{not-true, not-false}
 use lib.ListN.{length}
-use Rattle.scanning.specs.ScanLaws.{each-none, each-more}
-use Rattle.scanning.specs.Scans.{Each}
+use Rattle.scanning.proofs.Bytes.{each-none, each-more}
+use Rattle.text_spec.specs.Scans.{Each}
 use Rattle.text_spec.specs.Bytes.{isBlank}
 use Rattle.scanning.proofs.skip.Statement.{statement}
 use Rattle.scanning.proofs.skip.Tie as tie

@@ -3,7 +3,7 @@ use mathlib.Core.Path.{_≡_, subst}
 use Prim.Native.Nat.{ℕ}
 use native.Mathlib.Omega.{arith}
 use borrow.Author.Needs.{needs}
-use Rattle.scanning.specs.Scans.{NoBlank}
+use Rattle.scanning.specs.Outcomes.{NoBlank}
 use Rattle.scanning.proofs.space.Statement.{statement}
 use Rattle.scanning.proofs.space.Tie as tie
 

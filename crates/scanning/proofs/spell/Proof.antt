@@ -3,8 +3,8 @@ use Prim.Native.Nat.{_-_, _≤_}
 use native.Mathlib.Omega.{arith}
 use borrow.Author.Needs.{needs}
 use lib.ListN.{length}
-use Rattle.scanning.specs.ScanLaws.{begins-more}
-use Rattle.scanning.specs.Scans.{Begins}
+use Rattle.scanning.proofs.Bytes.{begins-more}
+use Rattle.text_spec.specs.Scans.{Begins}
 use Rattle.scanning.proofs.spell.Statement.{statement}
 use Rattle.scanning.proofs.spell.Tie as tie
 

@@ -1,24 +1,13 @@
--- Parts of a text by their places: blanks, keywords, names; and what reading one of them answers.
-use mathlib.Core.Bool.{Bool, true, false, cond}
-use mathlib.Core.List.{List, [], _∷_}
+-- What reading blanks, a keyword or a name answers, by the places of the text.
 use mathlib.Core.Path.{_≡_}
-use Prim.Native.Nat.{ℕ, _+_, _-_, _≤_, _<_}
-use lib.ListN.{length, drop, getD}
+use mathlib.Core.List.{List}
+use Prim.Native.Nat.{ℕ, _+_, _≤_, _<_}
+use lib.ListN.{length}
 use Rattle.scanning.specs.declared.Read.{Read}
 use Rattle.scanning.specs.declared.Read.the-variants.{Past, Fail}
 use Rattle.text_spec.specs.Bytes.{isBlank, continuesName}
 use Rattle.text_spec.specs.Limits.{maxNameBytes}
-
-abbrev pub byteAt : List ℕ → ℕ → ℕ
-byteAt s i = getD s i 0
-
--- each byte from i up to j passes a test
-abbrev pub Each : (ℕ → Bool) → List ℕ → ℕ → ℕ → Type 0
-Each f s i j = (k : ℕ) → i ≤ k → k < j → f (byteAt s k) ≡ true
-
--- the byte at i, if there is one, does not
-abbrev pub Stops : (ℕ → Bool) → List ℕ → ℕ → Type 0
-Stops f s i = i < length s → f (byteAt s i) ≡ false
+use Rattle.text_spec.specs.Scans.{byteAt, Each, Stops, Begins}
 
 -- ---- blanks
 abbrev pub NoBlank : List ℕ → ℕ → Type 0
@@ -39,13 +28,7 @@ SpacedAs s at (Fail j) = (j ≡ at) × NoBlank s at
 pub record Spaced (s : List ℕ) (at : ℕ) (r : Read) : Type 0 where
   pub says : SpacedAs s at r
 
--- ---- keywords
--- the first n bytes of w stand at a place
-pub record Begins (w s : List ℕ) (at n : ℕ) : Type 0 where
-  pub fits : at + n ≤ length s
-  pub same : (k : ℕ) → k < n → byteAt s (at + k) ≡ byteAt w k
-
--- the keyword w: all of it, or as many bytes as stand there and then the text's end or another byte
+-- ---- the keyword w: all of it, or as many bytes as stand there and then the text's end or another byte
 abbrev pub SpeltAs : List ℕ → List ℕ → ℕ → Read → Type 0
 SpeltAs w s at (Past j) = (j ≡ at + length w) × Begins w s at (length w)
 SpeltAs w s at (Fail j) =
@@ -54,17 +37,7 @@ SpeltAs w s at (Fail j) =
 pub record Spelt (w s : List ℕ) (at : ℕ) (r : Read) : Type 0 where
   pub says : SpeltAs w s at r
 
--- ---- names
--- the longest run of bytes that go on as a name
-abbrev pub nameIn : List ℕ → List ℕ
-nameIn [] = []
-nameIn (b ∷ bs) = cond (continuesName b) (b ∷ nameIn bs) []
-
--- the name at a place
-abbrev pub nameAt : List ℕ → ℕ → List ℕ
-nameAt s p = nameIn (drop p s)
-
--- the name at j: its end, or the first byte that is too many
+-- ---- the name at j: its end, or the first byte that is too many
 abbrev pub NamedAs : List ℕ → ℕ → Read → Type 0
 NamedAs s j (Past e) = (j < e) × (e ≤ length s) × (e ≤ j + maxNameBytes) × Each continuesName s j e × Stops continuesName s e
 NamedAs s j (Fail e) = (e ≡ j + maxNameBytes) × (e < length s) × Each continuesName s j (e + 1)
