@@ -3,7 +3,6 @@ use mathlib.Core.List.{List, _∷_}
 use mathlib.Core.Path.{_≡_}
 use Prim.Native.Nat.{ℕ, _≤_, _<_}
 use lib.ListN.{length}
-use Rattle.declarations.specs.declared.ContentEnd.{ContentEnd}
 use Rattle.declarations.specs.declared.ContentOutcome.{ContentOutcome}
 use Rattle.declarations.specs.declared.ContentOutcome.the-variants.{Past as ContentPast, Fail as ContentFail}
 use Rattle.models.specs.declared.Content.{Content as Contents}
