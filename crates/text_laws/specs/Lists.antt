@@ -120,6 +120,18 @@ module _ {A : Type 0} where
       let z : _≡_ {A = Bool} (isEmpty {A = A} (x ∷ (xs ++ ys))) (isEmpty {A = A} []) = ap isEmpty e in
       absurd (subst T (sym z) tt)
 
+  -- a list is split in one way at the first element with a property
+  pub first-split-once : (P : A → Type 0) (u v : List A) {x y : A} {r q : List A} → u ++ (x ∷ r) ≡ v ++ (y ∷ q) → P x → P y
+      → ((z : A) → In z u → P z → ⊥) → ((z : A) → In z v → P z → ⊥) → (u ≡ v) × (x ∷ r ≡ y ∷ q)
+  first-split-once P [] [] e p t f g = (refl, e)
+  first-split-once P [] (b ∷ v) {x} e p t f g = absurd (g x (here (cc)) p)
+  first-split-once P (a ∷ u) [] {y = y} e p t f g = absurd (f y (here (cc)) t)
+  first-split-once P (a ∷ u) (b ∷ v) {x} {y} {r} {q} e p t f g =
+      let tails : u ++ (x ∷ r) ≡ v ++ (y ∷ q) = cc in
+      let s = first-split-once P u v tails p t (λ z i. f z (there i)) (λ z i. g z (there i)) in
+      let h : a ≡ b = cc in
+      (ap (λ (l : List A). a ∷ l) (s .0) ∙ ap (λ (c : A). c ∷ v) h, s .1)
+
   -- a test for elements that tells equal ones tells equal lists
   pub same-lists : (same : A → A → Bool) → ((x y : A) → T (same x y) → x ≡ y) → (xs ys : List A) → T (sameBy same xs ys) → xs ≡ ys
   same-lists same h [] [] t = refl
