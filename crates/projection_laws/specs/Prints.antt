@@ -1,7 +1,7 @@
 -- What `listing` prints is what document 01 says, and nothing else is: the first refused file, 18 only where all three are accepted, or the
 -- header with the lengths of the three lists and a line for each selected node.
 use mathlib.Core.List.{List}
-use mathlib.Core.Path.{_≡_, refl, sym, ap, subst, _∙_}
+use mathlib.Core.Path.{_≡_, sym, ap, subst}
 use Prim.Native.Nat.{ℕ}
 use lib.Dec.{T}
 use Rattle.journal_laws.specs.Accepted.{accepted-well-formed}
@@ -17,7 +17,7 @@ use Rattle.schema_spec.specs.Types.{typesOf}
 use Rattle.table_spec.specs.Tables.{wellFormed, wellFormedWith, textInside}
 use Rattle.text_laws.specs.Calls.{IsUnique, IsOutcome, turn-is}
 use Rattle.text_laws.specs.Tests.{never, and-cases}
-use Rattle.text_spec.specs.Calls.{InTurn, goes-on, answered}
+use Rattle.text_spec.specs.Calls.{goes-on, answered}
 use Rattle.text_spec.specs.Limits.{listingJournalBytes, listingRows}
 use Rattle.text_spec.specs.Lists.{allOf}
 use Rattle.text_spec.specs.Refusals.{Outcome, accepted, refused}
