@@ -1,5 +1,4 @@
 -- What a case asks of the definitions, and what they answer. Assumes nothing.
-use mathlib.Core.Bool.{cond}
 use mathlib.Core.List.{List, [], _∷_, _++_, map}
 use mathlib.Core.Path.{_≡_}
 use Prim.Native.Nat.{ℕ, zero, suc}
@@ -13,12 +12,13 @@ use Rattle.projection_spec.specs.Inference.Needed.{needed}
 use Rattle.projection_spec.specs.Library.Hosts.{extractOf}
 use Rattle.table_spec.specs.Columns.{Columns}
 use Rattle.projection_spec.specs.Library.Listing.{listing}
-use Rattle.projection_spec.specs.Library.Records.{passesTable}
+use Rattle.projection_spec.specs.Library.Records.{tableBeside}
 use Rattle.schema_spec.specs.Names.{Names}
 use Rattle.schema_spec.specs.Reading.{readSchema}
 use Rattle.schema_spec.specs.Records.{schemaIn}
 use Rattle.schema_spec.specs.Types.{typesOf}
 use Rattle.table_spec.specs.Rows.{Row}
+use Rattle.text_spec.specs.Calls.{handed}
 use Rattle.text_spec.specs.Limits.{maxJournalBytes}
 use Rattle.text_spec.specs.Refusals.{Outcome, accepted, refused, resultOr, numberOf}
 
@@ -67,7 +67,7 @@ answerTo (schemaRead s) = said (readSchema s)
 answerTo (bundleRead s b) = said (readBundle (schemaIn s) b)
 answerTo (journalRead s j) = said (readJournal maxJournalBytes (schemaIn s) j)
 answerTo (extractRead s x) = said (readExtract (typesOf (schemaIn s)) x)
-answerTo (tableLent s c n lent) = cond (passesTable (schemaIn s) c n lent) taken (turnedBack 1 0)
+answerTo (tableLent s c n lent) = said (handed (tableBeside (schemaIn s) lent (record { columns = c; count = n })) (λ rows. accepted rows))
 answerTo (names s b) = theNames (needed (typesOf (schemaIn s)) (pathsRead s b))
 answerTo (nodes s b j) = theNumbers (map (selectRows j (rowsRead s j)) (pathsRead s b))
 answerTo (rowsKept s b j) = theNumbers (map (λ r. r .number) (cut (needed (typesOf (schemaIn s)) (pathsRead s b)) (rowsRead s j)) ∷ [])
