@@ -216,3 +216,15 @@ pub select-rows-rises : (s : Types) (lent : List ℕ) (rows : List Row) (p : Loc
 unfolding selectRows
 select-rows-rises s lent rows p w =
     select-rises (nodesOf lent rows) p (rw (nodes-numbered lent rows) (all-rise rows (λ i q r a b. w .laterRow i q r a b .rises)))
+
+-- "On an empty table nothing is selected."
+from-nothing : (ps : List (WrittenStep ℕ (Condition ℕ))) → pathFrom holdsAt [] ps [] ≡ []
+from-nothing [] = refl
+from-nothing (p ∷ ps) = from-nothing ps
+
+pub select-nothing : (lent : List ℕ) (p : LocationPath ℕ) → selectRows lent [] p ≡ []
+unfolding selectRows select selected nodesOf
+select-nothing lent p = ap (map nodeNumber) (by (p .start))
+  where
+    by : (q : Start) → pathFrom holdsAt [] (p .steps) (startNodes q []) ≡ []
+    by rootElement = from-nothing (p .steps)
