@@ -21,7 +21,7 @@ use Rattle.path_spec.specs.Paths.{LocationPath}
 use Rattle.path_spec.specs.Reading.{readBundle}
 use Rattle.projection_spec.specs.Library.Calls.{inColumns, journalRead}
 use Rattle.projection_spec.specs.Library.Hosts.{Lent, hostAnswer, inLent, extractOf, makeExtract}
-use Rattle.projection_spec.specs.Library.Listing.{listingData, judgeFiles, printed, refusedLine, listing}
+use Rattle.projection_spec.specs.Library.Listing.{FilesRead, judgeFiles, listingData, refusedLine, listed, listing}
 use Rattle.projection_spec.specs.Library.Records.{TextRecord, schemaHeld}
 use Rattle.schema_reading_laws.specs.Reading.{schema-read}
 use Rattle.schema_spec.specs.Conditions.{SchemaApplies, SchemaGives}
@@ -199,8 +199,11 @@ module _ (schema bundle journal : List ℕ) (s : Schema) (ps : List (LocationPat
         (λ rows. tooSmall (l .columns .numbers) rows || (tooSmall (l .items) (extractOf s ps journal rows) || tooSmall {A = ℕ} (l .counts) []))
         (λ rows. hostAnswer rows (extractOf s ps journal rows) []) more less f (sym made ∙ e)
 
+  abbrev filesWith : List Row → FilesRead
+  filesWith rows = record { schema = s; paths = ps; rows = rows }
+
   judged-files : judgeFiles schema bundle journal
-      ≡ andThen (readJournal 32768 s journal) (λ rows. inRoom (tooSmall 4096 rows) (listingData s ps journal rows))
+      ≡ andThen (readJournal 32768 s journal) (λ rows. inRoom (tooSmall 4096 rows) (filesWith rows))
   unfolding judgeFiles
   judged-files = rw (schema-taken, bundle-taken)
 
@@ -209,7 +212,7 @@ module _ (schema bundle journal : List ℕ) (s : Schema) (ps : List (LocationPat
   listing-over-32768 more = rw (judged-files, journal-over 32768 s journal more)
 
   pub listing-within-32768 : 1 ≤ length journal → length journal ≤ 32768 → (f : Refusal) → judgeFiles schema bundle journal ≡ refused f → f .reason ≡ badLength → ⊥
-  listing-within-32768 more less f e = turn-not-2 32768 s journal (tooSmall 4096) (listingData s ps journal) more less f (sym judged-files ∙ e)
+  listing-within-32768 more less f e = turn-not-2 32768 s journal (tooSmall 4096) filesWith more less f (sym judged-files ∙ e)
 
   -- it lends 4,096 rows
   module _ (rows : List Row) (journal-taken : readJournal 32768 s journal ≡ accepted rows) where
@@ -217,7 +220,7 @@ module _ (schema bundle journal : List ℕ) (s : Schema) (ps : List (LocationPat
     unfolding listing refusedLine
     listing-over-4096 more = rw (judged-files, journal-taken, true-of (tooSmall 4096 rows) (lt→ltb 4096 (length rows) more))
 
-    pub listing-within-4096 : length rows ≤ 4096 → listing schema bundle journal ≡ printed (accepted (listingData s ps journal rows))
+    pub listing-within-4096 : length rows ≤ 4096 → listing schema bundle journal ≡ listed (listingData journal (record { schema = s; paths = ps; rows = rows }))
     unfolding listing
     listing-within-4096 less =
         rw (judged-files, journal-taken, false-of (tooSmall 4096 rows) (λ t. let h = ltb→lt 4096 (length rows) t in omega arith))
