@@ -15,6 +15,7 @@ pub mod Numbers
 pub mod Listing
 pub mod Records
 pub mod Handed
+pub mod Selections
 pub mod Calls
 pub mod Hosts
 pub mod Prints

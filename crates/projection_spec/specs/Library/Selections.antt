@@ -1,7 +1,7 @@
 -- Which paths of a bundle a caller asks for, and what they select together.
-use mathlib.Core.List.{List, map}
+use mathlib.Core.List.{List, [], _∷_, map}
 use Prim.Native.Nat.{ℕ, zero, suc}
-use lib.ListN.{length, getElem?}
+use lib.ListN.{length, take, drop, getElem?}
 use Rattle.path_spec.specs.Paths.{LocationPath}
 use Rattle.path_spec.specs.Selection.{selectRows}
 use Rattle.table_spec.specs.Rows.{Row}
@@ -19,3 +19,8 @@ pub record Selections : Type 0 where
 
 abbrev pub selections : List ℕ → List Row → List (LocationPath ℕ) → Selections
 selections lent rows asked = record { items = gather (selectRows lent rows) asked; counts = map (λ p. length (selectRows lent rows p)) asked }
+
+-- items split by counts: those of each asked path by itself
+abbrev pub splitBy : List ℕ → List ℕ → List (List ℕ)
+splitBy [] items = []
+splitBy (n ∷ ns) items = take n items ∷ splitBy ns (drop n items)
