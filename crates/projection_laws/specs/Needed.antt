@@ -1,15 +1,15 @@
 -- For an accepted schema: the types and contexts that are computed are those of document 01's rules, the needed names those on its walks,
 -- and the 64 bits answered are the bits of these names.
-use mathlib.Core.List.{List, List·Memᴰ as In}
+use mathlib.Core.List.{List, [], List·Memᴰ as In}
 use mathlib.Core.Logic.{_↔_}
 use mathlib.Core.Path.{_≡_, sym, subst}
 use Prim.Native.Nat.{ℕ, _<_, _^_}
 use lib.Dec.{T}
-use Rattle.path_spec.specs.Paths.{Step, Condition, Start, LocationPath}
+use Rattle.path_spec.specs.Paths.{Step, Condition, unconditional, Start, LocationPath, expand}
 use Rattle.projection_spec.specs.Inference.Needed.{keepsName, atStart as startEnv, neededByPath, needed, neededWord}
 use Rattle.projection_spec.specs.Inference.Rules.{type, context, atStart, afterSteps, Member}
 use Rattle.projection_spec.specs.Inference.Types.{Env, inferAll}
-use Rattle.projection_spec.specs.Inference.Walks.{BundleNeeds}
+use Rattle.projection_spec.specs.Inference.Walks.{Walk, PathNeeds, ReachedFromRoot, root, next, BundleNeeds, by-path}
 use Rattle.projection_spec.specs.Library.Conditions.{SchemaTaken}
 use Rattle.projection_laws.specs.Rules.{rules-infer}
 use Rattle.projection_laws.specs.Walks.{bundle-needs, needs-bundle}
@@ -17,10 +17,11 @@ use Rattle.schema_laws.specs.Accepted.{accepted-length, accepted-filled, accept
 use Rattle.schema_laws.specs.Names.{within-in}
 use Rattle.schema_laws.specs.Words.{Coded, schema-coded, word-has, has-word, word-named, word-below}
 use Rattle.schema_reading_laws.specs.Reading.{schema-read-once}
-use Rattle.schema_spec.specs.Names.{Name, codeOf, hasBit, namesOf}
+use Rattle.schema_spec.specs.Names.{Name, Names, codeOf, hasBit, namesOf}
 use Rattle.schema_spec.specs.Reading.{readSchema}
 use Rattle.schema_spec.specs.Schemas.{Schema}
 use Rattle.schema_spec.specs.Types.{typesOf}
+use Rattle.text_laws.specs.Lists.{memberless}
 use Rattle.text_spec.specs.Lists.{gather}
 use Rattle.text_spec.specs.Refusals.{accepted}
 
@@ -51,6 +52,19 @@ module _ (schema : List ℕ) (s : Schema) (taken : SchemaTaken schema s) where
 
     pub needed-complete : (n : Name) → BundleNeeds s ps n → In n (needed (typesOf s) ps)
     needed-complete n z = needs-bundle s (accepted-filled schema s read) (accepted-closed schema s read) ps n z
+
+    -- "No complete walk: the set is empty."
+    pub no-walk-none : ((p : LocationPath ℕ) → In p ps → (w : Names) → Walk s (atStart (p .start)) (expand unconditional (p .steps)) w → ⊥) → needed (typesOf s) ps ≡ []
+    no-walk-none none = memberless (needed (typesOf s) ps) (λ n i. contrary n (needed-sound n i))
+      where
+        some-walk : (p : LocationPath ℕ) {n : Name} → ReachedFromRoot s (PathNeeds s p) n → (w : Names) × Walk s (atStart (p .start)) (expand unconditional (p .steps)) w
+        some-walk p (root z) = (z .walk, z .complete)
+        some-walk p (next r h z) = (z .walk, z .complete)
+
+        contrary : (n : Name) → BundleNeeds s ps n → ⊥
+        contrary n (by-path p i z) =
+            let w = some-walk p z in
+            none p i (w .0) (w .1)
 
     needed-in : (n : Name) → In n (needed (typesOf s) ps) → In n (namesOf s)
     unfolding needed typesOf

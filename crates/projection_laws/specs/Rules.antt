@@ -10,7 +10,7 @@ use Rattle.path_laws.specs.Selection.{passes-test, test-passes}
 use Rattle.path_spec.specs.Paths.{Axis, self, child, descendant, descendantOrSelf, parent, ancestor, ancestorOrSelf, NodeTest, Step, PlainStep, Condition, unconditional, alternatives, Start, rootElement, expand}
 use Rattle.path_spec.specs.Selection.{Passes, passes}
 use Rattle.projection_spec.specs.Inference.Needed.{keepsAll, keepsName, atStart as startEnv}
-use Rattle.projection_spec.specs.Inference.Rules.{Carried, type, context, Stage, atStart, afterAxis, afterTest, afterCondition, alternativeFrom, afterStep, afterSteps, alternativeSteps, Downward, child-down, descendant-down, descendant-or-self-down, Upward, parent-up, ancestor-up, ancestor-or-self-up, AtOrAbove, at, above, Member, root-first, self-stays, child-type, descendant-type, descendant-or-self-type, descendant-or-self-added, downward-context, child-added, descendant-context, descendant-or-self-context, parent-type, ancestor-type, ancestor-or-self-type, ancestor-or-self-added, upward-context, test-type, test-context, no-condition, condition-type, alternative-type, alternative-context, condition-context}
+use Rattle.projection_spec.specs.Inference.Rules.{Carried, type, context, Point, atStart, afterAxis, afterTest, afterCondition, alternativeFrom, afterStep, afterSteps, alternativeSteps, Downward, child-down, descendant-down, descendant-or-self-down, Upward, parent-up, ancestor-up, ancestor-or-self-up, AtOrAbove, at, above, Member, root-first, self-stays, child-type, descendant-type, descendant-or-self-type, descendant-or-self-added, downward-context, child-added, descendant-context, descendant-or-self-context, parent-type, ancestor-type, ancestor-or-self-type, ancestor-or-self-added, upward-context, test-type, test-context, no-condition, condition-type, alternative-type, alternative-context, condition-context}
 use Rattle.projection_spec.specs.Inference.Types.{Env, env, heldBy, holding, allBelow, allAbove, unionOf, cutTo, move, narrow, infer, inferAll}
 use Rattle.schema_laws.specs.Closure.{Closed, holder-in, held-in, isBelow-decides, below-names}
 use Rattle.schema_laws.specs.Names.{has-in, in-has, in-within, within-in, element-in}
@@ -27,8 +27,8 @@ pub record Members (s : Schema) (l : Names) (P : Name → Type 0) : Type 0 where
   pub complete : (n : Name) → P n → In n l
   pub known : (n : Name) → In n l → In n (namesOf s)
 
--- what is computed at a stage is what the rules give there
-pub record MembersAt (s : Schema) (e : Env) (g : Stage) : Type 0 where
+-- what is computed at a point is what the rules give there
+pub record MembersAt (s : Schema) (e : Env) (g : Point) : Type 0 where
   pub types : Members s (e .type) (Member s type g)
   pub contexts : Members s (e .context) (Member s context g)
 
@@ -53,7 +53,7 @@ afterTesting s p e = narrow (typesOf s) (passes (p .test)) (move (typesOf s) (p 
 -- what is computed after a condition is what the rule gives
 abbrev pub Decides : {C : Type 0} → Schema → (C → Condition ℕ) → (Names → C → Name → Bool) → Type 0
 Decides {C} s asCondition keeps =
-    (g : Stage) (w : NodeTest ℕ) (e : Env) → MembersAt s e (afterTest g w) → (c : C)
+    (g : Point) (w : NodeTest ℕ) (e : Env) → MembersAt s e (afterTest g w) → (c : C)
     → MembersAt s (narrow (typesOf s) (λ a. keeps (cutTo (typesOf s) (a ∷ []) (e .context)) c a) e) (afterCondition (afterTest g w) (asCondition c))
 
 not-both : {x : Axis} → Upward x → Downward x → ⊥
@@ -171,7 +171,7 @@ module _ (s : Schema) (closed : Closed s) where
       }
 
   -- ---- axes
-  module _ {g : Stage} {e : Env} (m : MembersAt s e g) (w : NodeTest ℕ) where
+  module _ {g : Point} {e : Env} (m : MembersAt s e g) (w : NodeTest ℕ) where
     child-types : Members s (heldBy schemaTypes (e .type)) (Member s type (afterAxis g child w))
     child-types = from-members (held-set (e .type)) (m .types) (λ a n i h. child-type i h) from
       where
@@ -280,8 +280,8 @@ module _ (s : Schema) (closed : Closed s) where
         from n (test-context {b = b} k i r) = (b, k, i, r)
 
   -- ---- conditions
-  -- "started from type {A} and K cut to A and above A", for a K that has the names of the stage at or above A
-  pub alternative-from : {k : Names} {Q : Name → Type 0} (g : Stage) (a : Name) → In a (namesOf s) → Members s k Q → ((n : Name) → Q n → Member s context g n)
+  -- "started from type {A} and K cut to A and above A", for a K that has the names of the point at or above A
+  pub alternative-from : {k : Names} {Q : Name → Type 0} (g : Point) (a : Name) → In a (namesOf s) → Members s k Q → ((n : Name) → Q n → Member s context g n)
       → ((n : Name) → Member s context g n → AtOrAbove s n a → Q n) → MembersAt s (env (a ∷ []) (cutTo schemaTypes (a ∷ []) k)) (alternativeFrom g a)
   alternative-from {k} {Q} g a i q f h = record { types = alone; contexts = cut-members alone q cut from }
     where
@@ -303,7 +303,7 @@ module _ (s : Schema) (closed : Closed s) where
       from n (alternative-context c r) = (a, h n c r, alternative-type, r)
 
   -- where no name is lost
-  all-kept : {g : Stage} {w : NodeTest ℕ} {e : Env} (f : Name → Bool) → ((n : Name) → T (f n)) → MembersAt s e (afterTest g w)
+  all-kept : {g : Point} {w : NodeTest ℕ} {e : Env} (f : Name → Bool) → ((n : Name) → T (f n)) → MembersAt s e (afterTest g w)
       → MembersAt s (narrow schemaTypes f e) (afterCondition (afterTest g w) unconditional)
   all-kept {g} {w} {e} f all m =
       record { types = stay; contexts = cut-members stay (m .contexts) (λ n b k i r. no-condition k) (λ n k. cut n (back k)) }
@@ -321,11 +321,11 @@ module _ (s : Schema) (closed : Closed s) where
 
   -- steps whose conditions are tested as the rules say
   module _ {C : Type 0} (asCondition : C → Condition ℕ) (keeps : Names → C → Name → Bool) (decides : Decides s asCondition keeps) where
-    pub step-members : {g : Stage} {e : Env} → MembersAt s e g → (p : Step ℕ C) → MembersAt s (infer schemaTypes keeps p e) (afterStep g (asStep asCondition p))
+    pub step-members : {g : Point} {e : Env} → MembersAt s e g → (p : Step ℕ C) → MembersAt s (infer schemaTypes keeps p e) (afterStep g (asStep asCondition p))
     step-members {g} {e} m p =
         decides (afterAxis g (p .axis) (p .test)) (p .test) (afterTesting s p e) (test-members (axis-members m (p .test) (p .axis)) (p .test)) (p .condition)
 
-    pub steps-members : {g : Stage} {e : Env} → MembersAt s e g → (ps : List (Step ℕ C)) → MembersAt s (inferAll schemaTypes keeps ps e) (afterSteps g (map (asStep asCondition) ps))
+    pub steps-members : {g : Point} {e : Env} → MembersAt s e g → (ps : List (Step ℕ C)) → MembersAt s (inferAll schemaTypes keeps ps e) (afterSteps g (map (asStep asCondition) ps))
     steps-members m [] = m
     steps-members m (p ∷ ps) = steps-members (step-members m p) ps
 
@@ -341,7 +341,7 @@ module _ (s : Schema) (closed : Closed s) where
   names-decided g w e m (alternatives qs) =
       record { types = keeping; contexts = cut-members keeping (m .contexts) (λ n b k i r. condition-context k i r) cut }
     where
-      h : Stage
+      h : Point
       h = afterTest g w
 
       ends : Name → List (PlainStep ℕ) → Names

@@ -8,7 +8,7 @@ use lib.Dec.{T}
 use lib.ListN.{length}
 use Rattle.path_spec.specs.Paths.{Axis, self, child, descendant, descendantOrSelf, parent, ancestor, ancestorOrSelf, NodeTest, Step, PlainStep, Condition, unconditional, alternatives, conditionPaths, LocationPath, expand}
 use Rattle.projection_spec.specs.Inference.Needed.{linked, between, complete, need, keepsAll, wantsNothing, keepsName, wantsNames, fromRoot, neededBeforeFilter, neededByPath, needed}
-use Rattle.projection_spec.specs.Inference.Rules.{type, context, Stage, atStart, afterAxis, afterTest, afterCondition, alternativeFrom, tested, afterStep, alternativeSteps, AtOrAbove, Member, self-stays, child-type, descendant-type, descendant-or-self-type, descendant-or-self-added, parent-type, ancestor-type, ancestor-or-self-type, ancestor-or-self-added, test-type, no-condition, condition-type, condition-context}
+use Rattle.projection_spec.specs.Inference.Rules.{type, context, Point, atStart, afterAxis, afterTest, afterCondition, alternativeFrom, tested, afterStep, alternativeSteps, AtOrAbove, Member, self-stays, child-type, descendant-type, descendant-or-self-type, descendant-or-self-added, parent-type, ancestor-type, ancestor-or-self-type, ancestor-or-self-added, test-type, no-condition, condition-type, condition-context}
 use Rattle.projection_spec.specs.Inference.Types.{Env, env, allBelow, allAbove, cutTo, infer}
 use Rattle.projection_spec.specs.Inference.Walks as walks
 use Rattle.projection_spec.specs.Inference.Walks.{Passing, descends, descends-or-stays, Linked, by-self, by-child, by-descendant, stays-down, goes-down, by-parent, by-ancestor, stays-up, goes-up, Walk, at-last, onward, NeededOnWalk, own, conditional, later, Needs, PathNeeds, ReachedFromRoot, root, next, BundleNeeds, by-path}
@@ -29,7 +29,7 @@ below-join (further t u) d = further t (below-join u d)
 
 -- ---- every name of a step's type is a neighbour of one of the type before it
 module _ {s : Schema} where
-  axis-from : {x : Axis} {g : Stage} {w : NodeTest ℕ} {b : Name} → Member s type (afterAxis g x w) b → (a : Name) × Member s type g a × Linked s x a b
+  axis-from : {x : Axis} {g : Point} {w : NodeTest ℕ} {b : Name} → Member s type (afterAxis g x w) b → (a : Name) × Member s type g a × Linked s x a b
   axis-from (self-stays {n = b} i) = (b, i, by-self)
   axis-from (child-type {a = a} i h) = (a, i, by-child h)
   axis-from (descendant-type {a = a} i d) = (a, i, by-descendant d)
@@ -40,36 +40,36 @@ module _ {s : Schema} where
   axis-from (ancestor-or-self-type (ancestor-type {b = a} k d i)) = (a, i, goes-up d)
   axis-from (ancestor-or-self-added {n = b} i) = (b, i, stays-up)
 
-  test-from : {g : Stage} {w : NodeTest ℕ} {n : Name} → Member s type (afterTest g w) n → Member s type g n
+  test-from : {g : Point} {w : NodeTest ℕ} {n : Name} → Member s type (afterTest g w) n → Member s type g n
   test-from (test-type i p) = i
 
-  condition-from : {g : Stage} {c : Condition ℕ} {n : Name} → Member s type (afterCondition g c) n → Member s type g n
+  condition-from : {g : Point} {c : Condition ℕ} {n : Name} → Member s type (afterCondition g c) n → Member s type g n
   condition-from (no-condition i) = i
   condition-from (condition-type q i j r) = i
 
-  step-from : {g : Stage} (p : Step ℕ (Condition ℕ)) {b : Name} → Member s type (afterStep g p) b → (a : Name) × Member s type g a × Linked s (p .axis) a b
+  step-from : {g : Point} (p : Step ℕ (Condition ℕ)) {b : Name} → Member s type (afterStep g p) b → (a : Name) × Member s type g a × Linked s (p .axis) a b
   step-from p i = axis-from (test-from (condition-from i))
 
   -- the context after a condition is of the context before it, and has all of that at or above a name that is kept
-  context-from : {g : Stage} {c : Condition ℕ} {n : Name} → Member s context (afterCondition g c) n → Member s context g n
+  context-from : {g : Point} {c : Condition ℕ} {n : Name} → Member s context (afterCondition g c) n → Member s context g n
   context-from (no-condition k) = k
   context-from (condition-context k i r) = k
 
-  context-kept : {g : Stage} (c : Condition ℕ) {a n : Name} → Member s type (afterCondition g c) a → Member s context g n → AtOrAbove s n a → Member s context (afterCondition g c) n
+  context-kept : {g : Point} (c : Condition ℕ) {a n : Name} → Member s type (afterCondition g c) a → Member s context g n → AtOrAbove s n a → Member s context (afterCondition g c) n
   context-kept unconditional i k r = no-condition k
   context-kept (alternatives qs) i k r = condition-context k i r
 
-  walk-first : {g : Stage} {ps : List (Step ℕ (Condition ℕ))} {b : Name} {w : Names} → Walk s g ps (b ∷ w) → Member s type g b
+  walk-first : {g : Point} {ps : List (Step ℕ (Condition ℕ))} {b : Name} {w : Names} → Walk s g ps (b ∷ w) → Member s type g b
   walk-first (at-last i) = i
   walk-first (onward i l r) = i
 
   -- a walk one step longer in front
-  longer : {g : Stage} (p : Step ℕ (Condition ℕ)) {ps : List (Step ℕ (Condition ℕ))} {b : Name} {w : Names} → Walk s (afterStep g p) ps (b ∷ w) → (a : Name) × Walk s g (p ∷ ps) (a ∷ b ∷ w)
+  longer : {g : Point} (p : Step ℕ (Condition ℕ)) {ps : List (Step ℕ (Condition ℕ))} {b : Name} {w : Names} → Walk s (afterStep g p) ps (b ∷ w) → (a : Name) × Walk s g (p ∷ ps) (a ∷ b ∷ w)
   longer p r =
       let f = step-from p (walk-first r) in
       (f .0, onward (f .1) (f .2) r)
 
-  later-needs : {g : Stage} (p : Step ℕ (Condition ℕ)) {ps : List (Step ℕ (Condition ℕ))} {n : Name} {w : Names} → Walk s (afterStep g p) ps w → NeededOnWalk s (afterStep g p) ps w n
+  later-needs : {g : Point} (p : Step ℕ (Condition ℕ)) {ps : List (Step ℕ (Condition ℕ))} {n : Name} {w : Names} → Walk s (afterStep g p) ps w → NeededOnWalk s (afterStep g p) ps w n
       → Needs s g (p ∷ ps) n
   later-needs p (at-last {a = b} i) q =
       let r = longer p (at-last i) in
@@ -78,8 +78,8 @@ module _ {s : Schema} where
       let r = longer p (onward i l z) in
       record { walk = r .0 ∷ b ∷ c ∷ w; complete = r .1; onWalk = later q }
 
--- what a condition needs from a name of the stage before it
-pub data Wanted (s : Schema) (g : Stage) (c : Condition ℕ) (a n : Name) : Type 0 where
+-- what a condition needs from a name of the point before it
+pub data Wanted (s : Schema) (g : Point) (c : Condition ℕ) (a n : Name) : Type 0 where
   by-alternative : (q : List (PlainStep ℕ)) → In q (conditionPaths c) → Needs s (alternativeFrom g a) (alternativeSteps q) n → Wanted s g c a n
 
 module _ (s : Schema) (full : 0 < length s) (closed : Closed s) where
@@ -152,7 +152,7 @@ module _ (s : Schema) (full : 0 < length s) (closed : Closed s) where
   -- the names that conditions want are those listed
   abbrev pub Lists : {C : Type 0} → (C → Condition ℕ) → (Names → C → Name → Names) → Type 0
   Lists {C} asCondition wants =
-      (g : Stage) (a : Name) (k : Names) → MembersAt s (env (a ∷ []) k) (alternativeFrom g a) → (c : C) (n : Name) → In n (wants k c a) ↔ Wanted s g (asCondition c) a n
+      (g : Point) (a : Name) (k : Names) → MembersAt s (env (a ∷ []) k) (alternativeFrom g a) → (c : C) (n : Name) → In n (wants k c a) ↔ Wanted s g (asCondition c) a n
 
   -- ---- walks, for conditions that are tested as the rules say and whose names are listed
   module _ {C : Type 0} (asCondition : C → Condition ℕ) (keeps : Names → C → Name → Bool) (wants : Names → C → Name → Names) (decides : Decides s asCondition keeps) (lists : Lists asCondition wants) where
@@ -166,17 +166,17 @@ module _ (s : Schema) (full : 0 < length s) (closed : Closed s) where
     abbrev nearContext : Step ℕ C → Env → Name → Names
     nearContext p e a = cutTo types (a ∷ []) (infer types keeps p e .context)
 
-    after : {g : Stage} {e : Env} → MembersAt s e g → (p : Step ℕ C) → MembersAt s (infer types keeps p e) (afterStep g (stepOf p))
+    after : {g : Point} {e : Env} → MembersAt s e g → (p : Step ℕ C) → MembersAt s (infer types keeps p e) (afterStep g (stepOf p))
     after m p = step-members s closed asCondition keeps decides m p
 
-    near-members : {g : Stage} {e : Env} → MembersAt s e g → (p : Step ℕ C) (a : Name) → In a (infer types keeps p e .type)
+    near-members : {g : Point} {e : Env} → MembersAt s e g → (p : Step ℕ C) (a : Name) → In a (infer types keeps p e .type)
         → MembersAt s (env (a ∷ []) (nearContext p e a)) (alternativeFrom (tested g (stepOf p)) a)
     near-members {g} m p a i =
         let f = after m p in
         alternative-from s closed (tested g (stepOf p)) a (f .types .known a i) (f .contexts) (λ n k. context-from k)
         (λ n k r. context-kept (asCondition (p .condition)) (f .types .sound a i) k r)
 
-    walk-from : {g : Stage} {e : Env} → MembersAt s e g → (ps : List (Step ℕ C)) (a : Name) → In a (complete types keeps wants ps e) → (w : Names) × Walk s g (stepsOf ps) (a ∷ w)
+    walk-from : {g : Point} {e : Env} → MembersAt s e g → (ps : List (Step ℕ C)) (a : Name) → In a (complete types keeps wants ps e) → (w : Names) × Walk s g (stepsOf ps) (a ∷ w)
     walk-from m [] a i = ([], at-last (m .types .sound a i))
     walk-from {e = e} m (p ∷ ps) a i =
         let rest = complete types keeps wants ps (infer types keeps p e) in
@@ -185,7 +185,7 @@ module _ (s : Schema) (full : 0 < length s) (closed : Closed s) where
         let r = walk-from (after m p) ps (b .0) (b .1) in
         (b .0 ∷ r .0, onward (m .types .sound a (f .0)) (linked-of (p .axis) a (b .0) (b .2)) (r .1))
 
-    from-walk : {g : Stage} {e : Env} → MembersAt s e g → (ps : List (Step ℕ C)) {a : Name} {w : Names} → Walk s g (stepsOf ps) (a ∷ w) → In a (complete types keeps wants ps e)
+    from-walk : {g : Point} {e : Env} → MembersAt s e g → (ps : List (Step ℕ C)) {a : Name} {w : Names} → Walk s g (stepsOf ps) (a ∷ w) → In a (complete types keeps wants ps e)
     from-walk m [] {a} (at-last i) = m .types .complete a i
     from-walk {e = e} m (p ∷ ps) {a} (onward i l r) =
         in-filter (λ c. anyOf (λ b. linked types (p .axis) c b) (complete types keeps wants ps (infer types keeps p e))) (m .types .complete a i)
@@ -195,7 +195,7 @@ module _ (s : Schema) (full : 0 < length s) (closed : Closed s) where
     complete-typed [] e i = i
     complete-typed (p ∷ ps) e i = filter-in (λ c. anyOf (λ b. linked types (p .axis) c b) (complete types keeps wants ps (infer types keeps p e))) (e .type) i .0
 
-    pub need-sound : {g : Stage} {e : Env} → MembersAt s e g → (ps : List (Step ℕ C)) {n : Name} → In n (need types keeps wants ps e) → Needs s g (stepsOf ps) n
+    pub need-sound : {g : Point} {e : Env} → MembersAt s e g → (ps : List (Step ℕ C)) {n : Name} → In n (need types keeps wants ps e) → Needs s g (stepsOf ps) n
     need-sound m [] {n} i = record { walk = n ∷ []; complete = at-last (m .types .sound n i); onWalk = own }
     need-sound {g} {e} m (p ∷ ps) {n} i =
         ⊎-elim by-own (λ j. ⊎-elim by-between (λ k. ⊎-elim by-condition (λ l. let z = need-sound (after m p) ps l in later-needs (stepOf p) (z .complete) (z .onWalk)) (append-cases c k)) (append-cases b j))
@@ -241,7 +241,7 @@ module _ (s : Schema) (full : 0 < length s) (closed : Closed s) where
             wanted-needs : {a b : Name} {w : Names} → Walk s g (stepsOf (p ∷ ps)) (a ∷ b ∷ w) → Wanted s (tested g (stepOf p)) (asCondition (p .condition)) b n → Needs s g (stepsOf (p ∷ ps)) n
             wanted-needs {a} {b} {w} r (by-alternative q i z) = record { walk = a ∷ b ∷ w; complete = r; onWalk = conditional q i (z .complete) (z .onWalk) }
 
-    on-walk-needed : {g : Stage} {e : Env} → MembersAt s e g → (ps : List (Step ℕ C)) {w : Names} {n : Name} → Walk s g (stepsOf ps) w → NeededOnWalk s g (stepsOf ps) w n → In n (need types keeps wants ps e)
+    on-walk-needed : {g : Point} {e : Env} → MembersAt s e g → (ps : List (Step ℕ C)) {w : Names} {n : Name} → Walk s g (stepsOf ps) w → NeededOnWalk s g (stepsOf ps) w n → In n (need types keeps wants ps e)
     on-walk-needed {e = e} m [] r own = from-walk m [] r
     on-walk-needed {e = e} m (p ∷ ps) r own = append-left _ (from-walk m (p ∷ ps) r)
     on-walk-needed {e = e} m (p ∷ ps) (onward i l r) (walks.NeededOnWalk.between q u v) =
@@ -266,7 +266,7 @@ module _ (s : Schema) (full : 0 < length s) (closed : Closed s) where
         append-right d
         (append-right (between types (p .axis) d h) (append-right (gather (λ a. wants (nearContext p e a) (p .condition) a) h) (on-walk-needed (after m p) ps r q)))
 
-    pub need-complete : {g : Stage} {e : Env} → MembersAt s e g → (ps : List (Step ℕ C)) {n : Name} → Needs s g (stepsOf ps) n → In n (need types keeps wants ps e)
+    pub need-complete : {g : Point} {e : Env} → MembersAt s e g → (ps : List (Step ℕ C)) {n : Name} → Needs s g (stepsOf ps) n → In n (need types keeps wants ps e)
     need-complete m ps z = on-walk-needed m ps (z .complete) (z .onWalk)
 
   -- ---- conditions, paths

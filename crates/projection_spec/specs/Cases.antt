@@ -2,3 +2,4 @@ pub mod Opened
 pub mod Questions
 pub mod Tried
 pub mod Edges
+pub mod Inference

@@ -6,7 +6,7 @@ use Rattle.path_spec.specs.Paths.{Axis, self, child, descendant, descendantOrSe
 use Rattle.schema_spec.specs.Names.{Name, Names, element}
 use Rattle.schema_spec.specs.Schemas.{Schema}
 use Rattle.schema_spec.specs.Types.{holds, Below}
-use Rattle.projection_spec.specs.Inference.Rules.{type, Stage, atStart, alternativeFrom, tested, afterStep, alternativeSteps, Member}
+use Rattle.projection_spec.specs.Inference.Rules.{type, Point, atStart, alternativeFrom, tested, afterStep, alternativeSteps, Member}
 
 -- the axes with names between
 pub data Passing : Axis → Type 0 where
@@ -27,27 +27,27 @@ module _ (s : Schema) where
     goes-up : {a b : Name} → Below s b a → Linked ancestorOrSelf a b
 
   -- "A walk takes one name from each step's T, from the start to the last step, neighbours related as the axis says."
-  pub data Walk : Stage → List (Step ℕ (Condition ℕ)) → Names → Type 0 where
-    at-last : {g : Stage} {a : Name} → Member s type g a → Walk g [] (a ∷ [])
-    onward : {g : Stage} {p : Step ℕ (Condition ℕ)} {ps : List (Step ℕ (Condition ℕ))} {a b : Name} {w : Names} → Member s type g a → Linked (p .axis) a b
+  pub data Walk : Point → List (Step ℕ (Condition ℕ)) → Names → Type 0 where
+    at-last : {g : Point} {a : Name} → Member s type g a → Walk g [] (a ∷ [])
+    onward : {g : Point} {p : Step ℕ (Condition ℕ)} {ps : List (Step ℕ (Condition ℕ))} {a b : Name} {w : Names} → Member s type g a → Linked (p .axis) a b
         → Walk (afterStep g p) ps (b ∷ w) → Walk g (p ∷ ps) (a ∷ b ∷ w)
 
   -- what a complete walk needs
-  pub data NeededOnWalk : Stage → List (Step ℕ (Condition ℕ)) → Names → Name → Type 0 where
+  pub data NeededOnWalk : Point → List (Step ℕ (Condition ℕ)) → Names → Name → Type 0 where
     -- "every name on a complete walk"
-    own : {g : Stage} {ps : List (Step ℕ (Condition ℕ))} {n : Name} {w : Names} → NeededOnWalk g ps (n ∷ w) n
+    own : {g : Point} {ps : List (Step ℕ (Condition ℕ))} {n : Name} {w : Names} → NeededOnWalk g ps (n ∷ w) n
     -- "for descendant and descendant-or-self, every name below the one and above the next"
-    between : {g : Stage} {p : Step ℕ (Condition ℕ)} {ps : List (Step ℕ (Condition ℕ))} {a b n : Name} {w : Names} → Passing (p .axis) → Below s a n → Below s n b
+    between : {g : Point} {p : Step ℕ (Condition ℕ)} {ps : List (Step ℕ (Condition ℕ))} {a b n : Name} {w : Names} → Passing (p .axis) → Below s a n → Below s n b
         → NeededOnWalk g (p ∷ ps) (a ∷ b ∷ w) n
     -- "for each name on a complete walk that carries a condition, the same for every alternative from it"
-    conditional : {g : Stage} {p : Step ℕ (Condition ℕ)} {ps : List (Step ℕ (Condition ℕ))} {a b n : Name} {v w : Names} (q : List (PlainStep ℕ))
+    conditional : {g : Point} {p : Step ℕ (Condition ℕ)} {ps : List (Step ℕ (Condition ℕ))} {a b n : Name} {v w : Names} (q : List (PlainStep ℕ))
         → List·Memᴰ q (conditionPaths (p .condition)) → Walk (alternativeFrom (tested g p) b) (alternativeSteps q) v
         → NeededOnWalk (alternativeFrom (tested g p) b) (alternativeSteps q) v n → NeededOnWalk g (p ∷ ps) (a ∷ b ∷ w) n
     -- and so for the steps that follow
-    later : {g : Stage} {p : Step ℕ (Condition ℕ)} {ps : List (Step ℕ (Condition ℕ))} {a b n : Name} {w : Names} → NeededOnWalk (afterStep g p) ps (b ∷ w) n
+    later : {g : Point} {p : Step ℕ (Condition ℕ)} {ps : List (Step ℕ (Condition ℕ))} {a b n : Name} {w : Names} → NeededOnWalk (afterStep g p) ps (b ∷ w) n
         → NeededOnWalk g (p ∷ ps) (a ∷ b ∷ w) n
 
-  pub record Needs (g : Stage) (ps : List (Step ℕ (Condition ℕ))) (n : Name) : Type 0 where
+  pub record Needs (g : Point) (ps : List (Step ℕ (Condition ℕ))) (n : Name) : Type 0 where
     pub walk : Names
     pub complete : Walk g ps walk
     pub onWalk : NeededOnWalk g ps walk n
