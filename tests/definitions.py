@@ -171,22 +171,25 @@ def theorem(i, case):
 
 
 def evaluate(cases):
-    """The prover's run on a scratch crate with a theorem for each case."""
+    """The prover's run on scratch crates with a theorem for each case: as many crates as cores, each with its share of the cases."""
+    parts = os.cpu_count() or 1
     with tempfile.TemporaryDirectory() as scratch:
         for name in SPECS:
             shutil.copytree(os.path.join(CRATES, name), os.path.join(scratch, "crates", name), ignore=shutil.ignore_patterns("must-fail"))
-        crate = os.path.join(scratch, "crates", "vectors")
-        os.makedirs(os.path.join(crate, "src"))
-        os.makedirs(os.path.join(crate, "specs"))
-        body = "\n".join([HEAD] + [theorem(i, case) for i, case in enumerate(cases)])
-        files = {"src/lib.rt": "// Theorems alone.\n", "specs/Lib.antt": "pub mod Vectors\n", "specs/Vectors.antt": body}
-        for path, content in files.items():
-            with open(os.path.join(crate, path), "w") as out:
-                out.write(content)
         with open(os.path.join(CRATES, "..", "crates.txt")) as listed:
-            kept = [line for line in listed if line.split(":")[0] in SPECS]
+            lines = [line for line in listed if line.split(":")[0] in SPECS]
+        for part in range(parts):
+            crate = os.path.join(scratch, "crates", "vectors%d" % part)
+            os.makedirs(os.path.join(crate, "src"))
+            os.makedirs(os.path.join(crate, "specs"))
+            body = "\n".join([HEAD] + [theorem(i, case) for i, case in enumerate(cases) if i % parts == part])
+            files = {"src/lib.rt": "// Theorems alone.\n", "specs/Lib.antt": "pub mod Vectors\n", "specs/Vectors.antt": body}
+            for path, content in files.items():
+                with open(os.path.join(crate, path), "w") as out:
+                    out.write(content)
+            lines.append("vectors%d: %s\n" % (part, " ".join(SPECS)))
         with open(os.path.join(scratch, "crates.txt"), "w") as out:
-            out.write("".join(kept) + "vectors: %s\n" % " ".join(SPECS))
+            out.write("".join(lines))
         return subprocess.run(["rt", "check"], cwd=scratch, capture_output=True, text=True)
 
 

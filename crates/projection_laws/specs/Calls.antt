@@ -15,7 +15,6 @@ use Rattle.projection_laws.specs.Fields.{AreBytes}
 use Rattle.projection_laws.specs.Handed.{sizes-equal, equal-sized, table-handed, handed-table, table-beside, beside-table}
 use Rattle.projection_laws.specs.Records.{schema-handed, handed-schema, bundle-handed, handed-bundle}
 use Rattle.projection_laws.specs.RoundTrip.{extract-judged, extract-judged-once}
-use Rattle.projection_laws.specs.TextNames.{text-names}
 use Rattle.projection_spec.specs.Extracts.Cut.{cutToWord}
 use Rattle.projection_spec.specs.Extracts.Fields.{writeExtract}
 use Rattle.projection_spec.specs.Extracts.Reading.{readExtract}
@@ -49,8 +48,7 @@ pub journal-is : (limit : ℕ) (s : Schema) (text : List ℕ) → IsOutcome (Jou
 journal-is limit s text = (journal-judged limit s text, λ p j. journal-judged-once limit s text j)
 
 pub extract-is : (s : Schema) (text : List ℕ) → AreBytes text → IsOutcome (ExtractJudged s text) (readExtract (typesOf s) text)
-extract-is s text small =
-    (extract-judged (typesOf s) (text-names s) text small, λ p j. extract-judged-once (typesOf s) (text-names s) text small j)
+extract-is s text small = (extract-judged s text small, λ p j. extract-judged-once s text small j)
 
 -- ---- what is handed in, and the rest
 module _ {B : Type 0} where

@@ -23,7 +23,6 @@ use Rattle.projection_laws.specs.RoundTrip.{extract-same-tables, write-r
 use Rattle.projection_laws.specs.SameTables.{one-extract-selects}
 use Rattle.projection_laws.specs.Selections.{asked-in, selections-agree}
 use Rattle.projection_laws.specs.Tables.{cut-selects-same, same-tables-select}
-use Rattle.projection_laws.specs.TextNames.{text-names}
 use Rattle.projection_spec.specs.Extracts.Conditions.{SameTables}
 use Rattle.projection_spec.specs.Extracts.Cut.{cut, cutToWord}
 use Rattle.projection_spec.specs.Extracts.Fields.{extractRows}
@@ -93,7 +92,7 @@ module _ (schema bundle journal : List ℕ) (s : Schema) (ps : List (LocationPat
   unfolding extractOf
   extract-gives-the-same =
       let same = extract-same-tables (typesOf s) journal keptRows kept-well-formed in (
-        write-read (typesOf s) journal keptRows kept-well-formed (text-names s),
+        write-read s journal keptRows kept-well-formed,
         same,
         λ p i.
             sym (same-tables-select same p)
@@ -109,7 +108,7 @@ module _ (schema bundle journal : List ℕ) (s : Schema) (ps : List (LocationPat
       let whole : (j : List ℕ) (rs : List Row) → JournalTaken maxJournalBytes s j rs → selectRows j (cut set rs) p ≡ selectRows j rs p =
       λ j rs t. cut-selects-same (typesOf s) (lawful schema s st) j rs (table s j rs t .0) ps p i set (λ n k. k) in
       sym (whole journal rows jt)
-      ∙ one-extract-selects (typesOf s) (text-names s) journal journal′ (cut set rows) (cut set rows′) kept-well-formed
+      ∙ one-extract-selects s journal journal′ (cut set rows) (cut set rows′) kept-well-formed
       (cut-well-formed-with (typesOf s) set journal′ rows′ (table s journal′ rows′ jt′ .1)) same p
       ∙ whole journal′ rows′ jt′
 

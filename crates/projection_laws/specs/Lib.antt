@@ -19,6 +19,7 @@ pub mod Selections
 pub mod Calls
 pub mod Hosts
 pub mod Prints
+pub mod Limits
 pub mod Fields
 pub mod Items
 pub mod TextNames

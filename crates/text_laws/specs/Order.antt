@@ -173,6 +173,19 @@ reason-numbered tooFewCells = refl
 pub number-injective : (q r : Reason) → numberOf q ≡ numberOf r → q ≡ r
 number-injective q r e = sym (reason-numbered q) ∙ ap reasonOf e ∙ reason-numbered r
 
+-- 1 is the least number, and 2 comes before all others
+number-from-1 : (r : Reason) → 1 ≤ numberOf r
+number-from-1 r =
+    let n : (numberOf r ≡ 0 → ⊥) = λ e.
+    let q : tooFewCells ≡ r = ap reasonOf (sym e) ∙ reason-numbered r in
+    omega (arith, ap numberOf q, e) in
+    omega arith
+
+pub number-from-2 : (r : Reason) → (r ≡ badRecord → ⊥) → 2 ≤ numberOf r
+number-from-2 r n =
+    let m : (numberOf r ≡ 1 → ⊥) = λ e. n (number-injective r badRecord e) in
+    omega (arith, number-from-1 r)
+
 -- the first refusal is one
 pub first-once : (Applies : Reason → ℕ → Type 0) {q r : Reason} {j k : ℕ} → IsFirst Applies q j → IsFirst Applies r k → (q ≡ r) × (j ≡ k)
 first-once Applies {q} {r} {j} {k} x y =
