@@ -7,7 +7,9 @@ pub mod Rows
 pub mod Cutting
 pub mod Kept
 pub mod Lawful
+pub mod Rules
 pub mod Walks
+pub mod Needed
 pub mod Tables
 pub mod Numbers
 pub mod Listing

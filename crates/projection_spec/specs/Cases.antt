@@ -3,6 +3,7 @@ pub mod Exits
 pub mod Questions
 pub mod Tried
 pub mod Edges
+pub mod Inference
 pub mod Limits
 pub mod Hosts
 pub mod Calls
