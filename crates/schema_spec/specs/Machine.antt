@@ -179,5 +179,8 @@ atEnd = machines.atEnd schemaMachine
 abbrev pub run : State → List ℕ → ℕ → machines.Parsed (List Declaration)
 run = machines.run schemaMachine
 
+abbrev pub from : State → List ℕ → ℕ → machines.Parsed (List Declaration)
+from = machines.from schemaMachine
+
 unfoldable pub parse : List ℕ → machines.Parsed (List Declaration)
 parse = machines.parse schemaMachine
