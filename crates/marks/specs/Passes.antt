@@ -119,9 +119,9 @@ module _ (ps m was : List ℕ) (h : AxisPass ps m was) where
   mark-in : (q : ℕ) → q < length ps → mark (isMarked m q) ≡ getD m q 0
   mark-in q l = sym (mark-at m (h .marked) q (omega (arith, h .size)))
 
-  pub self-is : m ≡ imageMarks self ps m
+  pub self-image : m ≡ imageMarks self ps m
   unfolding imageMarks
-  self-is =
+  self-image =
       h .marked ∙ ap (λ (n : ℕ). marks n (isMarked m)) (h .size) ∙ marks-cong (length ps) (isMarked m) (image self ps (isMarked m)) (λ r l. sym (image-self ps (h .before) (isMarked m) r l))
 
   pub children-root : 0 ≡ getD (imageMarks child ps m) 0 0
