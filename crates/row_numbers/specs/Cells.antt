@@ -3,7 +3,7 @@ use mathlib.Core.Bool.{Bool, true, false, cond}
 use mathlib.Core.List.{List, [], _∷_, _++_, append-nil, append-assoc}
 use mathlib.Core.Logic.{⊎-elim}
 use mathlib.Core.Path.{_≡_, refl, sym, ap, _∙_}
-use Prim.Native.Nat.{ℕ, zero, suc, _+_, _<_, _≤_, _-_}
+use Prim.Native.Nat.{ℕ, zero, suc, _+_, _*_, _-_, _<_, _≤_}
 use native.Mathlib.Nat.{eq-or-lt-of-le}
 use native.Mathlib.Numerals.{add-one}
 use native.Mathlib.Omega.{arith}
@@ -88,7 +88,7 @@ pub record AppendPass (numbers m : List ℕ) (at : ℕ) : Type 0 where
   pub marked : OnlyMarks m
   pub size : length m ≡ length numbers
   pub few : length m ≤ maxNodes
-  pub low : at ≤ 8 * maxNodes
+  pub low : at ≤ maxPaths * maxNodes
 
 -- r rows behind the loop
 pub record Appending (m xs was : List ℕ) (at r n : ℕ) (out : List ℕ) : Type 0 where
@@ -242,7 +242,8 @@ appended-cleared was mid out xs n u v =
   where
     cell : (k : ℕ) → k < length was → getD out k 0 ≡ getD xs k 0
     cell k b =
-        ⊎-elim (λ f. v .kept k f ∙ u .cells k (omega (arith, u .count)) b)
+        let z : 0 + k ≡ k = omega arith in
+        ⊎-elim (λ f. v .kept k f ∙ sym (ap (λ (i : ℕ). getD mid i 0) z) ∙ u .cells k (omega (arith, u .count)) (omega arith))
         (λ f. v .clear k f (omega (arith, u .long)) ∙ sym (List·getD-eq-default xs 0 (omega (arith, u .count)))) (below-or-past k n)
 
 pub mark-small : (m : List ℕ) → OnlyMarks m → (r : ℕ) → r < length m → getD m r 0 < 2
