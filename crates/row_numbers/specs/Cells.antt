@@ -177,6 +177,19 @@ appending-all m xs was at r n out w l = rw (← whole) (w .so-far)
     whole : picked (take r m) xs ≡ picked m xs
     whole = ap (λ (k : List ℕ). picked k xs) (take-all r m l)
 
+-- one number
+pub appended-one : (was : List ℕ) (n x : ℕ) → Appended was n (x ∷ []) (n + 1) (written was n x)
+appended-one was n x =
+    record {
+      long = written-length was n x;
+      count = omega arith;
+      kept = λ k l. written-other was n x k l;
+      cells = λ k l b.
+          (let z : k ≡ 0 = omega arith in
+          let y : n + k ≡ n = omega arith in
+          ap (λ (i : ℕ). getD (written was n x) i 0) y ∙ written-same was n x (omega arith) ∙ sym (ap (λ (i : ℕ). getD (x ∷ []) i 0) z));
+    }
+
 -- numbers after numbers
 pub appended-appended : (was mid out : List ℕ) (xs ys : List ℕ) (n p : ℕ) → Appended was 0 xs n mid → Appended mid n ys p out → Appended was 0 (xs ++ ys) p out
 appended-appended was mid out xs ys n p u v =

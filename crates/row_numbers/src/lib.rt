@@ -4,7 +4,7 @@ ghost use Rattle.marks.specs.Columns.{picked};
 ghost use Rattle.row_numbers.specs.Cells.{written, Cleared, AppendPass, Appended};
 
 // Writes a cell, if it is there.
-fn put(out: &mut [u16], n: usize, number: u16)
+pub fn put(out: &mut [u16], n: usize, number: u16)
     ensures { λ _. ⌜ now (out .exit) ≡ written (now (out .entry)) n number ⌝ }
 {
     if n < out.len() {

@@ -17,8 +17,6 @@ use Rattle.condition_passes.specs.Conditions.{ConditionPass, KeepPass}
 use Rattle.marks.specs.Columns.{mark, isMarked, marks, OnlyMarks, intersection, marks-by-rows, no-row-marked}
 use Rattle.marks.specs.Roots.{steps-none}
 use Rattle.marks.specs.Selection.{noMarks, conditionMarks, stepMarks, stepsMarks, rootMarks, pathMarks}
-use Rattle.path_spec.specs.Paths.{WrittenStep, Condition}
-use Rattle.schema_spec.specs.Names.{Name}
 use Rattle.step_passes.specs.Steps.{forwardMarks, TableColumns, MarkColumn, StepPass, marks-column, intersection-column, forward-column}
 use Rattle.step_passes.specs.Tests.{namesIn}
 use Rattle.text_spec.specs.Lists.{anyBelow}
@@ -81,10 +79,10 @@ module _ (ps codes axes lows highs ways conditions : List ℕ) (k : ℕ) (m held
       f ∙ ap (λ (l : List ℕ). intersection l (conditionMarks ps (namesIn codes) (conditionIn axes lows highs ways n (getD conditions k 0)))) d
       ∙ ap (λ (s : ℕ). intersection (forwardMarks ps codes (getD axes k 0) (getD lows k 0) (getD highs k 0) m) (conditionMarks ps (namesIn codes) (conditionIn axes lows highs ways s (getD conditions k 0)))) e
 
-pub step-column : (ps : List ℕ) (ns : List Name) (a : WrittenStep ℕ (Condition ℕ)) (codes axes lows highs ways conditions : List ℕ) (k : ℕ) (m x : List ℕ) → MarkColumn ps m
+pub step-column : (ps codes axes lows highs ways conditions : List ℕ) (k : ℕ) (m x : List ℕ) → MarkColumn ps m
     → x ≡ stepMarks ps (namesIn codes) (stepAt axes lows highs ways conditions k) m → MarkColumn ps x
 unfolding stepMarks forwardMarks
-step-column ps ns a codes axes lows highs ways conditions k m x c e =
+step-column ps codes axes lows highs ways conditions k m x c e =
     rw e
     (intersection-column ps (forwardMarks ps codes (getD axes k 0) (getD lows k 0) (getD highs k 0) m)
     (conditionMarks ps (namesIn codes) (conditionIn axes lows highs ways (sizeAt conditions k) (startAt conditions k)))
@@ -138,7 +136,7 @@ module _ (ps codes axes lows highs ways conditions : List ℕ) (first size : ℕ
         record {
           low = omega (arith, w .low);
           high = omega arith;
-          column = step-column ps (namesIn codes) (stepAt axes lows highs ways conditions k) codes axes lows highs ways conditions k m x (w .column) e;
+          column = step-column ps codes axes lows highs ways conditions k m x (w .column) e;
           whole =
               ap (led (first + size - (k + 1)) (k + 1)) e
               ∙ ap (λ (j : ℕ). led (first + size - (k + 1)) j (stepMarks ps (namesIn codes) (stepAt axes lows highs ways conditions k) m)) (add-one k)
@@ -182,7 +180,7 @@ root-set n k l e = marks-by-rows n (λ r. eqb r 0) (set k 0 1) (length-set k 0 1
         getD-set-other k 0 (suc r) 1 0 (λ z. omega arith) ∙ ap (λ (l : List ℕ). getD l (suc r) 0) e ∙ getD-replicate n (suc r) 0 0 b
         ∙ sym (ap mark (ne-eqb (suc r) 0 (λ z. omega arith)))
 
-root-column : (ps : List ℕ) → MarkColumn ps (rootMarks (length ps))
+pub root-column : (ps : List ℕ) → MarkColumn ps (rootMarks (length ps))
 unfolding rootMarks
 root-column ps = marks-column ps (λ r. eqb r 0)
 
