@@ -4,8 +4,8 @@ use mathlib.Core.Path.{_≡_, refl, sym, ap, _∙_}
 use Prim.Native.Nat.{ℕ, zero, suc, _+_, _-_, _<_}
 use native.Mathlib.Omega.{arith}
 use borrow.Author.Tests.{lt-ltb, le-ltb}
-use lib.Dec.{T, ltb}
-use lib.ListN.{length, getD, length-map}
+use lib.Dec.{T}
+use lib.ListN.{length, length-map}
 use mathlib.Core.Bool.{Bool, cond}
 use Rattle.marks.specs.Columns.{picked}
 use Rattle.marks.specs.Selection.{pathMarks, selectColumns, parentsOf, namesOf, numbersOf}
@@ -51,7 +51,7 @@ names-decoded (r ∷ rows) h =
     ap (λ (n : Name). n ∷ namesIn (codesOf rows)) (name-of-code (r .name) (h r (here refl)))
     ∙ ap (λ (l : List Name). r .name ∷ l) (names-decoded rows (λ q i. h q (there i)))
 
-codes-small : (rows : List Row) → NamesCoded rows → Coded (codesOf rows)
+pub codes-small : (rows : List Row) → NamesCoded rows → Coded (codesOf rows)
 codes-small [] h zero = omega arith
 codes-small [] h (suc k) = omega arith
 codes-small (r ∷ rows) h zero = code-small (r .name) (h r (here refl))
