@@ -1,15 +1,15 @@
 -- The loops that judge a condition for all rows: over the steps of an alternative from the last back, and over the alternatives.
 use mathlib.Core.Bool.{Bool, true, false, _&&_, and-true}
 use mathlib.Core.List.{List, [], _∷_}
-use mathlib.Core.Path.{_≡_, refl, sym, ap, _∙_}
-use Prim.Native.Nat.{ℕ, zero, suc, _+_, _-_, _<_, _≤_}
+use mathlib.Core.Path.{_≡_, sym, ap, _∙_}
+use Prim.Native.Nat.{ℕ, suc, _+_, _-_, _<_, _≤_}
 use native.Mathlib.Numerals.{add-one}
 use native.Mathlib.Omega.{arith}
 use lib.ListN.{length, getD, replicate, length-replicate}
-use Rattle.compiled_paths.specs.Columns.{axisOf, testOf, sizeAt, startAt, plainAt, plainIn, alternativeAt, alternativesIn, conditionIn, condition-none, condition-some}
+use Rattle.compiled_paths.specs.Columns.{plainIn, alternativeAt, alternativesIn, conditionIn, condition-none, condition-some}
 use Rattle.compiled_paths.specs.Paths.{AtMost}
 use Rattle.compiled_paths.specs.Sizes.{allSteps, allAlternatives}
-use Rattle.marks.specs.Columns.{isMarked, marks, union, intersection, marks-cong, marks-marked}
+use Rattle.marks.specs.Columns.{isMarked, union, intersection, marks-cong, marks-marked}
 use Rattle.marks.specs.Passes.{SameLength, fill-marks}
 use Rattle.marks.specs.Selection.{inverseMarks, noMarks, allMarks, alternativeMarks, alternativesMarks, conditionMarks}
 use Rattle.path_spec.specs.Paths.{WrittenAxis, along, PlainStep, Condition}

@@ -14,7 +14,7 @@ use Rattle.select.specs.Paths.{pathIn, pathsFrom, Columns, OnePass, selected-fe
 use Rattle.selection.specs.Steps.{Scratch}
 use Rattle.step_passes.specs.Tests.{namesIn}
 use Rattle.text_spec.specs.Cells.{padded}
-use Rattle.text_spec.specs.Limits.{maxNodes, maxPaths}
+use Rattle.text_spec.specs.Limits.{maxNodes}
 use Rattle.text_spec.specs.Lists.{gather}
 
 pub record AllPass (c : CompiledPaths) (first end : ℕ) (numbers codes ps m held steps next : List ℕ) : Type 0 where

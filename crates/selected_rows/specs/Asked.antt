@@ -1,6 +1,6 @@
 -- What the code selects for the paths that are asked for is what the library's definition answers: the numbers joined, and the counts.
 use mathlib.Core.List.{List, [], _∷_, _++_, map}
-use mathlib.Core.Option.{Option, some}
+use mathlib.Core.Option.{some}
 use mathlib.Core.Path.{_≡_, refl, sym, ap, _∙_}
 use Prim.Native.Nat.{ℕ, zero, suc, _+_, _-_, _<_}
 use native.Mathlib.Omega.{arith}
@@ -9,8 +9,7 @@ use lib.ListN.{length, getElem?}
 use Rattle.compiled_paths.specs.Columns.{bundleIn}
 use Rattle.compiled_paths.specs.Paths.{pathsIn}
 use Rattle.compiled_paths.specs.declared.CompiledPaths.{CompiledPaths}
-use Rattle.marks.specs.Columns.{picked}
-use Rattle.marks.specs.Selection.{pathMarks, selectColumns, parentsOf, numbersOf}
+use Rattle.marks.specs.Selection.{selectColumns, parentsOf, numbersOf}
 use Rattle.path_spec.specs.Paths.{LocationPath}
 use Rattle.path_spec.specs.Selection.{selectRows}
 use Rattle.projection_spec.specs.Library.Selections.{askedPaths, selections}

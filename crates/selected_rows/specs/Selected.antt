@@ -4,8 +4,7 @@ use mathlib.Core.Path.{_≡_, refl, sym, ap, _∙_}
 use Prim.Native.Nat.{ℕ, zero, suc, _+_, _-_, _<_}
 use native.Mathlib.Omega.{arith}
 use borrow.Author.Tests.{lt-ltb, le-ltb}
-use lib.Dec.{T, ltb}
-use lib.ListN.{length, getD, length-map}
+use lib.Dec.{T}
 use mathlib.Core.Bool.{Bool, cond}
 use Rattle.marks.specs.Columns.{picked}
 use Rattle.marks.specs.Selection.{pathMarks, selectColumns, parentsOf, namesOf, numbersOf}
@@ -14,9 +13,7 @@ use Rattle.path_spec.specs.Selection.{selectRows}
 use Rattle.schema_spec.specs.Names.{Name, element, text, codeOf}
 use Rattle.schema_spec.specs.Types.{Types}
 use Rattle.selection_laws.specs.Paths.{select-columns}
-use Rattle.step_passes.specs.Steps.{TableColumns}
 use Rattle.step_passes.specs.Tests.{nameWithCode, namesIn, Coded}
-use Rattle.table_laws.specs.Parents.{nodes-placed}
 use Rattle.table_spec.specs.Rows.{Row}
 use Rattle.table_spec.specs.Tables.{wellFormed}
 use Rattle.text_spec.specs.Limits.{maxDeclarations}
@@ -51,21 +48,11 @@ names-decoded (r ∷ rows) h =
     ap (λ (n : Name). n ∷ namesIn (codesOf rows)) (name-of-code (r .name) (h r (here refl)))
     ∙ ap (λ (l : List Name). r .name ∷ l) (names-decoded rows (λ q i. h q (there i)))
 
-codes-small : (rows : List Row) → NamesCoded rows → Coded (codesOf rows)
+pub codes-small : (rows : List Row) → NamesCoded rows → Coded (codesOf rows)
 codes-small [] h zero = omega arith
 codes-small [] h (suc k) = omega arith
 codes-small (r ∷ rows) h zero = code-small (r .name) (h r (here refl))
 codes-small (r ∷ rows) h (suc k) = codes-small rows (λ q i. h q (there i)) k
-
--- the columns of a table that is not empty are as the passes ask
-pub table-columns : (s : Types) (rows : List Row) → T (wellFormed s rows) → NamesCoded rows → 0 < length rows → TableColumns (parentsOf rows) (codesOf rows)
-table-columns s rows ok coded some =
-    record {
-      before = nodes-placed s [] rows ok .before;
-      filled = omega (arith, length-map rows (λ r. r .parent));
-      size = length-map (namesOf rows) codeOf ∙ length-map rows (λ r. r .name) ∙ sym (length-map rows (λ r. r .parent));
-      coded = codes-small rows coded;
-    }
 
 -- the numbers at the rows that the path's column marks are what the path selects, whatever text is lent
 pub marked-selected : (s : Types) (lent : List ℕ) (rows : List Row) (p : LocationPath ℕ) → T (wellFormed s rows) → NamesCoded rows

@@ -1,5 +1,5 @@
 -- The steps of a compiled path, one after the other from the root.
-use mathlib.Core.Bool.{true, false}
+use mathlib.Core.Bool.{false}
 use mathlib.Core.List.{List}
 use mathlib.Core.Path.{_≡_, refl, sym, ap, _∙_}
 use Prim.Native.Nat.{ℕ, zero, suc, _+_, _-_, _<_, _≤_}
@@ -9,12 +9,12 @@ use borrow.Author.Tests.{eq-eqb, ne-eqb}
 use lib.Dec.{eqb}
 use lib.ListN.{length, getD, set, length-set, replicate, length-replicate, getD-replicate}
 use lib.Seq.{getD-set-same, getD-set-other}
-use Rattle.compiled_paths.specs.Columns.{axisOf, testOf, sizeAt, startAt, conditionIn, stepAt, stepsIn, pathAt}
+use Rattle.compiled_paths.specs.Columns.{sizeAt, startAt, conditionIn, stepAt, stepsIn, pathAt}
 use Rattle.compiled_paths.specs.Paths.{AtMost, Shaped}
 use Rattle.compiled_paths.specs.Sizes.{writtenSteps, allSteps, allAlternatives}
 use Rattle.compiled_paths.specs.declared.CompiledPaths.{CompiledPaths}
-use Rattle.condition_passes.specs.Conditions.{ConditionPass, KeepPass}
-use Rattle.marks.specs.Columns.{mark, isMarked, marks, OnlyMarks, intersection, marks-by-rows, no-row-marked}
+use Rattle.condition_passes.specs.Conditions.{KeepPass}
+use Rattle.marks.specs.Columns.{mark, isMarked, intersection, marks-by-rows, no-row-marked}
 use Rattle.marks.specs.Roots.{steps-none}
 use Rattle.marks.specs.Selection.{noMarks, conditionMarks, stepMarks, stepsMarks, rootMarks, pathMarks}
 use Rattle.step_passes.specs.Steps.{forwardMarks, TableColumns, MarkColumn, StepPass, marks-column, intersection-column, forward-column}

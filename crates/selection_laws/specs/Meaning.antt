@@ -2,11 +2,11 @@
 use mathlib.Core.Bool.{_&&_}
 use mathlib.Core.List.{List, map}
 use mathlib.Core.Logic.{_↔_}
-use mathlib.Core.Path.{_≡_, sym, subst}
+use mathlib.Core.Path.{sym, subst}
 use Prim.Native.Nat.{ℕ, _<_}
 use native.Mathlib.Omega.{arith}
 use lib.Dec.{T}
-use lib.ListN.{length, getElem?}
+use lib.ListN.{length}
 use Rattle.marks.specs.Columns.{isMarked, marks-marked}
 use Rattle.marks.specs.Parents.{rowOnAxis, image, imageMarks}
 use Rattle.marks.specs.Selection.{conditionMarks}

@@ -1,5 +1,4 @@
 -- The nodes of a well-formed table, by the column of its rows' parents, whatever text is lent.
-use mathlib.Core.Bool.{Bool}
 use mathlib.Core.List.{List, [], _∷_, _++_, map, append-assoc}
 use mathlib.Core.Logic.{_⊎_, ⊎-elim}
 use mathlib.Core.Option.{Option, none, some}

@@ -2,7 +2,6 @@ use Prim.Native.Nat.{_≤_}
 use mathlib.Core.Logic.{⊎-elim}
 use mathlib.Core.Path.{_∙_}
 use Rattle.marks.specs.Passes.{code-above, code-below, code-between}
-use borrow.Author.Needs.{needs}
 use native.Mathlib.Omega.{arith}
 use Rattle.axis_passes.proofs.in_range.Statement.{statement}
 use Rattle.axis_passes.proofs.in_range.Tie as tie

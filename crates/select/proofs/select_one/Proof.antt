@@ -1,6 +1,5 @@
 use Rattle.select.specs.Paths.{one-path, one-append, one-selected, none-selected}
 use borrow.Author.Needs.{needs}
-use native.Mathlib.Omega.{arith}
 use Rattle.select.proofs.select_one.Statement.{statement}
 use Rattle.select.proofs.select_one.Tie as tie
 

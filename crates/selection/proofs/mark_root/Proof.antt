@@ -1,6 +1,5 @@
 use Rattle.selection.specs.Steps.{root-set}
 use borrow.Author.Needs.{needs}
-use native.Mathlib.Omega.{arith}
 use Rattle.selection.proofs.mark_root.Statement.{statement}
 use Rattle.selection.proofs.mark_root.Tie as tie
 

@@ -1,6 +1,5 @@
 use Rattle.compiled_paths.specs.Columns.{axisOf}
 use Rattle.step_passes.specs.Steps.{axis-number, axis-other, image-kept}
-use native.Mathlib.Omega.{arith}
 use borrow.Author.Needs.{needs}
 use Rattle.step_passes.proofs.axis_image.Statement.{statement}
 use Rattle.step_passes.proofs.axis_image.Tie as tie

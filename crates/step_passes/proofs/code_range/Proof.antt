@@ -1,5 +1,4 @@
 use Rattle.step_passes.specs.Tests.{element-range, no-range, node-range, text-range, test-named, test-node, test-text, in-range-of}
-use borrow.Author.Needs.{needs}
 use native.Mathlib.Omega.{arith}
 use Rattle.step_passes.proofs.code_range.Statement.{statement}
 use Rattle.step_passes.proofs.code_range.Tie as tie

@@ -1,6 +1,5 @@
 use Rattle.step_passes.specs.Steps.{tested}
 use borrow.Author.Needs.{needs}
-use native.Mathlib.Omega.{arith}
 use Rattle.step_passes.proofs.filter_test.Statement.{statement}
 use Rattle.step_passes.proofs.filter_test.Tie as tie
 

@@ -3,8 +3,6 @@ use Prim.Native.Nat.{ℕ}
 use Rattle.compiled_paths.specs.Columns.{axisOf}
 use Rattle.path_laws.specs.Inverses.{inverse}
 use Rattle.step_passes.specs.Steps.{axis-other}
-use borrow.Author.Needs.{needs}
-use native.Mathlib.Omega.{arith}
 use Rattle.step_passes.proofs.inverse_of.Statement.{statement}
 use Rattle.step_passes.proofs.inverse_of.Tie as tie
 

@@ -1,7 +1,6 @@
 use mathlib.Core.Path.{_∙_}
 use Rattle.step_passes.specs.Steps.{pass-test, tested-axis, moved-back}
 use borrow.Author.Needs.{needs}
-use native.Mathlib.Omega.{arith}
 use Rattle.step_passes.proofs.step_back.Statement.{statement}
 use Rattle.step_passes.proofs.step_back.Tie as tie
 

@@ -1,6 +1,5 @@
 use Rattle.step_passes.specs.Steps.{pass-axis, moved-test, moved}
 use borrow.Author.Needs.{needs}
-use native.Mathlib.Omega.{arith}
 use Rattle.step_passes.proofs.step_forward.Statement.{statement}
 use Rattle.step_passes.proofs.step_forward.Tie as tie
 
