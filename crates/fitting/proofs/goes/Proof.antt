@@ -1,11 +1,11 @@
--- `models::goes` meets its contract. Assumes nothing.
+-- `fitting::goes` meets its contract.
 use mathlib.Core.Bool.{Bool, _&&_}
 use mathlib.Core.Path.{sym, ap, _∙_}
 use borrow.Author.Tests.{eq-eqb, ne-eqb}
-use Rattle.models.specs.Steps.{entered}
+use Rattle.fitting.specs.Steps.{entered}
 use borrow.Author.Needs.{needs}
-use Rattle.models.proofs.goes.Statement.{statement}
-use Rattle.models.proofs.goes.Tie as tie
+use Rattle.fitting.proofs.goes.Statement.{statement}
+use Rattle.fitting.proofs.goes.Tie as tie
 
 returns : tie.Need-returns
 returns c =

@@ -1,13 +1,13 @@
--- `models::next_positions` meets its contract: the set has what the positions before p give. Assumes nothing.
+-- `fitting::next_positions` meets its contract: the set has what the positions before p give.
 use mathlib.Core.Path.{_≡_, ap, _∙_}
 use Prim.Native.Nat.{ℕ, _≤_, _-_}
-use Rattle.models.specs.StepLaws.{next-first, next-more}
-use Rattle.models.specs.Steps.{comesNext}
+use Rattle.fitting.specs.StepLaws.{next-first, next-more}
+use Rattle.fitting.specs.Steps.{comesNext}
 use Rattle.schema_spec.specs.Names.{hasBit}
 use borrow.Author.Needs.{needs}
 use native.Mathlib.Omega.{arith}
-use Rattle.models.proofs.next_positions.Statement.{statement}
-use Rattle.models.proofs.next_positions.Tie as tie
+use Rattle.fitting.proofs.next_positions.Statement.{statement}
+use Rattle.fitting.proofs.next_positions.Tie as tie
 
 abbrev Inv-loop : tie.InvT-loop
 Inv-loop ends elements predecessors state child count set₀ p₀ set p =

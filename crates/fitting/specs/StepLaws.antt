@@ -1,4 +1,4 @@
--- Laws of the positions that come next: one position more is looked at. Assumes nothing.
+-- Laws of the positions that come next: one position more is looked at.
 use mathlib.Core.Bool.{Bool, _&&_, _||_}
 use mathlib.Core.List.{List}
 use mathlib.Core.Path.{_≡_, refl, sym, ap, ap₂, _∙_}
@@ -7,10 +7,10 @@ use native.Mathlib.Omega.{arith}
 use borrow.Author.Tests.{le-ltb}
 use lib.Dec.{eqb}
 use lib.ListN.{getD}
-use Rattle.models.specs.Steps.{goesTo, positions, comesNext, Stepped}
+use Rattle.fitting.specs.Steps.{goesTo, positions, comesNext, Stepped}
 use Rattle.models.specs.declared.Ends.{Ends}
-use Rattle.models.specs.declared.State.{State}
-use Rattle.models.specs.declared.State.the-variants.{Amid}
+use Rattle.fitting.specs.declared.State.{State}
+use Rattle.fitting.specs.declared.State.the-variants.{Amid}
 use Rattle.schema_spec.specs.Names.{hasBit}
 use Rattle.words.specs.Bits.{bit-none}
 use Rattle.words.specs.Searches.{one-more}
@@ -30,4 +30,4 @@ module _ (e : Ends) (elements predecessors : List ℕ) (state : State) (child : 
   pub stepped : (count w : ℕ) → count ≡ positions elements predecessors → ((j : ℕ) → hasBit w j ≡ comesNext e elements predecessors state child count j)
       → Stepped e elements predecessors state child (Amid w)
   stepped count w bound h =
-      record { amid = refl; right = λ j. h j ∙ ap (λ (n : ℕ). comesNext e elements predecessors state child n j) bound }
+      record { amid = refl; positions = λ j. h j ∙ ap (λ (n : ℕ). comesNext e elements predecessors state child n j) bound }

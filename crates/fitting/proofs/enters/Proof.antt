@@ -1,7 +1,7 @@
--- `models::enters` meets its contract. Assumes nothing.
+-- `fitting::enters` meets its contract.
 use borrow.Author.Needs.{needs}
-use Rattle.models.proofs.enters.Statement.{statement}
-use Rattle.models.proofs.enters.Tie as tie
+use Rattle.fitting.proofs.enters.Statement.{statement}
+use Rattle.fitting.proofs.enters.Tie as tie
 
 returns : tie.Need-returns
 returns c = rw (c .before .enum-told .given .1) (c .has-bit .ensures)

@@ -1,5 +1,5 @@
 -- Marks on a particle's names are sets of positions: the marks' end and their next marks are those that the sets of first, last and
--- following positions give. Assumes nothing.
+-- following positions give.
 use mathlib.Core.Bool.{Bool, true, false, _&&_, _||_, and-false, or-false}
 use mathlib.Core.List.{_++_}
 use mathlib.Core.Logic.{⊎-elim}
@@ -10,10 +10,18 @@ use native.Mathlib.Omega.{arith}
 use lib.Dec.{T, eqb, eqb→eq, eqb-refl}
 use lib.ListN.{length, getD, length-append, List·getD-append}
 use lib.Seq.{getD-append-add}
-use Rattle.models.specs.Positions.{size, mayBeAbsent, isFirst, isLast, isNext, marked}
-use Rattle.schema_spec.specs.Models.{Particle, named, sequence, choice, repeated, uses, position, unmarked, nullable, final, shift}
+use Rattle.models.specs.PositionLaws.{size-uses, not-first, not-next}
+use Rattle.models.specs.Positions.{size, mayBeAbsent, isFirst, isLast, isNext}
+use Rattle.schema_spec.specs.Models.{Particle, named, sequence, choice, repeated, uses, Position, position, unmarked, nullable, final, shift}
 use Rattle.text_laws.specs.Tests.{or-cases, and-cases, true-of, false-of}
 use Rattle.words.specs.Searches.{anyBelow, any-cong, any-only, any-none, any-and, any-or}
+
+-- the particle with a mark on each position that is in a set
+abbrev pub marked : ℕ → Particle ℕ → (ℕ → Bool) → Particle Position
+marked k (named a) s = named (position (s k) a)
+marked k (sequence p q) s = sequence (marked k p s) (marked (k + size p) q s)
+marked k (choice p q) s = choice (marked k p s) (marked (k + size p) q s)
+marked k (repeated m n p) s = repeated m n (marked k p s)
 
 -- sets that agree on the particle's positions mark it alike
 pub marked-cong : (k : ℕ) (p : Particle ℕ) (s t : ℕ → Bool) → ((i : ℕ) → k ≤ i → i < k + size p → s i ≡ t i) → marked k p s ≡ marked k p t
@@ -36,55 +44,6 @@ nullable-marked k (named a) s = refl
 nullable-marked k (sequence p q) s = ap₂ _&&_ (nullable-marked k p s) (nullable-marked (k + size p) q s)
 nullable-marked k (choice p q) s = ap₂ _||_ (nullable-marked k p s) (nullable-marked (k + size p) q s)
 nullable-marked k (repeated m n p) s = ap (λ (b : Bool). n || b) (nullable-marked k p s)
-
--- first positions, and those that follow any, are the particle's own
-first-range : (k : ℕ) (p : Particle ℕ) (j : ℕ) → T (isFirst k p j) → (k ≤ j) × (j < k + size p)
-first-range k (named a) j t =
-    let e = eqb→eq j k t in
-    (omega arith, omega arith)
-first-range k (sequence p q) j t =
-    ⊎-elim (λ h.
-    let r = first-range k p j h in
-    (r .0, omega arith))
-    (λ h.
-    let r = first-range (k + size p) q j (and-cases (mayBeAbsent p) (isFirst (k + size p) q j) h .1) in
-    (omega arith, omega arith)) (or-cases (isFirst k p j) (mayBeAbsent p && isFirst (k + size p) q j) t)
-first-range k (choice p q) j t =
-    ⊎-elim (λ h.
-    let r = first-range k p j h in
-    (r .0, omega arith))
-    (λ h.
-    let r = first-range (k + size p) q j h in
-    (omega arith, omega arith)) (or-cases (isFirst k p j) (isFirst (k + size p) q j) t)
-first-range k (repeated m n p) j t = first-range k p j t
-
-next-range : (k : ℕ) (p : Particle ℕ) (i j : ℕ) → T (isNext k p i j) → (k ≤ j) × (j < k + size p)
-next-range k (named a) i j t = absurd t
-next-range k (sequence p q) i j t =
-    ⊎-elim (λ h.
-    let r = next-range k p i j h in
-    (r .0, omega arith))
-    (λ h.
-    let r = ⊎-elim (next-range (k + size p) q i j) (λ f. first-range (k + size p) q j (and-cases (isLast k p i) (isFirst (k + size p) q j) f .1))
-    (or-cases (isNext (k + size p) q i j) (isLast k p i && isFirst (k + size p) q j) h) in
-    (omega arith, omega arith)) (or-cases (isNext k p i j) (isNext (k + size p) q i j || (isLast k p i && isFirst (k + size p) q j)) t)
-next-range k (choice p q) i j t =
-    ⊎-elim (λ h.
-    let r = next-range k p i j h in
-    (r .0, omega arith))
-    (λ h.
-    let r = next-range (k + size p) q i j h in
-    (omega arith, omega arith)) (or-cases (isNext k p i j) (isNext (k + size p) q i j) t)
-next-range k (repeated m n p) i j t =
-    ⊎-elim (next-range k p i j) (λ h. first-range k p j (and-cases (isLast k p i) (isFirst k p j) (and-cases m (isLast k p i && isFirst k p j) h .1) .1))
-    (or-cases (isNext k p i j) (m && (isLast k p i && isFirst k p j)) t)
-
-module _ (k : ℕ) (p : Particle ℕ) (j : ℕ) (outside : (k ≤ j) × (j < k + size p) → ⊥) where
-  pub not-first : isFirst k p j ≡ false
-  not-first = false-of (isFirst k p j) (λ t. outside (first-range k p j t))
-
-  pub not-next : (i : ℕ) → isNext k p i j ≡ false
-  not-next i = false-of (isNext k p i j) (λ t. outside (next-range k p i j t))
 
 -- The sets' laws hold for any bound n on the positions.
 module _ (n : ℕ) where
@@ -261,12 +220,6 @@ module _ (n : ℕ) (label : ℕ → ℕ) (a : ℕ) where
       ∙ marked-cong k p (after n (begins || (m && ends n k p s)) label k p s a) (after n begins label k (repeated m o p) s a) (λ j u v. in-repeated begins m o k p s j))
 
 -- the list of a particle's names gives the element of each position
-pub size-uses : (p : Particle ℕ) → length (uses p) ≡ size p
-size-uses (named x) = refl
-size-uses (sequence p q) = length-append (uses p) (uses q) ∙ ap₂ _+_ (size-uses p) (size-uses q)
-size-uses (choice p q) = length-append (uses p) (uses q) ∙ ap₂ _+_ (size-uses p) (size-uses q)
-size-uses (repeated m n p) = size-uses p
-
 module _ (label : ℕ → ℕ) where
   -- two lists of names in a row
   module _ (k : ℕ) (p q : Particle ℕ) (h : (i : ℕ) → i < size p + size q → label (k + i) ≡ getD (uses p ++ uses q) i 0) where

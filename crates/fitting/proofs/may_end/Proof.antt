@@ -1,8 +1,8 @@
--- `models::may_end` meets its contract. Assumes nothing.
+-- `fitting::may_end` meets its contract.
 use mathlib.Core.Path.{refl}
 use borrow.Author.Needs.{needs}
-use Rattle.models.proofs.may_end.Statement.{statement}
-use Rattle.models.proofs.may_end.Tie as tie
+use Rattle.fitting.proofs.may_end.Statement.{statement}
+use Rattle.fitting.proofs.may_end.Tie as tie
 
 returns : tie.Need-returns
 returns c = rw (c .enum-told .given .1) refl

@@ -1,4 +1,4 @@
--- `models::with_position` meets its contract. Assumes nothing.
+-- `fitting::with_position` meets its contract.
 use mathlib.Core.Bool.{Bool, _&&_, _||_, or-false, and-false}
 use mathlib.Core.Path.{sym, ap, _∙_}
 use native.Mathlib.Omega.{arith}
@@ -6,15 +6,16 @@ use borrow.Author.Tests.{lt-ltb}
 use lib.Dec.{eqb}
 use Rattle.schema_spec.specs.Names.{hasBit}
 use native.Mathlib.Omega.{arith}
+use Rattle.text_spec.specs.Limits.{maxModelNames}
 use borrow.Author.Needs.{needs}
-use Rattle.models.proofs.with_position.Statement.{statement}
-use Rattle.models.proofs.with_position.Tie as tie
+use Rattle.fitting.proofs.with_position.Statement.{statement}
+use Rattle.fitting.proofs.with_position.Tie as tie
 
 returns : tie.Need-returns
 returns c j =
     let args = c .before .before .args in
     c .with-bit .ensures j
-    ∙ ap (λ (b : Bool). hasBit (args .set) j || (eqb j (args .p) && b)) (lt-ltb (args .p) 64 (omega arith) ∙ sym (c .before .if1 .taken))
+    ∙ ap (λ (b : Bool). hasBit (args .set) j || (eqb j (args .p) && b)) (lt-ltb (args .p) maxModelNames (omega arith) ∙ sym (c .before .if1 .taken))
 
 returns-2 : tie.Need-returns-2
 returns-2 c j =
