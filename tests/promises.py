@@ -1,8 +1,9 @@
 #!/usr/bin/env python3
-"""Holds docs/PROMISES.md to the repository.
+"""Holds docs/PROMISES.md and docs/ARCHITECTURE.md to the repository.
 
-In its tables each name of the column 'Met by' is declared in a file of the column 'File', each such file exists, and every crate
-folder is listed in crates.txt and described in docs/ARCHITECTURE.md.
+- In the tables of docs/PROMISES.md each name of the column 'Met by' is declared in a file of the column 'File', and each such file exists.
+- Each `pub fn` that another crate calls stands in such a table, beside its crate's source.
+- Every crate folder is listed in crates.txt and described in docs/ARCHITECTURE.md, and each module that is named there exists.
 """
 import os
 import re
@@ -37,8 +38,55 @@ def rows(text):
             yield cells, cells[columns.index("Met by")], cells[columns.index("File")]
 
 
+def sources(crate):
+    """The Rattle text of a crate."""
+    folder = os.path.join(ROOT, "crates", crate, "src")
+    return "\n".join(read(os.path.join("crates", crate, "src", name)) for name in sorted(os.listdir(folder)) if name.endswith(".rt"))
+
+
+def called(crate, name, texts):
+    """Whether another crate calls a function or a method of this crate by its name."""
+    path = re.compile(r"\b%s::(?:[A-Z]\w*::)?%s\(" % (crate, name))
+    brought = re.compile(r"\buse %s::([A-Z]\w*)" % crate)
+    for other, text in texts.items():
+        if other == crate:
+            continue
+        if path.search(text):
+            return True
+        types = brought.findall(text)
+        if types and re.search(r"(?:\b(?:%s)::|\.)%s\(" % ("|".join(types), name), text):
+            return True
+    return False
+
+
+def omissions(promised):
+    """Functions that another crate calls and that docs/PROMISES.md does not name beside their source."""
+    crates = sorted(os.listdir(os.path.join(ROOT, "crates")))
+    texts = {crate: sources(crate) for crate in crates}
+    for crate, text in texts.items():
+        for name in re.findall(r"\bpub fn (\w+)", text):
+            if called(crate, name, texts) and (name, "crates/%s/src/lib.rt" % crate) not in promised:
+                yield "docs/PROMISES.md does not name %s::%s" % (crate, name)
+
+
+def missing_modules(architecture, crates):
+    """Modules that docs/ARCHITECTURE.md names and that do not exist: in the row of a crate, or behind a crate's name."""
+    def exists(crate, module):
+        base = os.path.join(ROOT, "crates", crate, "specs", *module.split("/"))
+        return os.path.exists(base + ".antt") or os.path.isdir(base)
+    for line in architecture.split("\n"):
+        quoted = QUOTED.findall(line)
+        owner = quoted[0] if line.startswith("| `") and quoted[0] in crates else None
+        for word in quoted:
+            if owner and re.fullmatch(r"[A-Z]\w*(/[A-Z]\w*)*/?", word) and not exists(owner, word.rstrip("/")):
+                yield "%s has no module %s" % (owner, word)
+            behind = re.match(r"([a-z_]+)/((?:[A-Z]\w*/)*[A-Z]\w*)", word)
+            if behind and behind.group(1) in crates and not exists(*behind.groups()):
+                yield "%s has no module %s" % behind.groups()
+
+
 def main():
-    faults, seen = [], 0
+    faults, seen, promised = [], 0, set()
     for cells, met, file in rows(read("docs/PROMISES.md")):
         files = QUOTED.findall(file)
         missing = [f for f in files if not os.path.exists(os.path.join(ROOT, f))]
@@ -46,6 +94,7 @@ def main():
         texts = [read(f) for f in files if f not in missing]
         for name in QUOTED.findall(met):
             seen += 1
+            promised.update((name, f) for f in files)
             if not any(declares(t, name) for t in texts):
                 faults.append("%s is not declared in %s" % (name, file))
     listed = {line.split(":")[0] for line in read("crates.txt").split("\n") if ":" in line and not line.startswith("#")}
@@ -55,10 +104,12 @@ def main():
             faults.append("crate %s is not listed in crates.txt" % crate)
         if "`%s`" % crate not in architecture:
             faults.append("crate %s is not described in docs/ARCHITECTURE.md" % crate)
+    faults += missing_modules(architecture, listed)
+    faults += omissions(promised)
     if seen == 0:
         faults.append("docs/PROMISES.md names nothing")
     if faults:
-        sys.exit("promises: " + "; ".join(faults))
+        sys.exit("promises: " + "\n          ".join(faults))
     print("promises: %d names stand where docs/PROMISES.md says" % seen)
 
 

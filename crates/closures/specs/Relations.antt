@@ -8,7 +8,7 @@ use Rattle.names.specs.Sets.{member, overlap, nothing}
 use Rattle.names.specs.declared.NameSet.{NameSet}
 use Rattle.schema_spec.specs.Names.{Name, element, text}
 use Rattle.text_spec.specs.Limits.{maxDeclarations}
-use Rattle.words.specs.Searches.{anyBelow}
+use Rattle.text_spec.specs.Lists.{anyBelow}
 
 -- element a is related to b
 abbrev pub relates : List NameSet → ℕ → Name → Bool

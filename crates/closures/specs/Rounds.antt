@@ -15,8 +15,8 @@ use Rattle.names.specs.SetLaws.{nothing-in, overlap-some}
 use Rattle.names.specs.declared.NameSet.{NameSet}
 use Rattle.schema_spec.specs.Names.{Name, element, text, sameName}
 use Rattle.text_laws.specs.Tests.{or-left, or-right, or-cases, and-intro, and-cases, failed, false-of}
-use Rattle.words.specs.Loops.{Passed}
-use Rattle.words.specs.Searches.{one-more}
+use Rattle.text_laws.specs.Loops.{Passed}
+use Rattle.text_laws.specs.Searches.{one-more}
 
 module _ (images : List NameSet) where
   wider : {n a : ℕ} {b : Name} → Reachable images n a b → Reachable images (suc n) a b

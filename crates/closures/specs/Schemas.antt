@@ -17,10 +17,10 @@ use Rattle.schema_spec.specs.Names.{Name, element, text, namesOf}
 use Rattle.schema_spec.specs.Schemas.{Schema}
 use Rattle.schema_spec.specs.Types.{holds, Below, held, further, typesOf, isBelow}
 use Rattle.text_laws.specs.Lists.{any-in, in-any, filter-cong}
-use Rattle.text_laws.specs.Tests.{and-intro, and-cases, false-of}
+use Rattle.text_laws.specs.Tests.{and-intro, and-cases, false-of, same-test}
 use Rattle.text_spec.specs.Limits.{maxDeclarations}
 use Rattle.text_spec.specs.Lists.{anyOf, filterBy}
-use Rattle.words.specs.Searches.{same-test, any-below, below-any}
+use Rattle.text_laws.specs.Searches.{any-below, below-any}
 
 -- the images of the elements under a test between names
 abbrev pub RelationOf : (Name → Name → Bool) → List NameSet → Type 0

@@ -19,7 +19,9 @@ use Rattle.fitting.specs.declared.State.the-variants.{Start, Amid}
 use Rattle.schema_laws.specs.Models.{fits-decides}
 use Rattle.schema_spec.specs.Models.{Particle, uses, Fits, Position, shift, nullable, Progress, amid, started, advance, complete, advanceAll, fits}
 use Rattle.schema_spec.specs.Names.{hasBit}
-use Rattle.words.specs.Searches.{same-test, anyBelow, any-cong, any-none}
+use Rattle.text_laws.specs.Searches.{any-cong, any-none}
+use Rattle.text_spec.specs.Lists.{anyBelow}
+use Rattle.text_laws.specs.Tests.{same-test}
 
 -- what a state stands for
 abbrev pub progressOf : Particle ℕ → State → Progress

@@ -14,7 +14,8 @@ use Rattle.models.specs.PositionLaws.{size-uses, not-first, not-next}
 use Rattle.models.specs.Positions.{size, mayBeAbsent, isFirst, isLast, isNext}
 use Rattle.schema_spec.specs.Models.{Particle, named, sequence, choice, repeated, uses, Position, position, unmarked, nullable, final, shift}
 use Rattle.text_laws.specs.Tests.{or-cases, and-cases, true-of, false-of}
-use Rattle.words.specs.Searches.{anyBelow, any-cong, any-only, any-none, any-and, any-or}
+use Rattle.text_laws.specs.Searches.{any-cong, any-only, any-none, any-and, any-or}
+use Rattle.text_spec.specs.Lists.{anyBelow}
 
 -- the particle with a mark on each position that is in a set
 abbrev pub marked : ℕ → Particle ℕ → (ℕ → Bool) → Particle Position

@@ -13,7 +13,7 @@ use Rattle.fitting.specs.declared.State.{State}
 use Rattle.fitting.specs.declared.State.the-variants.{Amid}
 use Rattle.schema_spec.specs.Names.{hasBit}
 use Rattle.words.specs.Bits.{bit-none}
-use Rattle.words.specs.Searches.{one-more}
+use Rattle.text_laws.specs.Searches.{one-more}
 
 module _ (e : Ends) (elements predecessors : List ℕ) (state : State) (child : ℕ) where
   pub next-first : (j : ℕ) → hasBit 0 j ≡ comesNext e elements predecessors state child 0 j

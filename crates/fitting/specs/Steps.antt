@@ -9,8 +9,8 @@ use Rattle.models.specs.declared.Ends.{Ends}
 use Rattle.fitting.specs.declared.State.{State}
 use Rattle.fitting.specs.declared.State.the-variants.{Start, Amid}
 use Rattle.schema_spec.specs.Names.{hasBit}
+use Rattle.text_spec.specs.Lists.{anyBelow}
 use Rattle.text_spec.specs.Limits.{maxModelNames}
-use Rattle.words.specs.Searches.{anyBelow}
 
 -- the positions that the last child may have
 abbrev pub inState : State → ℕ → Bool

@@ -9,7 +9,7 @@ use native.Mathlib.Omega.{arith}
 use lib.Dec.{T, eqb, leb, eqb-refl, le→leb}
 use lib.ListN.{length, take, drop, getElem?, length-append, length-drop}
 use lib.Seq.{length-take-le}
-use Rattle.journal_laws.specs.Derivations.{Derives, finished, root-begins, child-begins, element-ends, blanks-outside, run-inside, text-inside, opening, elementRow, textRow, MakesNoText, no-text-unjudged, no-text-misfit, no-text-unfilled, no-text-children, Accepts, derivation}
+use Rattle.journal_laws.specs.Derivations.{Derives, finished, root-begins, child-begins, element-ends, blanks-outside, run-inside, text-inside, opening, MakesNoText, no-text-unjudged, no-text-misfit, no-text-unfilled, no-text-children, Accepts, derivation}
 use Rattle.journal_laws.specs.Events.{eventsFrom, ended-builds, events-in-turn, none-foreign}
 use Rattle.journal_laws.specs.Fillings.{Completable, all-completable, parent-completable, Fills, fills-begun, fills-child, fills-run, child-held, text-held}
 use Rattle.journal_spec.specs.Builder.{Filling, unjudged, misfit, unfilled, filledByText, filledByChildren, fillingOf, withChild, withRun, Open, Building, refill}
@@ -22,11 +22,11 @@ use Rattle.table_laws.specs.Fits.{RowFits, fits-row}
 use Rattle.table_laws.specs.Nodes.{nodes-same, nodes-equal}
 use Rattle.table_laws.specs.Places.{none-some, at-before, at-end, at-in}
 use Rattle.table_spec.specs.Nodes.{Node, top, under, numberOf, nameOf, same, isAbove, depthOf, nodeAt, attachTo}
-use Rattle.table_spec.specs.Rows.{Row, textOf}
+use Rattle.table_spec.specs.Rows.{Row, textOf, elementRow, textRow}
 use Rattle.table_spec.specs.Tables.{sameParent, firstText, rowFits, laterRows, wellFormed, textInside, wellFormedWith}
 use Rattle.text_laws.specs.Lists.{in-any, in-all, append-empty}
 use Rattle.text_laws.specs.Refusals.{judged-accepted, given-free}
-use Rattle.text_laws.specs.Tests.{or-left, or-right, and-intro, and-cases, not-intro}
+use Rattle.text_laws.specs.Tests.{or-left, or-right, and-intro, and-cases, not-intro, never}
 use Rattle.text_spec.specs.Bytes.{isForeign}
 use Rattle.text_spec.specs.Limits.{maxDepth, maxNodes, maxTextBytes}
 use Rattle.text_spec.specs.Lists.{anyOf, allOf, isNone, isEmpty, listOf}
@@ -157,13 +157,13 @@ numbered-more before n y h hy z i = by (append-cases before i)
     by (inr j) = last-one j
 
 not-text : {f : Filling} (e : ℕ) → MakesNoText f → f ≡ filledByText e → ⊥
-not-text e no-text-unjudged h = let z : _≡_ {A = ℕ} 0 1 = cc in omega arith
-not-text e no-text-misfit h = let z : _≡_ {A = ℕ} 0 1 = cc in omega arith
-not-text e no-text-unfilled h = let z : _≡_ {A = ℕ} 0 1 = cc in omega arith
-not-text e no-text-children h = let z : _≡_ {A = ℕ} 0 1 = cc in omega arith
+not-text e no-text-unjudged h = never (cc)
+not-text e no-text-misfit h = never (cc)
+not-text e no-text-unfilled h = never (cc)
+not-text e no-text-children h = never (cc)
 
 true-false : true ≡ false → ⊥
-true-false e = let z : _≡_ {A = ℕ} 0 1 = cc in omega arith
+true-false e = never (cc)
 
 module _ (s : Schema) (before : List Node) (previous : Node) (n : ℕ) (o : Open) (os : List Open) where
   -- the node of a row under the innermost open element
@@ -408,7 +408,7 @@ text-lies-inside lent r native h = by (isText (r .name)) h
 
 none-listed : {A : Type 0} (o : Option A) → listOf o ≡ [] → o ≡ none
 none-listed none e = refl
-none-listed (some x) e = let z : _≡_ {A = ℕ} 0 1 = cc in absurd (omega arith)
+none-listed (some x) e = never (cc)
 
 closed-at-end : (o : Option Refusal) (os : List Open) (rt : Bool) → o ≡ none → (T (isNone o && (not (isEmpty os) || not rt)) → ⊥) → (os ≡ []) × (rt ≡ true)
 closed-at-end none [] true e h = (refl, refl)
@@ -440,8 +440,7 @@ free-of m b e =
     no-places : (ks : List ℕ) → allAt misspelt ks ≡ [] → ks ≡ []
     no-places [] e = refl
     no-places (k ∷ ks) e =
-        let z : _≡_ {A = ℕ} 0 1 = cc in
-        absurd (omega arith)
+        never (cc)
 
 accepted-free : (limit : ℕ) (s : Schema) (lent : List ℕ) (rows : List Row) → readJournal limit s lent ≡ accepted rows
     → Free (run s initial lent) (ended s (run s initial lent)) × (reverse (ended s (run s initial lent) .rows) ≡ rows)

@@ -11,13 +11,12 @@ use Rattle.journal_laws.specs.Kept.{KeptByEnds, KeptByRuns, KeptByStarts
 use Rattle.journal_spec.specs.Builder.{Filling, unjudged, misfit, unfilled, filledByText, filledByChildren, fillingOf, withChild, withRun, fitsAtEnd, Open, Building, building, breaks, parentRow, refill, fillingFor, wrongRoot, begin, onStart, endOf, outside, textNode, inside, onUnbroken, onEvent}
 use Rattle.journal_spec.specs.Lexer.{Run, Event, starts, ends, runs}
 use Rattle.schema_spec.specs.Models.{Progress}
-use Rattle.schema_spec.specs.Names.{element, text}
 use Rattle.schema_spec.specs.Schemas.{Schema, elementNamed, contentAt}
-use Rattle.table_spec.specs.Rows.{Row}
+use Rattle.table_spec.specs.Rows.{Row, elementRow, textRow}
 use Rattle.table_laws.specs.Places.{none-some}
 use Rattle.text_laws.specs.Lists.{append-empty}
 use Rattle.text_laws.specs.Refusals.{given-free}
-use Rattle.text_laws.specs.Tests.{passed, or-left, or-right, not-intro}
+use Rattle.text_laws.specs.Tests.{passed, or-left, or-right, not-intro, not-not}
 use Rattle.text_spec.specs.Limits.{maxDepth, maxNodes, maxTextBytes}
 use Rattle.text_spec.specs.Lists.{isNone, valueOr, sameBytes}
 use Rattle.text_spec.specs.Refusals.{Refusal, at, given, badNesting, overDepth, undeclaredElement, badContent, overNodeLimit}
@@ -75,12 +74,6 @@ clean-before s (e ∷ es) b c = clean-event s e b (clean-before s es (onEvent s 
 
 abbrev pub opening : List ℕ → ℕ → ℕ → Filling → Open
 opening n k row f = record { name = n; place = k; row = row; filling = f }
-
-abbrev pub elementRow : ℕ → ℕ → ℕ → Row
-elementRow n e parent = record { number = n; name = element e; parent = parent; start = 0; size = 0 }
-
-abbrev pub textRow : ℕ → ℕ → ℕ → ℕ → ℕ → Row
-textRow n e parent start l = record { number = n; name = text e; parent = parent; start = start; size = l }
 
 -- a content in which character data makes no node
 pub data MakesNoText : Filling → Type 0 where
@@ -209,15 +202,11 @@ module _ (s : Schema) (size : ℕ) (final : List Row) where
       misfits : List Refusal
       misfits = given (not (fitsAtEnd (o .filling))) (at badContent (o .place)) ++ []
 
-      fitting : (f : Bool) → (T (not f) → ⊥) → T f
-      fitting true h = tt
-      fitting false h = absurd (h tt)
-
       by : (d : Bool) → sameBytes w (o .name) ≡ d
           → Accepts final (build s es (cond d (building os rt misfits rs n) (breaks (at badNesting k) (building (o ∷ os) rt [] rs n))))
           → Derives s size final t (ends w k ∷ es) (o ∷ os) rt rs n
       by true e a =
-          element-ends (passed e) (fitting (fitsAtEnd (o .filling)) (test-free (not (fitsAtEnd (o .filling))) (at badContent (o .place)) [] (faultless-so-far es os rt misfits rs n a)))
+          element-ends (passed e) (not-not (fitsAtEnd (o .filling)) (test-free (not (fitsAtEnd (o .filling))) (at badContent (o .place)) [] (faultless-so-far es os rt misfits rs n a)))
           (rest os rt rs n (without-faults es os rt misfits rs n a))
       by false e a = absurd (not-broken s final es (at badNesting k) (building (o ∷ os) rt [] rs n) a)
 

@@ -4,7 +4,6 @@ use mathlib.Core.List.{List, [], _∷_, List·Memᴰ as In}
 use mathlib.Core.Option.{some}
 use mathlib.Core.Path.{_≡_, refl, sym, ap, subst, _∙_}
 use Prim.Native.Nat.{ℕ}
-use native.Mathlib.Omega.{arith}
 use lib.Dec.{T, eqb, eqb-refl}
 use Rattle.journal_laws.specs.Derivations.{Derives, finished, root-begins, child-begins, element-ends, blanks-outside, run-inside, text-inside}
 use Rattle.journal_laws.specs.Progress.{namesOf, started-names, advance-names, completed-name}
@@ -16,7 +15,7 @@ use Rattle.schema_spec.specs.Schemas.{Schema, contentAt, isPcdata}
 use Rattle.schema_spec.specs.Types.{holds}
 use Rattle.table_spec.specs.Rows.{Row}
 use Rattle.text_laws.specs.Lists.{any-in}
-use Rattle.text_laws.specs.Tests.{and-intro}
+use Rattle.text_laws.specs.Tests.{and-intro, never}
 use Rattle.text_spec.specs.Lists.{isNone}
 
 -- more children can make the content fit
@@ -116,14 +115,11 @@ child-held s e a (fills-children {q = q} h n) (by-children w t) =
 pub text-held : (s : Schema) (e a : ℕ) {f : Filling} → Fills s e f → f ≡ filledByText a → T (holds s (element e) (text a))
 unfolding holds
 text-held s e a fills-not h =
-    let z : _≡_ {A = ℕ} 0 1 = cc in
-    absurd (omega arith)
+    never (cc)
 text-held s e a fills-empty h =
-    let z : _≡_ {A = ℕ} 0 1 = cc in
-    absurd (omega arith)
+    never (cc)
 text-held s e a (fills-text c) h =
     let z : e ≡ a = cc in
     and-intro (eqb e a) (isPcdata (contentAt s e)) (subst (λ (x : ℕ). T (eqb e x)) z (eqb-refl e)) (rw c tt)
 text-held s e a (fills-children c n) h =
-    let z : _≡_ {A = ℕ} 0 1 = cc in
-    absurd (omega arith)
+    never (cc)

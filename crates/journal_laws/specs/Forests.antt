@@ -7,7 +7,7 @@ use Prim.Native.Nat.{ℕ, suc, _+_, _≤_, _<_}
 use native.Mathlib.Omega.{arith}
 use lib.Dec.{T, leb, ltb, leb→le}
 use lib.ListN.{length}
-use Rattle.journal_laws.specs.Derivations.{opening, elementRow, textRow}
+use Rattle.journal_laws.specs.Derivations.{opening}
 use Rattle.journal_laws.specs.Events.{build}
 use Rattle.journal_laws.specs.Nesting.{tokensBuilt, tokenBuilt, tokens-cons, tokens-append, start, fromTokens}
 use Rattle.journal_laws.specs.Passes.{eventsOf, solidFrom}
@@ -18,7 +18,7 @@ use Rattle.journal_spec.specs.Lexer.{run}
 use Rattle.journal_spec.specs.Tokens.{Token, startTag, emptyTag, endTag, characters, spellToken, spell, openAfter}
 use Rattle.journal_spec.specs.Trees.{Forest, nothing, data-node, element-node, Spells, no-tokens, data-next, empty-tag, tag-pair, OnlyBlanks, no-blanks, blanks, OneRoot, at-once, after-blanks, Nested, height}
 use Rattle.schema_spec.specs.Schemas.{Schema, elementNamed}
-use Rattle.table_spec.specs.Rows.{Row}
+use Rattle.table_spec.specs.Rows.{Row, elementRow, textRow}
 use Rattle.text_laws.specs.Lists.{bytes-same}
 use Rattle.text_laws.specs.Tests.{true-of, false-of, and-cases}
 use Rattle.text_spec.specs.Bytes.{isBlank, allBlank}

@@ -30,7 +30,7 @@ use Rattle.table_spec.specs.Rows.{Row}
 use Rattle.text_laws.specs.Lists.{in-map, in-any, any-in}
 use Rattle.text_laws.specs.Order.{NoLater, judged-least, found-all}
 use Rattle.text_laws.specs.Refusals.{in-given, given-in}
-use Rattle.text_laws.specs.Tests.{passed, and-cases, and-intro, not-intro, not-elim, decided}
+use Rattle.text_laws.specs.Tests.{passed, and-cases, and-intro, not-intro, not-elim, decided, never}
 use Rattle.text_laws.specs.Texts.{length-found, length-listed, split-first, split-later}
 use Rattle.text_spec.specs.Bytes.{isForeign}
 use Rattle.text_spec.specs.Limits.{maxDepth, maxNodes, maxTextBytes}
@@ -125,7 +125,7 @@ module _ (limit : ℕ) (s : Schema) (lent : List ℕ) where
     in-faults : In f (built .faults) → Source f
 
   listed-broken : {f : Refusal} (o : Option Refusal) → o ≡ some f → In f (listOf o)
-  listed-broken none e = let z : _≡_ {A = ℕ} 0 1 = cc in absurd (omega arith)
+  listed-broken none e = never (cc)
   listed-broken {f} (some g) e =
       let z : f ≡ g = cc in
       here z
@@ -298,8 +298,8 @@ module _ (limit : ℕ) (s : Schema) (lent : List ℕ) where
 
       not-closed : (os : List Open) (rt : Bool) → T (not (isEmpty os) || not rt) → os ≡ [] → rt ≡ true → ⊥
       not-closed [] true t e g = t
-      not-closed [] false t e g = let z : _≡_ {A = ℕ} 0 1 = cc in omega arith
-      not-closed (x ∷ os) rt t e g = let z : _≡_ {A = ℕ} 0 1 = cc in omega arith
+      not-closed [] false t e g = never (cc)
+      not-closed (x ∷ os) rt t e g = never (cc)
 
       early : In f (endsEarly built (length lent)) → JournalApplies limit s lent (f .reason) (f .place)
       early x =

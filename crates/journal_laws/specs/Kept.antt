@@ -8,9 +8,8 @@ use lib.ListN.{length}
 use Rattle.journal_laws.specs.Events.{cond-both}
 use Rattle.journal_spec.specs.Builder.{Filling, unjudged, misfit, unfilled, filledByText, filledByChildren, withRun, fitsAtEnd, Open, Building, building, breaks, refill, begin, onStart, endOf, outside, textNode, inside, onUnbroken, onEvent}
 use Rattle.journal_spec.specs.Lexer.{Run, Event, quiet, starts, empties, ends, runs}
-use Rattle.schema_spec.specs.Names.{text}
 use Rattle.schema_spec.specs.Schemas.{Schema}
-use Rattle.table_spec.specs.Rows.{Row}
+use Rattle.table_spec.specs.Rows.{Row, textRow}
 use Rattle.text_spec.specs.Limits.{maxDepth, maxNodes, maxTextBytes}
 use Rattle.text_spec.specs.Lists.{isEmpty, isNone, sameBytes}
 use Rattle.text_spec.specs.Refusals.{at, given, badNesting, overDepth, badContent, overNodeLimit}
@@ -42,7 +41,7 @@ module _ (P : Building → Type 0) (by-ends : KeptByEnds P) where
     keep-text misfit r l p os = by-runs .run-on os
     keep-text unfilled r l p os = by-runs .run-on os
     keep-text (filledByText e) r l p os =
-        by-runs .text-on os (ltb maxTextBytes l || leb maxNodes (b .count)) (r .start) (record { number = b .count; name = text e; parent = p; start = r .start; size = l })
+        by-runs .text-on os (ltb maxTextBytes l || leb maxNodes (b .count)) (r .start) (textRow (b .count) e p (r .start) l)
     keep-text (filledByChildren q) r l p os = by-runs .run-on os
 
     pub keep-run : (os : List Open) (r : Run) (l : ℕ) → P (inside os r l b)

@@ -21,7 +21,7 @@ use Rattle.schema_spec.specs.Schemas.{Schema}
 use Rattle.table_spec.specs.Rows.{Row}
 use Rattle.table_laws.specs.Places.{none-some}
 use Rattle.text_laws.specs.Lists.{bytes-equal, bytes-same}
-use Rattle.text_laws.specs.Tests.{passed, failed, true-of, false-of, and-cases, and-intro}
+use Rattle.text_laws.specs.Tests.{passed, failed, true-of, false-of, and-cases, and-intro, never}
 use Rattle.text_spec.specs.Bytes.{isBlank, allBlank}
 use Rattle.text_spec.specs.Limits.{maxDepth}
 use Rattle.text_spec.specs.Lists.{isNone, sameBytes}
@@ -416,7 +416,7 @@ module _ (s : Schema) where
     where
       nothing-open : (os : List Open) → names os ≡ [] → os ≡ []
       nothing-open [] q = refl
-      nothing-open (o ∷ os) q = let z : _≡_ {A = ℕ} 0 1 = cc in absurd (omega arith)
+      nothing-open (o ∷ os) q = never (cc)
 
       ends : {k : ℕ} {m : List ℕ} {c : Forest} → ShallowFrom 0 ts → Nested ts k m c → ⊥
       ends h x =

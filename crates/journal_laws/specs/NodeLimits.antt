@@ -11,7 +11,7 @@ use lib.Dec.{T, leb, ltb, leb→le, le→leb, ltb→lt, lt→ltb}
 use lib.ListN.{length, length-append}
 use Rattle.journal_laws.specs.Accepted.{reverse-twice}
 use Rattle.journal_laws.specs.Contents.{forest-grows, end-grows, run-filling, given-other, fillingAfter, ends-content, not-declared, not-fitting, tree-faulty}
-use Rattle.journal_laws.specs.Derivations.{elementRow, textRow, MakesNoText, no-text-unjudged, no-text-misfit, no-text-unfilled, no-text-children}
+use Rattle.journal_laws.specs.Derivations.{MakesNoText, no-text-unjudged, no-text-misfit, no-text-unfilled, no-text-children}
 use Rattle.journal_laws.specs.Forests.{Held, held, runHeld, afterRun, atStart, atEnd, afterForest, rootStart, treeHeld}
 use Rattle.journal_laws.specs.Passes.{solidFrom}
 use Rattle.journal_spec.specs.Builder.{Filling, unjudged, filledByText, fillingOf, fillingFor, withChild, withRun, fitsAtEnd, wrongRoot}
@@ -19,7 +19,7 @@ use Rattle.journal_spec.specs.Trees.{Forest, nothing, data-node, element-node, 
 use Rattle.journal_spec.specs.Validity.{OnlyData, more, ContentFits, fits-pcdata, Occurs, here as occurs-here, inside, after-element, after-data, InTree, the-root, below}
 use Rattle.schema_spec.specs.Models.{Content, empty, pcdata, children}
 use Rattle.schema_spec.specs.Schemas.{Schema, elementNamed, contentAt, isPcdata}
-use Rattle.table_spec.specs.Rows.{Row}
+use Rattle.table_spec.specs.Rows.{Row, elementRow, textRow}
 use Rattle.text_laws.specs.Refusals.{in-given, given-in}
 use Rattle.text_laws.specs.Tests.{passed, or-left, or-right, or-cases}
 use Rattle.text_spec.specs.Limits.{maxNodes, maxTextBytes}

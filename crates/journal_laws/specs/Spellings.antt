@@ -14,11 +14,12 @@ use Rattle.journal_laws.specs.Passes.{mode-append, Passes, passes-none, 
 use Rattle.journal_spec.specs.Conditions.{Stretch, nothing-yet, a-tag, a-byte, an-entity, MisspeltHere, bad-tag, bad-entity, section-end, Misspelt}
 use Rattle.journal_spec.specs.Lexer.{Run, run, Mode, between, inData, inEntity, opened, inName, afterName, afterSlash, ending, inEndName, afterEndName, stopped, Event, runs, Lexed, goes, tells, solidBy, tailsWith, dataByte, entityByte, lex, misspeltAt, tagByte, endTagByte, longer}
 use Rattle.journal_spec.specs.Tokens.{Token, startTag, emptyTag, endTag, spellToken, spell, entities, Entity, lt, gt, amp, apos, quot, isPlain, Pieces, none as no-piece, plain, entity, sectionEnd, Spelt, start-spelt, empty-spelt, end-spelt, characters-spelt, TagNext, no-token, start-next, empty-next, end-next, AllSpelt, none as all-none, tag, data-then, Tokens}
-use Rattle.text_laws.specs.Lists.{any-in, in-any, empty-of, append-empty, member-fills}
-use Rattle.text_laws.specs.Tests.{passed, failed, true-of, and-cases, and-intro, or-cases, not-intro}
+use Rattle.text_laws.specs.Bytes.{one-byte-name, name-snoc}
+use Rattle.text_laws.specs.Lists.{any-in, in-any, empty-of, append-empty, member-fills, all-snoc}
+use Rattle.text_laws.specs.Tests.{passed, failed, true-of, and-cases, or-cases, not-intro, never}
 use Rattle.text_spec.specs.Bytes.{isBlank, isName, startsName, continuesName, allBlank}
 use Rattle.text_spec.specs.Limits.{maxNameBytes}
-use Rattle.text_spec.specs.Lists.{anyOf, allOf, isEmpty}
+use Rattle.text_spec.specs.Lists.{anyOf, isEmpty}
 
 -- ---- a tag that is not complete
 
@@ -37,28 +38,8 @@ data TagStep (at : ℕ) (p : List ℕ) (b : ℕ) : Lexed → Type 0 where
   completes : {t : Token} {e : Event} → TagNext (t ∷ []) → Spelt t → p ++ (b ∷ []) ≡ spellToken t → TagStep at p b (tells between e)
   stops : TagStep at p b (goes (stopped at))
 
-name-snoc : (n : List ℕ) (b : ℕ) → T (isName n) → T (continuesName b) → length n < maxNameBytes → T (isName (n ++ (b ∷ [])))
-name-snoc [] b t u l = absurd t
-name-snoc (x ∷ n) b t u l =
-    let c = and-cases (startsName x) (allOf continuesName n && leb (length (x ∷ n)) maxNameBytes) t in
-    let d = and-cases (allOf continuesName n) (leb (length (x ∷ n)) maxNameBytes) (c .1) in
-    let e : length (n ++ (b ∷ [])) ≡ length n + 1 = length-append n (b ∷ []) in
-    and-intro (startsName x) (allOf continuesName (n ++ (b ∷ [])) && leb (length (x ∷ (n ++ (b ∷ [])))) maxNameBytes) (c .0)
-    (and-intro (allOf continuesName (n ++ (b ∷ []))) (leb (length (x ∷ (n ++ (b ∷ [])))) maxNameBytes) (all-snoc continuesName n b (d .0) u)
-    (le→leb (length (x ∷ (n ++ (b ∷ [])))) maxNameBytes (omega arith)))
-  where
-    all-snoc : (f : ℕ → Bool) (w : List ℕ) (y : ℕ) → T (allOf f w) → T (f y) → T (allOf f (w ++ (y ∷ [])))
-    all-snoc f [] y h k = and-intro (f y) true k tt
-    all-snoc f (z ∷ w) y h k = and-intro (f z) (allOf f (w ++ (y ∷ []))) (and-cases (f z) (allOf f w) h .0) (all-snoc f w y (and-cases (f z) (allOf f w) h .1) k)
-
 blank-snoc : (a : List ℕ) (b : ℕ) → T (allBlank a) → T (isBlank b) → T (allBlank (a ++ (b ∷ [])))
-blank-snoc [] b h k = and-intro (isBlank b) true k tt
-blank-snoc (x ∷ a) b h k =
-    let c = and-cases (isBlank x) (allBlank a) h in
-    and-intro (isBlank x) (allBlank (a ++ (b ∷ []))) (c .0) (blank-snoc a b (c .1) k)
-
-first-name : (b : ℕ) → T (startsName b) → T (isName (b ∷ []))
-first-name b t = and-intro (startsName b) true t tt
+blank-snoc a b h k = all-snoc isBlank a b h k
 
 tag-byte-step : (at b : ℕ) (n a : List ℕ) → T (isName n) → T (allBlank a) → TagStep at (0x3C ∷ (n ++ a)) b (tagByte at n b)
 tag-byte-step at b n a h k =
@@ -92,7 +73,7 @@ unfolding lex
 tag-step {at = at} k b after-bracket =
     cond-cases (TagStep at (0x3C ∷ []) b) (eqb b 0x2F) _ _
     (λ e. goes-on (subst (λ (c : ℕ). Pending (ending at) at (0x3C ∷ c ∷ [])) (sym (eqb→eq b 0x2F (passed e))) at-end))
-    (λ e. cond-cases (TagStep at (0x3C ∷ []) b) (startsName b) _ _ (λ f. goes-on (in-name (first-name b (passed f)))) (λ f. stops))
+    (λ e. cond-cases (TagStep at (0x3C ∷ []) b) (startsName b) _ _ (λ f. goes-on (in-name (one-byte-name b (passed f)))) (λ f. stops))
 tag-step {at = at} k b (in-name {n = n} h) =
     cond-cases (TagStep at (0x3C ∷ n) b) (continuesName b) _ _
     (λ e. longer-step at b (0x3C ∷ n) n (inName at (n ++ (b ∷ []))) (λ l. in-name (name-snoc n b h (passed e) l)))
@@ -105,7 +86,7 @@ tag-step {at = at} k b (after-slash {n = n} a h u) =
     ∙ ap (λ (c : ℕ). 0x3C ∷ (n ++ (a ++ (0x2F ∷ c ∷ [])))) (eqb→eq b 0x3E (passed e))))
     (λ e. stops)
 tag-step {at = at} k b at-end =
-    cond-cases (TagStep at (0x3C ∷ 0x2F ∷ []) b) (startsName b) _ _ (λ f. goes-on (in-end-name (first-name b (passed f)))) (λ f. stops)
+    cond-cases (TagStep at (0x3C ∷ 0x2F ∷ []) b) (startsName b) _ _ (λ f. goes-on (in-end-name (one-byte-name b (passed f)))) (λ f. stops)
 tag-step {at = at} k b (in-end-name {n = n} h) =
     cond-cases (TagStep at (0x3C ∷ 0x2F ∷ n) b) (continuesName b) _ _
     (λ e. longer-step at b (0x3C ∷ 0x2F ∷ n) n (inEndName at (n ++ (b ∷ []))) (λ l. in-end-name (name-snoc n b h (passed e) l)))
@@ -125,9 +106,9 @@ reading-after-tag k l xs bs t n s h e (misspelled j u v a m f p) =
     misspelled j (spellToken t ++ u) v (a-tag n s a) m (e ∙ ap (λ (w : List ℕ). spellToken t ++ w) f ∙ sym (append-assoc (spellToken t) u v)) (omega arith)
 
 some-event : {t : Token} (k : ℕ) (es : List Event) → TagNext (t ∷ []) → tokenEvents k t ++ es ≡ [] → ⊥
-some-event k es start-next e = let z : _≡_ {A = ℕ} 0 1 = cc in omega arith
-some-event k es empty-next e = let z : _≡_ {A = ℕ} 0 1 = cc in omega arith
-some-event k es end-next e = let z : _≡_ {A = ℕ} 0 1 = cc in omega arith
+some-event k es start-next e = never (cc)
+some-event k es empty-next e = never (cc)
+some-event k es end-next e = never (cc)
 
 -- where the lexer tells no event, no tag begins
 no-tag-here : (k : ℕ) (w : List ℕ) → eventsFrom between k (0x3C ∷ w) ≡ [] → (t : Token) (r : List ℕ) → TagNext (t ∷ []) → Spelt t → 0x3C ∷ w ≡ spellToken t ++ r → ⊥
@@ -280,7 +261,7 @@ extend-entity j c k bs h (data-misspelled i u v a m e g) =
 
 -- tokens whose spelling begins with `<` begin with a tag
 tag-first : {ts : List Token} (bs : List ℕ) → AllSpelt ts → 0x3C ∷ bs ≡ spell ts → TagNext ts
-tag-first bs all-none e = let z : _≡_ {A = ℕ} 0 1 = cc in absurd (omega arith)
+tag-first bs all-none e = never (cc)
 tag-first bs (tag start-next s a) e = start-next
 tag-first bs (tag empty-next s a) e = empty-next
 tag-first bs (tag end-next s a) e = end-next
@@ -311,7 +292,7 @@ section-reading j c k bs h l =
 
 in-tails : (b : ℕ) (w : List ℕ) (rests : List (List ℕ)) → In (b ∷ w) rests → In w (tailsWith b rests)
 in-tails b w [] i = elim i [ ]
-in-tails b w ([] ∷ ws) (here e) = let z : _≡_ {A = ℕ} 0 1 = cc in absurd (omega arith)
+in-tails b w ([] ∷ ws) (here e) = never (cc)
 in-tails b w ([] ∷ ws) (there i) = in-tails b w ws i
 in-tails b w ((c ∷ v) ∷ ws) (here e) =
     let p : c ≡ b = cc in
@@ -320,7 +301,7 @@ in-tails b w ((c ∷ v) ∷ ws) (here e) =
   where
     chosen : (t : Bool) → t ≡ true → w ≡ v → In w (cond t (v ∷ tailsWith b ws) (tailsWith b ws))
     chosen true e q = here q
-    chosen false e q = let z : _≡_ {A = ℕ} 0 1 = cc in absurd (omega arith)
+    chosen false e q = never (cc)
 in-tails b w ((c ∷ v) ∷ ws) (there i) = later (eqb b c) (in-tails b w ws i)
   where
     later : (t : Bool) → In w (tailsWith b ws) → In w (cond t (v ∷ tailsWith b ws) (tailsWith b ws))
@@ -462,11 +443,11 @@ no-entity-yet : NoneYet (0x26 ∷ [])
 no-entity-yet e r i q = by i q
   where
     by : {x : List ℕ} → Entity x → 0x26 ∷ [] ≡ x ++ r → ⊥
-    by lt z = let y : _≡_ {A = ℕ} 0 1 = cc in omega arith
-    by gt z = let y : _≡_ {A = ℕ} 0 1 = cc in omega arith
-    by amp z = let y : _≡_ {A = ℕ} 0 1 = cc in omega arith
-    by apos z = let y : _≡_ {A = ℕ} 0 1 = cc in omega arith
-    by quot z = let y : _≡_ {A = ℕ} 0 1 = cc in omega arith
+    by lt z = never (cc)
+    by gt z = never (cc)
+    by amp z = never (cc)
+    by apos z = never (cc)
+    by quot z = never (cc)
 
 data-claim : (bs : List ℕ) → Claims bs → (r : Run) (c j k b : ℕ) → j + c ≡ k → DataReading j (brackets c ++ (b ∷ bs)) (M (lex (inData r c) k b .mode) (suc k) bs)
 unfolding lex
@@ -631,7 +612,7 @@ no-tag-place : (j : ℕ) (w : List ℕ) {ms : List ℕ} → ((t : Token) (r : Li
 no-tag-place j w h (spelled a e) = absurd (by (tag-first w a e) a e)
   where
     by : {ts : List Token} → TagNext ts → AllSpelt ts → 0x3C ∷ w ≡ spell ts → ⊥
-    by no-token all-none e = let z : _≡_ {A = ℕ} 0 1 = cc in omega arith
+    by no-token all-none e = never (cc)
     by start-next (tag {t = t} {ts = ts} n s b) e = h t (spell ts) n s e
     by empty-next (tag {t = t} {ts = ts} n s b) e = h t (spell ts) n s e
     by end-next (tag {t = t} {ts = ts} n s b) e = h t (spell ts) n s e
@@ -653,7 +634,7 @@ no-entity-place : (j : ℕ) (w : List ℕ) {ms : List ℕ} → ((e r : List ℕ)
 no-entity-place j w h (data-spelled {ts = ts} p n t a e) = absurd (by p t e)
   where
     by : {x : List ℕ} {us : List Token} → Pieces x → TagNext us → 0x26 ∷ w ≡ x ++ spell us → ⊥
-    by no-piece no-token q = let y : _≡_ {A = ℕ} 0 1 = cc in omega arith
+    by no-piece no-token q = never (cc)
     by no-piece start-next q = different-first 0x26 0x3C w _ refl q
     by no-piece empty-next q = different-first 0x26 0x3C w _ refl q
     by no-piece end-next q = different-first 0x26 0x3C w _ refl q
@@ -701,7 +682,7 @@ unmisspelt-tokens lent e = by (claims-of lent .at-between 0) e
   where
     by : {ms : List ℕ} → Reading 0 lent ms → ms ≡ [] → (ts : List Token) × Tokens lent ts
     by (spelled {ts = ts} a f) z = (ts, record { spelt = a; joined = f })
-    by (misspelled j u v a m f p) z = let y : _≡_ {A = ℕ} 0 1 = cc in absurd (omega arith)
+    by (misspelled j u v a m f p) z = never (cc)
 
 -- Where the lexer finds a text misspelt, refusal 11 applies.
 pub misspelt-applies : (lent : List ℕ) (k : ℕ) → In k (misspeltAt (modeAfter between 0 lent)) → Misspelt lent k

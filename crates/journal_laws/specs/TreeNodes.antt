@@ -16,7 +16,7 @@ use Rattle.schema_spec.specs.Names.{element, text}
 use Rattle.schema_spec.specs.Schemas.{Schema, contentAt, isPcdata}
 use Rattle.table_laws.specs.Places.{at-before, at-end}
 use Rattle.table_spec.specs.Nodes.{Node, top, under, attachTo, nodeAt, nodesFrom, nodesOf}
-use Rattle.table_spec.specs.Rows.{Row}
+use Rattle.table_spec.specs.Rows.{Row, elementRow, textRow}
 use Rattle.text_spec.specs.Lists.{part}
 use Rattle.text_spec.specs.Refusals.{accepted}
 
@@ -100,7 +100,7 @@ module _ (journal : List ℕ) (s : Schema) where
       (under-nodes e f before parent next p a l (own .1))
     where
       r : Row
-      r = record { number = next; name = text e; parent = parent; start = k; size = length w }
+      r = textRow next e parent k (length w)
 
       y : Node
       y = under next (text e) w p
@@ -142,7 +142,7 @@ module _ (journal : List ℕ) (s : Schema) where
       inners : List Node
       inners = nodesUnder s i y (suc next) c
 
-      q : nodeAt journal before (record { number = next; name = element i; parent = parent; start = 0; size = 0 }) ≡ y
+      q : nodeAt journal before (elementRow next i parent) ≡ y
       q = ap (λ (o : Option Node). attachTo next (element i) [] o) a
 
       here : getElem? grown next ≡ some y
@@ -170,7 +170,7 @@ tree-nodes {journal = journal} {n = n} {c = c} s w =
     subst (λ (x : List ℕ). OwnBytes x (w .nested .forest)) (append-nil (spell (w .tokens)) ∙ sym (w .spelt .joined)) (own-bytes [] [] refl (w .nested .spelt)) in
     ap (λ (l : List Node). y ∷ l) (under-nodes journal s i c (y ∷ []) 0 1 y refl refl (root-own journal (w .nested .oneRoot) own))
 
--- "its rows are its nodes in document order with their own text"
+-- Demand 2: the rows of an accepted journal are its nodes in document order, with their own text.
 pub accepted-nodes : (limit : ℕ) (s : Schema) (journal : List ℕ) (rows : List Row) (e : readJournal limit s journal ≡ accepted rows)
     → nodesOf journal rows ≡ treeNodes s (accepted-valid limit s journal rows e .name) (accepted-valid limit s journal rows e .content)
 accepted-nodes limit s journal rows e =

@@ -21,6 +21,7 @@ use Rattle.journal_spec.specs.Tokens.{Token, startTag, emptyTag, endTag, charac
 use Rattle.schema_spec.specs.Schemas.{Schema, elementNamed}
 use Rattle.table_spec.specs.Rows.{Row}
 use Rattle.table_laws.specs.Places.{none-some}
+use Rattle.text_laws.specs.Lists.{is-none}
 use Rattle.text_laws.specs.Refusals.{in-given, given-in}
 use Rattle.text_spec.specs.Limits.{maxDepth, maxNodes}
 use Rattle.text_spec.specs.Lists.{isEmpty, isNone}
@@ -144,15 +145,11 @@ module _ (s : Schema) (j : ℕ) where
   begin-14 : (n : List ℕ) (k : ℕ) (b : Building) → Is14 (begin s n k b .faults) → Is14 (b .faults) ⊎ New n k
   begin-14 n k b i = by (append-cases (given (isNone (elementNamed s n)) (at undeclaredElement k)) i)
     where
-      named-none : (o : Option ℕ) → T (isNone o) → o ≡ none
-      named-none none t = refl
-      named-none (some x) t = absurd t
-
       by : Is14 (given (isNone (elementNamed s n)) (at undeclaredElement k))
           ⊎ Is14 (given (wrongRoot (b .opens) (elementNamed s n)) (at badContent k) ++ (given (leb maxNodes (b .count)) (at overNodeLimit k) ++ b .faults)) → Is14 (b .faults) ⊎ New n k
       by (inl x) =
           let g = given-in (isNone (elementNamed s n)) (at undeclaredElement k) (at undeclaredElement j) x in
-          inr (named-none (elementNamed s n) (g .0), ap (λ (f : Refusal). f .place) (g .1))
+          inr (is-none (elementNamed s n) (g .0), ap (λ (f : Refusal). f .place) (g .1))
       by (inr x) =
           inl (only-14 (leb maxNodes (b .count)) overNodeLimit k (b .faults) (λ e. omega arith)
           (only-14 (wrongRoot (b .opens) (elementNamed s n)) badContent k (given (leb maxNodes (b .count)) (at overNodeLimit k) ++ b .faults) (λ e. omega arith) x))

@@ -9,6 +9,7 @@ use lib.ListN.{length, length-append}
 use Rattle.journal_spec.specs.Conditions.{NestedBeginning, Begins, by-start-tag}
 use Rattle.journal_spec.specs.Tokens.{Token, startTag, emptyTag, endTag, characters, spellToken, spell, TagNext, no-token, start-next, empty-next, end-next, AllSpelt, none as all-none, tag, data-then, openAfter}
 use Rattle.journal_spec.specs.Trees.{Forest, nothing, data-node, element-node, Spells, no-tokens, data-next, empty-tag, tag-pair, OnlyBlanks, no-blanks, blanks, OneRoot, at-once, after-blanks, Nested}
+use Rattle.text_laws.specs.Tests.{never}
 use Rattle.text_spec.specs.Bytes.{allBlank}
 use Rattle.text_spec.specs.Limits.{maxDepth}
 
@@ -70,8 +71,8 @@ pub shallow-head : (d : ℕ) (t : Token) (ts : List Token) (n : List ℕ) → Sh
 shallow-head d t ts n h b = h [] ts t n refl b
 
 pub shallow-none : (d : ℕ) → ShallowFrom d []
-shallow-none d [] vs t n e b = let z : _≡_ {A = ℕ} 0 1 = cc in absurd (omega arith)
-shallow-none d (x ∷ us) vs t n e b = let z : _≡_ {A = ℕ} 0 1 = cc in absurd (omega arith)
+shallow-none d [] vs t n e b = never (cc)
+shallow-none d (x ∷ us) vs t n e b = never (cc)
 
 pub shallow-cons : (d : ℕ) (t : Token) (ts : List Token) → ((n : List ℕ) → Begins t n → d < maxDepth) → ShallowFrom (openAfter d (t ∷ [])) ts → ShallowFrom d (t ∷ ts)
 shallow-cons d t ts h k [] vs x n e b =
@@ -208,7 +209,7 @@ record Rooted (j : ℕ) (ts : List Token) : Type 0 where
   root : OneRoot forest place name content
 
 root-of : {ms : List (List ℕ)} {q : Bool} {ts : List Token} (j : ℕ) → Parted ts → Walks [] false ts ms q → ms ≡ [] → q ≡ true → Rooted j ts
-root-of j p stays e f = let z : _≡_ {A = ℕ} 0 1 = cc in absurd (omega arith)
+root-of j p stays e f = never (cc)
 root-of j (tag-part t p) (move (root-starts {n = n} {a = a}) w) e f = by (closes (j + length (spellToken (startTag n a))) p w e)
   where
     by : {ts : List Token} → Closes (j + length (spellToken (startTag n a))) (n ∷ []) ts → Rooted j (startTag n a ∷ ts)

@@ -7,9 +7,8 @@ use lib.Dec.{eqb, leb, ltb}
 use lib.ListN.{length}
 use Rattle.journal_spec.specs.Lexer.{Event, quiet, starts, empties, ends, runs, Run}
 use Rattle.schema_spec.specs.Models.{Content, empty, pcdata, children, Progress, started, advance, complete}
-use Rattle.schema_spec.specs.Names.{element, text}
 use Rattle.schema_spec.specs.Schemas.{Schema, elementNamed, contentAt}
-use Rattle.table_spec.specs.Rows.{Row}
+use Rattle.table_spec.specs.Rows.{Row, elementRow, textRow}
 use Rattle.text_spec.specs.Limits.{maxDepth, maxNodes, maxTextBytes}
 use Rattle.text_spec.specs.Lists.{isEmpty, isNone, valueOr, sameBytes}
 use Rattle.text_spec.specs.Refusals.{Refusal, at, given, badNesting, overDepth, undeclaredElement, badContent, overNodeLimit}
@@ -109,7 +108,7 @@ begin s n k b =
     (record { name = n; place = k; row = b .count; filling = fillingFor s e } ∷ refill (withChild e) (b .opens))
     true
     (given (isNone e) (at undeclaredElement k) ++ (given (wrongRoot (b .opens) e) (at badContent k) ++ (given (leb maxNodes (b .count)) (at overNodeLimit k) ++ b .faults)))
-    (record { number = b .count; name = element (valueOr 0 e); parent = parentRow (b .opens); start = 0; size = 0 } ∷ b .rows)
+    (elementRow (b .count) (valueOr 0 e) (parentRow (b .opens)) ∷ b .rows)
     (suc (b .count))
 
 abbrev pub onStart : Schema → List ℕ → ℕ → Building → Building
@@ -138,7 +137,7 @@ abbrev pub textNode : Filling → Run → ℕ → ℕ → Building → Building
 textNode (filledByText e) r size parent b =
     building (b .opens) (b .rooted)
     (given (ltb maxTextBytes size || leb maxNodes (b .count)) (at overNodeLimit (r .start)) ++ b .faults)
-    (record { number = b .count; name = text e; parent = parent; start = r .start; size = size } ∷ b .rows)
+    (textRow (b .count) e parent (r .start) size ∷ b .rows)
     (suc (b .count))
 textNode unjudged r size parent b = b
 textNode misfit r size parent b = b
@@ -163,6 +162,6 @@ onUnbroken s (empties n k) b =
     cond (isNone (c .broken)) (onEnd n k c) c
 onUnbroken s (runs r size) b = onRun r size b
 
--- "Nothing from the first tag that opens depth 65 on counts": after 12 or 13 no event does
+-- "Nothing from the first tag that opens depth 65 on counts here", and after 12 nothing more can: after 12 or 13 no event does
 unfoldable pub onEvent : Schema → Event → Building → Building
 onEvent s e b = cond (isNone (b .broken)) (onUnbroken s e b) b

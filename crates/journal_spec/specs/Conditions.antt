@@ -104,8 +104,8 @@ pub data JournalApplies (limit : ℕ) (s : Schema) (text : List ℕ) : Reason �
 pub data JournalGives (s : Schema) (text : List ℕ) : List Row → Type 0 where
   gives : {k : ℕ} {n : List ℕ} {c : Forest} → WellFormedText text k n c → JournalGives s text (treeRows s n c)
 
--- "A journal is accepted exactly when it is within limits, well formed and valid; its rows are its nodes in document order": the tree that
--- the text spells, and what it meets.
+-- Demand 2: a journal is accepted exactly when it is within limits, well formed and valid, and its rows are its nodes in document order. Here
+-- are the tree that the text spells, and what it meets.
 pub record ValidJournal (limit : ℕ) (s : Schema) (text : List ℕ) (rows : List Row) : Type 0 where
   pub place : ℕ
   pub name : List ℕ

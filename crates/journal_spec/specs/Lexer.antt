@@ -108,7 +108,7 @@ lex (inEndName at n) k b = cond (continuesName b) (goes (longer n at (inEndName 
 lex (afterEndName at n) k b = endTagByte at n b
 lex (stopped at) k b = goes (stopped at)
 
--- At the end a run is whole; "a tag or entity cut off by the end" is misspelt at its first byte.
+-- At the end a run is whole; a tag or an entity that the end cuts off is misspelt at its first byte.
 abbrev pub lastEvent : Mode → ℕ → Event
 lastEvent (inData r brackets) k = runs r (k - r .start)
 lastEvent between k = quiet

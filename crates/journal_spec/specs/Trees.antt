@@ -8,7 +8,7 @@ use Rattle.journal_spec.specs.Tokens.{Token, startTag, emptyTag, endTag,
 use Rattle.schema_spec.specs.Names.{element, text}
 use Rattle.schema_spec.specs.Schemas.{Schema, elementNamed, contentAt, isPcdata}
 use Rattle.table_spec.specs.Nodes.{Node, top, under}
-use Rattle.table_spec.specs.Rows.{Row}
+use Rattle.table_spec.specs.Rows.{Row, elementRow, textRow}
 use Rattle.text_spec.specs.Bytes.{allBlank}
 use Rattle.text_spec.specs.Lists.{valueOr}
 
@@ -57,10 +57,11 @@ height nothing = 0
 height (data-node k w f) = height f
 height (element-node k n c f) = max (suc (height c)) (height f)
 
--- how many nodes a forest makes under an element: "in `(#PCDATA)` the whole non-empty text is one node", elsewhere text makes none
+-- the element with a name; an undeclared one gets index 0, which is never seen: refusal 14 applies
 abbrev pub indexOf : Schema → List ℕ → ℕ
 indexOf s n = valueOr 0 (elementNamed s n)
 
+-- how many nodes a forest makes under an element: "in `(#PCDATA)` the whole non-empty text is one node", elsewhere text makes none
 abbrev pub countIn : Schema → ℕ → Forest → ℕ
 countIn s e nothing = 0
 countIn s e (data-node k w f) = cond (isPcdata (contentAt s e)) (suc (countIn s e f)) (countIn s e f)
@@ -88,17 +89,17 @@ abbrev pub rowsUnder : Schema → ℕ → ℕ → ℕ → Forest → List Row
 rowsUnder s e parent next nothing = []
 rowsUnder s e parent next (data-node k w f) =
     cond (isPcdata (contentAt s e))
-    (record { number = next; name = text e; parent = parent; start = k; size = length w } ∷ rowsUnder s e parent (suc next) f)
+    (textRow next e parent k (length w) ∷ rowsUnder s e parent (suc next) f)
     (rowsUnder s e parent next f)
 rowsUnder s e parent next (element-node k n c f) =
     let i = indexOf s n in
-    record { number = next; name = element i; parent = parent; start = 0; size = 0 }
+    elementRow next i parent
     ∷ (rowsUnder s i next (suc next) c ++ rowsUnder s e parent (suc next + countIn s i c) f)
 
 unfoldable pub treeRows : Schema → List ℕ → Forest → List Row
 treeRows s n c =
     let i = indexOf s n in
-    record { number = 0; name = element i; parent = 0; start = 0; size = 0 } ∷ rowsUnder s i 0 1 c
+    elementRow 0 i 0 ∷ rowsUnder s i 0 1 c
 
 -- where each node begins and, of a text, how many raw bytes it has (0 for an element)
 pub record NodeStart : Type 0 where

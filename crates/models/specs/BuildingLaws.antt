@@ -18,8 +18,8 @@ use Rattle.schema_spec.specs.Models.{Particle, named, sequence, choice, repeate
 use Rattle.schema_spec.specs.Names.{hasBit}
 use Rattle.text_spec.specs.Limits.{maxModelNames}
 use Rattle.words.specs.Bits.{bit-none, bit-or}
-use Rattle.words.specs.Loops.{Passed}
-use Rattle.words.specs.Searches.{below-or-past}
+use Rattle.text_laws.specs.Loops.{Passed}
+use Rattle.text_laws.specs.Searches.{below-or-past}
 
 pub named-ends : (p w : ℕ) → ((j : ℕ) → hasBit w j ≡ (hasBit 0 j || (eqb j p && ltb p maxModelNames))) → p < maxModelNames → (a : ℕ)
     → EndsOf p (named a) (record { first = w; last = w; nullable = false })

@@ -14,8 +14,8 @@ use Rattle.models.specs.Positions.{size}
 use Rattle.models.specs.declared.Ends.{Ends}
 use Rattle.schema_spec.specs.Models.{Particle, named, sequence, choice, repeated}
 use Rattle.schema_spec.specs.Names.{hasBit}
+use Rattle.text_laws.specs.Searches.{below-or-past}
 use Rattle.text_spec.specs.Limits.{maxModelNames}
-use Rattle.words.specs.Searches.{below-or-past}
 
 -- nothing is linked from position k on
 abbrev pub Clear : ℕ → List ℕ → Type 0

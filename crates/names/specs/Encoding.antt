@@ -16,10 +16,10 @@ use Rattle.schema_laws.specs.Words.{Coded, schema-coded, word-has, has-word, wo
 use Rattle.schema_spec.specs.Names.{Name, Names, element, text, has, namesOf, codeOf, hasBit, setOfWord, wordOfSet}
 use Rattle.schema_spec.specs.Schemas.{Schema}
 use Rattle.text_laws.specs.Lists.{filter-cong}
-use Rattle.text_laws.specs.Tests.{decided, true-of, false-of}
+use Rattle.text_laws.specs.Tests.{decided, true-of, false-of, same-test}
 use Rattle.text_spec.specs.Limits.{maxDeclarations}
 use Rattle.words.specs.Bits.{bit-or, bit-past, bit-down, bit-up, bit-up-below, bit-cut, bit-cut-past, same-bits}
-use Rattle.words.specs.Searches.{same-test, below-or-past}
+use Rattle.text_laws.specs.Searches.{below-or-past}
 
 -- the two words of a set that is handed in
 abbrev pub split : ℕ → NameSet

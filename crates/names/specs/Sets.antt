@@ -7,8 +7,7 @@ use Rattle.schema_spec.specs.Models.{pcdata}
 use Rattle.schema_spec.specs.Names.{Name, Names, element, text, namesOf, hasBit}
 use Rattle.schema_spec.specs.Schemas.{Schema}
 use Rattle.text_spec.specs.Limits.{maxDeclarations}
-use Rattle.text_spec.specs.Lists.{filterBy}
-use Rattle.words.specs.Searches.{anyBelow}
+use Rattle.text_spec.specs.Lists.{filterBy, anyBelow}
 
 -- bit e of `elements` stands for element e, bit e of `texts` for its text name
 abbrev pub member : NameSet → Name → Bool

@@ -2,7 +2,7 @@
 use mathlib.Core.Bool.{Bool, _||_}
 use mathlib.Core.List.{List, [], _∷_, _++_, map, List·Memᴰ as In, List·Memᴰ·head as here, List·Memᴰ·tail as there, List·Memᴰ·append-cases as append-cases, Memᴰ·append-left as append-left, Memᴰ·append-right as append-right}
 use mathlib.Core.Logic.{_⊎_, inl, inr, ⊎-elim}
-use mathlib.Core.Option.{Option, none, some}
+use mathlib.Core.Option.{Option}
 use mathlib.Core.Path.{_≡_, refl, sym, ap, subst, _∙_}
 use Prim.Native.Nat.{ℕ, suc, _+_}
 use native.Mathlib.Nat.{add-zero}
@@ -20,7 +20,7 @@ use Rattle.path_spec.specs.Reading.{passesLimit, limitRefusals, undeclaredPlace
 use Rattle.schema_spec.specs.Declarations.{Use}
 use Rattle.schema_spec.specs.Schemas.{Schema, elementNamed}
 use Rattle.text_laws.specs.Departures.{departs-once, departs-not}
-use Rattle.text_laws.specs.Lists.{any-in, in-any, in-filter, filter-in, in-gather, gather-in, in-map, map-in}
+use Rattle.text_laws.specs.Lists.{any-in, in-any, in-filter, filter-in, in-gather, gather-in, in-map, map-in, is-none}
 use Rattle.text_laws.specs.Order.{Listed, judged-first, judged-once, listed-left, listed-right}
 use Rattle.text_laws.specs.Refusals.{in-given, given-in}
 use Rattle.text_laws.specs.Tests.{or-left, or-right, or-cases}
@@ -139,10 +139,6 @@ limits-found ps = record { sound = to; complete = from }
         (in-limits 0 (s .before) (s .here) (s .after) (subst (λ (j : ℕ). TooMuch j (s .here)) (omega (arith, s .placed)) t))
 
 -- ---- refusal 10
-none-of : (o : Option ℕ) → T (isNone o) → o ≡ none
-none-of none t = refl
-none-of (some x) t = absurd t
-
 pub undeclared-found : (s : Schema) (ps : List PathRead) → Found undeclaredInPath (allAt undeclaredInPath (undeclaredPlaces s ps)) (Undeclared s ps)
 undeclared-found s ps = all-found undeclaredInPath (undeclaredPlaces s ps) to from
   where
@@ -157,7 +153,7 @@ undeclared-found s ps = all-found undeclaredInPath (undeclaredPlaces s ps) to fr
         let r = map-in (λ (u : Use). u .place) (filterBy isUndeclared (gather usesOf ps)) m in
         let f = filter-in isUndeclared (gather usesOf ps) (r .1) in
         let g = gather-in usesOf ps (f .0) in
-        subst (Undeclared s ps) (sym (r .2)) (undeclared (g .0) (r .0) (g .1) (g .2) (none-of (elementNamed s (r .0 .name)) (f .1)))
+        subst (Undeclared s ps) (sym (r .2)) (undeclared (g .0) (r .0) (g .1) (g .2) (is-none (elementNamed s (r .0 .name)) (f .1)))
 
     from : (k : ℕ) → Undeclared s ps k → In k (undeclaredPlaces s ps)
     from k (undeclared p u m n e) =

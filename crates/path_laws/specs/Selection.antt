@@ -2,20 +2,20 @@
 use mathlib.Core.Bool.{Bool, true, false, cond, not, _&&_}
 use mathlib.Core.List.{List, [], _∷_, _++_, map, List·Memᴰ as In, List·Memᴰ·head as here, List·Memᴰ·tail as there, List·Memᴰ·eq-of-singleton as of-singleton, Sublistᴰ, Sublistᴰ·slnil, Sublistᴰ·cons, Sublistᴰ·cons-cons, Pairwise, Pairwise·nil, Pairwise·cons, Pairwise·sublistᴰ, List·Nodup}
 use mathlib.Core.Logic.{⊎-elim, ∥∥₁-elim}
-use mathlib.Core.Option.{Option, none, some}
 use mathlib.Core.Path.{_≡_, refl, sym, ap, subst, _∙_}
 use Prim.Native.Nat.{ℕ, suc, _<_}
 use native.Mathlib.Bridge.{le-prop}
 use native.Mathlib.Omega.{arith}
 use lib.Dec.{T, eqb→eq, eqb-refl}
 use lib.ListN.{getElem?}
+use Rattle.table_laws.specs.Fits.{attached-number}
 use Rattle.table_laws.specs.Nodes.{nodes-equal, nodes-same, parent-edge, edge-parent, test-above, above-test}
 use Rattle.path_spec.specs.Paths.{Axis, self, child, descendant, descendantOrSelf, parent, ancestor, ancestorOrSelf, WrittenAxis, along, NodeTest, named, anyNode, anyText, WrittenStep, PlainStep, Condition, LocationPath}
 use Rattle.path_spec.specs.Selection.{NodeSet, Passes, passes-name, passes-node, passes-text, OnAxis, on-self, on-child, on-descendant, here-or-below, below-or-here, on-parent, on-ancestor, here-or-above, above-or-here, OnWritten, on-along, StepSet, PathSet, Always, Only, Holds, no-condition, alternative, Selected, passes, onAxis, onWritten, stepFrom, pathFrom, always, holdsAt, selected, select, selectRows}
 use Rattle.schema_spec.specs.Names.{Name, element, text}
 use Rattle.schema_spec.specs.Types.{Types}
 use Rattle.table_spec.specs.Conditions.{RowAt, WellFormed}
-use Rattle.table_spec.specs.Nodes.{Node, attachTo, nodeAt, nodesFrom, nodesOf, numberOf, nameOf, isTop, same, isAbove}
+use Rattle.table_spec.specs.Nodes.{Node, nodeAt, nodesFrom, nodesOf, numberOf, nameOf, isTop, same, isAbove}
 use Rattle.table_spec.specs.Rows.{Row, textOf}
 use Rattle.text_laws.specs.Lists.{any-in, in-any, in-filter, filter-in, member-fills}
 use Rattle.text_laws.specs.Tests.{or-left, or-right, or-cases, and-intro, and-cases, not-intro}
@@ -181,15 +181,11 @@ unfolding select
 select-rises doc p r = Pairwise·sublistᴰ (sublist-map numberOf (selected-in-order doc p)) r
 
 -- ---- on a table
-node-numbered : (k : ℕ) (n : Name) (w : List ℕ) (p : Option Node) → numberOf (attachTo k n w p) ≡ k
-node-numbered k n w none = refl
-node-numbered k n w (some p) = refl
-
 nodes-from-numbered : (lent : List ℕ) (before : List Node) (rows : List Row) → map numberOf (nodesFrom lent before rows) ≡ map (λ r. r .number) rows
 nodes-from-numbered lent before [] = refl
 nodes-from-numbered lent before (r ∷ rows) =
     let y = nodeAt lent before r in
-    ap (λ (k : ℕ). k ∷ map numberOf (nodesFrom lent (before ++ (y ∷ [])) rows)) (node-numbered (r .number) (r .name) (textOf lent r) (getElem? before (r .parent)))
+    ap (λ (k : ℕ). k ∷ map numberOf (nodesFrom lent (before ++ (y ∷ [])) rows)) (attached-number (r .number) (r .name) (textOf lent r) (getElem? before (r .parent)))
     ∙ ap (λ (l : List ℕ). r .number ∷ l) (nodes-from-numbered lent (before ++ (y ∷ [])) rows)
 
 pub nodes-numbered : (lent : List ℕ) (rows : List Row) → map numberOf (nodesOf lent rows) ≡ map (λ r. r .number) rows

@@ -17,7 +17,7 @@ use Rattle.projection_laws.specs.Rows.{bare, bare-kept, bare-node, bare-
 use Rattle.schema_spec.specs.Names.{Name, Names, element, text, has, isText}
 use Rattle.schema_spec.specs.Types.{Types}
 use Rattle.table_spec.specs.Nodes.{Node, top, under, nameOf, numberOf, same, Edge, edge, Above, parent, higher, isAbove, attachTo, nodeAt, nodesFrom, nodesOf}
-use Rattle.table_spec.specs.Rows.{Row, textOf}
+use Rattle.table_spec.specs.Rows.{Row, textOf, withParent}
 use Rattle.table_spec.specs.Tables.{parentOpen, parentHolds, sameParent, firstText, textFits, rowFits, laterRows, wellFormed, textInside, wellFormedWith}
 use Rattle.text_laws.specs.Lists.{filter-append, filter-in, any-in, in-any}
 use Rattle.text_laws.specs.Tests.{or-left, or-right, or-cases, and-intro, and-cases, not-intro, not-elim, passed}
@@ -54,7 +54,7 @@ bare-count set i before =
 
 bare-renumbered : (set : Names) (before : List Node) (r : Row) → renumbered set (map bare before) r ≡ renumbered set before r
 bare-renumbered set before r =
-    ap (λ (i : ℕ). record { number = r .number; name = r .name; parent = i; start = r .start; size = r .size }) (bare-count set (r .parent) before)
+    ap (λ (i : ℕ). withParent i r) (bare-count set (r .parent) before)
 
 -- ---- the nodes of the cut rows are the kept nodes
 nodes-cut : (s : Types) (set : Names) (lent : List ℕ) (before : List Node) (rs : List Row) → Grown s lent before rs

@@ -7,8 +7,8 @@ use Prim.Native.Nat.{ℕ}
 use lib.Dec.{T, eqb, eqb→eq, eqb-refl, leb, leb→le, le→leb}
 use lib.ListN.{length}
 use Rattle.projection_spec.specs.Library.Conditions.{EqualSizes, equal-sizes, TableHanded}
-use Rattle.projection_spec.specs.Library.Lent.{Sizes, Columns, sizesOf, equalSizes}
-use Rattle.projection_spec.specs.Library.Records.{cellsFrom, passesRows, passesTable}
+use Rattle.table_spec.specs.Columns.{Sizes, Columns, sizesOf, equalSizes, cellsFrom}
+use Rattle.projection_spec.specs.Library.Records.{passesRows, passesTable}
 use Rattle.schema_spec.specs.Schemas.{Schema}
 use Rattle.schema_spec.specs.Types.{Types, typesOf}
 use Rattle.table_laws.specs.WellFormed.{well-formed-beside}

@@ -1,12 +1,12 @@
 -- The two host functions' outcomes are what document 01 says: 1 before any text, the texts in turn, 18 last. Assumes nothing.
 use mathlib.Core.Bool.{Bool, true, false, not, _&&_, _||_}
 use mathlib.Core.List.{List, [], _∷_}
-use mathlib.Core.Logic.{_⊎_, inl, inr, ⊎-elim}
+use mathlib.Core.Logic.{inl, inr, ⊎-elim}
 use mathlib.Core.Option.{some}
 use mathlib.Core.Path.{_≡_, refl, sym, ap, subst, _∙_}
 use Prim.Native.Nat.{ℕ, zero, suc, _<_}
 use native.Mathlib.Omega.{arith}
-use lib.Dec.{T, leb, ltb, leb→le, ltb→lt, lt→ltb, nleb→lt}
+use lib.Dec.{T, leb, leb→le, ltb→lt, lt→ltb, nleb→lt}
 use lib.ListN.{length, getElem?}
 use Rattle.journal_laws.specs.Judging.{journal-judged}
 use Rattle.journal_spec.specs.Conditions.{JournalApplies, JournalGives}
@@ -25,7 +25,8 @@ use Rattle.projection_laws.specs.TextNames.{text-names}
 use Rattle.projection_spec.specs.Library.Conditions as conditions
 use Rattle.projection_spec.specs.Library.Conditions.{SchemaTaken, BundleTaken, EqualSizes, TooFewCells, Makes, makes, OutOfRange, never, not-here, Selects, selects}
 use Rattle.projection_spec.specs.Library.Hosts.{Answer, answer, extractOf, tested, inCells, makeExtract, pathsOf, inRange, pathOr, pathAt, selectFrom}
-use Rattle.projection_spec.specs.Library.Lent.{Sizes, equalSizes, tooSmall}
+use Rattle.table_spec.specs.Columns.{Sizes, equalSizes}
+use Rattle.text_spec.specs.Cells.{tooSmall}
 use Rattle.schema_reading_laws.specs.Reading.{schema-read, schema-read-once}
 use Rattle.schema_spec.specs.Conditions.{SchemaApplies, SchemaGives}
 use Rattle.schema_spec.specs.Reading.{readSchema}

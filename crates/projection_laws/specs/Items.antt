@@ -9,7 +9,7 @@ use Rattle.projection_spec.specs.Extracts.Reading.{Item, elementItem, textItem,
 use Rattle.projection_laws.specs.Fields.{element-read, text-read}
 use Rattle.projection_laws.specs.Opens.{placed}
 use Rattle.schema_spec.specs.Names.{element, text, Name}
-use Rattle.table_spec.specs.Rows.{Row}
+use Rattle.table_spec.specs.Rows.{Row, row}
 use Rattle.text_spec.specs.Lists.{gather}
 
 -- What a row's field says, the row that is read from it, and the rows that are then open: one choice by the name.
@@ -30,7 +30,7 @@ opensAfter (element e) next number os = placed next number e ∷ os
 opensAfter (text e) next number os = os
 
 abbrev pub rowAt : Name → ℕ → ℕ → ℕ → ℕ → Row
-rowAt n k number parent size = record { number = number; name = n; parent = parent; start = startAt n k; size = sizeAt n size }
+rowAt n k number parent size = row number n parent (startAt n k) (sizeAt n size)
 
 -- a row's field read, and what follows it
 pub field-item : (n : Name) (fuel k number parent : ℕ) (w rest : List ℕ) → number < 65536 → parent < 65536 → length w < 65532

@@ -15,7 +15,7 @@ use Rattle.schema_spec.specs.Names.{element, text, Name, isText}
 use Rattle.schema_spec.specs.Types.{Types}
 use Rattle.table_laws.specs.Fits.{row-fits, rooted, cellsFit}
 use Rattle.table_spec.specs.Nodes.{Node, top, nodeAt}
-use Rattle.table_spec.specs.Rows.{Row, textOf}
+use Rattle.table_spec.specs.Rows.{Row, textOf, withStart}
 use Rattle.table_spec.specs.Tables.{wellFormed, textFits, rowFits, laterRows as laterFit, textInside}
 use Rattle.text_laws.specs.Tests.{true-of, and-cases, and-intro, or-right}
 use Rattle.text_spec.specs.Bytes.{isForeign}
@@ -44,7 +44,7 @@ has-text (text e) lent r q cells inside =
 
 -- a row with its text's place moved, and rows that start so at their fields' places
 abbrev pub restart : ℕ → Row → Row
-restart k r = record { number = r .number; name = r .name; parent = r .parent; start = startAt (r .name) k; size = r .size }
+restart k r = withStart (startAt (r .name) k) r
 
 abbrev pub restarted : (Row → List ℕ) → ℕ → List Row → List Row
 restarted f k [] = []

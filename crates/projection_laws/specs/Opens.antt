@@ -16,7 +16,7 @@ use Rattle.table_laws.specs.Nodes.{nodes-equal}
 use Rattle.table_laws.specs.Places.{none-some, at-before, at-only, at-before-or-end}
 use Rattle.table_spec.specs.Nodes.{Node, top, under, numberOf, nameOf, same, isAbove}
 use Rattle.table_spec.specs.Rows.{Row}
-use Rattle.text_laws.specs.Tests.{or-cases, cond-true, cond-false}
+use Rattle.text_laws.specs.Tests.{or-cases, cond-true, cond-false, never}
 
 abbrev pub placed : ℕ → ℕ → ℕ → Placed
 placed i k e = record { row = i; number = k; element = e }
@@ -99,7 +99,7 @@ pub record Reached (done : List Row) (before : List Node) (previous : Node) (os 
 pub row-of-node : (done : List Row) (before : List Node) → map numberOf before ≡ map numberOfRow done → (i : ℕ) (x : Node) → getElem? before i ≡ some x
     → (q : Row) × (getElem? done i ≡ some q) × (q .number ≡ numberOf x)
 row-of-node done [] e i x g = none-some g
-row-of-node [] (y ∷ before) e i x g = let z : _≡_ {A = ℕ} 0 1 = cc in absurd (omega arith)
+row-of-node [] (y ∷ before) e i x g = never (cc)
 row-of-node (r ∷ done) (y ∷ before) e zero x g = (r, refl, cc)
 row-of-node (r ∷ done) (y ∷ before) e (suc i) x g = row-of-node done before (cc) i x g
 

@@ -19,7 +19,7 @@ use Rattle.projection_spec.specs.Inference.Needed.{needed}
 use Rattle.projection_laws.specs.Listing.{chosen-nodes, chosen-lines}
 use Rattle.projection_laws.specs.Numbers.{nodes-count}
 use Rattle.projection_spec.specs.Library.Conditions.{SchemaTaken, BundleTaken, JournalTaken, Prints, schema-refused, bundle-refused, journal-refused, too-many-rows, lists}
-use Rattle.projection_spec.specs.Library.Lent.{tooSmall}
+use Rattle.text_spec.specs.Cells.{tooSmall}
 use Rattle.projection_spec.specs.Library.Listing.{Listed, listed, judgeFiles, selectedNodes, lineOf, header, headerOf, printed, listing}
 use Rattle.schema_reading_laws.specs.Reading.{schema-read}
 use Rattle.schema_spec.specs.Conditions.{SchemaApplies, SchemaGives}

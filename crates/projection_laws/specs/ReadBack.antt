@@ -9,13 +9,14 @@ use lib.Dec.{T, eqb, leb, eqb→eq, leb→le}
 use lib.ListN.{length, take, drop, getElem?, length-append, take-append-drop}
 use lib.Seq.{length-take-le}
 use Rattle.projection_spec.specs.Extracts.Fields.{elementTag, textTag, countTag, twoBytes, field, numberAt, fieldOf}
-use Rattle.projection_spec.specs.Extracts.Reading.{Item, elementItem, textItem, countItem, noItem, inTwo, elementValue, textValue, countValue, itemOf, itemsFrom, Placed, openFrom, topRow, topElement, consRow, elementRow, textRow, laterRows, rowsOfItems}
+use Rattle.projection_spec.specs.Extracts.Reading.{Item, elementItem, textItem, countItem, noItem, inTwo, elementValue, textValue, countValue, itemOf, itemsFrom, Placed, openFrom, topRow, topElement, consRow, laterRows, rowsOfItems}
 use Rattle.projection_laws.specs.Fields.{AreBytes, two-bytes-written, text-cut}
 use Rattle.projection_laws.specs.Items.{opensAfter, rowAt, restWritten}
 use Rattle.projection_laws.specs.Opens.{placed}
 use Rattle.schema_spec.specs.Names.{element, text, Name}
 use Rattle.table_laws.specs.Places.{none-some, at-before, at-end}
-use Rattle.table_spec.specs.Rows.{Row}
+use Rattle.table_spec.specs.Rows.{Row, elementRow, textRow}
+use Rattle.text_laws.specs.Tests.{never}
 use Rattle.text_spec.specs.Lists.{gather, isEmpty, part}
 
 -- what a tag and a value say
@@ -79,7 +80,7 @@ Known done os = (q : Placed) → In q os → (r : Row) × (getElem? done (q .row
 
 open-from : (number : ℕ) (os : List Placed) (q : Placed) (qs : List Placed) → openFrom number os ≡ q ∷ qs
     → (q .number ≡ number) × ((p : Placed) → In p (q ∷ qs) → In p os)
-open-from number [] q qs e = let z : _≡_ {A = ℕ} 0 1 = cc in absurd (omega arith)
+open-from number [] q qs e = never (cc)
 open-from number (o ∷ os) q qs e = pick (eqb (o .number) number) (eqb→eq (o .number) number) e (open-from number os q qs)
   where
     pick : (b : Bool) → (T b → o .number ≡ number) → cond b (o ∷ os) (openFrom number os) ≡ q ∷ qs
@@ -127,7 +128,7 @@ element-under : (k number parent size next e : ℕ) (os : List Placed) (items : 
 element-under k number parent size next e os items rs r = under-read (λ q. element e) k number parent size next os items rs (same (openFrom parent os) ∙ r)
   where
     same : (x : List Placed) → consedUnder (λ q. element e) k number size next items x
-        ≡ cond (isEmpty x) none (consRow (elementRow number (topRow x) e) (laterRows (suc next) (placed next number e ∷ x) items))
+        ≡ cond (isEmpty x) none (consRow (elementRow number e (topRow x)) (laterRows (suc next) (placed next number e ∷ x) items))
     same [] = refl
     same (q ∷ qs) = refl
 
@@ -137,7 +138,7 @@ text-under : (k number parent size next : ℕ) (os : List Placed) (items : List 
 text-under k number parent size next os items rs r = under-read (λ q. text (q .element)) k number parent size next os items rs (same (openFrom parent os) ∙ r)
   where
     same : (x : List Placed) → consedUnder (λ q. text (q .element)) k number size next items x
-        ≡ cond (isEmpty x) none (consRow (textRow number (topRow x) (topElement x) (k + 3 + 4) size) (laterRows (suc next) x items))
+        ≡ cond (isEmpty x) none (consRow (textRow number (topElement x) (topRow x) (k + 3 + 4) size) (laterRows (suc next) x items))
     same [] = refl
     same (q ∷ qs) = refl
 
@@ -243,13 +244,13 @@ cut-first fuel k (tag ∷ high ∷ low ∷ bs) = pick (leb n (length bs)) (leb�
 
 no-items : (fuel k : ℕ) (cur : List ℕ) → itemsFrom fuel k cur ≡ [] → cur ≡ []
 no-items zero k [] e = refl
-no-items zero k (tag ∷ bs) e = let z : _≡_ {A = ℕ} 0 1 = cc in absurd (omega arith)
+no-items zero k (tag ∷ bs) e = never (cc)
 no-items (suc fuel) k cur e = pick (cut-first fuel k cur) e
   where
     pick : {items : List Item} → Cut fuel k cur items → items ≡ [] → cur ≡ []
     pick (ended q) u = q
-    pick broken u = let z : _≡_ {A = ℕ} 0 1 = cc in absurd (omega arith)
-    pick (cut tag high low value rest q l) u = let z : _≡_ {A = ℕ} 0 1 = cc in absurd (omega arith)
+    pick broken u = never (cc)
+    pick (cut tag high low value rest q l) u = never (cc)
 
 module _ (full : List ℕ) (all : List Row) where
   -- the bytes after a field, where they are written back wherever they stand
@@ -285,16 +286,16 @@ module _ (full : List ℕ) (all : List Row) where
 
 -- what the root's field turned into
 root-read : (number parent e : ℕ) (items : List Item) (all : List Row) → rowsOfItems (elementItem number parent e ∷ items) ≡ some all
-    → (rs : List Row) × (parent ≡ 0) × (all ≡ elementRow number 0 e ∷ rs) × (laterRows 1 (placed 0 number e ∷ []) items ≡ some rs)
+    → (rs : List Row) × (parent ≡ 0) × (all ≡ elementRow number e 0 ∷ rs) × (laterRows 1 (placed 0 number e ∷ []) items ≡ some rs)
 root-read number parent e items all read = by-parent (eqb parent 0) (eqb→eq parent 0) read
   where
-    by-later : (o : Option (List Row)) → laterRows 1 (placed 0 number e ∷ []) items ≡ o → parent ≡ 0 → consRow (elementRow number 0 e) o ≡ some all
-        → (rs : List Row) × (parent ≡ 0) × (all ≡ elementRow number 0 e ∷ rs) × (laterRows 1 (placed 0 number e ∷ []) items ≡ some rs)
+    by-later : (o : Option (List Row)) → laterRows 1 (placed 0 number e ∷ []) items ≡ o → parent ≡ 0 → consRow (elementRow number e 0) o ≡ some all
+        → (rs : List Row) × (parent ≡ 0) × (all ≡ elementRow number e 0 ∷ rs) × (laterRows 1 (placed 0 number e ∷ []) items ≡ some rs)
     by-later none l p u = none-some u
     by-later (some rs) l p u = (rs, p, cc, l)
 
-    by-parent : (b : Bool) → (T b → parent ≡ 0) → cond b (consRow (elementRow number 0 e) (laterRows 1 (placed 0 number e ∷ []) items)) none ≡ some all
-        → (rs : List Row) × (parent ≡ 0) × (all ≡ elementRow number 0 e ∷ rs) × (laterRows 1 (placed 0 number e ∷ []) items ≡ some rs)
+    by-parent : (b : Bool) → (T b → parent ≡ 0) → cond b (consRow (elementRow number e 0) (laterRows 1 (placed 0 number e ∷ []) items)) none ≡ some all
+        → (rs : List Row) × (parent ≡ 0) × (all ≡ elementRow number e 0 ∷ rs) × (laterRows 1 (placed 0 number e ∷ []) items ≡ some rs)
     by-parent true f u = by-later (laterRows 1 (placed 0 number e ∷ []) items) refl (f tt) u
     by-parent false f u = none-some u
 
@@ -305,7 +306,7 @@ module _ (full : List ℕ) (all : List Row) (small : AreBytes full) (rootNumber 
       → (items ≡ [] → rest ≡ []) → Written full all items rest → rowsOfItems (i ∷ items) ≡ some all → restWritten full all all ≡ tag ∷ high ∷ low ∷ (value ++ rest)
   root-back tag high low value rest items (an-element {a} {b} {c} {d} {e} t v) q l ends later read =
       let o = root-read (inTwo a b) (inTwo c d) e items all read in
-      let r = elementRow (inTwo a b) 0 e in
+      let r = elementRow (inTwo a b) e 0 in
       let up : numberAt (getElem? all 0) ≡ inTwo c d = rw (o .2) (rootNumber r (rw (o .2)) ∙ sym (o .1)) in
       let bytes = cut-bytes full all full tag high low value rest small q in
       let written : fieldOf full all r ≡ tag ∷ high ∷ low ∷ value = rw t (value-back elementTag high low a b c d (numberAt (getElem? all 0)) value (e ∷ []) v up l bytes) in

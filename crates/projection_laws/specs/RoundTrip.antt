@@ -36,7 +36,7 @@ accept s bs rows h e t =
     let full : isEmpty bs ≡ false = false-of (isEmpty bs) (λ u. let z = ap length (empty-of {xs = bs} u) in omega arith) in
     rw (e, true-of (wellFormedWith s bs rows) t, full) (judged-free [] rows refl)
 
--- "An extract written and read returns its rows but for text starts", each with its text.
+-- "Writing a table and reading it returns the rows but for text starts", each with its text.
 pub write-read : (s : Types) → TextNames s → (lent : List ℕ) (rows : List Row) → T (wellFormedWith s lent rows)
     → (rows′ : List Row) × (readExtract s (writeExtract lent rows) ≡ accepted rows′) × SameTables lent (writeExtract lent rows) rows rows′
 unfolding writeExtract wellFormedWith
@@ -79,7 +79,7 @@ accepted-table s bs rows e = pick (rowsOfItems (itemsOf bs)) refl e
         let t : T ok = ⊎-elim (λ y. y) (λ n. absurd (free (not-intro ok n))) (decided ok) in
         (q ∙ ap {B = Option (List Row)} some (c .1), rw (c .1) at t)
 
--- "one read and written returns its bytes"
+-- Demand 2, the other way round: an extract that is read and written again returns its bytes.
 pub read-write : (s : Types) (bs : List ℕ) (rows : List Row) → AreBytes bs → readExtract s bs ≡ accepted rows → writeExtract bs rows ≡ bs
 unfolding writeExtract itemsOf wellFormedWith
 read-write s bs rows small e =

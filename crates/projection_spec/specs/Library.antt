@@ -1,4 +1,3 @@
-pub mod Lent
 pub mod Records
 pub mod Hosts
 pub mod Listing

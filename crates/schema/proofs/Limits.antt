@@ -21,16 +21,13 @@ use Rattle.schema_spec.specs.Declarations.{Use, Declaration}
 use Rattle.schema_spec.specs.Machine.{between, step, spells, departs, atEnd, parse}
 use Rattle.schema_spec.specs.Reading.{limitPlaces, usesOf}
 use Rattle.schema_laws.specs.Lists.{in-nothing as none-in}
+use Rattle.text_laws.specs.Lists.{memberless}
 use Rattle.text_spec.specs.Bytes.{isBlank}
 use Rattle.text_spec.specs.Limits.{maxDeclarations, maxModelNames}
 use Rattle.text_spec.specs.Lists.{gather}
 
 -- ---- lists
 module _ {A : Type 0} where
-  no-members : (xs : List A) → ((x : A) → In x xs → ⊥) → xs ≡ []
-  no-members [] h = refl
-  no-members (x ∷ xs) h = absurd (h x (here refl))
-
   module _ (f : A → ℕ) where
     drop-left : (k : ℕ) (xs ys : List A) {x : ℕ} → In x (map f (drop k xs)) → In x (map f (drop k (xs ++ ys)))
     drop-left zero xs ys {x} i = subst (λ (l : List ℕ). In x l) (sym (map-append f xs ys)) (Memᴰ·append-left (map f ys) i)
@@ -230,7 +227,7 @@ module _ {s : List ℕ} (ds : List Declaration) {d n i : ℕ} (names : List ℕ)
       still-within : p .n - n ≤ maxModelNames → {names′ : List ℕ} → names′ ≡ set names d (p .name) → Kept s (ds ++ (declared-now ∷ [])) (d + 1) (p .n) j names′ uses′
       still-within h {names′} w =
           record {
-            free = no-members (limitPlaces (ds ++ (declared-now ∷ []))) (λ x m. none x (limit-cases ds declared-now m));
+            free = memberless (limitPlaces (ds ++ (declared-now ∷ []))) (λ x m. none x (limit-cases ds declared-now m));
             some = omega arith;
             small = let z = kept .small in omega arith;
             declared-at =

@@ -22,7 +22,7 @@ use Rattle.schema_spec.specs.Schemas.{Schema, Element, schemaOf, declaredNames,
 use Rattle.schema_spec.specs.Types.{holds, Below, typesOf, isBelow}
 use Rattle.text_laws.specs.Lists.{append-empty, any-in, in-gather, map-in, bytes-same}
 use Rattle.text_laws.specs.Refusals.{judged-accepted, judged-free}
-use Rattle.text_laws.specs.Tests.{failed}
+use Rattle.text_laws.specs.Tests.{failed, not-not}
 use Rattle.text_spec.specs.Bytes.{isName}
 use Rattle.text_spec.specs.Limits.{maxDeclarations, maxModelNames, maxSchemaBytes}
 use Rattle.text_spec.specs.Lists.{anyOf, sameBytes, gather, filterBy, valueOr}
@@ -118,10 +118,6 @@ index-below n (m ∷ ns) k t = pick (sameBytes n m) t (index-below n ns (suc k))
         let r = h u in
         omega arith
 
-by-failure : (b : Bool) → (T (not b) → ⊥) → T b
-by-failure true n = tt
-by-failure false n = n tt
-
 module _ (ds : List Declaration) where
   -- refusals 5 and 7 against the declarations
   few-declarations : limitPlaces ds ≡ [] → length ds ≤ maxDeclarations
@@ -139,7 +135,7 @@ module _ (ds : List Declaration) where
   declared-use e d u i j =
       let undeclared : Use → Bool = λ v. not (anyOf (sameBytes (v .name)) (declaredNames ds)) in
       let none-undeclared = map-empty (λ (v : Use). v .place) (filterBy undeclared (gather usesOf ds)) e in
-      by-failure (anyOf (sameBytes (u .name)) (declaredNames ds)) (filter-empty undeclared none-undeclared (in-gather usesOf i j))
+      not-not (anyOf (sameBytes (u .name)) (declaredNames ds)) (filter-empty undeclared none-undeclared (in-gather usesOf i j))
 
   gives-length : length (schemaOf ds) ≡ length ds
   unfolding schemaOf
@@ -212,7 +208,7 @@ module _ (text : List ℕ) (s : Schema) (e : readSchema text ≡ accepted s) whe
       let p = accepted-spelt text s e in
       subst Closed (p .gives) (gives-closed (p .declarations) (p .all-declared))
 
-  -- "at most 64 names in a model"
+  -- "At most 32 declarations, 64 names in a model": the second
   pub accepted-models : (a : ℕ) → length (modelAt s a) ≤ maxModelNames
   accepted-models a =
       let p = accepted-spelt text s e in

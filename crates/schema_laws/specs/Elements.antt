@@ -13,12 +13,12 @@ use Rattle.schema_laws.specs.Accepted.{elementNames}
 use Rattle.schema_laws.specs.Lists.{Distinct, next}
 use Rattle.schema_spec.specs.Schemas.{Schema, Element, indexFrom, elementNamed, nameAt}
 use Rattle.text_laws.specs.Lists.{bytes-equal, bytes-same}
-use Rattle.text_laws.specs.Tests.{passed, failed, true-of, false-of}
+use Rattle.text_laws.specs.Tests.{passed, failed, true-of, false-of, never}
 use Rattle.text_spec.specs.Lists.{sameBytes}
 
 -- a name that is found counting from k stands at that index
 index-found : (k : ℕ) (n : List ℕ) (s : Schema) (a : ℕ) → indexFrom k n (elementNames s) ≡ some a → (i : ℕ) × (a ≡ k + i) × (i < length s) × (nameAt s i ≡ n)
-index-found k n [] a e = absurd (let z : _≡_ {A = ℕ} 0 1 = cc in omega arith)
+index-found k n [] a e = never (cc)
 index-found k n (x ∷ s) a e = pick (sameBytes n (x .name)) refl e (index-found (suc k) n s a)
   where
     pick : (b : Bool) → sameBytes n (x .name) ≡ b → cond b (some k) (indexFrom (suc k) n (elementNames s)) ≡ some a
@@ -45,8 +45,7 @@ not-found k n (y ∷ s) e x i q = pick (sameBytes n (y .name)) refl e i (λ h j.
     pick : (b : Bool) → sameBytes n (y .name) ≡ b → cond b (some k) (indexFrom (suc k) n (elementNames s)) ≡ none → In x (y ∷ s)
         → (indexFrom (suc k) n (elementNames s) ≡ none → In x s → ⊥) → ⊥
     pick true c e j h =
-        let z : _≡_ {A = ℕ} 0 1 = cc in
-        omega arith
+        never (cc)
     pick false c e (here z) h =
         let w : y .name ≡ n = sym (ap (λ (v : Element). v .name) z) ∙ q in
         failed c (subst (λ (m : List ℕ). T (sameBytes n m)) (sym w) (bytes-same n))

@@ -4,10 +4,9 @@ use mathlib.Core.List.{List, [], _∷_, _++_}
 use mathlib.Core.Logic.{_⊎_, inl, inr, ⊎-elim, _↔_}
 use mathlib.Core.Path.{_≡_, refl, sym, ap, subst, _∙_}
 use Prim.Native.Nat.{ℕ}
-use native.Mathlib.Omega.{arith}
 use lib.Dec.{T, eqb, eqb→eq, eqb-refl}
 use Rattle.schema_spec.specs.Models.{Particle, named, sequence, choice, repeated, renameIn, Fits, one, both, left, right, absent, once, again, Position, unmarked, nullable, final, shift, amid, started, complete, advanceAll, fits}
-use Rattle.text_laws.specs.Tests.{or-left, or-right, or-cases, and-intro, and-cases, true-of}
+use Rattle.text_laws.specs.Tests.{or-left, or-right, or-cases, and-intro, and-cases, true-of, never}
 
 -- the particle without its marks
 abbrev plain : Particle Position → Particle ℕ
@@ -24,7 +23,7 @@ data Goes : Particle Position → List ℕ → Type 0 where
   more : {n : Bool} {p : Particle Position} {u v : List ℕ} → Goes p u → Fits (repeated true n (plain p)) v → Goes (repeated true n p) (u ++ v)
 
 filled : {A : Type 0} {a : ℕ} {w : List ℕ} → a ∷ w ≡ [] → A
-filled e = absurd (let z : _≡_ {A = ℕ} 0 1 = cc in omega arith)
+filled e = never (cc)
 
 -- the empty list of children
 nullable-fits : (r : Particle Position) → T (nullable r) → Fits (plain r) []

@@ -12,6 +12,7 @@ use Rattle.schema_laws.specs.Lists.{Distinct, none-twice, next, distinct
 use Rattle.schema_spec.specs.Names.{Name, Names, element, text, sameName, has, within, elementsFrom, textsFrom, namesOf}
 use Rattle.schema_spec.specs.Schemas.{Schema, contentAt, isPcdata}
 use Rattle.text_laws.specs.Lists.{any-in, in-any, in-filter, filter-in}
+use Rattle.text_laws.specs.Tests.{never}
 
 -- `sameName` tells equal names
 pub same-equal : (a b : Name) → T (sameName a b) → a ≡ b
@@ -61,8 +62,7 @@ from-element (x ∷ s) k e (there i) =
 not-text-from : (s : Schema) (k e : ℕ) → In (text e) (elementsFrom k s) → ⊥
 not-text-from [] k e i = elim i [ ]
 not-text-from (x ∷ s) k e (here q) =
-    let z : _≡_ {A = ℕ} 0 1 = cc in
-    omega arith
+    never (cc)
 not-text-from (x ∷ s) k e (there i) = not-text-from s (suc k) e i
 
 -- an element with character data is one of the schema's
@@ -106,8 +106,7 @@ not-element-from (x ∷ s) k e i = pick (isPcdata (x .content)) i (not-element-f
   where
     pick : (b : Bool) → In (element e) (cond b (text k ∷ textsFrom (suc k) s) (textsFrom (suc k) s)) → (In (element e) (textsFrom (suc k) s) → ⊥) → ⊥
     pick true (here q) h =
-        let z : _≡_ {A = ℕ} 0 1 = cc in
-        omega arith
+        never (cc)
     pick true (there j) h = h j
     pick false j h = h j
 

@@ -13,6 +13,7 @@ use Rattle.schema_spec.specs.Declarations.{Use, Declaration, emptyKeyword, pcda
 use Rattle.schema_spec.specs.Machine.{Frame, fresh, holding, Opening, Head, State, dead, between, inKeyword, afterKeyword, beforeName, inName, beforeContent, inEmpty, afterOpen, inPcdata, afterPcdata, expecting, inUse, closed, past, afterContent, declared, closing, join, separated, following, indicating, beginning, headed, matching, step}
 use Rattle.schema_spec.specs.Models.{Particle, named, Content, empty, children}
 use Rattle.schema_spec.specs.Records.{normalFrom, normal}
+use Rattle.text_laws.specs.Bytes.{each-blank}
 use Rattle.text_laws.specs.Tests.{or-left, or-cases, and-cases, not-elim, decided, cond-true, cond-false}
 use Rattle.text_spec.specs.Bytes.{isBlank, startsName, continuesName}
 use Rattle.text_spec.specs.Limits.{maxNameBytes, maxGroups}
@@ -147,13 +148,6 @@ next-run d q′ b q x y = pick (decided (isBlank b))
     pick : T (isBlank b) ⊎ (T (isBlank b) → ⊥) → Next (suc d) true q′ b q
     pick (inl t) = onward (suc d) true q′ (x t) (λ bs. ap (goes q′) (run-dropped b bs d t))
     pick (inr n) = onward (suc d) false (step q′ 0 b) (y n) (λ bs. ap (goes q′) (run-ends b bs d n))
-
--- what holds of the three blanks holds of each
-each-blank : (P : ℕ → Type 0) → P 32 → P 9 → P 10 → (b : ℕ) → T (isBlank b) → P b
-each-blank P x y z b t =
-    ⊎-elim (λ h. subst P (sym (eqb→eq b 32 h)) x)
-    (λ h. ⊎-elim (λ k. subst P (sym (eqb→eq b 9 k)) y) (λ k. subst P (sym (eqb→eq b 10 k)) z) (or-cases (eqb b 9) (eqb b 10) h))
-    (or-cases (eqb b 32) (eqb b 9 || eqb b 10) t)
 
 next-lost : (d : ℕ) (r : Bool) (q′ : State) (b : ℕ) → Next d r q′ b dead
 next-lost zero r q′ b = next-free r q′ b dead (λ t. lost) (λ e. lost) (λ n m. lost)

@@ -3,7 +3,6 @@ use mathlib.Core.Bool.{Bool, true, false, cond, _&&_}
 use mathlib.Core.List.{List, [], _∷_, map, reverse}
 use mathlib.Core.Path.{_≡_, refl, sym, ap, subst, _∙_}
 use Prim.Native.Nat.{ℕ, suc}
-use native.Mathlib.Omega.{arith}
 use lib.Dec.{eqb, ltb}
 use lib.ListN.{length, length-map}
 use Rattle.schema_laws.specs.Lists.{map-reverse}
@@ -11,6 +10,7 @@ use Rattle.schema_laws.specs.Runs.{end-ended}
 use Rattle.schema_spec.specs.Declarations.{Use, Declaration, elementKeyword, emptyKeyword, pcdataKeyword, Separator, unparted, byBar, byComma}
 use Rattle.schema_spec.specs.Machine.{Frame, fresh, holding, Opening, Head, State, dead, between, inKeyword, afterKeyword, beforeName, inName, beforeContent, inEmpty, afterOpen, inPcdata, afterPcdata, expecting, inUse, closed, past, afterContent, isDead, closing, join, separated, following, indicating, beginning, matching, step, spells, departs, atEnd, run}
 use Rattle.schema_spec.specs.Models.{Particle, named, Content, children, renameIn, renameContent}
+use Rattle.text_laws.specs.Tests.{never}
 use Rattle.text_spec.specs.Bytes.{isBlank, startsName, continuesName}
 use Rattle.text_spec.specs.Limits.{maxNameBytes, maxGroups}
 
@@ -154,7 +154,7 @@ goes-dead [] = refl
 goes-dead (b ∷ bs) = goes-dead bs
 
 untrue : {A : Type 0} → false ≡ true → A
-untrue e = absurd (let z : _≡_ {A = ℕ} 0 1 = cc in omega arith)
+untrue e = never (cc)
 
 dead-bare : (q : State) → isDead q ≡ true → bare q ≡ dead
 dead-bare dead e = refl
@@ -186,7 +186,7 @@ spells-goes q (b ∷ bs) k ds e = pick (isDead (step q k b)) e (spells-goes (ste
     pick : (c : Bool) → cond c (departs k) (run (step q k b) bs (suc k)) ≡ spells ds
         → (run (step q k b) bs (suc k) ≡ spells ds → (d : Declaration) × (es : List Declaration) × (ds ≡ reverse (d ∷ es)) × (goes (bare (step q k b)) bs ≡ between (bareAll (d ∷ es))))
         → (d : Declaration) × (es : List Declaration) × (ds ≡ reverse (d ∷ es)) × (goes (bare q) (b ∷ bs) ≡ between (bareAll (d ∷ es)))
-    pick true e h = absurd (let z : _≡_ {A = ℕ} 0 1 = cc in omega arith)
+    pick true e h = never (cc)
     pick false e h =
         let r = h e in
         (r .0, r .1, r .2, subst (λ (x : State). goes x bs ≡ between (bareAll (r .0 ∷ r .1))) (bare-step q k b) (r .3))
@@ -199,7 +199,7 @@ astray q n e =
 
 end-spells : (q : State) (k : ℕ) (d : Declaration) (es : List Declaration) → bare q ≡ between (d ∷ es) → (ds : List Declaration) × (atEnd q k ≡ spells ds) × (bareAll ds ≡ reverse (d ∷ es))
 end-spells dead k d es e = astray dead refl e
-end-spells (between []) k d es e = absurd (let z : _≡_ {A = ℕ} 0 1 = cc in omega arith)
+end-spells (between []) k d es e = never (cc)
 end-spells (between (x ∷ xs)) k d es e =
     let z : bareAll (x ∷ xs) ≡ d ∷ es = cc in
     (reverse (x ∷ xs), refl, map-reverse bareDeclaration (x ∷ xs) ∙ ap reverse z)

@@ -20,7 +20,7 @@ use Rattle.schema_spec.specs.Records.{normal, schemaIn, recordBy, schemaRecord,
 use Rattle.schema_spec.specs.Schemas.{Schema, schemaOf, declaredNames, resolved}
 use Rattle.text_laws.specs.Lists.{bytes-equal, bytes-same}
 use Rattle.text_laws.specs.Refusals.{given-free}
-use Rattle.text_laws.specs.Tests.{and-intro, and-cases, or-cases, or-right}
+use Rattle.text_laws.specs.Tests.{and-intro, and-cases, or-cases, or-right, never}
 use Rattle.text_spec.specs.Bytes.{isForeign}
 use Rattle.text_spec.specs.Limits.{maxDeclarations, maxModelNames, maxSchemaBytes}
 use Rattle.text_spec.specs.Lists.{anyOf, filterBy, gather, sameBytes, isEmpty, placesFrom}
@@ -136,8 +136,7 @@ normal-spells text ds e =
 spells-filled : (text : List ℕ) {ds : List Declaration} → parse text ≡ spells ds → T (isEmpty text) → ⊥
 unfolding parse run
 spells-filled [] e t =
-    let z : _≡_ {A = ℕ} 0 1 = cc in
-    omega arith
+    never (cc)
 spells-filled (b ∷ text) e t = t
 
 -- refusals 2 and 3 against the normal form

@@ -6,15 +6,14 @@ use mathlib.Core.Logic.{_⊎_, inl, inr, ⊎-elim}
 use mathlib.Core.Path.{_≡_, refl, sym, ap, subst, _∙_}
 use Prim.Native.Nat.{ℕ, suc, _<_}
 use native.Mathlib.Omega.{arith}
-use lib.Dec.{T, eqb, ltb, leb, le→leb, ltb→lt}
-use lib.ListN.{length, length-append, length-reverse}
+use lib.Dec.{T, eqb, ltb, ltb→lt}
+use lib.ListN.{length, length-reverse}
 use Rattle.schema_spec.specs.Declarations.{Use, Declaration, elementKeyword, emptyKeyword, pcdataKeyword, Separator, unparted, byBar, byComma, optional, any, oneOrMore, indicated}
 use Rattle.schema_spec.specs.Machine.{Frame, fresh, holding, Head, State, dead, between, inKeyword, afterKeyword, beforeName, inName, beforeContent, inEmpty, afterOpen, inPcdata, afterPcdata, expecting, inUse, closed, past, afterContent, isDead, declared, closing, join, separated, following, indicating, beginning, longer, headed, matching, step, spells, departs, atEnd, run, parse}
 use Rattle.schema_spec.specs.Models.{Particle, named, Content, empty, pcdata, children}
-use Rattle.text_laws.specs.Tests.{and-intro, and-cases}
+use Rattle.text_laws.specs.Bytes.{one-byte-name, name-snoc}
 use Rattle.text_spec.specs.Bytes.{isBlank, startsName, continuesName, isName}
 use Rattle.text_spec.specs.Limits.{maxNameBytes, maxGroups}
-use Rattle.text_spec.specs.Lists.{allOf}
 
 -- where a run ended that spelt these declarations, in a state with a property that steps keep
 pub record Ended (P : State → Type 0) (ds : List Declaration) : Type 0 where
@@ -64,26 +63,6 @@ pub by-match : (P : State → Type 0) (w : List ℕ) (b : ℕ) (whole : State) (
 by-match P [] b whole part d h k = d
 by-match P (c ∷ []) b whole part d h k = by-test P (eqb b c) whole dead (λ t. h) d
 by-match P (c ∷ (x ∷ w)) b whole part d h k = by-test P (eqb b c) (part (x ∷ w)) dead (λ t. k (x ∷ w)) d
-
--- a name of one byte, and a name that goes on
-name-starts : (b : ℕ) → T (startsName b) → T (isName (b ∷ []))
-name-starts b t = and-intro (startsName b) true t tt
-
-all-append : (f : ℕ → Bool) (xs : List ℕ) (b : ℕ) → T (allOf f xs) → T (f b) → T (allOf f (xs ++ (b ∷ [])))
-all-append f [] b t u = and-intro (f b) true u tt
-all-append f (x ∷ xs) b t u =
-    let r = and-cases (f x) (allOf f xs) t in
-    and-intro (f x) (allOf f (xs ++ (b ∷ []))) (r .0) (all-append f xs b (r .1) u)
-
-name-goes-on : (n : List ℕ) (b : ℕ) → T (isName n) → T (continuesName b) → T (ltb (length n) maxNameBytes) → T (isName (n ++ (b ∷ [])))
-name-goes-on [] b t u l = absurd t
-name-goes-on (c ∷ n) b t u l =
-    let r = and-cases (startsName c) (allOf continuesName n && leb (length (c ∷ n)) maxNameBytes) t in
-    let q = and-cases (allOf continuesName n) (leb (length (c ∷ n)) maxNameBytes) (r .1) in
-    let m = ltb→lt (length (c ∷ n)) maxNameBytes l in
-    and-intro (startsName c) (allOf continuesName (n ++ (b ∷ [])) && leb (length (c ∷ (n ++ (b ∷ [])))) maxNameBytes) (r .0)
-    (and-intro (allOf continuesName (n ++ (b ∷ []))) (leb (length (c ∷ (n ++ (b ∷ [])))) maxNameBytes) (all-append continuesName n b (q .0) u)
-    (le→leb (length (c ∷ (n ++ (b ∷ [])))) maxNameBytes (omega (arith, length-append n (b ∷ [])))))
 
 -- A property of the declarations that were read, which one more keeps if its name has 1 to 31 bytes: each state keeps it.
 module _ (Q : List Declaration → Type 0) where
@@ -152,10 +131,10 @@ module _ (Q : List Declaration → Type 0) (grows : (d : Declaration) (ds : List
   step-kept (inKeyword w o) k b g = by-match (KeptState Q) w b (afterKeyword o) (λ v. inKeyword v o) tt g (λ v. g)
   step-kept (afterKeyword o) k b g = by-test (KeptState Q) (isBlank b) (beforeName o) dead (λ t. g) tt
   step-kept (beforeName o) k b g =
-      by-test (KeptState Q) (isBlank b) (beforeName o) _ (λ t. g) (by-test (KeptState Q) (startsName b) (inName k (b ∷ []) o) dead (λ t. (name-starts b t, g)) tt)
+      by-test (KeptState Q) (isBlank b) (beforeName o) _ (λ t. g) (by-test (KeptState Q) (startsName b) (inName k (b ∷ []) o) dead (λ t. (one-byte-name b t, g)) tt)
   step-kept (inName j n o) k b g =
       by-test (KeptState Q) (continuesName b) (longer n b (inName j (n ++ (b ∷ [])) o)) _
-      (λ t. by-test (KeptState Q) (ltb (length n) maxNameBytes) (inName j (n ++ (b ∷ [])) o) dead (λ u. (name-goes-on n b (g .0) t u, g .1)) tt)
+      (λ t. by-test (KeptState Q) (ltb (length n) maxNameBytes) (inName j (n ++ (b ∷ [])) o) dead (λ u. (name-snoc n b (g .0) t (ltb→lt (length n) maxNameBytes u), g .1)) tt)
       (by-test (KeptState Q) (isBlank b) (beforeContent (headed j n o)) dead (λ t. g) tt)
   step-kept (beforeContent h) k b g =
       by-test (KeptState Q) (isBlank b) (beforeContent h) _ (λ t. g)

@@ -15,7 +15,7 @@ use Rattle.schema_laws.specs.Names.{has-in, in-has, in-element, in-text,
 use Rattle.schema_spec.specs.Names.{Name, Names, element, text, has, within, namesOf, codeOf, nameOfCode, hasBit, setOfWord, sumOf, wordOfSet}
 use Rattle.schema_spec.specs.Schemas.{Schema}
 use Rattle.text_laws.specs.Lists.{any-in, in-any, in-filter, filter-in, filter-cong, in-map, map-in}
-use Rattle.text_laws.specs.Tests.{decided, true-of, false-of, failed, cond-true, cond-false}
+use Rattle.text_laws.specs.Tests.{decided, true-of, false-of, failed, cond-true, cond-false, never}
 use Rattle.text_spec.specs.Limits.{maxDeclarations}
 use Rattle.text_spec.specs.Lists.{anyOf}
 
@@ -132,8 +132,7 @@ codeOf-nameOfCode c n e = pick (ltb c maxDeclarations) (ltb c (maxDeclarations +
         let back : maxDeclarations + (c - maxDeclarations) ≡ c = omega arith in
         ap codeOf z ∙ back
     pick false false q e =
-        let z : _≡_ {A = ℕ} 0 1 = cc in
-        absurd (omega arith)
+        never (cc)
 
 pub schema-coded : (s : Schema) → length s ≤ maxDeclarations → Coded (namesOf s)
 schema-coded s l = record { once = names-distinct s; apart = code-apart s l }

@@ -16,7 +16,7 @@ use Rattle.schema_names.specs.Names.{nameAt, nameByte}
 use Rattle.declarations.specs.Parts.{byteAt, nameIn}
 use Rattle.schema_spec.specs.Schemas.{indexFrom}
 use Rattle.text_laws.specs.Lists.{bytes-equal}
-use Rattle.text_laws.specs.Tests.{false-of}
+use Rattle.text_laws.specs.Tests.{false-of, never}
 use Rattle.text_spec.specs.Bytes.{continuesName}
 use Rattle.text_spec.specs.Lists.{anyOf, first, valueOr, sameBytes}
 
@@ -29,7 +29,7 @@ data View (s : List ℕ) (i : ℕ) : Type 0 where
   byte : (b : ℕ) → i < length s → (b ≡ 0 → ⊥) → nameAt s i ≡ b ∷ nameAt s (i + 1) → View s i
 
 continues-not-zero : (b : ℕ) → continuesName b ≡ true → b ≡ 0 → ⊥
-continues-not-zero b e z = let y : continuesName 0 ≡ true = ap continuesName (sym z) ∙ e in let x : _≡_ {A = ℕ} 0 1 = cc in omega arith
+continues-not-zero b e z = let y : continuesName 0 ≡ true = ap continuesName (sym z) ∙ e in never (cc)
 
 view : (s : List ℕ) (i : ℕ) → View s i
 view s i = go (ltb i (length s)) refl

@@ -19,7 +19,7 @@ use Rattle.schema_spec.specs.Records.{normal, recordBy, schemaRecord}
 use Rattle.schema_spec.specs.Schemas.{Schema}
 use Rattle.text_laws.specs.Cells.{drop-replicate, padded-zeros, padded-content}
 use Rattle.text_laws.specs.Refusals.{given-free}
-use Rattle.text_laws.specs.Tests.{false-of, or-right}
+use Rattle.text_laws.specs.Tests.{false-of, or-right, never}
 use Rattle.text_spec.specs.Cells.{padded}
 use Rattle.text_spec.specs.Limits.{maxSchemaBytes}
 use Rattle.text_spec.specs.Lists.{isEmpty}
@@ -49,11 +49,11 @@ read-as text (Accepted n) s J R = go (readSchema text) refl (J .outcome)
         let h = accepted-short text t e in
         let again : schemaRecord text ≡ normal text = ap (λ (o : Outcome Schema). recordBy o (normal text)) e in
         record { outcome = J .outcome; bytes = R .bytes h ∙ ap (padded maxSchemaBytes) (sym again); size = R .size h ∙ ap length (sym again) }
-    go (refused f) e q = absurd (let z : _≡_ {A = ℕ} 0 1 = cc in omega arith)
+    go (refused f) e q = never (cc)
 read-as text (Refused k p) s J R = go (readSchema text) refl (J .outcome)
   where
     go : (o : Outcome Schema) → readSchema text ≡ o → meant (Refused k p) ≡ sized o → ReadAs text (record { answer = Refused k p; schema = handedBack (Refused k p) s })
-    go (accepted t) e q = absurd (let z : _≡_ {A = ℕ} 0 1 = cc in omega arith)
+    go (accepted t) e q = never (cc)
     go (refused f) e q =
         let none : schemaRecord text ≡ [] = ap (λ (o : Outcome Schema). recordBy o (normal text)) e in
         record { outcome = J .outcome; bytes = sym (padded-zeros 8192) ∙ ap (padded maxSchemaBytes) (sym none); size = ap length (sym none) }

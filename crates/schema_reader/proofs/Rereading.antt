@@ -2,7 +2,7 @@
 use mathlib.Core.Bool.{Bool, true, false, _&&_}
 use mathlib.Core.List.{List}
 use mathlib.Core.Path.{_≡_, refl, sym, ap, ap₂, subst, _∙_}
-use Prim.Native.Nat.{ℕ, suc, _+_, _-_, _≤_, _<_}
+use Prim.Native.Nat.{ℕ, suc, _+_, _≤_, _<_}
 use native.Mathlib.Numerals.{add-one}
 use native.Mathlib.Omega.{arith}
 use borrow.Author.Tests.{le-leb, lt-leb, eq-eqb, ne-eqb}
@@ -19,7 +19,7 @@ use Rattle.schema_spec.specs.Records.{normal, recordBy, schemaRecord, isSchemaR
 use Rattle.schema_spec.specs.Schemas.{Schema}
 use Rattle.text_laws.specs.Cells.{padded-length, padded-take}
 use Rattle.text_laws.specs.Lists.{bytes-equal, bytes-same}
-use Rattle.text_laws.specs.Tests.{passed, true-of, false-of, and-cases, and-intro}
+use Rattle.text_laws.specs.Tests.{passed, true-of, false-of, and-cases, and-intro, never}
 use Rattle.text_spec.specs.Cells.{padded}
 use Rattle.text_spec.specs.Limits.{maxSchemaBytes}
 use Rattle.text_spec.specs.Lists.{sameBytes}
@@ -62,7 +62,7 @@ module _ (cells : List ℕ) (size : ℕ) where
         (ap (λ (t : Bool). t && sameBytes (normal (take size cells)) (take size cells)) (go (readSchema (take size cells)) (sym (ap meant e) ∙ R .outcome)))
       where
         go : (o : Outcome Schema) → meant (Refused k p) ≡ sized o → isAccepted o ≡ false
-        go (accepted s) q = absurd (let z : _≡_ {A = ℕ} 0 1 = cc in omega arith)
+        go (accepted s) q = never (cc)
         go (refused f) q = refl
 
     module _ {n : ℕ} (e : r .answer ≡ Accepted n) where
@@ -71,7 +71,7 @@ module _ (cells : List ℕ) (size : ℕ) where
         where
           go : (o : Outcome Schema) → meant (Accepted n) ≡ sized o → isAccepted o ≡ true
           go (accepted s) q = refl
-          go (refused f) q = absurd (let z : _≡_ {A = ℕ} 0 1 = cc in omega arith)
+          go (refused f) q = never (cc)
 
       again : schemaRecord (take size cells) ≡ normal (take size cells)
       unfolding schemaRecord
@@ -79,7 +79,7 @@ module _ (cells : List ℕ) (size : ℕ) where
         where
           go : (o : Outcome Schema) → isAccepted o ≡ true → recordBy o (normal (take size cells)) ≡ normal (take size cells)
           go (accepted s) q = refl
-          go (refused f) q = absurd (let z : _≡_ {A = ℕ} 0 1 = cc in omega arith)
+          go (refused f) q = never (cc)
 
       bytes-again : r .schema .bytes ≡ padded maxSchemaBytes (normal (take size cells))
       bytes-again = R .bytes ∙ ap (padded maxSchemaBytes) again
@@ -122,4 +122,4 @@ module _ (cells : List ℕ) (size : ℕ) where
           go : (u : Bool) → sameBytes (r .schema .bytes) cells ≡ u → u ≡ passesRecord cells size
           go true z = sym (true-of (passesRecord cells size) (same-passes low l (bytes-equal (r .schema .bytes) cells (passed z))))
           go false z =
-              sym (false-of (passesRecord cells size) (λ p. let y = ap (λ (x : List ℕ). sameBytes x cells) (passes-same p .1) ∙ true-of (sameBytes cells cells) (bytes-same cells) in let w : _≡_ {A = ℕ} 0 1 = cc in omega arith))
+              sym (false-of (passesRecord cells size) (λ p. let y = ap (λ (x : List ℕ). sameBytes x cells) (passes-same p .1) ∙ true-of (sameBytes cells cells) (bytes-same cells) in never (cc)))

@@ -12,6 +12,7 @@ use Rattle.declarations.proofs.Judging.{yes, no}
 use Rattle.schema_reader.specs.Normal.{Steps, Stored, Normalized}
 use Rattle.schema_reader.specs.declared.NormalStep.{NormalStep}
 use Rattle.schema_spec.specs.Records.{normalFrom, normal}
+use Rattle.text_laws.specs.Tests.{never}
 use Rattle.text_spec.specs.Bytes.{isBlank}
 
 -- ---- a byte
@@ -24,11 +25,11 @@ module _ (b : ℕ) (bs : List ℕ) where
     pub blank-run : (due : ℕ) (run : Bool) → (due ≡ 0 → ⊥) → run ≡ true → normalFrom due run (b ∷ bs) ≡ normalFrom due true bs
     blank-run zero run z r = absurd (z refl)
     blank-run (suc due) true z r = yes (normalFrom (suc due) true bs) _ e
-    blank-run (suc due) false z r = absurd (let y : _≡_ {A = ℕ} 0 1 = cc in omega arith)
+    blank-run (suc due) false z r = never (cc)
 
     pub blank-due : (due : ℕ) (run : Bool) → (due ≡ 0 → ⊥) → run ≡ false → normalFrom due run (b ∷ bs) ≡ 0x20 ∷ normalFrom (due - 1) true bs
     blank-due zero run z r = absurd (z refl)
-    blank-due (suc due) true z r = absurd (let y : _≡_ {A = ℕ} 0 1 = cc in omega arith)
+    blank-due (suc due) true z r = never (cc)
     blank-due (suc due) false z r = yes (0x20 ∷ normalFrom due true bs) _ e ∙ let y : due ≡ suc due - 1 = omega arith in ap (λ (k : ℕ). 0x20 ∷ normalFrom k true bs) y
 
   module _ (e : isBlank b ≡ false) where

@@ -4,10 +4,9 @@ use mathlib.Core.List.{List, [], _∷_, _++_, map, List·Memᴰ as In, List·Mem
 use mathlib.Core.Logic.{_⊎_, inl, inr, ⊎-elim}
 use mathlib.Core.Path.{_≡_, refl, sym, ap, subst, _∙_}
 use Prim.Native.Nat.{ℕ, suc}
-use native.Mathlib.Omega.{arith}
 use lib.Dec.{T}
 use lib.ListN.{drop}
-use Rattle.text_laws.specs.Texts.{split-first, split-later, drop-split, split-drop}
+use Rattle.text_laws.specs.Texts.{split-first, split-later, drop-split, split-drop, in-split, split-in}
 use Rattle.schema_spec.specs.Conditions.{OverLimit, declaration, modelName, Twice, twice, Undeclared, undeclared}
 use Rattle.schema_spec.specs.Declarations.{Use, Declaration}
 use Rattle.schema_spec.specs.Reading.{usesOf, limitPlaces, twicePlaces, undeclaredPlaces}
@@ -17,15 +16,6 @@ use Rattle.text_laws.specs.Tests.{not-intro, not-elim}
 use Rattle.text_spec.specs.Limits.{maxDeclarations, maxModelNames}
 use Rattle.text_spec.specs.Lists.{anyOf, filterBy, gather, sameBytes}
 use Rattle.text_spec.specs.Texts.{SplitAt}
-
--- an element of a list stands at some place of it
-in-split : {A : Type 0} (xs : List A) {x : A} → In x xs → (i : ℕ) × (s : SplitAt xs i) × (s .here ≡ x)
-in-split xs i =
-    let r = drop-split 0 xs i in
-    (r .0, r .1, r .3)
-
-split-in : {A : Type 0} {xs : List A} {i : ℕ} (s : SplitAt xs i) → In (s .here) xs
-split-in s = split-drop 0 s (omega arith)
 
 -- 5. the places of the names too many in a model
 abbrev overNames : Declaration → List ℕ

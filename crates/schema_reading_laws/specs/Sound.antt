@@ -1,10 +1,10 @@
 -- Each text that the machine reads is of the grammar, and declares what the machine spells. Assumes nothing.
-use mathlib.Core.Bool.{Bool, true, not, _&&_}
+use mathlib.Core.Bool.{not}
 use mathlib.Core.List.{List, [], _∷_, _++_, append-assoc, append-nil, reverse, reverseAux, reverse-reverse}
 use mathlib.Core.Path.{_≡_, refl, sym, ap, subst, _∙_}
 use Prim.Native.Nat.{ℕ, suc, _+_, _-_, _≤_, _<_}
 use native.Mathlib.Omega.{arith}
-use lib.Dec.{T, leb, le→leb}
+use lib.Dec.{T}
 use lib.ListN.{length, length-append}
 use Rattle.schema_reading_laws.specs.Steps.{skip-between, skip-name, skip-content, skip-open, skip-pcdata, skip-particle, in-element, in-empty, in-pcdata, Due, due-first, due-next, Ended, at-name, at-closed, Over, unmarked, at-past, Finished, at-model, at-content, Holds, holds-one, holds-bar, holds-comma, Marks, mark-optional, mark-any, mark-oneOrMore, Goes, idle, begin-declaration, spell, spelt, keyword-blank, begin-name, grow-name, name-blank, begin-empty, open-content, begin-pcdata, close-pcdata, begin-use, grow-use, open-group, mark, over-blank, over-part, over-close, finish-blank, finish, Transitions, stay, go}
 use Rattle.schema_reading_laws.specs.Runs.{Ran, ends-well, ends-early, breaks-off, ran}
@@ -12,10 +12,10 @@ use Rattle.schema_spec.specs.Declarations.{Use, Declaration, elementKeyword, pc
 use Rattle.schema_spec.specs.Grammar.{Blanks, none, blank, space, Parts, Kind, particle, group, rest, Model, a-name, a-group, opened, close, more, ContentText, is-empty, is-pcdata, is-children, DeclarationText, declaration, DeclarationsText, end, next, SchemaText, schema-text}
 use Rattle.schema_spec.specs.Machine.{Frame, fresh, holding, Opening, Head, State, dead, between, inKeyword, afterKeyword, beforeName, inName, beforeContent, inEmpty, afterOpen, inPcdata, afterPcdata, expecting, inUse, closed, past, afterContent, declared, join, headed, parse, Parsed, spells}
 use Rattle.schema_spec.specs.Models.{Particle, named, Content, empty, pcdata, children}
-use Rattle.text_laws.specs.Tests.{and-cases, and-intro}
-use Rattle.text_spec.specs.Bytes.{isBlank, startsName, continuesName, isName}
-use Rattle.text_spec.specs.Limits.{maxNameBytes, maxGroups}
-use Rattle.text_spec.specs.Lists.{bytes, allOf, isEmpty}
+use Rattle.text_laws.specs.Bytes.{one-byte-name, name-snoc}
+use Rattle.text_spec.specs.Bytes.{isBlank, isName}
+use Rattle.text_spec.specs.Limits.{maxGroups}
+use Rattle.text_spec.specs.Lists.{bytes, isEmpty}
 
 -- what parts an open group
 abbrev partedBy : Frame → Separator
@@ -131,25 +131,6 @@ over-bounded (unmarked at-name) s = s .1
 over-bounded (unmarked at-closed) s = s
 over-bounded at-past s = s
 
-begun-name : (b : ℕ) → T (startsName b) → T (isName (b ∷ []))
-begun-name b t = and-intro (startsName b) true t tt
-
-all-append : (f : ℕ → Bool) (u v : List ℕ) → T (allOf f u) → T (allOf f v) → T (allOf f (u ++ v))
-all-append f [] v s t = t
-all-append f (b ∷ u) v s t =
-    let c = and-cases (f b) (allOf f u) s in
-    and-intro (f b) (allOf f (u ++ v)) (c .0) (all-append f u v (c .1) t)
-
-grown-name : (n : List ℕ) (b : ℕ) → T (isName n) → T (continuesName b) → length n < maxNameBytes → T (isName (n ++ (b ∷ [])))
-grown-name [] b s t l = absurd s
-grown-name (c ∷ n) b s t l =
-    let x = and-cases (startsName c) (allOf continuesName n && leb (length (c ∷ n)) maxNameBytes) s in
-    let y = and-cases (allOf continuesName n) (leb (length (c ∷ n)) maxNameBytes) (x .1) in
-    and-intro (startsName c) (allOf continuesName (n ++ (b ∷ [])) && leb (length (c ∷ (n ++ (b ∷ [])))) maxNameBytes) (x .0)
-    (and-intro (allOf continuesName (n ++ (b ∷ []))) (leb (length (c ∷ (n ++ (b ∷ [])))) maxNameBytes)
-    (all-append continuesName n (b ∷ []) (y .0) (and-intro (continuesName b) true t tt))
-    (le→leb (length (c ∷ (n ++ (b ∷ [])))) maxNameBytes (simp length-append (omega arith))))
-
 due-bounded : {q : State} {f : Frame} {fs : List Frame} {h : Head} → Due q f fs h → Invariant q → length fs < maxGroups
 due-bounded due-first s = omega arith
 due-bounded due-next s = s
@@ -164,15 +145,15 @@ goes-invariant (spelt in-element) s = tt
 goes-invariant (spelt in-empty) s = tt
 goes-invariant (spelt in-pcdata) s = tt
 goes-invariant (keyword-blank t) s = tt
-goes-invariant (begin-name {b = b} t) s = begun-name b t
-goes-invariant (grow-name {b = b} {n = n} t l) s = grown-name n b s t l
+goes-invariant (begin-name {b = b} t) s = one-byte-name b t
+goes-invariant (grow-name {b = b} {n = n} t l) s = name-snoc n b s t l
 goes-invariant (name-blank t) s = tt
 goes-invariant begin-empty s = tt
 goes-invariant open-content s = tt
 goes-invariant begin-pcdata s = tt
 goes-invariant close-pcdata s = tt
-goes-invariant (begin-use {b = b} v t) s = (begun-name b t, due-bounded v s)
-goes-invariant (grow-use {b = b} {n = n} t l) s = (grown-name n b (s .0) t l, s .1)
+goes-invariant (begin-use {b = b} v t) s = (one-byte-name b t, due-bounded v s)
+goes-invariant (grow-use {b = b} {n = n} t l) s = (name-snoc n b (s .0) t l, s .1)
 goes-invariant (open-group v l) s = l
 goes-invariant (mark v m) s = over-bounded (unmarked v) s
 goes-invariant (over-blank v t) s = over-bounded v s

@@ -1,7 +1,6 @@
 -- The live steps of the machine as a relation between states, what the machine computes by it, and chains of steps. Assumes nothing.
-use mathlib.Core.Bool.{Bool, true, false, cond, _&&_, _||_}
+use mathlib.Core.Bool.{Bool, true, false, cond, _&&_}
 use mathlib.Core.List.{List, [], _∷_, _++_}
-use mathlib.Core.Logic.{⊎-elim}
 use mathlib.Core.Path.{_≡_, refl, sym, ap, subst, _∙_}
 use Prim.Native.Nat.{ℕ, suc, _+_, _<_}
 use native.Mathlib.Omega.{arith}
@@ -11,7 +10,8 @@ use Rattle.schema_spec.specs.Declarations.{Use, Declaration, Indicator, optiona
 use Rattle.schema_spec.specs.Grammar.{Parts, first-bar, next-bar, first-comma, next-comma}
 use Rattle.schema_spec.specs.Machine.{Frame, fresh, holding, Opening, Head, State, dead, between, inKeyword, afterKeyword, beforeName, inName, beforeContent, inEmpty, afterOpen, inPcdata, afterPcdata, expecting, inUse, closed, past, afterContent, isDead, declared, closing, join, separated, following, indicating, beginning, longer, headed, matching, step, run, departs}
 use Rattle.schema_spec.specs.Models.{Particle, named, Content, empty, pcdata, children}
-use Rattle.text_laws.specs.Tests.{cond-true, cond-false, or-cases, and-cases}
+use Rattle.text_laws.specs.Bytes.{each-blank}
+use Rattle.text_laws.specs.Tests.{cond-true, cond-false, and-cases}
 use Rattle.text_spec.specs.Bytes.{isBlank, startsName, continuesName}
 use Rattle.text_spec.specs.Limits.{maxNameBytes, maxGroups}
 use Rattle.text_spec.specs.Lists.{bytes}
@@ -173,16 +173,9 @@ live (closed p fs h) k b = live-indicating fs k b at-closed
 live (past p fs h) k b = live-following fs k b at-past
 live (afterContent c h) k b = live-closing k b at-content
 
--- Conversely the machine makes each such step. A blank is one of three bytes.
-pub blank-is : (P : ℕ → Type 0) → P 32 → P 9 → P 10 → (b : ℕ) → T (isBlank b) → P b
-blank-is P x y z b t =
-    ⊎-elim (λ e. at 32 e x) (λ u. ⊎-elim (λ e. at 9 e y) (λ e. at 10 e z) (or-cases (eqb b 9) (eqb b 10) u)) (or-cases (eqb b 32) (eqb b 9 || eqb b 10) t)
-  where
-    at : (c : ℕ) → T (eqb b c) → P c → P b
-    at c e p = subst P (sym (eqb→eq b c e)) p
-
+-- Conversely the machine makes each such step.
 begins-no-blank : (b : ℕ) → T (startsName b) → T (isBlank b) → ⊥
-begins-no-blank b s t = blank-is (λ c. T (startsName c) → ⊥) (λ z. z) (λ z. z) (λ z. z) b t s
+begins-no-blank b s t = each-blank (λ c. T (startsName c) → ⊥) (λ z. z) (λ z. z) (λ z. z) b t s
 
 -- a byte that begins a name differs from one that does not
 begins-other : (b c : ℕ) → (T (startsName c) → ⊥) → T (startsName b) → T (eqb b c) → ⊥
@@ -234,9 +227,9 @@ step-mark k at-closed mark-oneOrMore = refl
 
 step-over-blank : {q : State} {p : Particle Use} {f : Frame} {fs : List Frame} {h : Head} (k b : ℕ) → Over q p (f ∷ fs) h → T (isBlank b) → step q k b ≡ past p (f ∷ fs) h
 unfolding step
-step-over-blank {q} {p} {f} {fs} {h} k b (unmarked at-name) t = blank-is (λ c. step q k c ≡ past p (f ∷ fs) h) refl refl refl b t
-step-over-blank {q} {p} {f} {fs} {h} k b (unmarked at-closed) t = blank-is (λ c. step q k c ≡ past p (f ∷ fs) h) refl refl refl b t
-step-over-blank {q} {p} {f} {fs} {h} k b at-past t = blank-is (λ c. step q k c ≡ past p (f ∷ fs) h) refl refl refl b t
+step-over-blank {q} {p} {f} {fs} {h} k b (unmarked at-name) t = each-blank (λ c. step q k c ≡ past p (f ∷ fs) h) refl refl refl b t
+step-over-blank {q} {p} {f} {fs} {h} k b (unmarked at-closed) t = each-blank (λ c. step q k c ≡ past p (f ∷ fs) h) refl refl refl b t
+step-over-blank {q} {p} {f} {fs} {h} k b at-past t = each-blank (λ c. step q k c ≡ past p (f ∷ fs) h) refl refl refl b t
 
 step-over-part : {q : State} {p : Particle Use} {f : Frame} {fs : List Frame} {h : Head} (k : ℕ) {x : ℕ} {s t : Separator} → Over q p (f ∷ fs) h → Holds f s → Parts s x t
     → step q k x ≡ expecting (holding t (join f p)) fs h
@@ -262,9 +255,9 @@ step-over-close k at-past = refl
 
 step-finish-blank : {q : State} {c : Content Use} {h : Head} (k b : ℕ) → Finished q c h → T (isBlank b) → step q k b ≡ afterContent c h
 unfolding step
-step-finish-blank {q} {c} {h} k b (at-model (unmarked at-closed)) t = blank-is (λ i. step q k i ≡ afterContent c h) refl refl refl b t
-step-finish-blank {q} {c} {h} k b (at-model at-past) t = blank-is (λ i. step q k i ≡ afterContent c h) refl refl refl b t
-step-finish-blank {q} {c} {h} k b at-content t = blank-is (λ i. step q k i ≡ afterContent c h) refl refl refl b t
+step-finish-blank {q} {c} {h} k b (at-model (unmarked at-closed)) t = each-blank (λ i. step q k i ≡ afterContent c h) refl refl refl b t
+step-finish-blank {q} {c} {h} k b (at-model at-past) t = each-blank (λ i. step q k i ≡ afterContent c h) refl refl refl b t
+step-finish-blank {q} {c} {h} k b at-content t = each-blank (λ i. step q k i ≡ afterContent c h) refl refl refl b t
 
 step-finish : {q : State} {c : Content Use} {h : Head} (k : ℕ) → Finished q c h → step q k 0x3E ≡ between (declared c h ∷ h .opening .done)
 unfolding step
@@ -281,7 +274,7 @@ goes-step {k} (spelt s) = step-spelt k s
 goes-step {b} (keyword-blank t) = cond-true (isBlank b) _ _ t
 goes-step {b} (begin-name t) = cond-false (isBlank b) _ _ (begins-no-blank b t) ∙ cond-true (startsName b) _ _ t
 goes-step {b} (grow-name {n = n} t l) = cond-true (continuesName b) _ _ t ∙ cond-true (ltb (length n) maxNameBytes) _ _ (lt→ltb (length n) maxNameBytes l)
-goes-step {q} {k} {b} {r} (name-blank t) = blank-is (λ c. step q k c ≡ r) refl refl refl b t
+goes-step {q} {k} {b} {r} (name-blank t) = each-blank (λ c. step q k c ≡ r) refl refl refl b t
 goes-step begin-empty = refl
 goes-step open-content = refl
 goes-step begin-pcdata = refl

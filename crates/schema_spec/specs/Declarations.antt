@@ -26,7 +26,7 @@ emptyKeyword = bytes "EMPTY"
 abbrev pub pcdataKeyword : List ℕ
 pcdataKeyword = bytes "#PCDATA"
 
--- "('?' | '*' | '+')?" of productions 47 and 48
+-- ('?' | '*' | '+')? of productions 47 and 48
 pub data Indicator : Type 0 where
   once optional any oneOrMore : Indicator
 

@@ -62,7 +62,7 @@ pub data DeclarationText : ℕ → List ℕ → Declaration → Type 0 where
       → DeclarationText k (elementKeyword ++ (a ++ (n ++ (b ++ (w ++ (e ++ (0x3E ∷ [])))))))
       (record { place = k; name = record { place = k + length elementKeyword + length a; name = n }; content = c })
 
--- "Blanks may also stand between declarations", and before the first and after the last
+-- "Blanks (space, tab, line feed) may also stand between declarations", and before the first and after the last
 pub data DeclarationsText : ℕ → List ℕ → List Declaration → Type 0 where
   end : {k : ℕ} {a : List ℕ} → Blanks a → DeclarationsText k a []
   next : {k : ℕ} {a w r : List ℕ} {d : Declaration} {ds : List Declaration} → Blanks a → DeclarationText (k + length a) w d

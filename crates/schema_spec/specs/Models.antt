@@ -12,7 +12,7 @@ pub data Particle (A : Type 0) : Type 0 where
   -- may it repeat, may it be absent
   repeated : Bool → Bool → Particle A → Particle A
 
--- "only `EMPTY`, `(#PCDATA)` or a children model"
+-- "only `EMPTY`, `(#PCDATA)` (no star after it) or a children model"
 pub data Content (A : Type 0) : Type 0 where
   empty : Content A
   pcdata : Content A

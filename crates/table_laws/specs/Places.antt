@@ -6,9 +6,10 @@ use mathlib.Core.Path.{_≡_, refl, sym, ap}
 use Prim.Native.Nat.{ℕ, zero, suc, _<_}
 use native.Mathlib.Omega.{arith}
 use lib.ListN.{length, getElem?}
+use Rattle.text_laws.specs.Tests.{never}
 
 pub none-some : {A B : Type 0} {a : A} → none ≡ some a → B
-none-some e = let z : _≡_ {A = ℕ} 0 1 = cc in absurd (omega arith)
+none-some e = never (cc)
 
 module _ {A : Type 0} where
   pub at-before : (xs ys : List A) (i : ℕ) (x : A) → getElem? xs i ≡ some x → getElem? (xs ++ ys) i ≡ some x

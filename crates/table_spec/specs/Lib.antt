@@ -1,4 +1,5 @@
 pub mod Rows
+pub mod Columns
 pub mod Nodes
 pub mod Tables
 pub mod Conditions

@@ -2,7 +2,7 @@
 use mathlib.Core.List.{List, [], _∷_}
 use mathlib.Core.Option.{Option, none, some}
 use Prim.Native.Nat.{ℕ}
-use Rattle.schema_spec.specs.Names.{Name, codeOf, nameOfCode}
+use Rattle.schema_spec.specs.Names.{Name, element, text, codeOf, nameOfCode}
 use Rattle.text_spec.specs.Lists.{part}
 
 -- "One row per node: number, name, parent's row, start and length of its text."
@@ -13,9 +13,27 @@ pub record Row : Type 0 where
   pub start : ℕ
   pub size : ℕ
 
+-- Rows are made by this function.
+abbrev pub row : ℕ → Name → ℕ → ℕ → ℕ → Row
+row number name parent start size = record { number = number; name = name; parent = parent; start = start; size = size }
+
+-- the row of an element, which "carries text 0, 0", and that of a text
+abbrev pub elementRow : ℕ → ℕ → ℕ → Row
+elementRow number e parent = row number (element e) parent 0 0
+
+abbrev pub textRow : ℕ → ℕ → ℕ → ℕ → ℕ → Row
+textRow number e parent start size = row number (text e) parent start size
+
+-- the same node under another parent row, or with its text at another start
+abbrev pub withParent : ℕ → Row → Row
+withParent parent r = row (r .number) (r .name) parent (r .start) (r .size)
+
+abbrev pub withStart : ℕ → Row → Row
+withStart start r = row (r .number) (r .name) (r .parent) start (r .size)
+
 -- "The text of a row is handed back as that part of the journal."
 abbrev pub textOf : List ℕ → Row → List ℕ
-textOf text r = part (r .start) (r .size) text
+textOf lent r = part (r .start) (r .size) lent
 
 -- a row as numbers, its name by its code, as a caller lends it or gets it
 pub record Cells : Type 0 where
@@ -30,7 +48,7 @@ cellsOf r = record { number = r .number; name = codeOf (r .name); parent = r .pa
 
 abbrev pub rowWith : Cells → Option Name → Option Row
 rowWith c none = none
-rowWith c (some n) = some (record { number = c .number; name = n; parent = c .parent; start = c .start; size = c .size })
+rowWith c (some n) = some (row (c .number) n (c .parent) (c .start) (c .size))
 
 abbrev pub rowOf : Cells → Option Row
 rowOf c = rowWith c (nameOfCode (c .name))

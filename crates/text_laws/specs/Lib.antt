@@ -1,7 +1,10 @@
 pub mod Tests
 pub mod Lists
+pub mod Bytes
 pub mod Refusals
 pub mod Order
 pub mod Texts
 pub mod Departures
 pub mod Cells
+pub mod Searches
+pub mod Loops

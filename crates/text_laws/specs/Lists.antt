@@ -2,11 +2,12 @@
 use mathlib.Core.Bool.{Bool, true, false, cond}
 use mathlib.Core.List.{List, [], _∷_, _++_, map, List·Memᴰ as In, List·Memᴰ·head as here, List·Memᴰ·tail as there, List·Memᴰ·append-cases as append-cases, Memᴰ·append-left as append-left, Memᴰ·append-right as append-right}
 use mathlib.Core.Logic.{_⊎_, inl, inr, ⊎-elim}
+use mathlib.Core.Option.{Option, none, some}
 use mathlib.Core.Path.{_≡_, refl, sym, ap, subst, _∙_}
 use Prim.Native.Nat.{ℕ}
 use lib.Dec.{T, eqb, eqb→eq, eqb-refl}
 use Rattle.text_laws.specs.Tests.{or-left, or-right, or-cases, and-intro, and-cases}
-use Rattle.text_spec.specs.Lists.{anyOf, allOf, filterBy, gather, sameBy, sameBytes, isEmpty}
+use Rattle.text_spec.specs.Lists.{anyOf, allOf, filterBy, gather, sameBy, sameBytes, isEmpty, isNone}
 
 module _ {A : Type 0} where
   pub any-in : (f : A → Bool) {xs : List A} {y : A} → In y xs → T (f y) → T (anyOf f xs)
@@ -28,6 +29,15 @@ module _ {A : Type 0} where
   pub in-all : (f : A → Bool) (xs : List A) → ((y : A) → In y xs → T (f y)) → T (allOf f xs)
   in-all f [] h = tt
   in-all f (x ∷ xs) h = and-intro (f x) (allOf f xs) (h x (here refl)) (in-all f xs (λ y i. h y (there i)))
+
+  pub all-append : (f : A → Bool) (xs ys : List A) → T (allOf f xs) → T (allOf f ys) → T (allOf f (xs ++ ys))
+  all-append f [] ys t u = u
+  all-append f (x ∷ xs) ys t u =
+      let c = and-cases (f x) (allOf f xs) t in
+      and-intro (f x) (allOf f (xs ++ ys)) (c .0) (all-append f xs ys (c .1) u)
+
+  pub all-snoc : (f : A → Bool) (xs : List A) (y : A) → T (allOf f xs) → T (f y) → T (allOf f (xs ++ (y ∷ [])))
+  all-snoc f xs y t u = all-append f xs (y ∷ []) t (and-intro (f y) true u tt)
 
   chosen : (b : Bool) (x y : A) (r : List A) → T b → y ≡ x → In y (cond b (x ∷ r) r)
   chosen true x y r t e = here e
@@ -93,6 +103,10 @@ module _ {A : Type 0} where
   pub member-fills : {xs : List A} {y : A} → In y xs → T (isEmpty xs) → ⊥
   member-fills (here e) t = t
   member-fills (there i) t = t
+
+  pub is-none : (o : Option A) → T (isNone o) → o ≡ none
+  is-none none t = refl
+  is-none (some x) t = absurd t
 
   -- a list without members is empty
   pub memberless : (xs : List A) → ((y : A) → In y xs → ⊥) → xs ≡ []

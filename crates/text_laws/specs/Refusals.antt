@@ -2,9 +2,8 @@
 use mathlib.Core.Bool.{Bool, true, false}
 use mathlib.Core.List.{List, [], _∷_, List·Memᴰ as In, List·Memᴰ·head as here, List·Memᴰ·tail as there}
 use mathlib.Core.Path.{_≡_, refl}
-use Prim.Native.Nat.{ℕ}
-use native.Mathlib.Omega.{arith}
 use lib.Dec.{T}
+use Rattle.text_laws.specs.Tests.{never}
 use Rattle.text_spec.specs.Refusals.{Refusal, given, firstOf, accepted, judged}
 
 -- what an accepted text gives, and that nothing was found against it
@@ -12,8 +11,7 @@ pub judged-accepted : {A : Type 0} (fs : List Refusal) (a b : A) → judged fs a
 unfolding firstOf
 judged-accepted [] a b e = (refl, cc)
 judged-accepted (f ∷ fs) a b e =
-    let z : _≡_ {A = ℕ} 0 1 = cc in
-    absurd (omega arith)
+    never (cc)
 
 pub judged-free : {A : Type 0} (fs : List Refusal) (a : A) → fs ≡ [] → judged fs a ≡ accepted a
 unfolding firstOf
@@ -22,8 +20,7 @@ judged-free fs a e = rw e
 -- a test found nothing only if it failed
 pub given-free : (b : Bool) (f : Refusal) → given b f ≡ [] → T b → ⊥
 given-free true f e t =
-    let z : _≡_ {A = ℕ} 0 1 = cc in
-    omega arith
+    never (cc)
 given-free false f e t = t
 
 pub in-given : (b : Bool) {f g : Refusal} → T b → g ≡ f → In g (given b f)

@@ -1,8 +1,14 @@
 -- Laws of tests: a test that passes, one that fails, and their conjunctions. Assumes nothing.
 use mathlib.Core.Bool.{Bool, true, false, cond, not, _&&_, _||_}
 use mathlib.Core.Logic.{_⊎_, inl, inr}
-use mathlib.Core.Path.{_≡_, refl, sym, subst}
+use mathlib.Core.Path.{_≡_, refl, sym, ap, subst}
+use Prim.Native.Nat.{ℕ}
+use native.Mathlib.Omega.{arith}
 use lib.Dec.{T}
+
+-- What does not hold gives anything. `cc` shows 0 ≡ 1 from an equation between two constructors.
+pub never : {A : Type 0} → _≡_ {A = ℕ} 0 1 → A
+never e = absurd (omega arith)
 
 pub passed : {b : Bool} → b ≡ true → T b
 passed e = subst T (sym e) tt
@@ -51,7 +57,24 @@ pub decided : (b : Bool) → T b ⊎ (T b → ⊥)
 decided true = inl tt
 decided false = inr (λ t. t)
 
--- a choice by a test whose answer is known
+-- two tests that pass together are equal
+pub same-test : (a b : Bool) → (T a → T b) → (T b → T a) → a ≡ b
+same-test true true f g = refl
+same-test true false f g = absurd (f tt)
+same-test false true f g = absurd (g tt)
+same-test false false f g = refl
+
+-- a test whose negation fails passes
+pub not-not : (b : Bool) → (T (not b) → ⊥) → T b
+not-not true n = tt
+not-not false n = absurd (n tt)
+
+-- a test fails if it is part of a disjunction that fails
+pub or-false : (a b : Bool) → (a || b) ≡ false → (a ≡ false) × (b ≡ false)
+or-false true b e = never (cc)
+or-false false b e = (refl, e)
+
+-- a choice by a test whose answer is known, as a test that passes or as an equation
 pub cond-true : {A : Type 0} (b : Bool) (x y : A) → T b → cond b x y ≡ x
 cond-true true x y t = refl
 cond-true false x y t = absurd t
@@ -59,3 +82,10 @@ cond-true false x y t = absurd t
 pub cond-false : {A : Type 0} (b : Bool) (x y : A) → (T b → ⊥) → cond b x y ≡ y
 cond-false true x y n = absurd (n tt)
 cond-false false x y n = refl
+
+module _ {A : Type 0} {b : Bool} (x y : A) where
+  pub cond-yes : b ≡ true → cond b x y ≡ x
+  cond-yes e = ap (λ (t : Bool). cond t x y) e
+
+  pub cond-no : b ≡ false → cond b x y ≡ y
+  cond-no e = ap (λ (t : Bool). cond t x y) e

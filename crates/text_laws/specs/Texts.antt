@@ -117,8 +117,10 @@ split-at [] n h = absurd (omega arith)
 split-at (x ∷ xs) zero h = split-first x xs
 split-at (x ∷ xs) (suc n) h = split-later x (split-at xs n (omega arith))
 
-pub split-in : {A : Type 0} {xs : List A} {x : A} → In x xs → (i : ℕ) × (s : SplitAt xs i) × (s .here ≡ x)
-split-in (here {x = y} {xs = ys} e) = (0, split-first y ys, sym e)
-split-in (there {x = y} i) =
-    let r = split-in i in
-    (suc (r .0), split-later y (r .1), r .2)
+pub in-split : {A : Type 0} (xs : List A) {x : A} → In x xs → (i : ℕ) × (s : SplitAt xs i) × (s .here ≡ x)
+in-split xs i =
+    let r = drop-split 0 xs i in
+    (r .0, r .1, r .3)
+
+pub split-in : {A : Type 0} {xs : List A} {i : ℕ} (s : SplitAt xs i) → In (s .here) xs
+split-in s = split-drop 0 s (omega arith)

@@ -3,7 +3,7 @@ use mathlib.Core.Bool.{Bool, true, false, cond, _&&_, _||_}
 use mathlib.Core.List.{List, [], _∷_, _++_}
 use mathlib.Core.Option.{Option, none, some}
 use Prim.Native.Char.{code}
-use Prim.Native.Nat.{ℕ, suc}
+use Prim.Native.Nat.{ℕ, zero, suc}
 use Prim.Native.String as Text
 use Prim.Native.String.{String}
 use lib.Dec.{eqb}
@@ -65,6 +65,11 @@ module _ {A B : Type 0} where
   abbrev pub gather : (A → List B) → List A → List B
   gather f [] = []
   gather f (x ∷ xs) = f x ++ gather f xs
+
+-- some number below a bound passes a test
+unfoldable pub anyBelow : ℕ → (ℕ → Bool) → Bool
+anyBelow zero f = false
+anyBelow (suc n) f = anyBelow n f || f n
 
 abbrev pub sameBytes : List ℕ → List ℕ → Bool
 sameBytes u v = sameBy eqb u v

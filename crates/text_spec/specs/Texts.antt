@@ -32,7 +32,7 @@ LengthApplies limit text k = ((text ≡ []) ⊎ (limit < length text)) × (k ≡
 abbrev pub ByteApplies : List ℕ → ℕ → Type 0
 ByteApplies text k = (s : SplitAt text k) × T (isForeign (s .here))
 
--- Refusals 4 and 8, for a grammar given as a relation: "the first byte after which no text could go on; its length if it stops short".
+-- Refusals 4 and 8, for a grammar given as a relation: the first byte after which no text of it could go on; "its length if it stops short".
 abbrev pub Beginning : (List ℕ → Type 0) → List ℕ → Type 0
 Beginning Grammatical u = (v : List ℕ) × Grammatical (u ++ v)
 

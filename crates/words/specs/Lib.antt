@@ -1,3 +1,1 @@
-pub mod Searches
 pub mod Bits
-pub mod Loops

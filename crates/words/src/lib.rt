@@ -4,7 +4,7 @@ ghost use mathlib.Core.Path.{_≡_};
 ghost use Prim.Native.Nat.{ℕ};
 ghost use lib.Dec.{eqb, ltb};
 ghost use Rattle.schema_spec.specs.Names.{hasBit};
-ghost use Rattle.words.specs.Searches.{anyBelow};
+ghost use Rattle.text_spec.specs.Lists.{anyBelow};
 
 // Whether `i` is in the set: never for 64 or more.
 pub fn has_bit(word: u64, i: usize) -> bool

@@ -6,7 +6,7 @@ use native.Mathlib.Numerals.{add-one}
 use Rattle.closures.specs.Relations.{relates}
 use Rattle.names.specs.Sets.{member}
 use Rattle.schema_spec.specs.Names.{Name, element}
-use Rattle.words.specs.Searches.{anyBelow}
+use Rattle.text_spec.specs.Lists.{anyBelow}
 use Rattle.text_spec.specs.Limits.{maxDeclarations}
 use borrow.Author.Needs.{needs}
 use native.Mathlib.Omega.{arith}

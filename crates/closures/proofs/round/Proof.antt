@@ -4,7 +4,7 @@ use Prim.Native.Nat.{_≤_, _-_}
 use lib.ListN.{length, length-set}
 use Rattle.closures.specs.Rounds.{AfterRound, round-at, round-all}
 use Rattle.names.specs.Sets.{nothing}
-use Rattle.words.specs.Loops.{Passed, passed-first, passed-next}
+use Rattle.text_laws.specs.Loops.{Passed, passed-first, passed-next}
 use Rattle.text_spec.specs.Limits.{maxDeclarations}
 use borrow.Author.Needs.{needs}
 use native.Mathlib.Omega.{arith}

@@ -28,8 +28,8 @@ use Rattle.table_spec.specs.Rows.{Row}
 use Rattle.text_laws.specs.Lists.{all-in, memberless, append-empty, empty-of}
 use Rattle.text_laws.specs.Order.{first-once}
 use Rattle.text_laws.specs.Refusals.{judged-accepted, judged-free, given-in}
-use Rattle.text_laws.specs.Tests.{or-cases, not-intro, not-elim, decided}
-use Rattle.text_laws.specs.Texts.{length-within, split-at, split-in}
+use Rattle.text_laws.specs.Tests.{or-cases, not-intro, not-elim, decided, never}
+use Rattle.text_laws.specs.Texts.{length-within, split-at, in-split}
 use Rattle.text_spec.specs.Bytes.{isForeign}
 use Rattle.text_spec.specs.Limits.{maxNodes, maxTextBytes}
 use Rattle.text_spec.specs.Lists.{isEmpty, isNone}
@@ -39,8 +39,7 @@ use Rattle.text_spec.specs.Texts.{SplitAt, lengthRefusals}
 -- a declared root that is not the wrong one is the schema's
 right-root : (o : Option ℕ) (e : ℕ) → o ≡ some e → (T (wrongRoot [] o) → ⊥) → o ≡ some 0
 right-root none e q n =
-    let z : _≡_ {A = ℕ} 0 1 = cc in
-    absurd (omega arith)
+    never (cc)
 right-root (some x) e q n = pick (decided (eqb x 0))
   where
     pick : T (eqb x 0) ⊎ (T (eqb x 0) → ⊥) → some x ≡ some 0
@@ -92,7 +91,7 @@ module _ (limit : ℕ) (s : Schema) (lent : List ℕ) where
         nltb→le maxTextBytes (x .bytes)
         (not-intro (ltb maxTextBytes (x .bytes))
         (λ t.
-        let p = split-in i in
+        let p = in-split _ i in
         not-over (p .1) (inr (subst (λ (y : NodeStart). maxTextBytes < y .bytes) (sym (p .2)) (ltb→lt maxTextBytes (x .bytes) t)))))
 
     pub free-valid : ValidJournal limit s lent (reverse (built limit s lent .rows))
@@ -131,8 +130,7 @@ module _ (limit : ℕ) (s : Schema) (lent : List ℕ) where
         let b : _≡_ {A = Bool} (build s (eventsFrom between 0 []) start .rooted) true =
         ap (λ (w : List ℕ). build s (eventsFrom between 0 w) start .rooted) (sym e) ∙ ap (λ (x : Building). x .rooted) built-as in
         let z : _≡_ {A = Bool} false true = b in
-        let y : _≡_ {A = ℕ} 0 1 = cc in
-        omega arith
+        never (cc)
 
     late-free : (r : Reason) (k : ℕ) → Late r → In (at r k) (treeHeld s (v .place) (v .name) (v .content) .faults) → ⊥
     late-free undeclaredElement k late-14 i =
@@ -174,8 +172,7 @@ module _ (limit : ℕ) (s : Schema) (lent : List ℕ) where
     none-found f (in-misspelt i) = elim (subst (λ (ks : List ℕ). In f (allAt misspelt ks)) (tokens-lexed (v .tree .spelt) .1) i) [ ]
     none-found f (in-broken e) =
         let b : none ≡ some f = ap (λ (x : Building). x .broken) (sym built-as) ∙ e in
-        let z : _≡_ {A = ℕ} 0 1 = cc in
-        omega arith
+        never (cc)
     none-found f (in-early i) = elim (subst (λ (b : Building). In f (endsEarly b (length lent))) built-as i) [ ]
     none-found f (in-faults i) = late-free (f .reason) (f .place) (reasons-of s (eventsFrom between 0 lent) .faulted-by f i) (subst (λ (b : Building). In f (b .faults)) built-as i)
 

@@ -3,7 +3,7 @@ use mathlib.Core.Path.{_≡_, refl, _∙_}
 use Prim.Native.Nat.{_≤_, _-_}
 use lib.ListN.{length, length-set}
 use Rattle.models.specs.BuildingLaws.{LinkedAt, linked-next, linked-all}
-use Rattle.words.specs.Loops.{Passed, passed-first, passed-next}
+use Rattle.text_laws.specs.Loops.{Passed, passed-first, passed-next}
 use borrow.Author.Needs.{needs}
 use native.Mathlib.Omega.{arith}
 use Rattle.models.proofs.link.Statement.{statement}

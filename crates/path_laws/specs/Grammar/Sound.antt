@@ -1,11 +1,11 @@
 -- What the machine spells is a bundle text of the grammar: what each state says of the text read so far. Assumes nothing.
-use mathlib.Core.Bool.{Bool, true, false, cond, _&&_}
+use mathlib.Core.Bool.{Bool, true, false, cond}
 use mathlib.Core.List.{List, [], _∷_, _++_, reverse, append-assoc, append-nil}
 use mathlib.Core.Path.{_≡_, refl, sym, ap, subst, _∙_}
-use Prim.Native.Nat.{ℕ, suc, _+_, _-_, _≤_}
+use Prim.Native.Nat.{ℕ, suc, _+_, _-_}
 use native.Mathlib.Nat.{zero-add}
 use native.Mathlib.Omega.{arith}
-use lib.Dec.{T, eqb, leb, ltb, eqb→eq, le→leb, ltb→lt}
+use lib.Dec.{T, eqb, ltb, eqb→eq, ltb→lt}
 use lib.ListN.{length, length-append}
 use Rattle.path_laws.specs.Grammar.Joined.{Before, none-before, one-more, slash, lineFeed, alternative-joined, condition-joined, path-joined, Line, a-line, Lines, no-lines, some-lines, lines-joined, reversed-filled}
 use Rattle.path_laws.specs.Grammar.Runs.{final, run-spells}
@@ -13,11 +13,11 @@ use Rattle.path_spec.specs.Grammar.{PathRead, nodeCall, textCall, orWord, TestT
 use Rattle.path_spec.specs.Machine.{Choice, allChoices, Outer, Inner, Context, outside, inside, State, dead, lineStart, inAxis, beforeTest, inTest, inCall, afterCall, inOr, afterBrackets, goesOn, goingOn, axisBy, beginStep, withStep, withPlain, withAlternative, bracketed, stepDone, tested, callOf, orByte, step, spells, parse}
 use Rattle.path_spec.specs.Paths.{WrittenAxis, spellAxis, NodeTest, named, WrittenStep, PlainStep, Condition, LocationPath}
 use Rattle.schema_spec.specs.Declarations.{Use}
+use Rattle.text_laws.specs.Bytes.{one-byte-name, name-snoc}
 use Rattle.text_laws.specs.Lists.{bytes-equal}
-use Rattle.text_laws.specs.Tests.{and-cases, and-intro}
 use Rattle.text_spec.specs.Bytes.{startsName, continuesName, isName}
 use Rattle.text_spec.specs.Limits.{maxNameBytes}
-use Rattle.text_spec.specs.Lists.{bytes, allOf, isEmpty, sameBytes}
+use Rattle.text_spec.specs.Lists.{bytes, isEmpty, sameBytes}
 
 -- ---- a path before one of its steps: lines, then steps
 data InPath : Outer → List ℕ → Type 0 where
@@ -154,25 +154,6 @@ tested-byte {u} {w} b (in-inner i) t =
     (by-byte (u ++ w) b 0x20 (in-or (u ++ w) (0x20 ∷ []) (plain-or d)) (by-byte (u ++ w) b 0x5D (after-brackets (plain-closed d)) no-way))
 
 -- ---- names and calls
-all-longer : (b : ℕ) (m : List ℕ) → T (allOf continuesName m) → T (continuesName b) → T (allOf continuesName (m ++ (b ∷ [])))
-all-longer b [] t c = and-intro (continuesName b) true c tt
-all-longer b (d ∷ m) t c =
-    let h = and-cases (continuesName d) (allOf continuesName m) t in
-    and-intro (continuesName d) (allOf continuesName (m ++ (b ∷ []))) (h .0) (all-longer b m (h .1) c)
-
-name-longer : (b : ℕ) (n : List ℕ) → T (isName n) → T (continuesName b) → T (ltb (length n) maxNameBytes) → T (isName (n ++ (b ∷ [])))
-name-longer b [] t c l = absurd t
-name-longer b (d ∷ m) t c l =
-    let h = and-cases (startsName d) (allOf continuesName m && leb (length (d ∷ m)) maxNameBytes) t in
-    let g = and-cases (allOf continuesName m) (leb (length (d ∷ m)) maxNameBytes) (h .1) in
-    let e : length (d ∷ m ++ (b ∷ [])) ≤ maxNameBytes = omega (arith, length-append m (b ∷ []), ltb→lt (length (d ∷ m)) maxNameBytes l) in
-    and-intro (startsName d) (allOf continuesName (m ++ (b ∷ [])) && leb (length (d ∷ m ++ (b ∷ []))) maxNameBytes) (h .0)
-    (and-intro (allOf continuesName (m ++ (b ∷ []))) (leb (length (d ∷ m ++ (b ∷ []))) maxNameBytes) (all-longer b m (g .0) c)
-    (le→leb (length (d ∷ m ++ (b ∷ []))) maxNameBytes e))
-
-one-byte-name : (b : ℕ) → T (startsName b) → T (isName (b ∷ []))
-one-byte-name b t = and-intro (startsName b) true t tt
-
 -- a call: its name, then `(`
 calls : {a : WrittenAxis} {t : NodeTest Use} {x : Context} {u : List ℕ} (n w : List ℕ) → InContext x u → ((k : ℕ) → TestText k w t) → T (sameBytes (n ++ bytes "()") w)
     → Read (inCall a t x) (u ++ (spellAxis a ++ n) ++ (0x28 ∷ []))
@@ -203,7 +184,7 @@ read-byte b (before-test {a = a} {x = x} {u = u} i) =
     by-test (startsName b) (λ t. rw append-assoc (in-test i (length-append u (spellAxis a)) (one-byte-name b t))) (λ e. no-way)
 read-byte b (in-test {a = a} {j = j} {n = n} {x = x} {u = u} i e t) =
     by-test (continuesName b)
-    (λ c. by-test (ltb (length n) maxNameBytes) (λ l. subst (Read (inTest a j (n ++ (b ∷ [])) x)) (simp append-assoc) (in-test i e (name-longer b n t c l))) (λ l. no-way))
+    (λ c. by-test (ltb (length n) maxNameBytes) (λ l. subst (Read (inTest a j (n ++ (b ∷ [])) x)) (simp append-assoc) (in-test i e (name-snoc n b t c (ltb→lt (length n) maxNameBytes l)))) (λ l. no-way))
     (λ c. by-byte (u ++ (spellAxis a ++ n)) b 0x28 (call-of a n i)
     (tested-byte b i (plain a (subst (λ (k : ℕ). TestText k n (named (record { place = j; name = n }))) e (a-name n t)))))
 read-byte b (in-call {a = a} {t = t} {x = x} {u = u} n i f) =

@@ -5,7 +5,7 @@ use Rattle.projection_spec.specs.Cases.Opened.{computing}
 use Rattle.projection_spec.specs.Cases.Questions.{Text, schemaRead, bundleRead, journalRead, extractRead, tableLent, names, taken, turnedBack, theNames, answerTo, Case, case, AllHold, copies, pathsOf}
 use Rattle.projection_spec.specs.Cases.Tried.{schemaS, journalJ, steps}
 use Rattle.projection_spec.specs.Inference.Needed.{neededBeforeFilter}
-use Rattle.projection_spec.specs.Library.Lent.{Columns}
+use Rattle.table_spec.specs.Columns.{Columns}
 use Rattle.schema_spec.specs.Names.{element, has}
 use Rattle.schema_spec.specs.Records.{schemaIn}
 use Rattle.schema_spec.specs.Types.{typesOf}
@@ -16,7 +16,7 @@ use mathlib.Core.Bool.{true}
 abbrev pub schemaA : Text
 schemaA = bytes "<!ELEMENT a (a|b|t)*><!ELEMENT b EMPTY><!ELEMENT t (#PCDATA)>"
 
--- "the last filter .. is not vacuous": elements r, m, z, y, x, a, q
+-- a schema for which the last filter drops a name: elements r, m, z, y, x, a, q
 abbrev pub schemaR : Text
 schemaR = bytes "<!ELEMENT r (x|m)*><!ELEMENT m (z)*><!ELEMENT z (y|q)*><!ELEMENT y (a)*><!ELEMENT x (a|q)*><!ELEMENT a EMPTY><!ELEMENT q EMPTY>"
 

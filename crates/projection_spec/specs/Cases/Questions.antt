@@ -11,7 +11,7 @@ use Rattle.projection_spec.specs.Extracts.Cut.{cut}
 use Rattle.projection_spec.specs.Extracts.Reading.{readExtract}
 use Rattle.projection_spec.specs.Inference.Needed.{needed}
 use Rattle.projection_spec.specs.Library.Hosts.{extractOf}
-use Rattle.projection_spec.specs.Library.Lent.{Columns}
+use Rattle.table_spec.specs.Columns.{Columns}
 use Rattle.projection_spec.specs.Library.Listing.{listing}
 use Rattle.projection_spec.specs.Library.Records.{passesTable}
 use Rattle.schema_spec.specs.Names.{Names}

@@ -6,17 +6,17 @@ use lib.ListN.{length, take}
 use Rattle.schema_spec.specs.Names.{Names, has, setOfWord}
 use Rattle.schema_spec.specs.Types.{Types}
 use Rattle.table_spec.specs.Nodes.{Node, allNames, nodeAt}
-use Rattle.table_spec.specs.Rows.{Row}
+use Rattle.table_spec.specs.Rows.{Row, withParent}
 use Rattle.text_spec.specs.Lists.{filterBy}
 
--- "a row is kept if its name and the names of all its ancestors are in the set"
+-- "keeps a row if its name and the names of all its ancestors are in the set"
 abbrev pub kept : Names → Node → Bool
 kept set y = allNames (λ n. has n set) y
 
 -- "numbers stay, parent rows are renumbered": a parent's new row is the count of rows kept before it
 abbrev pub renumbered : Names → List Node → Row → Row
 renumbered set before r =
-    record { number = r .number; name = r .name; parent = length (filterBy (kept set) (take (r .parent) before)); start = r .start; size = r .size }
+    withParent (length (filterBy (kept set) (take (r .parent) before))) r
 
 abbrev pub cutFrom : Names → List Node → List Row → List Row
 cutFrom set before [] = []

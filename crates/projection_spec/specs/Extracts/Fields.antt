@@ -24,7 +24,7 @@ twoBytes n = (n / 256 % 256) ∷ (n % 256) ∷ []
 abbrev pub field : ℕ → List ℕ → List ℕ
 field tag value = tag ∷ (twoBytes (length value) ++ value)
 
--- "01 hex, length 5: node number (2), parent's number (2), element index (1)"; "02 hex, length 4 + n: number (2), parent's number (2),
+-- "01 hex, length 5: node number (2), parent's number (2, the root's own is 0), element index (1)"; "02 hex, length 4 + n: number (2), parent's number (2),
 -- n raw text bytes"
 abbrev pub rowField : Name → ℕ → ℕ → List ℕ → List ℕ
 rowField (element e) number parent w = field elementTag (twoBytes number ++ (twoBytes parent ++ (e ∷ [])))

@@ -6,9 +6,9 @@ use Prim.Native.Nat.{ℕ, zero, suc, _+_, _*_}
 use lib.Dec.{eqb, leb}
 use lib.ListN.{length, take, drop}
 use Rattle.projection_spec.specs.Extracts.Fields.{elementTag, textTag, countTag}
-use Rattle.schema_spec.specs.Names.{element, text}
+use Rattle.schema_spec.specs.Names.{element}
 use Rattle.schema_spec.specs.Types.{Types}
-use Rattle.table_spec.specs.Rows.{Row}
+use Rattle.table_spec.specs.Rows.{Row, elementRow, textRow}
 use Rattle.table_spec.specs.Tables.{wellFormedWith}
 use Rattle.text_spec.specs.Lists.{isEmpty}
 use Rattle.text_spec.specs.Refusals.{Outcome, judged, at, given, badLength, badExtract}
@@ -82,12 +82,6 @@ abbrev pub consRow : Row → Option (List Row) → Option (List Row)
 consRow r none = none
 consRow r (some rs) = some (r ∷ rs)
 
-abbrev pub elementRow : ℕ → ℕ → ℕ → Row
-elementRow number parent e = record { number = number; name = element e; parent = parent; start = 0; size = 0 }
-
-abbrev pub textRow : ℕ → ℕ → ℕ → ℕ → ℕ → Row
-textRow number parent e start size = record { number = number; name = text e; parent = parent; start = start; size = size }
-
 abbrev pub topRow : List Placed → ℕ
 topRow [] = 0
 topRow (p ∷ ps) = p .row
@@ -105,11 +99,11 @@ laterRows next opens (countItem n ∷ []) = cond (eqb n next) (some []) none
 laterRows next opens (countItem n ∷ i ∷ is) = none
 laterRows next opens (elementItem number parent e ∷ is) =
     let os = openFrom parent opens in
-    let later = consRow (elementRow number (topRow os) e) (laterRows (suc next) (record { row = next; number = number; element = e } ∷ os) is) in
+    let later = consRow (elementRow number e (topRow os)) (laterRows (suc next) (record { row = next; number = number; element = e } ∷ os) is) in
     cond (isEmpty os) none later
 laterRows next opens (textItem number parent start size ∷ is) =
     let os = openFrom parent opens in
-    let later = consRow (textRow number (topRow os) (topElement os) start size) (laterRows (suc next) os is) in
+    let later = consRow (textRow number (topElement os) (topRow os) start size) (laterRows (suc next) os is) in
     cond (isEmpty os) none later
 
 -- "the root's own is 0"
@@ -120,7 +114,7 @@ rowsOfItems (textItem number parent start size ∷ is) = none
 rowsOfItems (countItem n ∷ []) = cond (eqb n 0) (some []) none
 rowsOfItems (countItem n ∷ i ∷ is) = none
 rowsOfItems (elementItem number parent e ∷ is) =
-    let later = consRow (elementRow number 0 e) (laterRows 1 (record { row = 0; number = number; element = e } ∷ []) is) in
+    let later = consRow (elementRow number e 0) (laterRows 1 (record { row = 0; number = number; element = e } ∷ []) is) in
     cond (eqb parent 0) later none
 
 -- 17. "Bytes are no extract of a well-formed table whose texts pass 3."

@@ -15,9 +15,9 @@ use Rattle.projection_spec.specs.Extracts.Conditions.{ExtractApplies, Ex
 use Rattle.projection_spec.specs.Extracts.Cut.{cut}
 use Rattle.projection_spec.specs.Inference.Needed.{needed}
 use Rattle.projection_spec.specs.Library.Hosts.{Answer, answer, extractOf}
-use Rattle.projection_spec.specs.Library.Lent.{Sizes, Columns, sizesOf}
+use Rattle.table_spec.specs.Columns.{Sizes, Columns, sizesOf, cellsFrom}
 use Rattle.projection_spec.specs.Library.Listing.{decimal, lineFeed, chain, header, refusedLine}
-use Rattle.projection_spec.specs.Library.Records.{TextRecord, recordOf, cellsFrom}
+use Rattle.projection_spec.specs.Library.Records.{TextRecord, recordOf}
 use Rattle.schema_spec.specs.Conditions.{SchemaApplies, SchemaGives}
 use Rattle.schema_spec.specs.Records.{SchemaProducible}
 use Rattle.schema_spec.specs.Schemas.{Schema}
@@ -80,7 +80,7 @@ pub data Makes (schema bundle journal : List ℕ) (z : Sizes) (size : ℕ) : Out
       → JournalTaken maxJournalBytes s journal rows → (TooFewCells z size (answer rows (extractOf s ps journal rows)) → ⊥)
       → Makes schema bundle journal z size (accepted (answer rows (extractOf s ps journal rows)))
 
--- "path number out of range: 1"
+-- a path number out of range is refused by 1
 pub data OutOfRange (schema bundle : List ℕ) (path : ℕ) : Type 0 where
   never : maxPaths ≤ path → OutOfRange schema bundle path
   not-here : {s : Schema} {ps : List (LocationPath ℕ)} → SchemaTaken schema s → BundleTaken s bundle ps → length ps ≤ path → OutOfRange schema bundle path

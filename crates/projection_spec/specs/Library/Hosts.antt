@@ -9,7 +9,8 @@ use Rattle.projection_spec.specs.Extracts.Cut.{cut}
 use Rattle.projection_spec.specs.Extracts.Fields.{writeExtract}
 use Rattle.projection_spec.specs.Extracts.Reading.{readExtract}
 use Rattle.journal_spec.specs.Reading.{readJournal}
-use Rattle.projection_spec.specs.Library.Lent.{Sizes, equalSizes, Columns, columnsOf, tooSmall}
+use Rattle.table_spec.specs.Columns.{Sizes, equalSizes, Columns, columnsOf}
+use Rattle.text_spec.specs.Cells.{tooSmall}
 use Rattle.path_spec.specs.Paths.{LocationPath}
 use Rattle.path_spec.specs.Reading.{readBundle}
 use Rattle.path_spec.specs.Selection.{selectRows}
@@ -30,7 +31,7 @@ pub record Answer : Type 0 where
 abbrev pub answer : List Row → List ℕ → Answer
 answer rows items = record { rows = rows; items = items }
 
--- "the extract made holds the journal's rows cut to the bundle's needed names"
+-- Demand 2: the extract made holds the journal's rows cut to the bundle's needed names.
 unfoldable pub extractOf : Schema → List (LocationPath ℕ) → List ℕ → List Row → List ℕ
 extractOf s ps journal rows = writeExtract journal (cut (needed (typesOf s) ps) rows)
 
@@ -54,7 +55,7 @@ makeExtract schema bundle journal z size =
 unfoldable pub pathsOf : List ℕ → List ℕ → Outcome (List (LocationPath ℕ))
 pathsOf schema bundle = andThen (readSchema schema) (λ s. readBundle s bundle)
 
--- "path number out of range: 1": no bundle has such a path, or this one has not; a bundle that is refused has no range
+-- a path number out of range is refused by 1: no bundle has such a path, or this one has not; a bundle that is refused has no range
 abbrev pub inRange : ℕ → Outcome (List (LocationPath ℕ)) → Bool
 inRange i (accepted ps) = not (leb (length ps) i)
 inRange i (refused f) = not (leb maxPaths i)

@@ -6,7 +6,7 @@ use lib.Dec.{eqb, ltb}
 use lib.ListN.{length}
 use Rattle.projection_spec.specs.Extracts.Cut.{cut}
 use Rattle.journal_spec.specs.Reading.{readJournal}
-use Rattle.projection_spec.specs.Library.Lent.{tooSmall}
+use Rattle.text_spec.specs.Cells.{tooSmall}
 use Rattle.path_spec.specs.Paths.{LocationPath}
 use Rattle.path_spec.specs.Reading.{readBundle}
 use Rattle.path_spec.specs.Selection.{select}

@@ -1,16 +1,16 @@
 -- Refusal 1 on what is handed in: records that no reader can produce, and tables with the text lent beside them. Assumes nothing.
 use mathlib.Core.Bool.{Bool, false, _&&_}
-use mathlib.Core.List.{List, [], _∷_}
+use mathlib.Core.List.{List}
 use mathlib.Core.Option.{Option, none, some}
-use Prim.Native.Nat.{ℕ, zero, suc}
+use Prim.Native.Nat.{ℕ}
 use lib.Dec.{leb}
-use lib.ListN.{length, take, getD}
-use Rattle.projection_spec.specs.Library.Lent.{Columns, sizesOf, equalSizes}
+use lib.ListN.{length, take}
+use Rattle.table_spec.specs.Columns.{Columns, sizesOf, equalSizes, cellsFrom}
 use Rattle.path_spec.specs.Reading.{isBundleRecord}
 use Rattle.schema_spec.specs.Records.{isSchemaRecord}
 use Rattle.schema_spec.specs.Schemas.{Schema}
 use Rattle.schema_spec.specs.Types.{Types, typesOf}
-use Rattle.table_spec.specs.Rows.{Row, Cells, rowsOf}
+use Rattle.table_spec.specs.Rows.{Row, rowsOf}
 use Rattle.table_spec.specs.Tables.{wellFormedWith}
 use Rattle.text_spec.specs.Cells.{padded}
 use Rattle.text_spec.specs.Limits.{maxSchemaBytes, maxBundleBytes}
@@ -38,21 +38,12 @@ passesSchema r = isRecord maxSchemaBytes r && isSchemaRecord (textIn r)
 unfoldable pub passesBundle : Schema → TextRecord → Bool
 passesBundle s r = isRecord maxBundleBytes r && isBundleRecord s (textIn r)
 
--- the first rows of lent columns, as many as are said to be rows
-abbrev pub cellsAt : Columns → ℕ → Cells
-cellsAt c i =
-    record { number = getD (c .numbers) i 0; name = getD (c .names) i 0; parent = getD (c .parents) i 0; start = getD (c .starts) i 0; size = getD (c .lengths) i 0 }
-
-abbrev pub cellsFrom : Columns → ℕ → ℕ → List Cells
-cellsFrom c i zero = []
-cellsFrom c i (suc n) = cellsAt c i ∷ cellsFrom c (suc i) n
-
 abbrev pub passesRows : Types → List ℕ → Option (List Row) → Bool
 passesRows s lent none = false
 passesRows s lent (some rows) = wellFormedWith s lent rows
 
--- "a table is not well formed, or a text row points outside its text or at a byte that fails 3"; "columns of unequal length, or a count
--- above their length: 1"
+-- "a table is not well formed, or a text row points outside its text or at a byte that fails 3"; columns of
+-- unequal length and a count above their length are refused by 1, too
 unfoldable pub passesTable : Schema → Columns → ℕ → List ℕ → Bool
 passesTable s c count lent =
     equalSizes (sizesOf c) && (leb count (length (c .numbers)) && passesRows (typesOf s) lent (rowsOf (cellsFrom c 0 count)))

@@ -3,7 +3,7 @@ use mathlib.Core.Bool.{Bool, _&&_, _||_}
 use mathlib.Core.Path.{sym, ap, _∙_}
 use borrow.Author.Needs.{needs}
 use Rattle.schema_spec.specs.Names.{text}
-use Rattle.words.specs.Searches.{anyBelow}
+use Rattle.text_spec.specs.Lists.{anyBelow}
 use Rattle.names.specs.declared.NameSet.{NameSet}
 use Rattle.names.specs.Sets.{member, overlap}
 use Rattle.names.proofs.NameSet.meets.Statement.{statement}

@@ -1,11 +1,11 @@
--- Lent outputs: tables as columns of cells; refusal 18. Assumes nothing.
+-- Tables as lent columns of numbers: the rows in their cells, and then zeros.
 use mathlib.Core.Bool.{Bool, _&&_}
-use mathlib.Core.List.{List, map}
-use Prim.Native.Nat.{ℕ}
-use lib.Dec.{eqb, ltb}
-use lib.ListN.{length}
+use mathlib.Core.List.{List, [], _∷_, map}
+use Prim.Native.Nat.{ℕ, zero, suc}
+use lib.Dec.{eqb}
+use lib.ListN.{length, getD}
 use Rattle.schema_spec.specs.Names.{codeOf}
-use Rattle.table_spec.specs.Rows.{Row}
+use Rattle.table_spec.specs.Rows.{Row, Cells}
 use Rattle.text_spec.specs.Cells.{padded}
 
 -- a table as lent columns of numbers
@@ -30,7 +30,7 @@ allOfSize n = record { numbers = n; names = n; parents = n; starts = n; lengths 
 abbrev pub sizesOf : Columns → Sizes
 sizesOf c = record { numbers = length (c .numbers); names = length (c .names); parents = length (c .parents); starts = length (c .starts); lengths = length (c .lengths) }
 
--- "Columns of unequal length .. : 1"
+-- columns of unequal length are refused by 1
 abbrev pub equalSizes : Sizes → Bool
 equalSizes z = eqb (z .names) (z .numbers) && (eqb (z .parents) (z .numbers) && (eqb (z .starts) (z .numbers) && eqb (z .lengths) (z .numbers)))
 
@@ -45,6 +45,11 @@ columnsOf z rows =
       lengths = padded (z .lengths) (map (λ r. r .size) rows);
     }
 
--- 18. "A lent output has fewer cells than the answer takes."
-abbrev pub tooSmall : {A : Type 0} → ℕ → List A → Bool
-tooSmall size answer = ltb size (length answer)
+-- the first rows of lent columns, as many as are said to be rows
+abbrev pub cellsAt : Columns → ℕ → Cells
+cellsAt c i =
+    record { number = getD (c .numbers) i 0; name = getD (c .names) i 0; parent = getD (c .parents) i 0; start = getD (c .starts) i 0; size = getD (c .lengths) i 0 }
+
+abbrev pub cellsFrom : Columns → ℕ → ℕ → List Cells
+cellsFrom c i zero = []
+cellsFrom c i (suc n) = cellsAt c i ∷ cellsFrom c (suc i) n
