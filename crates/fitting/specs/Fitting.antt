@@ -7,7 +7,7 @@ use Prim.Native.Nat.{ℕ, _≤_, _<_}
 use native.Mathlib.Nat.{zero-add}
 use native.Mathlib.Omega.{arith}
 use borrow.Author.Tests.{lt-ltb}
-use lib.Dec.{T, eqb, ltb, eqb→eq, eqb-refl}
+use lib.Dec.{T, eqb, ltb}
 use lib.ListN.{length, getD}
 use Rattle.fitting.specs.Marks.{marked, marked-cong, marked-none, nullable-marked, final-marked, after, Labelled, shift-marked, labels}
 use Rattle.models.specs.Automaton.{AutomatonOf}
@@ -20,19 +20,14 @@ use Rattle.schema_laws.specs.Models.{fits-decides}
 use Rattle.schema_spec.specs.Models.{Particle, uses, Fits, Position, shift, nullable, Progress, amid, started, advance, complete, advanceAll, fits}
 use Rattle.schema_spec.specs.Names.{hasBit}
 use Rattle.text_laws.specs.Searches.{any-cong, any-none}
+use Rattle.text_spec.specs.Limits.{maxModelNames}
 use Rattle.text_spec.specs.Lists.{anyBelow}
-use Rattle.text_laws.specs.Tests.{same-test}
+use Rattle.text_laws.specs.Tests.{eqb-sym}
 
 -- what a state stands for
 abbrev pub progressOf : Particle ℕ → State → Progress
 progressOf p Start = started p
 progressOf p (Amid w) = amid (marked 0 p (hasBit w))
-
-pub eqb-sym : (a b : ℕ) → eqb a b ≡ eqb b a
-eqb-sym a b = same-test (eqb a b) (eqb b a) (turned a b) (turned b a)
-  where
-    turned : (x y : ℕ) → T (eqb x y) → T (eqb y x)
-    turned x y t = subst (λ (z : ℕ). T (eqb z x)) (eqb→eq x y t) (eqb-refl x)
 
 module _ (p : Particle ℕ) (e : Ends) (elements predecessors : List ℕ) (t : AutomatonOf p e elements predecessors) where
   abbrev label : ℕ → ℕ
@@ -45,35 +40,35 @@ module _ (p : Particle ℕ) (e : Ends) (elements predecessors : List ℕ) (t : A
   pub mayEnd-complete : (state : State) → mayEnd e state ≡ complete (progressOf p state)
   mayEnd-complete Start = t .absent ∙ sym (ap nullable (marked-none 0 p) ∙ nullable-marked 0 p (λ i. false))
   mayEnd-complete (Amid w) =
-      any-cong 64 (λ i. hasBit w i && hasBit (e .last) i) (λ i. hasBit w i && isLast 0 p i) (λ i l. ap (λ (b : Bool). hasBit w i && b) (t .last i l))
-      ∙ sym (final-marked 64 0 p (hasBit w) (omega (arith, t .few)))
+      any-cong maxModelNames (λ i. hasBit w i && hasBit (e .last) i) (λ i. hasBit w i && isLast 0 p i) (λ i l. ap (λ (b : Bool). hasBit w i && b) (t .last i l))
+      ∙ sym (final-marked maxModelNames 0 p (hasBit w) (omega (arith, t .few)))
 
   module _ (child j : ℕ) (inside : j < size p) where
     -- the position is one of the automaton's
     reached : ltb j (positions elements predecessors) ≡ true
     reached = lt-ltb j (positions elements predecessors) (omega (arith, t .few, t .room .0, t .room .1))
 
-    from-start : comesNext e elements predecessors Start child (positions elements predecessors) j ≡ after 64 true label 0 p (λ i. false) child j
+    from-start : comesNext e elements predecessors Start child (positions elements predecessors) j ≡ after maxModelNames true label 0 p (λ i. false) child j
     from-start =
         ap₂ (λ (x y : Bool). x && (y && hasBit (e .first) j)) reached (eqb-sym (label j) child)
         ∙ ap (λ (b : Bool). eqb child (label j) && b)
-        (t .first j inside ∙ sym (ap (λ (b : Bool). isFirst 0 p j || b) (any-none 64) ∙ or-false (isFirst 0 p j)))
+        (t .first j inside ∙ sym (ap (λ (b : Bool). isFirst 0 p j || b) (any-none maxModelNames) ∙ or-false (isFirst 0 p j)))
 
-    from-amid : (w : ℕ) → comesNext e elements predecessors (Amid w) child (positions elements predecessors) j ≡ after 64 false label 0 p (hasBit w) child j
+    from-amid : (w : ℕ) → comesNext e elements predecessors (Amid w) child (positions elements predecessors) j ≡ after maxModelNames false label 0 p (hasBit w) child j
     from-amid w =
-        ap₂ (λ (x y : Bool). x && (y && anyBelow 64 (λ i. hasBit w i && hasBit (getD predecessors j 0) i))) reached (eqb-sym (label j) child)
+        ap₂ (λ (x y : Bool). x && (y && anyBelow maxModelNames (λ i. hasBit w i && hasBit (getD predecessors j 0) i))) reached (eqb-sym (label j) child)
         ∙ ap (λ (b : Bool). eqb child (label j) && b)
-        (any-cong 64 (λ i. hasBit w i && hasBit (getD predecessors j 0) i) (λ i. hasBit w i && isNext 0 p i j) (λ i l. ap (λ (b : Bool). hasBit w i && b) (t .next i j l inside)))
+        (any-cong maxModelNames (λ i. hasBit w i && hasBit (getD predecessors j 0) i) (λ i. hasBit w i && isNext 0 p i j) (λ i l. ap (λ (b : Bool). hasBit w i && b) (t .next i j l inside)))
 
   -- one child more is one step of the marks
   pub step-advances : (state : State) (child : ℕ) (r : State) → Stepped e elements predecessors state child r → progressOf p r ≡ advance (progressOf p state) child
   step-advances state child Start h = absurd (subst T (sym (h .amid)) tt)
   step-advances Start child (Amid w) h =
-      ap amid (marked-cong 0 p (hasBit w) (after 64 true label 0 p (λ i. false) child) (λ j l u. h .positions j ∙ from-start child j (omega arith))
-      ∙ sym (ap (λ (x : Particle Position). shift true x child) (marked-none 0 p) ∙ shift-marked 64 label child true 0 p (λ i. false) (omega (arith, t .few)) labelled))
+      ap amid (marked-cong 0 p (hasBit w) (after maxModelNames true label 0 p (λ i. false) child) (λ j l u. h .positions j ∙ from-start child j (omega arith))
+      ∙ sym (ap (λ (x : Particle Position). shift true x child) (marked-none 0 p) ∙ shift-marked maxModelNames label child true 0 p (λ i. false) (omega (arith, t .few)) labelled))
   step-advances (Amid v) child (Amid w) h =
-      ap amid (marked-cong 0 p (hasBit w) (after 64 false label 0 p (hasBit v) child) (λ j l u. h .positions j ∙ from-amid child j (omega arith) v)
-      ∙ sym (shift-marked 64 label child false 0 p (hasBit v) (omega (arith, t .few)) labelled))
+      ap amid (marked-cong 0 p (hasBit w) (after maxModelNames false label 0 p (hasBit v) child) (λ j l u. h .positions j ∙ from-amid child j (omega arith) v)
+      ∙ sym (shift-marked maxModelNames label child false 0 p (hasBit v) (omega (arith, t .few)) labelled))
 
 -- a run: from one state to another, child by child
 pub data Run (e : Ends) (elements predecessors : List ℕ) : State → List ℕ → State → Type 0 where

@@ -1,15 +1,15 @@
--- `set_of` meets its contract: the elements passed are in the set, the others are still to come. Assumes nothing.
+-- `set_of` meets its contract: the elements passed are in the set, the others are still to come.
 use mathlib.Core.Bool.{_||_}
 use mathlib.Core.Path.{_≡_}
 use Prim.Native.Nat.{_-_}
 use lib.ListN.{length, drop}
 use Rattle.names.specs.Sets.{member}
 use Rattle.schema_spec.specs.Names.{Name}
-use Rattle.schema_tables.proofs.Holding.{among-first, among-next, among-all}
-use Rattle.schema_tables.specs.Rows.{isOneOf}
+use Rattle.schema_elements.proofs.Holding.{among-first, among-next, among-all}
+use Rattle.schema_elements.specs.Entries.{isOneOf}
 use borrow.Author.Needs.{needs}
-use Rattle.schema_tables.proofs.set_of.Statement.{statement}
-use Rattle.schema_tables.proofs.set_of.Tie as tie
+use Rattle.schema_elements.proofs.set_of.Statement.{statement}
+use Rattle.schema_elements.proofs.set_of.Tie as tie
 
 abbrev Inv-loop : tie.InvT-loop
 Inv-loop elements set₀ i₀ set i = (n : Name) → (member set n || isOneOf (drop i elements) n) ≡ isOneOf elements n
@@ -22,10 +22,9 @@ loop-holds c = among-first (c .before .before .args .elements .now) (c .empty .r
 
 loop-again : tie.Need-loop-again Inv-loop μ-loop
 loop-again c =
-    let at = c .before .before .before .before .loop in
-    let elements = c .before .before .before .before .before .before .before .args .elements .now in
-    among-next elements (at .i) (at .set) (c .insert-element .result) (c .before .before .before .loop-test .taken) (at .inv)
-    (rw (c .before .wide .ensures) at (c .insert-element .ensures))
+    let at = c .before .before .before .loop in
+    let elements = c .before .before .before .before .before .before .args .elements .now in
+    among-next elements (at .i) (at .set) (c .insert-element .result) (c .before .before .loop-test .taken) (at .inv) (c .insert-element .ensures)
 
 returns : tie.Need-returns Inv-loop μ-loop
 returns c = among-all (c .before .before .before .before .args .elements .now) (c .before .loop .i) (c .before .loop .set) (c .loop-test .left) (c .before .loop .inv)
@@ -39,7 +38,7 @@ set-of-spec =
     (λ c κs. search needs)
     loop-holds
     (λ c. search needs)
-    (λ c κs. search needs)
+    (λ c. search needs)
     (λ c κs. search needs)
     (λ c. search needs)
     (λ c. search needs)

@@ -1,9 +1,9 @@
--- `ends_of` meets its contract. Assumes nothing.
+-- `ends_of` meets its contract.
 use mathlib.Core.Path.{sym, ap}
-use Rattle.schema_tables.specs.Rows.{endsIn}
+use Rattle.schema_elements.specs.Entries.{endsIn}
 use borrow.Author.Needs.{needs}
-use Rattle.schema_tables.proofs.ends_of.Statement.{statement}
-use Rattle.schema_tables.proofs.ends_of.Tie as tie
+use Rattle.schema_elements.proofs.ends_of.Statement.{statement}
+use Rattle.schema_elements.proofs.ends_of.Tie as tie
 
 returns : tie.Need-returns
 returns c = ap endsIn (sym (c .enum-told .given .1))
