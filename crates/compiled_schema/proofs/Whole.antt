@@ -12,7 +12,7 @@ use Rattle.closures.specs.Schemas.{below-right}
 use Rattle.closures.specs.Tables.{relates, Below}
 use Rattle.names.specs.Sets.{member}
 use Rattle.names.specs.declared.NameSet.{NameSet}
-use Rattle.schema.proofs.Naming.{declared-names}
+use Rattle.declarations.specs.DeclarationLaws.{declared-names}
 use Rattle.schema.specs.declared.Answer.{Answer}
 use Rattle.schema.specs.Answers.{meant, sized, JudgedAs}
 use Rattle.schema.specs.Whole.{Kept, Limits, within, passed, AllSpelt, AllRead}
@@ -24,7 +24,6 @@ use Rattle.schema.specs.declared.Kind.{Kind}
 use Rattle.schema_laws.specs.Accepted.{Spelt, accepted-spelt, accepted-closed, names-of-elements}
 use Rattle.schema_laws.specs.Lists.{in-nothing}
 use Rattle.schema_spec.specs.Closure.{byWayOf, closure}
-use Rattle.schema_spec.specs.Machine.{spells, departs}
 use Rattle.schema_spec.specs.Names.{Name, element, namesOf}
 use Rattle.schema_spec.specs.Reading.{limitPlaces, readSchema}
 use Rattle.schema_spec.specs.Records.{schemaIn}
@@ -35,6 +34,7 @@ use Rattle.schema_tables.proofs.Reaching.{located-long}
 use Rattle.schema_tables.specs.Reading.{Located}
 use Rattle.schema_tables.specs.Tables.{RowsOf, TablesOf}
 use Rattle.schema_tables.specs.declared.Rows.{Rows}
+use Rattle.text_spec.specs.Machines.{spells, departs}
 use Rattle.text_spec.specs.Refusals.{Outcome, accepted, refused, resultOr}
 
 -- ---- a refused text has the schema with no element

@@ -5,7 +5,7 @@ ghost use mathlib.Core.Path.{_≡_};
 ghost use Prim.Native.Nat.{ℕ};
 ghost use lib.ListN.{length};
 ghost use Rattle.compiled_schema.specs.Compiled.{EntriesOf, CompiledOf};
-ghost use Rattle.schema_elements.specs.Reading.{Resolved};
+ghost use Rattle.schema_elements.specs.Reading.{AcceptedWith};
 ghost use Rattle.schema_spec.specs.Records.{schemaIn};
 use models::MAX_POSITIONS;
 use names::MAX_ELEMENTS;
@@ -72,7 +72,7 @@ impl CompiledSchema {
 
 // The entries of all elements. `uses` has the elements that their models use.
 fn all_entries(s: &[u8], uses: &[usize], count: usize) -> Entries
-    requires { ⌜ Resolved (now s) (now uses) × (count ≡ length (schemaIn (now s))) ⌝ }
+    requires { ⌜ AcceptedWith (now s) (now uses) × (count ≡ length (schemaIn (now s))) ⌝ }
     ensures { λ r. ⌜ EntriesOf (schemaIn (now (s .entry))) r ⌝ }
 {
     let mut kinds = [0u8; MAX_ELEMENTS];
@@ -83,7 +83,7 @@ fn all_entries(s: &[u8], uses: &[usize], count: usize) -> Entries
     let mut elements = [0u8; MAX_CELLS];
     let mut predecessors = [0u64; MAX_CELLS];
     let mut holds = [NameSet::empty(); MAX_ELEMENTS];
-    let mut at = declarations::skip(s, 0);
+    let mut at = scanning::skip(s, 0);
     let mut n = 0;
     let mut d = 0;
     while d < count {

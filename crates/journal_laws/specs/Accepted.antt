@@ -21,7 +21,7 @@ use Rattle.schema_spec.specs.Types.{Types, typesOf, holds}
 use Rattle.table_laws.specs.Fits.{RowFits, fits-row}
 use Rattle.table_laws.specs.Nodes.{nodes-same, nodes-equal}
 use Rattle.table_laws.specs.Places.{none-some, at-before, at-end, at-in}
-use Rattle.table_spec.specs.Nodes.{Node, top, under, numberOf, nameOf, same, isAbove, depthOf, nodeAt, attachTo}
+use Rattle.table_spec.specs.Nodes.{Node, top, under, nodeNumber, nameOf, same, isAbove, depthOf, nodeAt, attachTo}
 use Rattle.table_spec.specs.Rows.{Row, textOf, elementRow, textRow}
 use Rattle.table_spec.specs.Tables.{sameParent, firstText, rowFits, laterRows, wellFormed, textInside, wellFormedWith}
 use Rattle.text_laws.specs.Lists.{in-any, in-all, append-empty}
@@ -51,10 +51,10 @@ up-open p q (above {k = k} {n = n} {w = w} {q = r} h) = or-right (same p (under 
 -- a number is below n, and the parent's number below it
 abbrev ParentBefore : Node → Type 0
 ParentBefore (top k n) = Unit {0}
-ParentBefore (under k n w p) = numberOf p < k
+ParentBefore (under k n w p) = nodeNumber p < k
 
 record Numbered (n : ℕ) (z : Node) : Type 0 where
-  below : numberOf z < n
+  below : nodeNumber z < n
   ordered : ParentBefore z
 
 -- ---- the open elements and their nodes
@@ -104,14 +104,14 @@ later-row ty before previous r y rs e f rest =
     (and-intro (rowFits ty before previous r y) (laterRows ty (before ++ (y ∷ [])) y rs) (fits-row ty before previous r y f) rest)
 
 -- no text row has this parent yet, where the parent's row is the last
-first-of-parent : (before : List Node) (n e : ℕ) (w : List ℕ) (p : Node) → ((z : Node) → In z before → Numbered n z) → suc (numberOf p) ≡ n
+first-of-parent : (before : List Node) (n e : ℕ) (w : List ℕ) (p : Node) → ((z : Node) → In z before → Numbered n z) → suc (nodeNumber p) ≡ n
     → T (firstText before (under n (text e) w p))
 first-of-parent before n e w p numbered last = not-intro (anyOf (λ z. isText (nameOf z) && sameParent z (under n (text e) w p)) before) clash
   where
     no-sibling : (z : Node) → Numbered n z → T (sameParent z (under n (text e) w p)) → ⊥
     no-sibling (top k m) h t = t
     no-sibling (under k m v q) h t =
-        let z : numberOf q ≡ numberOf p = ap numberOf (nodes-equal q p t) in
+        let z : nodeNumber q ≡ nodeNumber p = ap nodeNumber (nodes-equal q p t) in
         omega arith
 
     clash : T (anyOf (λ z. isText (nameOf z) && sameParent z (under n (text e) w p)) before) → ⊥
@@ -137,9 +137,9 @@ record Standing (s : Schema) (t : Bool) (before : List Node) (previous : Node) (
   up : UpFrom node previous
   shallow : length (o ∷ os) ≤ maxDepth
   counted : length before ≡ n
-  last : suc (numberOf previous) ≡ n
+  last : suc (nodeNumber previous) ≡ n
   numbered : (z : Node) → In z before → Numbered n z
-  fresh : t ≡ false → (e : ℕ) → o .filling ≡ filledByText e → numberOf previous ≡ numberOf node
+  fresh : t ≡ false → (e : ℕ) → o .filling ≡ filledByText e → nodeNumber previous ≡ nodeNumber node
 
 data State (s : Schema) (t : Bool) (before : List Node) (previous : Node) (n : ℕ) : List Open → Type 0 where
   after-root : State s t before previous n []
@@ -170,10 +170,10 @@ module _ (s : Schema) (before : List Node) (previous : Node) (n : ℕ) (o : Open
   abbrev newNode : Node → Name → Row → Node
   newNode p a r = under n a (textOf [] r) p
 
-  node-before : {t : Bool} (h : Standing s t before previous n o os) → numberOf (h .node) < n
+  node-before : {t : Bool} (h : Standing s t before previous n o os) → nodeNumber (h .node) < n
   node-before h = numbered-below (h .numbered (h .node) (at-in before (o .row) (h .node) (chain-node (h .chain))))
     where
-      numbered-below : {z : Node} → Numbered n z → numberOf z < n
+      numbered-below : {z : Node} → Numbered n z → nodeNumber z < n
       numbered-below k = k .below
 
   longer : {t : Bool} (h : Standing s t before previous n o os) (y : Node) → length (before ++ (y ∷ [])) ≡ suc n
@@ -263,7 +263,7 @@ child-row s size final before previous n e o os rs h c deep few l =
     let y = newNode s before previous n o os (h .node) (element e) r in
     let named = chain-name (h .chain) in
     let depth : depthOf (h .node) ≡ length (o ∷ os) = chain-depth (h .chain) in
-    let prior : suc (numberOf previous) ≡ n = h .last in
+    let prior : suc (nodeNumber previous) ≡ n = h .last in
     record {
       rows = r ∷ l .rows;
       joined = l .joined;
@@ -295,9 +295,9 @@ text-row s size final before previous n e start l o os rs h f pos small fits few
     let r = textRow n e (o .row) start l in
     let y = newNode s before previous n o os (h .node) (text e) r in
     let depth : depthOf (h .node) ≡ length (o ∷ os) = chain-depth (h .chain) in
-    let prior : suc (numberOf previous) ≡ n = h .last in
+    let prior : suc (nodeNumber previous) ≡ n = h .last in
     let deep : length (o ∷ os) ≤ maxDepth = h .shallow in
-    let at-last : numberOf previous ≡ numberOf (h .node) = h .fresh refl e f in
+    let at-last : nodeNumber previous ≡ nodeNumber (h .node) = h .fresh refl e f in
     let named = chain-name (h .chain) in
     record {
       rows = r ∷ z .rows;

@@ -25,6 +25,6 @@ abbrev pub linkedBit : List ℕ → ℕ → ℕ → ℕ → ℕ → Bool
 linkedBit predecessors lasts firsts i j = hasBit (getD predecessors j 0) i || (hasBit firsts j && hasBit lasts i)
 
 -- the cells after a linking, against those before it
-pub record LinkedTable (before : List ℕ) (lasts firsts : ℕ) (after : List ℕ) : Type 0 where
+pub record LinksAdded (before : List ℕ) (lasts firsts : ℕ) (after : List ℕ) : Type 0 where
   pub long : length after ≡ length before
-  pub right : (i j : ℕ) → j < length before → hasBit (getD after j 0) i ≡ linkedBit before lasts firsts i j
+  pub bits : (i j : ℕ) → j < length before → hasBit (getD after j 0) i ≡ linkedBit before lasts firsts i j

@@ -9,7 +9,7 @@ use borrow.Author.Tests.{lt-ltb}
 use lib.Bits.{bitOr}
 use lib.Dec.{eqb, ltb}
 use lib.ListN.{length, getD}
-use Rattle.models.specs.Building.{EndsOf, Linked, linkedBit, LinkedTable}
+use Rattle.models.specs.Building.{EndsOf, Linked, linkedBit, LinksAdded}
 use Rattle.models.specs.Automaton.{AutomatonOf}
 use Rattle.models.specs.PositionLaws.{not-first, not-next}
 use Rattle.models.specs.Positions.{size, mayBeAbsent, isFirst, isLast, isNext}
@@ -76,8 +76,8 @@ module _ (before : List ℕ) (lasts firsts : ℕ) where
       new i ∙ ap₂ (λ (x : ℕ) (b : Bool). hasBit x i || (b && hasBit lasts i)) (p .kept j (omega arith)) t
 
   pub linked-all : (j : ℕ) (now : List ℕ) → length before ≤ j → length now ≡ length before → Passed (LinkedAt before lasts firsts) 0 before j now
-      → LinkedTable before lasts firsts now
-  linked-all j now past long p = record { long = long; right = λ i m l. p .done m (omega arith) i }
+      → LinksAdded before lasts firsts now
+  linked-all j now past long p = record { long = long; bits = λ i m l. p .done m (omega arith) i }
 
 -- Links. Two particles in a row are linked from the last of the one to the first of the other; of two alternatives neither follows the
 -- other; what repeats is linked from its last to its first.
@@ -94,8 +94,8 @@ module _ (k : ℕ) (p q : Particle ℕ) (before : List ℕ) (x : Linked k p befo
       second h = y i j l h (omega arith) ∙ sym (ap (λ (b : Bool). b || isNext (k + size p) q i j) (not-next k p j (λ r. omega arith) i))
 
   pub sequence-linked : (a b : Ends) (after : List ℕ) → k + (size p + size q) ≤ maxModelNames → k + (size p + size q) ≤ length before → EndsOf k p a → EndsOf (k + size p) q b
-      → LinkedTable before (a .last) (b .first) after → Linked k (sequence p q) after
-  sequence-linked a b after few room ea eb h i j l u v = h .right i j (omega arith) ∙ ⊎-elim first second (below-or-past j (k + size p))
+      → LinksAdded before (a .last) (b .first) after → Linked k (sequence p q) after
+  sequence-linked a b after few room ea eb h i j l u v = h .bits i j (omega arith) ∙ ⊎-elim first second (below-or-past j (k + size p))
     where
       first : j < k + size p → linkedBit before (a .last) (b .first) i j ≡ (isNext k p i j || (isNext (k + size p) q i j || (isLast k p i && isFirst (k + size p) q j)))
       first s =
@@ -110,9 +110,9 @@ module _ (k : ℕ) (p q : Particle ℕ) (before : List ℕ) (x : Linked k p befo
           ∙ sym (ap (λ (c : Bool). c || (isNext (k + size p) q i j || (isLast k p i && isFirst (k + size p) q j))) (not-next k p j (λ r. omega arith) i))
 
 pub repeated-linked : (k : ℕ) (o : Bool) (p : Particle ℕ) (a : Ends) (before after : List ℕ) → k + size p ≤ maxModelNames → k + size p ≤ length before → Linked k p before → EndsOf k p a
-    → LinkedTable before (a .last) (a .first) after → Linked k (repeated true o p) after
+    → LinksAdded before (a .last) (a .first) after → Linked k (repeated true o p) after
 repeated-linked k o p a before after few room x ea h i j l u v =
-    h .right i j (omega arith) ∙ ap₂ _||_ (x i j l u v) (ap₂ _&&_ (ea .first j (omega arith)) (ea .last i l) ∙ and-turned (isFirst k p j) (isLast k p i))
+    h .bits i j (omega arith) ∙ ap₂ _||_ (x i j l u v) (ap₂ _&&_ (ea .first j (omega arith)) (ea .last i l) ∙ and-turned (isFirst k p j) (isLast k p i))
 
 -- what does not repeat keeps its links
 pub once-linked : (k : ℕ) (o : Bool) (p : Particle ℕ) (before : List ℕ) → Linked k p before → Linked k (repeated false o p) before

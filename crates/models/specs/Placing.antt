@@ -7,7 +7,7 @@ use mathlib.Core.Path.{_≡_, refl, sym, ap, _∙_}
 use Prim.Native.Nat.{ℕ, _+_, _≤_, _<_}
 use native.Mathlib.Omega.{arith}
 use lib.ListN.{length, getD, List·getD-eq-default}
-use Rattle.models.specs.Building.{EndsOf, Linked, LinkedTable}
+use Rattle.models.specs.Building.{EndsOf, Linked, LinksAdded}
 use Rattle.models.specs.BuildingLaws.{choice-linked, sequence-linked, repeated-linked, once-linked}
 use Rattle.models.specs.PositionLaws.{not-first}
 use Rattle.models.specs.Positions.{size}
@@ -28,13 +28,13 @@ pub record Placed (k : ℕ) (p : Particle ℕ) (before after : List ℕ) (e : En
   pub clear : Clear (k + size p) after
 
 -- a linking changes the positions among the firsts alone
-link-other : (before after : List ℕ) (lasts firsts : ℕ) → LinkedTable before lasts firsts after → (i j : ℕ) → (j < length before → hasBit firsts j ≡ false)
+link-other : (before after : List ℕ) (lasts firsts : ℕ) → LinksAdded before lasts firsts after → (i j : ℕ) → (j < length before → hasBit firsts j ≡ false)
     → hasBit (getD after j 0) i ≡ hasBit (getD before j 0) i
 link-other before after lasts firsts h i j f = ⊎-elim inside outside (below-or-past j (length before))
   where
     inside : j < length before → hasBit (getD after j 0) i ≡ hasBit (getD before j 0) i
     inside l =
-        h .right i j l ∙ ap (λ (b : Bool). hasBit (getD before j 0) i || (b && hasBit lasts i)) (f l) ∙ or-false (hasBit (getD before j 0) i)
+        h .bits i j l ∙ ap (λ (b : Bool). hasBit (getD before j 0) i || (b && hasBit lasts i)) (f l) ∙ or-false (hasBit (getD before j 0) i)
 
     outside : length before ≤ j → hasBit (getD after j 0) i ≡ hasBit (getD before j 0) i
     outside l =
@@ -57,7 +57,7 @@ module _ (k : ℕ) (p q : Particle ℕ) (before middle : List ℕ) (a b : Ends) 
     placed-choice e ends = record { ends = ends; linked = choice-linked k p q last still (y .linked); kept = kept-both; clear = λ i j l. y .clear i j (omega arith) }
 
     pub placed-sequence : (e : Ends) (after : List ℕ) → length last ≤ maxModelNames → k + (size p + size q) ≤ length last → EndsOf k (sequence p q) e
-        → LinkedTable last (a .last) (b .first) after → Placed k (sequence p q) before after e
+        → LinksAdded last (a .last) (b .first) after → Placed k (sequence p q) before after e
     placed-sequence e after few room ends h =
         record {
           ends = ends;
@@ -74,7 +74,7 @@ module _ (k : ℕ) (o : Bool) (p : Particle ℕ) (before last : List ℕ) (a : E
   pub placed-once : EndsOf k (repeated false o p) e → Placed k (repeated false o p) before last e
   placed-once ends = record { ends = ends; linked = once-linked k o p last (x .linked); kept = x .kept; clear = x .clear }
 
-  pub placed-repeated : (after : List ℕ) → length last ≤ maxModelNames → k + size p ≤ length last → EndsOf k (repeated true o p) e → LinkedTable last (a .last) (a .first) after
+  pub placed-repeated : (after : List ℕ) → length last ≤ maxModelNames → k + size p ≤ length last → EndsOf k (repeated true o p) e → LinksAdded last (a .last) (a .first) after
       → Placed k (repeated true o p) before after e
   placed-repeated after few room ends h =
       record {

@@ -5,7 +5,7 @@ ghost use mathlib.Core.Path.{_≡_};
 ghost use Prim.Native.Nat.{ℕ, _+_, _<_};
 ghost use Rattle.schema_spec.specs.Models.{Particle, named, sequence, choice, repeated};
 ghost use Rattle.schema_spec.specs.Names.{hasBit};
-ghost use Rattle.models.specs.Building.{EndsOf, LinkedTable};
+ghost use Rattle.models.specs.Building.{EndsOf, LinksAdded};
 ghost use Rattle.models.specs.Positions.{size};
 ghost use Rattle.text_spec.specs.Limits.{maxModelNames};
 
@@ -97,7 +97,7 @@ pub fn in_repetition(a: Ends, absent: bool) -> Ends
 
 // Each position of `firsts` may come after the positions of `lasts`, besides those that it may come after already.
 pub fn link(predecessors: &mut [u64], lasts: u64, firsts: u64)
-    ensures { λ r. ⌜ LinkedTable (now (predecessors .entry)) lasts firsts (now (predecessors .exit)) ⌝ }
+    ensures { λ r. ⌜ LinksAdded (now (predecessors .entry)) lasts firsts (now (predecessors .exit)) ⌝ }
 {
     let mut j = 0;
     while j < predecessors.len() {

@@ -1,4 +1,4 @@
-pub mod Runs
+pub mod Machine
 pub mod Joined
 pub mod Complete
 pub mod Sound

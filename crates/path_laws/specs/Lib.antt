@@ -1,3 +1,4 @@
+pub mod Paths
 pub mod Selection
 pub mod Grammar
 pub mod Reading

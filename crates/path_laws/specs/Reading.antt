@@ -12,11 +12,11 @@ use lib.ListN.{length}
 use Rattle.path_laws.specs.Grammar.Complete.{parse-complete}
 use Rattle.path_laws.specs.Grammar.Places.{parse-departs}
 use Rattle.path_laws.specs.Grammar.Sound.{parse-sound}
-use Rattle.path_spec.specs.Conditions.{Grammatical, TooMuch, paths, steps, pathBytes, alternatives, alternativeSteps, OverLimit, over, Undeclared, undeclared, BundleApplies, length-2, byte-3, grammar-8, limit-9, undeclared-10, BundleGives, gives}
+use Rattle.path_spec.specs.Conditions.{Grammatical, TooMuch, paths, steps, pathBytes, conditionCount, conditionSteps, OverLimit, over, Undeclared, undeclared, BundleApplies, length-2, byte-3, grammar-8, limit-9, undeclared-10, BundleGives, gives}
 use Rattle.path_spec.specs.Grammar.{PathRead, BundleText}
-use Rattle.path_spec.specs.Machine.{Parsed, spells, departs, parse}
-use Rattle.path_spec.specs.Paths.{WrittenStep, Condition, LocationPath, pathUses}
-use Rattle.path_spec.specs.Reading.{passesLimit, limitRefusals, undeclaredPlaces, parsedRefusals, resolvedPath, parsedPaths, bundleRefusals, readBundle}
+use Rattle.path_spec.specs.Machine.{parse}
+use Rattle.path_spec.specs.Paths.{WrittenStep, Condition, conditionPaths, LocationPath, pathUses, resolvedPath}
+use Rattle.path_spec.specs.Reading.{passesConditionLimit, passesLimit, limitRefusals, undeclaredPlaces, parsedRefusals, parsedPaths, bundleRefusals, readBundle}
 use Rattle.schema_spec.specs.Declarations.{Use}
 use Rattle.schema_spec.specs.Schemas.{Schema, elementNamed}
 use Rattle.text_laws.specs.Departures.{departs-once, departs-not}
@@ -27,6 +27,7 @@ use Rattle.text_laws.specs.Tests.{or-left, or-right, or-cases}
 use Rattle.text_laws.specs.Texts.{split-first, split-later, length-found, length-listed, bytes-found, bytes-listed}
 use Rattle.text_spec.specs.Limits.{maxSteps, maxAlternatives, maxAlternativeSteps, maxPathBytes, maxPaths, maxBundleBytes}
 use Rattle.text_spec.specs.Lists.{anyOf, filterBy, gather, isNone}
+use Rattle.text_spec.specs.Machines.{Parsed, spells, departs}
 use Rattle.text_spec.specs.Refusals.{Reason, Refusal, at, allAt, given, badLength, badByte, badPath, overPathLimit, undeclaredInPath, Outcome, judged, Judged}
 use Rattle.text_spec.specs.Texts.{SplitAt, LengthApplies, ByteApplies, Departs, lengthRefusals, byteRefusals}
 
@@ -37,11 +38,11 @@ bundle-unique {text} {ps} {qs} b c =
     cc
 
 -- what was found are the places at which one refusal applies
-pub record Found (r : Reason) (fs : List Refusal) (Applies : ℕ → Type 0) : Type 0 where
+pub record FoundBy (r : Reason) (fs : List Refusal) (Applies : ℕ → Type 0) : Type 0 where
   pub sound : (f : Refusal) → In f fs → (f .reason ≡ r) × Applies (f .place)
   pub complete : (k : ℕ) → Applies k → In (at r k) fs
 
-all-found : (r : Reason) (ks : List ℕ) {Applies : ℕ → Type 0} → ((k : ℕ) → In k ks → Applies k) → ((k : ℕ) → Applies k → In k ks) → Found r (allAt r ks) Applies
+all-found : (r : Reason) (ks : List ℕ) {Applies : ℕ → Type 0} → ((k : ℕ) → In k ks → Applies k) → ((k : ℕ) → Applies k → In k ks) → FoundBy r (allAt r ks) Applies
 all-found r ks {Applies} s c =
     record {
       sound = λ f i.
@@ -53,50 +54,52 @@ all-found r ks {Applies} s c =
 -- ---- refusal 9
 -- what is too much of the brackets of a step
 abbrev overBrackets : WrittenStep Use (Condition Use) → Bool
-overBrackets q = ltb maxAlternatives (length (q .condition)) || anyOf (λ a. ltb maxAlternativeSteps (length a)) (q .condition)
+overBrackets q = passesConditionLimit (q .condition)
 
-over-in-step : (i : ℕ) (p : PathRead) (q : WrittenStep Use (Condition Use)) → In q (p .steps) → T (overBrackets q) → TooMuch i p
+over-in-step : (i : ℕ) (p : PathRead) (q : WrittenStep Use (Condition Use)) → In q (p .path .steps) → T (overBrackets q) → TooMuch i p
 over-in-step i p q m t =
-    ⊎-elim (λ h. alternatives q m (ltb→lt maxAlternatives (length (q .condition)) h))
+    let qs = conditionPaths (q .condition) in
+    ⊎-elim (λ h. conditionCount q m (ltb→lt maxAlternatives (length qs) h))
     (λ h.
-    let r = in-any (λ a. ltb maxAlternativeSteps (length a)) (q .condition) h in
-    alternativeSteps q (r .0) m (r .1) (ltb→lt maxAlternativeSteps (length (r .0)) (r .2)))
-    (or-cases (ltb maxAlternatives (length (q .condition))) (anyOf (λ a. ltb maxAlternativeSteps (length a)) (q .condition)) t)
+    let r = in-any (λ a. ltb maxAlternativeSteps (length a)) qs h in
+    conditionSteps q (r .0) m (r .1) (ltb→lt maxAlternativeSteps (length (r .0)) (r .2)))
+    (or-cases (ltb maxAlternatives (length qs)) (anyOf (λ a. ltb maxAlternativeSteps (length a)) qs) t)
 
 pub limit-passed : (i : ℕ) (p : PathRead) → T (passesLimit i p) → TooMuch i p
 limit-passed i p t =
     ⊎-elim (λ h. paths (leb→le maxPaths i h))
-    (λ h. ⊎-elim (λ h. steps (ltb→lt maxSteps (length (p .steps)) h))
+    (λ h. ⊎-elim (λ h. steps (ltb→lt maxSteps (length (p .path .steps)) h))
     (λ h. ⊎-elim (λ h. pathBytes (ltb→lt maxPathBytes (p .size) h))
     (λ h.
-    let r = in-any overBrackets (p .steps) h in
+    let r = in-any overBrackets (p .path .steps) h in
     over-in-step i p (r .0) (r .1) (r .2))
-    (or-cases (ltb maxPathBytes (p .size)) (anyOf overBrackets (p .steps)) h))
-    (or-cases (ltb maxSteps (length (p .steps))) (ltb maxPathBytes (p .size) || anyOf overBrackets (p .steps)) h))
-    (or-cases (leb maxPaths i) (ltb maxSteps (length (p .steps)) || (ltb maxPathBytes (p .size) || anyOf overBrackets (p .steps))) t)
+    (or-cases (ltb maxPathBytes (p .size)) (anyOf overBrackets (p .path .steps)) h))
+    (or-cases (ltb maxSteps (length (p .path .steps))) (ltb maxPathBytes (p .size) || anyOf overBrackets (p .path .steps)) h))
+    (or-cases (leb maxPaths i) (ltb maxSteps (length (p .path .steps)) || (ltb maxPathBytes (p .size) || anyOf overBrackets (p .path .steps))) t)
 
-in-brackets : (i : ℕ) (p : PathRead) (q : WrittenStep Use (Condition Use)) → In q (p .steps) → T (overBrackets q) → T (passesLimit i p)
+in-brackets : (i : ℕ) (p : PathRead) (q : WrittenStep Use (Condition Use)) → In q (p .path .steps) → T (overBrackets q) → T (passesLimit i p)
 in-brackets i p q m t =
-    or-right (leb maxPaths i) (ltb maxSteps (length (p .steps)) || (ltb maxPathBytes (p .size) || anyOf overBrackets (p .steps)))
-    (or-right (ltb maxSteps (length (p .steps))) (ltb maxPathBytes (p .size) || anyOf overBrackets (p .steps))
-    (or-right (ltb maxPathBytes (p .size)) (anyOf overBrackets (p .steps)) (any-in overBrackets m t)))
+    or-right (leb maxPaths i) (ltb maxSteps (length (p .path .steps)) || (ltb maxPathBytes (p .size) || anyOf overBrackets (p .path .steps)))
+    (or-right (ltb maxSteps (length (p .path .steps))) (ltb maxPathBytes (p .size) || anyOf overBrackets (p .path .steps))
+    (or-right (ltb maxPathBytes (p .size)) (anyOf overBrackets (p .path .steps)) (any-in overBrackets m t)))
 
 pub too-much-passes : {i : ℕ} {p : PathRead} → TooMuch i p → T (passesLimit i p)
 too-much-passes {i} {p} (paths l) =
-    or-left (leb maxPaths i) (ltb maxSteps (length (p .steps)) || (ltb maxPathBytes (p .size) || anyOf overBrackets (p .steps))) (le→leb maxPaths i l)
+    or-left (leb maxPaths i) (ltb maxSteps (length (p .path .steps)) || (ltb maxPathBytes (p .size) || anyOf overBrackets (p .path .steps))) (le→leb maxPaths i l)
 too-much-passes {i} {p} (steps l) =
-    or-right (leb maxPaths i) (ltb maxSteps (length (p .steps)) || (ltb maxPathBytes (p .size) || anyOf overBrackets (p .steps)))
-    (or-left (ltb maxSteps (length (p .steps))) (ltb maxPathBytes (p .size) || anyOf overBrackets (p .steps)) (lt→ltb maxSteps (length (p .steps)) l))
+    or-right (leb maxPaths i) (ltb maxSteps (length (p .path .steps)) || (ltb maxPathBytes (p .size) || anyOf overBrackets (p .path .steps)))
+    (or-left (ltb maxSteps (length (p .path .steps))) (ltb maxPathBytes (p .size) || anyOf overBrackets (p .path .steps)) (lt→ltb maxSteps (length (p .path .steps)) l))
 too-much-passes {i} {p} (pathBytes l) =
-    or-right (leb maxPaths i) (ltb maxSteps (length (p .steps)) || (ltb maxPathBytes (p .size) || anyOf overBrackets (p .steps)))
-    (or-right (ltb maxSteps (length (p .steps))) (ltb maxPathBytes (p .size) || anyOf overBrackets (p .steps))
-    (or-left (ltb maxPathBytes (p .size)) (anyOf overBrackets (p .steps)) (lt→ltb maxPathBytes (p .size) l)))
-too-much-passes {i} {p} (alternatives q m l) =
+    or-right (leb maxPaths i) (ltb maxSteps (length (p .path .steps)) || (ltb maxPathBytes (p .size) || anyOf overBrackets (p .path .steps)))
+    (or-right (ltb maxSteps (length (p .path .steps))) (ltb maxPathBytes (p .size) || anyOf overBrackets (p .path .steps))
+    (or-left (ltb maxPathBytes (p .size)) (anyOf overBrackets (p .path .steps)) (lt→ltb maxPathBytes (p .size) l)))
+too-much-passes {i} {p} (conditionCount q m l) =
+    let qs = conditionPaths (q .condition) in
+    in-brackets i p q m (or-left (ltb maxAlternatives (length qs)) (anyOf (λ a. ltb maxAlternativeSteps (length a)) qs) (lt→ltb maxAlternatives (length qs) l))
+too-much-passes {i} {p} (conditionSteps q a m n l) =
+    let qs = conditionPaths (q .condition) in
     in-brackets i p q m
-    (or-left (ltb maxAlternatives (length (q .condition))) (anyOf (λ a. ltb maxAlternativeSteps (length a)) (q .condition)) (lt→ltb maxAlternatives (length (q .condition)) l))
-too-much-passes {i} {p} (alternativeSteps q a m n l) =
-    in-brackets i p q m
-    (or-right (ltb maxAlternatives (length (q .condition))) (anyOf (λ a. ltb maxAlternativeSteps (length a)) (q .condition))
+    (or-right (ltb maxAlternatives (length qs)) (anyOf (λ a. ltb maxAlternativeSteps (length a)) qs)
     (any-in (λ a. ltb maxAlternativeSteps (length a)) n (lt→ltb maxAlternativeSteps (length a) l)))
 
 -- the paths over a limit, the first with i before it
@@ -123,7 +126,7 @@ in-limits i [] p v t =
 in-limits i (q ∷ u) p v t =
     append-right (given (passesLimit i q) (at overPathLimit (q .place))) (in-limits (suc i) u p v (subst (λ (k : ℕ). TooMuch k p) (omega arith) t))
 
-pub limits-found : (ps : List PathRead) → Found overPathLimit (limitRefusals 0 ps) (OverLimit ps)
+pub limits-found : (ps : List PathRead) → FoundBy overPathLimit (limitRefusals 0 ps) (OverLimit ps)
 limits-found ps = record { sound = to; complete = from }
   where
     to : (f : Refusal) → In f (limitRefusals 0 ps) → (f .reason ≡ overPathLimit) × OverLimit ps (f .place)
@@ -139,14 +142,14 @@ limits-found ps = record { sound = to; complete = from }
         (in-limits 0 (s .before) (s .here) (s .after) (subst (λ (j : ℕ). TooMuch j (s .here)) (omega (arith, s .placed)) t))
 
 -- ---- refusal 10
-pub undeclared-found : (s : Schema) (ps : List PathRead) → Found undeclaredInPath (allAt undeclaredInPath (undeclaredPlaces s ps)) (Undeclared s ps)
+pub undeclared-found : (s : Schema) (ps : List PathRead) → FoundBy undeclaredInPath (allAt undeclaredInPath (undeclaredPlaces s ps)) (Undeclared s ps)
 undeclared-found s ps = all-found undeclaredInPath (undeclaredPlaces s ps) to from
   where
     isUndeclared : Use → Bool
     isUndeclared u = isNone (elementNamed s (u .name))
 
     usesOf : PathRead → List Use
-    usesOf p = pathUses (p .steps)
+    usesOf p = pathUses (p .path)
 
     to : (k : ℕ) → In k (undeclaredPlaces s ps) → Undeclared s ps k
     to k m =
@@ -161,7 +164,7 @@ undeclared-found s ps = all-found undeclaredInPath (undeclaredPlaces s ps) to fr
 
 -- ---- refusal 8
 -- what the machine found is where the text departs
-pub departs-found : (text : List ℕ) (k : ℕ) → parse text ≡ departs k → Found badPath (at badPath k ∷ []) (Departs Grammatical text)
+pub departs-found : (text : List ℕ) (k : ℕ) → parse text ≡ departs k → FoundBy badPath (at badPath k ∷ []) (Departs Grammatical text)
 departs-found text k e = record { sound = to; complete = λ j d. here (ap (at badPath) (departs-once Grammatical d (parse-departs text k e))) }
   where
     to : (f : Refusal) → In f (at badPath k ∷ []) → (f .reason ≡ badPath) × Departs Grammatical text (f .place)
@@ -171,7 +174,7 @@ departs-found text k e = record { sound = to; complete = λ j d. here (ap (at ba
 -- ---- the outcome
 module _ (s : Schema) (text : List ℕ) where
   -- a refusal that was found applies
-  applies-at : {r : Reason} {fs : List Refusal} {P : ℕ → Type 0} → Found r fs P → ((k : ℕ) → P k → BundleApplies s text r k) → (f : Refusal) → In f fs
+  applies-at : {r : Reason} {fs : List Refusal} {P : ℕ → Type 0} → FoundBy r fs P → ((k : ℕ) → P k → BundleApplies s text r k) → (f : Refusal) → In f fs
       → BundleApplies s text (f .reason) (f .place)
   applies-at {r} n h f i =
       let p = n .sound f i in
@@ -181,7 +184,7 @@ module _ (s : Schema) (text : List ℕ) where
   abbrev withTextual : List Refusal → List Refusal
   withTextual fs = lengthRefusals maxBundleBytes text ++ (byteRefusals text ++ fs)
 
-  abbrev Means : Parsed → Type 0
+  abbrev Means : Parsed (List PathRead) → Type 0
   Means r = Judged (BundleApplies s text) (BundleGives s text) (judged (withTextual (parsedRefusals s r)) (parsedPaths s r))
 
   found-sound : (fs : List Refusal) → ((f : Refusal) → In f fs → BundleApplies s text (f .reason) (f .place)) → (f : Refusal)
@@ -244,7 +247,7 @@ module _ (s : Schema) (text : List ℕ) where
           parsed-in found
           (append-right (limitRefusals 0 ps) (undeclared-found s ps .complete j (subst (λ (qs : List PathRead). Undeclared s qs j) (bundle-unique b bundle) u)))
 
-  by-parse : (r : Parsed) → parse text ≡ r → Means r
+  by-parse : (r : Parsed (List PathRead)) → parse text ≡ r → Means r
   by-parse (departs k) e = departed k e
   by-parse (spells ps) e = spelt ps e
 
@@ -254,7 +257,7 @@ module _ (s : Schema) (text : List ℕ) where
 
 -- So the conditions determine the outcome.
 gives-once : (s : Schema) (text : List ℕ) (a b : List (LocationPath ℕ)) → BundleGives s text a → BundleGives s text b → a ≡ b
-gives-once s text a b (gives c) (gives d) = ap (map (λ (p : PathRead). resolvedPath s (p .steps))) (bundle-unique c d)
+gives-once s text a b (gives c) (gives d) = ap (map (λ (p : PathRead). resolvedPath s (p .path))) (bundle-unique c d)
 
 pub bundle-read-once : (s : Schema) (text : List ℕ) {o : Outcome (List (LocationPath ℕ))} → Judged (BundleApplies s text) (BundleGives s text) o → o ≡ readBundle s text
 bundle-read-once s text j = judged-once (BundleApplies s text) (BundleGives s text) (gives-once s text) j (bundle-read s text)

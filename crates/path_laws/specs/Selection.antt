@@ -10,12 +10,12 @@ use lib.Dec.{T, eqb→eq, eqb-refl}
 use lib.ListN.{getElem?}
 use Rattle.table_laws.specs.Fits.{attached-number}
 use Rattle.table_laws.specs.Nodes.{nodes-equal, nodes-same, parent-edge, edge-parent, test-above, above-test}
-use Rattle.path_spec.specs.Paths.{Axis, self, child, descendant, descendantOrSelf, parent, ancestor, ancestorOrSelf, WrittenAxis, along, NodeTest, named, anyNode, anyText, WrittenStep, PlainStep, Condition, LocationPath}
-use Rattle.path_spec.specs.Selection.{NodeSet, Passes, passes-name, passes-node, passes-text, OnAxis, on-self, on-child, on-descendant, here-or-below, below-or-here, on-parent, on-ancestor, here-or-above, above-or-here, OnWritten, on-along, StepSet, PathSet, Always, Only, Holds, no-condition, alternative, Selected, passes, onAxis, onWritten, stepFrom, pathFrom, always, holdsAt, selected, select, selectRows}
+use Rattle.path_spec.specs.Paths.{Axis, self, child, descendant, descendantOrSelf, parent, ancestor, ancestorOrSelf, WrittenAxis, along, NodeTest, named, anyNode, anyText, WrittenStep, PlainStep, Condition, unconditional, alternatives, Start, rootElement, LocationPath}
+use Rattle.path_spec.specs.Selection.{NodeSet, Passes, passes-name, passes-node, passes-text, OnAxis, on-self, on-child, on-descendant, here-or-below, below-or-here, on-parent, on-ancestor, here-or-above, above-or-here, OnWritten, on-along, StepSet, PathSet, Always, Only, Holds, no-condition, alternative, StartSet, Selected, passes, onAxis, onWritten, stepFrom, pathFrom, always, holdsAt, startNodes, selected, select, selectRows}
 use Rattle.schema_spec.specs.Names.{Name, element, text}
 use Rattle.schema_spec.specs.Types.{Types}
 use Rattle.table_spec.specs.Conditions.{RowAt, WellFormed}
-use Rattle.table_spec.specs.Nodes.{Node, nodeAt, nodesFrom, nodesOf, numberOf, nameOf, isTop, same, isAbove}
+use Rattle.table_spec.specs.Nodes.{Node, nodeAt, nodesFrom, nodesOf, nodeNumber, nameOf, isTop, same, isAbove}
 use Rattle.table_spec.specs.Rows.{Row, textOf}
 use Rattle.text_laws.specs.Lists.{any-in, in-any, in-filter, filter-in, member-fills}
 use Rattle.text_laws.specs.Tests.{or-left, or-right, or-cases, and-intro, and-cases, not-intro}
@@ -116,25 +116,26 @@ filled [] t = absurd t
 filled (x ∷ xs) t = (x, here refl)
 
 pub test-holds : (doc : List Node) (c : Condition ℕ) (y : Node) → T (holdsAt doc c y) → Holds doc c y
-test-holds doc [] y t = no-condition
-test-holds doc (q ∷ c) y t =
-    let r = in-any (λ q. not (isEmpty (pathFrom always doc q (y ∷ [])))) (q ∷ c) t in
+test-holds doc unconditional y t = no-condition
+test-holds doc (alternatives qs) y t =
+    let r = in-any (λ q. not (isEmpty (pathFrom always doc q (y ∷ [])))) qs t in
     let z = filled (pathFrom always doc (r .0) (y ∷ [])) (r .2) in
     alternative (r .0) (z .0) (r .1) (plain-members doc (r .0) y .sound (z .0) (z .1))
 
 pub holds-test : {doc : List Node} {c : Condition ℕ} {y : Node} → Holds doc c y → T (holdsAt doc c y)
 holds-test no-condition = tt
-holds-test {doc} (alternative {c = c} {y = y} q z i s) =
-    or-right (isEmpty c) (anyOf (λ p. not (isEmpty (pathFrom always doc p (y ∷ [])))) c)
-    (any-in (λ p. not (isEmpty (pathFrom always doc p (y ∷ [])))) i
-    (not-intro (isEmpty (pathFrom always doc q (y ∷ []))) (member-fills (plain-members doc q y .complete z s))))
+holds-test {doc} (alternative {y = y} q z i s) =
+    any-in (λ p. not (isEmpty (pathFrom always doc p (y ∷ [])))) i
+    (not-intro (isEmpty (pathFrom always doc q (y ∷ []))) (member-fills (plain-members doc q y .complete z s)))
 
 -- ---- a path selects what 000 says
+start-members : (a : Start) (doc : List Node) → Members (startNodes a doc) (StartSet a doc)
+start-members rootElement doc = record { sound = λ y i. filter-in isTop doc i; complete = λ y r. in-filter isTop (r .0) (r .1) }
+
 pub selected-members : (doc : List Node) (p : LocationPath ℕ) → Members (selected doc p) (Selected doc p)
 unfolding selected
 selected-members doc p =
-    path-members doc (Holds doc) holdsAt (test-holds doc) (λ c y h. holds-test h) p
-    (record { sound = λ y i. filter-in isTop doc i; complete = λ y r. in-filter isTop (r .0) (r .1) })
+    path-members doc (Holds doc) holdsAt (test-holds doc) (λ c y h. holds-test h) (p .steps) (start-members (p .start) doc)
 
 pub selected-sound : (doc : List Node) (p : LocationPath ℕ) (y : Node) → In y (selected doc p) → Selected doc p y
 selected-sound doc p y i = selected-members doc p .sound y i
@@ -149,9 +150,12 @@ path-filters : {C : Type 0} (meets : List Node → C → Node → Bool) (doc : L
 path-filters meets doc [] h = h
 path-filters meets doc (p ∷ ps) {xs} h = path-filters meets doc ps (_, refl)
 
+start-filters : (a : Start) (doc : List Node) → (f : Node → Bool) × (startNodes a doc ≡ filterBy f doc)
+start-filters rootElement doc = (isTop, refl)
+
 pub selected-filters : (doc : List Node) (p : LocationPath ℕ) → (f : Node → Bool) × (selected doc p ≡ filterBy f doc)
 unfolding selected
-selected-filters doc p = path-filters holdsAt doc p (isTop, refl)
+selected-filters doc p = path-filters holdsAt doc (p .steps) (start-filters (p .start) doc)
 
 filter-sublist : {A : Type 0} (f : A → Bool) (xs : List A) → Sublistᴰ (filterBy f xs) xs
 filter-sublist f [] = Sublistᴰ·slnil
@@ -176,19 +180,19 @@ sublist-map f (Sublistᴰ·cons s) = Sublistᴰ·cons (sublist-map f s)
 sublist-map f (Sublistᴰ·cons-cons e s) = Sublistᴰ·cons-cons (ap f e) (sublist-map f s)
 
 -- the numbers selected rise, where those of the document do
-pub select-rises : (doc : List Node) (p : LocationPath ℕ) → Pairwise _<_ (map numberOf doc) → Pairwise _<_ (select doc p)
+pub select-rises : (doc : List Node) (p : LocationPath ℕ) → Pairwise _<_ (map nodeNumber doc) → Pairwise _<_ (select doc p)
 unfolding select
-select-rises doc p r = Pairwise·sublistᴰ (sublist-map numberOf (selected-in-order doc p)) r
+select-rises doc p r = Pairwise·sublistᴰ (sublist-map nodeNumber (selected-in-order doc p)) r
 
 -- ---- on a table
-nodes-from-numbered : (lent : List ℕ) (before : List Node) (rows : List Row) → map numberOf (nodesFrom lent before rows) ≡ map (λ r. r .number) rows
+nodes-from-numbered : (lent : List ℕ) (before : List Node) (rows : List Row) → map nodeNumber (nodesFrom lent before rows) ≡ map (λ r. r .number) rows
 nodes-from-numbered lent before [] = refl
 nodes-from-numbered lent before (r ∷ rows) =
     let y = nodeAt lent before r in
-    ap (λ (k : ℕ). k ∷ map numberOf (nodesFrom lent (before ++ (y ∷ [])) rows)) (attached-number (r .number) (r .name) (textOf lent r) (getElem? before (r .parent)))
+    ap (λ (k : ℕ). k ∷ map nodeNumber (nodesFrom lent (before ++ (y ∷ [])) rows)) (attached-number (r .number) (r .name) (textOf lent r) (getElem? before (r .parent)))
     ∙ ap (λ (l : List ℕ). r .number ∷ l) (nodes-from-numbered lent (before ++ (y ∷ [])) rows)
 
-pub nodes-numbered : (lent : List ℕ) (rows : List Row) → map numberOf (nodesOf lent rows) ≡ map (λ r. r .number) rows
+pub nodes-numbered : (lent : List ℕ) (rows : List Row) → map nodeNumber (nodesOf lent rows) ≡ map (λ r. r .number) rows
 unfolding nodesOf
 nodes-numbered lent rows = nodes-from-numbered lent [] rows
 

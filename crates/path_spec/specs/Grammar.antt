@@ -3,16 +3,19 @@ use mathlib.Core.List.{List, [], _∷_, _++_}
 use Prim.Native.Nat.{ℕ, suc, _+_}
 use lib.Dec.{T}
 use lib.ListN.{length}
-use Rattle.path_spec.specs.Paths.{WrittenAxis, spellAxis, NodeTest, named, anyNode, anyText, WrittenStep, PlainStep, Condition, LocationPath}
+use Rattle.path_spec.specs.Paths.{WrittenAxis, spellAxis, NodeTest, named, anyNode, anyText, WrittenStep, PlainStep, Condition, unconditional, alternatives, LocationPath, fromRootElement}
 use Rattle.schema_spec.specs.Declarations.{Use}
 use Rattle.text_spec.specs.Bytes.{isName}
 use Rattle.text_spec.specs.Lists.{bytes}
 
--- a path where it is written: its first byte, its bytes without the line feed, its steps
+-- a path where it is written: its first byte, its bytes without the line feed, the path
 pub record PathRead : Type 0 where
   pub place : ℕ
   pub size : ℕ
-  pub steps : LocationPath Use
+  pub path : LocationPath Use
+
+abbrev pub pathRead : ℕ → ℕ → List (WrittenStep Use (Condition Use)) → PathRead
+pathRead k n ps = record { place = k; size = n; path = fromRootElement ps }
 
 abbrev pub nodeCall : List ℕ
 nodeCall = bytes "node()"
@@ -41,25 +44,25 @@ pub data AlternativeText : ℕ → List ℕ → List (PlainStep Use) → Type 0 
       → AlternativeText k (w ++ (0x2F ∷ r)) (p ∷ ps)
 
 -- alternatives parted by ` or `
-pub data ConditionText : ℕ → List ℕ → Condition Use → Type 0 where
+pub data ConditionText : ℕ → List ℕ → List (List (PlainStep Use)) → Type 0 where
   one-alternative : {k : ℕ} {w : List ℕ} {q : List (PlainStep Use)} → AlternativeText k w q → ConditionText k w (q ∷ [])
-  more-alternatives : {k : ℕ} {w r : List ℕ} {q : List (PlainStep Use)} {qs : Condition Use} → AlternativeText k w q
+  more-alternatives : {k : ℕ} {w r : List ℕ} {q : List (PlainStep Use)} {qs : List (List (PlainStep Use))} → AlternativeText k w q
       → ConditionText (k + length w + length orWord) r qs → ConditionText k (w ++ (orWord ++ r)) (q ∷ qs)
 
 -- "a step is axis`::`test, then at most one `[..]`"
 pub data StepText : ℕ → List ℕ → WrittenStep Use (Condition Use) → Type 0 where
-  bare : {k : ℕ} {w : List ℕ} {p : PlainStep Use} → PlainText k w p → StepText k w (record { axis = p .axis; test = p .test; condition = [] })
-  conditional : {k : ℕ} {w r : List ℕ} {p : PlainStep Use} {c : Condition Use} → PlainText k w p → ConditionText (suc (k + length w)) r c
-      → StepText k (w ++ (0x5B ∷ (r ++ (0x5D ∷ [])))) (record { axis = p .axis; test = p .test; condition = c })
+  bare : {k : ℕ} {w : List ℕ} {p : PlainStep Use} → PlainText k w p → StepText k w (record { axis = p .axis; test = p .test; condition = unconditional })
+  conditional : {k : ℕ} {w r : List ℕ} {p : PlainStep Use} {qs : List (List (PlainStep Use))} → PlainText k w p → ConditionText (suc (k + length w)) r qs
+      → StepText k (w ++ (0x5B ∷ (r ++ (0x5D ∷ [])))) (record { axis = p .axis; test = p .test; condition = alternatives qs })
 
 -- "Steps joined by `/`"
-pub data PathText : ℕ → List ℕ → LocationPath Use → Type 0 where
+pub data PathText : ℕ → List ℕ → List (WrittenStep Use (Condition Use)) → Type 0 where
   last-step : {k : ℕ} {w : List ℕ} {p : WrittenStep Use (Condition Use)} → StepText k w p → PathText k w (p ∷ [])
-  next-step : {k : ℕ} {w r : List ℕ} {p : WrittenStep Use (Condition Use)} {ps : LocationPath Use} → StepText k w p → PathText (suc (k + length w)) r ps
+  next-step : {k : ℕ} {w r : List ℕ} {p : WrittenStep Use (Condition Use)} {ps : List (WrittenStep Use (Condition Use))} → StepText k w p → PathText (suc (k + length w)) r ps
       → PathText k (w ++ (0x2F ∷ r)) (p ∷ ps)
 
 -- paths, "each ended by a line feed"; 8 judges them with no counts
 pub data BundleText : ℕ → List ℕ → List PathRead → Type 0 where
-  last-path : {k : ℕ} {w : List ℕ} {p : LocationPath Use} → PathText k w p → BundleText k (w ++ (0x0A ∷ [])) (record { place = k; size = length w; steps = p } ∷ [])
-  next-path : {k : ℕ} {w r : List ℕ} {p : LocationPath Use} {ps : List PathRead} → PathText k w p → BundleText (suc (k + length w)) r ps
-      → BundleText k (w ++ (0x0A ∷ r)) (record { place = k; size = length w; steps = p } ∷ ps)
+  last-path : {k : ℕ} {w : List ℕ} {s : List (WrittenStep Use (Condition Use))} → PathText k w s → BundleText k (w ++ (0x0A ∷ [])) (pathRead k (length w) s ∷ [])
+  next-path : {k : ℕ} {w r : List ℕ} {s : List (WrittenStep Use (Condition Use))} {ps : List PathRead} → PathText k w s → BundleText (suc (k + length w)) r ps
+      → BundleText k (w ++ (0x0A ∷ r)) (pathRead k (length w) s ∷ ps)

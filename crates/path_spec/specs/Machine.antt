@@ -1,15 +1,16 @@
--- A bundle text read a byte at a time: the paths that it spells, or the first byte after which no bundle could go on. Assumes nothing.
+-- The machine that reads a bundle text: its state holds the paths that have been read, and what has been read of the last one.
 use mathlib.Core.Bool.{Bool, true, false, cond}
 use mathlib.Core.List.{List, [], _∷_, _++_, map, reverse}
-use Prim.Native.Nat.{ℕ, suc, _-_}
-use lib.Dec.{eqb, ltb}
-use lib.ListN.{length, drop}
-use Rattle.path_spec.specs.Grammar.{PathRead, nodeCall, textCall, orWord}
-use Rattle.path_spec.specs.Paths.{WrittenAxis, writtenAxes, spellAxis, NodeTest, named, anyNode, anyText, PlainStep, Condition, LocationPath}
+use mathlib.Core.Option.{Option, none, some}
+use Prim.Native.Nat.{ℕ, _-_}
+use lib.Dec.{eqb}
+use lib.ListN.{drop}
+use Rattle.path_spec.specs.Grammar.{PathRead, pathRead, nodeCall, textCall, orWord}
+use Rattle.path_spec.specs.Paths.{WrittenAxis, writtenAxes, spellAxis, NodeTest, named, anyNode, anyText, WrittenStep, PlainStep, Condition, unconditional, alternatives}
 use Rattle.schema_spec.specs.Declarations.{Use}
 use Rattle.text_spec.specs.Bytes.{startsName, continuesName}
-use Rattle.text_spec.specs.Limits.{maxNameBytes}
 use Rattle.text_spec.specs.Lists.{bytes, isEmpty, sameBytes}
+use Rattle.text_spec.specs.Machines as machines
 
 -- an axis that may still be meant, and what is to come of it
 pub record Choice : Type 0 where
@@ -24,14 +25,14 @@ allChoices = map (λ a. record { axis = a; rest = spellAxis a }) writtenAxes
 pub record Outer : Type 0 where
   pub paths : List PathRead
   pub start : ℕ
-  pub steps : LocationPath Use
+  pub steps : List (WrittenStep Use (Condition Use))
 
 -- brackets that are being read: the step that carries them, the complete alternatives and the steps of this one (the last first)
 pub record Inner : Type 0 where
   pub outer : Outer
   pub axis : WrittenAxis
   pub test : NodeTest Use
-  pub alternatives : Condition Use
+  pub alternatives : List (List (PlainStep Use))
   pub steps : List (PlainStep Use)
 
 pub data Context : Type 0 where
@@ -100,18 +101,18 @@ withAlternative i =
 
 -- the brackets are complete, and with them their step
 abbrev pub bracketed : Inner → Outer
-bracketed i = withStep (i .axis) (i .test) (reverse (i .alternatives)) (i .outer)
+bracketed i = withStep (i .axis) (i .test) (alternatives (reverse (i .alternatives))) (i .outer)
 
 -- a step is complete: `/` and another, or the line feed that ends the path
 abbrev pub stepDone : Outer → ℕ → ℕ → State → State
 stepDone o k b otherwise =
     cond (eqb b 0x2F) (beginStep (outside o))
-    (cond (eqb b 0x0A) (lineStart (record { place = o .start; size = k - o .start; steps = reverse (o .steps) } ∷ o .paths)) otherwise)
+    (cond (eqb b 0x0A) (lineStart (pathRead (o .start) (k - o .start) (reverse (o .steps)) ∷ o .paths)) otherwise)
 
 -- the byte after a step's axis and test
 abbrev pub tested : WrittenAxis → NodeTest Use → Context → ℕ → ℕ → State
 tested a t (outside o) k b =
-    stepDone (withStep a t [] o) k b
+    stepDone (withStep a t unconditional o) k b
     (cond (eqb b 0x5B) (beginStep (inside (record { outer = o; axis = a; test = t; alternatives = []; steps = [] }))) dead)
 tested a t (inside i) k b =
     cond (eqb b 0x2F) (beginStep (inside (withPlain a t i)))
@@ -122,11 +123,6 @@ tested a t (inside i) k b =
 abbrev pub callOf : WrittenAxis → List ℕ → Context → State
 callOf a n x = cond (sameBytes (n ++ bytes "()") nodeCall) (inCall a anyNode x) (cond (sameBytes (n ++ bytes "()") textCall) (inCall a anyText x) dead)
 
-abbrev pub orByte : List ℕ → Inner → ℕ → State
-orByte [] i b = dead
-orByte (c ∷ []) i b = cond (eqb b c) (beginStep (inside i)) dead
-orByte (c ∷ d ∷ w) i b = cond (eqb b c) (inOr (d ∷ w) i) dead
-
 -- the byte b at the place k
 unfoldable pub step : State → ℕ → ℕ → State
 step dead k b = dead
@@ -134,35 +130,28 @@ step (lineStart ps) k b = axisByte allChoices (outside (record { paths = ps; sta
 step (inAxis cs x) k b = axisByte cs x b
 step (beforeTest a x) k b = cond (startsName b) (inTest a k (b ∷ []) x) dead
 step (inTest a j n x) k b =
-    cond (continuesName b) (cond (ltb (length n) maxNameBytes) (inTest a j (n ++ (b ∷ [])) x) dead)
+    cond (continuesName b) (machines.longer dead n b (λ m. inTest a j m x))
     (cond (eqb b 0x28) (callOf a n x) (tested a (named (record { place = j; name = n })) x k b))
 step (inCall a t x) k b = cond (eqb b 0x29) (afterCall a t x) dead
 step (afterCall a t x) k b = tested a t x k b
-step (inOr w i) k b = orByte w i b
+step (inOr w i) k b = machines.matching dead w b (beginStep (inside i)) (λ v. inOr v i)
 step (afterBrackets o) k b = stepDone o k b dead
 
-pub data Parsed : Type 0 where
-  spells : List PathRead → Parsed
-  departs : ℕ → Parsed
+-- a text ends after at least one path
+abbrev pub ends : State → Option (List PathRead)
+ends (lineStart []) = none
+ends (lineStart (p ∷ ps)) = some (reverse (p ∷ ps))
+ends dead = none
+ends (inAxis cs x) = none
+ends (beforeTest a x) = none
+ends (inTest a j n x) = none
+ends (inCall a t x) = none
+ends (afterCall a t x) = none
+ends (inOr w i) = none
+ends (afterBrackets o) = none
 
--- "its length if it stops short"
-abbrev pub atEnd : State → ℕ → Parsed
-atEnd (lineStart []) k = departs k
-atEnd (lineStart (p ∷ ps)) k = spells (reverse (p ∷ ps))
-atEnd dead k = departs k
-atEnd (inAxis cs x) k = departs k
-atEnd (beforeTest a x) k = departs k
-atEnd (inTest a j n x) k = departs k
-atEnd (inCall a t x) k = departs k
-atEnd (afterCall a t x) k = departs k
-atEnd (inOr w i) k = departs k
-atEnd (afterBrackets o) k = departs k
+abbrev pub bundleMachine : machines.Machine State (List PathRead)
+bundleMachine = record { start = lineStart []; isDead = isDead; step = step; ends = ends }
 
-unfoldable pub run : State → List ℕ → ℕ → Parsed
-run q [] k = atEnd q k
-run q (b ∷ bs) k =
-    let r = step q k b in
-    cond (isDead r) (departs k) (run r bs (suc k))
-
-unfoldable pub parse : List ℕ → Parsed
-parse text = run (lineStart []) text 0
+unfoldable pub parse : List ℕ → machines.Parsed (List PathRead)
+parse = machines.parse bundleMachine

@@ -1,7 +1,9 @@
--- Paths as values: axes, node tests, steps as written and steps as analysed, conditions. Assumes nothing.
+-- Paths as values: axes, node tests, conditions, steps as written and steps as analysed; the names in a path.
 use mathlib.Core.List.{List, [], _∷_, _++_, map}
-use Prim.Native.Nat.{ℕ}
-use Rattle.text_spec.specs.Lists.{bytes, gather}
+use Prim.Native.Nat.{ℕ, suc}
+use Rattle.schema_spec.specs.Declarations.{Use}
+use Rattle.schema_spec.specs.Schemas.{Schema, elementNamed}
+use Rattle.text_spec.specs.Lists.{bytes, gather, valueOr}
 
 -- "Axes: self, child, descendant, descendant-or-self, parent, ancestor, ancestor-or-self."
 pub data Axis : Type 0 where
@@ -36,29 +38,51 @@ pub record WrittenStep (A C : Type 0) : Type 0 where
   pub test : NodeTest A
   pub condition : C
 
--- a step as it is analysed
-pub record Step (A C : Type 0) : Type 0 where
-  pub axis : Axis
-  pub test : NodeTest A
-  pub condition : C
-
 -- steps without brackets
 abbrev pub PlainStep : Type 0 → Type 0
 PlainStep A = WrittenStep A (Unit {0})
 
--- "1 to 4 alternatives, steps without brackets"; no alternatives where no brackets stand
-abbrev pub Condition : Type 0 → Type 0
-Condition A = List (List (PlainStep A))
+-- what stands in the brackets of a step: nothing where it has none, else "1 to 4 alternatives, steps without brackets"
+pub data Condition (A : Type 0) : Type 0 where
+  unconditional : Condition A
+  alternatives : List (List (PlainStep A)) → Condition A
 
-abbrev pub LocationPath : Type 0 → Type 0
-LocationPath A = List (WrittenStep A (Condition A))
+-- the paths in a condition, in their order
+abbrev pub conditionPaths : {A : Type 0} → Condition A → List (List (PlainStep A))
+conditionPaths unconditional = []
+conditionPaths (alternatives qs) = qs
 
--- The steps by which a written step is analysed: in the base, the one step.
-abbrev pub expandStep : {A C : Type 0} → WrittenAxis → NodeTest A → C → List (Step A C)
-expandStep (along a) t c = record { axis = a; test = t; condition = c } ∷ []
+-- "A path starts at the root element"
+pub data Start : Type 0 where
+  rootElement : Start
 
-abbrev pub expand : {A C : Type 0} → List (WrittenStep A C) → List (Step A C)
-expand ps = gather (λ p. expandStep (p .axis) (p .test) (p .condition)) ps
+pub record LocationPath (A : Type 0) : Type 0 where
+  pub start : Start
+  pub steps : List (WrittenStep A (Condition A))
+
+abbrev pub fromRootElement : {A : Type 0} → List (WrittenStep A (Condition A)) → LocationPath A
+fromRootElement ps = record { start = rootElement; steps = ps }
+
+-- a step as it is analysed, with the number of the written step that it comes from, counted from 1
+pub record Step (A C : Type 0) : Type 0 where
+  pub written : ℕ
+  pub axis : Axis
+  pub test : NodeTest A
+  pub condition : C
+
+module _ {A C : Type 0} (noCondition : C) where
+  -- The steps by which the written step of number i is analysed: in the base, the one step. A step that is put in front of it carries
+  -- `noCondition`.
+  abbrev pub expandStep : ℕ → WrittenAxis → NodeTest A → C → List (Step A C)
+  expandStep i (along a) t c = record { written = i; axis = a; test = t; condition = c } ∷ []
+
+  -- the first step has the number i
+  abbrev pub expandFrom : ℕ → List (WrittenStep A C) → List (Step A C)
+  expandFrom i [] = []
+  expandFrom i (p ∷ ps) = expandStep i (p .axis) (p .test) (p .condition) ++ expandFrom (suc i) ps
+
+  abbrev pub expand : List (WrittenStep A C) → List (Step A C)
+  expand ps = expandFrom 1 ps
 
 module _ {A B : Type 0} (f : A → B) where
   abbrev pub renameTest : NodeTest A → NodeTest B
@@ -69,11 +93,15 @@ module _ {A B : Type 0} (f : A → B) where
   abbrev pub renamePlain : PlainStep A → PlainStep B
   renamePlain p = record { axis = p .axis; test = renameTest (p .test); condition = tt }
 
+  abbrev pub renameCondition : Condition A → Condition B
+  renameCondition unconditional = unconditional
+  renameCondition (alternatives qs) = alternatives (map (map renamePlain) qs)
+
   abbrev pub renameStep : WrittenStep A (Condition A) → WrittenStep B (Condition B)
-  renameStep p = record { axis = p .axis; test = renameTest (p .test); condition = map (map renamePlain) (p .condition) }
+  renameStep p = record { axis = p .axis; test = renameTest (p .test); condition = renameCondition (p .condition) }
 
   abbrev pub renamePath : LocationPath A → LocationPath B
-  renamePath p = map renameStep p
+  renamePath p = record { start = p .start; steps = map renameStep (p .steps) }
 
 -- the names that a path is written with, in their order
 abbrev pub testUses : {A : Type 0} → NodeTest A → List A
@@ -82,4 +110,8 @@ testUses anyNode = []
 testUses anyText = []
 
 abbrev pub pathUses : {A : Type 0} → LocationPath A → List A
-pathUses p = gather (λ q. testUses (q .test) ++ gather (gather (λ r. testUses (r .test))) (q .condition)) p
+pathUses p = gather (λ q. testUses (q .test) ++ gather (gather (λ r. testUses (r .test))) (conditionPaths (q .condition))) (p .steps)
+
+-- the path with its elements by index; an undeclared name gets index 0, which is never seen: refusal 10 applies
+abbrev pub resolvedPath : Schema → LocationPath Use → LocationPath ℕ
+resolvedPath s p = renamePath (λ u. valueOr 0 (elementNamed s (u .name))) p

@@ -4,9 +4,9 @@ use mathlib.Core.List.{List, [], _∷_, map, List·Memᴰ}
 use mathlib.Core.Path.{_≡_}
 use Prim.Native.Nat.{ℕ}
 use lib.Dec.{T, eqb}
-use Rattle.path_spec.specs.Paths.{Axis, self, child, descendant, descendantOrSelf, parent, ancestor, ancestorOrSelf, WrittenAxis, along, NodeTest, named, anyNode, anyText, WrittenStep, PlainStep, Condition, LocationPath}
+use Rattle.path_spec.specs.Paths.{Axis, self, child, descendant, descendantOrSelf, parent, ancestor, ancestorOrSelf, WrittenAxis, along, NodeTest, named, anyNode, anyText, WrittenStep, PlainStep, Condition, unconditional, alternatives, Start, rootElement, LocationPath}
 use Rattle.schema_spec.specs.Names.{Name, element, text}
-use Rattle.table_spec.specs.Nodes.{Node, numberOf, nameOf, isTop, same, Edge, Above, isParent, isAbove, nodesOf}
+use Rattle.table_spec.specs.Nodes.{Node, nodeNumber, nameOf, isTop, same, Edge, Above, isParent, isAbove, nodesOf}
 use Rattle.table_spec.specs.Rows.{Row}
 use Rattle.text_spec.specs.Lists.{anyOf, filterBy, isEmpty}
 
@@ -58,15 +58,16 @@ Only x y = x ≡ y
 
 -- Check[C](y): "a condition holds when some alternative selects a node"
 pub data Holds (doc : List Node) : Condition ℕ → Node → Type 0 where
-  no-condition : {y : Node} → Holds doc [] y
-  alternative : {c : Condition ℕ} {y : Node} (q : List (PlainStep ℕ)) (z : Node) → List·Memᴰ q c → PathSet doc Always q (Only y) z → Holds doc c y
+  no-condition : {y : Node} → Holds doc unconditional y
+  alternative : {qs : List (List (PlainStep ℕ))} {y : Node} (q : List (PlainStep ℕ)) (z : Node) → List·Memᴰ q qs → PathSet doc Always q (Only y) z
+      → Holds doc (alternatives qs) y
 
 -- "A path starts at the root element"
-abbrev pub Roots : List Node → NodeSet
-Roots doc x = List·Memᴰ x doc × T (isTop x)
+abbrev pub StartSet : Start → List Node → NodeSet
+StartSet rootElement doc x = List·Memᴰ x doc × T (isTop x)
 
 abbrev pub Selected : List Node → LocationPath ℕ → NodeSet
-Selected doc p = PathSet doc (Holds doc) p (Roots doc)
+Selected doc p = PathSet doc (Holds doc) (p .steps) (StartSet (p .start) doc)
 
 -- ---- The computing form, over the nodes of a document in document order.
 abbrev pub passes : NodeTest ℕ → Name → Bool
@@ -102,14 +103,19 @@ abbrev pub always : List Node → Unit {0} → Node → Bool
 always doc c y = true
 
 abbrev pub holdsAt : List Node → Condition ℕ → Node → Bool
-holdsAt doc c y = isEmpty c || anyOf (λ q. not (isEmpty (pathFrom always doc q (y ∷ [])))) c
+holdsAt doc unconditional y = true
+holdsAt doc (alternatives qs) y = anyOf (λ q. not (isEmpty (pathFrom always doc q (y ∷ [])))) qs
+
+-- the nodes that a path starts from
+abbrev pub startNodes : Start → List Node → List Node
+startNodes rootElement doc = filterBy isTop doc
 
 unfoldable pub selected : List Node → LocationPath ℕ → List Node
-selected doc p = pathFrom holdsAt doc p (filterBy isTop doc)
+selected doc p = pathFrom holdsAt doc (p .steps) (startNodes (p .start) doc)
 
 -- "Selection is a set, given in document order"; "a node is known by its number"
 unfoldable pub select : List Node → LocationPath ℕ → List ℕ
-select doc p = map numberOf (selected doc p)
+select doc p = map nodeNumber (selected doc p)
 
 -- on a table with the text lent beside it; "on an empty table nothing is selected"
 unfoldable pub selectRows : List ℕ → List Row → LocationPath ℕ → List ℕ

@@ -16,7 +16,7 @@ use Rattle.projection_spec.specs.Extracts.Cut.{kept, renumbered, cutFrom, cut}
 use Rattle.projection_laws.specs.Rows.{bare, bare-kept, bare-node, bare-filter, filtered-at, Grown, next-row, root-grown}
 use Rattle.schema_spec.specs.Names.{Name, Names, element, text, has, isText}
 use Rattle.schema_spec.specs.Types.{Types}
-use Rattle.table_spec.specs.Nodes.{Node, top, under, nameOf, numberOf, same, Edge, edge, Above, parent, higher, isAbove, attachTo, nodeAt, nodesFrom, nodesOf}
+use Rattle.table_spec.specs.Nodes.{Node, top, under, nameOf, nodeNumber, same, Edge, edge, Above, parent, higher, isAbove, attachTo, nodeAt, nodesFrom, nodesOf}
 use Rattle.table_spec.specs.Rows.{Row, textOf, withParent}
 use Rattle.table_spec.specs.Tables.{parentOpen, parentHolds, sameParent, firstText, textFits, rowFits, laterRows, wellFormed, textInside, wellFormedWith}
 use Rattle.text_laws.specs.Lists.{filter-append, filter-in, any-in, in-any}
@@ -165,7 +165,7 @@ renumbered-cells set before r (text e) t = t
 
 -- Every kept node that is open at the last row is open at the last kept row.
 cut-later : (s : Types) (set : Names) (before : List Node) (previous last : Node) (rs : List Row)
-    → ((p : Node) → T (kept set p) → OpenAt p previous → OpenAt p last) → numberOf last ≤ numberOf previous
+    → ((p : Node) → T (kept set p) → OpenAt p previous → OpenAt p last) → nodeNumber last ≤ nodeNumber previous
     → T (laterRows s before previous rs) → T (laterRows s (filterBy (kept set) before) last (cutFrom set before rs))
 cut-later s set before previous last [] inv le t = tt
 cut-later s set before previous last (r ∷ rs) inv le t =
@@ -190,10 +190,10 @@ cut-later s set before previous last (r ∷ rs) inv le t =
     opened : OpenAt (h .0) previous
     opened = test-open (h .0) previous (subst (λ (z : Node). T (parentOpen previous z)) e (f .isOpen))
 
-    number-y : numberOf y ≡ r .number
-    number-y = ap numberOf e
+    number-y : nodeNumber y ≡ r .number
+    number-y = ap nodeNumber e
 
-    rising : numberOf previous < r .number
+    rising : nodeNumber previous < r .number
     rising = f .rises
 
     -- the row is dropped: what is kept and open at its node is open at the row before

@@ -12,12 +12,13 @@ use Rattle.path_spec.specs.Reading.{readBundle}
 use Rattle.path_spec.specs.Selection.{selectRows}
 use Rattle.projection_spec.specs.Extracts.Conditions.{SameTables}
 use Rattle.projection_spec.specs.Extracts.Cut.{cut, cutToWord}
+use Rattle.projection_spec.specs.Extracts.Fields.{extractRows}
 use Rattle.projection_spec.specs.Extracts.Reading.{readExtract}
 use Rattle.projection_spec.specs.Inference.Needed.{neededByPath, needed}
 use Rattle.projection_laws.specs.Cutting.{cut-well-formed-with}
 use Rattle.projection_laws.specs.Documents.{Lawful}
 use Rattle.projection_laws.specs.Lawful.{types-lawful}
-use Rattle.projection_laws.specs.RoundTrip.{write-read}
+use Rattle.projection_laws.specs.RoundTrip.{extract-same-tables, write-read}
 use Rattle.projection_laws.specs.Tables.{cut-selects-same, same-tables-select}
 use Rattle.projection_laws.specs.TextNames.{text-names}
 use Rattle.projection_spec.specs.Library.Hosts.{extractOf}
@@ -73,12 +74,13 @@ unfolding extractOf
 extract-gives-the-same schema bundle journal s ps rows read-schema read-bundle read-journal =
     let t = table s journal rows read-journal in
     let set = needed (typesOf s) ps in
-    let w = write-read (typesOf s) (text-names s) journal (cut set rows) (cut-well-formed-with (typesOf s) set journal rows (t .1)) in (
-      w .0,
-      w .1,
-      w .2,
+    let well = cut-well-formed-with (typesOf s) set journal rows (t .1) in
+    let same = extract-same-tables (typesOf s) journal (cut set rows) well in (
+      extractRows journal (cut set rows),
+      write-read (typesOf s) journal (cut set rows) well (text-names s),
+      same,
       λ p i.
-          sym (same-tables-select (w .2) p) ∙ cut-selects-same (typesOf s) (lawful schema s read-schema) journal rows (t .0) ps p i set (λ n j. j),
+          sym (same-tables-select same p) ∙ cut-selects-same (typesOf s) (lawful schema s read-schema) journal rows (t .0) ps p i set (λ n j. j),
     )
 
 -- 3.3 For every two journals that are read under one schema, and every bundle for which they give the same extract, byte for byte: each

@@ -4,8 +4,8 @@ use mathlib.Core.Option.{some}
 use mathlib.Core.Path.{_≡_, refl}
 use Prim.Native.Nat.{ℕ, suc, _+_, _<_}
 use lib.ListN.{length, getElem?}
-use Rattle.projection_spec.specs.Extracts.Fields.{countTag, twoBytes, field, rowField, numberAt, fieldOf}
-use Rattle.projection_spec.specs.Extracts.Reading.{Item, elementItem, textItem, itemsFrom, Placed, openFrom, laterRows, rowsOfItems}
+use Rattle.projection_spec.specs.Extracts.Fields.{countTag, twoBytes, field, rowField, numberAt, fieldOf, startAt}
+use Rattle.projection_spec.specs.Extracts.Reading.{Item, elementItem, textItem, itemsFrom, Placed, openFrom, rowsOfLaterItems, rowsOfItems}
 use Rattle.projection_laws.specs.Fields.{element-read, text-read}
 use Rattle.projection_laws.specs.Opens.{placed}
 use Rattle.schema_spec.specs.Names.{element, text, Name}
@@ -16,10 +16,6 @@ use Rattle.text_spec.specs.Lists.{gather}
 abbrev pub itemAt : Name → ℕ → ℕ → ℕ → ℕ → Item
 itemAt (element e) k number parent size = elementItem number parent e
 itemAt (text e) k number parent size = textItem number parent (k + 3 + 4) size
-
-abbrev pub startAt : Name → ℕ → ℕ
-startAt (element e) k = 0
-startAt (text e) k = k + 3 + 4
 
 abbrev pub sizeAt : Name → ℕ → ℕ
 sizeAt (element e) size = 0
@@ -41,13 +37,13 @@ field-item (text e) fuel k number parent w rest p q h = text-read fuel k number 
 
 -- an item turned into a row under an open one, and the root's item into the root
 pub item-row : (n : Name) (k number parent size next : ℕ) (os : List Placed) (q : Placed) (qs : List Placed) (is : List Item) (rs : List Row)
-    → openFrom parent os ≡ q ∷ qs → ((e : ℕ) → n ≡ text e → q .element ≡ e) → laterRows (suc next) (opensAfter n next number (q ∷ qs)) is ≡ some rs
-    → laterRows next os (itemAt n k number parent size ∷ is) ≡ some (rowAt n k number (q .row) size ∷ rs)
+    → openFrom parent os ≡ q ∷ qs → ((e : ℕ) → n ≡ text e → q .element ≡ e) → rowsOfLaterItems (suc next) (opensAfter n next number (q ∷ qs)) is ≡ some rs
+    → rowsOfLaterItems next os (itemAt n k number parent size ∷ is) ≡ some (rowAt n k number (q .row) size ∷ rs)
 item-row (element e) k number parent size next os q qs is rs f named later = rw (f, later)
 item-row (text e) k number parent size next os q qs is rs f named later = rw (f, later, named e refl)
 
 pub root-item : (n : Name) (e k number parent size : ℕ) (is : List Item) (rs : List Row) → n ≡ element e → parent ≡ 0
-    → laterRows 1 (placed 0 number e ∷ []) is ≡ some rs
+    → rowsOfLaterItems 1 (placed 0 number e ∷ []) is ≡ some rs
     → rowsOfItems (itemAt n k number parent size ∷ is) ≡ some (rowAt n k number 0 size ∷ rs)
 root-item n e k number parent size is rs q z later = rw (q, z, later)
 

@@ -12,10 +12,10 @@ use Rattle.path_spec.specs.Paths.{LocationPath}
 use Rattle.path_spec.specs.Selection.{Selected, selected, select}
 use Rattle.projection_laws.specs.Numbers.{node-known}
 use Rattle.projection_spec.specs.Library.Conditions.{Chosen, FirstPath, Lines, no-lines, next-line}
-use Rattle.projection_spec.specs.Library.Listing.{listed, isIn, selectedNodes, firstSelecting, lineOf}
+use Rattle.projection_spec.specs.Library.Listing.{listingData, isIn, selectedNodes, firstSelecting, listingLine}
 use Rattle.schema_spec.specs.Schemas.{Schema}
 use Rattle.schema_spec.specs.Types.{Types}
-use Rattle.table_spec.specs.Nodes.{Node, numberOf, nodesOf}
+use Rattle.table_spec.specs.Nodes.{Node, nodeNumber, nodesOf}
 use Rattle.table_spec.specs.Rows.{Row}
 use Rattle.table_spec.specs.Tables.{wellFormed}
 use Rattle.text_laws.specs.Lists.{any-in, in-any, filter-in, in-map, map-in}
@@ -27,33 +27,33 @@ module _ (types : Types) (journal : List ℕ) (rows : List Row) (ok : T (wellFor
   doc = nodesOf journal rows
 
   abbrev chosen : Node → List (LocationPath ℕ) → Bool
-  chosen y qs = anyOf (isIn (numberOf y)) (map (select doc) qs)
+  chosen y qs = anyOf (isIn (nodeNumber y)) (map (select doc) qs)
 
   -- a node's number is listed for a path exactly if the path selects the node
-  listed-selected : (y : Node) (p : LocationPath ℕ) → In y doc → T (isIn (numberOf y) (select doc p)) → Selected doc p y
+  listed-selected : (y : Node) (p : LocationPath ℕ) → In y doc → T (isIn (nodeNumber y) (select doc p)) → Selected doc p y
   unfolding select
   listed-selected y p i t =
-      let k = in-any (eqb (numberOf y)) (select doc p) t in
-      let z = map-in numberOf (selected doc p) (k .1) in
+      let k = in-any (eqb (nodeNumber y)) (select doc p) t in
+      let z = map-in nodeNumber (selected doc p) (k .1) in
       let f = selected-filters doc p in
       let j : In (z .0) doc = filter-in (f .0) doc (subst (λ (l : List Node). In (z .0) l) (f .1) (z .1)) .0 in
-      let e : y ≡ z .0 = node-known types journal rows ok y (z .0) i j (eqb→eq (numberOf y) (k .0) (k .2) ∙ z .2) in
+      let e : y ≡ z .0 = node-known types journal rows ok y (z .0) i j (eqb→eq (nodeNumber y) (k .0) (k .2) ∙ z .2) in
       selected-sound doc p y (subst (λ (x : Node). In x (selected doc p)) (sym e) (z .1))
 
-  selected-listed : (y : Node) (p : LocationPath ℕ) → Selected doc p y → T (isIn (numberOf y) (select doc p))
+  selected-listed : (y : Node) (p : LocationPath ℕ) → Selected doc p y → T (isIn (nodeNumber y) (select doc p))
   unfolding select
-  selected-listed y p h = any-in (eqb (numberOf y)) (in-map numberOf (selected-complete doc p y h)) (eqb-refl (numberOf y))
+  selected-listed y p h = any-in (eqb (nodeNumber y)) (in-map nodeNumber (selected-complete doc p y h)) (eqb-refl (nodeNumber y))
 
-  pub chosen-nodes : Chosen doc ps (selectedNodes (listed s ps journal rows))
+  pub chosen-nodes : Chosen doc ps (selectedNodes (listingData s ps journal rows))
   chosen-nodes =
       record {
         test = λ y. chosen y ps;
         listed = refl;
         sound = λ y i t.
-            let q = in-any (isIn (numberOf y)) (map (select doc) ps) t in
+            let q = in-any (isIn (nodeNumber y)) (map (select doc) ps) t in
             let p = map-in (select doc) ps (q .1) in
-            (p .0, p .1, listed-selected y (p .0) i (subst (λ (l : List ℕ). T (isIn (numberOf y) l)) (p .2) (q .2)));
-        complete = λ y p i h. any-in (isIn (numberOf y)) (in-map (select doc) i) (selected-listed y p h);
+            (p .0, p .1, listed-selected y (p .0) i (subst (λ (l : List ℕ). T (isIn (nodeNumber y) l)) (p .2) (q .2)));
+        complete = λ y p i h. any-in (isIn (nodeNumber y)) (in-map (select doc) i) (selected-listed y p h);
       }
 
   -- the first path that lists a number, with those before it
@@ -62,16 +62,16 @@ module _ (types : Types) (journal : List ℕ) (rows : List Row) (ok : T (wellFor
     path : LocationPath ℕ
     after : List (LocationPath ℕ)
     joined : qs ≡ before ++ (path ∷ after)
-    placed : firstSelecting i (numberOf y) (map (select doc) qs) ≡ i + length before
-    lists : T (isIn (numberOf y) (select doc path))
-    none-before : (p : LocationPath ℕ) → In p before → T (isIn (numberOf y) (select doc p)) → ⊥
+    placed : firstSelecting i (nodeNumber y) (map (select doc) qs) ≡ i + length before
+    lists : T (isIn (nodeNumber y) (select doc path))
+    none-before : (p : LocationPath ℕ) → In p before → T (isIn (nodeNumber y) (select doc p)) → ⊥
 
   first-listing : (y : Node) (i : ℕ) (qs : List (LocationPath ℕ)) → T (chosen y qs) → First y i qs
   first-listing y i [] t = absurd t
-  first-listing y i (q ∷ qs) t = pick (isIn (numberOf y) (select doc q)) refl (first-listing y (suc i) qs)
+  first-listing y i (q ∷ qs) t = pick (isIn (nodeNumber y) (select doc q)) refl (first-listing y (suc i) qs)
     where
       k : ℕ
-      k = numberOf y
+      k = nodeNumber y
 
       later : List (List ℕ)
       later = map (select doc) qs
@@ -104,7 +104,7 @@ module _ (types : Types) (journal : List ℕ) (rows : List Row) (ok : T (wellFor
           not-before e h p (here j) u = subst T e (subst (λ (x : LocationPath ℕ). T (isIn k (select doc x))) j u)
           not-before e h p (there j) u = h p j u
 
-  first-path : (y : Node) → In y doc → T (chosen y ps) → FirstPath doc ps y (firstSelecting 1 (numberOf y) (map (select doc) ps))
+  first-path : (y : Node) → In y doc → T (chosen y ps) → FirstPath doc ps y (firstSelecting 1 (nodeNumber y) (map (select doc) ps))
   first-path y i t =
       let f = first-listing y 1 ps t in
       record {
@@ -117,12 +117,12 @@ module _ (types : Types) (journal : List ℕ) (rows : List Row) (ok : T (wellFor
         none-before = λ p j h. f .none-before p j (selected-listed y p h);
       }
 
-  lines-of : (ys : List Node) → ((y : Node) → In y ys → In y doc × T (chosen y ps)) → Lines s doc ps ys (gather (lineOf (listed s ps journal rows)) ys)
-  unfolding lineOf
+  lines-of : (ys : List Node) → ((y : Node) → In y ys → In y doc × T (chosen y ps)) → Lines s doc ps ys (gather (listingLine (listingData s ps journal rows)) ys)
+  unfolding listingLine
   lines-of [] h = no-lines
   lines-of (y ∷ ys) h =
       let c = h y (here refl) in
-      next-line (firstSelecting 1 (numberOf y) (map (select doc) ps)) (first-path y (c .0) (c .1)) (lines-of ys (λ z i. h z (there i)))
+      next-line (firstSelecting 1 (nodeNumber y) (map (select doc) ps)) (first-path y (c .0) (c .1)) (lines-of ys (λ z i. h z (there i)))
 
-  pub chosen-lines : Lines s doc ps (selectedNodes (listed s ps journal rows)) (gather (lineOf (listed s ps journal rows)) (selectedNodes (listed s ps journal rows)))
-  chosen-lines = lines-of (selectedNodes (listed s ps journal rows)) (λ y i. filter-in (λ z. chosen z ps) doc i)
+  pub chosen-lines : Lines s doc ps (selectedNodes (listingData s ps journal rows)) (gather (listingLine (listingData s ps journal rows)) (selectedNodes (listingData s ps journal rows)))
+  chosen-lines = lines-of (selectedNodes (listingData s ps journal rows)) (λ y i. filter-in (λ z. chosen z ps) doc i)

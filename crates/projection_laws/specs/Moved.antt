@@ -8,15 +8,15 @@ use lib.Dec.{T, eqb, leb, eqb→eq, eqb-refl, leb→le, le→leb}
 use lib.ListN.{length, length-append, length-take, length-drop}
 use lib.Seq.{drop-nil}
 use Rattle.projection_spec.specs.Extracts.Conditions.{SameButStarts, SameTables, no-rows, next-row}
-use Rattle.projection_spec.specs.Extracts.Fields.{rowField, fieldOf}
+use Rattle.projection_spec.specs.Extracts.Fields.{rowField, fieldOf, startAt, rowsAt}
 use Rattle.projection_laws.specs.Fields.{text-cut}
-use Rattle.projection_laws.specs.Items.{startAt, sizeAt, parentNumber}
+use Rattle.projection_laws.specs.Items.{sizeAt, parentNumber}
 use Rattle.schema_spec.specs.Names.{element, text, Name, isText}
 use Rattle.schema_spec.specs.Types.{Types}
 use Rattle.table_laws.specs.Fits.{row-fits, rooted, cellsFit}
 use Rattle.table_spec.specs.Nodes.{Node, top, nodeAt}
 use Rattle.table_spec.specs.Rows.{Row, textOf, withStart}
-use Rattle.table_spec.specs.Tables.{wellFormed, textFits, rowFits, laterRows as laterFit, textInside}
+use Rattle.table_spec.specs.Tables.{wellFormed, textFits, rowFits, laterRows, textInside}
 use Rattle.text_laws.specs.Tests.{true-of, and-cases, and-intro, or-right}
 use Rattle.text_spec.specs.Bytes.{isForeign}
 use Rattle.text_spec.specs.Limits.{maxTextBytes}
@@ -42,13 +42,9 @@ has-text (text e) lent r q cells inside =
     let few = and-cases (leb 1 (r .size)) (leb (r .size) maxTextBytes) cells .1 in
     record { size = eqb→eq (length w) (r .size) (d .0); short = leb→le (r .size) maxTextBytes few; ofName = refl; passes = d .1 }
 
--- a row with its text's place moved, and rows that start so at their fields' places
+-- a row with its text's place moved
 abbrev pub restart : ℕ → Row → Row
 restart k r = withStart (startAt (r .name) k) r
-
-abbrev pub restarted : (Row → List ℕ) → ℕ → List Row → List Row
-restarted f k [] = []
-restarted f k (r ∷ rs) = restart k r ∷ restarted f (k + length (f r)) rs
 
 cells-moved : (n : Name) (k : ℕ) (r : Row) → r .name ≡ n → T (textFits n r) → T (textFits n (restart k r))
 cells-moved (element e) k r q t = rw q (and-cases (eqb (r .start) 0) (eqb (r .size) 0) t .1)
@@ -61,12 +57,12 @@ node-moved : (k : ℕ) (before : List Node) (r : Row) → nodeAt [] before (rest
 node-moved k before r = rw (drop-nil {A = ℕ} (startAt (r .name) k), drop-nil {A = ℕ} (r .start))
 
 -- moved texts leave a table well formed
-later-moved : (s : Types) (before : List Node) (previous : Node) (f : Row → List ℕ) (k : ℕ) (rs : List Row) → T (laterFit s before previous rs)
-    → T (laterFit s before previous (restarted f k rs))
+later-moved : (s : Types) (before : List Node) (previous : Node) (f : Row → List ℕ) (k : ℕ) (rs : List Row) → T (laterRows s before previous rs)
+    → T (laterRows s before previous (rowsAt f k rs))
 later-moved s before previous f k [] t = tt
 later-moved s before previous f k (r ∷ rs) t =
     let y = nodeAt [] before r in
-    let u = and-cases (rowFits s before previous r y) (laterFit s (before ++ (y ∷ [])) y rs) t in
+    let u = and-cases (rowFits s before previous r y) (laterRows s (before ++ (y ∷ [])) y rs) t in
     rw (node-moved k before r)
     (and-intro (rowFits s before previous (restart k r) y) _ (rw (same-cells k r (row-fits s before previous r y (u .0) .cells)) (u .0))
     (later-moved s (before ++ (y ∷ [])) y f (k + length (f r)) rs (u .1)))
@@ -83,7 +79,7 @@ text-moved (text e) lent pre rest number parent r q t i =
 -- the rows read are the rows written but for text starts, with the same texts
 module _ (lent : List ℕ) (all : List Row) where
   pub same-rows : (pre rest : List ℕ) (rs : List Row) (bs : List ℕ) (k : ℕ) → length pre ≡ k → bs ≡ pre ++ (gather (fieldOf lent all) rs ++ rest)
-      → T (allOf cellsFit rs) → T (allOf (textInside lent) rs) → SameTables lent bs rs (restarted (fieldOf lent all) k rs)
+      → T (allOf cellsFit rs) → T (allOf (textInside lent) rs) → SameTables lent bs rs (rowsAt (fieldOf lent all) k rs)
   same-rows pre rest [] bs k l e t i = no-rows
   same-rows pre rest (r ∷ rs) bs k l e t i =
       let u = and-cases (cellsFit r) (allOf cellsFit rs) t in
@@ -121,13 +117,13 @@ same-all-inside {lent} {lent′} (next-row {q = q} {r = r} {qs = qs} {rs = rs} c
     and-intro (textInside lent′ r) (allOf (textInside lent′) rs) (same-inside (q .name) lent lent′ c w refl (u .0) (v .0))
     (same-all-inside more (u .1) (v .1))
 
-pub root-moved : (s : Types) (f : Row → List ℕ) (k : ℕ) (rows : List Row) → T (wellFormed s rows) → T (wellFormed s (restarted f k rows))
+pub root-moved : (s : Types) (f : Row → List ℕ) (k : ℕ) (rows : List Row) → T (wellFormed s rows) → T (wellFormed s (rowsAt f k rows))
 unfolding wellFormed
 root-moved s f k [] t = tt
 root-moved s f k (r ∷ rs) t =
     let c = rooted s r rs t in
     let y = top (r .number) (r .name) in
-    let rs′ = restarted f (k + length (f r)) rs in
+    let rs′ = rowsAt f (k + length (f r)) rs in
     let moved = later-moved s (y ∷ []) y f (k + length (f r)) rs (c .later) in
-    let same-later : laterFit s (y ∷ []) y rs′ ≡ laterFit s (y ∷ []) y rs = true-of _ moved ∙ sym (true-of _ (c .later)) in
+    let same-later : laterRows s (y ∷ []) y rs′ ≡ laterRows s (y ∷ []) y rs = true-of _ moved ∙ sym (true-of _ (c .later)) in
     rw (same-cells k r (c .cells), same-later) t

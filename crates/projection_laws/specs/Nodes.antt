@@ -7,11 +7,11 @@ use mathlib.Core.Path.{_≡_, sym, ap, subst, _∙_}
 use Prim.Native.Nat.{ℕ}
 use lib.Dec.{T}
 use Rattle.path_laws.specs.Selection.{selected-sound, selected-complete, selected-filters}
-use Rattle.path_spec.specs.Paths.{LocationPath, expand}
-use Rattle.path_spec.specs.Selection.{Holds, Roots, Selected, selected, select}
+use Rattle.path_spec.specs.Paths.{unconditional, Start, rootElement, LocationPath, expand}
+use Rattle.path_spec.specs.Selection.{Holds, StartSet, Selected, selected, select}
 use Rattle.projection_spec.specs.Extracts.Cut.{kept}
-use Rattle.projection_spec.specs.Inference.Needed.{keepsName, wantsNames, fromRoot, atRoot, neededBeforeFilter, neededByPath, needed}
-use Rattle.projection_laws.specs.Agreement.{Alike, alike-turned, trip-of, of-trip, trip-track, track-complete, complete-needed, trip-alike}
+use Rattle.projection_spec.specs.Inference.Needed.{keepsName, wantsNames, fromRoot, atStart, neededBeforeFilter, neededByPath, needed}
+use Rattle.projection_laws.specs.Agreement.{Alike, alike-turned, navigation-of, of-navigation, written-expands, navigation-complete, complete-needed, written-alike}
 use Rattle.projection_laws.specs.Conditions.{condition-fair}
 use Rattle.projection_laws.specs.Documents.{SubsetOf, Within, Valid, AllValid, Lawful, own-within, wider, within-kept, name-in}
 use Rattle.projection_laws.specs.Soundness.{Typed}
@@ -20,7 +20,7 @@ use Rattle.schema_laws.specs.Names.{same-equal, same-name, in-within}
 use Rattle.schema_spec.specs.Closure.{related, closure}
 use Rattle.schema_spec.specs.Names.{Name, Names, sameName, within}
 use Rattle.schema_spec.specs.Types.{Types}
-use Rattle.table_spec.specs.Nodes.{Node, top, under, nameOf, numberOf, isTop}
+use Rattle.table_spec.specs.Nodes.{Node, top, under, nameOf, nodeNumber, isTop}
 use Rattle.text_laws.specs.Lists.{in-filter, filter-in, filter-filter, in-gather}
 use Rattle.text_laws.specs.Tests.{or-left, or-right, or-cases}
 use Rattle.text_spec.specs.Lists.{filterBy}
@@ -53,34 +53,44 @@ module _ (s : Types) (law : Lawful s) (r : Names) where
   filtered-within (under k n x p) v w =
       (in-filter reached (member (under k n x p) v w) (node-reached (under k n x p) v w), filtered-within p (v .1) (w .1))
 
--- ---- From the root
-root-typed : (s : Types) (x : Node) → T (isTop x) → Valid s x → Typed (atRoot s) x
-root-typed s (top k n) t v = (here v, here v)
-root-typed s (under k n w p) t v = absurd t
+-- ---- Where a path starts
+-- a node there is valid in a document of valid nodes, has the type and the context at the start, lies within each set that has its name,
+-- and is a start in another document that has it
+start-valid : (s : Types) (a : Start) (d : List Node) → AllValid s d → (x : Node) → StartSet a d x → Valid s x
+start-valid s rootElement d ok x h = ok x (h .0)
 
-root-within : (r : Names) (x : Node) → T (isTop x) → In (nameOf x) r → Within r x
-root-within r (top k n) t i = i
-root-within r (under k n w p) t i = absurd t
+start-typed : (s : Types) (a : Start) (d : List Node) (x : Node) → Valid s x → StartSet a d x → Typed (atStart s a) x
+start-typed s rootElement d (top k n) v h = (here v, here v)
+start-typed s rootElement d (under k n w p) v h = absurd (h .1)
+
+start-within : (a : Start) (d : List Node) (r : Names) (x : Node) → StartSet a d x → In (nameOf x) r → Within r x
+start-within rootElement d r (top k n) h i = i
+start-within rootElement d r (under k n w p) h i = absurd (h .1)
+
+start-alike : (a : Start) (r : Names) (d e : List Node) → Alike r d e → (x : Node) → Within r x → StartSet a d x → StartSet a e x
+start-alike rootElement r d e al x w h = (al .forth x w (h .0), h .1)
 
 module _ (s : Types) (law : Lawful s) (p : LocationPath ℕ) where
   -- what a path selects in the one of two documents that are alike on its names, it selects in the other
   pub selected-alike : (d e : List Node) → AllValid s d → AllValid s e → Alike (neededBeforeFilter s p) d e → (m : Node) → Selected d p m → Selected e p m
   unfolding neededBeforeFilter
   selected-alike d e dv ev al m i =
-      let fair = condition-fair s law in
+      let laws = condition-fair s law in
       let keeps = keepsName s in
       let wants = wantsNames s in
       let r = neededBeforeFilter s p in
-      let t = trip-of s Holds d p (Roots d) m i in
+      let a = p .start in
+      let start = atStart s a in
+      let t = navigation-of s Holds d (p .steps) (StartSet a d) m i in
       let x = t .0 in
-      let v : Valid s x = dv x (t .1 .0) in
-      let f : Typed (atRoot s) x = root-typed s x (t .1 .1) v in
+      let v : Valid s x = start-valid s a d dv x (t .1) in
+      let f : Typed start x = start-typed s a d x v (t .1) in
       let w : Within r x =
-      root-within r x (t .1 .1)
-      (complete-needed s law Holds keeps wants fair (expand p) (atRoot s) (nameOf x)
-      (track-complete s law Holds keeps wants fair d dv (atRoot s) v f (trip-track s Holds d dv (t .2)))) in
-      of-trip s Holds e (Roots e) (al .forth x w (t .1 .0), t .1 .1)
-      (trip-alike s law Holds keeps wants fair r d e dv ev al (atRoot s) v f w (λ n j. j) (t .2) .0)
+      start-within a d r x (t .1)
+      (complete-needed s law Holds keeps wants unconditional laws (expand unconditional (p .steps)) start (nameOf x)
+      (navigation-complete s law Holds keeps wants unconditional laws d dv start v f (written-expands s Holds unconditional (laws .none-met) d dv 1 (t .2)))) in
+      of-navigation s Holds e (StartSet a e) (start-alike a r d e al x w (t .1))
+      (written-alike s law Holds keeps wants unconditional laws r d e dv ev al 1 start v f w (λ n j. j) (t .2) .0)
 
   module _ (doc : List Node) (ok : AllValid s doc) (a : Names) (enough : SubsetOf (neededByPath s p) a) where
     abbrev cut : List Node
@@ -115,7 +125,7 @@ module _ (s : Types) (law : Lawful s) (p : LocationPath ℕ) where
 
     pub select-cut : select doc p ≡ select cut p
     unfolding select
-    select-cut = ap (map numberOf) selected-cut
+    select-cut = ap (map nodeNumber) selected-cut
 
 -- a bundle's needed names have those of each of its paths
 pub path-needed : (s : Types) {p : LocationPath ℕ} (ps : List (LocationPath ℕ)) → In p ps → SubsetOf (neededByPath s p) (needed s ps)

@@ -7,7 +7,7 @@ use lib.Dec.{T}
 use lib.ListN.{length, getElem?}
 use Rattle.schema_spec.specs.Types.{Types}
 use Rattle.table_laws.specs.Fits.{attached-number, row-fits, rooted}
-use Rattle.table_spec.specs.Nodes.{Node, top, numberOf, nodeAt, nodesFrom, nodesOf}
+use Rattle.table_spec.specs.Nodes.{Node, top, nodeNumber, nodeAt, nodesFrom, nodesOf}
 use Rattle.table_spec.specs.Rows.{Row, textOf}
 use Rattle.table_spec.specs.Tables.{rowFits, laterRows, wellFormed}
 use Rattle.text_laws.specs.Tests.{and-cases}
@@ -15,33 +15,33 @@ use Rattle.text_laws.specs.Tests.{and-cases}
 -- numbers above k, each above those before it
 pub data Rising : ℕ → List Node → Type 0 where
   no-nodes : {k : ℕ} → Rising k []
-  next-node : {k : ℕ} {y : Node} {ys : List Node} → k < numberOf y → Rising (numberOf y) ys → Rising k (y ∷ ys)
+  next-node : {k : ℕ} {y : Node} {ys : List Node} → k < nodeNumber y → Rising (nodeNumber y) ys → Rising k (y ∷ ys)
 
-rising-above : {k : ℕ} {ys : List Node} {z : Node} → Rising k ys → In z ys → k < numberOf z
+rising-above : {k : ℕ} {ys : List Node} {z : Node} → Rising k ys → In z ys → k < nodeNumber z
 rising-above (next-node {y = y} h r) (here e) =
-    let n = ap numberOf e in
+    let n = ap nodeNumber e in
     omega arith
 rising-above (next-node {y = y} h r) (there i) =
     let g = rising-above r i in
     omega arith
 
-pub rising-known : {k : ℕ} {ys : List Node} {y z : Node} → Rising k ys → In y ys → In z ys → numberOf y ≡ numberOf z → y ≡ z
+pub rising-known : {k : ℕ} {ys : List Node} {y z : Node} → Rising k ys → In y ys → In z ys → nodeNumber y ≡ nodeNumber z → y ≡ z
 rising-known (next-node h r) (here e) (here f) q = e ∙ sym f
 rising-known (next-node h r) (here e) (there j) q =
     let g = rising-above r j in
-    let n = ap numberOf e in
+    let n = ap nodeNumber e in
     absurd (omega arith)
 rising-known (next-node h r) (there i) (here f) q =
     let g = rising-above r i in
-    let n = ap numberOf f in
+    let n = ap nodeNumber f in
     absurd (omega arith)
 rising-known (next-node h r) (there i) (there j) q = rising-known r i j q
 
-row-number : (lent : List ℕ) (before : List Node) (r : Row) → numberOf (nodeAt lent before r) ≡ r .number
+row-number : (lent : List ℕ) (before : List Node) (r : Row) → nodeNumber (nodeAt lent before r) ≡ r .number
 row-number lent before r = attached-number (r .number) (r .name) (textOf lent r) (getElem? before (r .parent))
 
 -- the nodes that are tested have no texts, and the same numbers
-later-rising : (s : Types) (lent : List ℕ) (tested before : List Node) (previous : Node) (k : ℕ) (rs : List Row) → numberOf previous ≡ k
+later-rising : (s : Types) (lent : List ℕ) (tested before : List Node) (previous : Node) (k : ℕ) (rs : List Row) → nodeNumber previous ≡ k
     → T (laterRows s tested previous rs) → Rising k (nodesFrom lent before rs)
 later-rising s lent tested before previous k [] e t = no-nodes
 later-rising s lent tested before previous k (r ∷ rs) e t =
@@ -50,10 +50,10 @@ later-rising s lent tested before previous k (r ∷ rs) e t =
     let c = and-cases (rowFits s tested previous r z) (laterRows s (tested ++ (z ∷ [])) z rs) t in
     let h = row-fits s tested previous r z (c .0) .rises in
     let n = row-number lent before r in
-    next-node {k = k} {y = y} (omega (arith, n, h, e)) (later-rising s lent (tested ++ (z ∷ [])) (before ++ (y ∷ [])) z (numberOf y) rs (row-number [] tested r ∙ sym n) (c .1))
+    next-node {k = k} {y = y} (omega (arith, n, h, e)) (later-rising s lent (tested ++ (z ∷ [])) (before ++ (y ∷ [])) z (nodeNumber y) rs (row-number [] tested r ∙ sym n) (c .1))
 
 pub node-known : (s : Types) (lent : List ℕ) (rows : List Row) → T (wellFormed s rows) → (y z : Node) → In y (nodesOf lent rows) → In z (nodesOf lent rows)
-    → numberOf y ≡ numberOf z → y ≡ z
+    → nodeNumber y ≡ nodeNumber z → y ≡ z
 unfolding nodesOf
 node-known s lent [] t y z i j q = elim i [ ]
 node-known s lent (r ∷ rs) t y z i j q = pick i j
@@ -68,11 +68,11 @@ node-known s lent (r ∷ rs) t y z i j q = pick i j
     pick (here e) (here f) = e ∙ sym f
     pick (here e) (there v) =
         let g = rising-above rest v in
-        let n = ap numberOf e in
+        let n = ap nodeNumber e in
         absurd (omega arith)
     pick (there u) (here f) =
         let g = rising-above rest u in
-        let n = ap numberOf f in
+        let n = ap nodeNumber f in
         absurd (omega arith)
     pick (there u) (there v) = rising-known rest u v q
 

@@ -9,7 +9,7 @@ use lib.Dec.{T, eqb, leb, eqb→eq, leb→le}
 use lib.ListN.{length, take, drop, getElem?, length-append, take-append-drop}
 use lib.Seq.{length-take-le}
 use Rattle.projection_spec.specs.Extracts.Fields.{elementTag, textTag, countTag, twoBytes, field, numberAt, fieldOf}
-use Rattle.projection_spec.specs.Extracts.Reading.{Item, elementItem, textItem, countItem, noItem, inTwo, elementValue, textValue, countValue, itemOf, itemsFrom, Placed, openFrom, topRow, topElement, consRow, laterRows, rowsOfItems}
+use Rattle.projection_spec.specs.Extracts.Reading.{Item, elementItem, textItem, countItem, noItem, inTwo, elementValue, textValue, countValue, itemOf, itemsFrom, Placed, openFrom, topRow, topElement, consRow, rowsOfLaterItems, rowsOfItems}
 use Rattle.projection_laws.specs.Fields.{AreBytes, two-bytes-written, text-cut}
 use Rattle.projection_laws.specs.Items.{opensAfter, rowAt, restWritten}
 use Rattle.projection_laws.specs.Opens.{placed}
@@ -100,19 +100,19 @@ record Under (nameBy : Placed → Name) (k number parent size next : ℕ) (os : 
   pub later : List Row
   pub found : openFrom parent os ≡ first ∷ above
   pub made : rs ≡ rowAt (nameBy first) k number (first .row) size ∷ later
-  pub read : laterRows (suc next) (opensAfter (nameBy first) next number (first ∷ above)) items ≡ some later
+  pub read : rowsOfLaterItems (suc next) (opensAfter (nameBy first) next number (first ∷ above)) items ≡ some later
 
 abbrev consedUnder : (Placed → Name) → ℕ → ℕ → ℕ → ℕ → List Item → List Placed → Option (List Row)
 consedUnder nameBy k number size next items [] = none
 consedUnder nameBy k number size next items (q ∷ qs) =
-    consRow (rowAt (nameBy q) k number (q .row) size) (laterRows (suc next) (opensAfter (nameBy q) next number (q ∷ qs)) items)
+    consRow (rowAt (nameBy q) k number (q .row) size) (rowsOfLaterItems (suc next) (opensAfter (nameBy q) next number (q ∷ qs)) items)
 
 under-read : (nameBy : Placed → Name) (k number parent size next : ℕ) (os : List Placed) (items : List Item) (rs : List Row)
     → consedUnder nameBy k number size next items (openFrom parent os) ≡ some rs → Under nameBy k number parent size next os items rs
 under-read nameBy k number parent size next os items rs e = by-open (openFrom parent os) refl e
   where
     by-later : (q : Placed) (qs : List Placed) (o : Option (List Row)) → openFrom parent os ≡ q ∷ qs
-        → laterRows (suc next) (opensAfter (nameBy q) next number (q ∷ qs)) items ≡ o
+        → rowsOfLaterItems (suc next) (opensAfter (nameBy q) next number (q ∷ qs)) items ≡ o
         → consRow (rowAt (nameBy q) k number (q .row) size) o ≡ some rs → Under nameBy k number parent size next os items rs
     by-later q qs none f l u = none-some u
     by-later q qs (some rs′) f l u = record { first = q; above = qs; later = rs′; found = f; made = cc; read = l }
@@ -120,25 +120,25 @@ under-read nameBy k number parent size next os items rs e = by-open (openFrom pa
     by-open : (x : List Placed) → openFrom parent os ≡ x → consedUnder nameBy k number size next items x ≡ some rs
         → Under nameBy k number parent size next os items rs
     by-open [] f u = none-some u
-    by-open (q ∷ qs) f u = by-later q qs (laterRows (suc next) (opensAfter (nameBy q) next number (q ∷ qs)) items) f refl u
+    by-open (q ∷ qs) f u = by-later q qs (rowsOfLaterItems (suc next) (opensAfter (nameBy q) next number (q ∷ qs)) items) f refl u
 
 element-under : (k number parent size next e : ℕ) (os : List Placed) (items : List Item) (rs : List Row)
-    → laterRows next os (elementItem number parent e ∷ items) ≡ some rs
+    → rowsOfLaterItems next os (elementItem number parent e ∷ items) ≡ some rs
     → Under (λ q. element e) k number parent size next os items rs
 element-under k number parent size next e os items rs r = under-read (λ q. element e) k number parent size next os items rs (same (openFrom parent os) ∙ r)
   where
     same : (x : List Placed) → consedUnder (λ q. element e) k number size next items x
-        ≡ cond (isEmpty x) none (consRow (elementRow number e (topRow x)) (laterRows (suc next) (placed next number e ∷ x) items))
+        ≡ cond (isEmpty x) none (consRow (elementRow number e (topRow x)) (rowsOfLaterItems (suc next) (placed next number e ∷ x) items))
     same [] = refl
     same (q ∷ qs) = refl
 
 text-under : (k number parent size next : ℕ) (os : List Placed) (items : List Item) (rs : List Row)
-    → laterRows next os (textItem number parent (k + 3 + 4) size ∷ items) ≡ some rs
+    → rowsOfLaterItems next os (textItem number parent (k + 3 + 4) size ∷ items) ≡ some rs
     → Under (λ q. text (q .element)) k number parent size next os items rs
 text-under k number parent size next os items rs r = under-read (λ q. text (q .element)) k number parent size next os items rs (same (openFrom parent os) ∙ r)
   where
     same : (x : List Placed) → consedUnder (λ q. text (q .element)) k number size next items x
-        ≡ cond (isEmpty x) none (consRow (textRow number (topElement x) (topRow x) (k + 3 + 4) size) (laterRows (suc next) x items))
+        ≡ cond (isEmpty x) none (consRow (textRow number (topElement x) (topRow x) (k + 3 + 4) size) (rowsOfLaterItems (suc next) x items))
     same [] = refl
     same (q ∷ qs) = refl
 
@@ -152,7 +152,7 @@ known-after (element e) done os r known q (here i) = (r, rw i (at-end done r [])
 known-after (element e) done os r known q (there i) = known-next done os r known q i
 known-after (text e) done os r known q i = known-next done os r known q i
 
-count-last : (n next : ℕ) (os : List Placed) (items : List Item) (rs : List Row) → laterRows next os (countItem n ∷ items) ≡ some rs
+count-last : (n next : ℕ) (os : List Placed) (items : List Item) (rs : List Row) → rowsOfLaterItems next os (countItem n ∷ items) ≡ some rs
     → (items ≡ []) × (n ≡ next) × (rs ≡ [])
 count-last n next os [] rs e =
     let c = pick (eqb n next) (eqb→eq n next) e in
@@ -167,7 +167,7 @@ count-last n next os (i ∷ is) rs e = none-some e
 module _ (full : List ℕ) (all : List Row) where
   abbrev Written : List Item → List ℕ → Type 0
   Written items rest =
-      (done rs : List Row) (os : List Placed) → all ≡ done ++ rs → Known done os → laterRows (length done) os items ≡ some rs → restWritten full all rs ≡ rest
+      (done rs : List Row) (os : List Placed) → all ≡ done ++ rs → Known done os → rowsOfLaterItems (length done) os items ≡ some rs → restWritten full all rs ≡ rest
 
   row-back : (r : Row) (rs : List Row) (f rest : List ℕ) → fieldOf full all r ≡ f → restWritten full all rs ≡ rest → restWritten full all (r ∷ rs) ≡ f ++ rest
   row-back r rs f rest e h =
@@ -286,17 +286,17 @@ module _ (full : List ℕ) (all : List Row) where
 
 -- what the root's field turned into
 root-read : (number parent e : ℕ) (items : List Item) (all : List Row) → rowsOfItems (elementItem number parent e ∷ items) ≡ some all
-    → (rs : List Row) × (parent ≡ 0) × (all ≡ elementRow number e 0 ∷ rs) × (laterRows 1 (placed 0 number e ∷ []) items ≡ some rs)
+    → (rs : List Row) × (parent ≡ 0) × (all ≡ elementRow number e 0 ∷ rs) × (rowsOfLaterItems 1 (placed 0 number e ∷ []) items ≡ some rs)
 root-read number parent e items all read = by-parent (eqb parent 0) (eqb→eq parent 0) read
   where
-    by-later : (o : Option (List Row)) → laterRows 1 (placed 0 number e ∷ []) items ≡ o → parent ≡ 0 → consRow (elementRow number e 0) o ≡ some all
-        → (rs : List Row) × (parent ≡ 0) × (all ≡ elementRow number e 0 ∷ rs) × (laterRows 1 (placed 0 number e ∷ []) items ≡ some rs)
+    by-later : (o : Option (List Row)) → rowsOfLaterItems 1 (placed 0 number e ∷ []) items ≡ o → parent ≡ 0 → consRow (elementRow number e 0) o ≡ some all
+        → (rs : List Row) × (parent ≡ 0) × (all ≡ elementRow number e 0 ∷ rs) × (rowsOfLaterItems 1 (placed 0 number e ∷ []) items ≡ some rs)
     by-later none l p u = none-some u
     by-later (some rs) l p u = (rs, p, cc, l)
 
-    by-parent : (b : Bool) → (T b → parent ≡ 0) → cond b (consRow (elementRow number e 0) (laterRows 1 (placed 0 number e ∷ []) items)) none ≡ some all
-        → (rs : List Row) × (parent ≡ 0) × (all ≡ elementRow number e 0 ∷ rs) × (laterRows 1 (placed 0 number e ∷ []) items ≡ some rs)
-    by-parent true f u = by-later (laterRows 1 (placed 0 number e ∷ []) items) refl (f tt) u
+    by-parent : (b : Bool) → (T b → parent ≡ 0) → cond b (consRow (elementRow number e 0) (rowsOfLaterItems 1 (placed 0 number e ∷ []) items)) none ≡ some all
+        → (rs : List Row) × (parent ≡ 0) × (all ≡ elementRow number e 0 ∷ rs) × (rowsOfLaterItems 1 (placed 0 number e ∷ []) items ≡ some rs)
+    by-parent true f u = by-later (rowsOfLaterItems 1 (placed 0 number e ∷ []) items) refl (f tt) u
     by-parent false f u = none-some u
 
 -- All fields, where the root's number is 0.
@@ -322,7 +322,7 @@ module _ (full : List ℕ) (all : List Row) (small : AreBytes full) (rootNumber 
       (cut-bytes full all full tag high low value rest small q) q refl items ends later [] all [] refl
       (λ p j. elim j [ ]) (same items ∙ read)
     where
-      same : (is : List Item) → laterRows 0 [] (countItem (inTwo a b) ∷ is) ≡ rowsOfItems (countItem (inTwo a b) ∷ is)
+      same : (is : List Item) → rowsOfLaterItems 0 [] (countItem (inTwo a b) ∷ is) ≡ rowsOfItems (countItem (inTwo a b) ∷ is)
       same [] = refl
       same (x ∷ is) = refl
   root-back tag high low value rest items no-field q l ends later read = none-some read

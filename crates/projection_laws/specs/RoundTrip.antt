@@ -9,10 +9,10 @@ use native.Mathlib.Omega.{arith}
 use lib.Dec.{T}
 use lib.ListN.{length, getElem?}
 use Rattle.projection_spec.specs.Extracts.Conditions.{IsExtract, ExtractApplies, length-2, extract-17, SameTables, no-rows, next-row, ExtractGives, gives}
-use Rattle.projection_spec.specs.Extracts.Fields.{countTag, twoBytes, field, fieldOf, writeExtract}
+use Rattle.projection_spec.specs.Extracts.Fields.{countTag, twoBytes, field, fieldOf, writeExtract, extractRows}
 use Rattle.projection_spec.specs.Extracts.Reading.{itemsOf, rowsOfItems, readExtract, isTable, rowsOr}
 use Rattle.projection_laws.specs.Fields.{AreBytes}
-use Rattle.projection_laws.specs.Moved.{restarted, same-rows, same-all-inside, root-moved}
+use Rattle.projection_laws.specs.Moved.{same-rows, same-all-inside, root-moved}
 use Rattle.projection_laws.specs.ReadBack.{fields-back}
 use Rattle.projection_laws.specs.TextNames.{TextNames}
 use Rattle.projection_laws.specs.Written.{written-long, table-items}
@@ -23,6 +23,7 @@ use Rattle.table_laws.specs.WellFormed.{well-formed-beside}
 use Rattle.table_spec.specs.Rows.{Row}
 use Rattle.table_spec.specs.Tables.{wellFormed, wellFormedWith, textInside}
 use Rattle.text_laws.specs.Lists.{empty-of, append-empty}
+use Rattle.text_laws.specs.Order.{judged-once}
 use Rattle.text_laws.specs.Refusals.{judged-accepted, judged-free, given-free}
 use Rattle.text_laws.specs.Tests.{true-of, false-of, and-cases, and-intro, not-intro, decided}
 use Rattle.text_spec.specs.Lists.{allOf, isEmpty}
@@ -36,29 +37,27 @@ accept s bs rows h e t =
     let full : isEmpty bs ≡ false = false-of (isEmpty bs) (λ u. let z = ap length (empty-of {xs = bs} u) in omega arith) in
     rw (e, true-of (wellFormedWith s bs rows) t, full) (judged-free [] rows refl)
 
--- "Writing a table and reading it returns the rows but for text starts", each with its text.
-pub write-read : (s : Types) → TextNames s → (lent : List ℕ) (rows : List Row) → T (wellFormedWith s lent rows)
-    → (rows′ : List Row) × (readExtract s (writeExtract lent rows) ≡ accepted rows′) × SameTables lent (writeExtract lent rows) rows rows′
-unfolding writeExtract wellFormedWith
-write-read s law lent rows t = (rows′, accept s bs rows′ (omega (arith, written-long lent rows)) (table-items s law lent rows (parts .0) (parts .1)) well, same)
-  where
-    bs : List ℕ
-    bs = writeExtract lent rows
+-- a table and the rows as they stand in its extract, each beside its text: the same but for text starts, and well formed
+module _ (s : Types) (lent : List ℕ) (rows : List Row) (t : T (wellFormedWith s lent rows)) where
+  parts : T (wellFormed s rows) × T (allOf (textInside lent) rows)
+  unfolding wellFormedWith
+  parts = and-cases (wellFormed s rows) (allOf (textInside lent) rows) t
 
-    rows′ : List Row
-    rows′ = restarted (fieldOf lent rows) 0 rows
+  pub extract-same-tables : SameTables lent (writeExtract lent rows) rows (extractRows lent rows)
+  unfolding writeExtract extractRows
+  extract-same-tables = same-rows lent rows [] (field countTag (twoBytes (length rows))) rows (writeExtract lent rows) 0 refl refl (all-cells s rows (parts .0)) (parts .1)
 
-    parts : T (wellFormed s rows) × T (allOf (textInside lent) rows)
-    parts = and-cases (wellFormed s rows) (allOf (textInside lent) rows) t
+  pub extract-well-formed : T (wellFormedWith s (writeExtract lent rows) (extractRows lent rows))
+  unfolding wellFormedWith extractRows
+  extract-well-formed =
+      and-intro (wellFormed s (extractRows lent rows)) (allOf (textInside (writeExtract lent rows)) (extractRows lent rows)) (root-moved s (fieldOf lent rows) 0 rows (parts .0))
+      (same-all-inside extract-same-tables (all-cells s rows (parts .0)) (parts .1))
 
-    cells : T (allOf cellsFit rows)
-    cells = all-cells s rows (parts .0)
-
-    same : SameTables lent bs rows rows′
-    same = same-rows lent rows [] (field countTag (twoBytes (length rows))) rows bs 0 refl refl cells (parts .1)
-
-    well : T (wellFormedWith s bs rows′)
-    well = and-intro (wellFormed s rows′) (allOf (textInside bs) rows′) (root-moved s (fieldOf lent rows) 0 rows (parts .0)) (same-all-inside same cells (parts .1))
+  -- "Writing a table and reading it returns the rows but for text starts": each text starts at its bytes in the extract.
+  pub write-read : TextNames s → readExtract s (writeExtract lent rows) ≡ accepted (extractRows lent rows)
+  unfolding writeExtract
+  write-read law =
+      accept s (writeExtract lent rows) (extractRows lent rows) (omega (arith, written-long lent rows)) (table-items s law lent rows (parts .0) (parts .1)) extract-well-formed
 
 -- what was accepted was read as a table
 accepted-table : (s : Types) (bs : List ℕ) (rows : List Row) → readExtract s bs ≡ accepted rows
@@ -107,9 +106,10 @@ outcome s b bs = pick (isTable s (b ∷ bs) rows)
     pick true = inr (rowsOr rows, refl)
     pick false = inl refl
 
-same-tables : (bs : List ℕ) (rows : List Row) → SameTables bs bs rows rows
-same-tables bs [] = no-rows
-same-tables bs (r ∷ rs) = next-row (record { number = refl; name = refl; parent = refl; size = refl }) refl (same-tables bs rs)
+-- what is the writing of a table is read as that table
+written-read : (s : Types) → TextNames s → (bs : List ℕ) (x : IsExtract s bs) → readExtract s bs ≡ accepted (extractRows (x .lent) (x .rows))
+written-read s law bs x =
+    ap (readExtract s) (x .written) ∙ write-read s (x .lent) (x .rows) (well-formed-beside s (x .lent) (x .rows) .1 (x .wellFormed)) law
 
 -- The reader turns bytes back by the first refusal that applies, and else gives the rows of the table that they are the writing of.
 pub extract-judged : (s : Types) → TextNames s → (bs : List ℕ) → AreBytes bs → Judged (ExtractApplies s bs) (ExtractGives s bs) (readExtract s bs)
@@ -133,8 +133,7 @@ extract-judged s law (b ∷ bs) small = pick (outcome s b bs)
 
     no-extract : readExtract s all ≡ refused (at badExtract 0) → IsExtract s all → ⊥
     no-extract e x =
-        let w = write-read s law (x .lent) (x .rows) (well-formed-beside s (x .lent) (x .rows) .1 (x .wellFormed)) in
-        let read : readExtract s all ≡ accepted (w .0) = ap (readExtract s) (x .written) ∙ w .1 in
+        let read = written-read s law all x in
         let z : _≡_ {A = ℕ} 0 1 = cc (e, read) in
         omega arith
 
@@ -154,4 +153,16 @@ extract-judged s law (b ∷ bs) small = pick (outcome s b bs)
         (turned-back (record { applies = extract-17 (no-extract e); lowest = low; earliest = λ j a. omega arith }))
     pick (inr c) =
         let x = extract (c .0) (c .1) in
-        subst (Judged (ExtractApplies s all) (ExtractGives s all)) (sym (c .1)) (taken (free x) (gives x (x .wellFormed) (same-tables all (c .0))))
+        let e : readExtract s all ≡ accepted (extractRows all (c .0)) = written-read s law all x in
+        subst (Judged (ExtractApplies s all) (ExtractGives s all)) (sym e) (taken (free x) (gives x))
+
+-- It is the only outcome that does so.
+pub extract-judged-once : (s : Types) → TextNames s → (bs : List ℕ) → AreBytes bs → {o : Outcome (List Row)} → Judged (ExtractApplies s bs) (ExtractGives s bs) o
+    → o ≡ readExtract s bs
+extract-judged-once s law bs small j = judged-once (ExtractApplies s bs) (ExtractGives s bs) one-table j (extract-judged s law bs small)
+  where
+    one-table : (q r : List Row) → ExtractGives s bs q → ExtractGives s bs r → q ≡ r
+    one-table q r (gives x) (gives y) =
+        let e = written-read s law bs x in
+        let f = written-read s law bs y in
+        cc

@@ -6,9 +6,9 @@ use lib.Dec.{T}
 use Rattle.path_spec.specs.Paths.{LocationPath}
 use Rattle.path_spec.specs.Selection.{select, selectRows}
 use Rattle.projection_spec.specs.Extracts.Conditions.{SameButStarts, SameTables, no-rows, next-row}
-use Rattle.projection_spec.specs.Extracts.Fields.{writeExtract}
+use Rattle.projection_spec.specs.Extracts.Fields.{writeExtract, extractRows}
 use Rattle.projection_spec.specs.Extracts.Reading.{readExtract}
-use Rattle.projection_laws.specs.RoundTrip.{write-read}
+use Rattle.projection_laws.specs.RoundTrip.{extract-same-tables, write-read}
 use Rattle.projection_laws.specs.TextNames.{TextNames}
 use Rattle.schema_spec.specs.Types.{Types}
 use Rattle.table_spec.specs.Nodes.{Node, nodeAt, nodesFrom, nodesOf}
@@ -32,22 +32,19 @@ unfolding nodesOf
 same-nodes c = nodes-from [] c
 
 -- an extract is read as a table with the nodes of the table that was written
-pub extract-nodes : (s : Types) → TextNames s → (lent : List ℕ) (rows : List Row) → T (wellFormedWith s lent rows)
-    → (rows′ : List Row) × (readExtract s (writeExtract lent rows) ≡ accepted rows′) × (nodesOf (writeExtract lent rows) rows′ ≡ nodesOf lent rows)
-extract-nodes s law lent rows t =
-    let w = write-read s law lent rows t in
-    (w .0, w .1, sym (same-nodes (w .2)))
+pub extract-nodes : (s : Types) (lent : List ℕ) (rows : List Row) → T (wellFormedWith s lent rows)
+    → nodesOf (writeExtract lent rows) (extractRows lent rows) ≡ nodesOf lent rows
+extract-nodes s lent rows t = sym (same-nodes (extract-same-tables s lent rows t))
 
 -- two tables with the same extract have the same nodes, so every path selects the same in both
 module _ (s : Types) (law : TextNames s) (lent lent′ : List ℕ) (rows rows′ : List Row) (t : T (wellFormedWith s lent rows)) (t′ : T (wellFormedWith s lent′ rows′))
     (same : writeExtract lent rows ≡ writeExtract lent′ rows′) where
   pub one-extract-nodes : nodesOf lent rows ≡ nodesOf lent′ rows′
   one-extract-nodes =
-      let w = extract-nodes s law lent rows t in
-      let w′ = extract-nodes s law lent′ rows′ t′ in
-      let read : readExtract s (writeExtract lent rows) ≡ accepted (w′ .0) = ap (readExtract s) same ∙ w′ .1 in
-      let one : w .0 ≡ w′ .0 = cc (w .1, read) in
-      sym (w .2) ∙ ap (λ (rs : List Row). nodesOf (writeExtract lent rows) rs) one ∙ ap (λ (bs : List ℕ). nodesOf bs (w′ .0)) same ∙ w′ .2
+      let e = write-read s lent rows t law in
+      let f = ap (readExtract s) same ∙ write-read s lent′ rows′ t′ law in
+      let one : extractRows lent rows ≡ extractRows lent′ rows′ = cc in
+      sym (extract-nodes s lent rows t) ∙ ap (nodesOf (writeExtract lent rows)) one ∙ ap (λ (bs : List ℕ). nodesOf bs (extractRows lent′ rows′)) same ∙ extract-nodes s lent′ rows′ t′
 
   pub one-extract-selects : (p : LocationPath ℕ) → selectRows lent rows p ≡ selectRows lent′ rows′ p
   unfolding selectRows

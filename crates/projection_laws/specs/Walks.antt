@@ -6,12 +6,12 @@ use mathlib.Core.Path.{_≡_, refl, sym, subst}
 use Prim.Native.Nat.{ℕ, _<_}
 use lib.Dec.{T}
 use lib.ListN.{length}
-use Rattle.path_spec.specs.Paths.{Axis, self, child, descendant, descendantOrSelf, parent, ancestor, ancestorOrSelf, NodeTest, Step, Condition, LocationPath, expand}
+use Rattle.path_spec.specs.Paths.{Axis, self, child, descendant, descendantOrSelf, parent, ancestor, ancestorOrSelf, NodeTest, Step, Condition, unconditional, conditionPaths, LocationPath, expand}
 use Rattle.path_spec.specs.Selection.{passes}
-use Rattle.projection_spec.specs.Inference.Needed.{linked, between, complete, need, keepsAll, wantsNothing, keepsName, wantsNames, fromRoot, atRoot, neededBeforeFilter, neededByPath, needed}
+use Rattle.projection_spec.specs.Inference.Needed.{linked, between, complete, need, keepsAll, wantsNothing, keepsName, wantsNames, fromRoot, atStart, neededBeforeFilter, neededByPath, needed}
 use Rattle.projection_spec.specs.Inference.Types.{Env, env, holding, allBelow, allAbove, unionOf, cutTo, move, narrow, infer}
 use Rattle.projection_spec.specs.Inference.Walks as walks
-use Rattle.projection_spec.specs.Inference.Walks.{Linked, by-self, by-child, by-descendant, stays-down, goes-down, by-parent, by-ancestor, stays-up, goes-up, Passing, descends, descends-or-stays, Walk, at-last, onward, Asks, own, conditional, later, Needs, WantsNothing, WantsNames, by-alternative, PathNeeds, Reached, root, next, BundleNeeds, by-path}
+use Rattle.projection_spec.specs.Inference.Walks.{Linked, by-self, by-child, by-descendant, stays-down, goes-down, by-parent, by-ancestor, stays-up, goes-up, Passing, descends, descends-or-stays, Walk, at-last, onward, NeededOnWalk, own, conditional, later, Needs, WantsNothing, WantsNames, by-alternative, PathNeeds, ReachedFromRoot, root, next, BundleNeeds, by-path}
 use Rattle.projection_laws.specs.Documents.{Lawful}
 use Rattle.projection_laws.specs.Lawful.{types-lawful}
 use Rattle.projection_laws.specs.Soundness.{in-below, in-above}
@@ -30,7 +30,7 @@ below-join (held t) d = further t d
 below-join (further t u) d = further t (below-join u d)
 
 -- the names that conditions want are those listed
-pub record Listed {C : Type 0} (wants : Names → C → Name → Names) (Wants : Names → C → Name → Name → Type 0) : Type 0 where
+pub record WantsListed {C : Type 0} (wants : Names → C → Name → Names) (Wants : Names → C → Name → Name → Type 0) : Type 0 where
   pub sound : (k : Names) (c : C) (a n : Name) → In n (wants k c a) → Wants k c a n
   pub complete : (k : Names) (c : C) (a n : Name) → Wants k c a n → In n (wants k c a)
 
@@ -141,7 +141,7 @@ module _ (s : Schema) (full : 0 < length s) (closed : Closed s) where
       in-within (in-below types law g i (below-names s closed u .1) (below-isBelow s closed u)) (in-above types law h j (below-names s closed v .0) (below-isBelow s closed v))
 
   -- ---- walks, for conditions whose wants are listed
-  module _ {C : Type 0} (keeps : Names → C → Name → Bool) (wants : Names → C → Name → Names) (Wants : Names → C → Name → Name → Type 0) (listed : Listed wants Wants) where
+  module _ {C : Type 0} (keeps : Names → C → Name → Bool) (wants : Names → C → Name → Names) (Wants : Names → C → Name → Name → Type 0) (listed : WantsListed wants Wants) where
     step-came-from : (p : Step ℕ C) (e : Env) (b : Name) → In b (infer types keeps p e .type) → CameFrom (p .axis) (e .type) b
     step-came-from p e b i =
         let m = move types (p .axis) (p .test) e in
@@ -173,19 +173,19 @@ module _ (s : Schema) (full : 0 < length s) (closed : Closed s) where
     first-typed (onward i l r) = i
 
     -- a walk one step longer in front, with what the rest asks for
-    longer : {p : Step ℕ C} {ps : List (Step ℕ C)} {e : Env} {n : Name} {w : Names} → Walk s keeps Wants ps (infer types keeps p e) w → Asks s keeps Wants ps (infer types keeps p e) w n
+    longer : {p : Step ℕ C} {ps : List (Step ℕ C)} {e : Env} {n : Name} {w : Names} → Walk s keeps Wants ps (infer types keeps p e) w → NeededOnWalk s keeps Wants ps (infer types keeps p e) w n
         → Needs s keeps Wants (p ∷ ps) e n
     longer {p} {ps} {e} {n} (at-last {a = b} i) q =
         let a = step-came-from p e b i in
-        record { walk = a .0 ∷ b ∷ []; complete = onward (a .1) (linked-of (p .axis) (a .0) b (a .2)) (at-last i); asks = later q }
+        record { walk = a .0 ∷ b ∷ []; complete = onward (a .1) (linked-of (p .axis) (a .0) b (a .2)) (at-last i); onWalk = later q }
     longer {p} {ps} {e} {n} (onward {a = b} {b = c} {w = w} i l r) q =
         let a = step-came-from p e b i in
-        record { walk = a .0 ∷ b ∷ c ∷ w; complete = onward (a .1) (linked-of (p .axis) (a .0) b (a .2)) (onward i l r); asks = later q }
+        record { walk = a .0 ∷ b ∷ c ∷ w; complete = onward (a .1) (linked-of (p .axis) (a .0) b (a .2)) (onward i l r); onWalk = later q }
 
     pub need-sound : (ps : List (Step ℕ C)) (e : Env) {n : Name} → In n (need types keeps wants ps e) → Needs s keeps Wants ps e n
-    need-sound [] e {n} i = record { walk = n ∷ []; complete = at-last i; asks = own }
+    need-sound [] e {n} i = record { walk = n ∷ []; complete = at-last i; onWalk = own }
     need-sound (p ∷ ps) e {n} i =
-        ⊎-elim by-own (λ j. ⊎-elim by-between (λ k. ⊎-elim by-condition (λ l. let z = need-sound ps f l in longer (z .complete) (z .asks)) (append-cases c k)) (append-cases b j))
+        ⊎-elim by-own (λ j. ⊎-elim by-between (λ k. ⊎-elim by-condition (λ l. let z = need-sound ps f l in longer (z .complete) (z .onWalk)) (append-cases c k)) (append-cases b j))
         (append-cases g i)
       where
         f : Env
@@ -206,7 +206,7 @@ module _ (s : Schema) (full : 0 < length s) (closed : Closed s) where
         by-own : In n g → Needs s keeps Wants (p ∷ ps) e n
         by-own j =
             let w = walk-from (p ∷ ps) e n j in
-            record { walk = n ∷ w .0; complete = w .1; asks = own }
+            record { walk = n ∷ w .0; complete = w .1; onWalk = own }
 
         by-between : In n b → Needs s keeps Wants (p ∷ ps) e n
         by-between j =
@@ -215,7 +215,7 @@ module _ (s : Schema) (full : 0 < length s) (closed : Closed s) where
             record {
               walk = q .0 ∷ q .1 ∷ w .0;
               complete = onward (complete-typed (p ∷ ps) e (q .2)) (q .5) (w .1);
-              asks = walks.Asks.between (q .4) (q .6) (q .7);
+              onWalk = walks.NeededOnWalk.between (q .4) (q .6) (q .7);
             }
 
         by-condition : In n c → Needs s keeps Wants (p ∷ ps) e n
@@ -226,16 +226,16 @@ module _ (s : Schema) (full : 0 < length s) (closed : Closed s) where
             record {
               walk = a .0 ∷ q .0 ∷ w .0;
               complete = onward (a .1) (linked-of (p .axis) (a .0) (q .0) (a .2)) (w .1);
-              asks = conditional (listed .sound (cutTo types (q .0 ∷ []) (f .context)) (p .condition) (q .0) n (q .2));
+              onWalk = conditional (listed .sound (cutTo types (q .0 ∷ []) (f .context)) (p .condition) (q .0) n (q .2));
             }
 
     own-needed : (ps : List (Step ℕ C)) (e : Env) {n : Name} → In n (complete types keeps wants ps e) → In n (need types keeps wants ps e)
     own-needed [] e i = i
     own-needed (p ∷ ps) e i = append-left _ i
 
-    asks-needed : {ps : List (Step ℕ C)} {e : Env} {w : Names} {n : Name} → Walk s keeps Wants ps e w → Asks s keeps Wants ps e w n → In n (need types keeps wants ps e)
+    asks-needed : {ps : List (Step ℕ C)} {e : Env} {w : Names} {n : Name} → Walk s keeps Wants ps e w → NeededOnWalk s keeps Wants ps e w n → In n (need types keeps wants ps e)
     asks-needed {ps} {e} r own = own-needed ps e (from-walk r)
-    asks-needed (onward {p = p} {ps = ps} {e = e} {a = a} i l r) (walks.Asks.between q u v) =
+    asks-needed (onward {p = p} {ps = ps} {e = e} {a = a} i l r) (walks.NeededOnWalk.between q u v) =
         let f = infer types keeps p e in
         append-right (complete types keeps wants (p ∷ ps) e) (append-left _ (in-between (complete types keeps wants (p ∷ ps) e) (complete types keeps wants ps f) q (from-walk (onward {p = p} i l r)) (from-walk r) u v))
     asks-needed {n = n} (onward {p = p} {ps = ps} {e = e} {b = b} i l r) (conditional q) =
@@ -253,32 +253,32 @@ module _ (s : Schema) (full : 0 < length s) (closed : Closed s) where
         (append-right (between types (p .axis) g h) (append-right (gather (λ a. wants (cutTo types (a ∷ []) (f .context)) (p .condition) a) h) (asks-needed r q)))
 
     pub need-complete : (ps : List (Step ℕ C)) (e : Env) {n : Name} → Needs s keeps Wants ps e n → In n (need types keeps wants ps e)
-    need-complete ps e z = asks-needed (z .complete) (z .asks)
+    need-complete ps e z = asks-needed (z .complete) (z .onWalk)
 
   -- ---- conditions, the last filter, paths and bundles
-  plain-listed : Listed wantsNothing WantsNothing
+  plain-listed : WantsListed wantsNothing WantsNothing
   plain-listed = record { sound = λ k c a n i. elim i [ ]; complete = λ k c a n w. elim w [ ] }
 
-  condition-listed : Listed (wantsNames types) (WantsNames s)
+  condition-listed : WantsListed (wantsNames types) (WantsNames s)
   condition-listed =
       record {
         sound = λ k c a n i.
-            let q = gather-in (λ l. need types keepsAll wantsNothing (expand l) (env (a ∷ []) k)) c i in
-            by-alternative (q .0) (q .1) (need-sound keepsAll wantsNothing WantsNothing plain-listed (expand (q .0)) (env (a ∷ []) k) (q .2));
+            let q = gather-in (λ l. need types keepsAll wantsNothing (expand tt l) (env (a ∷ []) k)) (conditionPaths c) i in
+            by-alternative (q .0) (q .1) (need-sound keepsAll wantsNothing WantsNothing plain-listed (expand tt (q .0)) (env (a ∷ []) k) (q .2));
         complete = wanted;
       }
     where
       wanted : (k : Names) (c : Condition ℕ) (a n : Name) → WantsNames s k c a n → In n (wantsNames types k c a)
       wanted k c a n (by-alternative q i z) =
-          in-gather (λ l. need types keepsAll wantsNothing (expand l) (env (a ∷ []) k)) i (need-complete keepsAll wantsNothing WantsNothing plain-listed (expand q) (env (a ∷ []) k) z)
+          in-gather (λ l. need types keepsAll wantsNothing (expand tt l) (env (a ∷ []) k)) i (need-complete keepsAll wantsNothing WantsNothing plain-listed (expand tt q) (env (a ∷ []) k) z)
 
   pub path-needs : (p : LocationPath ℕ) (n : Name) → In n (neededBeforeFilter types p) → PathNeeds s p n
   unfolding neededBeforeFilter
-  path-needs p n i = need-sound (keepsName types) (wantsNames types) (WantsNames s) condition-listed (expand p) (atRoot types) i
+  path-needs p n i = need-sound (keepsName types) (wantsNames types) (WantsNames s) condition-listed (expand unconditional (p .steps)) (atStart types (p .start)) i
 
   pub needs-path : (p : LocationPath ℕ) (n : Name) → PathNeeds s p n → In n (neededBeforeFilter types p)
   unfolding neededBeforeFilter
-  needs-path p n z = need-complete (keepsName types) (wantsNames types) (WantsNames s) condition-listed (expand p) (atRoot types) z
+  needs-path p n z = need-complete (keepsName types) (wantsNames types) (WantsNames s) condition-listed (expand unconditional (p .steps)) (atStart types (p .start)) z
 
   -- "names that the root reaches by holdings inside this set"
   module _ (r : Names) (P : Name → Type 0) where
@@ -288,23 +288,23 @@ module _ (s : Schema) (full : 0 < length s) (closed : Closed s) where
     abbrev reached : Name → Bool
     reached n = sameName (types .root) n || related (closure inside (types .holds)) (types .root) n
 
-    along-chain : ((n : Name) → In n r → P n) → {a b : Name} → Reached s P a → Chain inside (types .holds) a b → Reached s P b
+    along-chain : ((n : Name) → In n r → P n) → {a b : Name} → ReachedFromRoot s P a → Chain inside (types .holds) a b → ReachedFromRoot s P b
     unfolding typesOf
     along-chain known z (one {b = b} i j t) = next z t (known b (within-in (types .names) r j .1))
     along-chain known z (more {b = b} i t c) = along-chain known (next z t (known b (within-in (types .names) r (chain-from c) .1))) c
 
-    filter-reached : ((n : Name) → In n r → P n) → (n : Name) → In n (fromRoot types r) → Reached s P n
+    filter-reached : ((n : Name) → In n r → P n) → (n : Name) → In n (fromRoot types r) → ReachedFromRoot s P n
     unfolding fromRoot typesOf
     filter-reached known n i =
         let f = filter-in reached inside i in
-        ⊎-elim (λ h. subst (λ (z : Name). Reached s P z) (same-equal (element 0) n h) (root (known (element 0) (subst (λ (z : Name). In z r) (sym (same-equal (element 0) n h)) (within-in (types .names) r (f .0) .1)))))
+        ⊎-elim (λ h. subst (λ (z : Name). ReachedFromRoot s P z) (same-equal (element 0) n h) (root (known (element 0) (subst (λ (z : Name). In z r) (sym (same-equal (element 0) n h)) (within-in (types .names) r (f .0) .1)))))
         (λ h.
         let c = closure-chain inside (types .holds) (element 0) n h in
         along-chain known (root (known (element 0) (within-in (types .names) r (chain-from c) .1))) c)
         (or-cases (sameName (types .root) n) (related (closure inside (types .holds)) (types .root) n) (f .1))
 
     -- what is reached is in the set, and is the root or at the end of a chain from it
-    reached-chain : ((n : Name) → P n → In n r) → {n : Name} → Reached s P n → In n inside × ((types .root ≡ n) ⊎ Chain inside (types .holds) (types .root) n)
+    reached-chain : ((n : Name) → P n → In n r) → {n : Name} → ReachedFromRoot s P n → In n inside × ((types .root ≡ n) ⊎ Chain inside (types .holds) (types .root) n)
     unfolding typesOf
     reached-chain known (root i) = (in-within (element-in s 0 full) (known (element 0) i), inl refl)
     reached-chain known (next {a = a} {b = b} z t i) =
@@ -313,7 +313,7 @@ module _ (s : Schema) (full : 0 < length s) (closed : Closed s) where
         let step : Chain inside (holds s) a b = one (h .0) j t in
         (j, inr (⊎-elim (λ e. subst (λ (x : Name). Chain inside (holds s) x b) (sym e) step) (λ c. chain-join c step) (h .1)))
 
-    reached-filter : ((n : Name) → P n → In n r) → (n : Name) → Reached s P n → In n (fromRoot types r)
+    reached-filter : ((n : Name) → P n → In n r) → (n : Name) → ReachedFromRoot s P n → In n (fromRoot types r)
     unfolding fromRoot
     reached-filter known n z =
         let h = reached-chain known z in

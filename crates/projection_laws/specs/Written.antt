@@ -6,25 +6,25 @@ use Prim.Native.Nat.{ℕ, zero, suc, _+_, _<_, _≤_}
 use native.Mathlib.Omega.{arith}
 use lib.Dec.{T, eqb, eqb-refl}
 use lib.ListN.{length, getElem?, length-append}
-use Rattle.projection_spec.specs.Extracts.Fields.{countTag, twoBytes, field, rowField, fieldOf, writeExtract}
-use Rattle.projection_spec.specs.Extracts.Reading.{itemsFrom, itemsOf, Placed, openFrom, laterRows, rowsOfItems}
+use Rattle.projection_spec.specs.Extracts.Fields.{countTag, twoBytes, field, rowField, fieldOf, writeExtract, rowsAt, extractRows}
+use Rattle.projection_spec.specs.Extracts.Reading.{itemsFrom, itemsOf, Placed, openFrom, rowsOfLaterItems, rowsOfItems}
 use Rattle.projection_laws.specs.Fields.{count-read}
 use Rattle.projection_laws.specs.Items.{opensAfter, field-item, item-row, root-item, parentNumber, restWritten}
-use Rattle.projection_laws.specs.Moved.{HasText, has-text, restart, restarted}
-use Rattle.projection_laws.specs.Opens.{placed, Opens, open-element, open-text, opens-grow, Found, opens-found, opens-first, Reached, row-of-node, same-count, reached-first, reached-next}
+use Rattle.projection_laws.specs.Moved.{HasText, has-text, restart}
+use Rattle.projection_laws.specs.Opens.{placed, Opens, open-element, open-text, opens-grow, FoundOpen, opens-found, opens-first, ReachedRows, row-of-node, same-count, reached-first, reached-next}
 use Rattle.projection_laws.specs.TextNames.{TextNames}
 use Rattle.schema_spec.specs.Names.{element, text, Name, isText}
 use Rattle.schema_spec.specs.Types.{Types}
 use Rattle.table_laws.specs.Fits.{attached-number, RowFits, row-fits, Rooted, rooted, Fitting, fitting}
 use Rattle.table_laws.specs.Places.{at-before, at-end}
-use Rattle.table_spec.specs.Nodes.{Node, top, under, numberOf, nameOf, nodeAt}
+use Rattle.table_spec.specs.Nodes.{Node, top, under, nodeNumber, nameOf, nodeAt}
 use Rattle.table_spec.specs.Rows.{Row, textOf}
-use Rattle.table_spec.specs.Tables.{wellFormed, rowFits, laterRows as laterFit, textInside}
+use Rattle.table_spec.specs.Tables.{wellFormed, rowFits, laterRows, textInside}
 use Rattle.text_laws.specs.Tests.{and-cases, cond-true}
 use Rattle.text_spec.specs.Limits.{maxNodes}
 use Rattle.text_spec.specs.Lists.{allOf, gather}
 
-opens-after : (n : Name) (before : List Node) (number next : ℕ) (w : List ℕ) (p : Node) (os : List Placed) → Opens before p os → numberOf p < number
+opens-after : (n : Name) (before : List Node) (number next : ℕ) (w : List ℕ) (p : Node) (os : List Placed) → Opens before p os → nodeNumber p < number
     → getElem? before next ≡ some (under number n w p) → Opens before (under number n w p) (opensAfter n next number os)
 opens-after (element e) before number next w p os o h g = open-element g h o
 opens-after (text e) before number next w p os o h g = open-text h o
@@ -32,19 +32,19 @@ opens-after (text e) before number next w p os o h g = open-text h o
 -- The later rows of a well-formed table, written and read.
 module _ (s : Types) (law : TextNames s) (lent : List ℕ) (all : List Row) where
   -- one row, given that the rows after it are read wherever it leaves the reader
-  read-row : (done rs rs′ : List Row) (before : List Node) (previous : Node) (os : List Placed) (r : Row) (next fuel k : ℕ) → Reached done before previous os
-      → all ≡ done ++ r ∷ rs → next ≡ length done → numberOf previous < maxNodes → RowFits s before previous r (nodeAt [] before r) → Fitting s before previous r
+  read-row : (done rs rs′ : List Row) (before : List Node) (previous : Node) (os : List Placed) (r : Row) (next fuel k : ℕ) → ReachedRows done before previous os
+      → all ≡ done ++ r ∷ rs → next ≡ length done → nodeNumber previous < maxNodes → RowFits s before previous r (nodeAt [] before r) → Fitting s before previous r
       → T (textInside lent r)
-      → ((os′ : List Placed) → Reached (done ++ (r ∷ [])) (before ++ (nodeAt [] before r ∷ [])) (nodeAt [] before r) os′
-      → laterRows (suc next) os′ (itemsFrom fuel (k + length (fieldOf lent all r)) (restWritten lent all rs)) ≡ some rs′)
-      → laterRows next os (itemsFrom (suc fuel) k (restWritten lent all (r ∷ rs))) ≡ some (restart k r ∷ rs′)
+      → ((os′ : List Placed) → ReachedRows (done ++ (r ∷ [])) (before ++ (nodeAt [] before r ∷ [])) (nodeAt [] before r) os′
+      → rowsOfLaterItems (suc next) os′ (itemsFrom fuel (k + length (fieldOf lent all r)) (restWritten lent all rs)) ≡ some rs′)
+      → rowsOfLaterItems next os (itemsFrom (suc fuel) k (restWritten lent all (r ∷ rs))) ≡ some (restart k r ∷ rs′)
   read-row done rs rs′ before previous os r next fuel k c e n b fits g inside later =
       let f = fieldOf lent all r in
       let after = restWritten lent all rs in
       let w = textOf lent r in
       let up = parentNumber all r in
-      ap (λ (l : List ℕ). laterRows next os (itemsFrom (suc fuel) k l)) (append-assoc f (gather (fieldOf lent all) rs) (field countTag (twoBytes (length all))))
-      ∙ ap (laterRows next os) (field-item (r .name) fuel k (r .number) up w after (omega arith) (omega (arith, parent-number, low))
+      ap (λ (l : List ℕ). rowsOfLaterItems next os (itemsFrom (suc fuel) k l)) (append-assoc f (gather (fieldOf lent all) rs) (field countTag (twoBytes (length all))))
+      ∙ ap (rowsOfLaterItems next os) (field-item (r .name) fuel k (r .number) up w after (omega arith) (omega (arith, parent-number, low))
       (omega (arith, held .size, held .short)))
       ∙ item-row (r .name) k (r .number) up (length w) next os first rest (itemsFrom fuel (k + length f) after) rs′ found named (later _ reached)
       ∙ ap {B = Option (List Row)} (λ (q : Row). some (q ∷ rs′)) (rw (place, held .size, held .ofName))
@@ -59,14 +59,14 @@ module _ (s : Types) (law : TextNames s) (lent : List ℕ) (all : List Row) wher
       no-text (element a) t u = u
       no-text (text a) t u = law .holdsNothing a (r .name) t
 
-      above : Found before p os
+      above : FoundOpen before p os
       above = opens-found (c .opened) p (g .isOpen) (no-text (nameOf p) (g .held))
 
-      parentOpened : (i a : ℕ) × (higher : List Placed) × (above .0 ≡ placed i (numberOf p) a ∷ higher) × (getElem? before i ≡ some p) × (nameOf p ≡ element a)
+      parentOpened : (i a : ℕ) × (higher : List Placed) × (above .0 ≡ placed i (nodeNumber p) a ∷ higher) × (getElem? before i ≡ some p) × (nameOf p ≡ element a)
       parentOpened = opens-first (above .2) (no-text (nameOf p) (g .held))
 
       first : Placed
-      first = placed (parentOpened .0) (numberOf p) (parentOpened .1)
+      first = placed (parentOpened .0) (nodeNumber p) (parentOpened .1)
 
       rest : List Placed
       rest = parentOpened .2
@@ -74,12 +74,12 @@ module _ (s : Types) (law : TextNames s) (lent : List ℕ) (all : List Row) wher
       place : parentOpened .0 ≡ r .parent
       place = c .distinct (parentOpened .0) (r .parent) p p (parentOpened .4) (g .parentAt) refl
 
-      parent-number : parentNumber all r ≡ numberOf p
+      parent-number : parentNumber all r ≡ nodeNumber p
       parent-number =
           let q = row-of-node done before (c .numbers) (r .parent) p (g .parentAt) in
           rw (e, at-before done (r ∷ rs) (r .parent) (q .0) (q .1)) (q .2)
 
-      low : numberOf p ≤ numberOf previous
+      low : nodeNumber p ≤ nodeNumber previous
       low = c .bounded (r .parent) p (g .parentAt)
 
       held : HasText (r .name) lent r
@@ -108,39 +108,39 @@ module _ (s : Types) (law : TextNames s) (lent : List ℕ) (all : List Row) wher
           subst₂ (λ (z : Node) (l : List Placed). Opens grown z (opensAfter (r .name) next (r .number) l)) (sym node) (parentOpened .3)
           (opens-after (r .name) grown (r .number) next (textOf [] r) p (above .0) (opens-grow y (above .2)) (omega (arith, low, fits .rises)) last)
 
-      reached : Reached (done ++ (r ∷ [])) grown y (opensAfter (r .name) next (r .number) (first ∷ rest))
-      reached = reached-next c r y (opensAfter (r .name) next (r .number) (first ∷ rest)) (ap numberOf node) (fits .rises) opened
+      reached : ReachedRows (done ++ (r ∷ [])) grown y (opensAfter (r .name) next (r .number) (first ∷ rest))
+      reached = reached-next c r y (opensAfter (r .name) next (r .number) (first ∷ rest)) (ap nodeNumber node) (fits .rises) opened
 
-  read-later : (done rs : List Row) (before : List Node) (previous : Node) (os : List Placed) (next fuel k : ℕ) → Reached done before previous os
-      → all ≡ done ++ rs → next ≡ length done → length all < 65536 → length rs < fuel → numberOf previous < maxNodes → T (laterFit s before previous rs)
+  read-later : (done rs : List Row) (before : List Node) (previous : Node) (os : List Placed) (next fuel k : ℕ) → ReachedRows done before previous os
+      → all ≡ done ++ rs → next ≡ length done → length all < 65536 → length rs < fuel → nodeNumber previous < maxNodes → T (laterRows s before previous rs)
       → T (allOf (textInside lent) rs)
-      → laterRows next os (itemsFrom fuel k (restWritten lent all rs)) ≡ some (restarted (fieldOf lent all) k rs)
+      → rowsOfLaterItems next os (itemsFrom fuel k (restWritten lent all rs)) ≡ some (rowsAt (fieldOf lent all) k rs)
   read-later done [] before previous os next zero k c e n h f b t i = absurd (omega arith)
   read-later done [] before previous os next (suc fuel) k c e n h f b t i =
       let whole : length all ≡ next = omega (arith, ap length e, length-append done []) in
-      ap (laterRows next os) (count-read fuel k (length all) h) ∙ cond-true (eqb (length all) next) (some []) none (rw whole (eqb-refl next))
+      ap (rowsOfLaterItems next os) (count-read fuel k (length all) h) ∙ cond-true (eqb (length all) next) (some []) none (rw whole (eqb-refl next))
   read-later done (r ∷ rs) before previous os next zero k c e n h f b t i = absurd (omega arith)
   read-later done (r ∷ rs) before previous os next (suc fuel) k c e n h f b t i =
       let y = nodeAt [] before r in
-      let u = and-cases (rowFits s before previous r y) (laterFit s (before ++ (y ∷ [])) y rs) t in
+      let u = and-cases (rowFits s before previous r y) (laterRows s (before ++ (y ∷ [])) y rs) t in
       let v = and-cases (textInside lent r) (allOf (textInside lent) rs) i in
       let fits = row-fits s before previous r y (u .0) in
       let place = k + length (fieldOf lent all r) in
-      let small : numberOf y < maxNodes = rw (attached-number (r .number) (r .name) (textOf [] r) (getElem? before (r .parent))) (fits .small) in
-      read-row done rs (restarted (fieldOf lent all) place rs) before previous os r next fuel k c e n b fits (fitting s before previous r fits) (v .0)
+      let small : nodeNumber y < maxNodes = rw (attached-number (r .number) (r .name) (textOf [] r) (getElem? before (r .parent))) (fits .small) in
+      read-row done rs (rowsAt (fieldOf lent all) place rs) before previous os r next fuel k c e n b fits (fitting s before previous r fits) (v .0)
       (λ os′ c′.
       read-later (done ++ (r ∷ [])) rs (before ++ (y ∷ [])) y os′ (suc next) fuel place c′ (e ∙ sym (append-assoc done (r ∷ []) rs))
       (omega (arith, length-append done (r ∷ []))) h (omega arith) small (u .1) (v .1))
 
 -- numbers rise, so there are no more rows than numbers
-count-bound : (s : Types) (before : List Node) (previous : Node) (rs : List Row) (m : ℕ) → T (laterFit s before previous rs) → m ≤ suc (numberOf previous)
-    → numberOf previous < maxNodes → m + length rs ≤ maxNodes
+count-bound : (s : Types) (before : List Node) (previous : Node) (rs : List Row) (m : ℕ) → T (laterRows s before previous rs) → m ≤ suc (nodeNumber previous)
+    → nodeNumber previous < maxNodes → m + length rs ≤ maxNodes
 count-bound s before previous [] m t h b = omega arith
 count-bound s before previous (r ∷ rs) m t h b =
     let y = nodeAt [] before r in
-    let u = and-cases (rowFits s before previous r y) (laterFit s (before ++ (y ∷ [])) y rs) t in
+    let u = and-cases (rowFits s before previous r y) (laterRows s (before ++ (y ∷ [])) y rs) t in
     let g = row-fits s before previous r y (u .0) in
-    let k : numberOf y ≡ r .number = attached-number (r .number) (r .name) (textOf [] r) (getElem? before (r .parent)) in
+    let k : nodeNumber y ≡ r .number = attached-number (r .number) (r .name) (textOf [] r) (getElem? before (r .parent)) in
     let l = g .rises in
     let d = g .small in
     let i = count-bound s (before ++ (y ∷ [])) y rs (suc m) (u .1) (omega arith) (omega arith) in
@@ -160,7 +160,7 @@ fields-long lent all (r ∷ rs) =
 -- a whole well-formed table, written and read
 read-table : (s : Types) → TextNames s → (lent : List ℕ) (r : Row) (rs : List Row) → Rooted s r rs → T (allOf (textInside lent) (r ∷ rs)) → (fuel : ℕ)
     → length rs < fuel
-    → rowsOfItems (itemsFrom (suc fuel) 0 (restWritten lent (r ∷ rs) (r ∷ rs))) ≡ some (restarted (fieldOf lent (r ∷ rs)) 0 (r ∷ rs))
+    → rowsOfItems (itemsFrom (suc fuel) 0 (restWritten lent (r ∷ rs) (r ∷ rs))) ≡ some (rowsAt (fieldOf lent (r ∷ rs)) 0 (r ∷ rs))
 read-table s law lent r rs c i fuel h =
     let w = textOf lent r in
     let up = parentNumber all r in
@@ -180,7 +180,7 @@ read-table s law lent r rs c i fuel h =
     after = restWritten lent all rs
 
     rs′ : List Row
-    rs′ = restarted (fieldOf lent all) (0 + length f) rs
+    rs′ = rowsAt (fieldOf lent all) (0 + length f) rs
 
     y : Node
     y = top (r .number) (r .name)
@@ -203,7 +203,7 @@ read-table s law lent r rs c i fuel h =
     few : length all < 65536
     few = omega (arith, count-bound s (y ∷ []) y rs 1 (c .later) (omega arith) (omega (arith, c .number)))
 
-    later : laterRows 1 (placed 0 (r .number) root ∷ []) (itemsFrom fuel (0 + length f) after) ≡ some rs′
+    later : rowsOfLaterItems 1 (placed 0 (r .number) root ∷ []) (itemsFrom fuel (0 + length f) after) ≡ some rs′
     later =
         read-later s law lent all (r ∷ []) rs (y ∷ []) y (placed 0 (r .number) root ∷ []) 1 fuel (0 + length f) (reached-first r root named) refl refl few h
         (omega (arith, c .number)) (c .later) (parts .1)
@@ -213,12 +213,12 @@ written-long lent rows =
     omega (arith, fields-long lent rows rows, length-append (gather (fieldOf lent rows) rows) (field countTag (twoBytes (length rows))))
 
 pub table-items : (s : Types) → TextNames s → (lent : List ℕ) (rows : List Row) → T (wellFormed s rows) → T (allOf (textInside lent) rows)
-    → rowsOfItems (itemsOf (writeExtract lent rows)) ≡ some (restarted (fieldOf lent rows) 0 rows)
-unfolding writeExtract itemsOf
+    → rowsOfItems (itemsOf (writeExtract lent rows)) ≡ some (extractRows lent rows)
+unfolding writeExtract itemsOf extractRows
 table-items s law lent [] t i = refl
 table-items s law lent (r ∷ rs) t i = by-length (length (restWritten lent (r ∷ rs) (r ∷ rs))) (written-long lent (r ∷ rs))
   where
     by-length : (m : ℕ) → length (r ∷ rs) + 5 ≤ m
-        → rowsOfItems (itemsFrom m 0 (restWritten lent (r ∷ rs) (r ∷ rs))) ≡ some (restarted (fieldOf lent (r ∷ rs)) 0 (r ∷ rs))
+        → rowsOfItems (itemsFrom m 0 (restWritten lent (r ∷ rs) (r ∷ rs))) ≡ some (rowsAt (fieldOf lent (r ∷ rs)) 0 (r ∷ rs))
     by-length zero h = absurd (omega arith)
     by-length (suc fuel) h = read-table s law lent r rs (rooted s r rs t) i fuel (omega arith)

@@ -17,7 +17,7 @@ use Rattle.table_spec.specs.Rows.{Row, textOf}
 use Rattle.table_spec.specs.Tables.{wellFormedWith}
 use Rattle.text_laws.specs.Lists.{gather-in}
 use Rattle.text_laws.specs.Tests.{or-cases, and-cases, not-intro, decided}
-use Rattle.text_spec.specs.Bytes.{isForeign, within}
+use Rattle.text_spec.specs.Bytes.{isForeign, isBetween}
 use Rattle.text_spec.specs.Lists.{gather}
 
 -- a byte that passes 3 is below 7F hex
@@ -25,14 +25,14 @@ passing-byte : (b : ℕ) → (T (isForeign b) → ⊥) → b < 256
 passing-byte b n = ⊎-elim pass (λ f. absurd (n (not-intro known f))) (decided known)
   where
     known : Bool
-    known = eqb b 0x09 || (eqb b 0x0A || within 0x20 0x7E b)
+    known = eqb b 0x09 || (eqb b 0x0A || isBetween 0x20 0x7E b)
 
     pass : T known → b < 256
     pass t =
         ⊎-elim (λ u. let e = eqb→eq b 0x09 u in omega arith)
         (λ v.
         ⊎-elim (λ u. let e = eqb→eq b 0x0A u in omega arith) (λ u. let e = leb→le b 0x7E (and-cases (leb 0x20 b) (leb b 0x7E) u .1) in omega arith)
-        (or-cases (eqb b 0x0A) (within 0x20 0x7E b) v)) (or-cases (eqb b 0x09) (eqb b 0x0A || within 0x20 0x7E b) t)
+        (or-cases (eqb b 0x0A) (isBetween 0x20 0x7E b) v)) (or-cases (eqb b 0x09) (eqb b 0x0A || isBetween 0x20 0x7E b) t)
 
 cons-bytes : (x : ℕ) (xs : List ℕ) → x < 256 → AreBytes xs → AreBytes (x ∷ xs)
 cons-bytes x xs h f b (here e) = rw e h

@@ -10,12 +10,13 @@ use lib.Dec.{ltb}
 use lib.ListN.{length, take, drop, replicate, length-map, take-append-drop}
 use lib.Seq.{take-length, take-at, length-take-le}
 use Rattle.schema.proofs.Limits.{places-back}
-use Rattle.schema.proofs.Naming.{twice-places, undeclared-places, declared-names}
+use Rattle.schema.proofs.Naming.{twice-places, undeclared-places}
 use Rattle.schema.proofs.Order.{Later, later-none, later-all, later-append, least-first, place-found, place-none, places-rise, filter-rise, twice-rise}
 use Rattle.schema.proofs.Resolving.{used-elements}
 use Rattle.schema.specs.Judging.{reasonOf, outcomeOf, sized, JudgedAs, JudgedInto, JudgedNames, Located, declaredAt, usedIn, Readable, Spelling}
 use Rattle.schema.specs.Names.{firstPlace, namesBefore, twiceAt, missingAt, elementAt, Resolved}
-use Rattle.declarations.specs.Parts.{useAt, Between}
+use Rattle.declarations.specs.DeclarationLaws.{declared-names}
+use Rattle.particles.specs.Readings.{useAt, Between}
 use Rattle.schema.specs.Whole.{WithinLimits, Limits, within, passed, AllSpelt, AllRead}
 use Rattle.schema.specs.declared.All.{All}
 use Rattle.schema.specs.declared.All.the-variants.{Past as AllPast, Fail as AllFail}
@@ -25,9 +26,8 @@ use Rattle.schema.specs.declared.Judgement.{Judgement}
 use Rattle.schema.specs.declared.Kind.{Kind}
 use Rattle.schema.specs.declared.Kind.the-variants.{BadLength, BadByte, BadGrammar, OverLimit, DeclaredTwice, Undeclared}
 use Rattle.schema_laws.specs.Accepted.{names-of-elements}
-use Rattle.schema_names.specs.Names.{nameAt}
 use Rattle.schema_spec.specs.Declarations.{Use, Declaration}
-use Rattle.schema_spec.specs.Machine.{Parsed, spells, departs, parse}
+use Rattle.schema_spec.specs.Machine.{parse}
 use Rattle.schema_spec.specs.Reading.{limitPlaces, twicePlaces, undeclaredPlaces, usesOf, parsedRefusals, parsedSchema, schemaRefusals, readSchema}
 use Rattle.schema_spec.specs.Schemas.{Schema, schemaOf, resolved, declaredNames}
 use Rattle.text.specs.Places.{foreignPlace}
@@ -37,6 +37,8 @@ use Rattle.text_laws.specs.Tests.{never}
 use Rattle.text_spec.specs.Cells.{padded}
 use Rattle.text_spec.specs.Limits.{maxDeclarations, maxSchemaBytes}
 use Rattle.text_spec.specs.Lists.{isEmpty, placesFrom, gather}
+use Rattle.text_spec.specs.Machines.{Parsed, spells, departs}
+use Rattle.text_spec.specs.Scans.{nameAt}
 use Rattle.text_spec.specs.Refusals.{Reason, badLength, badByte, badSchema, overSchemaLimit, declaredTwice, undeclaredInModel, numberOf, Refusal, at, allAt, given, firstOf, accepted, refused, byFirst, judged}
 use Rattle.text_spec.specs.Texts.{lengthRefusals, byteRefusals}
 
@@ -68,14 +70,14 @@ module _ {text names uses : List ℕ} {k : Kind} {p : ℕ} (J : JudgedAs text (R
 -- ---- acceptance
 accepted-outcome : (text : List ℕ) {ds : List Declaration} → parse text ≡ spells ds → schemaRefusals text ≡ [] → readSchema text ≡ accepted (schemaOf ds)
 unfolding readSchema firstOf
-accepted-outcome text e f = ap₂ (λ (fs : List Refusal) (q : Parsed). judged fs (parsedSchema q)) f e
+accepted-outcome text e f = ap₂ (λ (fs : List Refusal) (q : Parsed (List Declaration)). judged fs (parsedSchema q)) f e
 
 elements : (ds : List Declaration) → length (schemaOf ds) ≡ length ds
 unfolding schemaOf
 elements ds = length-map ds (resolved (declaredNames ds))
 
 -- ---- 2 and 3
-parsed-later : (r : Reason) → numberOf r < 4 → (q : Parsed) → Later r (parsedRefusals q)
+parsed-later : (r : Reason) → numberOf r < 4 → (q : Parsed (List Declaration)) → Later r (parsedRefusals q)
 parsed-later r h (departs k) = later-all r badSchema (k ∷ []) h
 parsed-later r h (spells ds) =
     later-append r (allAt overSchemaLimit (limitPlaces ds)) (allAt declaredTwice (twicePlaces [] ds) ++ allAt undeclaredInModel (undeclaredPlaces ds)) (later-all r overSchemaLimit (limitPlaces ds) (omega arith))
@@ -133,7 +135,7 @@ module _ (text : List ℕ) (n : length text ≡ 0 → ⊥) (h : length text ≤ 
 
 -- ---- 4 to 7
 module _ (text : List ℕ) (R : Readable text) where
-  refusals-from : {q : Parsed} → parse text ≡ q → schemaRefusals text ≡ parsedRefusals q
+  refusals-from : {q : Parsed (List Declaration)} → parse text ≡ q → schemaRefusals text ≡ parsedRefusals q
   unfolding schemaRefusals
   refusals-from e = ap₂ (λ (x y : List Refusal). x ++ (y ++ parsedRefusals (parse text))) (R .right-length) (R .right-bytes) ∙ ap parsedRefusals e
 
@@ -313,4 +315,4 @@ module _ {s start names uses : List ℕ} {r : All} (A : AllRead s start names us
               let some = kept-all .some in
               let long : length (map (λ d. d .name .place) (spelt .declarations)) ≡ c .d = sym (ap length places-here) ∙ sym (judge-room .2) in
               sym (take-append-drop (c .d) names) ∙ ap₂ (λ (x y : List ℕ). x ++ y) places-here (spelt .rest ∙ ap (drop (c .d)) clear ∙ drop-replicate (c .d) maxDeclarations 0 ∙ ap (λ (n : ℕ). replicate (maxDeclarations - n) 0) (sym long))
-              ∙ sym (padded-content maxDeclarations (map (λ d. d .name .place) (spelt .declarations)) (omega arith)) ∙ ap (λ (q : Parsed). padded maxDeclarations (declaredAt q)) (sym (spelt .spelt))
+              ∙ sym (padded-content maxDeclarations (map (λ d. d .name .place) (spelt .declarations)) (omega arith)) ∙ ap (λ (q : Parsed (List Declaration)). padded maxDeclarations (declaredAt q)) (sym (spelt .spelt))

@@ -8,12 +8,12 @@ use native.Mathlib.Omega.{arith}
 use lib.Dec.{T}
 use lib.ListN.{length, drop, getD, set, length-map, length-set}
 use lib.Seq.{ext-getD, take-length}
-use Rattle.declarations.specs.Parts.{useAt}
+use Rattle.particles.specs.Readings.{useAt}
 use Rattle.schema.proofs.Naming.{among-found, among-none, missing-here, missing-later, missing-never}
 use Rattle.schema.specs.Judging.{usedIn}
 use Rattle.schema.specs.Names.{firstPlace, namesBefore, missingAt, elementAt, Resolved}
 use Rattle.schema_laws.specs.Accepted.{indexIn, usesIn-rename, declared-use}
-use Rattle.schema_names.specs.Names.{nameAt}
+use Rattle.text_spec.specs.Scans.{nameAt}
 use Rattle.schema_spec.specs.Declarations.{Use, Declaration}
 use Rattle.schema_spec.specs.Reading.{usesOf, undeclaredPlaces}
 use Rattle.schema_spec.specs.Schemas.{indexFrom, declaredNames, resolved, schemaOf}

@@ -10,14 +10,15 @@ use Rattle.schema.specs.declared.Kind.the-variants.{BadLength, BadByte, 
 use Rattle.schema.specs.declared.Schema.{Schema as Record}
 use Rattle.schema.specs.Whole.{WithinLimits}
 use Rattle.schema_spec.specs.Declarations.{Declaration}
-use Rattle.schema_names.specs.Names.{nameAt}
-use Rattle.schema_spec.specs.Machine.{Parsed, spells, departs, parse}
+use Rattle.schema_spec.specs.Machine.{parse}
 use Rattle.schema_spec.specs.Models.{usesIn}
 use Rattle.schema_spec.specs.Reading.{readSchema}
 use Rattle.schema_spec.specs.Schemas.{Schema}
 use Rattle.text_spec.specs.Cells.{padded}
 use Rattle.text_spec.specs.Limits.{maxDeclarations, maxSchemaBytes}
 use Rattle.text_spec.specs.Lists.{gather}
+use Rattle.text_spec.specs.Machines.{Parsed, spells, departs}
+use Rattle.text_spec.specs.Scans.{nameAt}
 use Rattle.text_spec.specs.Refusals.{Reason, badLength, badByte, badSchema, overSchemaLimit, declaredTwice, undeclaredInModel, at, Outcome, accepted, refused}
 use Rattle.text_spec.specs.Texts.{lengthRefusals, byteRefusals}
 
@@ -52,7 +53,7 @@ abbrev pub usedIn : Schema → List ℕ
 usedIn s = gather (λ e. usesIn (e .content)) s
 
 -- the places of the names that a text declares
-abbrev pub declaredAt : Parsed → List ℕ
+abbrev pub declaredAt : Parsed (List Declaration) → List ℕ
 declaredAt (spells ds) = map (λ d. d .name .place) ds
 declaredAt (departs k) = []
 

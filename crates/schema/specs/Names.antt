@@ -4,8 +4,8 @@ use mathlib.Core.List.{List, [], _∷_, map}
 use mathlib.Core.Path.{_≡_}
 use Prim.Native.Nat.{ℕ, zero, suc}
 use lib.ListN.{length, getD}
-use Rattle.schema_names.specs.Names.{nameAt}
 use Rattle.schema_spec.specs.Schemas.{indexFrom}
+use Rattle.text_spec.specs.Scans.{nameAt}
 use Rattle.text_spec.specs.Lists.{anyOf, filterBy, first, valueOr, sameBytes}
 
 -- the first of some places, or the text's length

@@ -10,22 +10,21 @@ use borrow.Author.Tests.{ltb-true, ltb-false}
 use lib.Dec.{ltb}
 use lib.ListN.{length, take, drop, getD, getElem?, length-append, length-map, length-reverse, length-take, take-append-drop}
 use lib.Seq.{take-at, drop-at, take-append-le, drop-append-le}
-use Rattle.declarations.proofs.Judging.{at-end}
-use Rattle.declarations.specs.Parts.{from, Skipped}
-use Rattle.schema.proofs.Limits.{between-blank}
+use Rattle.declarations.specs.DeclarationLaws.{between-skipped}
+use Rattle.scanning.specs.Outcomes.{Skipped}
 use Rattle.schema.specs.Judging.{usedIn}
 use Rattle.schema_elements.specs.Reading.{AtDeclaration}
 use Rattle.schema_laws.specs.Accepted.{Spelt, accepted-spelt, accepted-length, accepted-closed, accepted-models, indexIn, usesIn-rename}
 use Rattle.schema_laws.specs.Runs.{run-extends}
 use Rattle.schema_spec.specs.Declarations.{Use, Declaration}
-use Rattle.schema_spec.specs.Machine.{between, atEnd, spells, departs, parse}
+use Rattle.schema_spec.specs.Machine.{between, schemaMachine, atEnd, from, parse}
 use Rattle.schema_spec.specs.Models.{usesIn, renameContent}
-use Rattle.schema_spec.specs.Reading.{readSchema}
 use Rattle.schema_spec.specs.Records.{schemaIn}
 use Rattle.schema_spec.specs.Schemas.{Schema, declaredNames, resolved, schemaOf, contentOr, contentAt, modelAt}
+use Rattle.text_laws.specs.Scans.{at-end}
 use Rattle.text_laws.specs.Tests.{never}
 use Rattle.text_spec.specs.Limits.{maxDeclarations, maxModelNames}
-use Rattle.text_spec.specs.Refusals.{accepted}
+use Rattle.text_spec.specs.Machines.{spells, departs}
 
 at-middle : {A B : Type 0} (f : A → B) (xs ys : List A) (x : A) → getElem? (map f (xs ++ (x ∷ ys))) (length xs) ≡ some (f x)
 at-middle f [] ys x = refl
@@ -56,23 +55,9 @@ used-next (e ∷ s) (suc d) l =
     omega arith
 
 -- ---- the declarations of an accepted text
-pub at-first : {text uses : List ℕ} → readSchema text ≡ accepted (schemaIn text) → take (length (usedIn (schemaIn text))) uses ≡ usedIn (schemaIn text)
-    → {i : ℕ} → Skipped text 0 i → AtDeclaration text uses 0 0 i
-at-first r u K =
-    record {
-      read = r;
-      elements = u;
-      done = [];
-      same = K .same (between []) refl (λ n b e. between-blank [] n b e);
-      count = refl;
-      used = refl;
-      high = K .high;
-      no-blank = K .stop;
-    }
-
 module _ {text uses : List ℕ} {d n i : ℕ} (A : AtDeclaration text uses d n i) where
   abbrev spelling : Spelt text (schemaIn text)
-  spelling = accepted-spelt text (schemaIn text) (A .read)
+  spelling = accepted-spelt text (schemaIn text) (A .given .read)
 
   abbrev all : List Declaration
   all = spelling .declarations
@@ -100,7 +85,7 @@ module _ {text uses : List ℕ} {d n i : ℕ} (A : AtDeclaration text uses d n i
 
       pick : (b : Bool) → ltb i (length text) ≡ b → i < length text
       pick true e = ltb-true i (length text) e
-      pick false e = absurd (ended (A .done) (A .count) (sym (at-end text i (between (A .done)) (ltb-false i (length text) e)) ∙ spelt-on))
+      pick false e = absurd (ended (A .done) (A .count) (sym (at-end schemaMachine text i (between (A .done)) (ltb-false i (length text) e)) ∙ spelt-on))
 
   pub departs-not : {j : ℕ} → from (between (A .done)) text i ≡ departs j → ⊥
   departs-not {j} e =
@@ -118,7 +103,7 @@ module _ {text uses : List ℕ} {d n i : ℕ} (A : AtDeclaration text uses d n i
     enough : total ≤ length uses
     enough =
         let a = length-take total uses in
-        let b = ap length (A .elements) in
+        let b = ap length (A .given .elements) in
         omega arith
 
     inside : n + length model ≤ total
@@ -138,8 +123,8 @@ module _ {text uses : List ℕ} {d n i : ℕ} (A : AtDeclaration text uses d n i
     pub model-cells : take (length model) (drop n uses) ≡ model
     model-cells =
         let a = inside in
-        let e : length (take total uses) ≡ total = ap length (A .elements) in
-        let k : drop n (take total uses) ≡ model ++ usedIn (drop (suc d) (schemaIn text)) = ap (drop n) (A .elements ∙ used-at (schemaIn text) d l) ∙ drop-at (usedIn (take d (schemaIn text))) (model ++ usedIn (drop (suc d) (schemaIn text))) n (sym (A .used)) in
+        let e : length (take total uses) ≡ total = ap length (A .given .elements) in
+        let k : drop n (take total uses) ≡ model ++ usedIn (drop (suc d) (schemaIn text)) = ap (drop n) (A .given .elements ∙ used-at (schemaIn text) d l) ∙ drop-at (usedIn (take d (schemaIn text))) (model ++ usedIn (drop (suc d) (schemaIn text))) n (sym (A .used)) in
         let m : length model ≤ length (drop n (take total uses)) = (let f = ap length k in let g = length-append model (usedIn (drop (suc d) (schemaIn text))) in omega arith) in
         ap (λ (us : List ℕ). take (length model) (drop n us)) (sym (take-append-drop total uses))
         ∙ ap (take (length model)) (drop-append-le n (take total uses) (drop total uses) (omega arith))
@@ -148,8 +133,8 @@ module _ {text uses : List ℕ} {d n i : ℕ} (A : AtDeclaration text uses d n i
 
   pub model-small : (b : ℕ) → In b (modelAt (schemaIn text) d) → b < maxDeclarations
   model-small b m =
-      let c = accepted-closed text (schemaIn text) (A .read) d b m in
-      let l = accepted-length text (schemaIn text) (A .read) in
+      let c = accepted-closed text (schemaIn text) (A .given .read) d b m in
+      let l = accepted-length text (schemaIn text) (A .given .read) in
       omega arith
 
   pub cell-small : (model : List ℕ) → model ≡ modelAt (schemaIn text) d → (j : ℕ) → j < length model → getD model j 0 < maxDeclarations
@@ -157,7 +142,7 @@ module _ {text uses : List ℕ} {d n i : ℕ} (A : AtDeclaration text uses d n i
 
   pub element-small : d < length (schemaIn text) → d < maxDeclarations
   element-small l =
-      let a = accepted-length text (schemaIn text) (A .read) in
+      let a = accepted-length text (schemaIn text) (A .given .read) in
       omega arith
 
   abbrev pub index : Use → ℕ
@@ -187,17 +172,16 @@ module _ {text uses : List ℕ} {d n i : ℕ} (A : AtDeclaration text uses d n i
 
     pub uses-few : length (usesIn (x .content)) ≤ maxModelNames
     uses-few =
-        let a = accepted-models text (schemaIn text) (A .read) d in
+        let a = accepted-models text (schemaIn text) (A .given .read) d in
         let b = model-size in
         omega arith
 
     pub at-next : d < length (schemaIn text) → (size : ℕ) → size ≡ length (usesIn (x .content)) → {k : ℕ} → Skipped text j k → AtDeclaration text uses (d + 1) (n + size) k
     at-next l size e K =
         record {
-          read = A .read;
-          elements = A .elements;
+          given = A .given;
           done = x ∷ A .done;
-          same = A .same ∙ goes ∙ K .same (between (x ∷ A .done)) refl (λ m b f. between-blank (x ∷ A .done) m b f);
+          same = A .same ∙ goes ∙ between-skipped K (x ∷ A .done);
           count = ap suc (A .count) ∙ sym (add-one d);
           used = rw (add-one d) (let a = used-next (schemaIn text) d l in let b = model-size in let u = A .used in omega arith);
           high = K .high;

@@ -139,7 +139,7 @@ pub fn element_entry(
             let model = &uses[n..m];
             copy_elements(model, elements);
             let holds = held(d, kind_of(content), model);
-            entry_of(declarations::skip(s, end), content, size, holds)
+            entry_of(scanning::skip(s, end), content, size, holds)
         }
         // an accepted text departs nowhere from the grammar
         DeclarationOutcome::Fail(_) => entry_of(at, Content::Empty, 0, NameSet::empty()),

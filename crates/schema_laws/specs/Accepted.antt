@@ -14,7 +14,7 @@ use Rattle.schema_laws.specs.Names.{in-element, in-text}
 use Rattle.schema_laws.specs.Runs.{spelt-named}
 use Rattle.schema_spec.specs.Declarations.{Use, Declaration}
 use Rattle.schema_spec.specs.Models.{Particle, named, sequence, choice, repeated, Content, empty, pcdata, children, uses, usesIn, renameIn, renameContent}
-use Rattle.schema_spec.specs.Machine.{parse, spells, departs, Parsed}
+use Rattle.schema_spec.specs.Machine.{parse}
 use Rattle.schema_spec.specs.Names.{Name, element, text as text-name, namesOf}
 use Rattle.schema_spec.specs.Reading.{usesOf, limitPlaces, twicePlaces, undeclaredPlaces, parsedRefusals, parsedSchema, schemaRefusals, readSchema}
 use Rattle.schema_spec.specs.Records.{schemaIn}
@@ -26,6 +26,7 @@ use Rattle.text_laws.specs.Tests.{failed, not-not}
 use Rattle.text_spec.specs.Bytes.{isName}
 use Rattle.text_spec.specs.Limits.{maxDeclarations, maxModelNames, maxSchemaBytes}
 use Rattle.text_spec.specs.Lists.{anyOf, sameBytes, gather, filterBy, valueOr}
+use Rattle.text_spec.specs.Machines.{Parsed, spells, departs}
 use Rattle.text_spec.specs.Refusals.{Refusal, at, allAt, Outcome, accepted, refused, resultOr, overSchemaLimit, declaredTwice, undeclaredInModel}
 use Rattle.text_spec.specs.Texts.{lengthRefusals, byteRefusals}
 
@@ -48,7 +49,7 @@ accepted-spelt text s e =
     let v = append-empty (byteRefusals text) (parsedRefusals (parse text)) (u .1) in
     pick (parse text) refl (u .0) (v .0) (v .1) (j .1)
   where
-    pick : (p : Parsed) → parse text ≡ p → lengthRefusals maxSchemaBytes text ≡ [] → byteRefusals text ≡ [] → parsedRefusals p ≡ [] → parsedSchema p ≡ s → Spelt text s
+    pick : (p : Parsed (List Declaration)) → parse text ≡ p → lengthRefusals maxSchemaBytes text ≡ [] → byteRefusals text ≡ [] → parsedRefusals p ≡ [] → parsedSchema p ≡ s → Spelt text s
     pick (departs k) q l b r g = absurd (in-nothing r (here refl))
     pick (spells ds) q l b r g =
         let x = append-empty (allAt overSchemaLimit (limitPlaces ds)) (allAt declaredTwice (twicePlaces [] ds) ++ allAt undeclaredInModel (undeclaredPlaces ds)) r in

@@ -1,18 +1,21 @@
 -- What a schema text spells but for places: the machine never looks at a place, so it can be run without them. Assumes nothing.
 use mathlib.Core.Bool.{Bool, true, false, cond, _&&_}
 use mathlib.Core.List.{List, [], _∷_, map, reverse}
-use mathlib.Core.Path.{_≡_, refl, sym, ap, subst, _∙_}
+use mathlib.Core.Option.{some}
+use mathlib.Core.Path.{_≡_, refl, sym, ap, _∙_}
 use Prim.Native.Nat.{ℕ, suc}
 use lib.Dec.{eqb, ltb}
 use lib.ListN.{length, length-map}
 use Rattle.schema_laws.specs.Lists.{map-reverse}
-use Rattle.schema_laws.specs.Runs.{end-ended}
+use Rattle.schema_laws.specs.Machine.{schema-dead, ends-between}
 use Rattle.schema_spec.specs.Declarations.{Use, Declaration, elementKeyword, emptyKeyword, pcdataKeyword, Separator, unparted, byBar, byComma}
-use Rattle.schema_spec.specs.Machine.{Frame, fresh, holding, Opening, Head, State, dead, between, inKeyword, afterKeyword, beforeName, inName, beforeContent, inEmpty, afterOpen, inPcdata, afterPcdata, expecting, inUse, closed, past, afterContent, isDead, closing, join, separated, following, indicating, beginning, matching, step, spells, departs, atEnd, run}
+use Rattle.schema_spec.specs.Machine.{Frame, fresh, holding, Opening, Head, State, dead, between, inKeyword, afterKeyword, beforeName, inName, beforeContent, inEmpty, afterOpen, inPcdata, afterPcdata, expecting, inUse, closed, past, afterContent, closing, join, separated, following, indicating, beginning, matching, step, ends, schemaMachine, run}
 use Rattle.schema_spec.specs.Models.{Particle, named, Content, children, renameIn, renameContent}
+use Rattle.text_laws.specs.Machines.{final, run-spells, final-spells}
 use Rattle.text_laws.specs.Tests.{never}
 use Rattle.text_spec.specs.Bytes.{isBlank, startsName, continuesName}
 use Rattle.text_spec.specs.Limits.{maxNameBytes, maxGroups}
+use Rattle.text_spec.specs.Machines.{spells}
 
 -- bare: with 0 for each place
 abbrev pub bareUse : Use → Use
@@ -148,87 +151,48 @@ abbrev pub goes : State → List ℕ → State
 goes q [] = q
 goes q (b ∷ bs) = goes (step q 0 b) bs
 
-goes-dead : (bs : List ℕ) → goes dead bs ≡ dead
-unfolding step
-goes-dead [] = refl
-goes-dead (b ∷ bs) = goes-dead bs
-
-untrue : {A : Type 0} → false ≡ true → A
-untrue e = never (cc)
-
-dead-bare : (q : State) → isDead q ≡ true → bare q ≡ dead
-dead-bare dead e = refl
-dead-bare (between ds) e = untrue e
-dead-bare (inKeyword w o) e = untrue e
-dead-bare (afterKeyword o) e = untrue e
-dead-bare (beforeName o) e = untrue e
-dead-bare (inName j n o) e = untrue e
-dead-bare (beforeContent h) e = untrue e
-dead-bare (inEmpty w h) e = untrue e
-dead-bare (afterOpen h) e = untrue e
-dead-bare (inPcdata w h) e = untrue e
-dead-bare (afterPcdata h) e = untrue e
-dead-bare (expecting f fs h) e = untrue e
-dead-bare (inUse j n f fs h) e = untrue e
-dead-bare (closed c fs h) e = untrue e
-dead-bare (past c fs h) e = untrue e
-dead-bare (afterContent c h) e = untrue e
+-- the machine leads there, but for places
+bare-final : (q : State) (bs : List ℕ) (k : ℕ) → bare (final schemaMachine q bs k) ≡ goes (bare q) bs
+bare-final q [] k = refl
+bare-final q (b ∷ bs) k = bare-final (step q k b) bs (suc k) ∙ ap (λ (x : State). goes x bs) (bare-step q k b)
 
 -- a text that spells declarations leads to the state after them, the last one first
 pub spells-goes : (q : State) (bs : List ℕ) (k : ℕ) (ds : List Declaration) → run q bs k ≡ spells ds
     → (d : Declaration) × (es : List Declaration) × (ds ≡ reverse (d ∷ es)) × (goes (bare q) bs ≡ between (bareAll (d ∷ es)))
-unfolding run
-spells-goes q [] k ds e =
-    let r = end-ended (λ (x : State). q ≡ x) ds q k refl e in
-    (r .last, r .before, r .reversed, ap bare (r .holds))
-spells-goes q (b ∷ bs) k ds e = pick (isDead (step q k b)) e (spells-goes (step q k b) bs (suc k) ds)
-  where
-    pick : (c : Bool) → cond c (departs k) (run (step q k b) bs (suc k)) ≡ spells ds
-        → (run (step q k b) bs (suc k) ≡ spells ds → (d : Declaration) × (es : List Declaration) × (ds ≡ reverse (d ∷ es)) × (goes (bare (step q k b)) bs ≡ between (bareAll (d ∷ es))))
-        → (d : Declaration) × (es : List Declaration) × (ds ≡ reverse (d ∷ es)) × (goes (bare q) (b ∷ bs) ≡ between (bareAll (d ∷ es)))
-    pick true e h = never (cc)
-    pick false e h =
-        let r = h e in
-        (r .0, r .1, r .2, subst (λ (x : State). goes x bs ≡ between (bareAll (r .0 ∷ r .1))) (bare-step q k b) (r .3))
+spells-goes q bs k ds e =
+    let r = ends-between (final schemaMachine q bs k) (run-spells schemaMachine q bs k e) in
+    (r .0, r .1, r .3, sym (bare-final q bs k) ∙ ap bare (r .2))
 
 -- a state that is not between declarations
 pub astray : {A : Type 0} (q : State) {ds : List Declaration} → isBetween q ≡ false → q ≡ between ds → A
 astray q n e =
     let z : isBetween q ≡ true = ap isBetween e in
-    untrue (sym n ∙ z)
+    never (cc)
 
-end-spells : (q : State) (k : ℕ) (d : Declaration) (es : List Declaration) → bare q ≡ between (d ∷ es) → (ds : List Declaration) × (atEnd q k ≡ spells ds) × (bareAll ds ≡ reverse (d ∷ es))
-end-spells dead k d es e = astray dead refl e
-end-spells (between []) k d es e = never (cc)
-end-spells (between (x ∷ xs)) k d es e =
+bare-ends : (q : State) (d : Declaration) (es : List Declaration) → bare q ≡ between (d ∷ es) → (ds : List Declaration) × (ends q ≡ some ds) × (bareAll ds ≡ reverse (d ∷ es))
+bare-ends dead d es e = astray dead refl e
+bare-ends (between []) d es e = never (cc)
+bare-ends (between (x ∷ xs)) d es e =
     let z : bareAll (x ∷ xs) ≡ d ∷ es = cc in
     (reverse (x ∷ xs), refl, map-reverse bareDeclaration (x ∷ xs) ∙ ap reverse z)
-end-spells (inKeyword w o) k d es e = astray (bare (inKeyword w o)) refl e
-end-spells (afterKeyword o) k d es e = astray (bare (afterKeyword o)) refl e
-end-spells (beforeName o) k d es e = astray (bare (beforeName o)) refl e
-end-spells (inName j n o) k d es e = astray (bare (inName j n o)) refl e
-end-spells (beforeContent h) k d es e = astray (bare (beforeContent h)) refl e
-end-spells (inEmpty w h) k d es e = astray (bare (inEmpty w h)) refl e
-end-spells (afterOpen h) k d es e = astray (bare (afterOpen h)) refl e
-end-spells (inPcdata w h) k d es e = astray (bare (inPcdata w h)) refl e
-end-spells (afterPcdata h) k d es e = astray (bare (afterPcdata h)) refl e
-end-spells (expecting f fs h) k d es e = astray (bare (expecting f fs h)) refl e
-end-spells (inUse j n f fs h) k d es e = astray (bare (inUse j n f fs h)) refl e
-end-spells (closed c fs h) k d es e = astray (bare (closed c fs h)) refl e
-end-spells (past c fs h) k d es e = astray (bare (past c fs h)) refl e
-end-spells (afterContent c h) k d es e = astray (bare (afterContent c h)) refl e
+bare-ends (inKeyword w o) d es e = astray (bare (inKeyword w o)) refl e
+bare-ends (afterKeyword o) d es e = astray (bare (afterKeyword o)) refl e
+bare-ends (beforeName o) d es e = astray (bare (beforeName o)) refl e
+bare-ends (inName j n o) d es e = astray (bare (inName j n o)) refl e
+bare-ends (beforeContent h) d es e = astray (bare (beforeContent h)) refl e
+bare-ends (inEmpty w h) d es e = astray (bare (inEmpty w h)) refl e
+bare-ends (afterOpen h) d es e = astray (bare (afterOpen h)) refl e
+bare-ends (inPcdata w h) d es e = astray (bare (inPcdata w h)) refl e
+bare-ends (afterPcdata h) d es e = astray (bare (afterPcdata h)) refl e
+bare-ends (expecting f fs h) d es e = astray (bare (expecting f fs h)) refl e
+bare-ends (inUse j n f fs h) d es e = astray (bare (inUse j n f fs h)) refl e
+bare-ends (closed c fs h) d es e = astray (bare (closed c fs h)) refl e
+bare-ends (past c fs h) d es e = astray (bare (past c fs h)) refl e
+bare-ends (afterContent c h) d es e = astray (bare (afterContent c h)) refl e
 
 -- and the other way round
 pub goes-spells : (q : State) (bs : List ℕ) (k : ℕ) (d : Declaration) (es : List Declaration) → goes (bare q) bs ≡ between (d ∷ es)
     → (ds : List Declaration) × (run q bs k ≡ spells ds) × (bareAll ds ≡ reverse (d ∷ es))
-unfolding run
-goes-spells q [] k d es e = end-spells q k d es e
-goes-spells q (b ∷ bs) k d es e =
-    let e′ = subst (λ (x : State). goes x bs ≡ between (d ∷ es)) (sym (bare-step q k b)) e in
-    pick (isDead (step q k b)) refl e′ (goes-spells (step q k b) bs (suc k) d es e′)
-  where
-    pick : (c : Bool) → isDead (step q k b) ≡ c → goes (bare (step q k b)) bs ≡ between (d ∷ es)
-        → (ds : List Declaration) × (run (step q k b) bs (suc k) ≡ spells ds) × (bareAll ds ≡ reverse (d ∷ es))
-        → (ds : List Declaration) × (cond c (departs k) (run (step q k b) bs (suc k)) ≡ spells ds) × (bareAll ds ≡ reverse (d ∷ es))
-    pick true i e h = astray dead refl (sym (goes-dead bs) ∙ subst (λ (x : State). goes x bs ≡ between (d ∷ es)) (dead-bare (step q k b) i) e)
-    pick false i e h = h
+goes-spells q bs k d es e =
+    let r = bare-ends (final schemaMachine q bs k) d es (bare-final q bs k ∙ e) in
+    (r .0, final-spells schema-dead q bs k (r .1), r .2)

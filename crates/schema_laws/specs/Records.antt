@@ -13,7 +13,7 @@ use Rattle.schema_laws.specs.Lists.{map-empty, map-reverse, places-none,
 use Rattle.schema_laws.specs.Normal.{normal-goes, normal-twice, normal-byte, normal-length}
 use Rattle.schema_laws.specs.Places.{bareUse, bareDeclaration, bareAll, spells-goes, goes-spells}
 use Rattle.schema_spec.specs.Declarations.{Use, Declaration}
-use Rattle.schema_spec.specs.Machine.{between, parse, spells, run}
+use Rattle.schema_spec.specs.Machine.{between, parse}
 use Rattle.schema_spec.specs.Models.{Particle, named, sequence, choice, repeated, Content, empty, pcdata, children, renameIn, renameContent}
 use Rattle.schema_spec.specs.Reading.{usesOf, limitPlaces, twicePlaces, undeclaredPlaces, readSchema}
 use Rattle.schema_spec.specs.Records.{normal, schemaIn, recordBy, schemaRecord, SchemaProducible, producible, isSchemaRecord}
@@ -24,6 +24,7 @@ use Rattle.text_laws.specs.Tests.{and-intro, and-cases, or-cases, or-right, nev
 use Rattle.text_spec.specs.Bytes.{isForeign}
 use Rattle.text_spec.specs.Limits.{maxDeclarations, maxModelNames, maxSchemaBytes}
 use Rattle.text_spec.specs.Lists.{anyOf, filterBy, gather, sameBytes, isEmpty, placesFrom}
+use Rattle.text_spec.specs.Machines.{spells, run}
 use Rattle.text_spec.specs.Refusals.{Refusal, Outcome, accepted, refused, isAccepted, resultOr, at, allAt, given, badLength, badByte}
 use Rattle.text_spec.specs.Texts.{lengthRefusals, byteRefusals}
 

@@ -1,5 +1,5 @@
--- A run of the schema machine that spells declarations passes from state to state and ends between declarations; the declared names
--- are names. Assumes nothing.
+-- A run of the schema machine that spells declarations ends after the last of them, with what its steps keep: the declared names are
+-- names.
 use mathlib.Core.Bool.{Bool, true, false, cond, _&&_}
 use mathlib.Core.List.{List, [], _∷_, _++_, reverse, reverseAux, reverse-append, List·Memᴰ as In, List·Memᴰ·head as here, List·Memᴰ·tail as there}
 use mathlib.Core.Logic.{_⊎_, inl, inr, ⊎-elim}
@@ -8,12 +8,15 @@ use Prim.Native.Nat.{ℕ, suc, _<_}
 use native.Mathlib.Omega.{arith}
 use lib.Dec.{T, eqb, ltb, ltb→lt}
 use lib.ListN.{length, length-reverse}
+use Rattle.schema_laws.specs.Machine.{ends-between}
 use Rattle.schema_spec.specs.Declarations.{Use, Declaration, elementKeyword, emptyKeyword, pcdataKeyword, Separator, unparted, byBar, byComma, optional, any, oneOrMore, indicated}
-use Rattle.schema_spec.specs.Machine.{Frame, fresh, holding, Head, State, dead, between, inKeyword, afterKeyword, beforeName, inName, beforeContent, inEmpty, afterOpen, inPcdata, afterPcdata, expecting, inUse, closed, past, afterContent, isDead, declared, closing, join, separated, following, indicating, beginning, longer, headed, matching, step, spells, departs, atEnd, run, parse}
+use Rattle.schema_spec.specs.Machine.{Frame, fresh, holding, Head, State, dead, between, inKeyword, afterKeyword, beforeName, inName, beforeContent, inEmpty, afterOpen, inPcdata, afterPcdata, expecting, inUse, closed, past, afterContent, declared, closing, join, separated, following, indicating, beginning, longer, headed, matching, step, schemaMachine, run, parse}
 use Rattle.schema_spec.specs.Models.{Particle, named, Content, empty, pcdata, children}
 use Rattle.text_laws.specs.Bytes.{one-byte-name, name-snoc}
+use Rattle.text_laws.specs.Machines.{final, final-keeps, run-spells}
 use Rattle.text_spec.specs.Bytes.{isBlank, startsName, continuesName, isName}
 use Rattle.text_spec.specs.Limits.{maxNameBytes, maxGroups}
+use Rattle.text_spec.specs.Machines.{spells}
 
 -- where a run ended that spelt these declarations, in a state with a property that steps keep
 pub record Ended (P : State → Type 0) (ds : List Declaration) : Type 0 where
@@ -22,37 +25,10 @@ pub record Ended (P : State → Type 0) (ds : List Declaration) : Type 0 where
   pub holds : P (between (last ∷ before))
   pub reversed : ds ≡ reverse (last ∷ before)
 
-not-spelt : {A : Type 0} {k : ℕ} {ds : List Declaration} → departs k ≡ spells ds → A
-not-spelt e = absurd (let z : _≡_ {A = ℕ} 0 1 = cc in omega arith)
-
-module _ (P : State → Type 0) (ds : List Declaration) where
-  pub end-ended : (q : State) (k : ℕ) → P q → atEnd q k ≡ spells ds → Ended P ds
-  end-ended (between []) k p e = not-spelt e
-  end-ended (between (d ∷ es)) k p e = record { last = d; before = es; holds = p; reversed = cc }
-  end-ended dead k p e = not-spelt e
-  end-ended (inKeyword w o) k p e = not-spelt e
-  end-ended (afterKeyword o) k p e = not-spelt e
-  end-ended (beforeName o) k p e = not-spelt e
-  end-ended (inName j n o) k p e = not-spelt e
-  end-ended (beforeContent h) k p e = not-spelt e
-  end-ended (inEmpty w h) k p e = not-spelt e
-  end-ended (afterOpen h) k p e = not-spelt e
-  end-ended (inPcdata w h) k p e = not-spelt e
-  end-ended (afterPcdata h) k p e = not-spelt e
-  end-ended (expecting f fs h) k p e = not-spelt e
-  end-ended (inUse j n f fs h) k p e = not-spelt e
-  end-ended (closed c fs h) k p e = not-spelt e
-  end-ended (past c fs h) k p e = not-spelt e
-  end-ended (afterContent c h) k p e = not-spelt e
-
-  pub run-ended : ((q : State) (k b : ℕ) → P q → P (step q k b)) → (q : State) (text : List ℕ) (k : ℕ) → P q → run q text k ≡ spells ds → Ended P ds
-  unfolding run
-  run-ended keeps q [] k p e = end-ended q k p e
-  run-ended keeps q (b ∷ text) k p e = pick (isDead (step q k b)) e (run-ended keeps (step q k b) text (suc k) (keeps q k b p))
-    where
-      pick : (c : Bool) → cond c (departs k) (run (step q k b) text (suc k)) ≡ spells ds → (run (step q k b) text (suc k) ≡ spells ds → Ended P ds) → Ended P ds
-      pick true e h = not-spelt e
-      pick false e h = h e
+pub run-ended : (P : State → Type 0) → ((q : State) (k b : ℕ) → P q → P (step q k b)) → (q : State) (text : List ℕ) (k : ℕ) {ds : List Declaration} → P q → run q text k ≡ spells ds → Ended P ds
+run-ended P keeps q text k p e =
+    let r = ends-between (final schemaMachine q text k) (run-spells schemaMachine q text k e) in
+    record { last = r .0; before = r .1; holds = subst P (r .2) (final-keeps schemaMachine P keeps q text k p); reversed = r .3 }
 
 -- a property of a choice, from that of its branches
 pub by-test : (P : State → Type 0) (b : Bool) (x y : State) → (T b → P x) → P y → P (cond b x y)
@@ -133,7 +109,7 @@ module _ (Q : List Declaration → Type 0) (grows : (d : Declaration) (ds : List
   step-kept (beforeName o) k b g =
       by-test (KeptState Q) (isBlank b) (beforeName o) _ (λ t. g) (by-test (KeptState Q) (startsName b) (inName k (b ∷ []) o) dead (λ t. (one-byte-name b t, g)) tt)
   step-kept (inName j n o) k b g =
-      by-test (KeptState Q) (continuesName b) (longer n b (inName j (n ++ (b ∷ [])) o)) _
+      by-test (KeptState Q) (continuesName b) (longer n b (λ m. inName j m o)) _
       (λ t. by-test (KeptState Q) (ltb (length n) maxNameBytes) (inName j (n ++ (b ∷ [])) o) dead (λ u. (name-snoc n b (g .0) t (ltb→lt (length n) maxNameBytes u), g .1)) tt)
       (by-test (KeptState Q) (isBlank b) (beforeContent (headed j n o)) dead (λ t. g) tt)
   step-kept (beforeContent h) k b g =
@@ -148,7 +124,7 @@ module _ (Q : List Declaration → Type 0) (grows : (d : Declaration) (ds : List
       by-test (KeptState Q) (isBlank b) (afterPcdata h) _ (λ t. g) (by-test (KeptState Q) (eqb b 0x29) (afterContent pcdata h) dead (λ t. g) tt)
   step-kept (expecting f fs h) k b g = beginning-kept f fs h k b g
   step-kept (inUse j n f fs h) k b g =
-      by-test (KeptState Q) (continuesName b) (longer n b (inUse j (n ++ (b ∷ [])) f fs h)) _
+      by-test (KeptState Q) (continuesName b) (longer n b (λ m. inUse j m f fs h)) _
       (λ t. by-test (KeptState Q) (ltb (length n) maxNameBytes) (inUse j (n ++ (b ∷ [])) f fs h) dead (λ u. g) tt)
       (indicating-kept (named (record { place = j; name = n })) (f ∷ fs) h b g)
   step-kept (closed c fs h) k b g = indicating-kept c fs h b g
@@ -157,7 +133,7 @@ module _ (Q : List Declaration → Type 0) (grows : (d : Declaration) (ds : List
 
   -- so it holds of the declarations that a run spells
   run-kept : (done ds : List Declaration) (text : List ℕ) (k : ℕ) → Q done → run (between done) text k ≡ spells ds → Ended (KeptState Q) ds
-  run-kept done ds text k q e = run-ended (KeptState Q) ds step-kept (between done) text k q e
+  run-kept done ds text k q e = run-ended (KeptState Q) step-kept (between done) text k q e
 
 reverseAux-in : {A : Type 0} (xs r : List A) {x : A} → In x (reverseAux xs r) → In x xs ⊎ In x r
 reverseAux-in [] r i = inr i

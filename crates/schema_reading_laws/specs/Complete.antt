@@ -1,20 +1,25 @@
 -- The machine reads each text of the grammar, and spells what its derivation declares, places included. Assumes nothing.
 use mathlib.Core.Bool.{_&&_}
 use mathlib.Core.List.{List, [], _∷_, _++_, append-assoc, append-nil, reverse, reverseAux, reverse-reverse}
+use mathlib.Core.Option.{some}
 use mathlib.Core.Path.{_≡_, refl, sym, ap, subst, _∙_}
 use Prim.Native.Nat.{ℕ, suc, _+_, _≤_, _<_}
 use native.Mathlib.Omega.{arith}
 use lib.Dec.{T, leb, leb→le}
 use lib.ListN.{length, length-append}
-use Rattle.schema_reading_laws.specs.Steps.{Skips, skip-between, skip-name, skip-content, skip-open, skip-pcdata, skip-particle, Spelling, in-element, in-empty, in-pcdata, Due, due-first, due-next, Ended, at-name, at-closed, Over, unmarked, at-past, Finished, at-model, at-content, Holds, holds-one, holds-bar, holds-comma, mark-optional, mark-any, mark-oneOrMore, Goes, idle, begin-declaration, spell, spelt, keyword-blank, begin-name, grow-name, name-blank, begin-empty, open-content, begin-pcdata, close-pcdata, begin-use, grow-use, open-group, mark, over-blank, over-part, over-close, finish-blank, finish, Transitions, stay, go, path-append, run-path}
+use Rattle.schema_laws.specs.Machine.{schema-dead}
+use Rattle.schema_reading_laws.specs.Runs.{path-final}
+use Rattle.schema_reading_laws.specs.Steps.{Skips, skip-between, skip-name, skip-content, skip-open, skip-pcdata, skip-particle, Spelling, in-element, in-empty, in-pcdata, Due, due-first, due-next, Ended, at-name, at-closed, Over, unmarked, at-past, Finished, at-model, at-content, Holds, holds-one, holds-bar, holds-comma, mark-optional, mark-any, mark-oneOrMore, Goes, idle, begin-declaration, spell, spelt, keyword-blank, begin-name, grow-name, name-blank, begin-empty, open-content, begin-pcdata, close-pcdata, begin-use, grow-use, open-group, mark, over-blank, over-part, over-close, finish-blank, finish, Transitions, stay, go, path-append}
 use Rattle.schema_spec.specs.Declarations.{Use, Declaration, elementKeyword, pcdataKeyword, Indicator, once, optional, any, oneOrMore, spellIndicator, indicated, Separator, joinBy}
 use Rattle.schema_spec.specs.Grammar.{Blanks, none, blank, space, Parts, first-bar, next-bar, first-comma, next-comma, Kind, particle, group, rest, Model, a-name, a-group, opened, close, more, ContentText, is-empty, is-pcdata, is-children, DeclarationText, declaration, DeclarationsText, end, next, SchemaText, schema-text}
-use Rattle.schema_spec.specs.Machine.{Frame, fresh, holding, Opening, Head, State, between, beforeName, inName, beforeContent, afterOpen, expecting, inUse, closed, past, afterContent, join, headed, atEnd, run, parse, spells}
+use Rattle.schema_spec.specs.Machine.{Frame, fresh, holding, Opening, Head, State, between, beforeName, inName, beforeContent, afterOpen, expecting, inUse, closed, past, afterContent, join, headed, ends, parse}
 use Rattle.schema_spec.specs.Models.{Particle, named, Content}
+use Rattle.text_laws.specs.Machines.{final-spells}
 use Rattle.text_laws.specs.Tests.{and-cases}
 use Rattle.text_spec.specs.Bytes.{startsName, continuesName, isName}
 use Rattle.text_spec.specs.Limits.{maxNameBytes, maxGroups}
 use Rattle.text_spec.specs.Lists.{bytes, allOf}
+use Rattle.text_spec.specs.Machines.{spells}
 
 -- the machine comes from q over the text w to a state with the property P
 pub record Reaches (q : State) (k : ℕ) (w : List ℕ) (P : State → Type 0) : Type 0 where
@@ -174,9 +179,9 @@ declarations-read {k} (end x) done = blanks-path k skip-between x
 declarations-read {k} (next {d = d} x m n) done = path-append (blanks-path k skip-between x) refl (path-append (declaration-reads m done) refl (declarations-read n (d ∷ done)))
 
 -- the text ends after at least one declaration
-ends : (done : List Declaration) (k : ℕ) → (done ≡ [] → ⊥) → atEnd (between done) k ≡ spells (reverse done)
-ends [] k n = absurd (n refl)
-ends (d ∷ done) k n = refl
+ends-some : (done : List Declaration) → (done ≡ [] → ⊥) → ends (between done) ≡ some (reverse done)
+ends-some [] n = absurd (n refl)
+ends-some (d ∷ done) n = refl
 
 reversed-some : (d : Declaration) (ds : List Declaration) → reverse (d ∷ ds) ≡ [] → ⊥
 reversed-some d ds e =
@@ -186,8 +191,8 @@ reversed-some d ds e =
 
 -- a text that ends where a declaration may begin, after at least one
 pub path-spells : {text : List ℕ} (done : List Declaration) → Transitions (between []) 0 text (between done) → (done ≡ [] → ⊥) → parse text ≡ spells (reverse done)
-unfolding parse run
-path-spells {text} done p n = ap (λ (w : List ℕ). run (between []) w 0) (sym (append-nil text)) ∙ run-path p [] ∙ ends done (0 + length text) n
+unfolding parse
+path-spells {text} done p n = final-spells schema-dead (between []) text 0 (ap ends (path-final p) ∙ ends-some done n)
 
 -- Every text of the grammar is read, with exactly what its derivation declares.
 pub schema-complete : {text : List ℕ} {ds : List Declaration} → SchemaText text ds → parse text ≡ spells ds

@@ -13,10 +13,11 @@ use Rattle.text_laws.specs.Texts.{length-found, length-listed, bytes-found, byt
 use Rattle.schema_spec.specs.Conditions.{SchemaApplies, length-2, byte-3, grammar-4, limit-5, twice-6, undeclared-7, SchemaGives, gives}
 use Rattle.schema_spec.specs.Declarations.{Declaration}
 use Rattle.schema_spec.specs.Grammar.{SchemaText}
-use Rattle.schema_spec.specs.Machine.{Parsed, spells, departs, parse}
+use Rattle.schema_spec.specs.Machine.{parse}
 use Rattle.schema_spec.specs.Reading.{limitPlaces, twicePlaces, undeclaredPlaces, parsedRefusals, parsedSchema, schemaRefusals, readSchema}
 use Rattle.schema_spec.specs.Schemas.{Schema, schemaOf}
 use Rattle.text_spec.specs.Limits.{maxSchemaBytes}
+use Rattle.text_spec.specs.Machines.{Parsed, spells, departs}
 use Rattle.text_spec.specs.Refusals.{Reason, badSchema, overSchemaLimit, declaredTwice, undeclaredInModel, Refusal, allAt, Outcome, Judged}
 use Rattle.text_spec.specs.Texts.{lengthRefusals, byteRefusals}
 
@@ -32,7 +33,7 @@ missing ds = allAt undeclaredInModel (undeclaredPlaces ds)
 
 module _ (text : List ℕ) where
   -- what is found by reading applies
-  parsed-found : (x : Parsed) → parse text ≡ x → Found (SchemaApplies text) (parsedRefusals x)
+  parsed-found : (x : Parsed (List Declaration)) → parse text ≡ x → Found (SchemaApplies text) (parsedRefusals x)
   parsed-found (departs k) e = found-all (SchemaApplies text) badSchema (k ∷ []) only
     where
       only : (j : ℕ) → In j (k ∷ []) → SchemaApplies text badSchema j
@@ -53,11 +54,11 @@ module _ (text : List ℕ) where
       (found-append (SchemaApplies text) (byteRefusals text) (parsedRefusals (parse text)) (bytes-found (SchemaApplies text) text (λ k a. byte-3 a)) (parsed-found (parse text) refl))
 
   -- what applies is found
-  parsed-listed : (x : Parsed) {r : Reason} {k : ℕ} → parse text ≡ x → Listed (parsedRefusals x) r k → Listed (schemaRefusals text) r k
+  parsed-listed : (x : Parsed (List Declaration)) {r : Reason} {k : ℕ} → parse text ≡ x → Listed (parsedRefusals x) r k → Listed (schemaRefusals text) r k
   unfolding schemaRefusals
   parsed-listed x {r} {k} e l =
       listed-right (lengthRefusals maxSchemaBytes text) (byteRefusals text ++ parsedRefusals (parse text))
-      (listed-right (byteRefusals text) (parsedRefusals (parse text)) (subst (λ (y : Parsed). Listed (parsedRefusals y) r k) (sym e) l))
+      (listed-right (byteRefusals text) (parsedRefusals (parse text)) (subst (λ (y : Parsed (List Declaration)). Listed (parsedRefusals y) r k) (sym e) l))
 
   schema-listed : (r : Reason) (k : ℕ) → SchemaApplies text r k → Listed (schemaRefusals text) r k
   unfolding schemaRefusals
@@ -81,7 +82,7 @@ module _ (text : List ℕ) where
       (listed-right (repeated ds) (missing ds) (listed-all undeclaredInModel (undeclared-listed ds a))))
 
   -- a text against which nothing is found gives its derivation's schema
-  schema-given : (x : Parsed) → parse text ≡ x → ((r : Reason) (k : ℕ) → SchemaApplies text r k → ⊥) → SchemaGives text (parsedSchema x)
+  schema-given : (x : Parsed (List Declaration)) → parse text ≡ x → ((r : Reason) (k : ℕ) → SchemaApplies text r k → ⊥) → SchemaGives text (parsedSchema x)
   schema-given (departs k) e n = absurd (n badSchema k (grammar-4 (schema-departs text k e)))
   schema-given (spells ds) e n = gives (schema-sound text ds e)
 

@@ -6,16 +6,20 @@ use Prim.Native.Nat.{ℕ, suc, _+_, _-_, _≤_, _<_}
 use native.Mathlib.Omega.{arith}
 use lib.Dec.{T}
 use lib.ListN.{length, length-append}
+use Rattle.schema_laws.specs.Machine.{schema-dead, ends-between}
 use Rattle.schema_reading_laws.specs.Steps.{skip-between, skip-name, skip-content, skip-open, skip-pcdata, skip-particle, in-element, in-empty, in-pcdata, Due, due-first, due-next, Ended, at-name, at-closed, Over, unmarked, at-past, Finished, at-model, at-content, Holds, holds-one, holds-bar, holds-comma, Marks, mark-optional, mark-any, mark-oneOrMore, Goes, idle, begin-declaration, spell, spelt, keyword-blank, begin-name, grow-name, name-blank, begin-empty, open-content, begin-pcdata, close-pcdata, begin-use, grow-use, open-group, mark, over-blank, over-part, over-close, finish-blank, finish, Transitions, stay, go}
-use Rattle.schema_reading_laws.specs.Runs.{Ran, ends-well, ends-early, breaks-off, ran}
+use Rattle.schema_reading_laws.specs.Runs.{live-path}
 use Rattle.schema_spec.specs.Declarations.{Use, Declaration, elementKeyword, pcdataKeyword, Indicator, once, optional, any, oneOrMore, spellIndicator, indicated, Separator, unparted}
 use Rattle.schema_spec.specs.Grammar.{Blanks, none, blank, space, Parts, Kind, particle, group, rest, Model, a-name, a-group, opened, close, more, ContentText, is-empty, is-pcdata, is-children, DeclarationText, declaration, DeclarationsText, end, next, SchemaText, schema-text}
-use Rattle.schema_spec.specs.Machine.{Frame, fresh, holding, Opening, Head, State, dead, between, inKeyword, afterKeyword, beforeName, inName, beforeContent, inEmpty, afterOpen, inPcdata, afterPcdata, expecting, inUse, closed, past, afterContent, declared, join, headed, parse, Parsed, spells}
+use Rattle.schema_spec.specs.Machine.{Frame, fresh, holding, Opening, Head, State, dead, between, inKeyword, afterKeyword, beforeName, inName, beforeContent, inEmpty, afterOpen, inPcdata, afterPcdata, expecting, inUse, closed, past, afterContent, declared, join, headed, schemaMachine, parse}
 use Rattle.schema_spec.specs.Models.{Particle, named, Content, empty, pcdata, children}
 use Rattle.text_laws.specs.Bytes.{one-byte-name, name-snoc}
+use Rattle.text_laws.specs.Machines.{final, run-spells, spells-live}
+use Rattle.text_laws.specs.Tests.{never}
 use Rattle.text_spec.specs.Bytes.{isBlank, isName}
 use Rattle.text_spec.specs.Limits.{maxGroups}
 use Rattle.text_spec.specs.Lists.{bytes, isEmpty}
+use Rattle.text_spec.specs.Machines.{spells}
 
 -- what parts an open group
 abbrev partedBy : Frame → Separator
@@ -109,7 +113,7 @@ Completes last (afterContent c h) k w = Finishes last c h k w
 
 -- what holds of each state that is reached: names are names, and at most eight groups are open
 abbrev pub Invariant : State → Type 0
-Invariant dead = ⊥
+Invariant dead = Unit {0}
 Invariant (between ds) = Unit {0}
 Invariant (inKeyword w o) = T (not (isEmpty w))
 Invariant (afterKeyword o) = Unit {0}
@@ -399,20 +403,11 @@ path-grammatical {text} {done} p n = of-schema (path-completes p tt)
     of-schema (declares {ds = d ∷ ds} m e) =
         subst (λ (l : List Declaration). SchemaText text l) (sym (reverse-reverse (d ∷ ds)) ∙ ap reverse e) (schema-text m)
 
-of-run : {text : List ℕ} {x : Parsed} (ds : List Declaration) → Ran (between []) 0 text x → x ≡ spells ds → SchemaText text ds
-of-run {text} ds (ends-well {d = d} {done = done} p) e =
-    subst (λ (l : List Declaration). SchemaText text l) (cc)
-    (path-grammatical p
-    (λ f.
-    let z : _≡_ {A = ℕ} 0 1 = cc in
-    omega arith))
-of-run ds (ends-early p f) e =
-    let z : _≡_ {A = ℕ} 0 1 = cc in
-    absurd (omega arith)
-of-run ds (breaks-off b v p s f g) e =
-    let z : _≡_ {A = ℕ} 0 1 = cc in
-    absurd (omega arith)
-
 pub schema-sound : (text : List ℕ) (ds : List Declaration) → parse text ≡ spells ds → SchemaText text ds
 unfolding parse
-schema-sound text ds e = of-run ds (ran (between []) 0 text) e
+schema-sound text ds e =
+    let q = final schemaMachine (between []) text 0 in
+    let s = run-spells schemaMachine (between []) text 0 e in
+    let r = ends-between q s in
+    let p = subst (Transitions (between []) 0 text) (r .2) (live-path (between []) 0 text (spells-live schema-dead q s)) in
+    subst (SchemaText text) (sym (r .3)) (path-grammatical p (λ f. never (cc)))

@@ -1,14 +1,14 @@
--- The live steps of the machine as a relation between states, what the machine computes by it, and chains of steps. Assumes nothing.
+-- The live steps of the machine as a relation between states, what the machine computes by it, and chains of steps.
 use mathlib.Core.Bool.{Bool, true, false, cond, _&&_}
 use mathlib.Core.List.{List, [], _∷_, _++_}
-use mathlib.Core.Path.{_≡_, refl, sym, ap, subst, _∙_}
+use mathlib.Core.Path.{_≡_, refl, sym, subst, _∙_}
 use Prim.Native.Nat.{ℕ, suc, _+_, _<_}
 use native.Mathlib.Omega.{arith}
 use lib.Dec.{T, eqb, ltb, eqb→eq, eqb-refl, ltb→lt, lt→ltb}
 use lib.ListN.{length}
 use Rattle.schema_spec.specs.Declarations.{Use, Declaration, Indicator, optional, any, oneOrMore, indicated, Separator, unparted, byBar, byComma}
 use Rattle.schema_spec.specs.Grammar.{Parts, first-bar, next-bar, first-comma, next-comma}
-use Rattle.schema_spec.specs.Machine.{Frame, fresh, holding, Opening, Head, State, dead, between, inKeyword, afterKeyword, beforeName, inName, beforeContent, inEmpty, afterOpen, inPcdata, afterPcdata, expecting, inUse, closed, past, afterContent, isDead, declared, closing, join, separated, following, indicating, beginning, longer, headed, matching, step, run, departs}
+use Rattle.schema_spec.specs.Machine.{Frame, fresh, holding, Opening, Head, State, dead, between, inKeyword, afterKeyword, beforeName, inName, beforeContent, inEmpty, afterOpen, inPcdata, afterPcdata, expecting, inUse, closed, past, afterContent, declared, closing, join, separated, following, indicating, beginning, longer, headed, matching, step}
 use Rattle.schema_spec.specs.Models.{Particle, named, Content, empty, pcdata, children}
 use Rattle.text_laws.specs.Bytes.{each-blank}
 use Rattle.text_laws.specs.Tests.{cond-true, cond-false, and-cases}
@@ -104,8 +104,8 @@ by-test t l m = by-cases t l (λ n. m)
 by-byte : {q : State} {k : ℕ} (b c : ℕ) {x y : State} → Live q k c x → Live q k b y → Live q k b (cond (eqb b c) x y)
 by-byte {q} {k} b c {x} l m = by-test (eqb b c) (λ t. subst (λ (i : ℕ). Live q k i x) (sym (eqb→eq b c t)) l) m
 
-live-longer : {q : State} {k b : ℕ} (n : List ℕ) {x : State} → (length n < maxNameBytes → Goes q k b x) → Live q k b (longer n b x)
-live-longer n g = by-test (ltb (length n) maxNameBytes) (λ t. goes (g (ltb→lt (length n) maxNameBytes t))) dies
+live-longer : {q : State} {k b : ℕ} (n : List ℕ) (part : List ℕ → State) → (length n < maxNameBytes → Goes q k b (part (n ++ (b ∷ [])))) → Live q k b (longer n b part)
+live-longer n part g = by-test (ltb (length n) maxNameBytes) (λ t. goes (g (ltb→lt (length n) maxNameBytes t))) dies
 
 live-bar : {q : State} {k : ℕ} {p : Particle Use} (f : Frame) {fs : List Frame} {h : Head} → Over q p (f ∷ fs) h → Live q k 0x7C (separated byBar f p fs h)
 live-bar fresh v = goes (over-part v holds-one first-bar)
@@ -158,7 +158,7 @@ live (inKeyword w o) k b = live-spelling w (λ v. inKeyword v o) in-element (λ 
 live (afterKeyword o) k b = by-test (isBlank b) (λ t. goes (keyword-blank t)) dies
 live (beforeName o) k b = by-test (isBlank b) (λ t. goes (idle skip-name t)) (by-test (startsName b) (λ t. goes (begin-name t)) dies)
 live (inName j n o) k b =
-    by-test (continuesName b) (λ t. live-longer n (λ l. grow-name t l)) (by-test (isBlank b) (λ t. goes (name-blank t)) dies)
+    by-test (continuesName b) (λ t. live-longer n (λ m. inName j m o) (λ l. grow-name t l)) (by-test (isBlank b) (λ t. goes (name-blank t)) dies)
 live (beforeContent h) k b =
     by-test (isBlank b) (λ t. goes (idle skip-content t)) (by-byte b 0x28 (goes open-content) (by-byte b 0x45 (goes begin-empty) dies))
 live (inEmpty w h) k b = live-spelling w (λ v. inEmpty v h) in-empty (λ v. in-empty)
@@ -168,7 +168,7 @@ live (afterOpen h) k b =
 live (inPcdata w h) k b = live-spelling w (λ v. inPcdata v h) in-pcdata (λ v. in-pcdata)
 live (afterPcdata h) k b = by-test (isBlank b) (λ t. goes (idle skip-pcdata t)) (by-byte b 0x29 (goes close-pcdata) dies)
 live (expecting f fs h) k b = live-beginning k b due-next (λ t. idle skip-particle t)
-live (inUse j n f fs h) k b = by-test (continuesName b) (λ t. live-longer n (λ l. grow-use t l)) (live-indicating (f ∷ fs) k b at-name)
+live (inUse j n f fs h) k b = by-test (continuesName b) (λ t. live-longer n (λ m. inUse j m f fs h) (λ l. grow-use t l)) (live-indicating (f ∷ fs) k b at-name)
 live (closed p fs h) k b = live-indicating fs k b at-closed
 live (past p fs h) k b = live-following fs k b at-past
 live (afterContent c h) k b = live-closing k b at-content
@@ -289,39 +289,6 @@ goes-step {k} (over-close v) = step-over-close k v
 goes-step {k} {b} (finish-blank v t) = step-finish-blank k b v t
 goes-step {k} (finish v) = step-finish k v
 
--- after such a step the machine is not dead
-pub goes-live : {q : State} {k b : ℕ} {r : State} → Goes q k b r → isDead r ≡ false
-goes-live (idle skip-between t) = refl
-goes-live (idle skip-name t) = refl
-goes-live (idle skip-content t) = refl
-goes-live (idle skip-open t) = refl
-goes-live (idle skip-pcdata t) = refl
-goes-live (idle skip-particle t) = refl
-goes-live begin-declaration = refl
-goes-live (spell s in-element) = refl
-goes-live (spell s in-empty) = refl
-goes-live (spell s in-pcdata) = refl
-goes-live (spelt in-element) = refl
-goes-live (spelt in-empty) = refl
-goes-live (spelt in-pcdata) = refl
-goes-live (keyword-blank t) = refl
-goes-live (begin-name t) = refl
-goes-live (grow-name t l) = refl
-goes-live (name-blank t) = refl
-goes-live begin-empty = refl
-goes-live open-content = refl
-goes-live begin-pcdata = refl
-goes-live close-pcdata = refl
-goes-live (begin-use v t) = refl
-goes-live (grow-use t l) = refl
-goes-live (open-group v l) = refl
-goes-live (mark v m) = refl
-goes-live (over-blank v t) = refl
-goes-live (over-part v f s) = refl
-goes-live (over-close v) = refl
-goes-live (finish-blank v t) = refl
-goes-live (finish v) = refl
-
 -- a chain of steps over a text that starts at the place k
 pub data Transitions : State → ℕ → List ℕ → State → Type 0 where
   stay : {q : State} {k : ℕ} → Transitions q k [] q
@@ -330,12 +297,3 @@ pub data Transitions : State → ℕ → List ℕ → State → Type 0 where
 pub path-append : {q r z : State} {k j : ℕ} {u v : List ℕ} → Transitions q k u r → j ≡ k + length u → Transitions r j v z → Transitions q k (u ++ v) z
 path-append {r} {z} {k} {j} {v} stay e p = subst (λ (i : ℕ). Transitions r i v z) (omega arith) p
 path-append (go g p) e m = go g (path-append p (omega arith) m)
-
--- the machine runs along a chain
-pub run-path : {q r : State} {k : ℕ} {w : List ℕ} → Transitions q k w r → (v : List ℕ) → run q (w ++ v) k ≡ run r v (k + length w)
-unfolding run
-run-path {r} {k} stay v = ap (run r v) (omega arith)
-run-path {q} {r} {k} (go {r = s} {b = b} {w = w} g p) v =
-    ap (λ (t : State). cond (isDead t) (departs k) (run t (w ++ v) (suc k))) (goes-step g)
-    ∙ ap (λ (t : Bool). cond t (departs k) (run s (w ++ v) (suc k))) (goes-live g)
-    ∙ run-path p v ∙ ap (run r v) (omega arith)

@@ -1,14 +1,15 @@
--- A schema text read a byte at a time: the declarations that it spells, or the first byte after which no schema text could go on.
--- The state holds what has been read, with a stack of open groups. Assumes nothing.
+-- The machine that reads a schema text: its state holds what has been read, with a stack of open groups.
 use mathlib.Core.Bool.{Bool, true, false, cond, _&&_}
-use mathlib.Core.List.{List, [], _∷_, _++_, reverse}
+use mathlib.Core.List.{List, [], _∷_, reverse}
+use mathlib.Core.Option.{Option, none, some}
 use Prim.Native.Nat.{ℕ, suc}
 use lib.Dec.{eqb, ltb}
 use lib.ListN.{length}
 use Rattle.schema_spec.specs.Declarations.{Use, Declaration, elementKeyword, emptyKeyword, pcdataKeyword, optional, any, oneOrMore, indicated, Separator, unparted, byBar, byComma, joinBy}
 use Rattle.schema_spec.specs.Models.{Particle, named, Content, empty, pcdata, children}
 use Rattle.text_spec.specs.Bytes.{isBlank, startsName, continuesName}
-use Rattle.text_spec.specs.Limits.{maxNameBytes, maxGroups}
+use Rattle.text_spec.specs.Limits.{maxGroups}
+use Rattle.text_spec.specs.Machines as machines
 
 -- an open group: nothing read of it, or what was read and what parts it
 pub data Frame : Type 0 where
@@ -117,18 +118,14 @@ beginning f fs h k b =
     (cond (startsName b) (inUse k (b ∷ []) f fs h)
     (cond (eqb b 0x28 && ltb (suc (length fs)) maxGroups) (expecting fresh (f ∷ fs) h) dead))
 
--- one more byte of a name, which has at most 31
-abbrev pub longer : List ℕ → ℕ → State → State
-longer n b q = cond (ltb (length n) maxNameBytes) q dead
-
 abbrev pub headed : ℕ → List ℕ → Opening → Head
 headed k n o = record { opening = o; name = record { place = k; name = n } }
 
--- the rest of a keyword: its next byte must come
 abbrev pub matching : List ℕ → ℕ → State → (List ℕ → State) → State
-matching [] b whole part = dead
-matching (c ∷ []) b whole part = cond (eqb b c) whole dead
-matching (c ∷ d ∷ w) b whole part = cond (eqb b c) (part (d ∷ w)) dead
+matching = machines.matching dead
+
+abbrev pub longer : List ℕ → ℕ → (List ℕ → State) → State
+longer = machines.longer dead
 
 -- the byte b at the place k
 unfoldable pub step : State → ℕ → ℕ → State
@@ -138,7 +135,7 @@ step (inKeyword w o) k b = matching w b (afterKeyword o) (λ v. inKeyword v o)
 step (afterKeyword o) k b = cond (isBlank b) (beforeName o) dead
 step (beforeName o) k b = cond (isBlank b) (beforeName o) (cond (startsName b) (inName k (b ∷ []) o) dead)
 step (inName j n o) k b =
-    cond (continuesName b) (longer n b (inName j (n ++ (b ∷ [])) o)) (cond (isBlank b) (beforeContent (headed j n o)) dead)
+    cond (continuesName b) (longer n b (λ m. inName j m o)) (cond (isBlank b) (beforeContent (headed j n o)) dead)
 step (beforeContent h) k b =
     cond (isBlank b) (beforeContent h) (cond (eqb b 0x28) (afterOpen h) (matching emptyKeyword b dead (λ w. inEmpty w h)))
 step (inEmpty w h) k b = matching w b (afterContent empty h) (λ v. inEmpty v h)
@@ -148,42 +145,42 @@ step (inPcdata w h) k b = matching w b (afterPcdata h) (λ v. inPcdata v h)
 step (afterPcdata h) k b = cond (isBlank b) (afterPcdata h) (cond (eqb b 0x29) (afterContent pcdata h) dead)
 step (expecting f fs h) k b = beginning f fs h k b
 step (inUse j n f fs h) k b =
-    cond (continuesName b) (longer n b (inUse j (n ++ (b ∷ [])) f fs h)) (indicating (named (record { place = j; name = n })) (f ∷ fs) h b)
+    cond (continuesName b) (longer n b (λ m. inUse j m f fs h)) (indicating (named (record { place = j; name = n })) (f ∷ fs) h b)
 step (closed p fs h) k b = indicating p fs h b
 step (past p fs h) k b = following p fs h b
 step (afterContent c h) k b = closing c h b
 
--- what a text spells, or where it departs from the grammar
-pub data Parsed : Type 0 where
-  spells : List Declaration → Parsed
-  departs : ℕ → Parsed
+-- a text ends after at least one declaration
+abbrev pub ends : State → Option (List Declaration)
+ends (between []) = none
+ends (between (d ∷ ds)) = some (reverse (d ∷ ds))
+ends dead = none
+ends (inKeyword w o) = none
+ends (afterKeyword o) = none
+ends (beforeName o) = none
+ends (inName j n o) = none
+ends (beforeContent h) = none
+ends (inEmpty w h) = none
+ends (afterOpen h) = none
+ends (inPcdata w h) = none
+ends (afterPcdata h) = none
+ends (expecting f fs h) = none
+ends (inUse j n f fs h) = none
+ends (closed p fs h) = none
+ends (past p fs h) = none
+ends (afterContent c h) = none
 
--- "its length if it stops short"
-abbrev pub atEnd : State → ℕ → Parsed
-atEnd (between []) k = departs k
-atEnd (between (d ∷ ds)) k = spells (reverse (d ∷ ds))
-atEnd dead k = departs k
-atEnd (inKeyword w o) k = departs k
-atEnd (afterKeyword o) k = departs k
-atEnd (beforeName o) k = departs k
-atEnd (inName j n o) k = departs k
-atEnd (beforeContent h) k = departs k
-atEnd (inEmpty w h) k = departs k
-atEnd (afterOpen h) k = departs k
-atEnd (inPcdata w h) k = departs k
-atEnd (afterPcdata h) k = departs k
-atEnd (expecting f fs h) k = departs k
-atEnd (inUse j n f fs h) k = departs k
-atEnd (closed p fs h) k = departs k
-atEnd (past p fs h) k = departs k
-atEnd (afterContent c h) k = departs k
+abbrev pub schemaMachine : machines.Machine State (List Declaration)
+schemaMachine = record { start = between []; isDead = isDead; step = step; ends = ends }
 
--- "the first byte after which no schema text could go on"
-unfoldable pub run : State → List ℕ → ℕ → Parsed
-run q [] k = atEnd q k
-run q (b ∷ bs) k =
-    let r = step q k b in
-    cond (isDead r) (departs k) (run r bs (suc k))
+abbrev pub atEnd : State → ℕ → machines.Parsed (List Declaration)
+atEnd = machines.atEnd schemaMachine
 
-unfoldable pub parse : List ℕ → Parsed
-parse text = run (between []) text 0
+abbrev pub run : State → List ℕ → ℕ → machines.Parsed (List Declaration)
+run = machines.run schemaMachine
+
+abbrev pub from : State → List ℕ → ℕ → machines.Parsed (List Declaration)
+from = machines.from schemaMachine
+
+unfoldable pub parse : List ℕ → machines.Parsed (List Declaration)
+parse = machines.parse schemaMachine

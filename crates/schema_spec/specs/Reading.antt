@@ -4,11 +4,12 @@ use mathlib.Core.List.{List, [], _∷_, _++_, map}
 use Prim.Native.Nat.{ℕ}
 use lib.ListN.{drop}
 use Rattle.schema_spec.specs.Declarations.{Use, Declaration}
-use Rattle.schema_spec.specs.Machine.{Parsed, spells, departs, parse}
+use Rattle.schema_spec.specs.Machine.{parse}
 use Rattle.schema_spec.specs.Models.{usesIn}
 use Rattle.schema_spec.specs.Schemas.{Schema, declaredNames, schemaOf}
 use Rattle.text_spec.specs.Limits.{maxDeclarations, maxModelNames, maxSchemaBytes}
 use Rattle.text_spec.specs.Lists.{anyOf, filterBy, gather, sameBytes}
+use Rattle.text_spec.specs.Machines.{Parsed, spells, departs}
 use Rattle.text_spec.specs.Refusals.{Refusal, Outcome, judged, at, allAt, badSchema, overSchemaLimit, declaredTwice, undeclaredInModel}
 use Rattle.text_spec.specs.Texts.{lengthRefusals, byteRefusals}
 
@@ -32,11 +33,11 @@ undeclaredPlaces ds =
     map (λ u. u .place) (filterBy (λ u. not (anyOf (sameBytes (u .name)) (declaredNames ds))) (gather usesOf ds))
 
 -- 4 to 7
-abbrev pub parsedRefusals : Parsed → List Refusal
+abbrev pub parsedRefusals : Parsed (List Declaration) → List Refusal
 parsedRefusals (departs k) = at badSchema k ∷ []
 parsedRefusals (spells ds) = allAt overSchemaLimit (limitPlaces ds) ++ (allAt declaredTwice (twicePlaces [] ds) ++ allAt undeclaredInModel (undeclaredPlaces ds))
 
-abbrev pub parsedSchema : Parsed → Schema
+abbrev pub parsedSchema : Parsed (List Declaration) → Schema
 parsedSchema (departs k) = []
 parsedSchema (spells ds) = schemaOf ds
 

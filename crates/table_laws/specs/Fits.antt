@@ -9,7 +9,7 @@ use lib.ListN.{getElem?}
 use Rattle.schema_spec.specs.Names.{Name, sameName}
 use Rattle.schema_spec.specs.Types.{Types}
 use Rattle.schema_laws.specs.Names.{same-equal, same-name}
-use Rattle.table_spec.specs.Nodes.{Node, top, numberOf, nameOf, same, isAbove, depthOf, attachTo, nodeAt}
+use Rattle.table_spec.specs.Nodes.{Node, top, nodeNumber, nameOf, same, isAbove, depthOf, attachTo, nodeAt}
 use Rattle.table_spec.specs.Rows.{Row, textOf}
 use Rattle.table_spec.specs.Tables.{parentOpen, parentHolds, firstText, textFits, rowFits, laterRows, wellFormed}
 use Rattle.text_laws.specs.Tests.{and-cases, and-intro}
@@ -17,7 +17,7 @@ use Rattle.text_spec.specs.Limits.{maxNodes, maxDepth}
 use Rattle.text_spec.specs.Lists.{allOf}
 
 -- the node of a row: its number, and its parent where one is open
-pub attached-number : (k : ℕ) (n : Name) (w : List ℕ) (o : Option Node) → numberOf (attachTo k n w o) ≡ k
+pub attached-number : (k : ℕ) (n : Name) (w : List ℕ) (o : Option Node) → nodeNumber (attachTo k n w o) ≡ k
 attached-number k n w none = refl
 attached-number k n w (some p) = refl
 
@@ -27,7 +27,7 @@ parent-found previous k n w (some p) t = (p, refl)
 
 -- the seven parts of the test of a later row
 pub record RowFits (s : Types) (before : List Node) (previous : Node) (r : Row) (y : Node) : Type 0 where
-  pub rises : numberOf previous < r .number
+  pub rises : nodeNumber previous < r .number
   pub small : r .number < maxNodes
   pub isOpen : T (parentOpen previous y)
   pub held : T (parentHolds s y)
@@ -43,7 +43,7 @@ module _ (s : Types) (before : List Node) (previous : Node) (r : Row) (y : Node)
       let rest₃ = leb (depthOf y) maxDepth && rest₄ in
       let rest₂ = parentHolds s y && rest₃ in
       let rest₁ = parentOpen previous y && rest₂ in
-      let c₀ = and-cases (ltb (numberOf previous) (r .number)) (ltb (r .number) maxNodes && rest₁) t in
+      let c₀ = and-cases (ltb (nodeNumber previous) (r .number)) (ltb (r .number) maxNodes && rest₁) t in
       let c₁ = and-cases (ltb (r .number) maxNodes) rest₁ (c₀ .1) in
       let c₂ = and-cases (parentOpen previous y) rest₂ (c₁ .1) in
       let c₃ = and-cases (parentHolds s y) rest₃ (c₂ .1) in
@@ -53,7 +53,7 @@ module _ (s : Types) (before : List Node) (previous : Node) (r : Row) (y : Node)
 
   pub fits-row : RowFits s before previous r y → T (rowFits s before previous r y)
   fits-row f =
-      and-intro (ltb (numberOf previous) (r .number)) _ (lt→ltb _ _ (f .rises))
+      and-intro (ltb (nodeNumber previous) (r .number)) _ (lt→ltb _ _ (f .rises))
       (and-intro (ltb (r .number) maxNodes) _ (lt→ltb _ _ (f .small))
       (and-intro (parentOpen previous y) _ (f .isOpen)
       (and-intro (parentHolds s y) _ (f .held)

@@ -8,7 +8,7 @@ use lib.Dec.{T}
 use Rattle.schema_spec.specs.Names.{Name, element, text}
 use Rattle.table_laws.specs.Nodes.{nodes-equal, nodes-same}
 use Rattle.table_spec.specs.Conditions.{RowAt, RowAbove, parent, higher, DepthAt, root-depth, element-depth, text-depth}
-use Rattle.table_spec.specs.Nodes.{Node, top, under, numberOf, nameOf, same, isAbove, depthOf, deeper}
+use Rattle.table_spec.specs.Nodes.{Node, top, under, nodeNumber, nameOf, same, isAbove, depthOf, deeper}
 use Rattle.table_spec.specs.Rows.{Row, textOf}
 use Rattle.text_laws.specs.Tests.{or-left, or-right, or-cases}
 
@@ -23,7 +23,7 @@ abbrev pub Rising : List Row → Type 0
 Rising rows = (i j : ℕ) (q r : Row) → i < j → RowAt rows i q → RowAt rows j r → q .number < r .number
 
 module _ {rows : List Row} where
-  pub node-row : {i : ℕ} {y : Node} → NodeOf rows i y → (r : Row) × RowAt rows i r × (numberOf y ≡ r .number) × (nameOf y ≡ r .name)
+  pub node-row : {i : ℕ} {y : Node} → NodeOf rows i y → (r : Row) × RowAt rows i r × (nodeNumber y ≡ r .number) × (nameOf y ≡ r .name)
   node-row (root-node {r = r} g) = (r, g, refl, refl)
   node-row (later-node {r = r} g h n) = (r, g, refl, refl)
 

@@ -15,7 +15,7 @@ use Rattle.table_laws.specs.Nodes.{nodes-equal, nodes-same}
 use Rattle.table_laws.specs.Places.{at-end, at-only, at-before-or-end, at-bound, at-some, in-at, at-in}
 use Rattle.table_laws.specs.RowNodes.{NodeOf, root-node, later-node, Rising, node-row, one-node, one-place, row-above, node-above, depth-of, one-depth}
 use Rattle.table_spec.specs.Conditions.{RowAt, RowAbove, TextCells, of-element, of-text, LaterRow, WellFormed, WellFormedBeside}
-use Rattle.table_spec.specs.Nodes.{Node, top, under, numberOf, nameOf, same, isAbove, depthOf, attachTo, nodeAt}
+use Rattle.table_spec.specs.Nodes.{Node, top, under, nodeNumber, nameOf, same, isAbove, depthOf, attachTo, nodeAt}
 use Rattle.table_spec.specs.Rows.{Row, textOf}
 use Rattle.table_spec.specs.Tables.{parentOpen, sameParent, textFits, rowFits, laterRows, wellFormed, textInside, wellFormedWith}
 use Rattle.text_laws.specs.Lists.{any-in, in-any, all-in, in-all}
@@ -69,7 +69,7 @@ module _ (s : Types) (rows : List Row) (rise : Rising rows) where
     this-node : NodeOf rows (suc i) y
     this-node = later-node h (omega (arith, at-bound before (r .parent) p e, b .count)) parent-node
 
-    previous-number : numberOf previous ≡ q .number
+    previous-number : nodeNumber previous ≡ q .number
     previous-number =
         let c = node-row previous-node in
         let first : c .0 ≡ q = cc (c .1) in
@@ -147,7 +147,7 @@ module _ (s : Types) (rows : List Row) (rise : Rising rows) where
             let c = row-above u previous-node in
             or-right (same p previous) (isAbove p previous) (subst (λ (z : Node). T (isAbove z previous)) (one-node (c .1) parent-node) (c .2))
 
-        hold : (z : Row) × RowAt rows (r .parent) z × (numberOf p ≡ z .number) × (nameOf p ≡ z .name) → T (s .holds (nameOf p) (r .name))
+        hold : (z : Row) × RowAt rows (r .parent) z × (nodeNumber p ≡ z .number) × (nameOf p ≡ z .name) → T (s .holds (nameOf p) (r .name))
         hold c = rw (c .3) (f .held (c .0) (c .1))
 
         lone : T (isText (r .name) && anyOf twin before) → ⊥
@@ -240,7 +240,7 @@ next-rising rows f i (suc j) q r h g k =
         let v = rec (omega arith) in
         omega arith
 
-test-rises : (s : Types) (before : List Node) (previous : Node) (x : Row) (rs : List Row) → numberOf previous ≡ x .number → T (laterRows s before previous rs)
+test-rises : (s : Types) (before : List Node) (previous : Node) (x : Row) (rs : List Row) → nodeNumber previous ≡ x .number → T (laterRows s before previous rs)
     → (j : ℕ) (q r : Row) → RowAt (x ∷ rs) j q → RowAt (x ∷ rs) (suc j) r → q .number < r .number
 test-rises s before previous x [] e t j q r g k = absurd (omega (arith, at-bound (x ∷ []) (suc j) r k))
 test-rises s before previous x (z ∷ rs) e t zero q r g k =

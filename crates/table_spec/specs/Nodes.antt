@@ -15,9 +15,9 @@ pub data Node : Type 0 where
   top : ℕ → Name → Node
   under : ℕ → Name → List ℕ → Node → Node
 
-abbrev pub numberOf : Node → ℕ
-numberOf (top k n) = k
-numberOf (under k n w p) = k
+abbrev pub nodeNumber : Node → ℕ
+nodeNumber (top k n) = k
+nodeNumber (under k n w p) = k
 
 abbrev pub nameOf : Node → Name
 nameOf (top k n) = n

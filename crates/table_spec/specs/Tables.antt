@@ -6,7 +6,7 @@ use lib.Dec.{eqb, leb, ltb}
 use lib.ListN.{length}
 use Rattle.schema_spec.specs.Names.{Name, element, text, isText, sameName}
 use Rattle.schema_spec.specs.Types.{Types}
-use Rattle.table_spec.specs.Nodes.{Node, top, under, nameOf, numberOf, same, isAbove, depthOf, nodeAt}
+use Rattle.table_spec.specs.Nodes.{Node, top, under, nameOf, nodeNumber, same, isAbove, depthOf, nodeAt}
 use Rattle.table_spec.specs.Rows.{Row, textOf}
 use Rattle.text_spec.specs.Bytes.{isForeign}
 use Rattle.text_spec.specs.Limits.{maxNodes, maxDepth, maxTextBytes}
@@ -39,7 +39,7 @@ textFits (text e) r = leb 1 (r .size) && leb (r .size) maxTextBytes
 -- a later row, given the nodes before it, of which `previous` is the last; "later numbers rise, to 65,534 at most"; "depth is at most 64"
 abbrev pub rowFits : Types → List Node → Node → Row → Node → Bool
 rowFits s before previous r y =
-    ltb (numberOf previous) (r .number) && (ltb (r .number) maxNodes
+    ltb (nodeNumber previous) (r .number) && (ltb (r .number) maxNodes
     && (parentOpen previous y && (parentHolds s y && (leb (depthOf y) maxDepth && (firstText before y && textFits (r .name) r)))))
 
 abbrev pub laterRows : Types → List Node → Node → List Row → Bool

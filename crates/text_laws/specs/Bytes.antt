@@ -8,7 +8,7 @@ use native.Mathlib.Omega.{arith}
 use lib.Dec.{T, eqb, leb, eqb→eq, le→leb}
 use lib.ListN.{length, length-append}
 use Rattle.text_laws.specs.Lists.{all-snoc}
-use Rattle.text_laws.specs.Tests.{or-cases, and-intro, and-cases}
+use Rattle.text_laws.specs.Tests.{passed, false-of, or-cases, and-intro, and-cases}
 use Rattle.text_spec.specs.Bytes.{isBlank, isLetter, isDigit, startsName, continuesName, isName}
 use Rattle.text_spec.specs.Limits.{maxNameBytes}
 use Rattle.text_spec.specs.Lists.{allOf}
@@ -31,6 +31,10 @@ starts-continues b e = go (isLetter b) (isDigit b) (eqb b 0x2D) (eqb b 0x2E) (eq
     go false false true y z e = refl
     go false false false true z e = refl
     go false false false false z e = e
+
+-- .. and is no blank
+pub starts-no-blank : (b : ℕ) → startsName b ≡ true → isBlank b ≡ false
+starts-no-blank b e = false-of (isBlank b) (λ t. each-blank (λ c. T (startsName c) → ⊥) (λ z. z) (λ z. z) (λ z. z) b t (passed e))
 
 pub one-byte-name : (b : ℕ) → T (startsName b) → T (isName (b ∷ []))
 one-byte-name b t = and-intro (startsName b) true t tt

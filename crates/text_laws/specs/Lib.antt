@@ -6,5 +6,8 @@ pub mod Order
 pub mod Texts
 pub mod Departures
 pub mod Cells
+pub mod Machines
+pub mod Scans
 pub mod Searches
 pub mod Loops
+pub mod Calls

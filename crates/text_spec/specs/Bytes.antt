@@ -7,18 +7,18 @@ use lib.ListN.{length}
 use Rattle.text_spec.specs.Limits.{maxNameBytes}
 use Rattle.text_spec.specs.Lists.{bytes, anyOf, allOf}
 
-abbrev pub within : ℕ → ℕ → ℕ → Bool
-within low high b = leb low b && leb b high
+abbrev pub isBetween : ℕ → ℕ → ℕ → Bool
+isBetween low high b = leb low b && leb b high
 
 -- "Blanks (space, tab, line feed)"
 abbrev pub isBlank : ℕ → Bool
 isBlank b = eqb b 32 || (eqb b 9 || eqb b 10)
 
 abbrev pub isLetter : ℕ → Bool
-isLetter b = within 65 90 b || within 97 122 b
+isLetter b = isBetween 65 90 b || isBetween 97 122 b
 
 abbrev pub isDigit : ℕ → Bool
-isDigit b = within 48 57 b
+isDigit b = isBetween 48 57 b
 
 -- the delimiters of the three grammars
 abbrev pub isMarkup : ℕ → Bool
@@ -26,7 +26,7 @@ isMarkup b = anyOf (eqb b) (bytes "!#&()*+,/:;<>?[]|")
 
 -- Refusal 3: "none of 09, 0A, 20 to 7E hex"
 abbrev pub isForeign : ℕ → Bool
-isForeign b = not (eqb b 0x09 || (eqb b 0x0A || within 0x20 0x7E b))
+isForeign b = not (eqb b 0x09 || (eqb b 0x0A || isBetween 0x20 0x7E b))
 
 pub data Class : Type 0 where
   blank letter digit markup other foreign : Class

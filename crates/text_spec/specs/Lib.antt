@@ -4,3 +4,6 @@ pub mod Limits
 pub mod Refusals
 pub mod Texts
 pub mod Cells
+pub mod Machines
+pub mod Scans
+pub mod Calls

@@ -76,7 +76,7 @@ sameBytes u v = sameBy eqb u v
 
 -- the part of a text that starts at a place and has a length
 abbrev pub part : ℕ → ℕ → List ℕ → List ℕ
-part start length text = take length (drop start text)
+part start size text = take size (drop start text)
 
 -- a text begins with another
 abbrev pub beginsWith : List ℕ → List ℕ → Bool

@@ -6,8 +6,8 @@ use Prim.Native.Nat.{ℕ, suc, _+_}
 use native.Mathlib.Nat.{add-zero}
 use native.Mathlib.Omega.{arith}
 use lib.ListN.{length, length-append}
-use Rattle.path_spec.specs.Grammar.{PathRead, orWord, PlainText, AlternativeText, one-step, more-steps, ConditionText, one-alternative, more-alternatives, StepText, PathText, last-step, next-step, BundleText, last-path, next-path}
-use Rattle.path_spec.specs.Paths.{WrittenStep, PlainStep, Condition, LocationPath}
+use Rattle.path_spec.specs.Grammar.{PathRead, pathRead, orWord, PlainText, AlternativeText, one-step, more-steps, ConditionText, one-alternative, more-alternatives, StepText, PathText, last-step, next-step, BundleText, last-path, next-path}
+use Rattle.path_spec.specs.Paths.{WrittenStep, PlainStep, Condition}
 use Rattle.schema_spec.specs.Declarations.{Use}
 use Rattle.text_spec.specs.Lists.{isEmpty}
 
@@ -41,18 +41,18 @@ pub alternative-joined : {k : ℕ} {u w : List ℕ} {ps : List (PlainStep Use)} 
 alternative-joined {w} {p} b t =
     joined slash PlainText AlternativeText (λ k w r p ps i a. more-steps i (shifted AlternativeText (suc (k + length w)) (omega arith) a)) b w (p ∷ []) (one-step t)
 
-pub condition-joined : {k : ℕ} {u w : List ℕ} {qs : Condition Use} {q : List (PlainStep Use)} → Before orWord AlternativeText k u qs
+pub condition-joined : {k : ℕ} {u w : List ℕ} {qs : List (List (PlainStep Use))} {q : List (PlainStep Use)} → Before orWord AlternativeText k u qs
     → AlternativeText (k + length u) w q → ConditionText k (u ++ w) (reverse (q ∷ qs))
 condition-joined {w} {q} b t = joined orWord AlternativeText ConditionText (λ k w r q qs a c. more-alternatives a c) b w (q ∷ []) (one-alternative t)
 
-pub path-joined : {k : ℕ} {u w : List ℕ} {ps : LocationPath Use} {p : WrittenStep Use (Condition Use)} → Before slash StepText k u ps → StepText (k + length u) w p
+pub path-joined : {k : ℕ} {u w : List ℕ} {ps : List (WrittenStep Use (Condition Use))} {p : WrittenStep Use (Condition Use)} → Before slash StepText k u ps → StepText (k + length u) w p
     → PathText k (u ++ w) (reverse (p ∷ ps))
 path-joined {w} {p} b t =
     joined slash StepText PathText (λ k w r p ps s q. next-step s (shifted PathText (suc (k + length w)) (omega arith) q)) b w (p ∷ []) (last-step t)
 
 -- a line: a path where it is written
 pub data Line : ℕ → List ℕ → PathRead → Type 0 where
-  a-line : {k : ℕ} {w : List ℕ} {p : LocationPath Use} → PathText k w p → Line k w (record { place = k; size = length w; steps = p })
+  a-line : {k : ℕ} {w : List ℕ} {s : List (WrittenStep Use (Condition Use))} → PathText k w s → Line k w (pathRead k (length w) s)
 
 -- a bundle, or nothing
 pub data Lines : ℕ → List ℕ → List PathRead → Type 0 where

@@ -1,4 +1,4 @@
--- What the machine spells is a bundle text of the grammar: what each state says of the text read so far. Assumes nothing.
+-- What the machine spells is a bundle text of the grammar: what each state says of the text read so far.
 use mathlib.Core.Bool.{Bool, true, false, cond}
 use mathlib.Core.List.{List, [], _∷_, _++_, reverse, append-assoc, append-nil}
 use mathlib.Core.Path.{_≡_, refl, sym, ap, subst, _∙_}
@@ -8,20 +8,23 @@ use native.Mathlib.Omega.{arith}
 use lib.Dec.{T, eqb, ltb, eqb→eq, ltb→lt}
 use lib.ListN.{length, length-append}
 use Rattle.path_laws.specs.Grammar.Joined.{Before, none-before, one-more, slash, lineFeed, alternative-joined, condition-joined, path-joined, Line, a-line, Lines, no-lines, some-lines, lines-joined, reversed-filled}
-use Rattle.path_laws.specs.Grammar.Runs.{final, run-spells}
-use Rattle.path_spec.specs.Grammar.{PathRead, nodeCall, textCall, orWord, TestText, a-name, any-node, any-text, PlainText, plain, AlternativeText, StepText, bare, conditional, PathText, BundleText}
-use Rattle.path_spec.specs.Machine.{Choice, allChoices, Outer, Inner, Context, outside, inside, State, dead, lineStart, inAxis, beforeTest, inTest, inCall, afterCall, inOr, afterBrackets, goesOn, goingOn, axisBy, beginStep, withStep, withPlain, withAlternative, bracketed, stepDone, tested, callOf, orByte, step, spells, parse}
-use Rattle.path_spec.specs.Paths.{WrittenAxis, spellAxis, NodeTest, named, WrittenStep, PlainStep, Condition, LocationPath}
+use Rattle.path_laws.specs.Grammar.Machine.{ends-line}
+use Rattle.path_spec.specs.Grammar.{PathRead, pathRead, nodeCall, textCall, orWord, TestText, a-name, any-node, any-text, PlainText, plain, AlternativeText, StepText, bare, conditional, PathText, BundleText}
+use Rattle.path_spec.specs.Machine.{Choice, allChoices, Outer, Inner, Context, outside, inside, State, dead, lineStart, inAxis, beforeTest, inTest, inCall, afterCall, inOr, afterBrackets, goesOn, goingOn, axisBy, beginStep, withStep, withPlain, withAlternative, bracketed, stepDone, tested, callOf, step, bundleMachine, parse}
+use Rattle.path_spec.specs.Paths.{WrittenAxis, spellAxis, NodeTest, named, WrittenStep, PlainStep, Condition, alternatives}
 use Rattle.schema_spec.specs.Declarations.{Use}
 use Rattle.text_laws.specs.Bytes.{one-byte-name, name-snoc}
 use Rattle.text_laws.specs.Lists.{bytes-equal}
+use Rattle.text_laws.specs.Machines.{final, run-spells}
+use Rattle.text_laws.specs.Tests.{never}
 use Rattle.text_spec.specs.Bytes.{startsName, continuesName, isName}
 use Rattle.text_spec.specs.Limits.{maxNameBytes}
 use Rattle.text_spec.specs.Lists.{bytes, isEmpty, sameBytes}
+use Rattle.text_spec.specs.Machines.{spells, matching}
 
 -- ---- a path before one of its steps: lines, then steps
 data InPath : Outer → List ℕ → Type 0 where
-  in-path : {ps : List PathRead} {l u : List ℕ} {s : LocationPath Use} → Before lineFeed Line 0 l ps → Before slash StepText (length l) u s
+  in-path : {ps : List PathRead} {l u : List ℕ} {s : List (WrittenStep Use (Condition Use))} → Before lineFeed Line 0 l ps → Before slash StepText (length l) u s
       → InPath (record { paths = ps; start = length l; steps = s }) (l ++ u)
 
 -- a path after one of its steps
@@ -35,18 +38,18 @@ done-slash (step-done {w = w} {p = p} (in-path {ps = ps} {l = l} {u = u} {s = s}
     (in-path b (one-more c (subst (λ (j : ℕ). StepText j w p) (length-append l u) t)))
 
 done-line : {o : Outer} {u : List ℕ} → StepDone o u
-    → Before lineFeed Line 0 (u ++ lineFeed) (record { place = o .start; size = length u - o .start; steps = reverse (o .steps) } ∷ o .paths)
+    → Before lineFeed Line 0 (u ++ lineFeed) (pathRead (o .start) (length u - o .start) (reverse (o .steps)) ∷ o .paths)
 done-line (step-done {w = w} {p = p} (in-path {ps = ps} {l = l} {u = u} {s = s} b c) t) =
     let q : PathText (length l) (u ++ w) (reverse (p ∷ s)) = path-joined c (subst (λ (j : ℕ). StepText j w p) (length-append l u) t) in
-    let r : Line (0 + length l) (u ++ w) (record { place = length l; size = length (u ++ w); steps = reverse (p ∷ s) }) = rw zero-add (a-line q) in
+    let r : Line (0 + length l) (u ++ w) (pathRead (length l) (length (u ++ w)) (reverse (p ∷ s))) = rw zero-add (a-line q) in
     let e : length (u ++ w) ≡ length (l ++ u ++ w) - length l = omega (arith, length-append (l ++ u) w, length-append l u, length-append u w) in
-    subst (λ (r : List ℕ). Before lineFeed Line 0 r (record { place = length l; size = length (l ++ u ++ w) - length l; steps = reverse (p ∷ s) } ∷ ps)) (simp append-assoc)
-    (subst (λ (n : ℕ). Before lineFeed Line 0 (l ++ (u ++ w ++ lineFeed)) (record { place = length l; size = n; steps = reverse (p ∷ s) } ∷ ps)) e
+    subst (λ (r : List ℕ). Before lineFeed Line 0 r (pathRead (length l) (length (l ++ u ++ w) - length l) (reverse (p ∷ s)) ∷ ps)) (simp append-assoc)
+    (subst (λ (n : ℕ). Before lineFeed Line 0 (l ++ (u ++ w ++ lineFeed)) (pathRead (length l) n (reverse (p ∷ s)) ∷ ps)) e
     (one-more b r))
 
 -- ---- brackets before a step of one of their alternatives: the path, the step that carries them, alternatives, steps
 data InAlternative : Inner → List ℕ → Type 0 where
-  in-alternative : {o : Outer} {a : WrittenAxis} {t : NodeTest Use} {u w c s : List ℕ} {qs : Condition Use} {ps : List (PlainStep Use)}
+  in-alternative : {o : Outer} {a : WrittenAxis} {t : NodeTest Use} {u w c s : List ℕ} {qs : List (List (PlainStep Use))} {ps : List (PlainStep Use)}
       → InPath o u → PlainText (length u) w (record { axis = a; test = t; condition = tt })
       → Before orWord AlternativeText (suc (length u + length w)) c qs → Before slash PlainText (suc (length u + length w) + length c) s ps
       → InAlternative (record { outer = o; axis = a; test = t; alternatives = qs; steps = ps }) (u ++ (w ++ (0x5B ∷ (c ++ s))))
@@ -71,7 +74,7 @@ plain-or (plain-done {w = v} {p = p} (in-alternative {o = o} {a = a} {t = t} {u 
 
 plain-closed : {i : Inner} {u : List ℕ} → PlainDone i u → StepDone (bracketed (withAlternative i)) (u ++ (0x5D ∷ []))
 plain-closed (plain-done {w = v} {p = p} (in-alternative {o = o} {a = a} {t = t} {u = u} {w = w} {c = c} {s = s} {qs = qs} {ps = ps} b f d e) x) =
-    subst (StepDone (withStep a t (reverse (reverse (p ∷ ps) ∷ qs)) o)) (simp append-assoc)
+    subst (StepDone (withStep a t (alternatives (reverse (reverse (p ∷ ps) ∷ qs))) o)) (simp append-assoc)
     (step-done b (conditional f (condition-joined d (alternative-joined e (subst (λ (j : ℕ). PlainText j v p) (plain-place u w c s) x)))))
 
 data InContext : Context → List ℕ → Type 0 where
@@ -167,7 +170,7 @@ call-of a n i =
     (λ e. by-test (sameBytes (n ++ bytes "()") textCall) (λ h. calls n textCall i (λ k. any-text) h) (λ e. no-way))
 
 -- ---- a byte in ` or `
-or-byte : {i : Inner} (u v w : List ℕ) (b : ℕ) → InAlternative i (u ++ (v ++ w)) → Read (orByte w i b) (u ++ v ++ (b ∷ []))
+or-byte : {i : Inner} (u v w : List ℕ) (b : ℕ) → InAlternative i (u ++ (v ++ w)) → Read (matching dead w b (beginStep (inside i)) (λ r. inOr r i)) (u ++ v ++ (b ∷ []))
 or-byte u v [] b x = no-way
 or-byte u v (c ∷ []) b x = by-byte (u ++ v) b c (begins (in-inner (rw append-assoc x))) no-way
 or-byte {i} u v (c ∷ d ∷ w) b x = by-byte (u ++ v) b c (rw append-assoc (in-or {i = i} {w = d ∷ w} u (v ++ (c ∷ [])) (rw append-assoc x))) no-way
@@ -193,23 +196,23 @@ read-byte b (after-call {a = a} i f) = tested-byte b i (plain a (f _))
 read-byte b (in-or {w = w} u v i) = or-byte u v w b i
 read-byte b (after-brackets d) = done-byte b d no-way
 
-read-text : {q : State} {u : List ℕ} (v : List ℕ) → Read q u → Read (final q v (length u)) (u ++ v)
+read-text : {q : State} {u : List ℕ} (v : List ℕ) → Read q u → Read (final bundleMachine q v (length u)) (u ++ v)
 read-text {q} {u} [] r = rw append-nil r
 read-text {q} {u} (b ∷ v) r =
     let e : length (u ++ (b ∷ [])) ≡ suc (length u) = omega (arith, length-append u (b ∷ [])) in
-    subst (λ (k : ℕ). Read (final (step q (length u) b) v k) (u ++ (b ∷ v))) e
-    (subst (Read (final (step q (length u) b) v (length (u ++ (b ∷ []))))) (append-assoc u (b ∷ []) v) (read-text v (read-byte b r)))
+    subst (λ (k : ℕ). Read (final bundleMachine (step q (length u) b) v k) (u ++ (b ∷ v))) e
+    (subst (Read (final bundleMachine (step q (length u) b) v (length (u ++ (b ∷ []))))) (append-assoc u (b ∷ []) v) (read-text v (read-byte b r)))
 
 lines-of : {ps : List PathRead} {u : List ℕ} → Read (lineStart ps) u → Lines 0 u (reverse ps)
 lines-of (at-line b) = lines-joined b
 
 bundle-of : {k : ℕ} {u : List ℕ} {ps : List PathRead} → Lines k u ps → isEmpty ps ≡ false → BundleText k u ps
-bundle-of no-lines e = absurd (let z : _≡_ {A = ℕ} 0 1 = cc in omega arith)
+bundle-of no-lines e = never (cc)
 bundle-of (some-lines b) e = b
 
 pub parse-sound : {text : List ℕ} {ps : List PathRead} → parse text ≡ spells ps → BundleText 0 text ps
 unfolding parse
 parse-sound {text} {ps} e =
-    let r = run-spells (lineStart []) text 0 ps e in
+    let r = ends-line (final bundleMachine (lineStart []) text 0) (run-spells bundleMachine (lineStart []) text 0 e) in
     let l : Lines 0 text (reverse (r .0 ∷ r .1)) = lines-of (subst (λ (q : State). Read q text) (r .2) (read-text text (at-line none-before))) in
     subst (λ (qs : List PathRead). BundleText 0 text qs) (sym (r .3)) (bundle-of l (reversed-filled (r .1) (r .0 ∷ []) refl))

@@ -2,7 +2,7 @@
 use mathlib.Core.List.{List, [], _∷_, _++_, map}
 use mathlib.Core.Path.{_≡_, refl}
 use Rattle.projection_spec.specs.Cases.Opened.{computing}
-use Rattle.projection_spec.specs.Cases.Questions.{Text, schemaRead, bundleRead, journalRead, extractRead, tableLent, names, taken, turnedBack, theNames, answerTo, Case, case, AllHold, copies, pathsOf}
+use Rattle.projection_spec.specs.Cases.Questions.{Text, schemaRead, bundleRead, journalRead, extractRead, tableLent, names, taken, turnedBack, theNames, answerTo, Case, case, AllHold, copies, pathsRead}
 use Rattle.projection_spec.specs.Cases.Tried.{schemaS, journalJ, steps}
 use Rattle.projection_spec.specs.Inference.Needed.{neededBeforeFilter}
 use Rattle.table_spec.specs.Columns.{Columns}
@@ -82,6 +82,6 @@ unfolding computing answerTo cases
 all-hold = refl
 
 -- before the last filter z, element 2, is needed: it stands on a complete walk
-pub z-on-a-walk : anyOf (λ p. has (element 2) (neededBeforeFilter (typesOf (schemaIn schemaR)) p)) (pathsOf schemaR filtered) ≡ true
+pub z-on-a-walk : anyOf (λ p. has (element 2) (neededBeforeFilter (typesOf (schemaIn schemaR)) p)) (pathsRead schemaR filtered) ≡ true
 unfolding computing
 z-on-a-walk = refl

@@ -56,11 +56,11 @@ abbrev pub said : {A : Type 0} → Outcome A → Answer
 said (accepted a) = taken
 said (refused f) = turnedBack (numberOf (f .reason)) (f .place)
 
-abbrev pub pathsOf : Text → Text → List (LocationPath ℕ)
-pathsOf schema bundle = resultOr [] (readBundle (schemaIn schema) bundle)
+abbrev pub pathsRead : Text → Text → List (LocationPath ℕ)
+pathsRead schema bundle = resultOr [] (readBundle (schemaIn schema) bundle)
 
-abbrev pub rowsOf : Text → Text → List Row
-rowsOf schema journal = resultOr [] (readJournal maxJournalBytes (schemaIn schema) journal)
+abbrev pub rowsRead : Text → Text → List Row
+rowsRead schema journal = resultOr [] (readJournal maxJournalBytes (schemaIn schema) journal)
 
 unfoldable pub answerTo : Question → Answer
 answerTo (schemaRead s) = said (readSchema s)
@@ -68,10 +68,10 @@ answerTo (bundleRead s b) = said (readBundle (schemaIn s) b)
 answerTo (journalRead s j) = said (readJournal maxJournalBytes (schemaIn s) j)
 answerTo (extractRead s x) = said (readExtract (typesOf (schemaIn s)) x)
 answerTo (tableLent s c n lent) = cond (passesTable (schemaIn s) c n lent) taken (turnedBack 1 0)
-answerTo (names s b) = theNames (needed (typesOf (schemaIn s)) (pathsOf s b))
-answerTo (nodes s b j) = theNumbers (map (selectRows j (rowsOf s j)) (pathsOf s b))
-answerTo (rowsKept s b j) = theNumbers (map (λ r. r .number) (cut (needed (typesOf (schemaIn s)) (pathsOf s b)) (rowsOf s j)) ∷ [])
-answerTo (extractMade s b j) = theBytes (extractOf (schemaIn s) (pathsOf s b) j (rowsOf s j))
+answerTo (names s b) = theNames (needed (typesOf (schemaIn s)) (pathsRead s b))
+answerTo (nodes s b j) = theNumbers (map (selectRows j (rowsRead s j)) (pathsRead s b))
+answerTo (rowsKept s b j) = theNumbers (map (λ r. r .number) (cut (needed (typesOf (schemaIn s)) (pathsRead s b)) (rowsRead s j)) ∷ [])
+answerTo (extractMade s b j) = theBytes (extractOf (schemaIn s) (pathsRead s b) j (rowsRead s j))
 answerTo (printed s b j) = theBytes (listing s b j)
 
 pub record Case : Type 0 where

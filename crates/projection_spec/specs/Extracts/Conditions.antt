@@ -2,7 +2,7 @@
 use mathlib.Core.List.{List, [], _∷_, List·Memᴰ}
 use mathlib.Core.Path.{_≡_}
 use Prim.Native.Nat.{ℕ}
-use Rattle.projection_spec.specs.Extracts.Fields.{writeExtract}
+use Rattle.projection_spec.specs.Extracts.Fields.{writeExtract, extractRows}
 use Rattle.schema_spec.specs.Names.{Names}
 use Rattle.schema_spec.specs.Types.{Types}
 use Rattle.table_spec.specs.Conditions.{WellFormedBeside}
@@ -34,9 +34,9 @@ pub data SameTables (lent lent′ : List ℕ) : List Row → List Row → Type 0
   next-row : {q r : Row} {qs rs : List Row} → SameButStarts q r → textOf lent q ≡ textOf lent′ r → SameTables lent lent′ qs rs
       → SameTables lent lent′ (q ∷ qs) (r ∷ rs)
 
--- the rows of an extract are those of the table that it is the writing of, with their texts in the extract's own bytes
+-- the rows of an extract are those of the table that it is the writing of, each text at its bytes in the extract
 pub data ExtractGives (s : Types) (bs : List ℕ) : List Row → Type 0 where
-  gives : {rows : List Row} (x : IsExtract s bs) → WellFormedBeside s bs rows → SameTables (x .lent) bs (x .rows) rows → ExtractGives s bs rows
+  gives : (x : IsExtract s bs) → ExtractGives s bs (extractRows (x .lent) (x .rows))
 
 -- Cutting: a node is kept exactly when its name and the names of all its ancestors are in the set.
 pub record Kept (set : Names) (y : Node) : Type 0 where

@@ -1,10 +1,10 @@
 -- The bytes of an extract: "fields of a one-byte tag, a two-byte length (high byte first) and a value". Assumes nothing.
 use mathlib.Core.List.{List, [], _∷_, _++_}
 use mathlib.Core.Option.{Option, none, some}
-use Prim.Native.Nat.{ℕ, _/_, _%_}
+use Prim.Native.Nat.{ℕ, _+_, _/_, _%_}
 use lib.ListN.{length, getElem?}
 use Rattle.schema_spec.specs.Names.{Name, element, text}
-use Rattle.table_spec.specs.Rows.{Row, textOf}
+use Rattle.table_spec.specs.Rows.{Row, textOf, withStart}
 use Rattle.text_spec.specs.Lists.{gather}
 
 -- the three fields; "all numbers high byte first"
@@ -41,3 +41,16 @@ fieldOf lent rows r = rowField (r .name) (r .number) (numberAt (getElem? rows (r
 -- "03 hex, length 2: count of rows; last, nothing after it"
 unfoldable pub writeExtract : List ℕ → List Row → List ℕ
 writeExtract lent rows = gather (fieldOf lent rows) rows ++ field countTag (twoBytes (length rows))
+
+-- The rows of a table as they stand in its extract: each text starts at its bytes there, after the tag, the length and the two numbers of its
+-- field. `k` bytes of the extract stand before the rows.
+abbrev pub startAt : Name → ℕ → ℕ
+startAt (element e) k = 0
+startAt (text e) k = k + 3 + 4
+
+abbrev pub rowsAt : (Row → List ℕ) → ℕ → List Row → List Row
+rowsAt f k [] = []
+rowsAt f k (r ∷ rs) = withStart (startAt (r .name) k) r ∷ rowsAt f (k + length (f r)) rs
+
+unfoldable pub extractRows : List ℕ → List Row → List Row
+extractRows lent rows = rowsAt (fieldOf lent rows) 0 rows

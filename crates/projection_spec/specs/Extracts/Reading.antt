@@ -92,18 +92,18 @@ topElement (p ∷ ps) = p .element
 
 -- Items turned into rows: `next` rows stand before, and `opens` are the row before and those above it, nearest first, without a text.
 -- A parent's number is looked up there; a text name is that of its parent's element. Last comes the count, and nothing after it.
-abbrev pub laterRows : ℕ → List Placed → List Item → Option (List Row)
-laterRows next opens [] = none
-laterRows next opens (noItem ∷ is) = none
-laterRows next opens (countItem n ∷ []) = cond (eqb n next) (some []) none
-laterRows next opens (countItem n ∷ i ∷ is) = none
-laterRows next opens (elementItem number parent e ∷ is) =
+abbrev pub rowsOfLaterItems : ℕ → List Placed → List Item → Option (List Row)
+rowsOfLaterItems next opens [] = none
+rowsOfLaterItems next opens (noItem ∷ is) = none
+rowsOfLaterItems next opens (countItem n ∷ []) = cond (eqb n next) (some []) none
+rowsOfLaterItems next opens (countItem n ∷ i ∷ is) = none
+rowsOfLaterItems next opens (elementItem number parent e ∷ is) =
     let os = openFrom parent opens in
-    let later = consRow (elementRow number e (topRow os)) (laterRows (suc next) (record { row = next; number = number; element = e } ∷ os) is) in
+    let later = consRow (elementRow number e (topRow os)) (rowsOfLaterItems (suc next) (record { row = next; number = number; element = e } ∷ os) is) in
     cond (isEmpty os) none later
-laterRows next opens (textItem number parent start size ∷ is) =
+rowsOfLaterItems next opens (textItem number parent start size ∷ is) =
     let os = openFrom parent opens in
-    let later = consRow (textRow number (topElement os) (topRow os) start size) (laterRows (suc next) os is) in
+    let later = consRow (textRow number (topElement os) (topRow os) start size) (rowsOfLaterItems (suc next) os is) in
     cond (isEmpty os) none later
 
 -- "the root's own is 0"
@@ -114,7 +114,7 @@ rowsOfItems (textItem number parent start size ∷ is) = none
 rowsOfItems (countItem n ∷ []) = cond (eqb n 0) (some []) none
 rowsOfItems (countItem n ∷ i ∷ is) = none
 rowsOfItems (elementItem number parent e ∷ is) =
-    let later = consRow (elementRow number e 0) (laterRows 1 (record { row = 0; number = number; element = e } ∷ []) is) in
+    let later = consRow (elementRow number e 0) (rowsOfLaterItems 1 (record { row = 0; number = number; element = e } ∷ []) is) in
     cond (eqb parent 0) later none
 
 -- 17. "Bytes are no extract of a well-formed table whose texts pass 3."

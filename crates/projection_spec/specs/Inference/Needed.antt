@@ -2,7 +2,7 @@
 use mathlib.Core.Bool.{Bool, true, not, _||_}
 use mathlib.Core.List.{List, [], _∷_, _++_}
 use Prim.Native.Nat.{ℕ}
-use Rattle.path_spec.specs.Paths.{Axis, self, child, descendant, descendantOrSelf, parent, ancestor, ancestorOrSelf, Step, Condition, LocationPath, expand}
+use Rattle.path_spec.specs.Paths.{Axis, self, child, descendant, descendantOrSelf, parent, ancestor, ancestorOrSelf, Step, Condition, unconditional, alternatives, conditionPaths, Start, rootElement, LocationPath, expand}
 use Rattle.schema_spec.specs.Closure.{related, closure}
 use Rattle.schema_spec.specs.Names.{Name, Names, sameName, within, wordOfSet}
 use Rattle.schema_spec.specs.Types.{Types, isBelow}
@@ -57,11 +57,12 @@ wantsNothing k c a = []
 
 -- "if some alternative .. ends with a type that isn't empty"
 abbrev pub keepsName : Types → Names → Condition ℕ → Name → Bool
-keepsName s k c a = isEmpty c || anyOf (λ q. not (isEmpty (inferAll s keepsAll (expand q) (env (a ∷ []) k) .type))) c
+keepsName s k unconditional a = true
+keepsName s k (alternatives qs) a = anyOf (λ q. not (isEmpty (inferAll s keepsAll (expand tt q) (env (a ∷ []) k) .type))) qs
 
 -- "the same for every alternative from it"
 abbrev pub wantsNames : Types → Names → Condition ℕ → Name → Names
-wantsNames s k c a = gather (λ q. need s keepsAll wantsNothing (expand q) (env (a ∷ []) k)) c
+wantsNames s k c a = gather (λ q. need s keepsAll wantsNothing (expand tt q) (env (a ∷ []) k)) (conditionPaths c)
 
 -- "Last, keep only names that the root reaches by holdings inside this set."
 unfoldable pub fromRoot : Types → Names → Names
@@ -70,12 +71,12 @@ fromRoot s r =
     let c = closure m (s .holds) in
     filterBy (λ n. sameName (s .root) n || related c (s .root) n) m
 
--- "both {root} at first"
-abbrev pub atRoot : Types → Env
-atRoot s = env (s .root ∷ []) (s .root ∷ [])
+-- the type and the context that a path starts with: "both {root} at first"
+abbrev pub atStart : Types → Start → Env
+atStart s rootElement = env (s .root ∷ []) (s .root ∷ [])
 
 unfoldable pub neededBeforeFilter : Types → LocationPath ℕ → Names
-neededBeforeFilter s p = need s (keepsName s) (wantsNames s) (expand p) (atRoot s)
+neededBeforeFilter s p = need s (keepsName s) (wantsNames s) (expand unconditional (p .steps)) (atStart s (p .start))
 
 unfoldable pub neededByPath : Types → LocationPath ℕ → Names
 neededByPath s p = fromRoot s (neededBeforeFilter s p)

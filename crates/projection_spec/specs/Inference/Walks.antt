@@ -3,12 +3,12 @@ use mathlib.Core.Bool.{Bool}
 use mathlib.Core.List.{List, [], _∷_, List·Memᴰ}
 use Prim.Native.Nat.{ℕ}
 use lib.Dec.{T}
-use Rattle.path_spec.specs.Paths.{Axis, self, child, descendant, descendantOrSelf, parent, ancestor, ancestorOrSelf, Step, PlainStep, Condition, LocationPath, expand}
+use Rattle.path_spec.specs.Paths.{Axis, self, child, descendant, descendantOrSelf, parent, ancestor, ancestorOrSelf, Step, PlainStep, Condition, unconditional, conditionPaths, LocationPath, expand}
 use Rattle.schema_spec.specs.Names.{Name, Names, element}
 use Rattle.schema_spec.specs.Schemas.{Schema}
 use Rattle.schema_spec.specs.Types.{typesOf, holds, Below}
 use Rattle.projection_spec.specs.Inference.Types.{Env, env, cutTo, infer}
-use Rattle.projection_spec.specs.Inference.Needed.{keepsAll, keepsName, atRoot}
+use Rattle.projection_spec.specs.Inference.Needed.{keepsAll, keepsName, atStart}
 
 -- two neighbours of a walk
 pub data Linked (s : Schema) : Axis → Name → Name → Type 0 where
@@ -36,39 +36,39 @@ module _ {C : Type 0} (s : Schema) (keeps : Names → C → Name → Bool) (Want
         → Walk ps (infer (typesOf s) keeps p e) (b ∷ w) → Walk (p ∷ ps) e (a ∷ b ∷ w)
 
   -- what a complete walk needs
-  pub data Asks : List (Step ℕ C) → Env → Names → Name → Type 0 where
+  pub data NeededOnWalk : List (Step ℕ C) → Env → Names → Name → Type 0 where
     -- "every name on a complete walk"
-    own : {ps : List (Step ℕ C)} {e : Env} {n : Name} {w : Names} → Asks ps e (n ∷ w) n
+    own : {ps : List (Step ℕ C)} {e : Env} {n : Name} {w : Names} → NeededOnWalk ps e (n ∷ w) n
     -- "every name below the one and above the next"
     between : {p : Step ℕ C} {ps : List (Step ℕ C)} {e : Env} {a b n : Name} {w : Names} → Passing (p .axis) → Below s a n → Below s n b
-        → Asks (p ∷ ps) e (a ∷ b ∷ w) n
+        → NeededOnWalk (p ∷ ps) e (a ∷ b ∷ w) n
     -- "for each name on a complete walk that carries a condition, the same for every alternative from it"
     conditional : {p : Step ℕ C} {ps : List (Step ℕ C)} {e : Env} {a b n : Name} {w : Names}
-        → Wants (cutTo (typesOf s) (b ∷ []) (infer (typesOf s) keeps p e .context)) (p .condition) b n → Asks (p ∷ ps) e (a ∷ b ∷ w) n
-    later : {p : Step ℕ C} {ps : List (Step ℕ C)} {e : Env} {a b n : Name} {w : Names} → Asks ps (infer (typesOf s) keeps p e) (b ∷ w) n
-        → Asks (p ∷ ps) e (a ∷ b ∷ w) n
+        → Wants (cutTo (typesOf s) (b ∷ []) (infer (typesOf s) keeps p e .context)) (p .condition) b n → NeededOnWalk (p ∷ ps) e (a ∷ b ∷ w) n
+    later : {p : Step ℕ C} {ps : List (Step ℕ C)} {e : Env} {a b n : Name} {w : Names} → NeededOnWalk ps (infer (typesOf s) keeps p e) (b ∷ w) n
+        → NeededOnWalk (p ∷ ps) e (a ∷ b ∷ w) n
 
   pub record Needs (ps : List (Step ℕ C)) (e : Env) (n : Name) : Type 0 where
     pub walk : Names
     pub complete : Walk ps e walk
-    pub asks : Asks ps e walk n
+    pub onWalk : NeededOnWalk ps e walk n
 
 -- steps without brackets
 pub data WantsNothing : Names → Unit {0} → Name → Name → Type 0 where
 
 -- the names of a condition from a name
 pub data WantsNames (s : Schema) (k : Names) (c : Condition ℕ) (a n : Name) : Type 0 where
-  by-alternative : (q : List (PlainStep ℕ)) → List·Memᴰ q c → Needs s keepsAll WantsNothing (expand q) (env (a ∷ []) k) n → WantsNames s k c a n
+  by-alternative : (q : List (PlainStep ℕ)) → List·Memᴰ q (conditionPaths c) → Needs s keepsAll WantsNothing (expand tt q) (env (a ∷ []) k) n → WantsNames s k c a n
 
 -- the names that a path needs before the last filter
 abbrev pub PathNeeds : Schema → LocationPath ℕ → Name → Type 0
-PathNeeds s p n = Needs s (keepsName (typesOf s)) (WantsNames s) (expand p) (atRoot (typesOf s)) n
+PathNeeds s p n = Needs s (keepsName (typesOf s)) (WantsNames s) (expand unconditional (p .steps)) (atStart (typesOf s) (p .start)) n
 
 -- "names that the root reaches by holdings inside this set"
-pub data Reached (s : Schema) (In : Name → Type 0) : Name → Type 0 where
-  root : In (element 0) → Reached s In (element 0)
-  next : {a b : Name} → Reached s In a → T (holds s a b) → In b → Reached s In b
+pub data ReachedFromRoot (s : Schema) (In : Name → Type 0) : Name → Type 0 where
+  root : In (element 0) → ReachedFromRoot s In (element 0)
+  next : {a b : Name} → ReachedFromRoot s In a → T (holds s a b) → In b → ReachedFromRoot s In b
 
 -- what a bundle needs: "the union"
 pub data BundleNeeds (s : Schema) (ps : List (LocationPath ℕ)) (n : Name) : Type 0 where
-  by-path : (p : LocationPath ℕ) → List·Memᴰ p ps → Reached s (PathNeeds s p) n → BundleNeeds s ps n
+  by-path : (p : LocationPath ℕ) → List·Memᴰ p ps → ReachedFromRoot s (PathNeeds s p) n → BundleNeeds s ps n

@@ -14,7 +14,7 @@ use Rattle.path_spec.specs.Selection.{Selected, selectRows}
 use Rattle.projection_spec.specs.Extracts.Conditions.{ExtractApplies, ExtractGives}
 use Rattle.projection_spec.specs.Extracts.Cut.{cut}
 use Rattle.projection_spec.specs.Inference.Needed.{needed}
-use Rattle.projection_spec.specs.Library.Hosts.{Answer, answer, extractOf}
+use Rattle.projection_spec.specs.Library.Hosts.{HostAnswer, hostAnswer, extractOf}
 use Rattle.table_spec.specs.Columns.{Sizes, Columns, sizesOf, cellsFrom}
 use Rattle.projection_spec.specs.Library.Listing.{decimal, lineFeed, chain, header, refusedLine}
 use Rattle.projection_spec.specs.Library.Records.{TextRecord, recordOf}
@@ -23,7 +23,7 @@ use Rattle.schema_spec.specs.Records.{SchemaProducible}
 use Rattle.schema_spec.specs.Schemas.{Schema}
 use Rattle.schema_spec.specs.Types.{typesOf}
 use Rattle.table_spec.specs.Conditions.{WellFormedBeside}
-use Rattle.table_spec.specs.Nodes.{Node, numberOf, nodesOf}
+use Rattle.table_spec.specs.Nodes.{Node, nodeNumber, nodesOf}
 use Rattle.table_spec.specs.Rows.{Row, rowsOf}
 use Rattle.text_spec.specs.Limits.{maxSchemaBytes, maxBundleBytes, maxJournalBytes, maxPaths, listingJournalBytes, listingRows}
 use Rattle.text_spec.specs.Lists.{bytes, filterBy}
@@ -61,12 +61,12 @@ pub record TableHanded (s : Schema) (c : Columns) (count : ℕ) (lent : List ℕ
   pub wellFormed : WellFormedBeside (typesOf s) lent rows
 
 -- 18. "A lent output has fewer cells than the answer takes."
-abbrev pub TooFewCells : Sizes → ℕ → Answer → Type 0
+abbrev pub TooFewCells : Sizes → ℕ → HostAnswer → Type 0
 TooFewCells z size a = (z .numbers < length (a .rows)) ⊎ (size < length (a .items))
 
 -- "Number 1 is tested before any text. Texts are then judged whole in turn: schema, bundle, journal or extract; 18 is last."
 -- Making an extract:
-pub data Makes (schema bundle journal : List ℕ) (z : Sizes) (size : ℕ) : Outcome Answer → Type 0 where
+pub data Makes (schema bundle journal : List ℕ) (z : Sizes) (size : ℕ) : Outcome HostAnswer → Type 0 where
   by-1 : (EqualSizes z → ⊥) → Makes schema bundle journal z size (refused (at badRecord 0))
   by-schema : {r : Reason} {k : ℕ} → EqualSizes z → IsFirst (SchemaApplies schema) r k → Makes schema bundle journal z size (refused (at r k))
   by-bundle : {s : Schema} {r : Reason} {k : ℕ} → EqualSizes z → SchemaTaken schema s → IsFirst (BundleApplies s bundle) r k
@@ -74,11 +74,11 @@ pub data Makes (schema bundle journal : List ℕ) (z : Sizes) (size : ℕ) : Out
   by-journal : {s : Schema} {ps : List (LocationPath ℕ)} {r : Reason} {k : ℕ} → EqualSizes z → SchemaTaken schema s → BundleTaken s bundle ps
       → IsFirst (JournalApplies maxJournalBytes s journal) r k → Makes schema bundle journal z size (refused (at r k))
   by-18 : {s : Schema} {ps : List (LocationPath ℕ)} {rows : List Row} → EqualSizes z → SchemaTaken schema s → BundleTaken s bundle ps
-      → JournalTaken maxJournalBytes s journal rows → TooFewCells z size (answer rows (extractOf s ps journal rows))
+      → JournalTaken maxJournalBytes s journal rows → TooFewCells z size (hostAnswer rows (extractOf s ps journal rows))
       → Makes schema bundle journal z size (refused (at tooFewCells 0))
   makes : {s : Schema} {ps : List (LocationPath ℕ)} {rows : List Row} → EqualSizes z → SchemaTaken schema s → BundleTaken s bundle ps
-      → JournalTaken maxJournalBytes s journal rows → (TooFewCells z size (answer rows (extractOf s ps journal rows)) → ⊥)
-      → Makes schema bundle journal z size (accepted (answer rows (extractOf s ps journal rows)))
+      → JournalTaken maxJournalBytes s journal rows → (TooFewCells z size (hostAnswer rows (extractOf s ps journal rows)) → ⊥)
+      → Makes schema bundle journal z size (accepted (hostAnswer rows (extractOf s ps journal rows)))
 
 -- a path number out of range is refused by 1
 pub data OutOfRange (schema bundle : List ℕ) (path : ℕ) : Type 0 where
@@ -86,7 +86,7 @@ pub data OutOfRange (schema bundle : List ℕ) (path : ℕ) : Type 0 where
   not-here : {s : Schema} {ps : List (LocationPath ℕ)} → SchemaTaken schema s → BundleTaken s bundle ps → length ps ≤ path → OutOfRange schema bundle path
 
 -- Selecting from an extract:
-pub data Selects (schema bundle : List ℕ) (path : ℕ) (extract : List ℕ) (z : Sizes) (size : ℕ) : Outcome Answer → Type 0 where
+pub data Selects (schema bundle : List ℕ) (path : ℕ) (extract : List ℕ) (z : Sizes) (size : ℕ) : Outcome HostAnswer → Type 0 where
   by-1 : ((EqualSizes z → ⊥) ⊎ OutOfRange schema bundle path) → Selects schema bundle path extract z size (refused (at badRecord 0))
   by-schema : {r : Reason} {k : ℕ} → EqualSizes z → (OutOfRange schema bundle path → ⊥) → IsFirst (SchemaApplies schema) r k
       → Selects schema bundle path extract z size (refused (at r k))
@@ -95,11 +95,11 @@ pub data Selects (schema bundle : List ℕ) (path : ℕ) (extract : List ℕ) (z
   by-extract : {s : Schema} {ps : List (LocationPath ℕ)} {p : LocationPath ℕ} {r : Reason} {k : ℕ} → EqualSizes z → SchemaTaken schema s → BundleTaken s bundle ps
       → getElem? ps path ≡ some p → IsFirst (ExtractApplies (typesOf s) extract) r k → Selects schema bundle path extract z size (refused (at r k))
   by-18 : {s : Schema} {ps : List (LocationPath ℕ)} {p : LocationPath ℕ} {rows : List Row} → EqualSizes z → SchemaTaken schema s → BundleTaken s bundle ps
-      → getElem? ps path ≡ some p → ExtractTaken s extract rows → TooFewCells z size (answer rows (selectRows extract rows p))
+      → getElem? ps path ≡ some p → ExtractTaken s extract rows → TooFewCells z size (hostAnswer rows (selectRows extract rows p))
       → Selects schema bundle path extract z size (refused (at tooFewCells 0))
   selects : {s : Schema} {ps : List (LocationPath ℕ)} {p : LocationPath ℕ} {rows : List Row} → EqualSizes z → SchemaTaken schema s → BundleTaken s bundle ps
-      → getElem? ps path ≡ some p → ExtractTaken s extract rows → (TooFewCells z size (answer rows (selectRows extract rows p)) → ⊥)
-      → Selects schema bundle path extract z size (accepted (answer rows (selectRows extract rows p)))
+      → getElem? ps path ≡ some p → ExtractTaken s extract rows → (TooFewCells z size (hostAnswer rows (selectRows extract rows p)) → ⊥)
+      → Selects schema bundle path extract z size (accepted (hostAnswer rows (selectRows extract rows p)))
 
 -- the nodes that some path of the bundle selects, in document order and once each
 pub record Chosen (doc : List Node) (ps : List (LocationPath ℕ)) (ys : List Node) : Type 0 where
@@ -122,7 +122,7 @@ pub record FirstPath (doc : List Node) (ps : List (LocationPath ℕ)) (y : Node)
 pub data Lines (s : Schema) (doc : List Node) (ps : List (LocationPath ℕ)) : List Node → List ℕ → Type 0 where
   no-lines : Lines s doc ps [] []
   next-line : {y : Node} {ys : List Node} {rest : List ℕ} (place : ℕ) → FirstPath doc ps y place → Lines s doc ps ys rest
-      → Lines s doc ps (y ∷ ys) ((decimal (numberOf y) ++ (bytes " " ++ (decimal place ++ (bytes " " ++ (chain s y ++ lineFeed))))) ++ rest)
+      → Lines s doc ps (y ∷ ys) ((decimal (nodeNumber y) ++ (bytes " " ++ (decimal place ++ (bytes " " ++ (chain s y ++ lineFeed))))) ++ rest)
 
 -- `listing`: the first refused file alone; 18 only where all three are accepted; otherwise the header with the lengths of the three lists
 pub data Prints (schema bundle journal : List ℕ) : List ℕ → Type 0 where

@@ -14,11 +14,11 @@ use Rattle.schema_spec.specs.Names.{Name, element, text}
 use Rattle.schema_spec.specs.Reading.{readSchema}
 use Rattle.schema_spec.specs.Schemas.{Schema, nameAt}
 use Rattle.schema_spec.specs.Types.{typesOf}
-use Rattle.table_spec.specs.Nodes.{Node, top, under, numberOf, nodesOf}
+use Rattle.table_spec.specs.Nodes.{Node, top, under, nodeNumber, nodesOf}
 use Rattle.table_spec.specs.Rows.{Row}
 use Rattle.text_spec.specs.Limits.{listingJournalBytes, listingRows}
 use Rattle.text_spec.specs.Lists.{bytes, anyOf, filterBy, gather}
-use Rattle.text_spec.specs.Refusals.{Refusal, Outcome, accepted, refused, judged, andThen, numberOf as refusalNumber, at, given, tooFewCells}
+use Rattle.text_spec.specs.Refusals.{Refusal, Outcome, accepted, refused, judged, andThen, numberOf, at, given, tooFewCells}
 use Rattle.projection_spec.specs.Inference.Needed.{needed}
 
 -- a number in decimal; 20 digits are enough for 64 bits
@@ -35,31 +35,31 @@ abbrev pub lineFeed : List ℕ
 lineFeed = bytes "\n"
 
 -- what is listed: the schema, the nodes of the journal, the rows kept, and the numbers that each path selects
-pub record Listed : Type 0 where
+pub record ListingData : Type 0 where
   pub schema : Schema
   pub nodes : List Node
   pub kept : ℕ
   pub selections : List (List ℕ)
 
-abbrev pub listed : Schema → List (LocationPath ℕ) → List ℕ → List Row → Listed
-listed s ps journal rows =
+abbrev pub listingData : Schema → List (LocationPath ℕ) → List ℕ → List Row → ListingData
+listingData s ps journal rows =
     let doc = nodesOf journal rows in
     record { schema = s; nodes = doc; kept = length (cut (needed (typesOf s) ps) rows); selections = map (select doc) ps }
 
 -- "It lends 4,096 rows for the whole journal, reads at most 32,768 bytes of journal"
-unfoldable pub judgeFiles : List ℕ → List ℕ → List ℕ → Outcome Listed
+unfoldable pub judgeFiles : List ℕ → List ℕ → List ℕ → Outcome ListingData
 judgeFiles schema bundle journal =
     andThen (readSchema schema) (λ s.
     andThen (readBundle s bundle) (λ ps.
     andThen (readJournal listingJournalBytes s journal) (λ rows.
-    judged (given (tooSmall listingRows rows) (at tooFewCells 0)) (listed s ps journal rows))))
+    judged (given (tooSmall listingRows rows) (at tooFewCells 0)) (listingData s ps journal rows))))
 
 abbrev pub isIn : ℕ → List ℕ → Bool
 isIn k ks = anyOf (eqb k) ks
 
 -- the nodes that some path selects, each once, in document order
-abbrev pub selectedNodes : Listed → List Node
-selectedNodes l = filterBy (λ y. anyOf (isIn (numberOf y)) (l .selections)) (l .nodes)
+abbrev pub selectedNodes : ListingData → List Node
+selectedNodes l = filterBy (λ y. anyOf (isIn (nodeNumber y)) (l .selections)) (l .nodes)
 
 -- "place in the bundle (from 1) of the first path that selects it"
 abbrev pub firstSelecting : ℕ → ℕ → List (List ℕ) → ℕ
@@ -76,24 +76,24 @@ chain s (top k n) = bytes "/" ++ tag s n
 chain s (under k n w p) = chain s p ++ (bytes "/" ++ tag s n)
 
 -- "number, place in the bundle .., and the chain"
-unfoldable pub lineOf : Listed → Node → List ℕ
-lineOf l y =
-    decimal (numberOf y) ++ (bytes " " ++ (decimal (firstSelecting 1 (numberOf y) (l .selections)) ++ (bytes " " ++ (chain (l .schema) y ++ lineFeed))))
+unfoldable pub listingLine : ListingData → Node → List ℕ
+listingLine l y =
+    decimal (nodeNumber y) ++ (bytes " " ++ (decimal (firstSelecting 1 (nodeNumber y) (l .selections)) ++ (bytes " " ++ (chain (l .schema) y ++ lineFeed))))
 
 -- "a header: nodes selected, rows kept, rows in all"
 abbrev pub header : ℕ → ℕ → ℕ → List ℕ
 header chosen kept rows = bytes "selected " ++ (decimal chosen ++ (bytes " kept " ++ (decimal kept ++ (bytes " of " ++ (decimal rows ++ lineFeed)))))
 
-unfoldable pub headerOf : Listed → List ℕ
+unfoldable pub headerOf : ListingData → List ℕ
 headerOf l = header (length (selectedNodes l)) (l .kept) (length (l .nodes))
 
 -- "the first file refused prints `refused N at P` alone"
 unfoldable pub refusedLine : Refusal → List ℕ
-refusedLine f = bytes "refused " ++ (decimal (refusalNumber (f .reason)) ++ (bytes " at " ++ (decimal (f .place) ++ lineFeed)))
+refusedLine f = bytes "refused " ++ (decimal (numberOf (f .reason)) ++ (bytes " at " ++ (decimal (f .place) ++ lineFeed)))
 
-abbrev pub printed : Outcome Listed → List ℕ
+abbrev pub printed : Outcome ListingData → List ℕ
 printed (refused f) = refusedLine f
-printed (accepted l) = headerOf l ++ gather (lineOf l) (selectedNodes l)
+printed (accepted l) = headerOf l ++ gather (listingLine l) (selectedNodes l)
 
 unfoldable pub listing : List ℕ → List ℕ → List ℕ → List ℕ
 listing schema bundle journal = printed (judgeFiles schema bundle journal)

@@ -7,31 +7,18 @@ use native.Mathlib.Omega.{arith}
 use borrow.Author.Needs.{needs}
 use Rattle.schema_elements.proofs.element_entry.Statement.{statement}
 use Rattle.schema_elements.proofs.element_entry.Tie as tie
-use Rattle.schema_elements.proofs.element_entry.Reads as reads
-use Rattle.schema_elements.proofs.element_entry.Lts as lts
-use Rattle.declarations.proofs.declaration.Reads as declaration-reads
-use Rattle.declarations.proofs.skip.Reads as skip-reads
-use Rattle.names.proofs.NameSet.empty.Reads as empty-reads
-use Rattle.schema_elements.proofs.copy_elements.Reads as copy-elements-reads
-use Rattle.schema_elements.proofs.entry_of.Reads as entry-of-reads
-use Rattle.schema_elements.proofs.held.Reads as held-reads
-use Rattle.schema_elements.proofs.kind_of.Reads as kind-of-reads
 
--- src/lib.rt:133:44
 slice-aggregate-declaration : tie.Need-slice-aggregate-declaration
 slice-aggregate-declaration c = search needs
 
--- src/lib.rt:133:11
 declaration-requires : tie.Need-declaration-requires
 declaration-requires c κs =
     let start = c .before .before .before .before .before .before in
     (goes-on (start .pre .0) (start .pre .1), omega arith, start .pre .0 .no-blank)
 
--- src/lib.rt:134:34
 enum-known-p : tie.Need-enum-known-p
 enum-known-p c = search needs
 
--- src/lib.rt:138:21
 add-m : tie.Need-add-m
 add-m c =
     let at-p = c .before in
@@ -41,7 +28,6 @@ add-m c =
     let within = entry-within (start .pre .0) read (at-p .p .given .1) (start .pre .1) in
     search needs
 
--- src/lib.rt:139:25
 mul-model : tie.Need-mul-model
 mul-model c =
     let at-p = c .before in
@@ -51,15 +37,12 @@ mul-model c =
     let within = entry-within (start .pre .0) read (at-p .p .given .1) (start .pre .1) in
     search needs
 
--- src/lib.rt:139:25
 sub-model : tie.Need-sub-model
 sub-model c = search needs
 
--- src/lib.rt:139:25
 part-model-start : tie.Need-part-model-start
 part-model-start c = search needs
 
--- src/lib.rt:139:25
 part-model-end : tie.Need-part-model-end
 part-model-end c =
     let at-p = c .before in
@@ -69,7 +52,6 @@ part-model-end c =
     let within = entry-within (start .pre .0) read (at-p .p .given .1) (start .pre .1) in
     search needs
 
--- src/lib.rt:140:13
 copy-elements-requires : tie.Need-copy-elements-requires
 copy-elements-requires c κs =
     let at-p = c .before .before .before in
@@ -81,15 +63,12 @@ copy-elements-requires c κs =
     let long = ap length (start .pre .2) in
     (entry-small (start .pre .0) read (at-p .p .given .1) (start .pre .1) _ refl, omega arith)
 
--- src/lib.rt:141:33
 kind-of-requires : tie.Need-kind-of-requires
 kind-of-requires c κs = search needs
 
--- src/lib.rt:141:17
 held-requires : tie.Need-held-requires
 held-requires c κs = search needs
 
--- src/lib.rt:142:22
 skip-requires : tie.Need-skip-requires
 skip-requires c κs =
     let at-p = c .before .before .before .before .before .before .before .before in
@@ -98,31 +77,24 @@ skip-requires c κs =
     let read = at-declaration .declaration .ensures in
     entry-high (start .pre .0) read (at-p .p .given .1)
 
--- src/lib.rt:142:13
 entry-of-requires : tie.Need-entry-of-requires
 entry-of-requires c κs = search needs
 
--- src/lib.rt:145:53
 enum-told : tie.Need-enum-told
 enum-told c = search needs
 
--- src/lib.rt:145:72
 empty-requires : tie.Need-empty-requires
 empty-requires c κs = search needs
 
--- src/lib.rt:145:40
 entry-of-requires-2 : tie.Need-entry-of-requires-2
 entry-of-requires-2 c κs = search needs
 
--- src/lib.rt:119:1
 same-length : tie.Need-same-length
 same-length c = search needs
 
--- src/lib.rt:119:1
 same-length-2 : tie.Need-same-length-2
 same-length-2 c = search needs
 
--- src/lib.rt:119:1
 returns : tie.Need-returns
 returns c =
     let at-p = c .before .before .before .before .before .before .before .before .before .before in
@@ -132,11 +104,9 @@ returns c =
     entry-made (start .pre .0) read (at-p .p .given .1) (start .pre .1) _ refl (start .pre .3) (start .pre .2) (c .before .before .before .before .before .before .copy-elements .ensures)
     (c .before .before .before .kind-of .ensures) (c .before .before .held .ensures) (c .before .skip .ensures) (c .entry-of .ensures)
 
--- src/lib.rt:119:1
 same-length-3 : tie.Need-same-length-3
 same-length-3 c = search needs
 
--- src/lib.rt:119:1
 returns-2 : tie.Need-returns-2
 returns-2 c =
     let at-declaration = c .before .before .before .before .before .before .before in

@@ -1,0 +1,3 @@
+pub mod Automata
+pub mod Indicators
+pub mod Particles

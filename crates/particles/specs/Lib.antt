@@ -1,0 +1,3 @@
+pub mod Automata
+pub mod Readings
+pub mod ReadingLaws
