@@ -1,7 +1,3 @@
-pub mod Holding
-pub mod Resolving
-pub mod Windows
-pub mod Reaching
-pub mod Rowing
-pub mod Filling
+pub mod LentCells
+pub mod Columns
 pub mod Whole

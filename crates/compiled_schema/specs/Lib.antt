@@ -1,3 +1,2 @@
-pub mod Tables
-pub mod Rows
-pub mod Reading
+pub mod Compiled
+pub mod Automata

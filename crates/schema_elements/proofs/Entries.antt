@@ -22,6 +22,7 @@ use Rattle.names.specs.Sets.{member}
 use Rattle.names.specs.declared.NameSet.{NameSet}
 use Rattle.schema_elements.proofs.Holding.{isHeld-holds}
 use Rattle.schema_elements.proofs.Reading.{index, departs-not, model-within, model-cells, model-small, cell-small, element-small, content-here, model-size, uses-few, at-next}
+use Rattle.schema_elements.specs.EntryLaws.{clear-bit}
 use Rattle.schema_elements.specs.Entries.{kindOf, EntryOf, kindIn, isHeld, entryWith, withCells}
 use Rattle.schema_elements.specs.Reading.{AtDeclaration, EntryMade}
 use Rattle.schema_elements.specs.declared.ElementEntry.{ElementEntry}
@@ -38,14 +39,6 @@ use Rattle.text_spec.specs.Limits.{maxModelNames}
 use Rattle.words.specs.Bits.{bit-none}
 
 -- ---- cells
-cell-clear : (n j : ℕ) → _≡_ {A = ℕ} (getD (replicate n 0) j 0) 0
-cell-clear zero j = refl
-cell-clear (suc n) zero = refl
-cell-clear (suc n) (suc j) = cell-clear n j
-
-clear-bit : (n : ℕ) {cells : List ℕ} → cells ≡ replicate n 0 → (i j : ℕ) → hasBit (getD cells j 0) i ≡ false
-clear-bit n e i j = ap (λ (t : List ℕ). hasBit (getD t j 0) i) e ∙ ap (λ (w : ℕ). hasBit w i) (cell-clear n j) ∙ bit-none i
-
 -- cells that were 0, after the first are set
 set-padded : (n : ℕ) (cells vs : List ℕ) → cells ≡ replicate n 0 → length vs ≤ n → sets cells 0 vs ≡ padded n vs
 set-padded n cells vs e h =

@@ -8,12 +8,13 @@ use native.Mathlib.Numerals.{add-one}
 use native.Mathlib.Omega.{arith}
 use borrow.Author.Tests.{ltb-true, ltb-false}
 use lib.Dec.{ltb}
-use lib.ListN.{length, take, drop, getD, getElem?, length-append, length-map, length-reverse, length-take, take-append-drop}
+use lib.ListN.{length, take, drop, getD, getElem?, length-append, length-map, length-reverse, take-append-drop}
 use lib.Seq.{take-at, drop-at, take-append-le, drop-append-le}
 use Rattle.declarations.specs.DeclarationLaws.{between-skipped}
 use Rattle.scanning.specs.Outcomes.{Skipped}
 use Rattle.schema.specs.Judging.{usedIn}
 use Rattle.schema_elements.specs.Reading.{AtDeclaration}
+use Rattle.schema_elements.specs.ReadingLaws.{uses-enough}
 use Rattle.schema_laws.specs.Accepted.{Spelt, accepted-spelt, accepted-length, accepted-closed, accepted-models, indexIn, usesIn-rename}
 use Rattle.schema_laws.specs.Runs.{run-extends}
 use Rattle.schema_spec.specs.Declarations.{Use, Declaration}
@@ -100,12 +101,6 @@ module _ {text uses : List ℕ} {d n i : ℕ} (A : AtDeclaration text uses d n i
     abbrev total : ℕ
     total = length (usedIn (schemaIn text))
 
-    enough : total ≤ length uses
-    enough =
-        let a = length-take total uses in
-        let b = ap length (A .given .elements) in
-        omega arith
-
     inside : n + length model ≤ total
     inside =
         let a = ap length (used-at (schemaIn text) d l) in
@@ -116,7 +111,7 @@ module _ {text uses : List ℕ} {d n i : ℕ} (A : AtDeclaration text uses d n i
 
     pub model-within : n + length model ≤ length uses
     model-within =
-        let a = enough in
+        let a = uses-enough (A .given) in
         let b = inside in
         omega arith
 

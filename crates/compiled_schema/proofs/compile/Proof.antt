@@ -1,27 +1,46 @@
--- `tables` meets its contract. Assumes nothing.
+-- `compile` meets its contract: judged, then entry by entry, and what lies below by what each holds.
 use mathlib.Core.Path.{sym, subst}
+use Rattle.compiled_schema.proofs.Whole.{schema-refused, schema-count, schema-with, schema-compiled}
+use Rattle.compiled_schema.specs.Compiled.{CompiledOf}
 use Rattle.schema_spec.specs.Schemas.{Schema}
-use Rattle.schema_tables.proofs.Whole.{read-accepted, read-refused}
-use Rattle.schema_tables.specs.Tables.{TablesOf}
+use native.Mathlib.Omega.{arith}
 use borrow.Author.Needs.{needs}
-use Rattle.schema_tables.proofs.tables.Statement.{statement}
-use Rattle.schema_tables.proofs.tables.Tie as tie
+use Rattle.compiled_schema.proofs.compile.Statement.{statement}
+use Rattle.compiled_schema.proofs.compile.Tie as tie
 
-accepted-tables-requires : tie.Need-accepted-tables-requires
-accepted-tables-requires c κs = read-accepted (c .before .before .before .before .args .text .now) (c .before .before .judge-schema .ensures) (c .enum-told .given .1)
+all-entries-requires : tie.Need-all-entries-requires
+all-entries-requires c κs =
+    let at-count = c .before .before in
+    let at-judge = at-count .before .before .before .before in
+    let text = at-judge .before .before .before .before .args .text .now in
+    (schema-with text (at-judge .judge-into .ensures) (at-count .count .given .1), schema-count text (at-judge .judge-into .ensures) (at-count .count .given .1))
+
+returns : tie.Need-returns
+returns c =
+    let at-count = c .before .before .before .before .before in
+    let at-judge = at-count .before .before .before .before in
+    let text = at-judge .before .before .before .before .args .text .now in
+    let made = c .before .before .all-entries in
+    schema-compiled text (at-judge .judge-into .ensures) (at-count .count .given .1) (made .result) (c .below .result) (made .ensures) (c .below .ensures)
 
 returns-2 : tie.Need-returns-2
-returns-2 c = let text = c .before .before .before .before .before .args .text .now in
-    subst (λ (s : Schema). TablesOf text s (c .empty .result)) (sym (read-refused text (c .before .before .before .judge-schema .ensures) (c .before .enum-told2 .given .1))) (c .empty .ensures text)
+returns-2 c =
+    let at-judge = c .before .before .before .before .before in
+    let text = at-judge .before .before .before .before .args .text .now in
+    subst (λ (s : Schema). CompiledOf text s (c .empty .result)) (sym (schema-refused text (at-judge .judge-into .ensures) (c .before .enum-told .given .1))) (c .empty .ensures text)
 
-pub tables-spec : {M : Type 1} → statement M
-tables-spec =
+pub compile-spec : {M : Type 1} → statement M
+compile-spec =
     tie.close
     (tie.spec
-    (λ c κs. search needs)
     (λ c. search needs)
-    accepted-tables-requires
     (λ c. search needs)
     (λ c κs. search needs)
     (λ c. search needs)
+    (λ c. search needs)
+    all-entries-requires
+    (λ c κs. search needs)
+    (λ c. search needs)
+    (λ c κs. search needs)
+    returns
     returns-2)
