@@ -1,4 +1,4 @@
--- A text of the input lies within it, past the place where it was sought. Assumes nothing.
+-- A text of the input lies within it, past the place where it was sought.
 use mathlib.Core.Path.{_≡_, subst}
 use Prim.Native.Nat.{ℕ, _≤_, _<_}
 use Rattle.schema_cases.specs.declared.Next.{Next}

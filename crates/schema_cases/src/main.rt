@@ -1,10 +1,12 @@
 // Reads schema texts from standard input, each after its length in two bytes, and writes each one's outcome. Where 128 is added to the first
-// byte it also writes what the text's tables say: of each element its kind, the names that it holds and those below it, as 64 bits, and for a
-// children model which lists of at most two children fit it.
+// byte it also writes what the compiled schema says: of each element its kind, the names that it holds and those below it, as 64 bits, and for
+// a children model which lists of at most two children fit it.
 ghost use Prim.Native.Nat.{_<_};
 ghost use lib.ListN.{length};
 ghost use Rattle.schema_cases.specs.Cases.{Within};
 use models::Ends;
+use models::MAX_POSITIONS;
+use names::MAX_ELEMENTS;
 use names::NameSet;
 
 // The children that are tried are the first elements, declared or not.
@@ -22,18 +24,18 @@ fn show_pairs(ends: Ends, elements: &[u8], predecessors: &[u64], first: u8) {
     let mut second: u8 = 0;
     while second < TRIED {
         let children = [first, second];
-        show_fit(models::fits(ends, elements, predecessors, &children));
+        show_fit(fitting::fits(ends, elements, predecessors, &children));
         second += 1;
     }
 }
 
 fn show_fits(ends: Ends, elements: &[u8], predecessors: &[u64]) {
     let none = [0u8; 1];
-    show_fit(models::fits(ends, elements, predecessors, &none[..0]));
+    show_fit(fitting::fits(ends, elements, predecessors, &none[..0]));
     let mut first: u8 = 0;
     while first < TRIED {
         let child = [first];
-        show_fit(models::fits(ends, elements, predecessors, &child));
+        show_fit(fitting::fits(ends, elements, predecessors, &child));
         show_pairs(ends, elements, predecessors, first);
         first += 1;
     }
@@ -48,33 +50,34 @@ fn show_element(kind: u8, holds: NameSet, below: NameSet) {
     io::write_all(1, b" ");
 }
 
-// A line for each element.
-fn show_tables(text: &[u8]) {
-    let t = schema_tables::tables(text);
-    let count = t.count;
-    let below = t.below;
-    let rows = t.rows;
-    let kinds = rows.kinds;
-    let firsts = rows.firsts;
-    let lasts = rows.lasts;
-    let nullables = rows.nullables;
-    let elements = rows.elements;
-    let predecessors = rows.predecessors;
-    let holds = rows.holds;
+// A line for each element. A step over a model takes the cells of its own positions.
+fn show_compiled(text: &[u8]) {
+    let c = compiled_schema::compile(text);
+    let count = c.count;
+    let below = c.below;
+    let entries = c.entries;
+    let kinds = entries.kinds;
+    let sizes = entries.sizes;
+    let firsts = entries.firsts;
+    let lasts = entries.lasts;
+    let nullables = entries.nullables;
+    let elements = entries.elements;
+    let predecessors = entries.predecessors;
+    let holds = entries.holds;
     let mut a: usize = 0;
-    while a < 32 {
+    while a < MAX_ELEMENTS {
         if a < count {
             let held = holds[a];
             let beneath = below[a];
             show_element(kinds[a], held, beneath);
-            if kinds[a] == schema_tables::CHILDREN {
+            if kinds[a] == schema_elements::CHILDREN {
                 let ends = Ends {
                     first: firsts[a],
                     last: lasts[a],
                     nullable: nullables[a],
                 };
-                let from = 64 * a;
-                let to = from + 64;
+                let from = MAX_POSITIONS * a;
+                let to = from + sizes[a];
                 show_fits(ends, &elements[from..to], &predecessors[from..to]);
             }
             io::write_all(1, b"\n");
@@ -85,9 +88,9 @@ fn show_tables(text: &[u8]) {
 
 fn show(text: &[u8]) {
     let read = schema_reader::read_schema(text);
-    let answer = read.answer;
-    match answer {
-        schema::Answer::Accepted(n) => {
+    let judgement = read.judgement;
+    match judgement {
+        schema::Judgement::Accepted(n) => {
             let record = read.schema;
             if !schema_reader::is_schema_record(record) {
                 io::write_all(1, b"no record: ");
@@ -95,7 +98,7 @@ fn show(text: &[u8]) {
             io::write_all(1, b"ok ");
             io::print_decimal(1, n as u64);
         }
-        schema::Answer::Refused(kind, place) => {
+        schema::Judgement::Refused(kind, place) => {
             io::write_all(1, b"refused ");
             io::print_decimal(1, kind.number() as u64);
             io::write_all(1, b" at ");
@@ -108,7 +111,7 @@ fn show(text: &[u8]) {
 fn show_case(high: u8, text: &[u8]) {
     show(text);
     if 128 <= high {
-        show_tables(text);
+        show_compiled(text);
     }
 }
 

@@ -1,4 +1,4 @@
--- Laws of the record that reading a text hands back. Assumes nothing.
+-- Laws of the record that reading a text hands back.
 use mathlib.Core.Bool.{_||_}
 use mathlib.Core.List.{List, [], _++_}
 use mathlib.Core.Path.{_≡_, refl, sym, ap, _∙_}
@@ -7,9 +7,9 @@ use native.Mathlib.Omega.{arith}
 use borrow.Author.Tests.{ltb-false}
 use lib.Dec.{ltb}
 use lib.ListN.{length, replicate}
-use Rattle.schema.specs.Answers.{meant, sized, JudgedAs}
-use Rattle.schema.specs.declared.Answer.{Answer}
-use Rattle.schema.specs.declared.Answer.the-variants.{Accepted, Refused}
+use Rattle.schema.specs.Judging.{outcomeOf, sized, JudgedAs}
+use Rattle.schema.specs.declared.Judgement.{Judgement}
+use Rattle.schema.specs.declared.Judgement.the-variants.{Accepted, Refused}
 use Rattle.schema.specs.declared.Schema.{Schema as Cells}
 use Rattle.schema_laws.specs.Accepted.{accepted-spelt}
 use Rattle.schema_reader.specs.Normal.{Normalized}
@@ -40,11 +40,11 @@ accepted-short text s e =
     let f = false-of (ltb maxSchemaBytes (length text)) (λ t. given-free (isEmpty text || ltb maxSchemaBytes (length text)) (at badLength 0) l (or-right (isEmpty text) (ltb maxSchemaBytes (length text)) t)) in
     ltb-false maxSchemaBytes (length text) f
 
-pub read-as : (text : List ℕ) (a : Answer) (s : Cells) → JudgedAs text a → Recorded text s → ReadAs text (record { answer = a; schema = handedBack a s })
+pub read-as : (text : List ℕ) (a : Judgement) (s : Cells) → JudgedAs text a → Recorded text s → ReadAs text (record { judgement = a; schema = handedBack a s })
 unfolding schemaRecord
 read-as text (Accepted n) s J R = go (readSchema text) refl (J .outcome)
   where
-    go : (o : Outcome Schema) → readSchema text ≡ o → meant (Accepted n) ≡ sized o → ReadAs text (record { answer = Accepted n; schema = s })
+    go : (o : Outcome Schema) → readSchema text ≡ o → outcomeOf (Accepted n) ≡ sized o → ReadAs text (record { judgement = Accepted n; schema = s })
     go (accepted t) e q =
         let h = accepted-short text t e in
         let again : schemaRecord text ≡ normal text = ap (λ (o : Outcome Schema). recordBy o (normal text)) e in
@@ -52,8 +52,8 @@ read-as text (Accepted n) s J R = go (readSchema text) refl (J .outcome)
     go (refused f) e q = never (cc)
 read-as text (Refused k p) s J R = go (readSchema text) refl (J .outcome)
   where
-    go : (o : Outcome Schema) → readSchema text ≡ o → meant (Refused k p) ≡ sized o → ReadAs text (record { answer = Refused k p; schema = handedBack (Refused k p) s })
+    go : (o : Outcome Schema) → readSchema text ≡ o → outcomeOf (Refused k p) ≡ sized o → ReadAs text (record { judgement = Refused k p; schema = handedBack (Refused k p) s })
     go (accepted t) e q = never (cc)
     go (refused f) e q =
         let none : schemaRecord text ≡ [] = ap (λ (o : Outcome Schema). recordBy o (normal text)) e in
-        record { outcome = J .outcome; bytes = sym (padded-zeros 8192) ∙ ap (padded maxSchemaBytes) (sym none); size = ap length (sym none) }
+        record { outcome = J .outcome; bytes = sym (padded-zeros maxSchemaBytes) ∙ ap (padded maxSchemaBytes) (sym none); size = ap length (sym none) }

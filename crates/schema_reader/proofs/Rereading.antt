@@ -1,4 +1,4 @@
--- Laws of refusal 1: a record passes if reading its text gives it again. Assumes nothing.
+-- Laws of refusal 1: a record passes if reading its text gives it again.
 use mathlib.Core.Bool.{Bool, true, false, _&&_}
 use mathlib.Core.List.{List}
 use mathlib.Core.Path.{_≡_, refl, sym, ap, ap₂, subst, _∙_}
@@ -9,9 +9,9 @@ use borrow.Author.Tests.{le-leb, lt-leb, eq-eqb, ne-eqb}
 use lib.Dec.{T, eqb, leb, leb→le}
 use lib.ListN.{length, drop, take, getD, drop-of-length-le}
 use lib.Seq.{drop-cons, length-take-le}
-use Rattle.schema.specs.Answers.{meant, sized}
+use Rattle.schema.specs.Judging.{outcomeOf, sized}
 use Rattle.schema_reader.specs.Records.{ReadAs, passesRecord}
-use Rattle.schema.specs.declared.Answer.the-variants.{Accepted, Refused}
+use Rattle.schema.specs.declared.Judgement.the-variants.{Accepted, Refused}
 use Rattle.schema.specs.declared.Kind.{Kind}
 use Rattle.schema_reader.specs.declared.SchemaRead.{SchemaRead}
 use Rattle.schema_spec.specs.Reading.{readSchema}
@@ -55,21 +55,21 @@ module _ (cells : List ℕ) (size : ℕ) where
 
   module _ {r : SchemaRead} (R : ReadAs (take size cells) r) where
     -- a text that is turned back is no record
-    pub record-refused : {k : Kind} {p : ℕ} → r .answer ≡ Refused k p → passesRecord cells size ≡ false
+    pub record-refused : {k : Kind} {p : ℕ} → r .judgement ≡ Refused k p → passesRecord cells size ≡ false
     unfolding isSchemaRecord
     record-refused {k} {p} e =
         and-false (leb size maxSchemaBytes && sameBytes cells (padded maxSchemaBytes (take size cells)))
-        (ap (λ (t : Bool). t && sameBytes (normal (take size cells)) (take size cells)) (go (readSchema (take size cells)) (sym (ap meant e) ∙ R .outcome)))
+        (ap (λ (t : Bool). t && sameBytes (normal (take size cells)) (take size cells)) (go (readSchema (take size cells)) (sym (ap outcomeOf e) ∙ R .outcome)))
       where
-        go : (o : Outcome Schema) → meant (Refused k p) ≡ sized o → isAccepted o ≡ false
+        go : (o : Outcome Schema) → outcomeOf (Refused k p) ≡ sized o → isAccepted o ≡ false
         go (accepted s) q = never (cc)
         go (refused f) q = refl
 
-    module _ {n : ℕ} (e : r .answer ≡ Accepted n) where
+    module _ {n : ℕ} (e : r .judgement ≡ Accepted n) where
       is-accepted : isAccepted (readSchema (take size cells)) ≡ true
-      is-accepted = go (readSchema (take size cells)) (sym (ap meant e) ∙ R .outcome)
+      is-accepted = go (readSchema (take size cells)) (sym (ap outcomeOf e) ∙ R .outcome)
         where
-          go : (o : Outcome Schema) → meant (Accepted n) ≡ sized o → isAccepted o ≡ true
+          go : (o : Outcome Schema) → outcomeOf (Accepted n) ≡ sized o → isAccepted o ≡ true
           go (accepted s) q = refl
           go (refused f) q = never (cc)
 

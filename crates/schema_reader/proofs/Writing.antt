@@ -1,4 +1,4 @@
--- Laws of writing the normal form a byte at a time. Assumes nothing.
+-- Laws of writing the normal form a byte at a time.
 use mathlib.Core.Bool.{Bool, true, false, cond}
 use mathlib.Core.List.{List, [], _∷_, _++_, append-nil, append-assoc}
 use mathlib.Core.Path.{_≡_, refl, sym, ap, _∙_}

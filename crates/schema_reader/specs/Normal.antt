@@ -1,4 +1,4 @@
--- The normal form written a byte at a time into lent cells. Assumes nothing.
+-- The normal form written a byte at a time into lent cells.
 use mathlib.Core.Bool.{Bool, cond}
 use mathlib.Core.List.{List, _∷_, _++_}
 use mathlib.Core.Path.{_≡_}

@@ -1,13 +1,13 @@
--- What the schema reader hands back, in the definition's terms. Assumes nothing.
+-- What the schema reader hands back, in the definition's terms.
 use mathlib.Core.Bool.{Bool, _&&_}
 use mathlib.Core.List.{List}
 use mathlib.Core.Path.{_≡_}
 use Prim.Native.Nat.{ℕ, _≤_}
 use lib.Dec.{leb}
 use lib.ListN.{length, take}
-use Rattle.schema.specs.Answers.{emptySchema, meant, sized}
-use Rattle.schema.specs.declared.Answer.{Answer}
-use Rattle.schema.specs.declared.Answer.the-variants.{Accepted, Refused}
+use Rattle.schema.specs.Judging.{emptySchema, outcomeOf, sized}
+use Rattle.schema.specs.declared.Judgement.{Judgement}
+use Rattle.schema.specs.declared.Judgement.the-variants.{Accepted, Refused}
 use Rattle.schema.specs.declared.Schema.{Schema}
 use Rattle.schema_reader.specs.declared.SchemaRead.{SchemaRead}
 use Rattle.schema_spec.specs.Reading.{readSchema}
@@ -22,13 +22,13 @@ pub record Recorded (text : List ℕ) (s : Schema) : Type 0 where
   pub size : length text ≤ maxSchemaBytes → s .len ≡ length (normal text)
 
 -- the schema that was read, or the empty one
-abbrev pub handedBack : Answer → Schema → Schema
+abbrev pub handedBack : Judgement → Schema → Schema
 handedBack (Accepted n) s = s
 handedBack (Refused k p) s = emptySchema
 
 -- reading a text answers so: the outcome, and the record, which is the empty one on refusal
 pub record ReadAs (text : List ℕ) (r : SchemaRead) : Type 0 where
-  pub outcome : meant (r .answer) ≡ sized (readSchema text)
+  pub outcome : outcomeOf (r .judgement) ≡ sized (readSchema text)
   pub bytes : r .schema .bytes ≡ padded maxSchemaBytes (schemaRecord text)
   pub size : r .schema .len ≡ length (schemaRecord text)
 

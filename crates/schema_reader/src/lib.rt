@@ -1,4 +1,4 @@
-// Reading schema texts: the answer, and the schema in its record, which is the text's normal form.
+// Reading schema texts: the judgement, and the schema in its record, which is the text's normal form.
 ghost use mathlib.Core.Bool.{true, false};
 ghost use mathlib.Core.Path.{_≡_};
 ghost use Prim.Native.Nat.{_≤_, _<_};
@@ -6,7 +6,7 @@ ghost use lib.ListN.{length};
 ghost use Rattle.schema_reader.specs.Normal.{Steps, Stored, Normalized};
 ghost use Rattle.schema_reader.specs.Records.{Recorded, handedBack, ReadAs, passesRecord};
 ghost use Rattle.text_spec.specs.Lists.{sameBytes};
-use schema::Answer;
+use schema::Judgement;
 use schema::Schema;
 
 // One byte on in the normal form: how many required blanks are due and whether a run of blanks goes on, and the byte that is kept, if any.
@@ -19,13 +19,13 @@ pub struct NormalStep {
 
 // A blank is left out.
 fn dropped(due: u8) -> NormalStep
-    ensures { λ r. ⌜ r ≡ record { due = due; run = true; keep = false; byte = 32 } ⌝ }
+    ensures { λ r. ⌜ r ≡ record { due = due; run = true; keep = false; byte = 0x20 } ⌝ }
 {
     NormalStep {
         due,
         run: true,
         keep: false,
-        byte: 32,
+        byte: b' ',
     }
 }
 
@@ -52,12 +52,12 @@ fn normal_step(due: u8, run: bool, b: u8) -> NormalStep
         if run {
             return dropped(due);
         }
-        return kept(due - 1, true, 32);
+        return kept(due - 1, true, b' ');
     }
     if due != 0 {
         return kept(due, false, b);
     }
-    if b == 60 {
+    if b == b'<' {
         return kept(2, false, b);
     }
     kept(due, false, b)
@@ -101,23 +101,23 @@ fn recorded(s: &[u8]) -> Schema
     if Schema::MAX_BYTES < s.len() {
         return Schema::empty();
     }
-    let mut bytes = [0u8; 8192];
+    let mut bytes = [0u8; Schema::MAX_BYTES];
     let len = write_normal(s, &mut bytes);
     Schema { bytes, len }
 }
 
 // On refusal the empty schema is handed back.
-fn handed_back(answer: Answer, read: Schema) -> Schema
-    ensures { λ r. ⌜ r ≡ handedBack answer read ⌝ }
+fn handed_back(judgement: Judgement, read: Schema) -> Schema
+    ensures { λ r. ⌜ r ≡ handedBack judgement read ⌝ }
 {
-    match answer {
-        Answer::Accepted(_) => read,
-        Answer::Refused(_, _) => Schema::empty(),
+    match judgement {
+        Judgement::Accepted(_) => read,
+        Judgement::Refused(_, _) => Schema::empty(),
     }
 }
 
 pub struct SchemaRead {
-    pub answer: Answer,
+    pub judgement: Judgement,
     pub schema: Schema,
 }
 
@@ -125,9 +125,9 @@ pub struct SchemaRead {
 pub fn read_schema(text: &[u8]) -> SchemaRead
     ensures { λ r. ⌜ ReadAs (now (text .entry)) r ⌝ }
 {
-    let answer = schema::judge_schema(text);
-    let schema = handed_back(answer, recorded(text));
-    SchemaRead { answer, schema }
+    let judgement = schema::judge_schema(text);
+    let schema = handed_back(judgement, recorded(text));
+    SchemaRead { judgement, schema }
 }
 
 // Whether two slices hold the same bytes.
@@ -157,10 +157,10 @@ pub fn is_schema_record(schema: Schema) -> bool
         return false;
     }
     let read = read_schema(&bytes[..len]);
-    let answer = read.answer;
-    match answer {
-        Answer::Refused(_, _) => false,
-        Answer::Accepted(_) => {
+    let judgement = read.judgement;
+    match judgement {
+        Judgement::Refused(_, _) => false,
+        Judgement::Accepted(_) => {
             let again = read.schema;
             let cells = again.bytes;
             if again.len != len {

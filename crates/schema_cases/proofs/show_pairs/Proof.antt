@@ -1,4 +1,4 @@
--- `show_pairs` is safe and ends. Assumes nothing.
+-- `show_pairs` is safe and ends.
 use Prim.Native.Nat.{_-_, _≤_}
 use borrow.Author.Needs.{needs}
 use Rattle.schema_cases.proofs.show_pairs.Statement.{statement}

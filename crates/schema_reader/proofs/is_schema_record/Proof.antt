@@ -1,5 +1,6 @@
--- `is_schema_record` meets its contract: the length, then the re-reading. Assumes nothing.
+-- `is_schema_record` meets its contract: the length, then the re-reading.
 use mathlib.Core.Path.{_≡_, sym}
+use Rattle.text_spec.specs.Limits.{maxSchemaBytes}
 use borrow.Author.Needs.{needs}
 use native.Mathlib.Omega.{arith}
 use lib.ListN.{length}
@@ -12,12 +13,12 @@ returns : tie.Need-returns
 returns c = sym (record-long (c .before .before .args .schema .bytes) (c .before .before .args .schema .len) (c .if1 .taken))
 
 array-share-prefix-bytes : tie.Need-array-share-prefix-bytes
-array-share-prefix-bytes c = let h : length (c .before .before .args .schema .bytes) ≡ 8192 = search needs in omega arith
+array-share-prefix-bytes c = let h : length (c .before .before .args .schema .bytes) ≡ maxSchemaBytes = search needs in omega arith
 
 slice-aggregate-read-schema : tie.Need-slice-aggregate-read-schema
 slice-aggregate-read-schema c =
     let start = c .before .before .before in
-    let h : length (start .args .schema .bytes) ≡ 8192 = search needs in sym (length-take-le (start .args .schema .len) (start .args .schema .bytes) (omega arith))
+    let h : length (start .args .schema .bytes) ≡ maxSchemaBytes = search needs in sym (length-take-le (start .args .schema .len) (start .args .schema .bytes) (omega arith))
 
 returns-2 : tie.Need-returns-2
 returns-2 c =

@@ -1,4 +1,4 @@
--- `normal_step` meets its contract: the tests in their order. Assumes nothing.
+-- `normal_step` meets its contract: the tests in their order.
 use mathlib.Core.Path.{sym, _∙_}
 use borrow.Author.Needs.{needs}
 use Rattle.schema_reader.proofs.Writing.{blank-free, blank-run, blank-due, byte-due, byte-opens, byte-free}

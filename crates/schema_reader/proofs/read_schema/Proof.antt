@@ -1,4 +1,4 @@
--- `read_schema` meets its contract: the answer, and the record that it hands back. Assumes nothing.
+-- `read_schema` meets its contract: the answer, and the record that it hands back.
 use Rattle.schema_reader.proofs.Records.{read-as}
 use borrow.Author.Needs.{needs}
 use Rattle.schema_reader.proofs.read_schema.Statement.{statement}

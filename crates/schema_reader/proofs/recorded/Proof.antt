@@ -1,6 +1,7 @@
--- `recorded` meets its contract. Assumes nothing.
+-- `recorded` meets its contract.
 use Rattle.schema_reader.proofs.Records.{normal-cells}
 use native.Mathlib.Omega.{arith}
+use Rattle.text_spec.specs.Limits.{maxSchemaBytes}
 use borrow.Author.Needs.{needs}
 use Rattle.schema_reader.proofs.recorded.Statement.{statement}
 use Rattle.schema_reader.proofs.recorded.Tie as tie
@@ -9,7 +10,7 @@ returns : tie.Need-returns
 returns c = record { bytes = λ h. absurd (omega arith); size = λ h. absurd (omega arith) }
 
 returns-2 : tie.Need-returns-2
-returns-2 c = record { bytes = λ h. normal-cells 8192 h (c .before .write-normal .ensures); size = λ h. c .before .write-normal .ensures .size }
+returns-2 c = record { bytes = λ h. normal-cells maxSchemaBytes h (c .before .write-normal .ensures); size = λ h. c .before .write-normal .ensures .size }
 
 pub recorded-spec : {M : Type 1} → statement M
 recorded-spec =

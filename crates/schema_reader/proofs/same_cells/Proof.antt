@@ -1,4 +1,4 @@
--- `same_cells` meets its contract: the first i bytes are the same. Assumes nothing.
+-- `same_cells` meets its contract: the first i bytes are the same.
 use mathlib.Core.Path.{_≡_, refl, sym, _∙_}
 use borrow.Author.Needs.{needs}
 use native.Mathlib.Omega.{arith}

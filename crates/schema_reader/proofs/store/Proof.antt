@@ -1,4 +1,4 @@
--- `store` meets its contract. Assumes nothing.
+-- `store` meets its contract.
 use mathlib.Core.Path.{sym}
 use Rattle.text_laws.specs.Tests.{cond-yes, cond-no}
 use borrow.Author.Needs.{needs}

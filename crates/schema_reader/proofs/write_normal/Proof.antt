@@ -1,4 +1,4 @@
--- `write_normal` meets its contract: what was written of the text up to i. Assumes nothing.
+-- `write_normal` meets its contract: what was written of the text up to i.
 use borrow.Author.Needs.{needs}
 use native.Mathlib.Omega.{arith}
 use Prim.Native.Nat.{_-_}

@@ -1,0 +1,11 @@
+-- `CompiledSchema::empty` meets its contract.
+use borrow.Author.Needs.{needs}
+use Rattle.compiled_schema.proofs.Whole.{empty-compiled}
+use Rattle.compiled_schema.proofs.CompiledSchema.empty.Statement.{statement}
+use Rattle.compiled_schema.proofs.CompiledSchema.empty.Tie as tie
+
+returns : tie.Need-returns
+returns c = empty-compiled (c .empty .result) (c .empty .ensures)
+
+pub empty-spec : {M : Type 1} → statement M
+empty-spec = tie.close (tie.spec (λ c κs. search needs) returns)

@@ -1,0 +1,114 @@
+-- `all_entries` meets its contract: the entries of the declarations that were read are filled.
+use mathlib.Core.Path.{_≡_, refl, ap, _∙_}
+use Prim.Native.Nat.{_+_, _*_, _-_, _≤_}
+use Rattle.compiled_schema.proofs.Columns.{Filled, filled-first, filled-next, filled-all}
+use Rattle.compiled_schema.proofs.LentCells.{lent}
+use Rattle.schema_elements.specs.Reading.{AtDeclaration}
+use Rattle.schema_elements.specs.ReadingLaws.{at-first, elements-few, used-within}
+use Rattle.schema_spec.specs.Records.{schemaIn}
+use Rattle.text_spec.specs.Limits.{maxDeclarations, maxModelNames}
+use borrow.Author.Needs.{needs}
+use native.Mathlib.Omega.{arith}
+use Rattle.compiled_schema.proofs.all_entries.Statement.{statement}
+use Rattle.compiled_schema.proofs.all_entries.Tie as tie
+
+abbrev Inv-loop : tie.InvT-loop
+Inv-loop s uses count kinds₀ sizes₀ firsts₀ lasts₀ nullables₀ elements₀ predecessors₀ holds₀ at₀ n₀ d₀ kinds sizes firsts lasts nullables elements predecessors holds at n d =
+    (d ≤ count) × (count ≤ maxDeclarations) × AtDeclaration s uses d n at
+    × Filled (schemaIn s) d
+    (record { kinds = kinds; sizes = sizes; firsts = firsts; lasts = lasts; nullables = nullables; elements = elements; predecessors = predecessors; «holds» = holds })
+
+abbrev μ-loop : tie.MeasureT-loop
+μ-loop s uses count kinds₀ sizes₀ firsts₀ lasts₀ nullables₀ elements₀ predecessors₀ holds₀ at₀ n₀ d₀ kinds sizes firsts lasts nullables elements predecessors holds at n d =
+    count - d
+
+loop-holds : tie.Need-loop-holds Inv-loop μ-loop
+loop-holds c =
+    let start = c .before .before .before .before in
+    let few = elements-few (start .pre .0) in (
+      omega arith,
+      omega arith,
+      at-first (start .pre .0) (c .skip .ensures),
+      filled-first (schemaIn (start .args .s .now)) (c .before .empty .result) (c .before .empty .ensures),
+    )
+
+element-entry-requires : tie.Need-element-entry-requires Inv-loop μ-loop
+element-entry-requires c κs =
+    let at = c .before .before .before .loop in
+    let start = c .before .before .before .before .before .before .before .before in
+    let many = start .pre .1 in
+    let clear = at .inv .3 .clear (at .d) (omega arith) (omega arith) in (
+      at .inv .2,
+      omega arith,
+      lent (at .elements) (at .d) ∙ ap (λ x. x .elements) clear,
+      lent (at .predecessors) (at .d) ∙ ap (λ x. x .predecessors) clear,
+    )
+
+add-n : tie.Need-add-n Inv-loop μ-loop
+add-n c =
+    let within = used-within (c .before .before .before .before .element-entry .ensures .next) in
+    search needs
+
+loop-again : tie.Need-loop-again Inv-loop μ-loop
+loop-again c =
+    let made = c .before .before .before .before .element-entry in
+    let at = c .before .before .before .before .before .before .before .before .loop in
+    let start = c .before .before .before .before .before .before .before .before .before .before .before .before .before in
+    let many : maxModelNames * at .d + maxModelNames - maxModelNames * at .d ≡ maxModelNames = omega arith in (
+      omega arith,
+      at .inv .1,
+      made .ensures .next,
+      filled-next (start .args .s .now) (start .args .uses .now) (at .d) (at .n) (maxModelNames * at .d) (maxModelNames * at .d + maxModelNames - maxModelNames * at .d)
+          (record {
+            kinds = at .kinds;
+            sizes = at .sizes;
+            firsts = at .firsts;
+            lasts = at .lasts;
+            nullables = at .nullables;
+            elements = at .elements;
+            predecessors = at .predecessors;
+            «holds» = at .«holds»;
+          }) (made .result) _ _ refl many (omega arith) (at .inv .3) (made .ensures),
+    )
+
+returns : tie.Need-returns Inv-loop μ-loop
+returns c =
+    let at = c .before .loop in
+    let start = c .before .before .before .before .before .before in
+    let many = start .pre .1 in
+    filled-all (schemaIn (start .args .s .now)) (at .d) _ (omega arith) (at .inv .3)
+
+pub all-entries-spec : {M : Type 1} → statement M
+all-entries-spec =
+    tie.close
+    (tie.spec
+    Inv-loop
+    μ-loop
+    (λ c κs. search needs)
+    (λ c κs. search needs)
+    loop-holds
+    (λ c. search needs)
+    (λ c. search needs)
+    (λ c. search needs)
+    (λ c. search needs)
+    (λ c. search needs)
+    (λ c. search needs)
+    (λ c. search needs)
+    (λ c. search needs)
+    (λ c. search needs)
+    element-entry-requires
+    (λ c. search needs)
+    (λ c. search needs)
+    (λ c. search needs)
+    (λ c. search needs)
+    (λ c. search needs)
+    (λ c. search needs)
+    (λ c. search needs)
+    (λ c. search needs)
+    (λ c. search needs)
+    (λ c. search needs)
+    add-n
+    (λ c. search needs)
+    (λ c. search needs)
+    loop-again
+    returns)

@@ -1,0 +1,4 @@
+pub mod Entries
+pub mod EntryLaws
+pub mod Reading
+pub mod ReadingLaws
