@@ -1,3 +1,3 @@
-pub mod Tables
+pub mod Relations
 pub mod Rounds
 pub mod Schemas

@@ -1,4 +1,4 @@
--- Warshall's rounds over elements: each round admits one more element on the way. Assumes nothing.
+-- Warshall's rounds over elements: each round admits one more element on the way.
 use mathlib.Core.Bool.{Bool, true, false, _&&_, _||_}
 use mathlib.Core.List.{List}
 use mathlib.Core.Logic.{_⊎_, inl, inr, ⊎-elim, _↔_}
@@ -9,7 +9,7 @@ use native.Mathlib.Omega.{arith}
 use lib.Dec.{T, ltb, eqb}
 use lib.ListN.{length, getD, List·getD-eq-default}
 use borrow.Author.Tests.{le-ltb, ltb-true, ltb-false}
-use Rattle.closures.specs.Tables.{relates, Below, one, more, throughElement, relatedTo}
+use Rattle.closures.specs.Relations.{relates, Reachable, one, more, throughElement, relatedTo}
 use Rattle.names.specs.Sets.{member, overlap, nothing}
 use Rattle.names.specs.SetLaws.{nothing-in, overlap-some}
 use Rattle.names.specs.declared.NameSet.{NameSet}
@@ -18,52 +18,52 @@ use Rattle.text_laws.specs.Tests.{or-left, or-right, or-cases, and-intro, and-c
 use Rattle.text_laws.specs.Loops.{Passed}
 use Rattle.text_laws.specs.Searches.{one-more}
 
-module _ (rows : List NameSet) where
-  wider : {n a : ℕ} {b : Name} → Below rows n a b → Below rows (suc n) a b
+module _ (images : List NameSet) where
+  wider : {n a : ℕ} {b : Name} → Reachable images n a b → Reachable images (suc n) a b
   wider (one t) = one t
   wider (more t l r) = more t (omega arith) (wider r)
 
-  joined : {n a m : ℕ} {b : Name} {k : Name} → Below rows n a k → k ≡ element m → m < n → Below rows n m b → Below rows n a b
-  joined {a = a} (one t) e l r = more (subst (λ (x : Name). T (relates rows a x)) e t) l r
+  joined : {n a m : ℕ} {b : Name} {k : Name} → Reachable images n a k → k ≡ element m → m < n → Reachable images n m b → Reachable images n a b
+  joined {a = a} (one t) e l r = more (subst (λ (x : Name). T (relates images a x)) e t) l r
   joined (more t l s) e k r = more t l (joined s e k r)
 
   -- a way through elements up to k either avoids k, or goes to k and on from there
   abbrev Split : ℕ → ℕ → Name → Type 0
-  Split k a b = Below rows k a b ⊎ (Below rows k a (element k) × Below rows k k b)
+  Split k a b = Reachable images k a b ⊎ (Reachable images k a (element k) × Reachable images k k b)
 
-  past-less : {k m a : ℕ} {b : Name} → T (relates rows a (element m)) → m < k → Split k m b → Split k a b
+  past-less : {k m a : ℕ} {b : Name} → T (relates images a (element m)) → m < k → Split k m b → Split k a b
   past-less t l (inl r) = inl (more t l r)
   past-less t l (inr (r, s)) = inr (more t l r, s)
 
-  past-equal : {k m a : ℕ} {b : Name} → T (relates rows a (element m)) → m ≡ k → Split k m b → Split k a b
-  past-equal {k} {m} {a} {b} t e (inl r) = inr (one (subst (λ (x : ℕ). T (relates rows a (element x))) e t), subst (λ (x : ℕ). Below rows k x b) e r)
-  past-equal {k} {m} {a} {b} t e (inr (r, s)) = inr (one (subst (λ (x : ℕ). T (relates rows a (element x))) e t), s)
+  past-equal : {k m a : ℕ} {b : Name} → T (relates images a (element m)) → m ≡ k → Split k m b → Split k a b
+  past-equal {k} {m} {a} {b} t e (inl r) = inr (one (subst (λ (x : ℕ). T (relates images a (element x))) e t), subst (λ (x : ℕ). Reachable images k x b) e r)
+  past-equal {k} {m} {a} {b} t e (inr (r, s)) = inr (one (subst (λ (x : ℕ). T (relates images a (element x))) e t), s)
 
   at-most : {m k : ℕ} → m < suc k → m ≤ k
   at-most l = omega arith
 
-  split : {k a : ℕ} {b : Name} → Below rows (suc k) a b → Split k a b
+  split : {k a : ℕ} {b : Name} → Reachable images (suc k) a b → Split k a b
   split (one t) = inl (one t)
   split (more t l r) = ⊎-elim (λ e. past-equal t e (split r)) (λ h. past-less t h (split r)) (eq-or-lt-of-le (at-most l))
 
-  unsplit : {k a : ℕ} {b : Name} → Split k a b → Below rows (suc k) a b
+  unsplit : {k a : ℕ} {b : Name} → Split k a b → Reachable images (suc k) a b
   unsplit (inl r) = wider r
   unsplit {k} (inr (r, s)) = joined (wider r) refl (lt-suc-self k) (wider s)
 
-  -- a table has exactly what is below each element, by way of elements below k
-  abbrev pub Reached : ℕ → List NameSet → Type 0
-  Reached k t = (a : ℕ) (b : Name) → T (relates t a b) ↔ Below rows k a b
+  -- a relation is that of what is reachable, by way of elements below k
+  abbrev pub Reachability : ℕ → List NameSet → Type 0
+  Reachability k t = (a : ℕ) (b : Name) → T (relates t a b) ↔ Reachable images k a b
 
-  none-yet : {a : ℕ} {b : Name} → Below rows 0 a b → T (relates rows a b)
+  none-yet : {a : ℕ} {b : Name} → Reachable images 0 a b → T (relates images a b)
   none-yet (one t) = t
   none-yet (more t l r) = absurd (omega arith)
 
-  pub reached-first : Reached 0 rows
-  reached-first a b = (λ t. one t, none-yet)
+  pub reachability-first : Reachability 0 images
+  reachability-first a b = (λ t. one t, none-yet)
 
   -- one round more
-  pub reached-next : (k : ℕ) (t u : List NameSet) → Reached k t → ((a : ℕ) (b : Name) → relates u a b ≡ throughElement t k a b) → Reached (suc k) u
-  reached-next k t u h step a b = (
+  pub reachability-next : (k : ℕ) (t u : List NameSet) → Reachability k t → ((a : ℕ) (b : Name) → relates u a b ≡ throughElement t k a b) → Reachability (suc k) u
+  reachability-next k t u h step a b = (
     λ p.
         unsplit (⊎-elim (λ q. inl (h a b .0 q))
         (λ q.
@@ -77,69 +77,69 @@ module _ (rows : List NameSet) where
         (and-intro (relates t a (element k)) (relates t k b) (h a (element k) .1 (q .0)) (h k b .1 (q .1)))) (split r)),
   )
 
-  -- an element past the table's end is related to nothing
-  no-row : (m : ℕ) (b : Name) → length rows ≤ m → T (relates rows m b) → ⊥
-  no-row m b l t = subst T (ap (λ (s : NameSet). member s b) (List·getD-eq-default rows nothing l) ∙ nothing-in b) t
+  -- an element without an image is related to nothing
+  no-image : (m : ℕ) (b : Name) → length images ≤ m → T (relates images m b) → ⊥
+  no-image m b l t = subst T (ap (λ (s : NameSet). member s b) (List·getD-eq-default images nothing l) ∙ nothing-in b) t
 
-  inside : (m : ℕ) (b : Name) → T (relates rows m b) → m < length rows
-  inside m b t = pick (ltb m (length rows)) refl
+  inside : (m : ℕ) (b : Name) → T (relates images m b) → m < length images
+  inside m b t = pick (ltb m (length images)) refl
     where
-      pick : (c : Bool) → ltb m (length rows) ≡ c → m < length rows
-      pick true e = ltb-true m (length rows) e
-      pick false e = absurd (no-row m b (ltb-false m (length rows) e) t)
+      pick : (c : Bool) → ltb m (length images) ≡ c → m < length images
+      pick true e = ltb-true m (length images) e
+      pick false e = absurd (no-image m b (ltb-false m (length images) e) t)
 
-  -- so elements past it make no way longer
-  below-more : {n k a : ℕ} {b : Name} → n ≤ k → Below rows n a b → Below rows k a b
-  below-more h (one t) = one t
-  below-more h (more t l r) = more t (omega arith) (below-more h r)
+  -- so elements without an image make no way longer
+  reachable-more : {n k a : ℕ} {b : Name} → n ≤ k → Reachable images n a b → Reachable images k a b
+  reachable-more h (one t) = one t
+  reachable-more h (more t l r) = more t (omega arith) (reachable-more h r)
 
-  has-row : {n m : ℕ} {b : Name} → Below rows n m b → m < length rows
-  has-row (one {a = m} {b = b} t) = inside m b t
-  has-row (more {a = m} {m = j} t l r) = inside m (element j) t
+  has-image : {n m : ℕ} {b : Name} → Reachable images n m b → m < length images
+  has-image (one {a = m} {b = b} t) = inside m b t
+  has-image (more {a = m} {m = j} t l r) = inside m (element j) t
 
-  below-fewer : {n k a : ℕ} {b : Name} → length rows ≤ k → Below rows n a b → Below rows k a b
-  below-fewer h (one t) = one t
-  below-fewer h (more t l r) =
-      let d = has-row r in
-      more t (omega arith) (below-fewer h r)
+  reachable-fewer : {n k a : ℕ} {b : Name} → length images ≤ k → Reachable images n a b → Reachable images k a b
+  reachable-fewer h (one t) = one t
+  reachable-fewer h (more t l r) =
+      let d = has-image r in
+      more t (omega arith) (reachable-fewer h r)
 
--- a table with n rows needs no round past n
-pub rounds-enough : (rows : List NameSet) (r count : ℕ) → (r ≡ count) ⊎ ((r ≡ length rows) × (length rows ≤ count)) → (a : ℕ) (b : Name) → Below rows r a b ↔ Below rows count a b
-rounds-enough rows r count (inl e) a b = (subst (λ (n : ℕ). Below rows n a b) e, subst (λ (n : ℕ). Below rows n a b) (sym e))
-rounds-enough rows r count (inr (e, h)) a b = (below-more rows (omega arith), below-fewer rows (omega arith))
+-- a relation with n images needs no round past n
+pub rounds-enough : (images : List NameSet) (r count : ℕ) → (r ≡ count) ⊎ ((r ≡ length images) × (length images ≤ count)) → (a : ℕ) (b : Name) → Reachable images r a b ↔ Reachable images count a b
+rounds-enough images r count (inl e) a b = (subst (λ (n : ℕ). Reachable images n a b) e, subst (λ (n : ℕ). Reachable images n a b) (sym e))
+rounds-enough images r count (inr (e, h)) a b = (reachable-more images (omega arith), reachable-fewer images (omega arith))
 
--- A round in place: a row that has had it.
-abbrev pub Grown : List NameSet → ℕ → ℕ → NameSet → Type 0
-Grown rows k a x = (b : Name) → member x b ≡ throughElement rows k a b
+-- A round in place: an image that has had it.
+abbrev pub AfterRound : List NameSet → ℕ → ℕ → NameSet → Type 0
+AfterRound images k a x = (b : Name) → member x b ≡ throughElement images k a b
 
-module _ (rows : List NameSet) (k : ℕ) where
-  -- the row at i, which the round has not reached, has it next
-  pub grown-row : (i : ℕ) (now : List NameSet) (x : NameSet) → Passed (Grown rows k) nothing rows i now
-      → ((b : Name) → member x b ≡ (relates now i b || (relates now i (element k) && relates rows k b))) → Grown rows k i x
-  grown-row i now x p new b =
-      let same : getD now i nothing ≡ getD rows i nothing = p .kept i (omega arith) in
-      new b ∙ ap (λ (s : NameSet). member s b || (member s (element k) && relates rows k b)) same
+module _ (images : List NameSet) (k : ℕ) where
+  -- the image at i, which the round has not reached, has it next
+  pub round-at : (i : ℕ) (now : List NameSet) (x : NameSet) → Passed (AfterRound images k) nothing images i now
+      → ((b : Name) → member x b ≡ (relates now i b || (relates now i (element k) && relates images k b))) → AfterRound images k i x
+  round-at i now x p new b =
+      let same : getD now i nothing ≡ getD images i nothing = p .kept i (omega arith) in
+      new b ∙ ap (λ (s : NameSet). member s b || (member s (element k) && relates images k b)) same
 
-  -- past the table's end there is nothing to grow
-  pub grown-all : (i : ℕ) (now : List NameSet) → length rows ≤ i → Passed (Grown rows k) nothing rows i now
-      → (a : ℕ) (b : Name) → relates now a b ≡ throughElement rows k a b
-  grown-all i now long p a b = pick (ltb a i) refl
+  -- an element without an image has nothing to grow
+  pub round-all : (i : ℕ) (now : List NameSet) → length images ≤ i → Passed (AfterRound images k) nothing images i now
+      → (a : ℕ) (b : Name) → relates now a b ≡ throughElement images k a b
+  round-all i now long p a b = pick (ltb a i) refl
     where
-      pick : (c : Bool) → ltb a i ≡ c → relates now a b ≡ throughElement rows k a b
+      pick : (c : Bool) → ltb a i ≡ c → relates now a b ≡ throughElement images k a b
       pick true e = p .done a (ltb-true a i e) b
       pick false e =
           let l = ltb-false a i e in
-          let none : (n : Name) → relates rows a n ≡ false = λ n. false-of (relates rows a n) (no-row rows a n (omega arith)) in
-          ap (λ (s : NameSet). member s b) (p .kept a l) ∙ none b ∙ sym (ap₂ (λ (x y : Bool). x || (y && relates rows k b)) (none b) (none (element k)))
+          let none : (n : Name) → relates images a n ≡ false = λ n. false-of (relates images a n) (no-image images a n (omega arith)) in
+          ap (λ (s : NameSet). member s b) (p .kept a l) ∙ none b ∙ sym (ap₂ (λ (x y : Bool). x || (y && relates images k b)) (none b) (none (element k)))
 
 -- the elements before i that are related to a name of a set
 abbrev pub holdersBefore : List NameSet → NameSet → ℕ → Name → Bool
-holdersBefore rows s i (element a) = ltb a i && overlap (getD rows a nothing) s
-holdersBefore rows s i (text a) = false
+holdersBefore images s i (element a) = ltb a i && overlap (getD images a nothing) s
+holdersBefore images s i (text a) = false
 
-module _ (rows : List NameSet) (s : NameSet) where
-  pub holders-first : (n : Name) → false ≡ holdersBefore rows s 0 n
-  holders-first (element a) = sym (ap (λ (b : Bool). b && overlap (getD rows a nothing) s) (le-ltb a 0 (omega arith)))
+module _ (images : List NameSet) (s : NameSet) where
+  pub holders-first : (n : Name) → false ≡ holdersBefore images s 0 n
+  holders-first (element a) = sym (ap (λ (b : Bool). b && overlap (getD images a nothing) s) (le-ltb a 0 (omega arith)))
   holders-first (text a) = refl
 
   nothing-meets : overlap nothing s ≡ false
@@ -148,20 +148,20 @@ module _ (rows : List NameSet) (s : NameSet) where
       let r = overlap-some nothing s t in
       failed (nothing-in (r .0)) (r .1))
 
-  pub holders-all : (i : ℕ) → length rows ≤ i → (n : Name) → holdersBefore rows s i n ≡ relatedTo rows s n
+  pub holders-all : (i : ℕ) → length images ≤ i → (n : Name) → holdersBefore images s i n ≡ relatedTo images s n
   holders-all i l (element a) = pick (ltb a i) refl
     where
-      pick : (b : Bool) → ltb a i ≡ b → (b && overlap (getD rows a nothing) s) ≡ overlap (getD rows a nothing) s
+      pick : (b : Bool) → ltb a i ≡ b → (b && overlap (getD images a nothing) s) ≡ overlap (getD images a nothing) s
       pick true e = refl
       pick false e =
           let h = ltb-false a i e in
-          sym (ap (λ (t : NameSet). overlap t s) (List·getD-eq-default rows nothing (omega arith)) ∙ nothing-meets)
+          sym (ap (λ (t : NameSet). overlap t s) (List·getD-eq-default images nothing (omega arith)) ∙ nothing-meets)
   holders-all i l (text a) = refl
 
-  pub holders-next : (out t : NameSet) (i : ℕ) → ((n : Name) → member out n ≡ holdersBefore rows s i n)
-      → ((n : Name) → member t n ≡ (member out n || (sameName n (element i) && overlap (getD rows i nothing) s)))
-      → (n : Name) → member t n ≡ holdersBefore rows s (i + 1) n
+  pub holders-next : (out t : NameSet) (i : ℕ) → ((n : Name) → member out n ≡ holdersBefore images s i n)
+      → ((n : Name) → member t n ≡ (member out n || (sameName n (element i) && overlap (getD images i nothing) s)))
+      → (n : Name) → member t n ≡ holdersBefore images s (i + 1) n
   holders-next out t i inv new (text a) = new (text a) ∙ ap (λ (b : Bool). b || false) (inv (text a))
   holders-next out t i inv new (element a) =
-      new (element a) ∙ ap (λ (b : Bool). b || (eqb a i && overlap (getD rows i nothing) s)) (inv (element a))
-      ∙ one-more (λ j. overlap (getD rows j nothing) s) i a
+      new (element a) ∙ ap (λ (b : Bool). b || (eqb a i && overlap (getD images i nothing) s)) (inv (element a))
+      ∙ one-more (λ j. overlap (getD images j nothing) s) i a

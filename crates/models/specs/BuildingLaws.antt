@@ -1,4 +1,4 @@
--- What is made part by part is right: ends from the ends of the parts, and links from the links within the parts. Assumes nothing.
+-- Laws of a position automaton made part by part: ends from the ends of the parts, links from the links within the parts.
 use mathlib.Core.Bool.{Bool, true, false, _&&_, _||_, or-false, and-true, and-false}
 use mathlib.Core.List.{List}
 use mathlib.Core.Logic.{⊎-elim}
@@ -9,23 +9,24 @@ use borrow.Author.Tests.{lt-ltb}
 use lib.Bits.{bitOr}
 use lib.Dec.{eqb, ltb}
 use lib.ListN.{length, getD}
-use Rattle.models.specs.Building.{EndsOf, Linked, linkedBit, LinkedTable}
-use Rattle.models.specs.Fitting.{Tables}
-use Rattle.models.specs.Marks.{not-first, not-next}
+use Rattle.models.specs.Building.{EndsOf, Linked, linkedBit, LinksAdded}
+use Rattle.models.specs.Automaton.{AutomatonOf}
+use Rattle.models.specs.PositionLaws.{not-first, not-next}
 use Rattle.models.specs.Positions.{size, mayBeAbsent, isFirst, isLast, isNext}
 use Rattle.models.specs.declared.Ends.{Ends}
 use Rattle.schema_spec.specs.Models.{Particle, named, sequence, choice, repeated, uses}
 use Rattle.schema_spec.specs.Names.{hasBit}
+use Rattle.text_spec.specs.Limits.{maxModelNames}
 use Rattle.words.specs.Bits.{bit-none, bit-or}
 use Rattle.text_laws.specs.Loops.{Passed}
 use Rattle.text_laws.specs.Searches.{below-or-past}
 
-pub named-ends : (p w : ℕ) → ((j : ℕ) → hasBit w j ≡ (hasBit 0 j || (eqb j p && ltb p 64))) → p < 64 → (a : ℕ)
+pub named-ends : (p w : ℕ) → ((j : ℕ) → hasBit w j ≡ (hasBit 0 j || (eqb j p && ltb p maxModelNames))) → p < maxModelNames → (a : ℕ)
     → EndsOf p (named a) (record { first = w; last = w; nullable = false })
 named-ends p w h l a = record { first = λ i b. only i; last = λ i b. only i; absent = refl }
   where
     only : (i : ℕ) → hasBit w i ≡ eqb i p
-    only i = h i ∙ ap₂ (λ (x y : Bool). x || (eqb i p && y)) (bit-none i) (lt-ltb p 64 l) ∙ and-true (eqb i p)
+    only i = h i ∙ ap₂ (λ (x y : Bool). x || (eqb i p && y)) (bit-none i) (lt-ltb p maxModelNames l) ∙ and-true (eqb i p)
 
 and-turned : (b c : Bool) → (b && c) ≡ (c && b)
 and-turned true c = sym (and-true c)
@@ -75,8 +76,8 @@ module _ (before : List ℕ) (lasts firsts : ℕ) where
       new i ∙ ap₂ (λ (x : ℕ) (b : Bool). hasBit x i || (b && hasBit lasts i)) (p .kept j (omega arith)) t
 
   pub linked-all : (j : ℕ) (now : List ℕ) → length before ≤ j → length now ≡ length before → Passed (LinkedAt before lasts firsts) 0 before j now
-      → LinkedTable before lasts firsts now
-  linked-all j now past long p = record { long = long; right = λ i m l. p .done m (omega arith) i }
+      → LinksAdded before lasts firsts now
+  linked-all j now past long p = record { long = long; bits = λ i m l. p .done m (omega arith) i }
 
 -- Links. Two particles in a row are linked from the last of the one to the first of the other; of two alternatives neither follows the
 -- other; what repeats is linked from its last to its first.
@@ -92,9 +93,9 @@ module _ (k : ℕ) (p q : Particle ℕ) (before : List ℕ) (x : Linked k p befo
       second : k + size p ≤ j → hasBit (getD before j 0) i ≡ (isNext k p i j || isNext (k + size p) q i j)
       second h = y i j l h (omega arith) ∙ sym (ap (λ (b : Bool). b || isNext (k + size p) q i j) (not-next k p j (λ r. omega arith) i))
 
-  pub sequence-linked : (a b : Ends) (after : List ℕ) → k + (size p + size q) ≤ 64 → k + (size p + size q) ≤ length before → EndsOf k p a → EndsOf (k + size p) q b
-      → LinkedTable before (a .last) (b .first) after → Linked k (sequence p q) after
-  sequence-linked a b after few room ea eb h i j l u v = h .right i j (omega arith) ∙ ⊎-elim first second (below-or-past j (k + size p))
+  pub sequence-linked : (a b : Ends) (after : List ℕ) → k + (size p + size q) ≤ maxModelNames → k + (size p + size q) ≤ length before → EndsOf k p a → EndsOf (k + size p) q b
+      → LinksAdded before (a .last) (b .first) after → Linked k (sequence p q) after
+  sequence-linked a b after few room ea eb h i j l u v = h .bits i j (omega arith) ∙ ⊎-elim first second (below-or-past j (k + size p))
     where
       first : j < k + size p → linkedBit before (a .last) (b .first) i j ≡ (isNext k p i j || (isNext (k + size p) q i j || (isLast k p i && isFirst (k + size p) q j)))
       first s =
@@ -108,22 +109,22 @@ module _ (k : ℕ) (p q : Particle ℕ) (before : List ℕ) (x : Linked k p befo
           ap₂ _||_ (y i j l s (omega arith)) (ap₂ _&&_ (eb .first j (omega arith)) (ea .last i l) ∙ and-turned (isFirst (k + size p) q j) (isLast k p i))
           ∙ sym (ap (λ (c : Bool). c || (isNext (k + size p) q i j || (isLast k p i && isFirst (k + size p) q j))) (not-next k p j (λ r. omega arith) i))
 
-pub repeated-linked : (k : ℕ) (o : Bool) (p : Particle ℕ) (a : Ends) (before after : List ℕ) → k + size p ≤ 64 → k + size p ≤ length before → Linked k p before → EndsOf k p a
-    → LinkedTable before (a .last) (a .first) after → Linked k (repeated true o p) after
+pub repeated-linked : (k : ℕ) (o : Bool) (p : Particle ℕ) (a : Ends) (before after : List ℕ) → k + size p ≤ maxModelNames → k + size p ≤ length before → Linked k p before → EndsOf k p a
+    → LinksAdded before (a .last) (a .first) after → Linked k (repeated true o p) after
 repeated-linked k o p a before after few room x ea h i j l u v =
-    h .right i j (omega arith) ∙ ap₂ _||_ (x i j l u v) (ap₂ _&&_ (ea .first j (omega arith)) (ea .last i l) ∙ and-turned (isFirst k p j) (isLast k p i))
+    h .bits i j (omega arith) ∙ ap₂ _||_ (x i j l u v) (ap₂ _&&_ (ea .first j (omega arith)) (ea .last i l) ∙ and-turned (isFirst k p j) (isLast k p i))
 
 -- what does not repeat keeps its links
 pub once-linked : (k : ℕ) (o : Bool) (p : Particle ℕ) (before : List ℕ) → Linked k p before → Linked k (repeated false o p) before
 once-linked k o p before x i j l u v = x i j l u v ∙ sym (or-false (isNext k p i j))
 
--- the whole: a particle's ends, links and names are its tables
-pub whole : (p : Particle ℕ) (e : Ends) (elements predecessors : List ℕ) → size p ≤ 64 → size p ≤ length elements → size p ≤ length predecessors
-    → ((j : ℕ) → j < size p → getD elements j 0 ≡ getD (uses p) j 0) → EndsOf 0 p e → Linked 0 p predecessors → Tables p e elements predecessors
-whole p e elements predecessors few long deep names ends links =
+-- a particle's ends, links and names are its automaton
+pub automaton-of-parts : (p : Particle ℕ) (e : Ends) (elements predecessors : List ℕ) → size p ≤ maxModelNames → size p ≤ length elements → size p ≤ length predecessors
+    → ((j : ℕ) → j < size p → getD elements j 0 ≡ getD (uses p) j 0) → EndsOf 0 p e → Linked 0 p predecessors → AutomatonOf p e elements predecessors
+automaton-of-parts p e elements predecessors few long deep names ends links =
     record {
       few = few;
-      rows = (long, deep);
+      room = (long, deep);
       named = names;
       first = λ j l. ends .first j (omega arith);
       last = ends .last;

@@ -1,8 +1,6 @@
 pub mod Positions
-pub mod Marks
-pub mod Steps
-pub mod StepLaws
-pub mod Fitting
+pub mod PositionLaws
+pub mod Automaton
 pub mod Building
 pub mod BuildingLaws
 pub mod Placing

@@ -1,9 +1,9 @@
 -- The positions of a content model: its names, numbered from left to right, and which may come first, last, and after which
--- (Glushkov's sets). Assumes nothing.
+-- (Glushkov's sets).
 use mathlib.Core.Bool.{Bool, false, _&&_, _||_}
 use Prim.Native.Nat.{ℕ, _+_}
 use lib.Dec.{eqb}
-use Rattle.schema_spec.specs.Models.{Particle, named, sequence, choice, repeated, Position, position}
+use Rattle.schema_spec.specs.Models.{Particle, named, sequence, choice, repeated}
 
 -- how many positions a particle has
 abbrev pub size : Particle ℕ → ℕ
@@ -39,10 +39,3 @@ isNext k (named a) i j = false
 isNext k (sequence p q) i j = isNext k p i j || (isNext (k + size p) q i j || (isLast k p i && isFirst (k + size p) q j))
 isNext k (choice p q) i j = isNext k p i j || isNext (k + size p) q i j
 isNext k (repeated m n p) i j = isNext k p i j || (m && (isLast k p i && isFirst k p j))
-
--- the particle with a mark on each position that is in a set
-abbrev pub marked : ℕ → Particle ℕ → (ℕ → Bool) → Particle Position
-marked k (named a) s = named (position (s k) a)
-marked k (sequence p q) s = sequence (marked k p s) (marked (k + size p) q s)
-marked k (choice p q) s = choice (marked k p s) (marked (k + size p) q s)
-marked k (repeated m n p) s = repeated m n (marked k p s)

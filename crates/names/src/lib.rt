@@ -6,6 +6,9 @@ ghost use lib.Dec.{T, ltb};
 ghost use Rattle.schema_spec.specs.Names.{Name, element, text, sameName, has, setOfWord, wordOfSet};
 ghost use Rattle.names.specs.Sets.{member, setOf, everyName, overlap};
 
+// How many elements a schema may have.
+pub const MAX_ELEMENTS: usize = 32;
+
 pub struct NameSet {
     pub elements: u64,
     pub texts: u64,

@@ -7,7 +7,7 @@ use native.Mathlib.Nat.{add-zero}
 use native.Mathlib.Omega.{arith}
 use lib.ListN.{length, length-append}
 use Rattle.particles.specs.Automata.{Built, Repeated, PartedBy, parted-none, parted-bar, parted-comma, frameUses, FrameBuilt, built-fresh, built-holding, Joined}
-use Rattle.models.specs.Building.{EndsOf, LinkedTable}
+use Rattle.models.specs.Building.{EndsOf, LinksAdded}
 use Rattle.models.specs.Placing.{Clear, Placed, placed-name, placed-choice, placed-sequence, placed-once, placed-repeated}
 use Rattle.models.specs.Positions.{size}
 use Rattle.models.specs.declared.Ends.{Ends}
@@ -54,7 +54,7 @@ module _ {k : ℕ} {first middle last : List ℕ} {p q : Particle Use} {a b : En
       }
 
   pub built-sequence : (r : Ends) (after : List ℕ) → ((k : ℕ) (p q : Particle ℕ) → EndsOf k p a → EndsOf (k + size p) q b → EndsOf k (sequence p q) r)
-      → LinkedTable last (a .last) (b .first) after → Built k first after (sequence p q) r
+      → LinksAdded last (a .last) (b .first) after → Built k first after (sequence p q) r
   built-sequence r after h t =
       record {
         long = t .long ∙ both;
@@ -91,7 +91,7 @@ module _ (e : Ends) (links : List ℕ) where
       }
 
   -- it repeats, and may be absent or not
-  again : (o : Bool) (after : List ℕ) (r : Ends) → Widened o e r → LinkedTable links (e .last) (e .first) after → (k : ℕ) (first : List ℕ) (p : Particle Use) → Built k first links p e
+  again : (o : Bool) (after : List ℕ) (r : Ends) → Widened o e r → LinksAdded links (e .last) (e .first) after → (k : ℕ) (first : List ℕ) (p : Particle Use) → Built k first links p e
       → Built k first after (repeated true o p) r
   again o after r h t k first p x =
       record {
@@ -103,7 +103,7 @@ module _ (e : Ends) (links : List ℕ) where
             placed-repeated k o (renameIn f p) first links e u r after (omega arith) (omega arith) (h k true (renameIn f p) (u .ends)) t;
       }
 
-  module _ (after : List ℕ) (r : Ends) (t : LinkedTable links (e .last) (e .first) after) where
+  module _ (after : List ℕ) (r : Ends) (t : LinksAdded links (e .last) (e .first) after) where
     pub repeated-any : Widened true e r → Repeated any e links after r
     repeated-any h = record { long = t .long; built = again true after r h t }
 
@@ -122,7 +122,7 @@ module _ (a b : Ends) (links : List ℕ) where
           → Built k first links (join f p) b
       go k first middle f p parted-none (built-fresh e) B = alone k first middle p e B
 
-  pub joined-comma : {sep : ℕ} → sep ≡ 0x2C → (after : List ℕ) (r : Ends) → LinkedTable links (a .last) (b .first) after
+  pub joined-comma : {sep : ℕ} → sep ≡ 0x2C → (after : List ℕ) (r : Ends) → LinksAdded links (a .last) (b .first) after
       → ((k : ℕ) (p q : Particle ℕ) → EndsOf k p a → EndsOf (k + size p) q b → EndsOf k (sequence p q) r) → Joined sep a b links after r
   joined-comma {sep} z after r t h = record { long = t .long; built = λ k first middle f p H F B. go k first middle f p (subst (PartedBy f) z H) F B }
     where

@@ -1,4 +1,4 @@
--- Laws of reading all declarations: the places that pass a limit, and the places of names that the lent cells hold. Assumes nothing.
+-- Laws of reading all declarations: the places that pass a limit, and the places of names that the lent cells hold.
 use mathlib.Core.Bool.{Bool, true, false, cond}
 use mathlib.Core.List.{List, [], _∷_, _++_, map, map-append, reverse, reverse-cons, append-nil, append-assoc, Memᴰ·append-left, Memᴰ·append-right, List·Memᴰ·append-cases, List·Memᴰ as In, List·Memᴰ·head as here, List·Memᴰ·tail as there}
 use mathlib.Core.Logic.{_⊎_, inl, inr}
@@ -9,7 +9,7 @@ use native.Mathlib.Omega.{arith}
 use borrow.Author.Tests.{ltb-true, ltb-false, leb-true, leb-false, lt-ltb, le-ltb}
 use lib.Dec.{leb, ltb}
 use lib.ListN.{length, drop, take, getD, set, length-append, length-set, length-reverse, drop-of-length-le}
-use lib.Seq.{sets, sets-eq, length-sets, take-suc-set, take-at, drop-at, drop-cons, drop-nil, length-take-le, getD-set-same, getD-set-other}
+use lib.Seq.{sets, sets-eq, length-sets, take-suc-set, take-at, drop-at, drop-cons, drop-nil, length-take-le, getD-set-same, getD-set-other, drop-set-lt, drop-drop}
 use Rattle.declarations.specs.DeclarationLaws.{between-skipped}
 use Rattle.declarations.specs.Declarations.{DeclarationRead, Declared}
 use Rattle.particles.specs.ReadingLaws.{between-low, between-from, between-to, between-join}
@@ -17,7 +17,7 @@ use Rattle.particles.specs.Readings.{useAt, Between}
 use Rattle.scanning.specs.Outcomes.{Skipped}
 use Rattle.text_laws.specs.Scans.{at-end}
 use Rattle.text_laws.specs.Tests.{cond-yes as yes, cond-no as no}
-use Rattle.schema.specs.Whole.{overLimit, Kept, Limits, within, passed, UpTo, AllSpelt}
+use Rattle.schema.specs.Whole.{overLimit, WithinLimits, Limits, within, passed, UpTo, AllSpelt}
 use Rattle.declarations.specs.declared.DeclarationEnd.{DeclarationEnd}
 use Rattle.declarations.specs.declared.DeclarationOutcome.{DeclarationOutcome}
 use Rattle.declarations.specs.declared.DeclarationOutcome.the-variants.{Past as DeclPast, Fail as DeclFail}
@@ -64,7 +64,7 @@ drop-map f zero xs = refl
 drop-map f (suc k) [] = refl
 drop-map f (suc k) (x ∷ xs) = drop-map f k xs
 
-places-back : (s ps : List ℕ) → map (λ (u : Use). u .place) (map (useAt s) ps) ≡ ps
+pub places-back : (s ps : List ℕ) → map (λ (u : Use). u .place) (map (useAt s) ps) ≡ ps
 places-back s [] = refl
 places-back s (p ∷ ps) = ap (λ (l : List ℕ). p ∷ l) (places-back s ps)
 
@@ -176,7 +176,7 @@ module _ {s : List ℕ} (ds : List Declaration) {d n i : ℕ} (names : List ℕ)
       go x (inr (inl q)) = let z = q .1 in omega arith
       go x (inr (inr h)) = let z = extra-low h in omega arith
 
-  module _ (kept : Kept s ds d n i names uses) where
+  module _ (kept : WithinLimits s ds d n i names uses) where
     -- the 33rd declaration
     declaration-passes : maxDeclarations ≤ d → (d′ n′ : ℕ) (names′ uses″ : List ℕ) → Limits s (ds ++ (declared-now ∷ [])) d′ n′ i j names′ uses″
     declaration-passes h d′ n′ names′ uses″ =
@@ -228,7 +228,7 @@ module _ {s : List ℕ} (ds : List Declaration) {d n i : ℕ} (names : List ℕ)
               passed (omega (arith, b .1)) (omega (arith, b .1)) (limit-extra ds declared-now first) (λ y m. go y (limit-cases ds declared-now m))
 
       -- neither
-      still-within : p .n - n ≤ maxModelNames → {names′ : List ℕ} → names′ ≡ set names d (p .name) → Kept s (ds ++ (declared-now ∷ [])) (d + 1) (p .n) j names′ uses′
+      still-within : p .n - n ≤ maxModelNames → {names′ : List ℕ} → names′ ≡ set names d (p .name) → WithinLimits s (ds ++ (declared-now ∷ [])) (d + 1) (p .n) j names′ uses′
       still-within h {names′} w =
           record {
             free = memberless (limitPlaces (ds ++ (declared-now ∷ []))) (λ x m. none x (limit-cases ds declared-now m));
@@ -280,7 +280,7 @@ module _ {s : List ℕ} (ds : List Declaration) {d n i : ℕ} (names : List ℕ)
       go false f false g = shift (now ∙ no i _ f ∙ no (getD uses′ (n + maxModelNames) 0) _ g) (within refl (still-within kept (leb-false maxDeclarations d f) (ltb-false maxModelNames (p .n - n) g) w))
 
 -- ---- the loop
-pub all-start : {s names uses : List ℕ} {i : ℕ} → Skipped s 0 i → length names ≡ 32 → length uses ≡ 2049 → UpTo s i 0 0 (length s) names uses
+pub all-start : {s names uses : List ℕ} {i : ℕ} → Skipped s 0 i → length names ≡ maxDeclarations → length uses ≡ maxDeclarations * maxModelNames + 1 → UpTo s i 0 0 (length s) names names uses
 all-start K a b =
     record {
       done = [];
@@ -292,10 +292,11 @@ all-start K a b =
       few-uses = omega arith;
       room = a;
       room-uses = b;
+      rest = refl;
       limits = within refl (record { free = refl; some = omega arith; small = omega arith; declared-at = refl; used-at = refl; declared-rise = omega arith; used-rise = omega arith });
     }
 
-module _ {s : List ℕ} {i d n over : ℕ} {names uses : List ℕ} (U : UpTo s i d n over names uses) where
+module _ {s : List ℕ} {i d n over : ℕ} {start names uses : List ℕ} (U : UpTo s i d n over start names uses) where
   parsed : parse s ≡ from (between (U .done)) s i
   unfolding parse
   parsed = U .same
@@ -307,7 +308,7 @@ module _ {s : List ℕ} {i d n over : ℕ} {names uses : List ℕ} (U : UpTo s i
       go [] h = refl
       go (x ∷ ds) h = absurd (omega arith)
 
-  pub all-spelt : length s ≤ i → (d ≡ 0 → ⊥) → AllSpelt s (record { d = d; n = n; over = over }) names uses
+  pub all-spelt : length s ≤ i → (d ≡ 0 → ⊥) → AllSpelt s (record { d = d; n = n; over = over }) start names uses
   all-spelt l e =
       let h = U .high in
       let g : i ≡ length s = omega arith in
@@ -317,6 +318,7 @@ module _ {s : List ℕ} {i d n over : ℕ} {names uses : List ℕ} (U : UpTo s i
         count = length-reverse (U .done) ∙ U .count;
         room = U .room;
         room-uses = U .room-uses;
+        rest = U .rest;
         limits = subst (λ (k : ℕ). Limits s (reverse (U .done)) d n over k names uses) g (U .limits);
       }
     where
@@ -336,7 +338,7 @@ module _ {s : List ℕ} {i d n over : ℕ} {names uses : List ℕ} (U : UpTo s i
       all-known = (let z = read .noted .counted in omega arith, read .high)
 
       pub all-next : {over′ j : ℕ} {names′ : List ℕ} → names′ ≡ set names d (p .name) → over′ ≡ overLimit (length s) over d i n (p .n) uses′ → Skipped s (p .at) j
-          → (i < j) × UpTo s j (d + 1) (p .n) over′ names′ uses′
+          → (i < j) × UpTo s j (d + 1) (p .n) over′ start names′ uses′
       all-next {over′} {j} {names′} w v K =
           let a = K .low in
           let b = read .low in
@@ -354,6 +356,7 @@ module _ {s : List ℕ} {i d n over : ℕ} {names uses : List ℕ} (U : UpTo s i
               few-uses = omega arith;
               room = ap length w ∙ length-set names d (p .name) ∙ U .room;
               room-uses = ap length (read .noted .wrote) ∙ length-sets uses n (read .noted .places) ∙ U .room-uses;
+              rest = rest-next;
               limits =
                   subst (λ (ds : List Declaration). Limits s ds (d + 1) (p .n) over′ j names′ uses′) (sym (reverse-cons new (U .done)))
                   (limits-next (reverse (U .done)) names (length-reverse (U .done) ∙ U .count) (U .room) (U .room-uses) l read a v w (U .limits));
@@ -362,3 +365,8 @@ module _ {s : List ℕ} {i d n over : ℕ} {names uses : List ℕ} (U : UpTo s i
         where
           new : Declaration
           new = record { place = i; name = useAt s (p .name); content = read .content }
+
+          rest-next : drop (d + 1) names′ ≡ drop (d + 1) start
+          rest-next =
+              ap (drop (d + 1)) w ∙ drop-set-lt (d + 1) names d (p .name) (omega arith)
+              ∙ sym (drop-drop 1 d names) ∙ ap (drop 1) (U .rest) ∙ drop-drop 1 d start

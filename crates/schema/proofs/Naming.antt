@@ -1,4 +1,4 @@
--- Laws of names by their places: sought among others, declared twice, not declared. Assumes nothing.
+-- Laws of names by their places: sought among others, declared twice, not declared.
 use mathlib.Core.Bool.{Bool, true, false, cond, not, _||_}
 use mathlib.Core.List.{List, [], _∷_, _++_, map, map-append}
 use mathlib.Core.Path.{_≡_, refl, sym, ap, _∙_}
@@ -68,14 +68,14 @@ module _ (s : List ℕ) (ns : List (List ℕ)) (ps : List ℕ) (i : ℕ) where
   missing-cons : i < length ps → missingAt s ns (drop i ps) ≡ cond (not (isAmong s ns (getD ps i 0))) (getD ps i 0 ∷ missingAt s ns (drop (suc i) ps)) (missingAt s ns (drop (suc i) ps))
   missing-cons h = ap (missingAt s ns) (drop-cons ps i 0 h)
 
-  pub missing-here : i < length ps → isAmong s ns (getD ps i 0) ≡ false → firstPlace s (missingAt s ns (drop i ps)) ≡ getD ps i 0
-  missing-here h e = ap (firstPlace s) (missing-cons h ∙ yes (getD ps i 0 ∷ missingAt s ns (drop (suc i) ps)) _ (ap not e))
+  pub missing-here : i < length ps → isAmong s ns (getD ps i 0) ≡ false → missingAt s ns (drop i ps) ≡ getD ps i 0 ∷ missingAt s ns (drop (suc i) ps)
+  missing-here h e = missing-cons h ∙ yes (getD ps i 0 ∷ missingAt s ns (drop (suc i) ps)) _ (ap not e)
 
-  pub missing-later : i < length ps → isAmong s ns (getD ps i 0) ≡ true → firstPlace s (missingAt s ns (drop i ps)) ≡ firstPlace s (missingAt s ns (drop (i + 1) ps))
-  missing-later h e = ap (firstPlace s) (missing-cons h ∙ no (getD ps i 0 ∷ missingAt s ns (drop (suc i) ps)) _ (ap not e)) ∙ rw (add-one i)
+  pub missing-later : i < length ps → isAmong s ns (getD ps i 0) ≡ true → missingAt s ns (drop i ps) ≡ missingAt s ns (drop (i + 1) ps)
+  missing-later h e = missing-cons h ∙ no (getD ps i 0 ∷ missingAt s ns (drop (suc i) ps)) _ (ap not e) ∙ rw (add-one i)
 
-  pub missing-never : length ps ≤ i → firstPlace s (missingAt s ns (drop i ps)) ≡ length s
-  missing-never h = ap (λ (l : List ℕ). firstPlace s (missingAt s ns l)) (drop-of-length-le ps h)
+  pub missing-never : length ps ≤ i → missingAt s ns (drop i ps) ≡ []
+  missing-never h = ap (missingAt s ns) (drop-of-length-le ps h)
 
 -- ---- against the definitions
 pub twice-places : (s : List ℕ) (ns : List (List ℕ)) (ds : List Declaration) (ps : List ℕ) → map (λ e. e .name) ds ≡ map (useAt s) ps → twicePlaces ns ds ≡ twiceAt s ns ps

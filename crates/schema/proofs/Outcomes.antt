@@ -1,35 +1,44 @@
--- Laws of the reader's answer: each refusal in its order, and acceptance. Assumes nothing.
+-- Laws of the judgement: each refusal in its order, and acceptance.
 use mathlib.Core.Bool.{Bool, true, false, _||_}
-use mathlib.Core.List.{List, [], _∷_, _++_, map, append-nil, List·Memᴰ as In, List·Memᴰ·head as here}
+use mathlib.Core.List.{List, [], _∷_, _++_, map, map-map, append-nil, List·Memᴰ as In, List·Memᴰ·head as here}
 use mathlib.Core.Option.{Option, some}
 use mathlib.Core.Path.{_≡_, refl, sym, ap, ap₂, subst, _∙_}
 use Prim.Native.Nat.{ℕ, _+_, _-_, _≤_, _<_}
 use native.Mathlib.Omega.{arith}
 use borrow.Author.Tests.{lt-ltb, le-ltb}
 use lib.Dec.{ltb}
-use lib.ListN.{length, take, length-map}
-use lib.Seq.{take-length, length-take-le}
+use lib.ListN.{length, take, drop, replicate, length-map, take-append-drop}
+use lib.Seq.{take-length, take-at, length-take-le}
+use Rattle.schema.proofs.Limits.{places-back}
 use Rattle.schema.proofs.Naming.{twice-places, undeclared-places}
 use Rattle.schema.proofs.Order.{Later, later-none, later-all, later-append, least-first, place-found, place-none, places-rise, filter-rise, twice-rise}
-use Rattle.schema.specs.Answers.{reasonOf, sized, JudgedAs, Readable, Spelling}
-use Rattle.schema.specs.Names.{firstPlace, namesBefore, twiceAt, missingAt}
+use Rattle.schema.proofs.Resolving.{used-elements}
+use Rattle.schema.specs.Judging.{reasonOf, outcomeOf, sized, JudgedAs, JudgedInto, JudgedNames, Located, declaredAt, usedIn, Readable, Spelling}
+use Rattle.schema.specs.Names.{firstPlace, namesBefore, twiceAt, missingAt, elementAt, Resolved}
+use Rattle.declarations.specs.DeclarationLaws.{declared-names}
 use Rattle.particles.specs.Readings.{useAt, Between}
-use Rattle.schema.specs.Whole.{Kept, Limits, within, passed, AllSpelt, AllRead}
+use Rattle.schema.specs.Whole.{WithinLimits, Limits, within, passed, AllSpelt, AllRead}
 use Rattle.schema.specs.declared.All.{All}
 use Rattle.schema.specs.declared.All.the-variants.{Past as AllPast, Fail as AllFail}
-use Rattle.schema.specs.declared.Answer.the-variants.{Accepted, Refused}
+use Rattle.schema.specs.declared.Judgement.the-variants.{Accepted, Refused}
 use Rattle.schema.specs.declared.Counts.{Counts}
+use Rattle.schema.specs.declared.Judgement.{Judgement}
 use Rattle.schema.specs.declared.Kind.{Kind}
 use Rattle.schema.specs.declared.Kind.the-variants.{BadLength, BadByte, BadGrammar, OverLimit, DeclaredTwice, Undeclared}
-use Rattle.schema_spec.specs.Declarations.{Declaration}
+use Rattle.schema_laws.specs.Accepted.{names-of-elements}
+use Rattle.schema_spec.specs.Declarations.{Use, Declaration}
 use Rattle.schema_spec.specs.Machine.{parse}
 use Rattle.schema_spec.specs.Reading.{limitPlaces, twicePlaces, undeclaredPlaces, usesOf, parsedRefusals, parsedSchema, schemaRefusals, readSchema}
-use Rattle.schema_spec.specs.Schemas.{schemaOf, resolved, declaredNames}
+use Rattle.schema_spec.specs.Schemas.{Schema, schemaOf, resolved, declaredNames}
 use Rattle.text.specs.Places.{foreignPlace}
 use Rattle.text_spec.specs.Bytes.{isForeign}
-use Rattle.text_spec.specs.Limits.{maxSchemaBytes}
+use Rattle.text_laws.specs.Cells.{drop-replicate, padded-content}
+use Rattle.text_laws.specs.Tests.{never}
+use Rattle.text_spec.specs.Cells.{padded}
+use Rattle.text_spec.specs.Limits.{maxDeclarations, maxSchemaBytes}
 use Rattle.text_spec.specs.Lists.{isEmpty, placesFrom, gather}
 use Rattle.text_spec.specs.Machines.{Parsed, spells, departs}
+use Rattle.text_spec.specs.Scans.{nameAt}
 use Rattle.text_spec.specs.Refusals.{Reason, badLength, badByte, badSchema, overSchemaLimit, declaredTwice, undeclaredInModel, numberOf, Refusal, at, allAt, given, firstOf, accepted, refused, byFirst, judged}
 use Rattle.text_spec.specs.Texts.{lengthRefusals, byteRefusals}
 
@@ -44,6 +53,19 @@ first-outcome text f e = ap (λ (o : Option Refusal). byFirst o (parsedSchema (p
 
 read-refused : (text : List ℕ) (k : Kind) (p : ℕ) → FirstIs text (at (reasonOf k) p) → JudgedAs text (Refused k p)
 read-refused text k p e = record { outcome = ap sized (sym (first-outcome text (at (reasonOf k) p) e)) }
+
+not-accepted : (text : List ℕ) {k : Kind} {p : ℕ} → JudgedAs text (Refused k p) → (s : Schema) → readSchema text ≡ accepted s → ⊥
+not-accepted text {k} {p} J s e =
+    let z : refused (at (reasonOf k) p) ≡ accepted (length s) = J .outcome ∙ ap sized e in
+    never (cc)
+
+module _ {text names uses : List ℕ} {k : Kind} {p : ℕ} (J : JudgedAs text (Refused k p)) where
+  pub refused-into : JudgedInto text names uses (Refused k p)
+  refused-into = record { outcome = J .outcome; located = λ s e. absurd (not-accepted text J s e) }
+
+  pub refused-names : {uses′ : List ℕ} → length uses′ ≡ length uses → JudgedNames text names uses uses′ (Refused k p)
+  refused-names l =
+      record { outcome = J .outcome; long = l; named = λ s e. absurd (not-accepted text J s e); elements = λ s e. absurd (not-accepted text J s e) }
 
 -- ---- acceptance
 accepted-outcome : (text : List ℕ) {ds : List Declaration} → parse text ≡ spells ds → schemaRefusals text ≡ [] → readSchema text ≡ accepted (schemaOf ds)
@@ -83,18 +105,18 @@ module _ (text : List ℕ) where
       go [] e = refl
       go (b ∷ t) e = absurd (omega arith)
 
-  pub read-long : 8192 < length text → JudgedAs text (Refused BadLength 0)
+  pub read-long : maxSchemaBytes < length text → JudgedAs text (Refused BadLength 0)
   read-long h = read-refused text BadLength 0 (length-first (go (isEmpty text)))
     where
       go : (t : Bool) → (t || ltb maxSchemaBytes (length text)) ≡ true
       go true = refl
       go false = lt-ltb maxSchemaBytes (length text) h
 
-module _ (text : List ℕ) (n : length text ≡ 0 → ⊥) (h : length text ≤ 8192) where
+module _ (text : List ℕ) (n : length text ≡ 0 → ⊥) (h : length text ≤ maxSchemaBytes) where
   length-passes : lengthRefusals maxSchemaBytes text ≡ []
   length-passes = ap (λ (t : Bool). given t (at badLength 0)) (go text n h)
     where
-      go : (t : List ℕ) → (length t ≡ 0 → ⊥) → length t ≤ 8192 → (isEmpty t || ltb maxSchemaBytes (length t)) ≡ false
+      go : (t : List ℕ) → (length t ≡ 0 → ⊥) → length t ≤ maxSchemaBytes → (isEmpty t || ltb maxSchemaBytes (length t)) ≡ false
       go [] n h = absurd (n refl)
       go (b ∷ t) n h = le-ltb maxSchemaBytes (length (b ∷ t)) h
 
@@ -180,22 +202,49 @@ module _ {text names uses : List ℕ} (S : Spelling text names uses) where
       free : length text ≤ lost → schemaRefusals text ≡ []
       free h = lost-refusals ∙ ap (allAt undeclaredInModel) (place-none text (missingAt text (namesBefore text names (length names)) uses) lost-rise u h)
 
-      pub read-accepted : length text ≤ lost → JudgedAs text (Accepted (length names))
-      read-accepted h =
+      accepts : length text ≤ lost → readSchema text ≡ accepted (schemaOf (S .declarations))
+      accepts h = accepted-outcome text (S .spelt) (free h)
+
+      names-here : map (nameAt text) names ≡ declaredNames (S .declarations)
+      names-here = sym (declared-names text (S .declarations) names declared-by)
+
+      named-here : map (nameAt text) names ≡ map (λ e. e .name) (schemaOf (S .declarations))
+      unfolding schemaOf
+      named-here = names-here ∙ sym (names-of-elements (declaredNames (S .declarations)) (S .declarations))
+
+      pub read-accepted : {uses′ : List ℕ} → Resolved text names uses uses′ lost → length text ≤ lost → JudgedNames text names uses uses′ (Accepted (length names))
+      read-accepted {uses′} R h =
           record {
             outcome =
                 ap accepted (sym (elements (S .declarations) ∙ sym (length-map (S .declarations) (λ e. e .name)) ∙ ap length declared-by ∙ length-map names (useAt text)))
-                ∙ ap sized (sym (accepted-outcome text (S .spelt) (free h)));
+                ∙ ap sized (sym (accepts h));
+            long = R .long;
+            named = λ s e. subst (λ (x : Schema). map (nameAt text) names ≡ map (λ e. e .name) x) (given-schema s e) named-here;
+            elements = λ s e. subst (λ (x : Schema). uses′ ≡ usedIn x) (given-schema s e) used-here;
           }
+        where
+          given-schema : (s : Schema) → readSchema text ≡ accepted s → schemaOf (S .declarations) ≡ s
+          given-schema s e =
+              let z : accepted (schemaOf (S .declarations)) ≡ accepted s = sym (accepts h) ∙ e in
+              cc
+
+          none-missing : missingAt text (namesBefore text names (length names)) uses ≡ []
+          none-missing = place-none text (missingAt text (namesBefore text names (length names)) uses) lost-rise u h
+
+          used-here : uses′ ≡ usedIn (schemaOf (S .declarations))
+          used-here =
+              R .elements none-missing
+              ∙ used-elements text names uses (S .declarations) names-here used-by
+              (undeclared-places text (S .declarations) names uses declared-by used-by ∙ none-missing)
 
 -- ---- from the lent places
-module _ {s names uses : List ℕ} {r : All} (A : AllRead s names uses r) where
+module _ {s start names uses : List ℕ} {r : All} (A : AllRead s start names uses r) where
   pub judge-departs : {j : ℕ} → Readable s → r ≡ AllFail j → JudgedAs s (Refused BadGrammar j)
-  judge-departs R u = read-departs s R (subst (AllRead s names uses) u A .says)
+  judge-departs R u = read-departs s R (subst (AllRead s start names uses) u A .says)
 
   module _ {c : Counts} (u : r ≡ AllPast c) where
-    spelt : AllSpelt s c names uses
-    spelt = subst (AllRead s names uses) u A .says
+    spelt : AllSpelt s c start names uses
+    spelt = subst (AllRead s start names uses) u A .says
 
     pub judge-over : Readable s → c .over < length s → JudgedAs s (Refused OverLimit (c .over))
     judge-over R h = go (spelt .limits)
@@ -205,10 +254,10 @@ module _ {s names uses : List ℕ} {r : All} (A : AllRead s names uses r) where
         go (passed b d i l) = read-over s R (c .over) (spelt .spelt) i l
 
     module _ (h : length s ≤ c .over) where
-      kept-all : Kept s (spelt .declarations) (c .d) (c .n) (length s) names uses
+      kept-all : WithinLimits s (spelt .declarations) (c .d) (c .n) (length s) names uses
       kept-all = go (spelt .limits)
         where
-          go : Limits s (spelt .declarations) (c .d) (c .n) (c .over) (length s) names uses → Kept s (spelt .declarations) (c .d) (c .n) (length s) names uses
+          go : Limits s (spelt .declarations) (c .d) (c .n) (c .over) (length s) names uses → WithinLimits s (spelt .declarations) (c .d) (c .n) (length s) names uses
           go (within e k) = k
           go (passed b d i l) = absurd (omega arith)
 
@@ -239,3 +288,31 @@ module _ {s names uses : List ℕ} {r : All} (A : AllRead s names uses r) where
                   used-rise = subst (λ (l : List ℕ). Between 0 (length s) l) (sym (take-length (take (c .n) uses))) (kept-all .used-rise);
                 };
           }
+
+      -- the places that the declarations have
+      places-here : take (c .d) names ≡ map (λ d. d .name .place) (spelt .declarations)
+      places-here =
+          sym (places-back s (take (c .d) names)) ∙ ap (map (λ u. u .place)) (sym (kept-all .declared-at))
+          ∙ map-map (λ (u : Use). u .place) (λ (d : Declaration). d .name) (spelt .declarations)
+
+      pub judge-into : start ≡ replicate maxDeclarations 0 → {uses′ : List ℕ} {j : Judgement} → JudgedNames s (take (c .d) names) (take (c .n) uses) uses′ j
+          → JudgedInto s names (uses′ ++ drop (c .n) uses) j
+      judge-into clear {uses′} J =
+          record {
+            outcome = J .outcome;
+            located =
+                λ x e.
+                let count : length x ≡ c .d = sym (length-map x (λ e. e .name)) ∙ sym (ap length (J .named x e)) ∙ length-map (take (c .d) names) (nameAt s) ∙ sym (judge-room .2) in
+                record {
+                  places = places-padded;
+                  named = ap (λ (n : ℕ). map (nameAt s) (take n names)) count ∙ J .named x e;
+                  elements = ap (λ (l : List ℕ). take (length (usedIn x)) (l ++ drop (c .n) uses)) (J .elements x e) ∙ take-at (usedIn x) (drop (c .n) uses) (length (usedIn x)) refl;
+                };
+          }
+        where
+          places-padded : names ≡ padded maxDeclarations (declaredAt (parse s))
+          places-padded =
+              let some = kept-all .some in
+              let long : length (map (λ d. d .name .place) (spelt .declarations)) ≡ c .d = sym (ap length places-here) ∙ sym (judge-room .2) in
+              sym (take-append-drop (c .d) names) ∙ ap₂ (λ (x y : List ℕ). x ++ y) places-here (spelt .rest ∙ ap (drop (c .d)) clear ∙ drop-replicate (c .d) maxDeclarations 0 ∙ ap (λ (n : ℕ). replicate (maxDeclarations - n) 0) (sym long))
+              ∙ sym (padded-content maxDeclarations (map (λ d. d .name .place) (spelt .declarations)) (omega arith)) ∙ ap (λ (q : Parsed (List Declaration)). padded maxDeclarations (declaredAt q)) (sym (spelt .spelt))

@@ -1,8 +1,10 @@
--- Names by their places: which are the same, declared twice, or used and not declared. Assumes nothing.
+-- Names by their places: which are the same, declared twice, or used and not declared.
 use mathlib.Core.Bool.{Bool, cond, not}
-use mathlib.Core.List.{List, [], _∷_}
+use mathlib.Core.List.{List, [], _∷_, map}
+use mathlib.Core.Path.{_≡_}
 use Prim.Native.Nat.{ℕ, zero, suc}
 use lib.ListN.{length, getD}
+use Rattle.schema_spec.specs.Schemas.{indexFrom}
 use Rattle.text_spec.specs.Scans.{nameAt}
 use Rattle.text_spec.specs.Lists.{anyOf, filterBy, first, valueOr, sameBytes}
 
@@ -27,3 +29,14 @@ twiceAt s ns (p ∷ ps) = cond (isAmong s ns p) (p ∷ twiceAt s (nameAt s p ∷
 -- the places whose names are not among ns
 abbrev pub missingAt : List ℕ → List (List ℕ) → List ℕ → List ℕ
 missingAt s ns ps = filterBy (λ p. not (isAmong s ns p)) ps
+
+-- the element whose name stands at p: its index among the names at some places, or their number
+abbrev pub elementAt : List ℕ → List ℕ → ℕ → ℕ
+elementAt s names p = valueOr (length names) (indexFrom 0 (nameAt s p) (map (nameAt s) names))
+
+-- Used names resolved: the first place whose name is not declared, or the text's length; if there is none, each place has become the element
+-- with the name that stands there.
+pub record Resolved (s names uses uses′ : List ℕ) (r : ℕ) : Type 0 where
+  pub missing : r ≡ firstPlace s (missingAt s (namesBefore s names (length names)) uses)
+  pub long : length uses′ ≡ length uses
+  pub elements : missingAt s (namesBefore s names (length names)) uses ≡ [] → uses′ ≡ map (elementAt s names) uses

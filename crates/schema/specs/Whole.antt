@@ -1,11 +1,11 @@
 -- What reading all declarations of a text answers: what it spells, the places of its names in lent cells, and the first place that passes
--- a limit. Assumes nothing.
+-- a limit.
 use mathlib.Core.Bool.{cond}
 use mathlib.Core.List.{List, [], map, reverse, List·Memᴰ as In}
 use mathlib.Core.Path.{_≡_}
 use Prim.Native.Nat.{ℕ, _+_, _*_, _-_, _≤_, _<_}
 use lib.Dec.{leb, ltb}
-use lib.ListN.{length, take, getD}
+use lib.ListN.{length, take, drop, getD}
 use Rattle.particles.specs.Readings.{useAt, Between}
 use Rattle.scanning.specs.Outcomes.{NoBlank}
 use Rattle.schema.specs.declared.All.{All}
@@ -27,7 +27,7 @@ overLimit size over d i n m uses =
     (cond (ltb maxModelNames (m - n)) (getD uses (n + maxModelNames) 0) size))
 
 -- declarations within the limits, with the places of their names and of the names in their models, all before i
-pub record Kept (s : List ℕ) (ds : List Declaration) (d n i : ℕ) (names uses : List ℕ) : Type 0 where
+pub record WithinLimits (s : List ℕ) (ds : List Declaration) (d n i : ℕ) (names uses : List ℕ) : Type 0 where
   pub free : limitPlaces ds ≡ []
   pub some : d ≤ maxDeclarations
   pub small : n ≤ d * maxModelNames
@@ -37,11 +37,11 @@ pub record Kept (s : List ℕ) (ds : List Declaration) (d n i : ℕ) (names uses
   pub used-rise : Between 0 i (take n uses)
 
 pub data Limits (s : List ℕ) (ds : List Declaration) (d n over i : ℕ) (names uses : List ℕ) : Type 0 where
-  within : over ≡ length s → Kept s ds d n i names uses → Limits s ds d n over i names uses
+  within : over ≡ length s → WithinLimits s ds d n i names uses → Limits s ds d n over i names uses
   passed : over < length s → over ≤ i → In over (limitPlaces ds) → ((x : ℕ) → In x (limitPlaces ds) → over ≤ x) → Limits s ds d n over i names uses
 
--- what was read up to i
-pub record UpTo (s : List ℕ) (i d n over : ℕ) (names uses : List ℕ) : Type 0 where
+-- what was read up to i, where the cells for names held `start`
+pub record UpTo (s : List ℕ) (i d n over : ℕ) (start names uses : List ℕ) : Type 0 where
   -- the last first
   pub done : List Declaration
   pub same : from (between []) s 0 ≡ from (between done) s i
@@ -52,20 +52,22 @@ pub record UpTo (s : List ℕ) (i d n over : ℕ) (names uses : List ℕ) : Type
   pub few-uses : n ≤ i
   pub room : length names ≡ maxDeclarations
   pub room-uses : length uses ≡ maxDeclarations * maxModelNames + 1
+  pub rest : drop d names ≡ drop d start
   pub limits : Limits s (reverse done) d n over i names uses
 
 -- the whole text
-pub record AllSpelt (s : List ℕ) (c : Counts) (names uses : List ℕ) : Type 0 where
+pub record AllSpelt (s : List ℕ) (c : Counts) (start names uses : List ℕ) : Type 0 where
   pub declarations : List Declaration
   pub spelt : parse s ≡ spells declarations
   pub count : length declarations ≡ c .d
   pub room : length names ≡ maxDeclarations
   pub room-uses : length uses ≡ maxDeclarations * maxModelNames + 1
+  pub rest : drop (c .d) names ≡ drop (c .d) start
   pub limits : Limits s declarations (c .d) (c .n) (c .over) (length s) names uses
 
-abbrev pub AllAs : List ℕ → List ℕ → List ℕ → All → Type 0
-AllAs s names uses (Past c) = AllSpelt s c names uses
-AllAs s names uses (Fail j) = parse s ≡ departs j
+abbrev pub AllAs : List ℕ → List ℕ → List ℕ → List ℕ → All → Type 0
+AllAs s start names uses (Past c) = AllSpelt s c start names uses
+AllAs s start names uses (Fail j) = parse s ≡ departs j
 
-pub record AllRead (s names uses : List ℕ) (r : All) : Type 0 where
-  pub says : AllAs s names uses r
+pub record AllRead (s start names uses : List ℕ) (r : All) : Type 0 where
+  pub says : AllAs s start names uses r

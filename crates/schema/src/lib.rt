@@ -3,24 +3,24 @@
 ghost use mathlib.Core.List.{[]};
 ghost use mathlib.Core.Path.{_≡_};
 ghost use Prim.Native.Nat.{_+_, _*_, _≤_, _<_};
-ghost use lib.ListN.{length, getD};
+ghost use lib.ListN.{length, getD, replicate};
 ghost use Rattle.schema.specs.Whole.{overLimit, AllRead};
-ghost use Rattle.schema.specs.Names.{firstPlace, namesBefore, twiceAt, missingAt};
-ghost use Rattle.schema.specs.Answers.{emptySchema, reasonOf, Readable, Spelling, JudgedAs};
+ghost use Rattle.schema.specs.Names.{firstPlace, twiceAt, Resolved};
+ghost use Rattle.schema.specs.Judging.{emptySchema, reasonOf, Readable, Spelling, JudgedAs, JudgedNames, JudgedInto};
 ghost use Rattle.text_spec.specs.Limits.{maxDeclarations, maxModelNames};
 ghost use Rattle.text_spec.specs.Refusals.{numberOf};
 use declarations::DeclarationOutcome;
 
 // A schema: an accepted text in its normal form, in the first `len` bytes; the others are 0.
 pub struct Schema {
-    pub bytes: [u8; 8192],
+    pub bytes: [u8; Schema::MAX_BYTES],
     pub len: usize,
 }
 
 impl Schema {
-    pub const MAX_DECLARATIONS: usize = 32;
+    pub const MAX_DECLARATIONS: usize = names::MAX_ELEMENTS;
 
-    pub const MAX_MODEL_NAMES: usize = 64;
+    pub const MAX_MODEL_NAMES: usize = models::MAX_POSITIONS;
 
     pub const MAX_BYTES: usize = 8192;
 
@@ -33,11 +33,14 @@ impl Schema {
         ensures { λ r. ⌜ r ≡ emptySchema ⌝ }
     {
         Schema {
-            bytes: [0; 8192],
+            bytes: [0; Schema::MAX_BYTES],
             len: 0,
         }
     }
 }
+
+// The names that the models of a schema use, and one more: where a limit is passed, its place is among them.
+pub const MAX_USES: usize = Schema::MAX_DECLARATIONS * Schema::MAX_MODEL_NAMES + 1;
 
 // All declarations: how many there are, how many names their models use, and the first place that passes a limit, or the text's length.
 pub struct Counts {
@@ -87,9 +90,9 @@ fn over_limit(
 }
 
 // Reads all declarations. The places of the declared names go to `names`, those of the names in models to `uses`.
-pub fn all_declarations(s: &[u8], names: &mut [usize], uses: &mut [usize]) -> All
+fn all_declarations(s: &[u8], names: &mut [usize], uses: &mut [usize]) -> All
     requires { ⌜ (length (now names) ≡ maxDeclarations) × (length (now uses) ≡ maxDeclarations * maxModelNames + 1) ⌝ }
-    ensures { λ r. ⌜ AllRead (now (s .entry)) (now (names .exit)) (now (uses .exit)) r ⌝ }
+    ensures { λ r. ⌜ AllRead (now (s .entry)) (now (names .entry)) (now (names .exit)) (now (uses .exit)) r ⌝ }
 {
     let size = s.len();
     let mut i = scanning::skip(s, 0);
@@ -133,16 +136,18 @@ fn twice(s: &[u8], names: &[usize]) -> usize
     s.len()
 }
 
-// The first of the used names that is not declared, or the text's length.
-fn undeclared(s: &[u8], names: &[usize], uses: &[usize]) -> usize
-    ensures { λ r. ⌜ r ≡ firstPlace (now (s .entry)) (missingAt (now (s .entry)) (namesBefore (now (s .entry)) (now (names .entry)) (length (now (names .entry)))) (now (uses .entry))) ⌝ }
+// Replaces the place of each used name by the element with that name. The first place whose name is not declared, or the text's length.
+fn resolve(s: &[u8], names: &[usize], uses: &mut [usize]) -> usize
+    ensures { λ r. ⌜ Resolved (now (s .entry)) (now (names .entry)) (now (uses .entry)) (now (uses .exit)) r ⌝ }
 {
     let mut i = 0;
     while i < uses.len() {
         let p = uses[i];
-        if names.len() <= schema_names::find(s, names, s, p) {
+        let e = schema_names::find(s, names, s, p);
+        if names.len() <= e {
             return p;
         }
+        uses[i] = e;
         i += 1;
     }
     s.len()
@@ -175,61 +180,69 @@ impl Kind {
 }
 
 // The number of elements, or the refusal and its place.
-pub enum Answer {
+pub enum Judgement {
     Accepted(usize),
     Refused(Kind, usize),
 }
 
-// Judges 6 and 7 on a text whose names are declared at `names` and used at `uses`.
-fn judge_names(s: &[u8], names: &[usize], uses: &[usize]) -> Answer
+// Judges 6 and 7 on a text whose names are declared at `names` and used at `uses`, which on acceptance become the elements with those names.
+fn judge_names(s: &[u8], names: &[usize], uses: &mut [usize]) -> Judgement
     requires { ⌜ Spelling (now s) (now names) (now uses) ⌝ }
-    ensures { λ r. ⌜ JudgedAs (now (s .entry)) r ⌝ }
+    ensures { λ r. ⌜ JudgedNames (now (s .entry)) (now (names .entry)) (now (uses .entry)) (now (uses .exit)) r ⌝ }
 {
     let again = twice(s, names);
     if again < s.len() {
-        return Answer::Refused(Kind::DeclaredTwice, again);
+        return Judgement::Refused(Kind::DeclaredTwice, again);
     }
-    let missing = undeclared(s, names, uses);
+    let missing = resolve(s, names, uses);
     if missing < s.len() {
-        return Answer::Refused(Kind::Undeclared, missing);
+        return Judgement::Refused(Kind::Undeclared, missing);
     }
-    Answer::Accepted(names.len())
+    Judgement::Accepted(names.len())
 }
 
 // Judges 4 to 7 on a text that passes 2 and 3.
-fn judge(s: &[u8]) -> Answer
-    requires { ⌜ Readable (now s) ⌝ }
-    ensures { λ r. ⌜ JudgedAs (now (s .entry)) r ⌝ }
+fn judge(s: &[u8], names: &mut [usize], uses: &mut [usize]) -> Judgement
+    requires { ⌜ Readable (now s) × (now names ≡ replicate maxDeclarations 0) × (length (now uses) ≡ maxDeclarations * maxModelNames + 1) ⌝ }
+    ensures { λ r. ⌜ JudgedInto (now (s .entry)) (now (names .exit)) (now (uses .exit)) r ⌝ }
 {
-    let mut names = [0usize; 32];
-    let mut uses = [0usize; 2049];
-    match all_declarations(s, &mut names, &mut uses) {
-        All::Fail(j) => Answer::Refused(Kind::BadGrammar, j),
+    match all_declarations(s, names, uses) {
+        All::Fail(j) => Judgement::Refused(Kind::BadGrammar, j),
         All::Past(c) => {
             let d = c.d;
             let n = c.n;
             let over = c.over;
             if over < s.len() {
-                return Answer::Refused(Kind::OverLimit, over);
+                return Judgement::Refused(Kind::OverLimit, over);
             }
-            judge_names(s, &names[..d], &uses[..n])
+            judge_names(s, &names[..d], &mut uses[..n])
         }
     }
 }
 
-// Judges a schema text: the number of elements, or the refusal that comes first.
-pub fn judge_schema(text: &[u8]) -> Answer
-    ensures { λ r. ⌜ JudgedAs (now (text .entry)) r ⌝ }
+// Judges a schema text. On acceptance the places of its declared names are left in `names`, and in `uses` the elements that its models use.
+pub fn judge_into(text: &[u8], names: &mut [usize], uses: &mut [usize]) -> Judgement
+    requires { ⌜ (now names ≡ replicate maxDeclarations 0) × (length (now uses) ≡ maxDeclarations * maxModelNames + 1) ⌝ }
+    ensures { λ r. ⌜ JudgedInto (now (text .entry)) (now (names .exit)) (now (uses .exit)) r ⌝ }
 {
     if text.len() == 0 {
-        return Answer::Refused(Kind::BadLength, 0);
+        return Judgement::Refused(Kind::BadLength, 0);
     }
     if Schema::MAX_BYTES < text.len() {
-        return Answer::Refused(Kind::BadLength, 0);
+        return Judgement::Refused(Kind::BadLength, 0);
     }
     let foreign = text::first_foreign(text);
     if foreign < text.len() {
-        return Answer::Refused(Kind::BadByte, foreign);
+        return Judgement::Refused(Kind::BadByte, foreign);
     }
-    judge(text)
+    judge(text, names, uses)
+}
+
+// Judges a schema text: the number of elements, or the refusal that comes first.
+pub fn judge_schema(text: &[u8]) -> Judgement
+    ensures { λ r. ⌜ JudgedAs (now (text .entry)) r ⌝ }
+{
+    let mut names = [0usize; Schema::MAX_DECLARATIONS];
+    let mut uses = [0usize; MAX_USES];
+    judge_into(text, &mut names, &mut uses)
 }

@@ -4,7 +4,7 @@ use mathlib.Core.Logic.{_⊎_, inl, inr}
 use mathlib.Core.Path.{_≡_, refl, sym, ap, subst}
 use Prim.Native.Nat.{ℕ}
 use native.Mathlib.Omega.{arith}
-use lib.Dec.{T}
+use lib.Dec.{T, eqb, eqb→eq, eqb-refl}
 
 -- What does not hold gives anything. `cc` shows 0 ≡ 1 from an equation between two constructors.
 pub never : {A : Type 0} → _≡_ {A = ℕ} 0 1 → A
@@ -89,3 +89,10 @@ module _ {A : Type 0} {b : Bool} (x y : A) where
 
   pub cond-no : b ≡ false → cond b x y ≡ y
   cond-no e = ap (λ (t : Bool). cond t x y) e
+
+-- equality of numbers as a test is symmetric
+pub eqb-sym : (a b : ℕ) → eqb a b ≡ eqb b a
+eqb-sym a b = same-test (eqb a b) (eqb b a) (turned a b) (turned b a)
+  where
+    turned : (x y : ℕ) → T (eqb x y) → T (eqb y x)
+    turned x y t = subst (λ (z : ℕ). T (eqb z x)) (eqb→eq x y t) (eqb-refl x)

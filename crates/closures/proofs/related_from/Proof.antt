@@ -1,22 +1,23 @@
--- `closures::related_from` meets its contract. Assumes nothing.
+-- `closures::related_from` meets its contract.
 use mathlib.Core.Bool.{Bool, _&&_, _||_}
 use mathlib.Core.Path.{_≡_, ap, _∙_}
 use Prim.Native.Nat.{ℕ, _≤_, _-_}
 use native.Mathlib.Numerals.{add-one}
-use Rattle.closures.specs.Tables.{relates}
+use Rattle.closures.specs.Relations.{relates}
 use Rattle.names.specs.Sets.{member}
 use Rattle.schema_spec.specs.Names.{Name, element}
 use Rattle.text_spec.specs.Lists.{anyBelow}
+use Rattle.text_spec.specs.Limits.{maxDeclarations}
 use borrow.Author.Needs.{needs}
 use native.Mathlib.Omega.{arith}
 use Rattle.closures.proofs.related_from.Statement.{statement}
 use Rattle.closures.proofs.related_from.Tie as tie
 
 abbrev Inv-loop : tie.InvT-loop
-Inv-loop s rows out₀ i₀ out i = (i ≤ 32) × ((b : Name) → member out b ≡ anyBelow i (λ a. member s (element a) && relates rows a b))
+Inv-loop s images out₀ i₀ out i = (i ≤ maxDeclarations) × ((b : Name) → member out b ≡ anyBelow i (λ a. member s (element a) && relates images a b))
 
 abbrev μ-loop : tie.MeasureT-loop
-μ-loop s rows out₀ i₀ out i = 32 - i
+μ-loop s images out₀ i₀ out i = maxDeclarations - i
 
 loop-holds : tie.Need-loop-holds Inv-loop μ-loop
 unfolding anyBelow
@@ -35,7 +36,7 @@ returns : tie.Need-returns Inv-loop μ-loop
 returns c b =
     let at = c .before .loop in
     let args = c .before .before .before .args in
-    let last : at .i ≡ 32 = omega arith in
+    let last : at .i ≡ maxDeclarations = omega arith in
     at .inv .1 b ∙ ap (λ (i : ℕ). anyBelow i (λ a. member (args .s) (element a) && relates (args .t1) a b)) last
 
 pub related-from-spec : {M : Type 1} → statement M

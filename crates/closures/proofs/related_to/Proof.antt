@@ -1,20 +1,21 @@
--- `closures::related_to` meets its contract. Assumes nothing.
+-- `closures::related_to` meets its contract.
 use mathlib.Core.Path.{_≡_, _∙_}
 use Prim.Native.Nat.{_≤_, _-_}
 use lib.ListN.{length}
 use Rattle.closures.specs.Rounds.{holdersBefore, holders-first, holders-all, holders-next}
 use Rattle.names.specs.Sets.{member}
 use Rattle.schema_spec.specs.Names.{Name}
+use Rattle.text_spec.specs.Limits.{maxDeclarations}
 use borrow.Author.Needs.{needs}
 use native.Mathlib.Omega.{arith}
 use Rattle.closures.proofs.related_to.Statement.{statement}
 use Rattle.closures.proofs.related_to.Tie as tie
 
 abbrev Inv-loop : tie.InvT-loop
-Inv-loop s rows out₀ i₀ out i = (i ≤ 32) × ((n : Name) → member out n ≡ holdersBefore rows s i n)
+Inv-loop s images out₀ i₀ out i = (i ≤ maxDeclarations) × ((n : Name) → member out n ≡ holdersBefore images s i n)
 
 abbrev μ-loop : tie.MeasureT-loop
-μ-loop s rows out₀ i₀ out i = 32 - i
+μ-loop s images out₀ i₀ out i = maxDeclarations - i
 
 loop-holds : tie.Need-loop-holds Inv-loop μ-loop
 loop-holds c =
@@ -31,7 +32,7 @@ returns : tie.Need-returns Inv-loop μ-loop
 returns c n =
     let at = c .before .loop in
     let args = c .before .before .before .args in
-    let long : length (args .t1) ≡ 32 = search needs in
+    let long : length (args .t1) ≡ maxDeclarations = search needs in
     at .inv .1 n ∙ holders-all (args .t1) (args .s) (at .i) (omega arith) n
 
 pub related-to-spec : {M : Type 1} → statement M

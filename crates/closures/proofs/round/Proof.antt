@@ -1,25 +1,26 @@
--- `closures::round` meets its contract: the rows that the loop has passed have had the round. Assumes nothing.
+-- `closures::round` meets its contract: the images that the loop has passed have had the round.
 use mathlib.Core.Path.{_≡_, _∙_}
 use Prim.Native.Nat.{_≤_, _-_}
 use lib.ListN.{length, length-set}
-use Rattle.closures.specs.Rounds.{Grown, grown-row, grown-all}
+use Rattle.closures.specs.Rounds.{AfterRound, round-at, round-all}
 use Rattle.names.specs.Sets.{nothing}
 use Rattle.text_laws.specs.Loops.{Passed, passed-first, passed-next}
+use Rattle.text_spec.specs.Limits.{maxDeclarations}
 use borrow.Author.Needs.{needs}
 use native.Mathlib.Omega.{arith}
 use Rattle.closures.proofs.round.Statement.{statement}
 use Rattle.closures.proofs.round.Tie as tie
 
 abbrev Inv-loop : tie.InvT-loop
-Inv-loop k row out₀ i₀ out i = (i ≤ 32) × ((length out ≡ 32) × Passed (Grown out₀ k) nothing out₀ i out)
+Inv-loop k image out₀ i₀ out i = (i ≤ maxDeclarations) × ((length out ≡ maxDeclarations) × Passed (AfterRound out₀ k) nothing out₀ i out)
 
 abbrev μ-loop : tie.MeasureT-loop
-μ-loop k row out₀ i₀ out i = 32 - i
+μ-loop k image out₀ i₀ out i = maxDeclarations - i
 
 loop-holds : tie.Need-loop-holds Inv-loop μ-loop
 loop-holds c =
     let args = c .before .args in
-    (omega arith, (search needs, passed-first (Grown (args .t1) (args .k)) nothing (args .t1)))
+    (omega arith, (search needs, passed-first (AfterRound (args .t1) (args .k)) nothing (args .t1)))
 
 loop-again : tie.Need-loop-again Inv-loop μ-loop
 loop-again c =
@@ -28,8 +29,8 @@ loop-again c =
       omega arith,
       (
         length-set (at .out) (at .i) (c .grown .result) ∙ at .inv .1 .0,
-        passed-next (Grown (args .t1) (args .k)) nothing (args .t1) (at .i) (at .out) (c .grown .result) (omega arith) (at .inv .1 .1)
-            (grown-row (args .t1) (args .k) (at .i) (at .out) (c .grown .result) (at .inv .1 .1) (c .grown .ensures)),
+        passed-next (AfterRound (args .t1) (args .k)) nothing (args .t1) (at .i) (at .out) (c .grown .result) (omega arith) (at .inv .1 .1)
+            (round-at (args .t1) (args .k) (at .i) (at .out) (c .grown .result) (at .inv .1 .1) (c .grown .ensures)),
       ),
     )
 
@@ -37,8 +38,8 @@ returns : tie.Need-returns Inv-loop μ-loop
 returns c =
     let at = c .before .loop in
     let args = c .before .before .before .args in
-    let long : length (args .t1) ≡ 32 = search needs in
-    grown-all (args .t1) (args .k) (at .i) (at .out) (omega arith) (at .inv .1 .1)
+    let long : length (args .t1) ≡ maxDeclarations = search needs in
+    round-all (args .t1) (args .k) (at .i) (at .out) (omega arith) (at .inv .1 .1)
 
 pub round-spec : {M : Type 1} → statement M
 round-spec =

@@ -1,4 +1,4 @@
--- `closures::rounds_of` meets its contract. Assumes nothing.
+-- `closures::rounds_of` meets its contract.
 use mathlib.Core.Logic.{inl, inr}
 use mathlib.Core.Path.{refl}
 use native.Mathlib.Omega.{arith}

@@ -1,4 +1,4 @@
--- `closures::with_holder` meets its contract. Assumes nothing.
+-- `closures::with_holder` meets its contract.
 use mathlib.Core.Bool.{Bool, true, _&&_, _||_, or-false, and-false}
 use mathlib.Core.Path.{_≡_, sym, ap, _∙_}
 use native.Mathlib.Omega.{arith}
@@ -13,7 +13,7 @@ use Rattle.closures.proofs.with_holder.Tie as tie
 returns : tie.Need-returns
 returns c n =
     let args = c .before .before .before .args in
-    let met : overlap (args .row) (args .s) ≡ true = sym (c .before .before .meets .ensures) ∙ c .before .if1 .taken in
+    let met : overlap (args .image) (args .s) ≡ true = sym (c .before .before .meets .ensures) ∙ c .before .if1 .taken in
     c .insert-element .ensures n
     ∙ ap (λ (b : Bool). member (args .out) n || (sameName n (element (args .k)) && b)) (lt-ltb (args .k) 64 (omega arith) ∙ sym met)
 

@@ -1,4 +1,4 @@
--- `models::in_choice` meets its contract. Assumes nothing.
+-- `models::in_choice` meets its contract.
 use Rattle.models.specs.BuildingLaws.{choice-ends}
 use borrow.Author.Needs.{needs}
 use Rattle.models.proofs.in_choice.Statement.{statement}

@@ -1,4 +1,4 @@
--- `models::in_repetition` meets its contract. Assumes nothing.
+-- `models::in_repetition` meets its contract.
 use Rattle.models.specs.BuildingLaws.{repeated-ends}
 use borrow.Author.Needs.{needs}
 use Rattle.models.proofs.in_repetition.Statement.{statement}

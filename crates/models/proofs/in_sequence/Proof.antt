@@ -1,4 +1,4 @@
--- `models::in_sequence` meets its contract. Assumes nothing.
+-- `models::in_sequence` meets its contract.
 use Rattle.models.specs.BuildingLaws.{sequence-ends}
 use borrow.Author.Needs.{needs}
 use Rattle.models.proofs.in_sequence.Statement.{statement}

@@ -1,4 +1,4 @@
--- `models::joined_if` meets its contract. Assumes nothing.
+-- `models::joined_if` meets its contract.
 use mathlib.Core.Bool.{Bool, _&&_, _||_, or-false}
 use mathlib.Core.Path.{sym, ap, _∙_}
 use Rattle.schema_spec.specs.Names.{hasBit}

@@ -1,4 +1,4 @@
--- `models::link` meets its contract: the positions that the loop has passed are linked. Assumes nothing.
+-- `models::link` meets its contract: the positions that the loop has passed are linked.
 use mathlib.Core.Path.{_≡_, refl, _∙_}
 use Prim.Native.Nat.{_≤_, _-_}
 use lib.ListN.{length, length-set}

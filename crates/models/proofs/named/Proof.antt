@@ -1,4 +1,4 @@
--- `models::named` meets its contract. Assumes nothing.
+-- `models::named` meets its contract.
 use Rattle.models.specs.BuildingLaws.{named-ends}
 use borrow.Author.Needs.{needs}
 use Rattle.models.proofs.named.Statement.{statement}

@@ -1,4 +1,4 @@
--- `all_declarations` meets its contract: what was read up to i. Assumes nothing.
+-- `all_declarations` meets its contract: what was read up to i.
 use mathlib.Core.Path.{_≡_, refl}
 use Prim.Native.Nat.{_-_}
 use lib.ListN.{length}
@@ -10,7 +10,7 @@ use Rattle.schema.proofs.all_declarations.Statement.{statement}
 use Rattle.schema.proofs.all_declarations.Tie as tie
 
 abbrev Inv-loop : tie.InvT-loop
-Inv-loop s names₀ uses₀ size i₀ d₀ n₀ over₀ unused₀ names uses i d n over unused = UpTo s i d n over names uses × (length unused ≡ 1)
+Inv-loop s names₀ uses₀ size i₀ d₀ n₀ over₀ unused₀ names uses i d n over unused = UpTo s i d n over names₀ names uses × (length unused ≡ 1)
 
 abbrev μ-loop : tie.MeasureT-loop
 μ-loop s names₀ uses₀ size i₀ d₀ n₀ over₀ unused₀ names uses i d n over unused = length s - i

@@ -1,0 +1,88 @@
+-- What judging a schema text answers and leaves in lent cells, in the definition's terms.
+use mathlib.Core.List.{List, [], map}
+use mathlib.Core.Path.{_≡_}
+use Prim.Native.Nat.{ℕ, _≤_}
+use lib.ListN.{length, take, replicate}
+use Rattle.schema.specs.declared.Judgement.{Judgement}
+use Rattle.schema.specs.declared.Judgement.the-variants.{Accepted, Refused}
+use Rattle.schema.specs.declared.Kind.{Kind}
+use Rattle.schema.specs.declared.Kind.the-variants.{BadLength, BadByte, BadGrammar, OverLimit, DeclaredTwice, Undeclared}
+use Rattle.schema.specs.declared.Schema.{Schema as Record}
+use Rattle.schema.specs.Whole.{WithinLimits}
+use Rattle.schema_spec.specs.Declarations.{Declaration}
+use Rattle.schema_spec.specs.Machine.{parse}
+use Rattle.schema_spec.specs.Models.{usesIn}
+use Rattle.schema_spec.specs.Reading.{readSchema}
+use Rattle.schema_spec.specs.Schemas.{Schema}
+use Rattle.text_spec.specs.Cells.{padded}
+use Rattle.text_spec.specs.Limits.{maxDeclarations, maxSchemaBytes}
+use Rattle.text_spec.specs.Lists.{gather}
+use Rattle.text_spec.specs.Machines.{Parsed, spells, departs}
+use Rattle.text_spec.specs.Scans.{nameAt}
+use Rattle.text_spec.specs.Refusals.{Reason, badLength, badByte, badSchema, overSchemaLimit, declaredTwice, undeclaredInModel, at, Outcome, accepted, refused}
+use Rattle.text_spec.specs.Texts.{lengthRefusals, byteRefusals}
+
+-- the schema that is handed back on refusal
+abbrev pub emptySchema : Record
+emptySchema = record { bytes = replicate maxSchemaBytes 0; len = 0 }
+
+-- the kinds of refusal as document 01's: 2 to 7
+abbrev pub reasonOf : Kind → Reason
+reasonOf BadLength = badLength
+reasonOf BadByte = badByte
+reasonOf BadGrammar = badSchema
+reasonOf OverLimit = overSchemaLimit
+reasonOf DeclaredTwice = declaredTwice
+reasonOf Undeclared = undeclaredInModel
+
+-- a judgement as an outcome: accepted with so many elements, or refused
+abbrev pub outcomeOf : Judgement → Outcome ℕ
+outcomeOf (Accepted n) = accepted n
+outcomeOf (Refused k p) = refused (at (reasonOf k) p)
+
+abbrev pub sized : Outcome Schema → Outcome ℕ
+sized (accepted s) = accepted (length s)
+sized (refused f) = refused f
+
+-- judging a text answers so
+pub record JudgedAs (text : List ℕ) (r : Judgement) : Type 0 where
+  pub outcome : outcomeOf r ≡ sized (readSchema text)
+
+-- the elements that the models of a schema use, model by model
+abbrev pub usedIn : Schema → List ℕ
+usedIn s = gather (λ e. usesIn (e .content)) s
+
+-- the places of the names that a text declares
+abbrev pub declaredAt : Parsed (List Declaration) → List ℕ
+declaredAt (spells ds) = map (λ d. d .name .place) ds
+declaredAt (departs k) = []
+
+-- What an accepted text leaves in lent cells: the places of the declared names and then zeros, and first the elements that its models use.
+pub record Located (text : List ℕ) (s : Schema) (names uses : List ℕ) : Type 0 where
+  pub places : names ≡ padded maxDeclarations (declaredAt (parse text))
+  pub named : map (nameAt text) (take (length s) names) ≡ map (λ e. e .name) s
+  pub elements : take (length (usedIn s)) uses ≡ usedIn s
+
+pub record JudgedInto (text names uses : List ℕ) (r : Judgement) : Type 0 where
+  pub outcome : outcomeOf r ≡ sized (readSchema text)
+  pub located : (s : Schema) → readSchema text ≡ accepted s → Located text s names uses
+
+-- the same of a text whose names are declared at `names`, and used at `uses` before it is judged
+pub record JudgedNames (text names uses uses′ : List ℕ) (r : Judgement) : Type 0 where
+  pub outcome : outcomeOf r ≡ sized (readSchema text)
+  pub long : length uses′ ≡ length uses
+  pub named : (s : Schema) → readSchema text ≡ accepted s → map (nameAt text) names ≡ map (λ e. e .name) s
+  pub elements : (s : Schema) → readSchema text ≡ accepted s → uses′ ≡ usedIn s
+
+-- a text that passes 2 and 3
+pub record Readable (text : List ℕ) : Type 0 where
+  pub right-length : lengthRefusals maxSchemaBytes text ≡ []
+  pub right-bytes : byteRefusals text ≡ []
+  pub short : length text ≤ maxSchemaBytes
+
+-- and 4 and 5, with the places of its declared and of its used names
+pub record Spelling (text names uses : List ℕ) : Type 0 where
+  pub readable : Readable text
+  pub declarations : List Declaration
+  pub spelt : parse text ≡ spells declarations
+  pub kept : WithinLimits text declarations (length names) (length uses) (length text) names uses

@@ -1,0 +1,75 @@
+-- Laws of what an element holds: the elements of its model, one by one, or its text name.
+use mathlib.Core.Bool.{Bool, true, false, _&&_, _||_, or-false, or-assoc, and-true, and-false}
+use mathlib.Core.List.{List, [], _∷_, List·Memᴰ as In, List·Memᴰ·head as here, List·Memᴰ·tail as there}
+use mathlib.Core.Path.{_≡_, refl, sym, ap, ap₂, _∙_}
+use Prim.Native.Nat.{ℕ, suc, _+_, _≤_, _<_}
+use native.Mathlib.Numerals.{add-one}
+use borrow.Author.Tests.{lt-ltb}
+use lib.Dec.{eqb, ltb}
+use lib.ListN.{length, drop, getD, drop-of-length-le}
+use lib.Seq.{drop-cons}
+use Rattle.names.specs.Sets.{member}
+use Rattle.names.specs.declared.NameSet.{NameSet}
+use Rattle.schema_spec.specs.Models.{Content, empty, pcdata, children}
+use Rattle.schema_spec.specs.Names.{Name, element, text, sameName}
+use Rattle.schema_spec.specs.Schemas.{Schema, contentAt, modelAt, isPcdata}
+use Rattle.schema_spec.specs.Types.{holds}
+use Rattle.schema_elements.specs.Entries.{kindOf, isOneOf, isHeld}
+use Rattle.text_laws.specs.Tests.{eqb-sym}
+use Rattle.text_spec.specs.Lists.{anyOf}
+
+-- one element more
+module _ (elements : List ℕ) where
+  pub among-first : (set : NameSet) → ((n : Name) → member set n ≡ false) → (n : Name) → (member set n || isOneOf elements n) ≡ isOneOf elements n
+  among-first set h n = ap (λ (b : Bool). b || isOneOf elements n) (h n)
+
+  pub among-next : (i : ℕ) (set next : NameSet) → i < length elements → ((n : Name) → (member set n || isOneOf (drop i elements) n) ≡ isOneOf elements n)
+      → ((n : Name) → member next n ≡ (member set n || (sameName n (element (getD elements i 0)) && ltb (getD elements i 0) 64)))
+      → (n : Name) → (member next n || isOneOf (drop (i + 1) elements) n) ≡ isOneOf elements n
+  among-next i set next l inv new n = ap (λ (b : Bool). b || isOneOf (drop (i + 1) elements) n) (new n) ∙ rw (add-one i) (go n) ∙ inv n
+    where
+      go : (m : Name) → ((member set m || (sameName m (element (getD elements i 0)) && ltb (getD elements i 0) 64)) || isOneOf (drop (suc i) elements) m)
+          ≡ (member set m || isOneOf (drop i elements) m)
+      go (element b) =
+          or-assoc (member set (element b)) (eqb b (getD elements i 0) && ltb (getD elements i 0) 64) (isOneOf (drop (suc i) elements) (element b))
+          ∙ ap (λ (es : List ℕ). member set (element b) || isOneOf es (element b)) (sym (drop-cons elements i 0 l))
+      go (text b) = or-assoc (member set (text b)) false false
+
+  pub among-all : (i : ℕ) (set : NameSet) → length elements ≤ i → ((n : Name) → (member set n || isOneOf (drop i elements) n) ≡ isOneOf elements n)
+      → (n : Name) → member set n ≡ isOneOf elements n
+  among-all i set l inv n = sym (or-false (member set n)) ∙ ap (λ (b : Bool). member set n || b) (sym (none n)) ∙ inv n
+    where
+      none : (m : Name) → isOneOf (drop i elements) m ≡ false
+      none (element b) = ap (λ (es : List ℕ). isOneOf es (element b)) (drop-of-length-le elements l)
+      none (text b) = refl
+
+-- with the text name, or without it
+module _ (a kind : ℕ) (elements : List ℕ) (set : NameSet) (from : (n : Name) → member set n ≡ isOneOf elements n) where
+  pub held-text : eqb kind 1 ≡ true → (next : NameSet) → ((n : Name) → member next n ≡ (member set n || (sameName n (text a) && ltb a 64)))
+      → (n : Name) → member next n ≡ isHeld a kind elements n
+  held-text e next new (element b) = new (element b) ∙ or-false (member set (element b)) ∙ from (element b)
+  held-text e next new (text b) =
+      new (text b) ∙ ap (λ (c : Bool). c || (eqb b a && ltb a 64)) (from (text b)) ∙ sym (ap (λ (c : Bool). (eqb b a && ltb a 64) && c) e ∙ and-true (eqb b a && ltb a 64))
+
+  pub held-none : eqb kind 1 ≡ false → (n : Name) → member set n ≡ isHeld a kind elements n
+  held-none e (element b) = from (element b)
+  held-none e (text b) = from (text b) ∙ sym (ap (λ (c : Bool). (eqb b a && ltb a 64) && c) e ∙ and-false (eqb b a && ltb a 64))
+
+any-same : (f g : ℕ → Bool) (xs : List ℕ) → ((x : ℕ) → In x xs → f x ≡ g x) → anyOf f xs ≡ anyOf g xs
+any-same f g [] h = refl
+any-same f g (x ∷ xs) h = ap₂ _||_ (h x (here refl)) (any-same f g xs (λ y i. h y (there i)))
+
+kind-pcdata : (c : Content ℕ) → eqb (kindOf c) 1 ≡ isPcdata c
+kind-pcdata empty = refl
+kind-pcdata pcdata = refl
+kind-pcdata (children p) = refl
+
+-- what is made from an element's kind and the elements of its model is what it holds
+pub isHeld-holds : (s : Schema) (a kind : ℕ) (elements : List ℕ) → a < 64 → kind ≡ kindOf (contentAt s a) → elements ≡ modelAt s a
+    → ((b : ℕ) → In b (modelAt s a) → b < 64) → (n : Name) → isHeld a kind elements n ≡ holds s (element a) n
+unfolding holds
+isHeld-holds s a kind elements l k e small (element b) =
+    ap (anyOf (λ x. eqb b x && ltb x 64)) e
+    ∙ any-same (λ x. eqb b x && ltb x 64) (eqb b) (modelAt s a) (λ x i. ap (λ (t : Bool). eqb b x && t) (lt-ltb x 64 (small x i)) ∙ and-true (eqb b x))
+isHeld-holds s a kind elements l k e small (text b) =
+    ap₂ _&&_ (ap₂ _&&_ (eqb-sym b a) (lt-ltb a 64 l) ∙ and-true (eqb a b)) (ap (λ (x : ℕ). eqb x 1) k ∙ kind-pcdata (contentAt s a))
