@@ -1,4 +1,2 @@
-pub mod Judging
-pub mod Building
-pub mod Models
 pub mod Contents
+pub mod Declarations

@@ -24,7 +24,7 @@ use Rattle.scanning.specs.Outcomes.{Skipped, Named}
 use Rattle.scanning.specs.declared.Read.{Read}
 use Rattle.scanning.specs.declared.Read.the-variants.{Past, Fail}
 use Rattle.schema_spec.specs.Declarations.{Use, byBar, byComma}
-use Rattle.schema_spec.specs.Machine.{Frame, fresh, holding, join, separated, State, dead, expecting, inUse, closed, step, schemaMachine, from}
+use Rattle.schema_spec.specs.Machine.{Frame, fresh, holding, join, State, dead, expecting, inUse, closed, step, schemaMachine, from}
 use Rattle.schema_spec.specs.Models.{Particle, named, uses}
 use Rattle.text_laws.specs.Bytes.{starts-no-blank}
 use Rattle.text_laws.specs.Scans.{step-at, dead-at, at-end, Naming}

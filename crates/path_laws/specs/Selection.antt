@@ -1,6 +1,6 @@
 -- What a path selects by computing is what it selects as a set of nodes, given in document order. Assumes nothing.
 use mathlib.Core.Bool.{Bool, true, false, cond, not, _&&_}
-use mathlib.Core.List.{List, [], _∷_, _++_, map, List·Memᴰ as In, List·Memᴰ·head as here, List·Memᴰ·tail as there, List·Memᴰ·eq-of-singleton as of-singleton, Sublistᴰ, Sublistᴰ·slnil, Sublistᴰ·cons, Sublistᴰ·cons-cons, Pairwise, Pairwise·nil, Pairwise·cons, Pairwise·sublistᴰ, List·Nodup}
+use mathlib.Core.List.{List, [], _∷_, _++_, map, List·Memᴰ as In, List·Memᴰ·head as here, List·Memᴰ·tail as there, List·Memᴰ·eq-of-singleton as of-singleton, Sublistᴰ, Sublistᴰ·slnil, Sublistᴰ·cons, Sublistᴰ·cons-cons, Pairwise, Pairwise·nil, Pairwise·cons, Pairwise·sublistᴰ}
 use mathlib.Core.Logic.{⊎-elim, ∥∥₁-elim}
 use mathlib.Core.Path.{_≡_, refl, sym, ap, subst, _∙_}
 use Prim.Native.Nat.{ℕ, suc, _<_}
@@ -170,17 +170,13 @@ selected-in-order doc p =
     let h = selected-filters doc p in
     rw (h .1) (filter-sublist (h .0) doc)
 
--- each node once, where the document has each node once
-pub selected-once : (doc : List Node) (p : LocationPath ℕ) → List·Nodup doc → List·Nodup (selected doc p)
-selected-once doc p d = Pairwise·sublistᴰ (selected-in-order doc p) d
-
 sublist-map : {A B : Type 0} (f : A → B) {xs ys : List A} → Sublistᴰ xs ys → Sublistᴰ (map f xs) (map f ys)
 sublist-map f Sublistᴰ·slnil = Sublistᴰ·slnil
 sublist-map f (Sublistᴰ·cons s) = Sublistᴰ·cons (sublist-map f s)
 sublist-map f (Sublistᴰ·cons-cons e s) = Sublistᴰ·cons-cons (ap f e) (sublist-map f s)
 
 -- the numbers selected rise, where those of the document do
-pub select-rises : (doc : List Node) (p : LocationPath ℕ) → Pairwise _<_ (map nodeNumber doc) → Pairwise _<_ (select doc p)
+select-rises : (doc : List Node) (p : LocationPath ℕ) → Pairwise _<_ (map nodeNumber doc) → Pairwise _<_ (select doc p)
 unfolding select
 select-rises doc p r = Pairwise·sublistᴰ (sublist-map nodeNumber (selected-in-order doc p)) r
 
@@ -215,7 +211,20 @@ all-rise [] h = Pairwise·nil
 all-rise (r ∷ rows) h =
     Pairwise·cons (λ k m. ∥∥₁-elim m le-prop (λ i. later-above r rows h k i)) (all-rise rows (λ j x y a b. h (suc j) x y a b))
 
+-- on every well-formed table the numbers selected rise strictly: each once, in document order
 pub select-rows-rises : (s : Types) (lent : List ℕ) (rows : List Row) (p : LocationPath ℕ) → WellFormed s rows → Pairwise _<_ (selectRows lent rows p)
 unfolding selectRows
 select-rows-rises s lent rows p w =
     select-rises (nodesOf lent rows) p (rw (nodes-numbered lent rows) (all-rise rows (λ i q r a b. w .laterRow i q r a b .rises)))
+
+-- "On an empty table nothing is selected."
+from-nothing : (ps : List (WrittenStep ℕ (Condition ℕ))) → pathFrom holdsAt [] ps [] ≡ []
+from-nothing [] = refl
+from-nothing (p ∷ ps) = from-nothing ps
+
+pub select-nothing : (lent : List ℕ) (p : LocationPath ℕ) → selectRows lent [] p ≡ []
+unfolding selectRows select selected nodesOf
+select-nothing lent p = ap (map nodeNumber) (by (p .start))
+  where
+    by : (q : Start) → pathFrom holdsAt [] (p .steps) (startNodes q []) ≡ []
+    by rootElement = from-nothing (p .steps)

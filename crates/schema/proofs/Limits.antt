@@ -1,6 +1,6 @@
 -- Laws of reading all declarations: the places that pass a limit, and the places of names that the lent cells hold. Assumes nothing.
 use mathlib.Core.Bool.{Bool, true, false, cond}
-use mathlib.Core.List.{List, [], _∷_, _++_, map, reverse, reverse-cons, append-nil, append-assoc, Memᴰ·append-left, Memᴰ·append-right, List·Memᴰ·append-cases, List·Memᴰ as In, List·Memᴰ·head as here, List·Memᴰ·tail as there}
+use mathlib.Core.List.{List, [], _∷_, _++_, map, map-append, reverse, reverse-cons, append-nil, append-assoc, Memᴰ·append-left, Memᴰ·append-right, List·Memᴰ·append-cases, List·Memᴰ as In, List·Memᴰ·head as here, List·Memᴰ·tail as there}
 use mathlib.Core.Logic.{_⊎_, inl, inr}
 use mathlib.Core.Path.{_≡_, refl, sym, ap, ap₂, subst, _∙_}
 use Prim.Native.Nat.{ℕ, zero, suc, _+_, _*_, _-_, _≤_, _<_}
@@ -10,19 +10,22 @@ use borrow.Author.Tests.{ltb-true, ltb-false, leb-true, leb-false, lt-ltb, le-lt
 use lib.Dec.{leb, ltb}
 use lib.ListN.{length, drop, take, getD, set, length-append, length-set, length-reverse, drop-of-length-le}
 use lib.Seq.{sets, sets-eq, length-sets, take-suc-set, take-at, drop-at, drop-cons, drop-nil, length-take-le, getD-set-same, getD-set-other}
-use Rattle.declarations.proofs.Judging.{yes, no, at-end}
-use Rattle.declarations.proofs.Models.{between-low, between-from, between-to, between-join, map-append}
-use Rattle.declarations.specs.Parts.{from, useAt, Skipped, Between, DeclarationRead, Declared}
+use Rattle.declarations.specs.DeclarationLaws.{between-skipped}
+use Rattle.declarations.specs.Declarations.{DeclarationRead, Declared}
+use Rattle.particles.specs.ReadingLaws.{between-low, between-from, between-to, between-join}
+use Rattle.particles.specs.Readings.{useAt, Between}
+use Rattle.scanning.specs.Outcomes.{Skipped}
+use Rattle.text_laws.specs.Scans.{at-end}
+use Rattle.text_laws.specs.Tests.{cond-yes as yes, cond-no as no}
 use Rattle.schema.specs.Whole.{overLimit, Kept, Limits, within, passed, UpTo, AllSpelt}
 use Rattle.declarations.specs.declared.DeclarationEnd.{DeclarationEnd}
 use Rattle.declarations.specs.declared.DeclarationOutcome.{DeclarationOutcome}
 use Rattle.declarations.specs.declared.DeclarationOutcome.the-variants.{Past as DeclPast, Fail as DeclFail}
 use Rattle.schema_spec.specs.Declarations.{Use, Declaration}
-use Rattle.schema_spec.specs.Machine.{between, step, atEnd, parse}
+use Rattle.schema_spec.specs.Machine.{between, schemaMachine, atEnd, from, parse}
 use Rattle.schema_spec.specs.Reading.{limitPlaces, usesOf}
 use Rattle.schema_laws.specs.Lists.{in-nothing as none-in}
 use Rattle.text_laws.specs.Lists.{memberless}
-use Rattle.text_spec.specs.Bytes.{isBlank}
 use Rattle.text_spec.specs.Limits.{maxDeclarations, maxModelNames}
 use Rattle.text_spec.specs.Lists.{gather}
 use Rattle.text_spec.specs.Machines.{spells, departs}
@@ -277,15 +280,11 @@ module _ {s : List ℕ} (ds : List Declaration) {d n i : ℕ} (names : List ℕ)
       go false f false g = shift (now ∙ no i _ f ∙ no (getD uses′ (n + maxModelNames) 0) _ g) (within refl (still-within kept (leb-false maxDeclarations d f) (ltb-false maxModelNames (p .n - n) g) w))
 
 -- ---- the loop
-pub between-blank : (ds : List Declaration) (k b : ℕ) → isBlank b ≡ true → step (between ds) k b ≡ between ds
-unfolding step
-between-blank ds k b e = yes (between ds) _ e
-
 pub all-start : {s names uses : List ℕ} {i : ℕ} → Skipped s 0 i → length names ≡ 32 → length uses ≡ 2049 → UpTo s i 0 0 (length s) names uses
 all-start K a b =
     record {
       done = [];
-      same = K .same (between []) refl (λ k b e. between-blank [] k b e);
+      same = between-skipped K [];
       high = K .high;
       no-blank = K .stop;
       count = refl;
@@ -302,7 +301,7 @@ module _ {s : List ℕ} {i d n over : ℕ} {names uses : List ℕ} (U : UpTo s i
   parsed = U .same
 
   pub all-none : length s ≤ i → d ≡ 0 → parse s ≡ departs i
-  all-none l e = parsed ∙ at-end s i (between (U .done)) l ∙ go (U .done) (U .count ∙ e)
+  all-none l e = parsed ∙ at-end schemaMachine s i (between (U .done)) l ∙ go (U .done) (U .count ∙ e)
     where
       go : (ds : List Declaration) → length ds ≡ 0 → atEnd (between ds) i ≡ departs i
       go [] h = refl
@@ -314,7 +313,7 @@ module _ {s : List ℕ} {i d n over : ℕ} {names uses : List ℕ} (U : UpTo s i
       let g : i ≡ length s = omega arith in
       record {
         declarations = reverse (U .done);
-        spelt = parsed ∙ at-end s i (between (U .done)) l ∙ go (U .done) (λ z. e (sym (U .count) ∙ z));
+        spelt = parsed ∙ at-end schemaMachine s i (between (U .done)) l ∙ go (U .done) (λ z. e (sym (U .count) ∙ z));
         count = length-reverse (U .done) ∙ U .count;
         room = U .room;
         room-uses = U .room-uses;
@@ -347,7 +346,7 @@ module _ {s : List ℕ} {i d n over : ℕ} {names uses : List ℕ} (U : UpTo s i
             omega arith,
             record {
               done = new ∷ U .done;
-              same = U .same ∙ read .same (U .done) ∙ K .same (between (new ∷ U .done)) refl (λ k b e. between-blank (new ∷ U .done) k b e);
+              same = U .same ∙ read .same (U .done) ∙ between-skipped K (new ∷ U .done);
               high = K .high;
               no-blank = K .stop;
               count = ap suc (U .count) ∙ sym (add-one d);

@@ -1,18 +1,18 @@
 -- Laws of names by their places: sought among others, declared twice, not declared. Assumes nothing.
 use mathlib.Core.Bool.{Bool, true, false, cond, not, _||_}
-use mathlib.Core.List.{List, [], _∷_, _++_, map}
-use mathlib.Core.Path.{_≡_, refl, sym, ap, ap₂, _∙_}
+use mathlib.Core.List.{List, [], _∷_, _++_, map, map-append}
+use mathlib.Core.Path.{_≡_, refl, sym, ap, _∙_}
 use Prim.Native.Nat.{ℕ, zero, suc, _+_, _≤_, _<_}
 use native.Mathlib.Numerals.{add-one}
 use native.Mathlib.Omega.{arith}
 use lib.ListN.{length, drop, take, getD, drop-of-length-le}
 use lib.Seq.{drop-cons, take-suc, take-length, length-take-le}
-use Rattle.declarations.proofs.Judging.{yes, no}
-use Rattle.declarations.proofs.Models.{map-append}
-use Rattle.schema_names.proofs.Naming.{found-one, found-none}
-use Rattle.schema_names.specs.Names.{nameAt}
+use Rattle.text_laws.specs.Tests.{cond-yes as yes, cond-no as no}
+use Rattle.schema_names.specs.NameLaws.{found-one, found-none}
+use Rattle.text_spec.specs.Scans.{nameAt}
 use Rattle.schema.specs.Names.{firstPlace, namesBefore, isAmong, twiceAt, missingAt}
-use Rattle.declarations.specs.Parts.{useAt}
+use Rattle.declarations.specs.DeclarationLaws.{declared-names}
+use Rattle.particles.specs.Readings.{useAt}
 use Rattle.schema_spec.specs.Declarations.{Use, Declaration}
 use Rattle.schema_spec.specs.Reading.{usesOf, twicePlaces, undeclaredPlaces}
 use Rattle.schema_spec.specs.Schemas.{indexFrom, declaredNames}
@@ -87,15 +87,6 @@ twice-places s ns (d ∷ ds) (p ∷ ps) e =
     let t : map (λ e. e .name) ds ≡ map (useAt s) ps = cc in
     ap (λ (u : Use). cond (anyOf (sameBytes (u .name)) ns) (u .place ∷ twicePlaces (u .name ∷ ns) ds) (twicePlaces (u .name ∷ ns) ds)) h
     ∙ ap (λ (l : List ℕ). cond (isAmong s ns p) (p ∷ l) l) (twice-places s (nameAt s p ∷ ns) ds ps t)
-
-pub declared-names : (s : List ℕ) (ds : List Declaration) (ps : List ℕ) → map (λ e. e .name) ds ≡ map (useAt s) ps → declaredNames ds ≡ map (nameAt s) ps
-declared-names s [] [] e = refl
-declared-names s [] (p ∷ ps) e = absurd (let z : _≡_ {A = ℕ} 0 1 = cc in omega arith)
-declared-names s (d ∷ ds) [] e = absurd (let z : _≡_ {A = ℕ} 0 1 = cc in omega arith)
-declared-names s (d ∷ ds) (p ∷ ps) e =
-    let h : d .name ≡ useAt s p = cc in
-    let t : map (λ e. e .name) ds ≡ map (useAt s) ps = cc in
-    ap₂ (λ (n : List ℕ) (l : List (List ℕ)). n ∷ l) (ap (λ (u : Use). u .name) h) (declared-names s ds ps t)
 
 missing-by : (s : List ℕ) (f : List ℕ → Bool) (g : ℕ → Bool) → ((p : ℕ) → f (nameAt s p) ≡ g p) → (ps : List ℕ) → map (λ u. u .place) (filterBy (λ u. f (u .name)) (map (useAt s) ps)) ≡ filterBy g ps
 missing-by s f g h [] = refl

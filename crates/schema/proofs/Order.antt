@@ -9,12 +9,12 @@ use native.Mathlib.Omega.{arith}
 use borrow.Author.Tests.{ltb-true, ltb-false, le-ltb, eq-eqb, ne-eqb}
 use lib.Dec.{ltb}
 use lib.ListN.{length}
-use Rattle.declarations.proofs.Judging.{yes, no}
+use Rattle.text_laws.specs.Tests.{cond-yes as yes, cond-no as no}
 use Rattle.schema.proofs.Limits.{head-least}
-use Rattle.declarations.proofs.Models.{between-low, between-from}
-use Rattle.schema_names.specs.Names.{nameAt}
+use Rattle.particles.specs.ReadingLaws.{between-low, between-from}
+use Rattle.text_spec.specs.Scans.{nameAt}
 use Rattle.schema.specs.Names.{firstPlace, isAmong, twiceAt}
-use Rattle.declarations.specs.Parts.{Between}
+use Rattle.particles.specs.Readings.{Between}
 use Rattle.schema_laws.specs.Lists.{in-nothing}
 use Rattle.text_laws.specs.Lists.{map-in}
 use Rattle.text_spec.specs.Lists.{filterBy, placesFrom}

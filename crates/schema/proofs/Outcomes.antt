@@ -13,7 +13,7 @@ use Rattle.schema.proofs.Naming.{twice-places, undeclared-places}
 use Rattle.schema.proofs.Order.{Later, later-none, later-all, later-append, least-first, place-found, place-none, places-rise, filter-rise, twice-rise}
 use Rattle.schema.specs.Answers.{reasonOf, sized, JudgedAs, Readable, Spelling}
 use Rattle.schema.specs.Names.{firstPlace, namesBefore, twiceAt, missingAt}
-use Rattle.declarations.specs.Parts.{useAt, Between}
+use Rattle.particles.specs.Readings.{useAt, Between}
 use Rattle.schema.specs.Whole.{Kept, Limits, within, passed, AllSpelt, AllRead}
 use Rattle.schema.specs.declared.All.{All}
 use Rattle.schema.specs.declared.All.the-variants.{Past as AllPast, Fail as AllFail}

@@ -6,12 +6,13 @@ use mathlib.Core.Path.{_≡_}
 use Prim.Native.Nat.{ℕ, _+_, _*_, _-_, _≤_, _<_}
 use lib.Dec.{leb, ltb}
 use lib.ListN.{length, take, getD}
-use Rattle.declarations.specs.Parts.{from, useAt, Between, NoBlank}
+use Rattle.particles.specs.Readings.{useAt, Between}
+use Rattle.scanning.specs.Outcomes.{NoBlank}
 use Rattle.schema.specs.declared.All.{All}
 use Rattle.schema.specs.declared.All.the-variants.{Past, Fail}
 use Rattle.schema.specs.declared.Counts.{Counts}
 use Rattle.schema_spec.specs.Declarations.{Declaration}
-use Rattle.schema_spec.specs.Machine.{between, parse}
+use Rattle.schema_spec.specs.Machine.{between, from, parse}
 use Rattle.schema_spec.specs.Reading.{limitPlaces, usesOf}
 use Rattle.text_spec.specs.Limits.{maxDeclarations, maxModelNames}
 use Rattle.text_spec.specs.Lists.{gather}

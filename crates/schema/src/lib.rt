@@ -24,9 +24,9 @@ impl Schema {
 
     pub const MAX_BYTES: usize = 8192;
 
-    pub const MAX_GROUPS: usize = declarations::MAX_GROUPS;
+    pub const MAX_GROUPS: usize = particles::MAX_GROUPS;
 
-    pub const MAX_NAME_BYTES: usize = declarations::MAX_NAME_BYTES;
+    pub const MAX_NAME_BYTES: usize = scanning::MAX_NAME_BYTES;
 
     // The schema that the reader hands back on refusal.
     pub fn empty() -> Self
@@ -92,7 +92,7 @@ pub fn all_declarations(s: &[u8], names: &mut [usize], uses: &mut [usize]) -> Al
     ensures { λ r. ⌜ AllRead (now (s .entry)) (now (names .exit)) (now (uses .exit)) r ⌝ }
 {
     let size = s.len();
-    let mut i = declarations::skip(s, 0);
+    let mut i = scanning::skip(s, 0);
     let mut d: usize = 0;
     let mut n: usize = 0;
     let mut over = size;
@@ -104,11 +104,11 @@ pub fn all_declarations(s: &[u8], names: &mut [usize], uses: &mut [usize]) -> Al
             DeclarationOutcome::Past(p) => {
                 let end = p.at;
                 let m = p.n;
-                declarations::note(names, d, p.name);
+                scanning::note(names, d, p.name);
                 over = over_limit(size, over, d, i, n, m, uses);
                 d += 1;
                 n = m;
-                i = declarations::skip(s, end);
+                i = scanning::skip(s, end);
             }
         }
     }

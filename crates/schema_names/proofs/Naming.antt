@@ -1,24 +1,24 @@
--- Laws of names by their places: compared byte by byte, sought among others. Assumes nothing.
-use mathlib.Core.Bool.{Bool, true, false, cond, _&&_, _||_}
+-- Laws of names by their places: compared byte by byte, sought among others.
+use mathlib.Core.Bool.{Bool, true, false, cond, _&&_}
 use mathlib.Core.List.{List, [], _∷_, map}
 use mathlib.Core.Logic.{_⊎_, inl, inr}
-use mathlib.Core.Option.{Option, none, some}
+use mathlib.Core.Option.{none, some}
 use mathlib.Core.Path.{_≡_, refl, sym, ap, _∙_}
 use Prim.Native.Nat.{ℕ, suc, _+_, _≤_, _<_}
 use native.Mathlib.Numerals.{add-one}
 use native.Mathlib.Omega.{arith}
 use borrow.Author.Tests.{ltb-true, ltb-false, eq-eqb, ne-eqb}
 use lib.Dec.{eqb, ltb}
-use lib.ListN.{length, drop, getD, drop-of-length-le, length-map}
+use lib.ListN.{length, drop, getD, drop-of-length-le}
 use lib.Seq.{drop-cons}
-use Rattle.declarations.proofs.Judging.{yes, no, name-cons, name-stops}
-use Rattle.schema_names.specs.Names.{nameAt, nameByte}
-use Rattle.declarations.specs.Parts.{byteAt, nameIn}
+use Rattle.schema_names.specs.Names.{nameByte}
 use Rattle.schema_spec.specs.Schemas.{indexFrom}
 use Rattle.text_laws.specs.Lists.{bytes-equal}
-use Rattle.text_laws.specs.Tests.{false-of, never}
+use Rattle.text_laws.specs.Scans.{name-cons, name-stops}
+use Rattle.text_laws.specs.Tests.{false-of, never, cond-yes, cond-no}
 use Rattle.text_spec.specs.Bytes.{continuesName}
-use Rattle.text_spec.specs.Lists.{anyOf, first, valueOr, sameBytes}
+use Rattle.text_spec.specs.Lists.{first, valueOr, sameBytes}
+use Rattle.text_spec.specs.Scans.{byteAt, nameIn, nameAt}
 
 abbrev head : List ℕ → ℕ
 head n = valueOr 0 (first n)
@@ -77,14 +77,14 @@ module _ (s : List ℕ) (i : ℕ) (t : List ℕ) (j : ℕ) {a b : ℕ} (x : a �
       go (byte c k w m) (byte d l z n) = rw (x, y, m, n, ne-eqb c 0 w)
 
   pub same-ended : a ≡ 0 → eqb b 0 ≡ sameBytes (nameAt s i) (nameAt t j)
-  same-ended e = sym (by-bytes ∙ yes (eqb b 0) _ (eq-eqb a 0 e))
+  same-ended e = sym (by-bytes ∙ cond-yes (eqb b 0) _ (eq-eqb a 0 e))
 
   module _ (e : a ≡ 0 → ⊥) where
     pub same-not : (a ≡ b → ⊥) → false ≡ sameBytes (nameAt s i) (nameAt t j)
-    same-not f = sym (by-bytes ∙ no (eqb b 0) _ (ne-eqb a 0 e) ∙ rw (ne-eqb a b f))
+    same-not f = sym (by-bytes ∙ cond-no (eqb b 0) _ (ne-eqb a 0 e) ∙ rw (ne-eqb a b f))
 
     pub same-on : a ≡ b → sameBytes (nameAt s i) (nameAt t j) ≡ sameBytes (nameAt s (i + 1)) (nameAt t (j + 1))
-    same-on f = by-bytes ∙ no (eqb b 0) _ (ne-eqb a 0 e) ∙ rw (eq-eqb a b f)
+    same-on f = by-bytes ∙ cond-no (eqb b 0) _ (ne-eqb a 0 e) ∙ rw (eq-eqb a b f)
 
 -- ---- two names, by the bytes of the texts, where the first is not over
 view-byte : (s : List ℕ) (j : ℕ) → (nameByte s j ≡ 0) ⊎ ((j < length s) × (byteAt s j ≡ nameByte s j))
@@ -146,44 +146,14 @@ module _ (s ps n : List ℕ) (i : ℕ) where
   index-cons h = ap (λ (l : List ℕ). indexFrom i n (map (nameAt s) l)) (drop-cons ps i 0 h) ∙ rw (add-one i)
 
   pub index-here : i < length ps → sameBytes n (nameAt s (getD ps i 0)) ≡ true → indexFrom i n (map (nameAt s) (drop i ps)) ≡ some i
-  index-here h e = index-cons h ∙ yes (some i) _ e
+  index-here h e = index-cons h ∙ cond-yes (some i) _ e
 
   pub index-later : i < length ps → sameBytes n (nameAt s (getD ps i 0)) ≡ false
       → indexFrom i n (map (nameAt s) (drop i ps)) ≡ indexFrom (i + 1) n (map (nameAt s) (drop (i + 1) ps))
-  index-later h e = index-cons h ∙ no (some i) _ e
+  index-later h e = index-cons h ∙ cond-no (some i) _ e
 
   pub index-none : length ps ≤ i → indexFrom i n (map (nameAt s) (drop i ps)) ≡ none
   index-none h = ap (λ (l : List ℕ). indexFrom i n (map (nameAt s) l)) (drop-of-length-le ps h)
-
--- an index below m where the name is among the others, and none where it is not
-data Sought (m : ℕ) : Option ℕ → Bool → Type 0 where
-  nowhere : Sought m none false
-  somewhere : (j : ℕ) → j < m → Sought m (some j) true
-
-sought : (k : ℕ) (n : List ℕ) (ns : List (List ℕ)) → Sought (k + length ns) (indexFrom k n ns) (anyOf (sameBytes n) ns)
-sought k n [] = nowhere
-sought k n (m ∷ ns) = go (sameBytes n m) (sought (suc k) n ns)
-  where
-    go : (t : Bool) → Sought (suc k + length ns) (indexFrom (suc k) n ns) (anyOf (sameBytes n) ns)
-        → Sought (k + suc (length ns)) (cond t (some k) (indexFrom (suc k) n ns)) (t || anyOf (sameBytes n) ns)
-    go true v = somewhere k (omega arith)
-    go false v = let e : suc k + length ns ≡ k + suc (length ns) = omega arith in rw e at v
-
--- what an answer says: an index, or the number of names
-module _ (s ps n : List ℕ) {r : ℕ} (e : r ≡ valueOr (length ps) (indexFrom 0 n (map (nameAt s) ps))) where
-  pub found-one : r < length ps → (indexFrom 0 n (map (nameAt s) ps) ≡ some r) × (anyOf (sameBytes n) (map (nameAt s) ps) ≡ true)
-  found-one h = go (sought 0 n (map (nameAt s) ps)) e
-    where
-      go : {o : Option ℕ} {t : Bool} → Sought (0 + length (map (nameAt s) ps)) o t → r ≡ valueOr (length ps) o → (o ≡ some r) × (t ≡ true)
-      go nowhere f = absurd (omega arith)
-      go (somewhere j l) f = (ap some (sym f), refl)
-
-  pub found-none : length ps ≤ r → (indexFrom 0 n (map (nameAt s) ps) ≡ none) × (anyOf (sameBytes n) (map (nameAt s) ps) ≡ false)
-  found-none h = go (sought 0 n (map (nameAt s) ps)) e
-    where
-      go : {o : Option ℕ} {t : Bool} → Sought (0 + length (map (nameAt s) ps)) o t → r ≡ valueOr (length ps) o → (o ≡ none) × (t ≡ false)
-      go nowhere f = (refl, refl)
-      go (somewhere j l) f = absurd (omega (arith, length-map ps (nameAt s)))
 
 -- ---- a slice that is no name
 -- a slice of which all bytes are those of its name is that name
@@ -202,7 +172,7 @@ name-again [] = refl
 name-again (b ∷ t) = go (continuesName b) refl (name-again t)
   where
     go : (c : Bool) → continuesName b ≡ c → nameIn (nameIn t) ≡ nameIn t → nameIn (cond c (b ∷ nameIn t) []) ≡ cond c (b ∷ nameIn t) []
-    go true e h = yes (b ∷ nameIn (nameIn t)) [] e ∙ ap (λ (l : List ℕ). b ∷ l) h
+    go true e h = cond-yes (b ∷ nameIn (nameIn t)) [] e ∙ ap (λ (l : List ℕ). b ∷ l) h
     go false e h = refl
 
 -- any other slice is no name of a text
@@ -215,4 +185,4 @@ module _ (t : List ℕ) (e : length (nameIn t) ≡ length t → ⊥) (s : List �
 
   pub never-found : (k : ℕ) (ps : List ℕ) → indexFrom k t (map (nameAt s) ps) ≡ none
   never-found k [] = refl
-  never-found k (p ∷ ps) = no (some k) _ (no-name p) ∙ never-found (suc k) ps
+  never-found k (p ∷ ps) = cond-no (some k) _ (no-name p) ∙ never-found (suc k) ps

@@ -3,7 +3,7 @@ use mathlib.Core.List.{List, map}
 use mathlib.Core.Option.{Option, none, some}
 use mathlib.Core.Path.{_≡_, ap}
 use Prim.Native.Nat.{ℕ}
-use Rattle.schema_names.specs.Names.{nameAt}
+use Rattle.text_spec.specs.Scans.{nameAt}
 use Rattle.schema_names.specs.declared.Lookup.{Lookup}
 use Rattle.schema_names.specs.declared.Lookup.the-variants.{Element, Absent}
 use Rattle.schema_spec.specs.Schemas.{Schema, indexFrom, elementNamed}

@@ -4,9 +4,10 @@ ghost use mathlib.Core.Path.{_≡_};
 ghost use Prim.Native.Nat.{_+_};
 ghost use lib.ListN.{length};
 ghost use Rattle.schema_names.specs.Lookup.{found};
-ghost use Rattle.schema_names.specs.Names.{nameAt, nameByte};
+ghost use Rattle.schema_names.specs.Names.{nameByte};
 ghost use Rattle.schema_spec.specs.Schemas.{indexFrom};
 ghost use Rattle.text_spec.specs.Lists.{sameBytes, valueOr};
+ghost use Rattle.text_spec.specs.Scans.{nameAt};
 
 // The byte at i if a name goes on with it, or 0.
 fn name_byte(s: &[u8], i: usize) -> u8

@@ -8,42 +8,41 @@ use native.Mathlib.Omega.{arith}
 use borrow.Author.Tests.{eq-eqb, ne-eqb}
 use lib.ListN.{length, drop, getD, set, length-append, length-set, drop-of-length-le}
 use lib.Seq.{drop-cons, set-at}
-use Rattle.declarations.proofs.Judging.{yes, no}
 use Rattle.schema_reader.specs.Normal.{Steps, Stored, Normalized}
 use Rattle.schema_reader.specs.declared.NormalStep.{NormalStep}
 use Rattle.schema_spec.specs.Records.{normalFrom, normal}
-use Rattle.text_laws.specs.Tests.{never}
+use Rattle.text_laws.specs.Tests.{never, cond-yes, cond-no}
 use Rattle.text_spec.specs.Bytes.{isBlank}
 
 -- ---- a byte
 module _ (b : ℕ) (bs : List ℕ) where
   module _ (e : isBlank b ≡ true) where
     pub blank-free : (due : ℕ) (run : Bool) → due ≡ 0 → normalFrom due run (b ∷ bs) ≡ normalFrom due true bs
-    blank-free zero run z = yes (normalFrom zero true bs) _ e
+    blank-free zero run z = cond-yes (normalFrom zero true bs) _ e
     blank-free (suc due) run z = absurd (omega arith)
 
     pub blank-run : (due : ℕ) (run : Bool) → (due ≡ 0 → ⊥) → run ≡ true → normalFrom due run (b ∷ bs) ≡ normalFrom due true bs
     blank-run zero run z r = absurd (z refl)
-    blank-run (suc due) true z r = yes (normalFrom (suc due) true bs) _ e
+    blank-run (suc due) true z r = cond-yes (normalFrom (suc due) true bs) _ e
     blank-run (suc due) false z r = never (cc)
 
     pub blank-due : (due : ℕ) (run : Bool) → (due ≡ 0 → ⊥) → run ≡ false → normalFrom due run (b ∷ bs) ≡ 0x20 ∷ normalFrom (due - 1) true bs
     blank-due zero run z r = absurd (z refl)
     blank-due (suc due) true z r = never (cc)
-    blank-due (suc due) false z r = yes (0x20 ∷ normalFrom due true bs) _ e ∙ let y : due ≡ suc due - 1 = omega arith in ap (λ (k : ℕ). 0x20 ∷ normalFrom k true bs) y
+    blank-due (suc due) false z r = cond-yes (0x20 ∷ normalFrom due true bs) _ e ∙ let y : due ≡ suc due - 1 = omega arith in ap (λ (k : ℕ). 0x20 ∷ normalFrom k true bs) y
 
   module _ (e : isBlank b ≡ false) where
     pub byte-due : (due : ℕ) (run : Bool) → (due ≡ 0 → ⊥) → normalFrom due run (b ∷ bs) ≡ b ∷ normalFrom due false bs
     byte-due zero run z = absurd (z refl)
-    byte-due (suc due) true z = no (normalFrom (suc due) true bs) _ e
-    byte-due (suc due) false z = no (0x20 ∷ normalFrom due true bs) _ e
+    byte-due (suc due) true z = cond-no (normalFrom (suc due) true bs) _ e
+    byte-due (suc due) false z = cond-no (0x20 ∷ normalFrom due true bs) _ e
 
     pub byte-opens : (due : ℕ) (run : Bool) → due ≡ 0 → b ≡ 0x3C → normalFrom due run (b ∷ bs) ≡ b ∷ normalFrom 2 false bs
-    byte-opens zero run z o = no (normalFrom zero true bs) _ e ∙ yes (b ∷ normalFrom 2 false bs) _ (eq-eqb b 0x3C o)
+    byte-opens zero run z o = cond-no (normalFrom zero true bs) _ e ∙ cond-yes (b ∷ normalFrom 2 false bs) _ (eq-eqb b 0x3C o)
     byte-opens (suc due) run z o = absurd (omega arith)
 
     pub byte-free : (due : ℕ) (run : Bool) → due ≡ 0 → (b ≡ 0x3C → ⊥) → normalFrom due run (b ∷ bs) ≡ b ∷ normalFrom due false bs
-    byte-free zero run z o = no (normalFrom zero true bs) _ e ∙ no (b ∷ normalFrom 2 false bs) _ (ne-eqb b 0x3C o)
+    byte-free zero run z o = cond-no (normalFrom zero true bs) _ e ∙ cond-no (b ∷ normalFrom 2 false bs) _ (ne-eqb b 0x3C o)
     byte-free (suc due) run z o = absurd (omega arith)
 
 normal-end : (due : ℕ) (run : Bool) → normalFrom due run [] ≡ []
@@ -81,16 +80,16 @@ module _ {s o o′ : List ℕ} {i n due : ℕ} {run : Bool} (W : WrittenTo s o o
         go : (t : Bool) → r .keep ≡ t → WrittenTo s o o″ (i + 1) m (r .due) (r .run)
         go true k =
             let a = W .few in
-            let c : m ≡ n + 1 = S .count ∙ yes (n + 1) n k in
+            let c : m ≡ n + 1 = S .count ∙ cond-yes (n + 1) n k in
             let q = W .many in
             let v = length-append (W .done) (r .byte ∷ []) in
             let f : n < length o = omega arith in
-            let x : o″ ≡ set o′ n (r .byte) = S .wrote ∙ yes (set o′ n (r .byte)) o′ k in
+            let x : o″ ≡ set o′ n (r .byte) = S .wrote ∙ cond-yes (set o′ n (r .byte)) o′ k in
             record {
               done = W .done ++ (r .byte ∷ []);
               rest =
                   append-assoc (W .done) (r .byte ∷ []) (normalFrom (r .due) (r .run) (drop (i + 1) s))
-                  ∙ ap (λ (z : List ℕ). W .done ++ z) (sym (byte-more ∙ yes (r .byte ∷ normalFrom (r .due) (r .run) (drop (i + 1) s)) _ k)) ∙ W .rest;
+                  ∙ ap (λ (z : List ℕ). W .done ++ z) (sym (byte-more ∙ cond-yes (r .byte ∷ normalFrom (r .due) (r .run) (drop (i + 1) s)) _ k)) ∙ W .rest;
               wrote =
                   x ∙ ap (λ (z : List ℕ). set z n (r .byte)) (W .wrote ∙ ap (λ (z : List ℕ). W .done ++ z) (drop-cons o n 0 f))
                   ∙ set-at (W .done) (getD o n 0) (drop (suc n) o) (r .byte) n q ∙ sym (append-assoc (W .done) (r .byte ∷ []) (drop (suc n) o))
@@ -102,11 +101,11 @@ module _ {s o o′ : List ℕ} {i n due : ℕ} {run : Bool} (W : WrittenTo s o o
             }
         go false k =
             let a = W .few in
-            let c : m ≡ n = S .count ∙ no (n + 1) n k in
-            let x : o″ ≡ o′ = S .wrote ∙ no (set o′ n (r .byte)) o′ k in
+            let c : m ≡ n = S .count ∙ cond-no (n + 1) n k in
+            let x : o″ ≡ o′ = S .wrote ∙ cond-no (set o′ n (r .byte)) o′ k in
             record {
               done = W .done;
-              rest = ap (λ (z : List ℕ). W .done ++ z) (sym (byte-more ∙ no (r .byte ∷ normalFrom (r .due) (r .run) (drop (i + 1) s)) _ k)) ∙ W .rest;
+              rest = ap (λ (z : List ℕ). W .done ++ z) (sym (byte-more ∙ cond-no (r .byte ∷ normalFrom (r .due) (r .run) (drop (i + 1) s)) _ k)) ∙ W .rest;
               wrote = x ∙ W .wrote ∙ ap (λ (j : ℕ). W .done ++ drop j o) (sym c);
               many = W .many ∙ sym c;
               few = omega arith;

@@ -15,7 +15,7 @@ use Rattle.names.specs.declared.NameSet.{NameSet}
 use Rattle.projection_spec.specs.Inference.Types.{heldBy, holding, allBelow, allAbove}
 use Rattle.schema_laws.specs.Accepted.{accepted-length, accepted-closed}
 use Rattle.schema_names.specs.Lookup.{found, element-by-place}
-use Rattle.schema_names.specs.Names.{nameAt}
+use Rattle.text_spec.specs.Scans.{nameAt}
 use Rattle.schema_names.specs.declared.Lookup.{Lookup}
 use Rattle.schema_spec.specs.Models.{Particle, children, Fits}
 use Rattle.schema_spec.specs.Names.{Name, namesOf}

@@ -10,9 +10,11 @@ use borrow.Author.Tests.{ltb-true, ltb-false}
 use lib.Dec.{T, ltb}
 use lib.ListN.{length, take, drop, getD, getElem?, replicate, length-map, length-reverse}
 use lib.Seq.{getD-take}
-use Rattle.declarations.proofs.Judging.{at-end}
-use Rattle.declarations.specs.Building.{ContentBuilt, built-empty, built-pcdata, built-children}
-use Rattle.declarations.specs.Parts.{from, useAt, Skipped}
+use Rattle.declarations.specs.Contents.{ContentBuilt, built-empty, built-pcdata, built-children}
+use Rattle.declarations.specs.DeclarationLaws.{between-skipped}
+use Rattle.particles.specs.Readings.{useAt}
+use Rattle.scanning.specs.Outcomes.{Skipped}
+use Rattle.text_laws.specs.Scans.{at-end}
 use Rattle.models.specs.Building.{EndsOf, Linked}
 use Rattle.models.specs.BuildingLaws.{whole}
 use Rattle.models.specs.Fitting.{Tables}
@@ -21,12 +23,11 @@ use Rattle.models.specs.Placing.{Clear}
 use Rattle.models.specs.Positions.{size}
 use Rattle.models.specs.declared.Content.{Content as Made}
 use Rattle.models.specs.declared.Ends.{Ends}
-use Rattle.schema.proofs.Limits.{between-blank}
 use Rattle.schema_laws.specs.Accepted.{Spelt, accepted-spelt, accepted-length, accepted-closed, accepted-models, declared-use, names-of-elements, indexIn, usesIn-rename}
 use Rattle.schema_laws.specs.Runs.{run-extends}
-use Rattle.schema_names.specs.Names.{nameAt}
+use Rattle.text_spec.specs.Scans.{nameAt}
 use Rattle.schema_spec.specs.Declarations.{Use, Declaration}
-use Rattle.schema_spec.specs.Machine.{between, atEnd, parse}
+use Rattle.schema_spec.specs.Machine.{between, schemaMachine, atEnd, from, parse}
 use Rattle.schema_spec.specs.Models.{Particle, Content, children, uses, usesIn, renameIn, renameContent}
 use Rattle.schema_spec.specs.Names.{hasBit}
 use Rattle.schema_spec.specs.Records.{schemaIn}
@@ -78,7 +79,7 @@ reached-first L K =
     record {
       located = L;
       done = [];
-      same = K .same (between []) refl (λ n b e. between-blank [] n b e);
+      same = between-skipped K [];
       count = refl;
       high = K .high;
       no-blank = K .stop;
@@ -104,7 +105,7 @@ module _ {text names : List ℕ} {d i : ℕ} (R : Reached text names d i) where
 
       pick : (b : Bool) → ltb i (length text) ≡ b → i < length text
       pick true e = ltb-true i (length text) e
-      pick false e = absurd (ended (R .done) (R .count) (sym (at-end text i (between (R .done)) (ltb-false i (length text) e)) ∙ spelt-on))
+      pick false e = absurd (ended (R .done) (R .count) (sym (at-end schemaMachine text i (between (R .done)) (ltb-false i (length text) e)) ∙ spelt-on))
 
   pub reached-fails : {j : ℕ} → from (between (R .done)) text i ≡ departs j → ⊥
   reached-fails {j} e =
@@ -157,7 +158,7 @@ module _ {text names : List ℕ} {d i : ℕ} (R : Reached text names d i) where
         record {
           located = R .located;
           done = x ∷ R .done;
-          same = R .same ∙ goes ∙ K .same (between (x ∷ R .done)) refl (λ n b e. between-blank (x ∷ R .done) n b e);
+          same = R .same ∙ goes ∙ between-skipped K (x ∷ R .done);
           count = ap suc (R .count) ∙ sym (add-one d);
           high = K .high;
           no-blank = K .stop;

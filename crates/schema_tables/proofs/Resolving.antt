@@ -9,9 +9,9 @@ use native.Mathlib.Omega.{arith}
 use lib.Dec.{T}
 use lib.ListN.{length, take, drop, getD, set, length-map, drop-of-length-le}
 use lib.Seq.{sets, sets-eq, drop-cons, take-at}
-use Rattle.declarations.specs.Parts.{useAt}
+use Rattle.particles.specs.Readings.{useAt}
 use Rattle.schema_laws.specs.Accepted.{indexIn}
-use Rattle.schema_names.specs.Names.{nameAt}
+use Rattle.text_spec.specs.Scans.{nameAt}
 use Rattle.schema_spec.specs.Declarations.{Use}
 use Rattle.schema_spec.specs.Schemas.{indexFrom}
 use Rattle.schema_tables.specs.Rows.{elementAt}

@@ -5,7 +5,9 @@ use Prim.Native.Nat.{ℕ, _≤_, _<_}
 use native.Mathlib.Omega.{arith}
 use lib.ListN.{length, take, replicate, length-map}
 use lib.Seq.{sets, length-sets, length-take-le}
-use Rattle.declarations.specs.Parts.{useAt, Skipped, DeclarationRead, Declared}
+use Rattle.declarations.specs.Declarations.{DeclarationRead, Declared}
+use Rattle.particles.specs.Readings.{useAt}
+use Rattle.scanning.specs.Outcomes.{Skipped}
 use Rattle.declarations.specs.declared.DeclarationEnd.{DeclarationEnd}
 use Rattle.declarations.specs.declared.DeclarationOutcome.{DeclarationOutcome}
 use Rattle.declarations.specs.declared.DeclarationOutcome.the-variants.{Past, Fail}

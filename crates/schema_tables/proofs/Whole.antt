@@ -12,7 +12,7 @@ use Rattle.closures.specs.Schemas.{below-right}
 use Rattle.closures.specs.Tables.{relates, Below}
 use Rattle.names.specs.Sets.{member}
 use Rattle.names.specs.declared.NameSet.{NameSet}
-use Rattle.schema.proofs.Naming.{declared-names}
+use Rattle.declarations.specs.DeclarationLaws.{declared-names}
 use Rattle.schema.specs.declared.Answer.{Answer}
 use Rattle.schema.specs.Answers.{meant, sized, JudgedAs}
 use Rattle.schema.specs.Whole.{Kept, Limits, within, passed, AllSpelt, AllRead}

@@ -3,12 +3,12 @@ use mathlib.Core.List.{List, [], map}
 use mathlib.Core.Path.{_≡_}
 use Prim.Native.Nat.{ℕ, _+_, _≤_}
 use lib.ListN.{length}
-use Rattle.declarations.specs.Parts.{from, NoBlank}
+use Rattle.scanning.specs.Outcomes.{NoBlank}
 use Rattle.models.specs.Fitting.{Tables}
 use Rattle.names.specs.Sets.{member}
-use Rattle.schema_names.specs.Names.{nameAt}
+use Rattle.text_spec.specs.Scans.{nameAt}
 use Rattle.schema_spec.specs.Declarations.{Declaration}
-use Rattle.schema_spec.specs.Machine.{between}
+use Rattle.schema_spec.specs.Machine.{between, from}
 use Rattle.schema_spec.specs.Models.{Particle, children}
 use Rattle.schema_spec.specs.Names.{Name, element}
 use Rattle.schema_spec.specs.Reading.{readSchema}

@@ -8,7 +8,7 @@ use Rattle.models.specs.declared.Content.{Content}
 use Rattle.models.specs.declared.Content.the-variants.{Empty, Pcdata, Children}
 use Rattle.models.specs.declared.Ends.{Ends}
 use Rattle.names.specs.declared.NameSet.{NameSet}
-use Rattle.schema_names.specs.Names.{nameAt}
+use Rattle.text_spec.specs.Scans.{nameAt}
 use Rattle.schema_spec.specs.Names.{Name, element, text}
 use Rattle.schema_spec.specs.Schemas.{indexFrom}
 use Rattle.schema_tables.specs.Tables.{emptyKind, pcdataKind, childrenKind}

@@ -7,7 +7,7 @@ use lib.ListN.{length, take, drop, getD}
 use Rattle.closures.specs.Schemas.{TableOf}
 use Rattle.models.specs.Fitting.{Tables}
 use Rattle.models.specs.declared.Ends.{Ends}
-use Rattle.schema_names.specs.Names.{nameAt}
+use Rattle.text_spec.specs.Scans.{nameAt}
 use Rattle.schema_spec.specs.Models.{Particle, Content, empty, pcdata, children}
 use Rattle.schema_spec.specs.Schemas.{Schema, contentAt}
 use Rattle.schema_spec.specs.Types.{holds, typesOf, isBelow}

@@ -194,7 +194,7 @@ fn element_row(
             let content = p.content;
             resolve(s, names, &uses[..n], elements);
             let holds = held(d, kind_of(content), &elements[..n]);
-            row_of(declarations::skip(s, end), content, holds)
+            row_of(scanning::skip(s, end), content, holds)
         }
         // an accepted text departs nowhere from the grammar
         DeclarationOutcome::Fail(_) => row_of(at, Content::Empty, NameSet::empty()),
@@ -213,7 +213,7 @@ fn all_rows(s: &[u8], names: &[usize]) -> Rows
     let mut elements = [0u8; 2048];
     let mut predecessors = [0u64; 2048];
     let mut holds = [NameSet::empty(); 32];
-    let mut at = declarations::skip(s, 0);
+    let mut at = scanning::skip(s, 0);
     let mut d = 0;
     while d < names.len() {
         let a = 64 * d;

@@ -1,15 +1,18 @@
 -- Laws of calls: the computing form of each stage is the one outcome that its relation allows.
 use mathlib.Core.Bool.{Bool, true, false}
 use mathlib.Core.Option.{Option, none, some}
-use mathlib.Core.Path.{_≡_, refl, sym, ap, subst, _∙_}
+use mathlib.Core.Path.{_≡_, refl, ap, subst}
 use lib.Dec.{T}
 use Rattle.text_laws.specs.Tests.{never}
 use Rattle.text_spec.specs.Calls.{tested, Tested, refused-by-1, passes-1, inRoom, InRoom, refused-by-18, answered, Answers, answers, handed, Handed, not-handed, holds, InTurn, refused-here, goes-on}
-use Rattle.text_spec.specs.Refusals.{Refusal, Outcome, accepted, refused, andThen}
+use Rattle.text_spec.specs.Refusals.{Outcome, accepted, refused, andThen}
 
--- an outcome satisfies a relation, and no other one does
+-- a value satisfies a relation, and no other one does
+abbrev pub IsUnique : {A : Type 0} → (A → Type 0) → A → Type 0
+IsUnique {A} P a = P a × ((b : A) → P b → b ≡ a)
+
 abbrev pub IsOutcome : {A : Type 0} → (Outcome A → Type 0) → Outcome A → Type 0
-IsOutcome {A} P o = P o × ((p : Outcome A) → P p → p ≡ o)
+IsOutcome {A} P o = IsUnique {A = Outcome A} P o
 
 module _ {A : Type 0} where
   pub answers-is : {a : A} → IsOutcome (Answers a) (accepted a)

@@ -6,7 +6,7 @@ use mathlib.Core.Option.{Option, none, some}
 use mathlib.Core.Path.{_≡_, refl, sym, ap, subst, _∙_}
 use Prim.Native.Nat.{ℕ}
 use lib.Dec.{T, eqb, eqb→eq, eqb-refl}
-use Rattle.text_laws.specs.Tests.{or-left, or-right, or-cases, and-intro, and-cases}
+use Rattle.text_laws.specs.Tests.{or-left, or-right, or-cases, and-intro, and-cases, failed}
 use Rattle.text_spec.specs.Lists.{anyOf, allOf, filterBy, gather, sameBy, sameBytes, isEmpty, isNone}
 
 module _ {A : Type 0} where
@@ -119,6 +119,30 @@ module _ {A : Type 0} where
   append-empty (x ∷ xs) ys e =
       let z : _≡_ {A = Bool} (isEmpty {A = A} (x ∷ (xs ++ ys))) (isEmpty {A = A} []) = ap isEmpty e in
       absurd (subst T (sym z) tt)
+
+  -- a list is split in one way at the first element with a property
+  pub first-split-once : (P : A → Type 0) (u v : List A) {x y : A} {r q : List A} → u ++ (x ∷ r) ≡ v ++ (y ∷ q) → P x → P y
+      → ((z : A) → In z u → P z → ⊥) → ((z : A) → In z v → P z → ⊥) → (u ≡ v) × (x ∷ r ≡ y ∷ q)
+  first-split-once P [] [] e p t f g = (refl, e)
+  first-split-once P [] (b ∷ v) {x} e p t f g = absurd (g x (here (cc)) p)
+  first-split-once P (a ∷ u) [] {y = y} e p t f g = absurd (f y (here (cc)) t)
+  first-split-once P (a ∷ u) (b ∷ v) {x} {y} {r} {q} e p t f g =
+      let tails : u ++ (x ∷ r) ≡ v ++ (y ∷ q) = cc in
+      let s = first-split-once P u v tails p t (λ z i. f z (there i)) (λ z i. g z (there i)) in
+      let h : a ≡ b = cc in
+      (ap (λ (l : List A). a ∷ l) (s .0) ∙ ap (λ (c : A). c ∷ v) h, s .1)
+
+  -- .. and in one way after the elements at its front that pass a test
+  pub span-once : (f : A → Bool) (u v : List A) {x y : A} {r q : List A} → u ++ (x ∷ r) ≡ v ++ (y ∷ q) → T (allOf f u) → T (allOf f v)
+      → f x ≡ false → f y ≡ false → (u ≡ v) × (x ∷ r ≡ y ∷ q)
+  span-once f u v e p q g h =
+      first-split-once (λ z. f z ≡ false) u v e g h (λ z i k. failed k (all-in f p i)) (λ z i k. failed k (all-in f q i))
+
+  pub append-cancel : (u : List A) {v w : List A} → u ++ v ≡ u ++ w → v ≡ w
+  append-cancel [] e = e
+  append-cancel (x ∷ u) {v} {w} e =
+      let d : u ++ v ≡ u ++ w = cc in
+      append-cancel u d
 
   -- a test for elements that tells equal ones tells equal lists
   pub same-lists : (same : A → A → Bool) → ((x y : A) → T (same x y) → x ≡ y) → (xs ys : List A) → T (sameBy same xs ys) → xs ≡ ys

@@ -1,5 +1,5 @@
--- `body` meets its contract: a content and `>`. Assumes nothing.
-use Rattle.declarations.proofs.Contents.{content-high, body-fail, body-end, body-close, body-not}
+-- `body` meets its contract: a content and `>`.
+use Rattle.declarations.proofs.Contents.{content-high, body-fails, body-end, body-close, body-not}
 use borrow.Author.Needs.{needs}
 use Rattle.declarations.proofs.body.Statement.{statement}
 use Rattle.declarations.proofs.body.Tie as tie
@@ -15,10 +15,10 @@ returns-2 c =
     let at-skip = c .before .before .before in
     let at-p = at-skip .before .before in
     let at-content = at-p .before .before .before .before .before .before in
-    record { says = body-close (at-content .content .ensures) (at-p .p .given .1) (at-skip .skip .ensures) (c .before .before .if1 .left) (c .if2 .taken) }
+    body-close (at-content .content .ensures) (at-p .p .given .1) (at-skip .skip .ensures) (c .before .before .if1 .left) (c .if2 .taken)
 
 returns-3 : tie.Need-returns-3
-returns-3 c = record { says = body-fail (c .before .before .before .before .before .before .before .content .ensures) (c .before .j .given .1) }
+returns-3 c = record { says = body-fails (c .before .before .before .before .before .before .before .content .ensures) (c .before .j .given .1) }
 
 returns-4 : tie.Need-returns-4
 returns-4 c =

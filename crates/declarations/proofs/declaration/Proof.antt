@@ -1,6 +1,6 @@
--- `declaration` meets its contract: keyword, name, content and end. Assumes nothing.
-use Rattle.declarations.proofs.Contents.{declaration-fail, name-known, declaration-name-fail, content-known, declaration-read}
+-- `declaration` meets its contract: keyword, name, content and end.
 use native.Mathlib.Omega.{arith}
+use Rattle.declarations.proofs.Declarations.{declaration-fails, name-known, declaration-name-fails, content-known, declaration-reads}
 use borrow.Author.Needs.{needs}
 use Rattle.declarations.proofs.declaration.Statement.{statement}
 use Rattle.declarations.proofs.declaration.Tie as tie
@@ -23,14 +23,14 @@ declared-requires c κs =
     (h .1, omega arith, h .2)
 
 returns : tie.Need-returns
-returns c = record { says = declaration-fail (c .before .before .before .keyword .ensures) (c .before .j .given .1) }
+returns c = record { says = declaration-fails (c .before .before .before .keyword .ensures) (c .before .j .given .1) }
 
 returns-2 : tie.Need-returns-2
 returns-2 c =
     let at-declared-name = c .before .before .before in
     let at-i = at-declared-name .before .before in
     let at-keyword = at-i .before .before in
-    record { says = declaration-name-fail (at-keyword .keyword .ensures) (at-i .i .given .1) (at-declared-name .declared-name .ensures) (c .before .j2 .given .1) }
+    record { says = declaration-name-fails (at-keyword .keyword .ensures) (at-i .i .given .1) (at-declared-name .declared-name .ensures) (c .before .j2 .given .1) }
 
 returns-3 : tie.Need-returns-3
 returns-3 c =
@@ -39,7 +39,7 @@ returns-3 c =
     let at-declared-name = at-j3 .before .before in
     let at-i = at-declared-name .before .before in
     let at-keyword = at-i .before .before in
-    record { says = declaration-read (at-keyword .keyword .ensures) (at-i .i .given .1) (at-declared-name .declared-name .ensures) (at-j3 .j3 .given .1) (at-declared .declared .ensures) }
+    declaration-reads (at-keyword .keyword .ensures) (at-i .i .given .1) (at-declared-name .declared-name .ensures) (at-j3 .j3 .given .1) (at-declared .declared .ensures)
 
 pub declaration-spec : {M : Type 1} → statement M
 declaration-spec =

@@ -1,14 +1,20 @@
--- `declared` meets its contract. Assumes nothing.
-use Rattle.declarations.proofs.Contents.{rest-past, rest-fail}
+-- `declared` meets its contract.
+use Rattle.declarations.proofs.Declarations.{rest-reads, rest-fails}
 use borrow.Author.Needs.{needs}
 use Rattle.declarations.proofs.declared.Statement.{statement}
 use Rattle.declarations.proofs.declared.Tie as tie
 
 returns : tie.Need-returns
-returns c = record { says = rest-past (c .before .before .before .before .before .before .before .body .ensures) (c .before .p .given .1) (c .before .before .before .before .before .before .before .before .before .before .before .before .before .args .name) }
+returns c =
+    let at-body = c .before .before .before .before .before .before .before in
+    let start = at-body .before .before .before .before .before .before in
+    rest-reads (at-body .body .ensures) (start .args .name) (c .before .p .given .1)
 
 returns-2 : tie.Need-returns-2
-returns-2 c = record { says = rest-fail (c .before .before .before .before .before .before .before .body .ensures) (c .before .j .given .1) (c .before .before .before .before .before .before .before .before .before .before .before .before .before .args .name) }
+returns-2 c =
+    let at-body = c .before .before .before .before .before .before .before in
+    let start = at-body .before .before .before .before .before .before in
+    rest-fails (at-body .body .ensures) (start .args .name) (c .before .j .given .1)
 
 pub declared-spec : {M : Type 1} → statement M
 declared-spec =

@@ -1,49 +1,42 @@
--- `declared_name` meets its contract. Assumes nothing.
+-- `declared_name` meets its contract.
 use mathlib.Core.Path.{sym, _∙_}
 use borrow.Author.Tests.{not-true, not-false}
-use Rattle.declarations.proofs.Contents.{head-end, head-not, head-fail, head-high, head-past}
+use Rattle.declarations.proofs.Declarations.{name-end, name-not, name-fails, name-reads}
+use Rattle.scanning.specs.OutcomeLaws.{named-end}
 use borrow.Author.Needs.{needs}
 use Rattle.declarations.proofs.declared_name.Statement.{statement}
 use Rattle.declarations.proofs.declared_name.Tie as tie
 
 returns : tie.Need-returns
-returns c = record { says = head-end (c .before .before .args .s .now) (c .before .before .args .i) (c .if1 .taken) }
+returns c = record { says = name-end (c .before .before .args .s .now) (c .before .before .args .i) (c .if1 .taken) }
 
 returns-2 : tie.Need-returns-2
 returns-2 c =
     let at-if1 = c .before .before .before in
     let start = at-if1 .before .before in
-    record { says = head-not (start .args .s .now) (start .args .i) (at-if1 .if1 .left) (start .pre .1 (at-if1 .if1 .left)) (sym (c .before .starts-name .ensures) ∙ not-true _ (c .if2 .taken)) }
+    record { says = name-not (start .args .s .now) (start .args .i) (at-if1 .if1 .left) (start .pre .1 (at-if1 .if1 .left)) (sym (c .before .starts-name .ensures) ∙ not-true _ (c .if2 .taken)) }
 
 name-end-requires : tie.Need-name-end-requires
 name-end-requires c κs = (c .before .before .before .if1 .left, sym (c .before .starts-name .ensures) ∙ not-false _ (c .if2 .left))
 
 space-requires : tie.Need-space-requires
-space-requires c κs =
-    let at-name-end = c .before .before .before in
-    let at-if2 = at-name-end .before in
-    let at-starts-name = at-if2 .before in
-    let at-if1 = at-starts-name .before .before in
-    let start = at-if1 .before .before in
-    head-high (start .args .s .now) (start .args .i) (at-if1 .if1 .left) (start .pre .1 (at-if1 .if1 .left)) (sym (at-starts-name .starts-name .ensures) ∙ not-false _ (at-if2 .if2 .left)) (at-name-end .name-end .ensures) _ (c .before .e .given .1)
+space-requires c κs = named-end (c .before .before .before .name-end .ensures) (c .before .e .given .1) .1
 
 returns-3 : tie.Need-returns-3
 returns-3 c =
     let at-name-end = c .before .before .before .before in
     let at-if2 = at-name-end .before in
-    let at-starts-name = at-if2 .before in
-    let at-if1 = at-starts-name .before .before in
+    let at-if1 = at-if2 .before .before .before in
     let start = at-if1 .before .before in
-    record { says = head-past (start .args .s .now) (start .args .i) (at-if1 .if1 .left) (start .pre .1 (at-if1 .if1 .left)) (sym (at-starts-name .starts-name .ensures) ∙ not-false _ (at-if2 .if2 .left)) (at-name-end .name-end .ensures) (c .before .before .e .given .1) (c .space .result) (c .space .ensures .says) }
+    name-reads (start .args .s .now) (start .args .i) (at-if1 .if1 .left) (start .pre .1 (at-if1 .if1 .left)) (sym (at-if2 .before .starts-name .ensures) ∙ not-false _ (at-if2 .if2 .left)) (at-name-end .name-end .ensures) (c .before .before .e .given .1) (c .space .ensures)
 
 returns-4 : tie.Need-returns-4
 returns-4 c =
     let at-name-end = c .before .before .before in
     let at-if2 = at-name-end .before in
-    let at-starts-name = at-if2 .before in
-    let at-if1 = at-starts-name .before .before in
+    let at-if1 = at-if2 .before .before .before in
     let start = at-if1 .before .before in
-    record { says = head-fail (start .args .s .now) (start .args .i) (at-if1 .if1 .left) (start .pre .1 (at-if1 .if1 .left)) (sym (at-starts-name .starts-name .ensures) ∙ not-false _ (at-if2 .if2 .left)) (at-name-end .name-end .ensures) (c .before .j .given .1) }
+    record { says = name-fails (start .args .s .now) (start .args .i) (at-if1 .if1 .left) (start .pre .1 (at-if1 .if1 .left)) (sym (at-if2 .before .starts-name .ensures) ∙ not-false _ (at-if2 .if2 .left)) (at-name-end .name-end .ensures) (c .before .j .given .1) }
 
 pub declared-name-spec : {M : Type 1} → statement M
 declared-name-spec =

@@ -1,5 +1,6 @@
--- `keyword` meets its contract. Assumes nothing.
-use Rattle.declarations.proofs.Contents.{keyword-not, keyword-fail, keyword-high, keyword-past}
+-- `keyword` meets its contract.
+use Rattle.declarations.proofs.Declarations.{keyword-not, keyword-fails, keyword-reads}
+use Rattle.scanning.specs.OutcomeLaws.{spelt-end}
 use borrow.Author.Needs.{needs}
 use Rattle.declarations.proofs.keyword.Statement.{statement}
 use Rattle.declarations.proofs.keyword.Tie as tie
@@ -10,25 +11,21 @@ returns c =
     record { says = keyword-not (start .args .s .now) (start .args .at) (start .pre .0) (start .pre .1 (start .pre .0)) (c .if1 .taken) }
 
 space-requires : tie.Need-space-requires
-space-requires c κs =
-    let at-spell = c .before .before .before in
-    let at-if1 = at-spell .before .before in
-    let start = at-if1 .before .before .before in
-    keyword-high (start .args .s .now) (start .args .at) (start .pre .0) (at-if1 .if1 .left) (at-spell .spell .ensures) _ (c .before .j .given .1)
+space-requires c κs = spelt-end (c .before .before .before .spell .ensures) (c .before .j .given .1) .1
 
 returns-2 : tie.Need-returns-2
 returns-2 c =
     let at-spell = c .before .before .before .before in
     let at-if1 = at-spell .before .before in
     let start = at-if1 .before .before .before in
-    record { says = keyword-past (start .args .s .now) (start .args .at) (start .pre .0) (at-if1 .if1 .left) (at-spell .spell .ensures) (c .before .before .j .given .1) (c .space .result) (c .space .ensures .says) }
+    keyword-reads (start .args .s .now) (start .args .at) (start .pre .0) (at-if1 .if1 .left) (at-spell .spell .ensures) (c .before .before .j .given .1) (c .space .ensures)
 
 returns-3 : tie.Need-returns-3
 returns-3 c =
     let at-spell = c .before .before .before in
     let at-if1 = at-spell .before .before in
     let start = at-if1 .before .before .before in
-    record { says = keyword-fail (start .args .s .now) (start .args .at) (start .pre .0) (at-if1 .if1 .left) (at-spell .spell .ensures) (c .before .j2 .given .1) }
+    record { says = keyword-fails (start .args .s .now) (start .args .at) (start .pre .0) (at-if1 .if1 .left) (at-spell .spell .ensures) (c .before .j2 .given .1) }
 
 pub keyword-spec : {M : Type 1} → statement M
 keyword-spec =

@@ -1,29 +1,25 @@
--- `model` meets its contract: `#` or a group. Assumes nothing.
-use Rattle.declarations.proofs.Contents.{model-end, model-pcdata, model-fail, model-high, model-past}
+-- `model` meets its contract: `#` or a group.
+use Rattle.declarations.proofs.Contents.{model-end, model-pcdata, model-fails, model-high, model-reads}
 use borrow.Author.Needs.{needs}
 use Rattle.declarations.proofs.model.Statement.{statement}
 use Rattle.declarations.proofs.model.Tie as tie
 
 returns : tie.Need-returns
-returns c =
-    let start = c .before .before .before .before .before in
-    record { says = model-end (start .args .n) (start .args .out .now) (start .args .predecessors .now) (c .before .skip .ensures) (c .if1 .taken) }
+returns c = record { says = model-end (c .before .skip .ensures) (c .if1 .taken) }
 
 returns-2 : tie.Need-returns-2
 returns-2 c =
     let at-if1 = c .before .before .before .before in
     let at-skip = at-if1 .before in
     let start = at-skip .before .before .before .before in
-    record { says = model-pcdata (start .args .n) (start .args .out .now) (start .args .predecessors .now) (at-skip .skip .ensures) (at-if1 .if1 .left) (c .before .before .if2 .taken) (start .pre .1) (c .before .pcdata .ensures) (c .nameless .ensures) }
+    model-pcdata (at-skip .skip .ensures) (at-if1 .if1 .left) (start .args .n) (start .args .out .now) (start .args .predecessors .now) (c .before .before .if2 .taken) (start .pre .1) (c .before .pcdata .ensures) (c .nameless .ensures)
 
 indicated-requires : tie.Need-indicated-requires
 indicated-requires c κs =
     let at-group = c .before .before .before .before .before .before .before .before in
     let at-if2 = at-group .before .before .before in
     let at-if1 = at-if2 .before .before in
-    let at-skip = at-if1 .before in
-    let start = at-skip .before .before .before .before in
-    model-high (start .args .n) (start .args .out .now) (start .args .predecessors .now) (at-skip .skip .ensures) (at-if1 .if1 .left) (at-if2 .if2 .left) (at-group .group .ensures) _ (c .before .before .p .given .1)
+    model-high (at-if1 .before .skip .ensures) (at-if1 .if1 .left) (at-if2 .if2 .left) (at-group .group .ensures) _ (c .before .before .p .given .1)
 
 same-length-2 : tie.Need-same-length-2
 same-length-2 c = let l = c .before .before .before .indicated .ensures .repeated .long in search needs
@@ -35,18 +31,14 @@ returns-3 c =
     let at-group = at-p .before .before .before .before .before .before in
     let at-if2 = at-group .before .before .before in
     let at-if1 = at-if2 .before .before in
-    let at-skip = at-if1 .before in
-    let start = at-skip .before .before .before .before in
-    record { says = model-past (start .args .n) (start .args .out .now) (start .args .predecessors .now) (at-skip .skip .ensures) (at-if1 .if1 .left) (at-if2 .if2 .left) (at-group .group .ensures) (at-p .p .given .1) (at-indicated .indicated .ensures) }
+    model-reads (at-if1 .before .skip .ensures) (at-if1 .if1 .left) (at-if2 .if2 .left) (at-group .group .ensures) (at-p .p .given .1) (at-indicated .indicated .ensures)
 
 returns-4 : tie.Need-returns-4
 returns-4 c =
     let at-group = c .before .before .before .before .before .before .before in
     let at-if2 = at-group .before .before .before in
     let at-if1 = at-if2 .before .before in
-    let at-skip = at-if1 .before in
-    let start = at-skip .before .before .before .before in
-    record { says = model-fail (start .args .n) (start .args .out .now) (start .args .predecessors .now) (at-skip .skip .ensures) (at-if1 .if1 .left) (at-if2 .if2 .left) (at-group .group .ensures) (c .before .j .given .1) }
+    record { says = model-fails (at-if1 .before .skip .ensures) (at-if1 .if1 .left) (at-if2 .if2 .left) (at-group .group .ensures) (c .before .j .given .1) }
 
 pub model-spec : {M : Type 1} → statement M
 model-spec =

@@ -1,7 +1,7 @@
--- `nameless` meets its contract. Assumes nothing.
+-- `nameless` meets its contract.
 use mathlib.Core.Path.{sym, ap}
-use Rattle.declarations.specs.Parts.{namelessOf}
-use Rattle.declarations.specs.declared.Read.{Read}
+use Rattle.declarations.specs.Contents.{namelessOf}
+use Rattle.scanning.specs.declared.Read.{Read}
 use borrow.Author.Needs.{needs}
 use Rattle.declarations.proofs.nameless.Statement.{statement}
 use Rattle.declarations.proofs.nameless.Tie as tie

@@ -18,7 +18,7 @@ use Rattle.projection_spec.specs.Inference.Needed.{needed, neededWord}
 use Rattle.projection_spec.specs.Library.Calls.{RowText, textOfRow}
 use Rattle.projection_spec.specs.Library.Chains.{chain}
 use Rattle.projection_spec.specs.Library.Hosts.{HostAnswer, hostAnswer, Lent, extractOf}
-use Rattle.projection_spec.specs.Library.Listing.{decimal, lineFeed, header, refusedLine}
+use Rattle.projection_spec.specs.Library.Listing.{FilesRead, nodeLine, header, refusedLine}
 use Rattle.projection_spec.specs.Library.Records.{TextRecord, recordOf, LentTable}
 use Rattle.projection_spec.specs.Library.Selections.{askedPaths, Selections, selections}
 use Rattle.schema_spec.specs.Conditions.{SchemaApplies, SchemaGives}
@@ -27,12 +27,12 @@ use Rattle.schema_spec.specs.Schemas.{Schema}
 use Rattle.schema_spec.specs.Types.{typesOf}
 use Rattle.table_spec.specs.Columns.{Sizes, allOfSize, sizesOf, cellsFrom}
 use Rattle.table_spec.specs.Conditions.{RowAt, WellFormed, WellFormedBeside}
-use Rattle.table_spec.specs.Nodes.{Node, nodeNumber, nodesOf}
+use Rattle.table_spec.specs.Nodes.{Node, nodesOf}
 use Rattle.table_spec.specs.Rows.{Row, rowsOf}
 use Rattle.text_spec.specs.Calls.{Tested, Handed, InTurn, InRoom, Answers}
 use Rattle.text_spec.specs.Limits.{maxSchemaBytes, maxBundleBytes, maxJournalBytes, maxPaths, listingJournalBytes, listingRows}
-use Rattle.text_spec.specs.Lists.{bytes, filterBy}
-use Rattle.text_spec.specs.Refusals.{Reason, Outcome, accepted, Judged, IsFirst, at, tooFewCells}
+use Rattle.text_spec.specs.Lists.{filterBy}
+use Rattle.text_spec.specs.Refusals.{Refusal, Outcome, accepted, refused, Judged}
 
 -- Texts as they are judged, and texts that are accepted with what they give.
 abbrev pub SchemaJudged : List ℕ → Outcome Schema → Type 0
@@ -194,18 +194,24 @@ pub record FirstPath (doc : List Node) (ps : List (LocationPath ℕ)) (y : Node)
 pub data Lines (s : Schema) (doc : List Node) (ps : List (LocationPath ℕ)) : List Node → List ℕ → Type 0 where
   no-lines : Lines s doc ps [] []
   next-line : {y : Node} {ys : List Node} {rest : List ℕ} (place : ℕ) → FirstPath doc ps y place → Lines s doc ps ys rest
-      → Lines s doc ps (y ∷ ys) ((decimal (nodeNumber y) ++ (bytes " " ++ (decimal place ++ (bytes " " ++ (chain s y ++ lineFeed))))) ++ rest)
+      → Lines s doc ps (y ∷ ys) (nodeLine s y place ++ rest)
 
--- `listing`: the first refused file alone; 18 only where all three are accepted; otherwise the header with the lengths of the three lists
+-- the header with the lengths of the three lists, and then the lines
+pub data Lists (journal : List ℕ) (f : FilesRead) : List ℕ → Type 0 where
+  lists : {ys : List Node} {lines : List ℕ} → Chosen (nodesOf journal (f .rows)) (f .paths) ys → Lines (f .schema) (nodesOf journal (f .rows)) (f .paths) ys lines
+      → Lists journal f (header (length ys) (length (cut (needed (typesOf (f .schema)) (f .paths)) (f .rows))) (length (f .rows)) ++ lines)
+
+-- the three files in turn, and 18 only where all three are accepted
+abbrev pub FilesJudged : List ℕ → List ℕ → List ℕ → Outcome FilesRead → Type 0
+FilesJudged schema bundle journal o =
+    InTurn (SchemaJudged schema)
+    (λ s.
+    InTurn (BundleJudged s bundle)
+    (λ ps.
+    InTurn (JournalJudged listingJournalBytes s journal)
+    (λ rows. InRoom (listingRows < length rows) (record { schema = s; paths = ps; rows = rows })))) o
+
+-- `listing`: "the first file refused prints `refused N at P` alone"
 pub data Prints (schema bundle journal : List ℕ) : List ℕ → Type 0 where
-  schema-refused : {r : Reason} {k : ℕ} → IsFirst (SchemaApplies schema) r k → Prints schema bundle journal (refusedLine (at r k))
-  bundle-refused : {s : Schema} {r : Reason} {k : ℕ} → SchemaTaken schema s → IsFirst (BundleApplies s bundle) r k
-      → Prints schema bundle journal (refusedLine (at r k))
-  journal-refused : {s : Schema} {ps : List (LocationPath ℕ)} {r : Reason} {k : ℕ} → SchemaTaken schema s → BundleTaken s bundle ps
-      → IsFirst (JournalApplies listingJournalBytes s journal) r k → Prints schema bundle journal (refusedLine (at r k))
-  too-many-rows : {s : Schema} {ps : List (LocationPath ℕ)} {rows : List Row} → SchemaTaken schema s → BundleTaken s bundle ps
-      → JournalTaken listingJournalBytes s journal rows → listingRows < length rows → Prints schema bundle journal (refusedLine (at tooFewCells 0))
-  lists : {s : Schema} {ps : List (LocationPath ℕ)} {rows : List Row} {ys : List Node} {lines : List ℕ} → SchemaTaken schema s → BundleTaken s bundle ps
-      → JournalTaken listingJournalBytes s journal rows → length rows ≤ listingRows → Chosen (nodesOf journal rows) ps ys
-      → Lines s (nodesOf journal rows) ps ys lines
-      → Prints schema bundle journal (header (length ys) (length (cut (needed (typesOf s) ps) rows)) (length rows) ++ lines)
+  prints-refusal : {f : Refusal} → FilesJudged schema bundle journal (refused f) → Prints schema bundle journal (refusedLine f)
+  prints-lists : {f : FilesRead} {out : List ℕ} → FilesJudged schema bundle journal (accepted f) → Lists journal f out → Prints schema bundle journal out

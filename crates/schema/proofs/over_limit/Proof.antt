@@ -2,7 +2,7 @@
 use mathlib.Core.Path.{sym, _∙_}
 use Prim.Native.Nat.{_-_}
 use borrow.Author.Tests.{lt-ltb, le-ltb, le-leb, lt-leb}
-use Rattle.declarations.proofs.Judging.{yes, no}
+use Rattle.text_laws.specs.Tests.{cond-yes as yes, cond-no as no}
 use borrow.Author.Needs.{needs}
 use Rattle.schema.proofs.over_limit.Statement.{statement}
 use Rattle.schema.proofs.over_limit.Tie as tie

@@ -3,8 +3,9 @@ use mathlib.Core.List.{List, map}
 use mathlib.Core.Path.{sym, ap, _∙_}
 use Prim.Native.Nat.{ℕ}
 use native.Mathlib.Nat.{zero-add}
-use Rattle.schema_names.specs.Names.{nameAt}
-use Rattle.schema_names.proofs.Naming.{found-one, found-none, name-whole, never-found}
+use Rattle.text_spec.specs.Scans.{nameAt}
+use Rattle.schema_names.proofs.Naming.{name-whole, never-found}
+use Rattle.schema_names.specs.NameLaws.{found-one, found-none}
 use Rattle.schema_spec.specs.Schemas.{indexFrom}
 use borrow.Author.Needs.{needs}
 use Rattle.schema_names.proofs.element_named.Statement.{statement}

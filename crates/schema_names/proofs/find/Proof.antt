@@ -3,7 +3,7 @@ use mathlib.Core.List.{map}
 use mathlib.Core.Path.{_≡_, refl, sym, ap, _∙_}
 use Prim.Native.Nat.{_-_, _≤_}
 use lib.ListN.{length, drop}
-use Rattle.schema_names.specs.Names.{nameAt}
+use Rattle.text_spec.specs.Scans.{nameAt}
 use Rattle.schema_spec.specs.Schemas.{indexFrom}
 use Rattle.text_spec.specs.Lists.{valueOr}
 use Rattle.schema_names.proofs.Naming.{index-here, index-later, index-none}

@@ -2,7 +2,7 @@
 use mathlib.Core.Path.{_≡_, refl, sym, _∙_}
 use Prim.Native.Nat.{_+_, _-_}
 use lib.ListN.{length}
-use Rattle.schema_names.specs.Names.{nameAt}
+use Rattle.text_spec.specs.Scans.{nameAt}
 use Rattle.text_spec.specs.Lists.{sameBytes}
 use Rattle.schema_names.proofs.Naming.{name-goes-on, names-differ, names-agree, names-ended}
 use borrow.Author.Needs.{needs}
