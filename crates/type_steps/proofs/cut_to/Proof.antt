@@ -1,0 +1,25 @@
+-- `type_steps::cut_to` meets its contract.
+use borrow.Author.Needs.{needs}
+use Rattle.type_steps.specs.Laws.{near-cutTo}
+use Rattle.type_steps.specs.Relations.{setIn}
+use Rattle.type_steps.proofs.cut_to.Statement.{statement}
+use Rattle.type_steps.proofs.cut_to.Tie as tie
+
+all-above-requires : tie.Need-all-above-requires
+all-above-requires c κs = search needs
+
+union-of-requires : tie.Need-union-of-requires
+union-of-requires c κs = search needs
+
+common-of-requires : tie.Need-common-of-requires
+common-of-requires c κs = search needs
+
+returns : tie.Need-returns
+returns c = λ s k.
+    let up = c .before .before .all-above in
+    let near = c .before .union-of in
+    let start = c .before .before .before .args in
+    near-cutTo s (start .t) (start .k) (c .common-of .result) (setIn s (up .result)) (setIn s (near .result)) (up .ensures s k) (near .ensures s) (c .common-of .ensures s)
+
+pub cut-to-spec : {M : Type 1} → statement M
+cut-to-spec = tie.close (tie.spec all-above-requires union-of-requires common-of-requires returns)
