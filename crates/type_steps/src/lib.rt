@@ -26,28 +26,44 @@ fn wide(x: u8) -> usize
 }
 
 // All that a set holds.
-pub fn held_by(holds: [NameSet; MAX_ELEMENTS], below: [NameSet; MAX_ELEMENTS], t: NameSet) -> NameSet
+pub fn held_by(
+    holds: [NameSet; MAX_ELEMENTS],
+    below: [NameSet; MAX_ELEMENTS],
+    t: NameSet,
+) -> NameSet
     ensures { λ r. ⌜ ((s : Schema) → RelationsOf s holds below → setIn s r ≡ heldBy (typesOf s) (setIn s t)) ⌝ }
 {
     closures::related_from(holds, t)
 }
 
 // Those that hold a name of a set.
-pub fn holding(holds: [NameSet; MAX_ELEMENTS], below: [NameSet; MAX_ELEMENTS], t: NameSet) -> NameSet
+pub fn holding(
+    holds: [NameSet; MAX_ELEMENTS],
+    below: [NameSet; MAX_ELEMENTS],
+    t: NameSet,
+) -> NameSet
     ensures { λ r. ⌜ ((s : Schema) → RelationsOf s holds below → setIn s r ≡ holding (typesOf s) (setIn s t)) ⌝ }
 {
     closures::related_to(holds, t)
 }
 
 // All below a set.
-pub fn all_below(holds: [NameSet; MAX_ELEMENTS], below: [NameSet; MAX_ELEMENTS], t: NameSet) -> NameSet
+pub fn all_below(
+    holds: [NameSet; MAX_ELEMENTS],
+    below: [NameSet; MAX_ELEMENTS],
+    t: NameSet,
+) -> NameSet
     ensures { λ r. ⌜ ((s : Schema) → RelationsOf s holds below → setIn s r ≡ allBelow (typesOf s) (setIn s t)) ⌝ }
 {
     closures::related_from(below, t)
 }
 
 // All above a set.
-pub fn all_above(holds: [NameSet; MAX_ELEMENTS], below: [NameSet; MAX_ELEMENTS], t: NameSet) -> NameSet
+pub fn all_above(
+    holds: [NameSet; MAX_ELEMENTS],
+    below: [NameSet; MAX_ELEMENTS],
+    t: NameSet,
+) -> NameSet
     ensures { λ r. ⌜ ((s : Schema) → RelationsOf s holds below → setIn s r ≡ allAbove (typesOf s) (setIn s t)) ⌝ }
 {
     closures::related_to(below, t)
@@ -68,7 +84,12 @@ pub fn common_of(a: NameSet, b: NameSet) -> NameSet
 }
 
 // The names of the set `k` that are in the set `t` or above it.
-pub fn cut_to(holds: [NameSet; MAX_ELEMENTS], below: [NameSet; MAX_ELEMENTS], t: NameSet, k: NameSet) -> NameSet
+pub fn cut_to(
+    holds: [NameSet; MAX_ELEMENTS],
+    below: [NameSet; MAX_ELEMENTS],
+    t: NameSet,
+    k: NameSet,
+) -> NameSet
     ensures { λ r. ⌜ ((s : Schema) → RelationsOf s holds below → setIn s r ≡ cutTo (typesOf s) (setIn s t) (setIn s k)) ⌝ }
 {
     let up = all_above(holds, below, t);
@@ -122,7 +143,11 @@ fn to_children(
     Inferred { types, context }
 }
 
-fn to_descendants(holds: [NameSet; MAX_ELEMENTS], below: [NameSet; MAX_ELEMENTS], e: Inferred) -> Inferred
+fn to_descendants(
+    holds: [NameSet; MAX_ELEMENTS],
+    below: [NameSet; MAX_ELEMENTS],
+    e: Inferred,
+) -> Inferred
     ensures { λ r. ⌜ ((s : Schema) → RelationsOf s holds below → (w : NodeTest ℕ) → envIn s r ≡ move (typesOf s) descendant w (envIn s e)) ⌝ }
 {
     let types = all_below(holds, below, e.types);
@@ -130,7 +155,11 @@ fn to_descendants(holds: [NameSet; MAX_ELEMENTS], below: [NameSet; MAX_ELEMENTS]
     Inferred { types, context }
 }
 
-fn to_descendants_or_self(holds: [NameSet; MAX_ELEMENTS], below: [NameSet; MAX_ELEMENTS], e: Inferred) -> Inferred
+fn to_descendants_or_self(
+    holds: [NameSet; MAX_ELEMENTS],
+    below: [NameSet; MAX_ELEMENTS],
+    e: Inferred,
+) -> Inferred
     ensures { λ r. ⌜ ((s : Schema) → RelationsOf s holds below → (w : NodeTest ℕ) → envIn s r ≡ move (typesOf s) descendantOrSelf w (envIn s e)) ⌝ }
 {
     let down = all_below(holds, below, e.types);
@@ -139,16 +168,24 @@ fn to_descendants_or_self(holds: [NameSet; MAX_ELEMENTS], below: [NameSet; MAX_E
     Inferred { types, context }
 }
 
-fn to_parents(holds: [NameSet; MAX_ELEMENTS], below: [NameSet; MAX_ELEMENTS], e: Inferred) -> Inferred
+fn to_parents(
+    holds: [NameSet; MAX_ELEMENTS],
+    below: [NameSet; MAX_ELEMENTS],
+    e: Inferred,
+) -> Inferred
     ensures { λ r. ⌜ ((s : Schema) → RelationsOf s holds below → (w : NodeTest ℕ) → envIn s r ≡ move (typesOf s) parent w (envIn s e)) ⌝ }
 {
-    let up = holding(holds, below, e.types);
-    let types = common_of(up, e.context);
+    let holders = holding(holds, below, e.types);
+    let types = common_of(holders, e.context);
     let context = cut_to(holds, below, types, e.context);
     Inferred { types, context }
 }
 
-fn to_ancestors(holds: [NameSet; MAX_ELEMENTS], below: [NameSet; MAX_ELEMENTS], e: Inferred) -> Inferred
+fn to_ancestors(
+    holds: [NameSet; MAX_ELEMENTS],
+    below: [NameSet; MAX_ELEMENTS],
+    e: Inferred,
+) -> Inferred
     ensures { λ r. ⌜ ((s : Schema) → RelationsOf s holds below → (w : NodeTest ℕ) → envIn s r ≡ move (typesOf s) ancestor w (envIn s e)) ⌝ }
 {
     let up = all_above(holds, below, e.types);
@@ -157,7 +194,11 @@ fn to_ancestors(holds: [NameSet; MAX_ELEMENTS], below: [NameSet; MAX_ELEMENTS], 
     Inferred { types, context }
 }
 
-fn to_ancestors_or_self(holds: [NameSet; MAX_ELEMENTS], below: [NameSet; MAX_ELEMENTS], e: Inferred) -> Inferred
+fn to_ancestors_or_self(
+    holds: [NameSet; MAX_ELEMENTS],
+    below: [NameSet; MAX_ELEMENTS],
+    e: Inferred,
+) -> Inferred
     ensures { λ r. ⌜ ((s : Schema) → RelationsOf s holds below → (w : NodeTest ℕ) → envIn s r ≡ move (typesOf s) ancestorOrSelf w (envIn s e)) ⌝ }
 {
     let up = all_above(holds, below, e.types);
