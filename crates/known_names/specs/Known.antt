@@ -1,6 +1,6 @@
 -- The names of a schema, element by element: the elements before one, and the text names that they hold.
 use mathlib.Core.Bool.{Bool, true, false, _&&_, _||_, and-true, or-false}
-use mathlib.Core.List.{List, List·Memᴰ as In}
+use mathlib.Core.List.{List}
 use mathlib.Core.Path.{_≡_, refl, sym, ap, ap₂, subst, _∙_}
 use Prim.Native.Nat.{ℕ, _+_, _<_}
 use native.Mathlib.Omega.{arith}
@@ -17,7 +17,6 @@ use Rattle.schema_spec.specs.Schemas.{Schema, contentAt, isPcdata}
 use Rattle.schema_spec.specs.Types.{holds}
 use Rattle.text_laws.specs.Searches.{one-more}
 use Rattle.text_laws.specs.Tests.{and-intro, and-cases, same-test}
-use Rattle.type_steps.specs.Relations.{NamesOf}
 
 -- the names of the element i: itself, and its text name if its image has it
 abbrev pub ofElement : NameSet → ℕ → Name → Bool

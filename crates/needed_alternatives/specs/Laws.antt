@@ -5,7 +5,7 @@ use mathlib.Core.Path.{_≡_, refl, sym, ap, subst, _∙_}
 use Prim.Native.Nat.{ℕ, _+_, _-_, _≤_}
 use native.Mathlib.Omega.{arith}
 use lib.Dec.{T}
-use lib.ListN.{length, getD}
+use lib.ListN.{length}
 use Rattle.compiled_paths.specs.Columns.{startAt, sizeAt, plainIn, alternativesIn, alternatives-next}
 use Rattle.names.specs.SetLaws.{setOf-in, in-setOf, schema-every, every-element, every-text, overlap-some, element-overlap, text-overlap}
 use Rattle.names.specs.Sets.{member, overlap}

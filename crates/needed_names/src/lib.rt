@@ -1,12 +1,15 @@
 // The names that a bundle needs: the union of what its paths need.
 ghost use mathlib.Core.Path.{_≡_};
+ghost use Prim.Native.Nat.{_≤_};
+ghost use lib.ListN.{length};
 ghost use Rattle.compiled_paths.specs.Columns.{bundleIn};
 ghost use Rattle.compiled_paths.specs.Paths.{pathsIn, Shaped};
 ghost use Rattle.needed_names.specs.Bundles.{HasPaths};
 ghost use Rattle.projection_spec.specs.Inference.Needed.{needed, neededWord};
 ghost use Rattle.schema_spec.specs.Schemas.{Schema};
 ghost use Rattle.schema_spec.specs.Types.{typesOf};
-ghost use Rattle.type_steps.specs.Relations.{RelationsOf, NamesOf, setIn};
+ghost use Rattle.text_spec.specs.Limits.{maxDeclarations};
+ghost use Rattle.type_steps.specs.Relations.{RelationsOf, NamesOf, Known, setIn};
 use back_steps::together;
 use compiled_paths::CompiledPaths;
 use names::MAX_ELEMENTS;
@@ -64,8 +67,8 @@ fn paths_needed(
     }
 }
 
-// The names that a bundle needs, as a set.
-pub fn needed_set(
+// What the paths of a bundle need, among the names `all` of the schema.
+fn bundle_needed(
     all: NameSet,
     holds: [NameSet; MAX_ELEMENTS],
     below: [NameSet; MAX_ELEMENTS],
@@ -95,17 +98,31 @@ pub fn needed_set(
     )
 }
 
+// The names that a bundle needs, under a schema of `count` elements, as a set of names of the schema alone.
+pub fn needed_set(
+    count: usize,
+    holds: [NameSet; MAX_ELEMENTS],
+    below: [NameSet; MAX_ELEMENTS],
+    bundle: CompiledPaths,
+) -> NameSet
+    requires { ⌜ Shaped bundle × (count ≤ maxDeclarations) ⌝ }
+    ensures { λ r. ⌜ ((s : Schema) → RelationsOf s holds below → count ≡ length s → (setIn s r ≡ needed (typesOf s) (pathsIn bundle)) × Known s r) ⌝ }
+{
+    let all = known_names::names_of(holds, count);
+    let whole = bundle_needed(all, holds, below, bundle);
+    whole.common(all)
+}
+
 // The names that a bundle needs, as 64 bits.
 pub fn needed_word(
-    all: NameSet,
+    count: usize,
     holds: [NameSet; MAX_ELEMENTS],
     below: [NameSet; MAX_ELEMENTS],
     bundle: CompiledPaths,
 ) -> u64
-    requires { ⌜ Shaped bundle ⌝ }
-    ensures { λ r. ⌜ ((s : Schema) → RelationsOf s holds below → NamesOf s all → r ≡ neededWord (typesOf s) (pathsIn bundle)) ⌝ }
+    requires { ⌜ Shaped bundle × (count ≤ maxDeclarations) ⌝ }
+    ensures { λ r. ⌜ ((s : Schema) → RelationsOf s holds below → count ≡ length s → r ≡ neededWord (typesOf s) (pathsIn bundle)) ⌝ }
 {
-    let whole = needed_set(all, holds, below, bundle);
-    let known = whole.common(all);
-    known.to_word()
+    let set = needed_set(count, holds, below, bundle);
+    set.to_word()
 }

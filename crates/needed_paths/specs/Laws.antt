@@ -3,7 +3,6 @@ use mathlib.Core.List.{List, [], _∷_}
 use mathlib.Core.Path.{_≡_, sym, ap, ap₂, subst, _∙_}
 use Prim.Native.Nat.{ℕ, suc, _+_, _-_}
 use native.Mathlib.Omega.{arith}
-use lib.ListN.{getD}
 use Rattle.back_steps.specs.Laws.{needs-step}
 use Rattle.back_steps.specs.Needs.{StepNeeds, NeedsOf}
 use Rattle.back_steps.specs.declared.Needs.{Needs}

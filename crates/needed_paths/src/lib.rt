@@ -128,8 +128,6 @@ fn need_steps(
             n - 1,
             f,
         );
-        let h = later.complete;
-        let context = f.context;
         let want = wanted_at(
             all,
             holds,
@@ -140,8 +138,8 @@ fn need_steps(
             ways,
             conditions,
             k,
-            h,
-            context,
+            later.complete,
+            f.context,
         );
         with_step(holds, below, axis, t, want, later)
     }

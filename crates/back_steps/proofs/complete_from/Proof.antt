@@ -6,16 +6,10 @@ use Rattle.type_steps.specs.Relations.{setIn}
 use Rattle.back_steps.proofs.complete_from.Statement.{statement}
 use Rattle.back_steps.proofs.complete_from.Tie as tie
 
-related-names-requires : tie.Need-related-names-requires
-related-names-requires c κs = search needs
-
-common-of-requires : tie.Need-common-of-requires
-common-of-requires c κs = search needs
-
 returns : tie.Need-returns
 returns c = λ s k.
     let start = c .before .before .args in
     related-leading s (axisOf (start .axis)) (start .t) (c .common-of .result) (setIn s (start .h)) (setIn s (c .before .related-names .result)) (c .before .related-names .ensures s k) (c .common-of .ensures s)
 
 pub complete-from-spec : {M : Type 1} → statement M
-complete-from-spec = tie.close (tie.spec related-names-requires common-of-requires returns)
+complete-from-spec = tie.close (tie.spec (λ c κs. search needs) (λ c κs. search needs) returns)

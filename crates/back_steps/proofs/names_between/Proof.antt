@@ -8,15 +8,6 @@ use Rattle.type_steps.specs.Relations.{setIn}
 use Rattle.back_steps.proofs.names_between.Statement.{statement}
 use Rattle.back_steps.proofs.names_between.Tie as tie
 
-inner-names-requires : tie.Need-inner-names-requires
-inner-names-requires c κs = search needs
-
-inner-names-requires-2 : tie.Need-inner-names-requires-2
-inner-names-requires-2 c κs = search needs
-
-empty-requires : tie.Need-empty-requires
-empty-requires c κs = search needs
-
 returns : tie.Need-returns
 unfolding axisOf
 returns c = λ s k.
@@ -37,4 +28,4 @@ returns-3 c = λ s k.
 
 pub names-between-spec : {M : Type 1} → statement M
 names-between-spec =
-    tie.close (tie.spec inner-names-requires inner-names-requires-2 empty-requires returns returns-2 returns-3)
+    tie.close (tie.spec (λ c κs. search needs) (λ c κs. search needs) (λ c κs. search needs) returns returns-2 returns-3)

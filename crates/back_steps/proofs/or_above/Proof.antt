@@ -7,14 +7,8 @@ use Rattle.type_steps.specs.Relations.{setIn}
 use Rattle.back_steps.proofs.or_above.Statement.{statement}
 use Rattle.back_steps.proofs.or_above.Tie as tie
 
-all-above-requires : tie.Need-all-above-requires
-all-above-requires c κs = search needs
-
-union-of-requires : tie.Need-union-of-requires
-union-of-requires c κs = search needs
-
 returns : tie.Need-returns
 returns c = λ s k. c .union-of .ensures s ∙ ap (unionOf (typesOf s) (setIn s (c .before .before .args .h))) (c .before .all-above .ensures s k)
 
 pub or-above-spec : {M : Type 1} → statement M
-or-above-spec = tie.close (tie.spec all-above-requires union-of-requires returns)
+or-above-spec = tie.close (tie.spec (λ c κs. search needs) (λ c κs. search needs) returns)

@@ -7,14 +7,8 @@ use Rattle.type_steps.specs.Relations.{setIn}
 use Rattle.back_steps.proofs.or_below.Statement.{statement}
 use Rattle.back_steps.proofs.or_below.Tie as tie
 
-all-below-requires : tie.Need-all-below-requires
-all-below-requires c κs = search needs
-
-union-of-requires : tie.Need-union-of-requires
-union-of-requires c κs = search needs
-
 returns : tie.Need-returns
 returns c = λ s k. c .union-of .ensures s ∙ ap (unionOf (typesOf s) (setIn s (c .before .before .args .h))) (c .before .all-below .ensures s k)
 
 pub or-below-spec : {M : Type 1} → statement M
-or-below-spec = tie.close (tie.spec all-below-requires union-of-requires returns)
+or-below-spec = tie.close (tie.spec (λ c κs. search needs) (λ c κs. search needs) returns)

@@ -9,24 +9,6 @@ use Rattle.type_steps.specs.Relations.{setIn}
 use Rattle.back_steps.proofs.related_names.Statement.{statement}
 use Rattle.back_steps.proofs.related_names.Tie as tie
 
-holding-requires : tie.Need-holding-requires
-holding-requires c κs = search needs
-
-all-above-requires : tie.Need-all-above-requires
-all-above-requires c κs = search needs
-
-or-above-requires : tie.Need-or-above-requires
-or-above-requires c κs = search needs
-
-held-by-requires : tie.Need-held-by-requires
-held-by-requires c κs = search needs
-
-all-below-requires : tie.Need-all-below-requires
-all-below-requires c κs = search needs
-
-or-below-requires : tie.Need-or-below-requires
-or-below-requires c κs = search needs
-
 returns : tie.Need-returns
 unfolding axisOf
 returns c = λ s k.
@@ -74,12 +56,12 @@ pub related-names-spec : {M : Type 1} → statement M
 related-names-spec =
     tie.close
     (tie.spec
-    holding-requires
-    all-above-requires
-    or-above-requires
-    held-by-requires
-    all-below-requires
-    or-below-requires
+    (λ c κs. search needs)
+    (λ c κs. search needs)
+    (λ c κs. search needs)
+    (λ c κs. search needs)
+    (λ c κs. search needs)
+    (λ c κs. search needs)
     returns
     returns-2
     returns-3

@@ -4,11 +4,8 @@ use Rattle.back_steps.specs.Laws.{union-append}
 use Rattle.back_steps.proofs.together.Statement.{statement}
 use Rattle.back_steps.proofs.together.Tie as tie
 
-union-requires : tie.Need-union-requires
-union-requires c κs = search needs
-
 returns : tie.Need-returns
 returns c = λ s l m e d. union-append s (c .before .args .a) (c .before .args .b) (c .union .result) (c .union .ensures) l m e d
 
 pub together-spec : {M : Type 1} → statement M
-together-spec = tie.close (tie.spec union-requires returns)
+together-spec = tie.close (tie.spec (λ c κs. search needs) returns)

@@ -10,21 +10,6 @@ use Rattle.type_steps.specs.Relations.{setIn}
 use Rattle.back_steps.proofs.with_step.Statement.{statement}
 use Rattle.back_steps.proofs.with_step.Tie as tie
 
-complete-from-requires : tie.Need-complete-from-requires
-complete-from-requires c κs = search needs
-
-names-between-requires : tie.Need-names-between-requires
-names-between-requires c κs = search needs
-
-together-requires : tie.Need-together-requires
-together-requires c κs = search needs
-
-together-requires-2 : tie.Need-together-requires-2
-together-requires-2 c κs = search needs
-
-together-requires-3 : tie.Need-together-requires-3
-together-requires-3 c κs = search needs
-
 returns : tie.Need-returns
 returns c = λ s k.
     let start = c .before .before .before .before .before .before .args in
@@ -42,9 +27,9 @@ pub with-step-spec : {M : Type 1} → statement M
 with-step-spec =
     tie.close
     (tie.spec
-    complete-from-requires
-    names-between-requires
-    together-requires
-    together-requires-2
-    together-requires-3
+    (λ c κs. search needs)
+    (λ c κs. search needs)
+    (λ c κs. search needs)
+    (λ c κs. search needs)
+    (λ c κs. search needs)
     returns)

@@ -7,12 +7,6 @@ use Rattle.names.specs.Sets.{member}
 use Rattle.name_codes.proofs.has.Statement.{statement}
 use Rattle.name_codes.proofs.has.Tie as tie
 
-has-element-requires : tie.Need-has-element-requires
-has-element-requires c κs = search needs
-
-has-text-requires : tie.Need-has-text-requires
-has-text-requires c κs = search needs
-
 returns : tie.Need-returns
 returns c = c .has-element .ensures ∙ ap (member (c .before .before .args .t)) (sym (element-of-code (c .before .before .args .c) (c .before .if1 .taken)))
 
@@ -20,4 +14,4 @@ returns-2 : tie.Need-returns-2
 returns-2 c = c .has-text .ensures ∙ ap (member (c .before .before .args .t)) (sym (text-of-code (c .before .before .args .c) (omega arith)))
 
 pub has-spec : {M : Type 1} → statement M
-has-spec = tie.close (tie.spec has-element-requires has-text-requires returns returns-2)
+has-spec = tie.close (tie.spec (λ c κs. search needs) (λ c κs. search needs) returns returns-2)

@@ -8,12 +8,6 @@ use Rattle.schema_spec.specs.Names.{sameName}
 use Rattle.name_codes.proofs.with_name.Statement.{statement}
 use Rattle.name_codes.proofs.with_name.Tie as tie
 
-single-requires : tie.Need-single-requires
-single-requires c κs = search needs
-
-union-requires : tie.Need-union-requires
-union-requires c κs = search needs
-
 returns : tie.Need-returns
 returns c = λ n.
     let start = c .before .before .before .args in
@@ -27,4 +21,4 @@ returns-2 c = λ n.
     ∙ or-false (member (start .out) n))
 
 pub with-name-spec : {M : Type 1} → statement M
-with-name-spec = tie.close (tie.spec single-requires union-requires returns returns-2)
+with-name-spec = tie.close (tie.spec (λ c κs. search needs) (λ c κs. search needs) returns returns-2)

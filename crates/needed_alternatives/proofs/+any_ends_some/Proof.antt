@@ -71,30 +71,6 @@ any-ends-some-ends-some-requires t c κs =
     let start = c .before .before .before .before .before .before .before in
     alternative-steps (start .args .axes .now) (start .args .lows .now) (start .args .highs .now) (start .args .ways .now) (start .args .n) (start .args .i) (c .before .start .result) (c .size .result) (c .before .before .if1 .left) (start .pre .1) (c .before .start .ensures) (c .size .ensures)
 
-any-ends-some-add-any-ends-some : (t : ℕ) → any-ends-some-lts.Need-add-any-ends-some (
-  start-reads.Asked,
-  start-reads.Learnt,
-  size-reads.Asked,
-  size-reads.Learnt,
-  ends-some-reads.Asked,
-  ends-some-reads.Learnt,
-  any-ends-some-below t,
-  any-ends-some.Post,
-) (any-ends-some-at t) any-ends-some.Post
-any-ends-some-add-any-ends-some t c = search needs
-
-any-ends-some-sub-any-ends-some : (t : ℕ) → any-ends-some-lts.Need-sub-any-ends-some (
-  start-reads.Asked,
-  start-reads.Learnt,
-  size-reads.Asked,
-  size-reads.Learnt,
-  ends-some-reads.Asked,
-  ends-some-reads.Learnt,
-  any-ends-some-below t,
-  any-ends-some.Post,
-) (any-ends-some-at t) any-ends-some.Post
-any-ends-some-sub-any-ends-some t c = search needs
-
 any-ends-some-any-ends-some-requires : (t : ℕ) → any-ends-some-lts.Need-any-ends-some-requires (
   start-reads.Asked,
   start-reads.Learnt,
@@ -178,8 +154,8 @@ pub +any-ends-some-spec : {M : Type 1} → statement M
     (any-ends-some-start-requires t)
     (any-ends-some-size-requires t)
     (any-ends-some-ends-some-requires t)
-    (any-ends-some-add-any-ends-some t)
-    (any-ends-some-sub-any-ends-some t)
+    (λ c. search needs)
+    (λ c. search needs)
     (any-ends-some-any-ends-some-requires t)
     (any-ends-some-returns t)
     (any-ends-some-returns-2 t)

@@ -35,22 +35,6 @@ need-of-all-at t = and 4 need-of-all-kinds.ps (is 4 need-of-all-kinds.ps μ-need
 abbrev need-of-all-below : ℕ → In 4 need-of-all-kinds.ps
 need-of-all-below t = and 4 need-of-all-kinds.ps (falls 4 need-of-all-kinds.ps _<_ μ-need-of-all t) need-of-all.Pre
 
-need-of-all-empty-requires : (t : ℕ) → need-of-all-lts.Need-empty-requires (
-  empty-reads.Asked,
-  empty-reads.Learnt,
-  start-reads.Asked,
-  start-reads.Learnt,
-  size-reads.Asked,
-  size-reads.Learnt,
-  need-plain-reads.Asked,
-  need-plain-reads.Learnt,
-  need-of-all-below t,
-  need-of-all.Post,
-  together-reads.Asked,
-  together-reads.Learnt,
-) (need-of-all-at t) need-of-all.Post
-need-of-all-empty-requires t c κs = search needs
-
 need-of-all-start-requires : (t : ℕ) → need-of-all-lts.Need-start-requires (
   empty-reads.Asked,
   empty-reads.Learnt,
@@ -107,38 +91,6 @@ need-of-all-need-plain-requires t c κs =
     let start = c .before .before .before .before .before .before .before in
     alternative-steps (start .args .axes .now) (start .args .lows .now) (start .args .highs .now) (start .args .ways .now) (start .args .n) (start .args .i) (c .before .start .result) (c .size .result) (c .before .before .if1 .left) (start .pre .1) (c .before .start .ensures) (c .size .ensures)
 
-need-of-all-add-need-of-all : (t : ℕ) → need-of-all-lts.Need-add-need-of-all (
-  empty-reads.Asked,
-  empty-reads.Learnt,
-  start-reads.Asked,
-  start-reads.Learnt,
-  size-reads.Asked,
-  size-reads.Learnt,
-  need-plain-reads.Asked,
-  need-plain-reads.Learnt,
-  need-of-all-below t,
-  need-of-all.Post,
-  together-reads.Asked,
-  together-reads.Learnt,
-) (need-of-all-at t) need-of-all.Post
-need-of-all-add-need-of-all t c = search needs
-
-need-of-all-sub-need-of-all : (t : ℕ) → need-of-all-lts.Need-sub-need-of-all (
-  empty-reads.Asked,
-  empty-reads.Learnt,
-  start-reads.Asked,
-  start-reads.Learnt,
-  size-reads.Asked,
-  size-reads.Learnt,
-  need-plain-reads.Asked,
-  need-plain-reads.Learnt,
-  need-of-all-below t,
-  need-of-all.Post,
-  together-reads.Asked,
-  together-reads.Learnt,
-) (need-of-all-at t) need-of-all.Post
-need-of-all-sub-need-of-all t c = search needs
-
 need-of-all-need-of-all-requires : (t : ℕ) → need-of-all-lts.Need-need-of-all-requires (
   empty-reads.Asked,
   empty-reads.Learnt,
@@ -158,22 +110,6 @@ need-of-all-need-of-all-requires t c κs =
     let d = c .before .before .before .if1 .left in
     let e = start .pre .0 in
     (omega arith, alternatives-after (start .args .axes .now) (start .args .lows .now) (start .args .highs .now) (start .args .ways .now) (start .args .n) (start .args .i) d (start .pre .1))
-
-need-of-all-together-requires : (t : ℕ) → need-of-all-lts.Need-together-requires (
-  empty-reads.Asked,
-  empty-reads.Learnt,
-  start-reads.Asked,
-  start-reads.Learnt,
-  size-reads.Asked,
-  size-reads.Learnt,
-  need-plain-reads.Asked,
-  need-plain-reads.Learnt,
-  need-of-all-below t,
-  need-of-all.Post,
-  together-reads.Asked,
-  together-reads.Learnt,
-) (need-of-all-at t) need-of-all.Post
-need-of-all-together-requires t c κs = search needs
 
 need-of-all-returns : (t : ℕ) → need-of-all-lts.Need-returns (
   empty-reads.Asked,
@@ -236,13 +172,13 @@ pub +need-of-all-spec : {M : Type 1} → statement M
 )
     (need-of-all-at t)
     need-of-all.Post
-    (need-of-all-empty-requires t)
+    (λ c κs. search needs)
     (need-of-all-start-requires t)
     (need-of-all-size-requires t)
     (need-of-all-need-plain-requires t)
-    (need-of-all-add-need-of-all t)
-    (need-of-all-sub-need-of-all t)
+    (λ c. search needs)
+    (λ c. search needs)
     (need-of-all-need-of-all-requires t)
-    (need-of-all-together-requires t)
+    (λ c κs. search needs)
     (need-of-all-returns t)
     (need-of-all-returns-2 t)

@@ -8,16 +8,10 @@ use Rattle.text_spec.specs.Lists.{isEmpty}
 use Rattle.needed_alternatives.proofs.ends_some.Statement.{statement}
 use Rattle.needed_alternatives.proofs.ends_some.Tie as tie
 
-infer-plain-requires : tie.Need-infer-plain-requires
-infer-plain-requires c κs = search needs
-
-meets-requires : tie.Need-meets-requires
-meets-requires c κs = search needs
-
 returns : tie.Need-returns
 returns c = λ s k named.
     let start = c .before .before .before .before .before .args in
     c .meets .ensures ∙ overlap-some-setIn s (k .small) (start .all) (c .before .infer-plain .result .types) named ∙ ap (λ (e : Env). not (isEmpty (e .type))) (c .before .infer-plain .ensures s k 1)
 
 pub ends-some-spec : {M : Type 1} → statement M
-ends-some-spec = tie.close (tie.spec infer-plain-requires meets-requires returns)
+ends-some-spec = tie.close (tie.spec (λ c κs. search needs) (λ c κs. search needs) returns)

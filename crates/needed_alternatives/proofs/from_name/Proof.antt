@@ -1,5 +1,4 @@
 -- `needed_alternatives::from_name` meets its contract.
-use mathlib.Core.List.{[], _∷_}
 use mathlib.Core.Path.{ap, ap₂, _∙_}
 use borrow.Author.Needs.{needs}
 use Rattle.name_codes.specs.Laws.{single-list}
@@ -11,12 +10,6 @@ use Rattle.type_steps.specs.Relations.{setIn}
 use Rattle.needed_alternatives.proofs.from_name.Statement.{statement}
 use Rattle.needed_alternatives.proofs.from_name.Tie as tie
 
-single-requires : tie.Need-single-requires
-single-requires c κs = search needs
-
-cut-to-requires : tie.Need-cut-to-requires
-cut-to-requires c κs = search needs
-
 returns : tie.Need-returns
 returns c = λ s k i.
     let start = c .before .before .args in
@@ -24,4 +17,4 @@ returns c = λ s k i.
     ap₂ env one (c .cut-to .ensures s k ∙ ap (λ (t : Names). cutTo (typesOf s) t (setIn s (start .k))) one)
 
 pub from-name-spec : {M : Type 1} → statement M
-from-name-spec = tie.close (tie.spec single-requires cut-to-requires returns)
+from-name-spec = tie.close (tie.spec (λ c κs. search needs) (λ c κs. search needs) returns)

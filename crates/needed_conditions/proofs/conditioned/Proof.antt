@@ -8,12 +8,6 @@ use Rattle.type_steps.specs.Relations.{setIn, envIn}
 use Rattle.needed_conditions.proofs.conditioned.Statement.{statement}
 use Rattle.needed_conditions.proofs.conditioned.Tie as tie
 
-kept-requires : tie.Need-kept-requires
-kept-requires c κs = search needs
-
-cut-to-requires : tie.Need-cut-to-requires
-cut-to-requires c κs = search needs
-
 returns : tie.Need-returns
 returns c = λ s k named.
     let start = c .before .before .before .before .before .before .before .before .args in
@@ -23,4 +17,4 @@ returns c = λ s k named.
     (kept-filter s (k .small) (keepsIn s (start .e .context) q) (start .e .types) (kept .result) (kept .ensures s k named)) (c .cut-to .ensures s k)
 
 pub conditioned-spec : {M : Type 1} → statement M
-conditioned-spec = tie.close (tie.spec kept-requires cut-to-requires returns)
+conditioned-spec = tie.close (tie.spec (λ c κs. search needs) (λ c κs. search needs) returns)

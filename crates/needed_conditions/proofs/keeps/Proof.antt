@@ -11,12 +11,6 @@ use Rattle.projection_spec.specs.Inference.Types.{Env}
 use Rattle.needed_conditions.proofs.keeps.Statement.{statement}
 use Rattle.needed_conditions.proofs.keeps.Tie as tie
 
-has-requires : tie.Need-has-requires
-has-requires c κs = search needs
-
-from-name-requires : tie.Need-from-name-requires
-from-name-requires c κs = search needs
-
 any-ends-some-requires : tie.Need-any-ends-some-requires
 any-ends-some-requires c κs = (c .before .before .before .before .before .before .before .pre .0)
 
@@ -36,4 +30,4 @@ returns-2 c = λ s k named i.
     ap (λ (b : Bool). b && keepsIn s (start .k) q (nameOfCode (start .c))) (sym (c .if1 .left) ∙ c .before .has .ensures)
 
 pub keeps-spec : {M : Type 1} → statement M
-keeps-spec = tie.close (tie.spec has-requires from-name-requires any-ends-some-requires returns returns-2)
+keeps-spec = tie.close (tie.spec (λ c κs. search needs) (λ c κs. search needs) any-ends-some-requires returns returns-2)

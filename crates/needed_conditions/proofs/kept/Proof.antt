@@ -4,9 +4,6 @@ use Rattle.needed_conditions.specs.Laws.{keeps-unconditional, keeps-cond
 use Rattle.needed_conditions.proofs.kept.Statement.{statement}
 use Rattle.needed_conditions.proofs.kept.Tie as tie
 
-kept-by-some-requires : tie.Need-kept-by-some-requires
-kept-by-some-requires c κs = search needs
-
 returns : tie.Need-returns
 returns c = λ s k named m i.
     let start = c .before .before .before .before .before .args in
@@ -18,4 +15,4 @@ returns-2 c = λ s k named m i.
     keeps-conditional (start .axes .now) (start .lows .now) (start .highs .now) (start .ways .now) s (start .n) (start .i) (start .k) (start .t) (c .kept-by-some .result) (c .before .if1 .left) m (c .kept-by-some .ensures s k named m i)
 
 pub kept-spec : {M : Type 1} → statement M
-kept-spec = tie.close (tie.spec kept-by-some-requires returns returns-2)
+kept-spec = tie.close (tie.spec (λ c κs. search needs) returns returns-2)

@@ -24,9 +24,6 @@ Inv-loop all holds below axes lows highs ways i n t k out₀ c₀ out c =
 abbrev μ-loop : tie.MeasureT-loop
 μ-loop all holds below axes lows highs ways i n t k out₀ c₀ out c = 64 - c
 
-empty-requires : tie.Need-empty-requires Inv-loop μ-loop
-empty-requires c κs = search needs
-
 loop-holds : tie.Need-loop-holds Inv-loop μ-loop
 loop-holds c =
     let start = c .before .before .before .before .before .args in
@@ -36,15 +33,6 @@ loop-holds c =
 keeps-requires : tie.Need-keeps-requires Inv-loop μ-loop
 keeps-requires c κs =
     (c .before .before .before .before .before .before .before .pre, omega arith)
-
-with-name-requires : tie.Need-with-name-requires Inv-loop μ-loop
-with-name-requires c κs = search needs
-
-add-c : tie.Need-add-c Inv-loop μ-loop
-add-c c = search needs
-
-loop-less : tie.Need-loop-less Inv-loop μ-loop
-loop-less c = search needs
 
 loop-again : tie.Need-loop-again Inv-loop μ-loop
 loop-again c =
@@ -71,11 +59,11 @@ kept-by-some-spec =
     (tie.spec
     Inv-loop
     μ-loop
-    empty-requires
+    (λ c κs. search needs)
     loop-holds
     keeps-requires
-    with-name-requires
-    add-c
-    loop-less
+    (λ c κs. search needs)
+    (λ c. search needs)
+    (λ c. search needs)
     loop-again
     returns)

@@ -5,12 +5,6 @@ use Rattle.needed_conditions.specs.Laws.{wants-unconditional, wants-cond
 use Rattle.needed_conditions.proofs.wanted.Statement.{statement}
 use Rattle.needed_conditions.proofs.wanted.Tie as tie
 
-empty-requires : tie.Need-empty-requires
-empty-requires c κs = search needs
-
-wanted-by-some-requires : tie.Need-wanted-by-some-requires
-wanted-by-some-requires c κs = search needs
-
 returns : tie.Need-returns
 returns c = λ s k named.
     let start = c .before .before .before .before .before .before .args in
@@ -22,4 +16,4 @@ returns-2 c = λ s k named.
     wants-conditional (start .axes .now) (start .lows .now) (start .highs .now) (start .ways .now) s (start .n) (start .i) (start .k) (start .h) (c .wanted-by-some .result) (c .before .if1 .left) (c .wanted-by-some .ensures s k named)
 
 pub wanted-spec : {M : Type 1} → statement M
-wanted-spec = tie.close (tie.spec empty-requires wanted-by-some-requires returns returns-2)
+wanted-spec = tie.close (tie.spec (λ c κs. search needs) (λ c κs. search needs) returns returns-2)

@@ -22,12 +22,6 @@ Inv-loop holds below axes lows highs ways i n k g out₀ c₀ out c =
 abbrev μ-loop : tie.MeasureT-loop
 μ-loop holds below axes lows highs ways i n k g out₀ c₀ out c = 64 - c
 
-common-requires : tie.Need-common-requires Inv-loop μ-loop
-common-requires c κs = search needs
-
-empty-requires : tie.Need-empty-requires Inv-loop μ-loop
-empty-requires c κs = search needs
-
 loop-holds : tie.Need-loop-holds Inv-loop μ-loop
 loop-holds c =
     let start = c .before .before .before .before .before .before .args in
@@ -37,15 +31,6 @@ loop-holds c =
 wanted-of-requires : tie.Need-wanted-of-requires Inv-loop μ-loop
 wanted-of-requires c κs =
     (c .before .before .before .before .before .before .before .before .pre, omega arith)
-
-union-requires : tie.Need-union-requires Inv-loop μ-loop
-union-requires c κs = search needs
-
-add-c : tie.Need-add-c Inv-loop μ-loop
-add-c c = search needs
-
-loop-less : tie.Need-loop-less Inv-loop μ-loop
-loop-less c = search needs
 
 loop-again : tie.Need-loop-again Inv-loop μ-loop
 loop-again c =
@@ -75,12 +60,12 @@ wanted-by-some-spec =
     (tie.spec
     Inv-loop
     μ-loop
-    common-requires
-    empty-requires
+    (λ c κs. search needs)
+    (λ c κs. search needs)
     loop-holds
     wanted-of-requires
-    union-requires
-    add-c
-    loop-less
+    (λ c κs. search needs)
+    (λ c. search needs)
+    (λ c. search needs)
     loop-again
     returns)

@@ -15,17 +15,8 @@ use Rattle.type_steps.specs.Relations.{envIn}
 use Rattle.needed_conditions.proofs.wanted_of.Statement.{statement}
 use Rattle.needed_conditions.proofs.wanted_of.Tie as tie
 
-has-requires : tie.Need-has-requires
-has-requires c κs = search needs
-
-from-name-requires : tie.Need-from-name-requires
-from-name-requires c κs = search needs
-
 need-of-all-requires : tie.Need-need-of-all-requires
 need-of-all-requires c κs = (c .before .before .before .before .before .before .before .pre .0)
-
-empty-requires : tie.Need-empty-requires
-empty-requires c κs = search needs
 
 returns : tie.Need-returns
 returns c = λ s k only m i.
@@ -46,4 +37,4 @@ returns-2 c = λ s k only m i.
 pub wanted-of-spec : {M : Type 1} → statement M
 wanted-of-spec =
     tie.close
-    (tie.spec has-requires from-name-requires need-of-all-requires empty-requires returns returns-2)
+    (tie.spec (λ c κs. search needs) (λ c κs. search needs) need-of-all-requires (λ c κs. search needs) returns returns-2)

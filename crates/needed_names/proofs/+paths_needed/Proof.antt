@@ -26,22 +26,6 @@ paths-needed-at t = and 6 paths-needed-kinds.ps (is 6 paths-needed-kinds.ps μ-p
 abbrev paths-needed-below : ℕ → In 6 paths-needed-kinds.ps
 paths-needed-below t = and 6 paths-needed-kinds.ps (falls 6 paths-needed-kinds.ps _<_ μ-paths-needed t) paths-needed.Pre
 
-paths-needed-empty-requires : (t : ℕ) → paths-needed-lts.Need-empty-requires (
-  empty-reads.Asked,
-  empty-reads.Learnt,
-  byte-start-reads.Asked,
-  byte-start-reads.Learnt,
-  byte-size-reads.Asked,
-  byte-size-reads.Learnt,
-  path-needed-reads.Asked,
-  path-needed-reads.Learnt,
-  paths-needed-below t,
-  paths-needed.Post,
-  together-reads.Asked,
-  together-reads.Learnt,
-) (paths-needed-at t) paths-needed.Post
-paths-needed-empty-requires t c κs = search needs
-
 paths-needed-byte-start-requires : (t : ℕ) → paths-needed-lts.Need-byte-start-requires (
   empty-reads.Asked,
   empty-reads.Learnt,
@@ -98,38 +82,6 @@ paths-needed-path-needed-requires t c κs =
     let start = c .before .before .before .before .before .before .before .before .before in
     path-steps (start .args .axes .now) (start .args .lows .now) (start .args .highs .now) (start .args .ways .now) (start .args .conditions .now) (start .args .paths .now) (start .args .i) (start .args .n) (c .before .byte-start .result) (c .byte-size .result) (start .pre .1) (c .before .byte-start .ensures) (c .byte-size .ensures)
 
-paths-needed-add-paths-needed : (t : ℕ) → paths-needed-lts.Need-add-paths-needed (
-  empty-reads.Asked,
-  empty-reads.Learnt,
-  byte-start-reads.Asked,
-  byte-start-reads.Learnt,
-  byte-size-reads.Asked,
-  byte-size-reads.Learnt,
-  path-needed-reads.Asked,
-  path-needed-reads.Learnt,
-  paths-needed-below t,
-  paths-needed.Post,
-  together-reads.Asked,
-  together-reads.Learnt,
-) (paths-needed-at t) paths-needed.Post
-paths-needed-add-paths-needed t c = search needs
-
-paths-needed-sub-paths-needed : (t : ℕ) → paths-needed-lts.Need-sub-paths-needed (
-  empty-reads.Asked,
-  empty-reads.Learnt,
-  byte-start-reads.Asked,
-  byte-start-reads.Learnt,
-  byte-size-reads.Asked,
-  byte-size-reads.Learnt,
-  path-needed-reads.Asked,
-  path-needed-reads.Learnt,
-  paths-needed-below t,
-  paths-needed.Post,
-  together-reads.Asked,
-  together-reads.Learnt,
-) (paths-needed-at t) paths-needed.Post
-paths-needed-sub-paths-needed t c = search needs
-
 paths-needed-paths-needed-requires : (t : ℕ) → paths-needed-lts.Need-paths-needed-requires (
   empty-reads.Asked,
   empty-reads.Learnt,
@@ -149,22 +101,6 @@ paths-needed-paths-needed-requires t c κs =
     let d = c .before .before .before .if1 .left in
     let e = start .pre .0 in
     (omega arith, later-paths (start .args .axes .now) (start .args .lows .now) (start .args .highs .now) (start .args .ways .now) (start .args .conditions .now) (start .args .paths .now) (start .args .i) (start .args .n) d (start .pre .1))
-
-paths-needed-together-requires : (t : ℕ) → paths-needed-lts.Need-together-requires (
-  empty-reads.Asked,
-  empty-reads.Learnt,
-  byte-start-reads.Asked,
-  byte-start-reads.Learnt,
-  byte-size-reads.Asked,
-  byte-size-reads.Learnt,
-  path-needed-reads.Asked,
-  path-needed-reads.Learnt,
-  paths-needed-below t,
-  paths-needed.Post,
-  together-reads.Asked,
-  together-reads.Learnt,
-) (paths-needed-at t) paths-needed.Post
-paths-needed-together-requires t c κs = search needs
 
 paths-needed-returns : (t : ℕ) → paths-needed-lts.Need-returns (
   empty-reads.Asked,
@@ -226,13 +162,13 @@ pub +paths-needed-spec : {M : Type 1} → statement M
 )
     (paths-needed-at t)
     paths-needed.Post
-    (paths-needed-empty-requires t)
+    (λ c κs. search needs)
     (paths-needed-byte-start-requires t)
     (paths-needed-byte-size-requires t)
     (paths-needed-path-needed-requires t)
-    (paths-needed-add-paths-needed t)
-    (paths-needed-sub-paths-needed t)
+    (λ c. search needs)
+    (λ c. search needs)
     (paths-needed-paths-needed-requires t)
-    (paths-needed-together-requires t)
+    (λ c κs. search needs)
     (paths-needed-returns t)
     (paths-needed-returns-2 t)

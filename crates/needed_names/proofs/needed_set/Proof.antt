@@ -1,37 +1,18 @@
 -- `needed_names::needed_set` meets its contract.
-use mathlib.Core.Path.{_≡_}
+use mathlib.Core.Path.{_∙_}
 use borrow.Author.Needs.{needs}
-use lib.ListN.{length}
-use Rattle.compiled_paths.specs.Paths.{pathsIn}
-use Rattle.needed_names.specs.Words.{shaped-paths}
+use Rattle.needed_conditions.specs.Laws.{common-known, common-setIn}
 use Rattle.needed_names.proofs.needed_set.Statement.{statement}
 use Rattle.needed_names.proofs.needed_set.Tie as tie
 
-paths-needed-requires : tie.Need-paths-needed-requires
-paths-needed-requires c κs =
-    let start = c .before .before .before .before .before .before .before .before .before .before .before .before in
-    let axes : length (start .args .bundle .axes) ≡ 640 = search needs in
-    let lows : length (start .args .bundle .lows) ≡ 640 = search needs in
-    let highs : length (start .args .bundle .highs) ≡ 640 = search needs in
-    let ways : length (start .args .bundle .alternatives) ≡ 513 = search needs in
-    let conditions : length (start .args .bundle .conditions) ≡ 129 = search needs in
-    let paths : length (start .args .bundle .paths) ≡ 9 = search needs in
-    shaped-paths (start .args .bundle) (start .pre)
-    (record { axes-size = axes; lows-size = lows; highs-size = highs; ways-size = ways; conditions-size = conditions; paths-size = paths })
-
 returns : tie.Need-returns
-unfolding pathsIn
-returns c = λ s k named. c .paths-needed .ensures s k named
+returns c = λ s k e.
+    let all = c .before .before .names-of in
+    let whole = c .before .bundle-needed in
+    let named = all .ensures s (k .holding) e in (
+      common-setIn s (all .result) (whole .result) (c .common .result) named (c .common .ensures) ∙ whole .ensures s k named,
+      common-known s (all .result) (whole .result) (c .common .result) named (c .common .ensures),
+    )
 
 pub needed-set-spec : {M : Type 1} → statement M
-needed-set-spec =
-    tie.close
-    (tie.spec
-    (λ c. search needs)
-    (λ c. search needs)
-    (λ c. search needs)
-    (λ c. search needs)
-    (λ c. search needs)
-    (λ c. search needs)
-    paths-needed-requires
-    returns)
+needed-set-spec = tie.close (tie.spec (λ c κs. search needs) (λ c κs. search needs) (λ c κs. search needs) returns)

@@ -1,5 +1,5 @@
 -- `needed_paths::need_steps` meets its contract; the steps that are left fall.
-use mathlib.Core.List.{List, []}
+use mathlib.Core.List.{List}
 use mathlib.Core.Path.{refl, sym, subst}
 use Prim.Native.Nat.{ℕ, suc, _<_}
 use Rattle.back_steps.specs.Laws.{needs-last}
@@ -32,18 +32,6 @@ need-steps-at t = and 5 need-steps-kinds.ps (is 5 need-steps-kinds.ps μ-need-st
 abbrev need-steps-below : ℕ → In 5 need-steps-kinds.ps
 need-steps-below t = and 5 need-steps-kinds.ps (falls 5 need-steps-kinds.ps _<_ μ-need-steps t) need-steps.Pre
 
-need-steps-shared-slice-read-axis : (t : ℕ) → need-steps-lts.Need-shared-slice-read-axis (
-  infer-step-reads.Asked,
-  infer-step-reads.Learnt,
-  need-steps-below t,
-  need-steps.Post,
-  wanted-at-reads.Asked,
-  wanted-at-reads.Learnt,
-  with-step-reads.Asked,
-  with-step-reads.Learnt,
-) (need-steps-at t) need-steps.Post
-need-steps-shared-slice-read-axis t c = search needs
-
 need-steps-infer-step-requires : (t : ℕ) → need-steps-lts.Need-infer-step-requires (
   infer-step-reads.Asked,
   infer-step-reads.Learnt,
@@ -57,30 +45,6 @@ need-steps-infer-step-requires : (t : ℕ) → need-steps-lts.Need-infer-step-re
 need-steps-infer-step-requires t c κs =
     let start = c .before .before .before .before .before .before .before .before in
     first-step (start .args .axes .now) (start .args .lows .now) (start .args .highs .now) (start .args .ways .now) (start .args .conditions .now) (start .args .k) (start .args .n) (c .before .if1 .left) (start .pre .1)
-
-need-steps-add-need-steps : (t : ℕ) → need-steps-lts.Need-add-need-steps (
-  infer-step-reads.Asked,
-  infer-step-reads.Learnt,
-  need-steps-below t,
-  need-steps.Post,
-  wanted-at-reads.Asked,
-  wanted-at-reads.Learnt,
-  with-step-reads.Asked,
-  with-step-reads.Learnt,
-) (need-steps-at t) need-steps.Post
-need-steps-add-need-steps t c = search needs
-
-need-steps-sub-need-steps : (t : ℕ) → need-steps-lts.Need-sub-need-steps (
-  infer-step-reads.Asked,
-  infer-step-reads.Learnt,
-  need-steps-below t,
-  need-steps.Post,
-  wanted-at-reads.Asked,
-  wanted-at-reads.Learnt,
-  with-step-reads.Asked,
-  with-step-reads.Learnt,
-) (need-steps-at t) need-steps.Post
-need-steps-sub-need-steps t c = search needs
 
 need-steps-need-steps-requires : (t : ℕ) → need-steps-lts.Need-need-steps-requires (
   infer-step-reads.Asked,
@@ -109,20 +73,8 @@ need-steps-wanted-at-requires : (t : ℕ) → need-steps-lts.Need-wanted-at-requ
   with-step-reads.Learnt,
 ) (need-steps-at t) need-steps.Post
 need-steps-wanted-at-requires t c κs =
-    let start = c .before .before .before .before .before .before .before .before .before .before .before .before in
-    first-step (start .args .axes .now) (start .args .lows .now) (start .args .highs .now) (start .args .ways .now) (start .args .conditions .now) (start .args .k) (start .args .n) (c .before .before .before .before .before .if1 .left) (start .pre .1)
-
-need-steps-with-step-requires : (t : ℕ) → need-steps-lts.Need-with-step-requires (
-  infer-step-reads.Asked,
-  infer-step-reads.Learnt,
-  need-steps-below t,
-  need-steps.Post,
-  wanted-at-reads.Asked,
-  wanted-at-reads.Learnt,
-  with-step-reads.Asked,
-  with-step-reads.Learnt,
-) (need-steps-at t) need-steps.Post
-need-steps-with-step-requires t c κs = search needs
+    let start = c .before .before .before .before .before .before .before .before .before .before in
+    first-step (start .args .axes .now) (start .args .lows .now) (start .args .highs .now) (start .args .ways .now) (start .args .conditions .now) (start .args .k) (start .args .n) (c .before .before .before .if1 .left) (start .pre .1)
 
 need-steps-returns : (t : ℕ) → need-steps-lts.Need-returns (
   infer-step-reads.Asked,
@@ -153,11 +105,11 @@ need-steps-returns-2 : (t : ℕ) → need-steps-lts.Need-returns-2 (
 ) (need-steps-at t) need-steps.Post
 need-steps-returns-2 t c =
     λ s k named i.
-    let start = c .before .before .before .before .before .before .before .before .before .before .before .before .before .before .args in
-    let f = c .before .before .before .before .before .infer-step in
-    let later = c .before .before .before .before .need-steps in
+    let start = c .before .before .before .before .before .before .before .before .before .before .before .before .args in
+    let f = c .before .before .before .infer-step in
+    let later = c .before .before .need-steps in
     let want = c .before .wanted-at in
-    needs-written-step (start .axes .now) (start .lows .now) (start .highs .now) (start .ways .now) (start .conditions .now) s i (start .k) (start .n) (c .before .before .before .before .before .before .before .if1 .left) (envIn s (start .e)) (envIn s (f .result)) (start .e .types) (want .result) (later .result) (c .with-step .result)
+    needs-written-step (start .axes .now) (start .lows .now) (start .highs .now) (start .ways .now) (start .conditions .now) s i (start .k) (start .n) (c .before .before .before .before .before .if1 .left) (envIn s (start .e)) (envIn s (f .result)) (start .e .types) (want .result) (later .result) (c .with-step .result)
     (f .ensures s k named i) refl (later .ensures s k named (suc i)) (want .ensures s k named) (c .with-step .ensures s k)
 
 pub +need-steps-spec : {M : Type 1} → statement M
@@ -173,12 +125,12 @@ pub +need-steps-spec : {M : Type 1} → statement M
 )
     (need-steps-at t)
     need-steps.Post
-    (need-steps-shared-slice-read-axis t)
+    (λ c. search needs)
     (need-steps-infer-step-requires t)
-    (need-steps-add-need-steps t)
-    (need-steps-sub-need-steps t)
+    (λ c. search needs)
+    (λ c. search needs)
     (need-steps-need-steps-requires t)
     (need-steps-wanted-at-requires t)
-    (need-steps-with-step-requires t)
+    (λ c κs. search needs)
     (need-steps-returns t)
     (need-steps-returns-2 t)

@@ -18,18 +18,6 @@ size-requires c κs =
     let l = c .before .before .before .before .before .before .pre .counted in
     omega arith
 
-shared-slice-read-step : tie.Need-shared-slice-read-step
-shared-slice-read-step c = search needs
-
-shared-slice-read-step-2 : tie.Need-shared-slice-read-step-2
-shared-slice-read-step-2 c = search needs
-
-shared-slice-read-step-3 : tie.Need-shared-slice-read-step-3
-shared-slice-read-step-3 c = search needs
-
-step-requires : tie.Need-step-requires
-step-requires c κs = search needs
-
 conditioned-requires : tie.Need-conditioned-requires
 conditioned-requires c κs =
     let start = c .before .before .before .before .before .before .before .before .before .before .before in
@@ -53,9 +41,9 @@ infer-step-spec =
     (tie.spec
     start-requires
     size-requires
-    shared-slice-read-step
-    shared-slice-read-step-2
-    shared-slice-read-step-3
-    step-requires
+    (λ c. search needs)
+    (λ c. search needs)
+    (λ c. search needs)
+    (λ c κs. search needs)
     conditioned-requires
     returns)

@@ -10,15 +10,6 @@ use Rattle.type_steps.specs.Relations.{setIn}
 use Rattle.needed_paths.proofs.path_needed.Statement.{statement}
 use Rattle.needed_paths.proofs.path_needed.Tie as tie
 
-root-requires : tie.Need-root-requires
-root-requires c κs = search needs
-
-need-steps-requires : tie.Need-need-steps-requires
-need-steps-requires c κs = search needs
-
-from-root-requires : tie.Need-from-root-requires
-from-root-requires c κs = search needs
-
 returns : tie.Need-returns
 unfolding neededByPath neededBeforeFilter typesOf
 returns c = λ s k named.
@@ -30,4 +21,4 @@ returns c = λ s k named.
     ∙ ap (λ (x : Env). fromRoot (typesOf s) (need (typesOf s) (keepsName (typesOf s)) (wantsNames (typesOf s)) ps x)) (ap₂ env e e)
 
 pub path-needed-spec : {M : Type 1} → statement M
-path-needed-spec = tie.close (tie.spec root-requires need-steps-requires from-root-requires returns)
+path-needed-spec = tie.close (tie.spec (λ c κs. search needs) (λ c κs. search needs) (λ c κs. search needs) returns)

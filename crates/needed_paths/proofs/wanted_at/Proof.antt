@@ -1,6 +1,5 @@
 -- `needed_paths::wanted_at` meets its contract.
 use mathlib.Core.Path.{ap, _∙_}
-use borrow.Author.Needs.{needs}
 use native.Mathlib.Omega.{arith}
 use Prim.Native.Nat.{ℕ}
 use Rattle.needed_conditions.specs.Conditions.{wantsIn}

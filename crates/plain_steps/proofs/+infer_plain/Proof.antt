@@ -2,7 +2,6 @@
 use mathlib.Core.List.{List}
 use mathlib.Core.Path.{sym, ap}
 use borrow.Author.Needs.{needs}
-use native.Mathlib.Omega.{arith}
 use Prim.Native.Nat.{ℕ, suc, _<_}
 use borrow.Fn.Kinds.{In}
 use borrow.Fn.PlainCycle.{Measures, is, falls, and}
@@ -28,62 +27,6 @@ infer-plain-at t = and 3 infer-plain-kinds.ps (is 3 infer-plain-kinds.ps μ-infe
 
 abbrev infer-plain-below : ℕ → In 3 infer-plain-kinds.ps
 infer-plain-below t = and 3 infer-plain-kinds.ps (falls 3 infer-plain-kinds.ps _<_ μ-infer-plain t) infer-plain.Pre
-
-infer-plain-shared-slice-read-step : (t : ℕ) → infer-plain-lts.Need-shared-slice-read-step (
-  step-reads.Asked,
-  step-reads.Learnt,
-  infer-plain-below t,
-  infer-plain.Post,
-) (infer-plain-at t) infer-plain.Post
-infer-plain-shared-slice-read-step t c = search needs
-
-infer-plain-shared-slice-read-step-2 : (t : ℕ) → infer-plain-lts.Need-shared-slice-read-step-2 (
-  step-reads.Asked,
-  step-reads.Learnt,
-  infer-plain-below t,
-  infer-plain.Post,
-) (infer-plain-at t) infer-plain.Post
-infer-plain-shared-slice-read-step-2 t c = search needs
-
-infer-plain-shared-slice-read-step-3 : (t : ℕ) → infer-plain-lts.Need-shared-slice-read-step-3 (
-  step-reads.Asked,
-  step-reads.Learnt,
-  infer-plain-below t,
-  infer-plain.Post,
-) (infer-plain-at t) infer-plain.Post
-infer-plain-shared-slice-read-step-3 t c = search needs
-
-infer-plain-step-requires : (t : ℕ) → infer-plain-lts.Need-step-requires (
-  step-reads.Asked,
-  step-reads.Learnt,
-  infer-plain-below t,
-  infer-plain.Post,
-) (infer-plain-at t) infer-plain.Post
-infer-plain-step-requires t c κs = search needs
-
-infer-plain-add-infer-plain : (t : ℕ) → infer-plain-lts.Need-add-infer-plain (
-  step-reads.Asked,
-  step-reads.Learnt,
-  infer-plain-below t,
-  infer-plain.Post,
-) (infer-plain-at t) infer-plain.Post
-infer-plain-add-infer-plain t c = search needs
-
-infer-plain-sub-infer-plain : (t : ℕ) → infer-plain-lts.Need-sub-infer-plain (
-  step-reads.Asked,
-  step-reads.Learnt,
-  infer-plain-below t,
-  infer-plain.Post,
-) (infer-plain-at t) infer-plain.Post
-infer-plain-sub-infer-plain t c = search needs
-
-infer-plain-infer-plain-requires : (t : ℕ) → infer-plain-lts.Need-infer-plain-requires (
-  step-reads.Asked,
-  step-reads.Learnt,
-  infer-plain-below t,
-  infer-plain.Post,
-) (infer-plain-at t) infer-plain.Post
-infer-plain-infer-plain-requires t c κs = search needs
 
 infer-plain-returns : (t : ℕ) → infer-plain-lts.Need-returns (
   step-reads.Asked,
@@ -118,12 +61,12 @@ pub +infer-plain-spec : {M : Type 1} → statement M
 )
     (infer-plain-at t)
     infer-plain.Post
-    (infer-plain-shared-slice-read-step t)
-    (infer-plain-shared-slice-read-step-2 t)
-    (infer-plain-shared-slice-read-step-3 t)
-    (infer-plain-step-requires t)
-    (infer-plain-add-infer-plain t)
-    (infer-plain-sub-infer-plain t)
-    (infer-plain-infer-plain-requires t)
+    (λ c. search needs)
+    (λ c. search needs)
+    (λ c. search needs)
+    (λ c κs. search needs)
+    (λ c. search needs)
+    (λ c. search needs)
+    (λ c κs. search needs)
     (infer-plain-returns t)
     (infer-plain-returns-2 t)

@@ -1,8 +1,7 @@
 -- `plain_steps::need_plain` meets its contract; the steps that are left fall.
-use mathlib.Core.List.{List, []}
+use mathlib.Core.List.{List}
 use mathlib.Core.Path.{refl, sym, subst}
 use borrow.Author.Needs.{needs}
-use native.Mathlib.Omega.{arith}
 use Prim.Native.Nat.{ℕ, suc, _<_}
 use borrow.Fn.Kinds.{In}
 use borrow.Fn.PlainCycle.{Measures, is, falls, and}
@@ -30,114 +29,6 @@ need-plain-at t = and 3 need-plain-kinds.ps (is 3 need-plain-kinds.ps μ-need-pl
 
 abbrev need-plain-below : ℕ → In 3 need-plain-kinds.ps
 need-plain-below t = and 3 need-plain-kinds.ps (falls 3 need-plain-kinds.ps _<_ μ-need-plain t) need-plain.Pre
-
-need-plain-shared-slice-read-axis : (t : ℕ) → need-plain-lts.Need-shared-slice-read-axis (
-  step-reads.Asked,
-  step-reads.Learnt,
-  need-plain-below t,
-  need-plain.Post,
-  empty-reads.Asked,
-  empty-reads.Learnt,
-  with-step-reads.Asked,
-  with-step-reads.Learnt,
-) (need-plain-at t) need-plain.Post
-need-plain-shared-slice-read-axis t c = search needs
-
-need-plain-shared-slice-read-step : (t : ℕ) → need-plain-lts.Need-shared-slice-read-step (
-  step-reads.Asked,
-  step-reads.Learnt,
-  need-plain-below t,
-  need-plain.Post,
-  empty-reads.Asked,
-  empty-reads.Learnt,
-  with-step-reads.Asked,
-  with-step-reads.Learnt,
-) (need-plain-at t) need-plain.Post
-need-plain-shared-slice-read-step t c = search needs
-
-need-plain-shared-slice-read-step-2 : (t : ℕ) → need-plain-lts.Need-shared-slice-read-step-2 (
-  step-reads.Asked,
-  step-reads.Learnt,
-  need-plain-below t,
-  need-plain.Post,
-  empty-reads.Asked,
-  empty-reads.Learnt,
-  with-step-reads.Asked,
-  with-step-reads.Learnt,
-) (need-plain-at t) need-plain.Post
-need-plain-shared-slice-read-step-2 t c = search needs
-
-need-plain-step-requires : (t : ℕ) → need-plain-lts.Need-step-requires (
-  step-reads.Asked,
-  step-reads.Learnt,
-  need-plain-below t,
-  need-plain.Post,
-  empty-reads.Asked,
-  empty-reads.Learnt,
-  with-step-reads.Asked,
-  with-step-reads.Learnt,
-) (need-plain-at t) need-plain.Post
-need-plain-step-requires t c κs = search needs
-
-need-plain-add-need-plain : (t : ℕ) → need-plain-lts.Need-add-need-plain (
-  step-reads.Asked,
-  step-reads.Learnt,
-  need-plain-below t,
-  need-plain.Post,
-  empty-reads.Asked,
-  empty-reads.Learnt,
-  with-step-reads.Asked,
-  with-step-reads.Learnt,
-) (need-plain-at t) need-plain.Post
-need-plain-add-need-plain t c = search needs
-
-need-plain-sub-need-plain : (t : ℕ) → need-plain-lts.Need-sub-need-plain (
-  step-reads.Asked,
-  step-reads.Learnt,
-  need-plain-below t,
-  need-plain.Post,
-  empty-reads.Asked,
-  empty-reads.Learnt,
-  with-step-reads.Asked,
-  with-step-reads.Learnt,
-) (need-plain-at t) need-plain.Post
-need-plain-sub-need-plain t c = search needs
-
-need-plain-need-plain-requires : (t : ℕ) → need-plain-lts.Need-need-plain-requires (
-  step-reads.Asked,
-  step-reads.Learnt,
-  need-plain-below t,
-  need-plain.Post,
-  empty-reads.Asked,
-  empty-reads.Learnt,
-  with-step-reads.Asked,
-  with-step-reads.Learnt,
-) (need-plain-at t) need-plain.Post
-need-plain-need-plain-requires t c κs = search needs
-
-need-plain-empty-requires : (t : ℕ) → need-plain-lts.Need-empty-requires (
-  step-reads.Asked,
-  step-reads.Learnt,
-  need-plain-below t,
-  need-plain.Post,
-  empty-reads.Asked,
-  empty-reads.Learnt,
-  with-step-reads.Asked,
-  with-step-reads.Learnt,
-) (need-plain-at t) need-plain.Post
-need-plain-empty-requires t c κs = search needs
-
-need-plain-with-step-requires : (t : ℕ) → need-plain-lts.Need-with-step-requires (
-  step-reads.Asked,
-  step-reads.Learnt,
-  need-plain-below t,
-  need-plain.Post,
-  empty-reads.Asked,
-  empty-reads.Learnt,
-  with-step-reads.Asked,
-  with-step-reads.Learnt,
-) (need-plain-at t) need-plain.Post
-need-plain-with-step-requires t c κs = search needs
 
 need-plain-returns : (t : ℕ) → need-plain-lts.Need-returns (
   step-reads.Asked,
@@ -189,14 +80,14 @@ pub +need-plain-spec : {M : Type 1} → statement M
 )
     (need-plain-at t)
     need-plain.Post
-    (need-plain-shared-slice-read-axis t)
-    (need-plain-shared-slice-read-step t)
-    (need-plain-shared-slice-read-step-2 t)
-    (need-plain-step-requires t)
-    (need-plain-add-need-plain t)
-    (need-plain-sub-need-plain t)
-    (need-plain-need-plain-requires t)
-    (need-plain-empty-requires t)
-    (need-plain-with-step-requires t)
+    (λ c. search needs)
+    (λ c. search needs)
+    (λ c. search needs)
+    (λ c κs. search needs)
+    (λ c. search needs)
+    (λ c. search needs)
+    (λ c κs. search needs)
+    (λ c κs. search needs)
+    (λ c κs. search needs)
     (need-plain-returns t)
     (need-plain-returns-2 t)

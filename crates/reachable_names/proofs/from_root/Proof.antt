@@ -7,21 +7,6 @@ use Rattle.reachable_names.specs.Images.{inside-holds, root-or-reached}
 use Rattle.reachable_names.proofs.from_root.Statement.{statement}
 use Rattle.reachable_names.proofs.from_root.Tie as tie
 
-held-inside-requires : tie.Need-held-inside-requires
-held-inside-requires c κs = search needs
-
-below-requires : tie.Need-below-requires
-below-requires c κs = search needs
-
-array-copy-out-top : tie.Need-array-copy-out-top
-array-copy-out-top c = search needs
-
-insert-element-requires : tie.Need-insert-element-requires
-insert-element-requires c κs = search needs
-
-common-requires : tie.Need-common-requires
-common-requires c κs = search needs
-
 returns : tie.Need-returns
 returns c = λ s k l e.
     let start = c .before .before .before .before .before .args in
@@ -34,9 +19,9 @@ pub from-root-spec : {M : Type 1} → statement M
 from-root-spec =
     tie.close
     (tie.spec
-    held-inside-requires
-    below-requires
-    array-copy-out-top
-    insert-element-requires
-    common-requires
+    (λ c κs. search needs)
+    (λ c κs. search needs)
+    (λ c. search needs)
+    (λ c κs. search needs)
+    (λ c κs. search needs)
     returns)

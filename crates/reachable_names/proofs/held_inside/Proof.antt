@@ -22,27 +22,6 @@ loop-holds c =
     let args = c .args in
     (omega arith, (search needs, passed-first (ImageInside (args .holds) (args .m)) nothing (args .holds)))
 
-mul-image : tie.Need-mul-image Inv-loop μ-loop
-mul-image c = search needs
-
-array-copy-out-image : tie.Need-array-copy-out-image Inv-loop μ-loop
-array-copy-out-image c = search needs
-
-image-inside-requires : tie.Need-image-inside-requires Inv-loop μ-loop
-image-inside-requires c κs = search needs
-
-mul-out : tie.Need-mul-out Inv-loop μ-loop
-mul-out c = search needs
-
-array-set-from-out : tie.Need-array-set-from-out Inv-loop μ-loop
-array-set-from-out c = search needs
-
-add-i : tie.Need-add-i Inv-loop μ-loop
-add-i c = search needs
-
-loop-less : tie.Need-loop-less Inv-loop μ-loop
-loop-less c = search needs
-
 loop-again : tie.Need-loop-again Inv-loop μ-loop
 loop-again c =
     let at = c .before .before .before .loop in
@@ -69,12 +48,12 @@ held-inside-spec =
     Inv-loop
     μ-loop
     loop-holds
-    mul-image
-    array-copy-out-image
-    image-inside-requires
-    mul-out
-    array-set-from-out
-    add-i
-    loop-less
+    (λ c. search needs)
+    (λ c. search needs)
+    (λ c κs. search needs)
+    (λ c. search needs)
+    (λ c. search needs)
+    (λ c. search needs)
+    (λ c. search needs)
     loop-again
     returns)

@@ -6,15 +6,6 @@ use Rattle.names.specs.Sets.{member}
 use Rattle.reachable_names.proofs.image_inside.Statement.{statement}
 use Rattle.reachable_names.proofs.image_inside.Tie as tie
 
-has-element-requires : tie.Need-has-element-requires
-has-element-requires c κs = search needs
-
-common-requires : tie.Need-common-requires
-common-requires c κs = search needs
-
-empty-requires : tie.Need-empty-requires
-empty-requires c κs = search needs
-
 returns : tie.Need-returns
 returns c = λ b.
     let start = c .before .before .before .args in
@@ -27,4 +18,4 @@ returns-2 c = λ b.
 
 pub image-inside-spec : {M : Type 1} → statement M
 image-inside-spec =
-    tie.close (tie.spec has-element-requires common-requires empty-requires returns returns-2)
+    tie.close (tie.spec (λ c κs. search needs) (λ c κs. search needs) (λ c κs. search needs) returns returns-2)

@@ -4,11 +4,8 @@ use Rattle.type_steps.specs.Laws.{common-within}
 use Rattle.type_steps.proofs.common_of.Statement.{statement}
 use Rattle.type_steps.proofs.common_of.Tie as tie
 
-common-requires : tie.Need-common-requires
-common-requires c κs = search needs
-
 returns : tie.Need-returns
 returns c = λ s. common-within s (c .before .args .a) (c .before .args .b) (c .common .result) (c .common .ensures)
 
 pub common-of-spec : {M : Type 1} → statement M
-common-of-spec = tie.close (tie.spec common-requires returns)
+common-of-spec = tie.close (tie.spec (λ c κs. search needs) returns)

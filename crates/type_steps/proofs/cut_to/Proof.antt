@@ -5,15 +5,6 @@ use Rattle.type_steps.specs.Relations.{setIn}
 use Rattle.type_steps.proofs.cut_to.Statement.{statement}
 use Rattle.type_steps.proofs.cut_to.Tie as tie
 
-all-above-requires : tie.Need-all-above-requires
-all-above-requires c κs = search needs
-
-union-of-requires : tie.Need-union-of-requires
-union-of-requires c κs = search needs
-
-common-of-requires : tie.Need-common-of-requires
-common-of-requires c κs = search needs
-
 returns : tie.Need-returns
 returns c = λ s k.
     let up = c .before .before .all-above in
@@ -22,4 +13,4 @@ returns c = λ s k.
     near-cutTo s (start .t) (start .k) (c .common-of .result) (setIn s (up .result)) (setIn s (near .result)) (up .ensures s k) (near .ensures s) (c .common-of .ensures s)
 
 pub cut-to-spec : {M : Type 1} → statement M
-cut-to-spec = tie.close (tie.spec all-above-requires union-of-requires common-of-requires returns)
+cut-to-spec = tie.close (tie.spec (λ c κs. search needs) (λ c κs. search needs) (λ c κs. search needs) returns)

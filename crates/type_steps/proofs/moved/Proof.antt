@@ -1,6 +1,5 @@
 -- `type_steps::moved` meets its contract: by the axis.
-use mathlib.Core.Path.{refl, ap, _∙_}
-use Prim.Native.Nat.{ℕ}
+use mathlib.Core.Path.{refl, ap}
 use borrow.Author.Needs.{needs}
 use Rattle.path_spec.specs.Paths.{self, child, descendant, descendantOrSelf, parent, ancestor, ancestorOrSelf}
 use Rattle.type_steps.specs.Laws.{move-along, axis-self}
@@ -8,24 +7,6 @@ use Rattle.compiled_paths.specs.Columns.{axisOf, testOf}
 use Rattle.type_steps.specs.Relations.{envIn}
 use Rattle.type_steps.proofs.moved.Statement.{statement}
 use Rattle.type_steps.proofs.moved.Tie as tie
-
-to-children-requires : tie.Need-to-children-requires
-to-children-requires c κs = search needs
-
-to-descendants-requires : tie.Need-to-descendants-requires
-to-descendants-requires c κs = search needs
-
-to-descendants-or-self-requires : tie.Need-to-descendants-or-self-requires
-to-descendants-or-self-requires c κs = search needs
-
-to-parents-requires : tie.Need-to-parents-requires
-to-parents-requires c κs = search needs
-
-to-ancestors-requires : tie.Need-to-ancestors-requires
-to-ancestors-requires c κs = search needs
-
-to-ancestors-or-self-requires : tie.Need-to-ancestors-or-self-requires
-to-ancestors-or-self-requires c κs = search needs
 
 returns : tie.Need-returns
 unfolding axisOf
@@ -81,12 +62,12 @@ pub moved-spec : {M : Type 1} → statement M
 moved-spec =
     tie.close
     (tie.spec
-    to-children-requires
-    to-descendants-requires
-    to-descendants-or-self-requires
-    to-parents-requires
-    to-ancestors-requires
-    to-ancestors-or-self-requires
+    (λ c κs. search needs)
+    (λ c κs. search needs)
+    (λ c κs. search needs)
+    (λ c κs. search needs)
+    (λ c κs. search needs)
+    (λ c κs. search needs)
     returns
     returns-2
     returns-3

@@ -4,15 +4,6 @@ use Rattle.type_steps.specs.Laws.{one-tested}
 use Rattle.type_steps.proofs.only_element.Statement.{statement}
 use Rattle.type_steps.proofs.only_element.Tie as tie
 
-empty-requires : tie.Need-empty-requires
-empty-requires c κs = search needs
-
-insert-element-requires : tie.Need-insert-element-requires
-insert-element-requires c κs = search needs
-
-common-requires : tie.Need-common-requires
-common-requires c κs = search needs
-
 returns : tie.Need-returns
 returns c =
     let none = c .before .before .empty in
@@ -22,4 +13,4 @@ returns c =
 
 pub only-element-spec : {M : Type 1} → statement M
 only-element-spec =
-    tie.close (tie.spec empty-requires insert-element-requires common-requires returns)
+    tie.close (tie.spec (λ c κs. search needs) (λ c κs. search needs) (λ c κs. search needs) returns)

@@ -10,15 +10,6 @@ use Rattle.type_steps.specs.Relations.{setIn, envIn}
 use Rattle.type_steps.proofs.step.Statement.{statement}
 use Rattle.type_steps.proofs.step.Tie as tie
 
-moved-requires : tie.Need-moved-requires
-moved-requires c κs = search needs
-
-tested-requires : tie.Need-tested-requires
-tested-requires c κs = search needs
-
-cut-to-requires : tie.Need-cut-to-requires
-cut-to-requires c κs = search needs
-
 returns : tie.Need-returns
 returns c = λ s k.
     let start = c .before .before .before .args in
@@ -29,4 +20,4 @@ returns c = λ s k.
     ∙ ap (λ (e : Env). narrow (typesOf s) (passes w) e) (gone .ensures s k)
 
 pub step-spec : {M : Type 1} → statement M
-step-spec = tie.close (tie.spec moved-requires tested-requires cut-to-requires returns)
+step-spec = tie.close (tie.spec (λ c κs. search needs) (λ c κs. search needs) (λ c κs. search needs) returns)

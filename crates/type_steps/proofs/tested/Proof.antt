@@ -8,15 +8,6 @@ use Rattle.compiled_paths.specs.Columns.{testOf}
 use Rattle.type_steps.proofs.tested.Statement.{statement}
 use Rattle.type_steps.proofs.tested.Tie as tie
 
-wide-requires : tie.Need-wide-requires
-wide-requires c κs = search needs
-
-only-element-requires : tie.Need-only-element-requires
-only-element-requires c κs = search needs
-
-only-texts-requires : tie.Need-only-texts-requires
-only-texts-requires c κs = search needs
-
 returns : tie.Need-returns
 returns c =
     let start = c .before .before .before .args in
@@ -36,4 +27,4 @@ returns-3 c =
 pub tested-spec : {M : Type 1} → statement M
 tested-spec =
     tie.close
-    (tie.spec wide-requires only-element-requires only-texts-requires returns returns-2 returns-3)
+    (tie.spec (λ c κs. search needs) (λ c κs. search needs) (λ c κs. search needs) returns returns-2 returns-3)

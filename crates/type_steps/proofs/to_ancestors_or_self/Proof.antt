@@ -5,18 +5,6 @@ use Rattle.type_steps.specs.Relations.{setIn}
 use Rattle.type_steps.proofs.to_ancestors_or_self.Statement.{statement}
 use Rattle.type_steps.proofs.to_ancestors_or_self.Tie as tie
 
-all-above-requires : tie.Need-all-above-requires
-all-above-requires c κs = search needs
-
-common-of-requires : tie.Need-common-of-requires
-common-of-requires c κs = search needs
-
-union-of-requires : tie.Need-union-of-requires
-union-of-requires c κs = search needs
-
-cut-to-requires : tie.Need-cut-to-requires
-cut-to-requires c κs = search needs
-
 returns : tie.Need-returns
 returns c = λ s k w.
     let start = c .before .before .before .before .args in
@@ -27,4 +15,4 @@ returns c = λ s k w.
 
 pub to-ancestors-or-self-spec : {M : Type 1} → statement M
 to-ancestors-or-self-spec =
-    tie.close (tie.spec all-above-requires common-of-requires union-of-requires cut-to-requires returns)
+    tie.close (tie.spec (λ c κs. search needs) (λ c κs. search needs) (λ c κs. search needs) (λ c κs. search needs) returns)

@@ -6,15 +6,6 @@ use Rattle.type_steps.specs.Relations.{setIn}
 use Rattle.type_steps.proofs.to_children.Statement.{statement}
 use Rattle.type_steps.proofs.to_children.Tie as tie
 
-held-by-requires : tie.Need-held-by-requires
-held-by-requires c κs = search needs
-
-tested-requires : tie.Need-tested-requires
-tested-requires c κs = search needs
-
-union-of-requires : tie.Need-union-of-requires
-union-of-requires c κs = search needs
-
 returns : tie.Need-returns
 returns c = λ s k.
     let start = c .before .before .before .args in
@@ -25,4 +16,4 @@ returns c = λ s k.
     (t .ensures s k) (tested-filter s (k .small) w (t .result) (p .result) (p .ensures)) (c .union-of .ensures s)
 
 pub to-children-spec : {M : Type 1} → statement M
-to-children-spec = tie.close (tie.spec held-by-requires tested-requires union-of-requires returns)
+to-children-spec = tie.close (tie.spec (λ c κs. search needs) (λ c κs. search needs) (λ c κs. search needs) returns)

@@ -5,15 +5,6 @@ use Rattle.type_steps.specs.Relations.{setIn}
 use Rattle.type_steps.proofs.to_descendants_or_self.Statement.{statement}
 use Rattle.type_steps.proofs.to_descendants_or_self.Tie as tie
 
-all-below-requires : tie.Need-all-below-requires
-all-below-requires c κs = search needs
-
-union-of-requires : tie.Need-union-of-requires
-union-of-requires c κs = search needs
-
-union-of-requires-2 : tie.Need-union-of-requires-2
-union-of-requires-2 c κs = search needs
-
 returns : tie.Need-returns
 returns c = λ s k w.
     let start = c .before .before .before .args in
@@ -23,4 +14,4 @@ returns c = λ s k w.
 
 pub to-descendants-or-self-spec : {M : Type 1} → statement M
 to-descendants-or-self-spec =
-    tie.close (tie.spec all-below-requires union-of-requires union-of-requires-2 returns)
+    tie.close (tie.spec (λ c κs. search needs) (λ c κs. search needs) (λ c κs. search needs) returns)

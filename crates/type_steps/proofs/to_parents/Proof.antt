@@ -5,15 +5,6 @@ use Rattle.type_steps.specs.Relations.{setIn}
 use Rattle.type_steps.proofs.to_parents.Statement.{statement}
 use Rattle.type_steps.proofs.to_parents.Tie as tie
 
-holding-requires : tie.Need-holding-requires
-holding-requires c κs = search needs
-
-common-of-requires : tie.Need-common-of-requires
-common-of-requires c κs = search needs
-
-cut-to-requires : tie.Need-cut-to-requires
-cut-to-requires c κs = search needs
-
 returns : tie.Need-returns
 returns c = λ s k w.
     let start = c .before .before .before .args in
@@ -22,4 +13,4 @@ returns c = λ s k w.
     move-parent s w (setIn s (start .e .types)) (setIn s (start .e .context)) (setIn s (u .result)) (setIn s (t .result)) (setIn s (c .cut-to .result)) (u .ensures s k) (t .ensures s) (c .cut-to .ensures s k)
 
 pub to-parents-spec : {M : Type 1} → statement M
-to-parents-spec = tie.close (tie.spec holding-requires common-of-requires cut-to-requires returns)
+to-parents-spec = tie.close (tie.spec (λ c κs. search needs) (λ c κs. search needs) (λ c κs. search needs) returns)

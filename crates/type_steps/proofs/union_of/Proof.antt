@@ -4,11 +4,8 @@ use Rattle.type_steps.specs.Laws.{union-unionOf}
 use Rattle.type_steps.proofs.union_of.Statement.{statement}
 use Rattle.type_steps.proofs.union_of.Tie as tie
 
-union-requires : tie.Need-union-requires
-union-requires c κs = search needs
-
 returns : tie.Need-returns
 returns c = λ s. union-unionOf s (c .before .args .a) (c .before .args .b) (c .union .result) (c .union .ensures)
 
 pub union-of-spec : {M : Type 1} → statement M
-union-of-spec = tie.close (tie.spec union-requires returns)
+union-of-spec = tie.close (tie.spec (λ c κs. search needs) returns)
