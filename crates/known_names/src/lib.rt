@@ -1,4 +1,4 @@
-// The names of a schema as a set, from the number of its elements and what each holds.
+// The names of a schema as a set, from the number of its elements and what each holds; sets that are handed in, cut to it.
 ghost use mathlib.Core.Bool.{_||_};
 ghost use mathlib.Core.Path.{_≡_};
 ghost use Prim.Native.Nat.{_<_, _≤_};
@@ -6,11 +6,11 @@ ghost use lib.ListN.{length};
 ghost use Rattle.closures.specs.Schemas.{RelationOf};
 ghost use Rattle.known_names.specs.Known.{ofElement};
 ghost use Rattle.names.specs.Sets.{member};
-ghost use Rattle.schema_spec.specs.Names.{Name};
+ghost use Rattle.schema_spec.specs.Names.{Name, namesOf, setOfWord};
 ghost use Rattle.schema_spec.specs.Schemas.{Schema};
 ghost use Rattle.schema_spec.specs.Types.{holds};
 ghost use Rattle.text_spec.specs.Limits.{maxDeclarations};
-ghost use Rattle.type_steps.specs.Relations.{NamesOf};
+ghost use Rattle.type_steps.specs.Relations.{NamesOf, Known, setIn};
 use names::MAX_ELEMENTS;
 use names::NameSet;
 
@@ -41,4 +41,12 @@ pub fn names_of(images: [NameSet; MAX_ELEMENTS], count: usize) -> NameSet
         i += 1;
     }
     out
+}
+
+// The set that 64 bits hand in, without the bits that are no names of the schema.
+pub fn handed_in(word: u64, all: NameSet) -> NameSet
+    ensures { λ r. ⌜ ((s : Schema) → length s ≤ maxDeclarations → NamesOf s all → (setIn s r ≡ setOfWord (namesOf s) word) × Known s r) ⌝ }
+{
+    let set = NameSet::from_word(word);
+    set.common(all)
 }

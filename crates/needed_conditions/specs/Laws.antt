@@ -21,20 +21,11 @@ use Rattle.schema_laws.specs.Names.{same-name, has-in, in-has}
 use Rattle.schema_spec.specs.Names.{Name, Names, sameName, codeOf, has, within, namesOf}
 use Rattle.schema_spec.specs.Schemas.{Schema}
 use Rattle.text_laws.specs.Lists.{any-in, in-any, filter-cong, filter-filter, in-gather, gather-in}
-use Rattle.text_laws.specs.Tests.{passed, true-of, false-of, or-left, or-right, or-cases, and-intro, and-cases, decided, same-test}
+use Rattle.text_laws.specs.Tests.{passed, false-of, or-left, or-right, or-cases, and-intro, and-cases, decided, same-test}
 use Rattle.text_spec.specs.Lists.{anyOf, filterBy, gather}
 use Rattle.text_spec.specs.Limits.{maxDeclarations}
-use Rattle.type_steps.specs.Relations.{NamesOf, Known, setIn}
+use Rattle.type_steps.specs.Relations.{Known, setIn}
 use Rattle.text_laws.specs.Searches.{one-more}
-
-pub common-known : (s : Schema) (all h g : NameSet) → NamesOf s all → ((n : Name) → member g n ≡ (member h n && member all n)) → Known s g
-common-known s all h g named common n t = has-in n (namesOf s) (subst T (named n) (and-cases (member h n) (member all n) (subst T (common n) t) .1))
-
-pub common-setIn : (s : Schema) (all h g : NameSet) → NamesOf s all → ((n : Name) → member g n ≡ (member h n && member all n)) → setIn s g ≡ setIn s h
-unfolding setOf
-common-setIn s all h g named common =
-    filter-cong (member g) (member h) (namesOf s)
-    (λ n i. common n ∙ ap (λ (b : Bool). member h n && b) (named n ∙ true-of (has n (namesOf s)) (in-has i)) ∙ and-true (member h n))
 
 -- ---- a condition in columns
 module _ (axes lows highs ways : List ℕ) (s : Schema) (n i : ℕ) where

@@ -6,9 +6,10 @@ use Rattle.compiled_paths.specs.Columns.{alternativesIn}
 use Rattle.path_spec.specs.Paths.{alternatives}
 use Rattle.names.specs.Sets.{member}
 use Rattle.needed_conditions.specs.Conditions.{wantsIn}
-use Rattle.needed_conditions.specs.Laws.{wantedBelow, common-known, common-setIn, wanted-none, wanted-one-more, wanted-gather}
+use Rattle.needed_conditions.specs.Laws.{wantedBelow, wanted-none, wanted-one-more, wanted-gather}
 use Rattle.schema_spec.specs.Names.{Name, namesOf}
 use Rattle.schema_spec.specs.Schemas.{Schema}
+use Rattle.type_steps.specs.Laws.{common-known, common-setIn}
 use Rattle.type_steps.specs.Relations.{RelationsOf, Known, setIn}
 use borrow.Author.Needs.{needs}
 use native.Mathlib.Omega.{arith}

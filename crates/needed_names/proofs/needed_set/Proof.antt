@@ -1,7 +1,7 @@
 -- `needed_names::needed_set` meets its contract.
 use mathlib.Core.Path.{_∙_}
 use borrow.Author.Needs.{needs}
-use Rattle.needed_conditions.specs.Laws.{common-known, common-setIn}
+use Rattle.type_steps.specs.Laws.{common-known, common-setIn}
 use Rattle.needed_names.proofs.needed_set.Statement.{statement}
 use Rattle.needed_names.proofs.needed_set.Tie as tie
 
