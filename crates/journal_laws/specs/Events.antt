@@ -1,4 +1,4 @@
--- The one pass over the bytes as two: the bytes turned into events, then the events built into rows. Assumes nothing.
+-- The one pass over the bytes as two: the bytes turned into events, then the events built into rows.
 use mathlib.Core.Bool.{Bool, true, false, cond, not, _&&_}
 use mathlib.Core.List.{List, [], _∷_, _++_}
 use mathlib.Core.Option.{none}

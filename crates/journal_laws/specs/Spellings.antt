@@ -1,4 +1,4 @@
--- Every text is either spelt by tokens, or misspelt where the lexer says so. Assumes nothing.
+-- Every text is either spelt by tokens, or misspelt where the lexer says so.
 use mathlib.Core.Bool.{Bool, true, false, cond, _&&_, _||_}
 use mathlib.Core.List.{List, [], _∷_, _++_, map, append-assoc, append-nil, List·Memᴰ as In, List·Memᴰ·head as here, List·Memᴰ·tail as there}
 use mathlib.Core.Logic.{_⊎_, inl, inr}

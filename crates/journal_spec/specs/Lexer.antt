@@ -1,4 +1,4 @@
--- A journal's bytes turned into events, one byte at a time: tags, and runs of character data. Assumes nothing.
+-- A journal's bytes turned into events, one byte at a time: tags, and runs of character data.
 use mathlib.Core.Bool.{cond, _&&_}
 use mathlib.Core.List.{List, [], _∷_, map}
 use mathlib.Core.Option.{Option, none, some}

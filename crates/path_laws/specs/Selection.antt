@@ -1,4 +1,4 @@
--- What a path selects by computing is what it selects as a set of nodes, given in document order. Assumes nothing.
+-- What a path selects by computing is what it selects as a set of nodes, given in document order.
 use mathlib.Core.Bool.{Bool, true, false, cond, not, _&&_}
 use mathlib.Core.List.{List, [], _∷_, map, List·Memᴰ as In, List·Memᴰ·head as here, List·Memᴰ·tail as there, List·Memᴰ·eq-of-singleton as of-singleton, Sublistᴰ, Sublistᴰ·slnil, Sublistᴰ·cons, Sublistᴰ·cons-cons, Pairwise, Pairwise·nil, Pairwise·cons, Pairwise·sublistᴰ}
 use mathlib.Core.Logic.{⊎-elim, ∥∥₁-elim}

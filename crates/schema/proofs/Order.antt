@@ -1,4 +1,4 @@
--- Laws of the order of refusals: the least place of the lowest number comes first. Assumes nothing.
+-- Laws of the order of refusals: the least place of the lowest number comes first.
 use mathlib.Core.Bool.{Bool, true, false, cond, _&&_, _||_}
 use mathlib.Core.List.{List, [], _∷_, _++_, List·Memᴰ as In, List·Memᴰ·head as here, List·Memᴰ·tail as there, List·Memᴰ·append-cases as append-cases}
 use mathlib.Core.Logic.{_⊎_, inl, inr}

@@ -1,4 +1,4 @@
--- The test of well-formed tables, taken apart: the root, a later row, a text inside its text. Assumes nothing.
+-- The test of well-formed tables, taken apart: the root, a later row, a text inside its text.
 use mathlib.Core.Bool.{Bool, _&&_, _||_}
 use mathlib.Core.List.{List, [], _∷_, _++_, List·Memᴰ as In, List·Memᴰ·head as here, List·Memᴰ·tail as there}
 use mathlib.Core.Logic.{_⊎_, inl, inr}

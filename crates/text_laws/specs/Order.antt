@@ -1,5 +1,5 @@
 -- The order of refusals: where a list of refusals agrees with the conditions, the outcome is judged by the first that applies.
--- It serves every reader. Assumes nothing.
+-- It serves every reader.
 use mathlib.Core.Bool.{Bool, true, false, cond, _&&_}
 use mathlib.Core.List.{List, [], _∷_, _++_, List·Memᴰ as In, List·Memᴰ·head as here, List·Memᴰ·tail as there, List·Memᴰ·append-cases as append-cases, Memᴰ·append-left as append-left, Memᴰ·append-right as append-right}
 use mathlib.Core.Logic.{⊎-elim}

@@ -1,4 +1,4 @@
--- Refusals 2 and 3 are listed exactly where they apply, for every text; and places in a list. Assumes nothing.
+-- Refusals 2 and 3 are listed exactly where they apply, for every text; and places in a list.
 use mathlib.Core.Bool.{Bool, true, false, cond, _||_}
 use mathlib.Core.List.{List, [], _∷_, _++_, List·Memᴰ as In, List·Memᴰ·head as here, List·Memᴰ·tail as there, Memᴰ·append-right as append-right}
 use mathlib.Core.Logic.{_⊎_, inl, inr, ⊎-elim}

@@ -1,5 +1,5 @@
 -- A journal text is accepted exactly when it spells a tree that is valid under the schema and within the limits, and then its rows are
--- that tree's nodes. Assumes nothing.
+-- that tree's nodes.
 use mathlib.Core.Bool.{Bool, true, false, not, _||_}
 use mathlib.Core.List.{List, [], _∷_, reverse, List·Memᴰ as In, List·Memᴰ·head as here, Memᴰ·append-right as append-right}
 use mathlib.Core.Logic.{_⊎_, inl, inr, ⊎-elim}

@@ -1,4 +1,4 @@
--- `over_limit` meets its contract: the tests in their order. Assumes nothing.
+-- `over_limit` meets its contract: the tests in their order.
 use mathlib.Core.Path.{sym, _∙_}
 use Prim.Native.Nat.{_-_}
 use borrow.Author.Tests.{lt-ltb, le-ltb, le-leb, lt-leb}

@@ -1,4 +1,4 @@
--- `names::NameSet::from_word` meets its contract. Assumes nothing.
+-- `names::NameSet::from_word` meets its contract.
 use native.Mathlib.Omega.{arith}
 use Rattle.names.specs.Encoding.{split-right}
 use Rattle.names.proofs.NameSet.from_word.Statement.{statement}

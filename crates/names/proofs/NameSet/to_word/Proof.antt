@@ -1,4 +1,4 @@
--- `names::NameSet::to_word` meets its contract: the text names shifted up do not wrap. Assumes nothing.
+-- `names::NameSet::to_word` meets its contract: the text names shifted up do not wrap.
 use mathlib.Core.Path.{_≡_, ap, _∙_}
 use Prim.Native.Nat.{ℕ, _*_, _%_, _^_}
 use native.Mathlib.Omega.{arith}
