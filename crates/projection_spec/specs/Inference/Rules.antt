@@ -12,9 +12,9 @@ use Rattle.schema_spec.specs.Types.{holds, Below}
 pub data Carried : Type 0 where
   type context : Carried
 
--- how far a path has come
+-- a point of a path, or of an alternative, at which T and K are looked at
 pub data Point : Type 0 where
-  -- at its start
+  -- at the start of a path
   atStart : Start → Point
   -- after the axis of a step whose test is this, after the test, after the condition
   afterAxis : Point → Axis → NodeTest ℕ → Point
@@ -61,9 +61,9 @@ module _ (s : Schema) where
   -- `Member type g n`, `Member context g n`: at the point g the name n is in T, in K
   pub data Member : Carried → Point → Name → Type 0 where
     -- "both {root} at first"
-    root-first : {x : Carried} → Member x (atStart rootElement) (element 0)
+    root-first : {k : Carried} → Member k (atStart rootElement) (element 0)
     -- "self: T and K stay."
-    self-stays : {x : Carried} {g : Point} {w : NodeTest ℕ} {n : Name} → Member x g n → Member x (afterAxis g self w) n
+    self-stays : {k : Carried} {g : Point} {w : NodeTest ℕ} {n : Name} → Member k g n → Member k (afterAxis g self w) n
     -- "child: T' = all that T holds."
     child-type : {g : Point} {w : NodeTest ℕ} {a n : Name} → Member type g a → T (holds s a n) → Member type (afterAxis g child w) n
     -- "descendant: T' = all below T."
@@ -91,7 +91,7 @@ module _ (s : Schema) where
     -- "K is cut to T and above T."
     test-context : {g : Point} {w : NodeTest ℕ} {b n : Name} → Member context g n → Member type (afterTest g w) b → AtOrAbove n b → Member context (afterTest g w) n
     -- a step without brackets: T and K stay
-    no-condition : {x : Carried} {g : Point} {n : Name} → Member x g n → Member x (afterCondition g unconditional) n
+    no-condition : {k : Carried} {g : Point} {n : Name} → Member k g n → Member k (afterCondition g unconditional) n
     -- "then a condition keeps name A of T if some alternative, started from type {A} and K cut to A and above A, ends with a type that isn't
     -- empty"
     condition-type : {g : Point} {qs : List (List (PlainStep ℕ))} {a n : Name} (q : List (PlainStep ℕ)) → Member type g a → List·Memᴰ q qs
