@@ -1,13 +1,13 @@
 -- Laws of reading a condition: alternatives one after the other.
 use mathlib.Core.Bool.{Bool, true, false, _||_}
-use mathlib.Core.List.{List, [], _∷_, _++_, map, reverse, reverse-append, reverse-reverse, append-nil, append-assoc}
+use mathlib.Core.List.{List, [], _∷_, _++_, map, reverse, reverse-append, reverse-reverse}
 use mathlib.Core.Path.{_≡_, refl, sym, ap, ap₂, subst, _∙_}
-use Prim.Native.Nat.{ℕ, suc, _+_, _-_, _≤_, _<_}
+use Prim.Native.Nat.{ℕ, _+_, _-_, _≤_, _<_}
 use native.Mathlib.Omega.{arith}
 use lib.Dec.{ltb}
 use lib.ListN.{length, set, length-set, length-append, length-reverse}
 use lib.Seq.{sets, length-sets}
-use Rattle.path_conditions.proofs.Reading.{sets-more}
+use Rattle.path_conditions.specs.Laws.{sets-more, cells-more, ends-more, ends-length}
 use Rattle.path_conditions.specs.Readings.{inAlternative, plainPast, AlternativeRead, AlternativeAs, ReadsAlternative, closed, FollowedAs, Followed, cellsOf, endsFrom, longAlternative, tooMuch, conditionNoted, opened, ConditionRead, ReadsCondition}
 use Rattle.path_conditions.specs.declared.AlternativeOutcome.{AlternativeOutcome}
 use Rattle.path_conditions.specs.declared.AlternativeOutcome.the-variants.{Past as AlternativePast, Fail as AlternativeFail}
@@ -25,21 +25,6 @@ use Rattle.text_spec.specs.Machines.{departs, from}
 use Rattle.text_spec.specs.Scans.{byteAt}
 
 -- ---- one alternative more
-cells-more : (qs : List (List ℕ)) (q : List ℕ) → cellsOf (qs ++ (q ∷ [])) ≡ cellsOf qs ++ q
-cells-more [] q = append-nil q
-cells-more (p ∷ qs) q = ap (λ (l : List ℕ). p ++ l) (cells-more qs q) ∙ sym (append-assoc p (cellsOf qs) q)
-
-ends-more : (n : ℕ) (qs : List (List ℕ)) (q : List ℕ) → endsFrom n (qs ++ (q ∷ [])) ≡ endsFrom n qs ++ ((n + length (cellsOf qs) + length q) ∷ [])
-ends-more n [] q = let e : n + length q ≡ n + 0 + length q = omega arith in ap (λ (k : ℕ). k ∷ []) e
-ends-more n (p ∷ qs) q =
-    let l = length-append p (cellsOf qs) in
-    let e : n + length p + length (cellsOf qs) + length q ≡ n + length (p ++ cellsOf qs) + length q = omega arith in
-    ap (λ (l : List ℕ). (n + length p) ∷ l) (ends-more (n + length p) qs q ∙ ap (λ (k : ℕ). endsFrom (n + length p) qs ++ (k ∷ [])) e)
-
-ends-length : (n : ℕ) (qs : List (List ℕ)) → length (endsFrom n qs) ≡ length qs
-ends-length n [] = refl
-ends-length n (q ∷ qs) = ap suc (ends-length (n + length q) qs)
-
 long-more : (qs : List (List ℕ)) (q : List ℕ) → longAlternative (qs ++ (q ∷ [])) ≡ (longAlternative qs || ltb maxAlternativeSteps (length q))
 long-more [] q = last (ltb maxAlternativeSteps (length q))
   where

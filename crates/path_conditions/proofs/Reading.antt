@@ -3,13 +3,13 @@ use mathlib.Core.Bool.{Bool, true, false, cond}
 use mathlib.Core.List.{List, [], _∷_, _++_, map, reverse, reverse-append}
 use mathlib.Core.Option.{Option, none}
 use mathlib.Core.Path.{_≡_, refl, sym, ap, ap₂, subst, _∙_}
-use Prim.Native.Nat.{ℕ, suc, _+_, _≤_, _<_}
-use native.Mathlib.Nat.{add-zero, add-suc, suc-add}
+use Prim.Native.Nat.{ℕ, _+_, _≤_, _<_}
 use native.Mathlib.Omega.{arith}
 use borrow.Author.Tests.{eq-eqb, ne-eqb, eqb-true, eqb-false}
 use lib.Dec.{eqb}
 use lib.ListN.{length, set, length-set, length-reverse}
 use lib.Seq.{sets, length-sets}
+use Rattle.path_conditions.specs.Laws.{sets-more}
 use Rattle.path_conditions.specs.Readings.{Stands, NoSlash, inAlternative, plainPast, AlternativeRead, AlternativeAs, ReadsAlternative, closed, FollowedAs}
 use Rattle.path_conditions.specs.declared.AlternativeOutcome.{AlternativeOutcome}
 use Rattle.path_conditions.specs.declared.AlternativeOutcome.the-variants.{Past, Fail}
@@ -30,11 +30,6 @@ use Rattle.text_spec.specs.Machines.{departs, from}
 use Rattle.text_spec.specs.Scans.{byteAt}
 
 -- ---- cells
-pub sets-more : (o : List ℕ) (n : ℕ) (xs ys : List ℕ) → sets o n (xs ++ ys) ≡ sets (sets o n xs) (n + length xs) ys
-sets-more o n [] ys = ap (λ (k : ℕ). sets o k ys) (sym (add-zero n))
-sets-more o n (x ∷ xs) ys =
-    sets-more (set o n x) (suc n) xs ys ∙ ap (λ (k : ℕ). sets (sets (set o n x) (suc n) xs) k ys) (suc-add n (length xs) ∙ sym (add-suc n (length xs)))
-
 pub noted-next : (o : List ℕ) (n : ℕ) {o′ o″ : List ℕ} {k : ℕ} (c : ℕ) (cs : List ℕ) → o′ ≡ sets o n (reverse cs) → k ≡ n + length cs → o″ ≡ set o′ k c → o″ ≡ sets o n (reverse (c ∷ cs))
 noted-next o n {o′} {o″} {k} c cs e l w =
     let f : k ≡ n + length (reverse cs) = l ∙ ap (λ (i : ℕ). n + i) (sym (length-reverse cs)) in

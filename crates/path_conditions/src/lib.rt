@@ -91,7 +91,8 @@ fn after_alternative(s: &[u8], at: usize) -> Follow
     }
 }
 
-fn either(a: bool, b: bool) -> bool
+// Whether one of two tests passes.
+pub fn either(a: bool, b: bool) -> bool
     ensures { λ r. ⌜ r ≡ (a || b) ⌝ }
 {
     if a {
