@@ -1,7 +1,6 @@
 -- Laws of reading paths one after the other.
 use mathlib.Core.Bool.{Bool, true, false, cond, _||_}
 use mathlib.Core.List.{List, [], _∷_, _++_, map, map-append, reverse, reverse-append, reverse-reverse, append-nil, append-assoc}
-use mathlib.Core.Option.{Option}
 use mathlib.Core.Path.{_≡_, refl, sym, ap, ap₂, subst, _∙_}
 use Prim.Native.Nat.{ℕ, suc, _+_, _-_, _≤_, _<_}
 use native.Mathlib.Nat.{add-zero}
@@ -10,7 +9,7 @@ use borrow.Author.Tests.{ne-eqb, lt-ltb, le-ltb, le-leb, lt-leb}
 use lib.Dec.{eqb, leb, ltb}
 use lib.ListN.{length, set, length-append, length-map, length-reverse}
 use lib.Seq.{sets, length-sets}
-use Rattle.bundle_paths.specs.Readings.{LineCells, pathNoted, allSteps, pathEnds, firstOver, overLimit, BundleRead, ReadsBundle}
+use Rattle.bundle_paths.specs.Readings.{LineCells, pathNoted, allSteps, pathEnds, firstOver, overLimit, ReadsBundle}
 use Rattle.bundle_paths.specs.declared.BundleOutcome.the-variants.{Past, Fail}
 use Rattle.path_conditions.specs.Laws.{sets-more, cells-append, ends-append, ends-length}
 use Rattle.path_conditions.specs.Readings.{cellsOf, endsFrom, tooMuch}
@@ -18,17 +17,15 @@ use Rattle.path_lines.specs.Readings.{Written, stepNoted, conditionOf, outerCel
 use Rattle.path_lines.specs.declared.Line.{Line}
 use Rattle.path_lines.specs.declared.LineOutcome.{LineOutcome}
 use Rattle.path_lines.specs.declared.LineOutcome.the-variants.{Past as LinePast, Fail as LineFail}
-use Rattle.path_spec.specs.Grammar.{PathRead, pathRead}
-use Rattle.path_spec.specs.Machine.{lineStart, ends, bundleMachine, parse}
-use Rattle.path_spec.specs.Paths.{PlainStep, WrittenStep, Condition}
+use Rattle.path_spec.specs.Grammar.{PathRead}
+use Rattle.path_spec.specs.Machine.{lineStart, bundleMachine, parse}
 use Rattle.path_spec.specs.Reading.{passesConditionLimit, passesLimit}
 use Rattle.path_steps.specs.Readings.{plainNoted}
-use Rattle.schema_spec.specs.Declarations.{Use}
 use Rattle.text_laws.specs.Scans.{at-end}
-use Rattle.text_laws.specs.Tests.{cond-yes, cond-no}
+use Rattle.text_laws.specs.Tests.{cond-no}
 use Rattle.text_spec.specs.Limits.{maxSteps, maxAlternatives, maxAlternativeSteps, maxPathBytes, maxPaths}
 use Rattle.text_spec.specs.Lists.{anyOf}
-use Rattle.text_spec.specs.Machines.{Parsed, spells, departs, spelt, from}
+use Rattle.text_spec.specs.Machines.{spells, spelt, from}
 
 -- ---- limits
 long-as : (s : List ℕ) (qs : List (List ℕ)) → anyOf (λ q. ltb maxAlternativeSteps (length q)) qs ≡ anyOf (λ q. ltb maxAlternativeSteps (length q)) (map (map (plainNoted s)) qs)

@@ -5,23 +5,22 @@ use mathlib.Core.Path.{_≡_, refl, sym, ap, ap₂, subst, _∙_}
 use Prim.Native.Nat.{ℕ, _+_, _-_, _≤_, _<_}
 use native.Mathlib.Omega.{arith}
 use lib.Dec.{ltb}
-use lib.ListN.{length, set, length-set, length-append, length-reverse}
+use lib.ListN.{length, set, length-append, length-reverse}
 use lib.Seq.{sets, length-sets}
 use Rattle.path_conditions.specs.Laws.{sets-more, cells-more, ends-more, ends-length}
-use Rattle.path_conditions.specs.Readings.{inAlternative, plainPast, AlternativeRead, AlternativeAs, ReadsAlternative, closed, FollowedAs, Followed, cellsOf, endsFrom, longAlternative, tooMuch, conditionNoted, opened, ConditionRead, ReadsCondition}
+use Rattle.path_conditions.specs.Readings.{inAlternative, plainPast, AlternativeRead, AlternativeAs, ReadsAlternative, closed, FollowedAs, Followed, cellsOf, endsFrom, longAlternative, conditionNoted, opened, ReadsCondition}
 use Rattle.path_conditions.specs.declared.AlternativeOutcome.{AlternativeOutcome}
 use Rattle.path_conditions.specs.declared.AlternativeOutcome.the-variants.{Past as AlternativePast, Fail as AlternativeFail}
 use Rattle.path_conditions.specs.declared.ConditionOutcome.the-variants.{Past, Fail}
 use Rattle.path_conditions.specs.declared.Follow.{Follow}
 use Rattle.path_conditions.specs.declared.Follow.the-variants.{Close, More, Fail as FollowFail}
-use Rattle.path_conditions.specs.declared.Alternatives.{Alternatives}
-use Rattle.path_spec.specs.Machine.{Outer, Inner, inside, State, afterBrackets, beginStep, withStep, bracketed, bundleMachine}
+use Rattle.path_spec.specs.Machine.{Outer, Inner, inside, afterBrackets, beginStep, withStep, bracketed, bundleMachine}
 use Rattle.path_spec.specs.Paths.{WrittenAxis, NodeTest, PlainStep, alternatives}
 use Rattle.path_steps.specs.Readings.{plainNoted}
 use Rattle.schema_laws.specs.Lists.{map-reverse}
 use Rattle.schema_spec.specs.Declarations.{Use}
 use Rattle.text_spec.specs.Limits.{maxAlternatives, maxAlternativeSteps}
-use Rattle.text_spec.specs.Machines.{departs, from}
+use Rattle.text_spec.specs.Machines.{from}
 use Rattle.text_spec.specs.Scans.{byteAt}
 
 -- ---- one alternative more

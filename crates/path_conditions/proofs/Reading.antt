@@ -1,7 +1,6 @@
 -- Laws of reading an alternative, and of what follows it.
-use mathlib.Core.Bool.{Bool, true, false, cond}
-use mathlib.Core.List.{List, [], _∷_, _++_, map, reverse, reverse-append}
-use mathlib.Core.Option.{Option, none}
+use mathlib.Core.Bool.{Bool, true, false}
+use mathlib.Core.List.{List, [], _∷_, reverse, reverse-append}
 use mathlib.Core.Path.{_≡_, refl, sym, ap, ap₂, subst, _∙_}
 use Prim.Native.Nat.{ℕ, _+_, _≤_, _<_}
 use native.Mathlib.Omega.{arith}
@@ -10,13 +9,12 @@ use lib.Dec.{eqb}
 use lib.ListN.{length, set, length-set, length-reverse}
 use lib.Seq.{sets, length-sets}
 use Rattle.path_conditions.specs.Laws.{sets-more}
-use Rattle.path_conditions.specs.Readings.{Stands, NoSlash, inAlternative, plainPast, AlternativeRead, AlternativeAs, ReadsAlternative, closed, FollowedAs}
-use Rattle.path_conditions.specs.declared.AlternativeOutcome.{AlternativeOutcome}
+use Rattle.path_conditions.specs.Readings.{Stands, NoSlash, inAlternative, plainPast, ReadsAlternative, closed, FollowedAs}
 use Rattle.path_conditions.specs.declared.AlternativeOutcome.the-variants.{Past, Fail}
 use Rattle.path_conditions.specs.declared.Follow.the-variants.{Close, More, Fail as FollowFail}
 use Rattle.path_laws.specs.Grammar.Machine.{or-keyword}
-use Rattle.path_spec.specs.Machine.{Inner, inside, State, dead, inOr, afterBrackets, afterCall, beginStep, bracketed, step, bundleMachine}
-use Rattle.path_steps.specs.Readings.{ReadsPlain, PlainAs, stepAxis, stepTest}
+use Rattle.path_spec.specs.Machine.{Inner, inside, dead, inOr, afterBrackets, beginStep, bracketed, step, bundleMachine}
+use Rattle.path_steps.specs.Readings.{ReadsPlain, PlainAs}
 use Rattle.path_steps.specs.declared.StepOutcome.{StepOutcome}
 use Rattle.path_steps.specs.declared.StepOutcome.the-variants.{Past as StepPast, Fail as StepFail}
 use Rattle.scanning.specs.OutcomeLaws.{spelt-end, spelt-past, spelt-fail}
@@ -26,7 +24,7 @@ use Rattle.scanning.specs.declared.Read.the-variants.{Past as SpeltPast, Fail a
 use Rattle.text_laws.specs.Scans.{step-at, dead-at, at-end}
 use Rattle.text_laws.specs.Tests.{never, cond-yes, cond-no}
 use Rattle.text_spec.specs.Lists.{bytes}
-use Rattle.text_spec.specs.Machines.{departs, from}
+use Rattle.text_spec.specs.Machines.{from}
 use Rattle.text_spec.specs.Scans.{byteAt}
 
 -- ---- cells

@@ -1,34 +1,32 @@
 -- Laws of reading brackets, a step, what follows it, and a path.
-use mathlib.Core.Bool.{Bool, true, false, cond, _||_}
+use mathlib.Core.Bool.{Bool, true, false, _||_}
 use mathlib.Core.List.{List, [], _∷_, _++_, map, map-append, reverse, reverse-append, reverse-reverse, append-nil, append-assoc}
 use mathlib.Core.Path.{_≡_, refl, sym, ap, ap₂, subst, _∙_}
 use Prim.Native.Nat.{ℕ, suc, _+_, _-_, _≤_, _<_}
-use native.Mathlib.Nat.{add-zero}
 use native.Mathlib.Omega.{arith}
 use borrow.Author.Tests.{ltb-true, ltb-false, ne-eqb}
 use lib.Dec.{ltb}
-use lib.ListN.{length, set, length-set, length-append, length-map}
+use lib.ListN.{length, set, length-append, length-map}
 use lib.Seq.{sets, length-sets}
 use Rattle.path_conditions.specs.Laws.{sets-more, cells-append, ends-append, ends-length}
-use Rattle.path_conditions.specs.Readings.{Stands, cellsOf, endsFrom, tooMuch, conditionNoted, opened, ConditionRead, ConditionAs, ReadsCondition}
+use Rattle.path_conditions.specs.Readings.{Stands, cellsOf, endsFrom, tooMuch, conditionNoted, opened, ConditionAs, ReadsCondition}
 use Rattle.path_conditions.specs.declared.Alternatives.{Alternatives}
 use Rattle.path_conditions.specs.declared.ConditionOutcome.{ConditionOutcome}
 use Rattle.path_conditions.specs.declared.ConditionOutcome.the-variants.{Past as ConditionPast, Fail as ConditionFail}
 use Rattle.path_conditions.specs.declared.Follow.{Follow}
 use Rattle.path_conditions.specs.declared.Follow.the-variants.{Close, More, Fail as FollowFail}
-use Rattle.path_lines.specs.Readings.{conditionOf, stepped, BracketsRead, BracketsAs, ReadsBrackets, WrittenRead, WrittenAs, ReadsWritten, lineEnded, FollowedAs, Followed, Written, stepNoted, outerCells, allPaths, conditionEnds, overCondition, Steps, LineRead, ReadsLine}
-use Rattle.path_lines.specs.declared.Line.{Line}
+use Rattle.path_lines.specs.Readings.{conditionOf, stepped, BracketsRead, BracketsAs, ReadsBrackets, WrittenRead, WrittenAs, ReadsWritten, lineEnded, FollowedAs, Followed, Written, stepNoted, outerCells, allPaths, conditionEnds, overCondition, Steps, ReadsLine}
 use Rattle.path_lines.specs.declared.LineOutcome.the-variants.{Past, Fail}
 use Rattle.path_spec.specs.Grammar.{PathRead, pathRead}
 use Rattle.path_spec.specs.Machine.{Outer, outside, inside, State, dead, lineStart, afterCall, afterBrackets, beginStep, withStep, stepDone, step, bundleMachine}
-use Rattle.path_spec.specs.Paths.{Condition, unconditional, WrittenStep}
+use Rattle.path_spec.specs.Paths.{Condition, WrittenStep}
 use Rattle.path_steps.specs.Readings.{stepAxis, stepTest, PlainAs, ReadsPlain}
 use Rattle.path_steps.specs.declared.StepOutcome.{StepOutcome}
 use Rattle.path_steps.specs.declared.StepOutcome.the-variants.{Past as StepPast, Fail as StepFail}
 use Rattle.schema_spec.specs.Declarations.{Use}
 use Rattle.text_laws.specs.Scans.{step-at, dead-at, same-at, at-end}
 use Rattle.text_laws.specs.Tests.{cond-no}
-use Rattle.text_spec.specs.Machines.{departs, from}
+use Rattle.text_spec.specs.Machines.{from}
 use Rattle.text_spec.specs.Scans.{byteAt}
 
 -- ---- brackets

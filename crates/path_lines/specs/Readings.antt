@@ -22,7 +22,6 @@ use Rattle.path_steps.specs.Readings.{stepAxis, stepTest}
 use Rattle.schema_spec.specs.Declarations.{Use}
 use Rattle.text_spec.specs.Lists.{anyOf, gather}
 use Rattle.text_spec.specs.Machines.{departs, from}
-use Rattle.text_spec.specs.Scans.{byteAt}
 
 -- ---- a step and its brackets
 abbrev pub conditionOf : List ℕ → List (List ℕ) → Condition Use

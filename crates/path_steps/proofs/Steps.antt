@@ -3,20 +3,20 @@ use mathlib.Core.Bool.{Bool, true, false, cond}
 use mathlib.Core.List.{List, [], _∷_, _++_, map}
 use mathlib.Core.Option.{Option, none, some}
 use mathlib.Core.Path.{_≡_, refl, sym, ap, ap₂, subst, _∙_}
-use Prim.Native.Nat.{ℕ, _+_, _*_, _-_, _/_, _%_, _≤_, _<_}
+use Prim.Native.Nat.{ℕ, _+_, _*_, _-_, _≤_, _<_}
 use native.Mathlib.Omega.{arith}
-use borrow.Author.Tests.{ltb-true, ltb-false, eq-eqb, ne-eqb}
-use lib.Dec.{T, eqb, ltb}
+use borrow.Author.Tests.{eq-eqb, ne-eqb}
+use lib.Dec.{T}
 use lib.ListN.{length, take, drop, length-append}
 use lib.Seq.{take-append-seam}
 use Rattle.path_axes.specs.Readings.{maxAxis, axisNumbered, AxisAs, ReadsAxis}
 use Rattle.path_axes.specs.declared.AxisOutcome.{AxisOutcome}
 use Rattle.path_axes.specs.declared.AxisOutcome.the-variants.{Past as AxisPast, Fail as AxisFail}
 use Rattle.path_laws.specs.Grammar.Machine.{test-naming}
-use Rattle.path_spec.specs.Grammar.{PathRead, nodeCall, textCall}
-use Rattle.path_spec.specs.Machine.{Context, State, dead, beforeTest, inTest, inCall, afterCall, isDead, tested, callOf, beginStep, step, ends, bundleMachine}
+use Rattle.path_spec.specs.Grammar.{PathRead}
+use Rattle.path_spec.specs.Machine.{Context, State, dead, beforeTest, inTest, inCall, afterCall, callOf, beginStep, step, ends, bundleMachine}
 use Rattle.path_spec.specs.Paths.{WrittenAxis, NodeTest, named, anyNode, anyText}
-use Rattle.path_steps.specs.Readings.{useAt, testNoted, stepAxis, stepTest, testsIn, TestAs, ReadsTest, named-at, called, PlainAs, ReadsPlain, Packed}
+use Rattle.path_steps.specs.Readings.{useAt, testNoted, stepAxis, stepTest, testsIn, TestAs, ReadsTest, named-at, called, ReadsPlain, Packed}
 use Rattle.path_steps.specs.declared.StepOutcome.{StepOutcome}
 use Rattle.path_steps.specs.declared.StepOutcome.the-variants.{Past, Fail}
 use Rattle.scanning.specs.OutcomeLaws.{named-end, named-past, named-fail}
@@ -27,11 +27,11 @@ use Rattle.schema_spec.specs.Declarations.{Use}
 use Rattle.schema_spec.specs.Schemas.{indexFrom}
 use Rattle.text_laws.specs.Lists.{bytes-equal, bytes-same}
 use Rattle.text_laws.specs.Scans.{step-at, dead-at, same-at, at-end}
-use Rattle.text_laws.specs.Tests.{passed, failed, true-of, false-of, cond-yes, cond-no}
-use Rattle.text_spec.specs.Bytes.{startsName, continuesName}
+use Rattle.text_laws.specs.Tests.{passed, failed, false-of, cond-yes, cond-no}
+use Rattle.text_spec.specs.Bytes.{startsName}
 use Rattle.text_spec.specs.Lists.{bytes, sameBytes, valueOr}
-use Rattle.text_spec.specs.Machines.{departs, spelt, from}
-use Rattle.text_spec.specs.Scans.{byteAt, Stops, nameIn, nameAt}
+use Rattle.text_spec.specs.Machines.{spelt, from}
+use Rattle.text_spec.specs.Scans.{byteAt, nameIn, nameAt}
 
 -- ---- numbers of tests
 test-node : (s : List ℕ) → testNoted s 0 ≡ anyNode

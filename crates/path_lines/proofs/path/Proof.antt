@@ -2,7 +2,7 @@
 use Prim.Native.Nat.{_-_}
 use native.Mathlib.Omega.{arith}
 use lib.ListN.{length}
-use Rattle.path_lines.proofs.Lines.{Upto, upto-start, steps-size, upto-fails, upto-places, upto-length, upto-stops, upto-later, upto-next, upto-closes}
+use Rattle.path_lines.proofs.Lines.{Upto, upto-start, steps-size, upto-fails, upto-length, upto-stops, upto-later, upto-next, upto-closes}
 use borrow.Author.Needs.{needs}
 use Rattle.path_lines.proofs.path.Statement.{statement}
 use Rattle.path_lines.proofs.path.Tie as tie
