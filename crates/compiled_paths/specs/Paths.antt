@@ -1,8 +1,7 @@
 -- What compiled paths stand for, and that their ranges stay in their columns.
 use mathlib.Core.List.{List}
-use mathlib.Core.Path.{_≡_}
-use Prim.Native.Nat.{ℕ, _≤_, _<_}
-use lib.ListN.{length, getD}
+use Prim.Native.Nat.{ℕ, _≤_}
+use lib.ListN.{getD}
 use Rattle.compiled_paths.specs.Columns.{bundleIn}
 use Rattle.compiled_paths.specs.Sizes.{writtenSteps, allSteps, allAlternatives}
 use Rattle.compiled_paths.specs.declared.CompiledPaths.{CompiledPaths}

@@ -1,6 +1,5 @@
 -- How many steps a bundle text can have: a step takes at least seven bytes, and the one that parts it from what follows.
 use mathlib.Core.List.{List, [], _∷_, _++_}
-use mathlib.Core.Path.{_≡_, refl}
 use Prim.Native.Nat.{ℕ, _+_, _*_, _≤_}
 use native.Mathlib.Omega.{arith}
 use lib.Dec.{T}

@@ -21,7 +21,7 @@ use Rattle.scanning.specs.declared.Read.{Read}
 use Rattle.scanning.specs.declared.Read.the-variants.{Past as SpeltPast, Fail as SpeltFail}
 use Rattle.text_laws.specs.Scans.{step-at, dead-at, at-end, Keyword, due}
 use Rattle.text_spec.specs.Lists.{bytes}
-use Rattle.text_spec.specs.Machines.{departs, spelt, from, matching}
+use Rattle.text_spec.specs.Machines.{spelt, from, matching}
 use Rattle.text_spec.specs.Scans.{byteAt}
 
 -- ---- one axis

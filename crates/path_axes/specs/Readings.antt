@@ -6,7 +6,7 @@ use lib.ListN.{length}
 use Rattle.compiled_paths.specs.Columns.{axisOf}
 use Rattle.path_axes.specs.declared.AxisOutcome.{AxisOutcome}
 use Rattle.path_axes.specs.declared.AxisOutcome.the-variants.{Past, Fail}
-use Rattle.path_spec.specs.Machine.{Choice, Context, State, inAxis, beforeTest, beginStep, bundleMachine}
+use Rattle.path_spec.specs.Machine.{Context, State, inAxis, beforeTest, bundleMachine}
 use Rattle.path_spec.specs.Paths.{WrittenAxis, along}
 use Rattle.text_spec.specs.Lists.{bytes}
 use Rattle.text_spec.specs.Machines.{departs, from}

@@ -1,6 +1,5 @@
 -- `CompiledPaths::empty` meets its contract.
 use mathlib.Core.Path.{refl}
-use borrow.Author.Needs.{needs}
 use Rattle.compiled_paths.specs.Columns.{bundle-none}
 use Rattle.compiled_paths.specs.Paths.{pathsIn}
 use Rattle.compiled_paths.proofs.CompiledPaths.empty.Statement.{statement}

@@ -1,0 +1,95 @@
+// All paths of a bundle text: where it departs from the grammar (8), or what it has and the first path that passes a limit (9).
+ghost use mathlib.Core.Path.{_≡_};
+ghost use Prim.Native.Nat.{_≤_, _<_};
+ghost use lib.ListN.{length};
+ghost use Rattle.bundle_paths.specs.Readings.{overLimit, ReadsBundle};
+ghost use Rattle.text_spec.specs.Limits.{maxBundleBytes};
+use path_lines::LineOutcome;
+
+pub const MAX_PATHS: usize = 8;
+
+pub const MAX_STEPS: usize = 16;
+
+pub const MAX_PATH_BYTES: usize = 512;
+
+// The numbers of paths, of steps outside brackets, of steps in brackets and of alternatives, and one more than the first byte of the
+// first path that passes a limit, or 0.
+pub struct Bundled {
+    pub count: usize,
+    pub k: usize,
+    pub n: usize,
+    pub m: usize,
+    pub over: usize,
+}
+
+pub enum BundleOutcome {
+    Past(Bundled),
+    Fail(usize),
+}
+
+// What is known of the limits after a path that starts at `at`, has d before it, so many steps and bytes and this said of its conditions.
+fn over_limit(over: usize, d: usize, at: usize, steps: usize, size: usize, past: bool) -> usize
+    requires { ⌜ at ≤ maxBundleBytes ⌝ }
+    ensures { λ r. ⌜ r ≡ overLimit over d at steps size past ⌝ }
+{
+    if over != 0 {
+        return over;
+    }
+    if MAX_PATHS <= d {
+        return at + 1;
+    }
+    if MAX_STEPS < steps {
+        return at + 1;
+    }
+    if MAX_PATH_BYTES < size {
+        return at + 1;
+    }
+    if past {
+        return at + 1;
+    }
+    0
+}
+
+// Reads all paths. The numbers of steps outside brackets go to `outers`, of those in brackets to `cells`; the ends of conditions, of paths
+// and of alternatives to `conditions`, `paths` and `ways`, from 1 on.
+pub fn all_paths(
+    s: &[u8],
+    outers: &mut [usize],
+    conditions: &mut [usize],
+    paths: &mut [usize],
+    cells: &mut [usize],
+    ways: &mut [usize],
+) -> BundleOutcome
+    requires { ⌜ (0 < length (now s)) × (length (now s) ≤ maxBundleBytes) ⌝ }
+    ensures { λ r. ⌜ ReadsBundle (now (s .entry)) (now (outers .entry)) (now (outers .exit)) (now (conditions .entry)) (now (conditions .exit)) (now (paths .entry)) (now (paths .exit)) (now (cells .entry)) (now (cells .exit)) (now (ways .entry)) (now (ways .exit)) r ⌝ }
+{
+    let mut i = 0;
+    let mut d = 0;
+    let mut k = 0;
+    let mut n = 0;
+    let mut m = 0;
+    let mut over = 0;
+    while i < s.len() {
+        match path_lines::path(s, i, outers, conditions, k, cells, n, ways, m) {
+            LineOutcome::Fail(j) => return BundleOutcome::Fail(j),
+            LineOutcome::Past(p) => {
+                let end = p.at;
+                let steps = p.k;
+                over = over_limit(over, d, i, steps - k, end - 1 - i, p.over);
+                k = steps;
+                n = p.n;
+                m = p.m;
+                d += 1;
+                scanning::note(paths, d, k);
+                i = end;
+            }
+        }
+    }
+    BundleOutcome::Past(Bundled {
+        count: d,
+        k,
+        n,
+        m,
+        over,
+    })
+}

@@ -1,0 +1,364 @@
+-- Laws of reading brackets, a step, what follows it, and a path.
+use mathlib.Core.Bool.{Bool, true, false, _||_}
+use mathlib.Core.List.{List, [], _∷_, _++_, map, map-append, reverse, reverse-append, reverse-reverse, append-nil, append-assoc}
+use mathlib.Core.Path.{_≡_, refl, sym, ap, ap₂, subst, _∙_}
+use Prim.Native.Nat.{ℕ, suc, _+_, _-_, _≤_, _<_}
+use native.Mathlib.Omega.{arith}
+use borrow.Author.Tests.{ltb-true, ltb-false, ne-eqb}
+use lib.Dec.{ltb}
+use lib.ListN.{length, set, length-append, length-map}
+use lib.Seq.{sets, length-sets}
+use Rattle.path_conditions.specs.Laws.{sets-more, cells-append, ends-append, ends-length}
+use Rattle.path_conditions.specs.Readings.{Stands, cellsOf, endsFrom, tooMuch, conditionNoted, opened, ConditionAs, ReadsCondition}
+use Rattle.path_conditions.specs.declared.Alternatives.{Alternatives}
+use Rattle.path_conditions.specs.declared.ConditionOutcome.{ConditionOutcome}
+use Rattle.path_conditions.specs.declared.ConditionOutcome.the-variants.{Past as ConditionPast, Fail as ConditionFail}
+use Rattle.path_conditions.specs.declared.Follow.{Follow}
+use Rattle.path_conditions.specs.declared.Follow.the-variants.{Close, More, Fail as FollowFail}
+use Rattle.path_lines.specs.Readings.{conditionOf, stepped, BracketsRead, BracketsAs, ReadsBrackets, WrittenRead, WrittenAs, ReadsWritten, lineEnded, FollowedAs, Followed, Written, stepNoted, outerCells, allPaths, conditionEnds, overCondition, Steps, ReadsLine}
+use Rattle.path_lines.specs.declared.LineOutcome.the-variants.{Past, Fail}
+use Rattle.path_spec.specs.Grammar.{PathRead, pathRead}
+use Rattle.path_spec.specs.Machine.{Outer, outside, inside, State, dead, lineStart, afterCall, afterBrackets, beginStep, withStep, stepDone, step, bundleMachine}
+use Rattle.path_spec.specs.Paths.{Condition, WrittenStep}
+use Rattle.path_steps.specs.Readings.{stepAxis, stepTest, PlainAs, ReadsPlain}
+use Rattle.path_steps.specs.declared.StepOutcome.{StepOutcome}
+use Rattle.path_steps.specs.declared.StepOutcome.the-variants.{Past as StepPast, Fail as StepFail}
+use Rattle.schema_spec.specs.Declarations.{Use}
+use Rattle.text_laws.specs.Scans.{step-at, dead-at, same-at, at-end}
+use Rattle.text_laws.specs.Tests.{cond-no}
+use Rattle.text_spec.specs.Machines.{from}
+use Rattle.text_spec.specs.Scans.{byteAt}
+
+-- ---- brackets
+abbrev tested-past : List ℕ → ℕ → Outer → State
+tested-past s c o = afterCall (stepAxis c) (stepTest s c) (outside o)
+
+module _ {s : List ℕ} {at : ℕ} {t : Bool} (S : Stands s at 0x5B t) where
+  no-bracket : t ≡ false → (c : ℕ) (o : Outer) → from bundleMachine (tested-past s c o) s at ≡ from bundleMachine (afterBrackets (stepped s c [] o)) s at
+  unfolding step
+  no-bracket f c o = go (ltb at (length s)) refl
+    where
+      go : (b : Bool) → ltb at (length s) ≡ b → from bundleMachine (tested-past s c o) s at ≡ from bundleMachine (afterBrackets (stepped s c [] o)) s at
+      go true g =
+          let h : at < length s = ltb-true at (length s) g in
+          same-at bundleMachine s at (tested-past s c o) (afterBrackets (stepped s c [] o)) h
+          (ap (λ (q : State). stepDone (stepped s c [] o) at (byteAt s at) q) (cond-no (beginStep (inside (opened o (stepAxis c) (stepTest s c)))) dead (ne-eqb (byteAt s at) 0x5B (S .other f h))))
+      go false g =
+          let h = ltb-false at (length s) g in
+          at-end bundleMachine s at (tested-past s c o) h ∙ sym (at-end bundleMachine s at (afterBrackets (stepped s c [] o)) h)
+
+  pub brackets-none : {n m : ℕ} {o w : List ℕ} → at ≤ length s → n ≤ at → m ≤ at → t ≡ false
+      → ReadsBrackets s at n m o o w w (ConditionPast (record { at = at; n = n; m = m; over = false }))
+  brackets-none h l g f =
+      record {
+        says = record {
+          paths = [];
+          low = omega arith;
+          high = h;
+          counted = omega arith;
+          few = l;
+          counted-ways = omega arith;
+          few-ways = g;
+          wrote = refl;
+          wrote-ways = refl;
+          limit = refl;
+          same = no-bracket f;
+        };
+      }
+
+  open-bracket : t ≡ true → (c : ℕ) (o : Outer) → from bundleMachine (tested-past s c o) s at ≡ from bundleMachine (beginStep (inside (opened o (stepAxis c) (stepTest s c)))) s (at + 1)
+  unfolding step
+  open-bracket f c o =
+      step-at bundleMachine s at (tested-past s c o) (beginStep (inside (opened o (stepAxis c) (stepTest s c)))) (S .here f .0) (ap (λ (b : ℕ). step (tested-past s c o) at b) (S .here f .1)) refl
+
+  condition-of : (qs : List (List ℕ)) → 0 < length qs → conditionNoted s qs ≡ conditionOf s qs
+  condition-of [] h = absurd (omega arith)
+  condition-of (q ∷ qs) h = refl
+
+  brackets-as : (n m : ℕ) (o o′ w w′ : List ℕ) → t ≡ true → (r : ConditionOutcome) → ConditionAs s (at + 1) n m o o′ w w′ r → BracketsAs s at n m o o′ w w′ r
+  brackets-as n m o o′ w w′ f (ConditionPast r) C =
+      let l = C .low in
+      record {
+        paths = C .paths;
+        low = omega arith;
+        high = C .high;
+        counted = C .counted;
+        few = C .few;
+        counted-ways = C .counted-ways;
+        few-ways = C .few-ways;
+        wrote = C .wrote;
+        wrote-ways = C .wrote-ways;
+        limit = C .limit;
+        same = λ c z. open-bracket f c z ∙ C .same z (stepAxis c) (stepTest s c)
+            ∙ ap (λ (d : Condition Use). from bundleMachine (afterBrackets (withStep (stepAxis c) (stepTest s c) d z)) s (r .at)) (condition-of (C .paths) (C .some));
+      }
+  brackets-as n m o o′ w w′ f (ConditionFail j) C = λ c z. open-bracket f c z ∙ C z (stepAxis c) (stepTest s c)
+
+  pub brackets-some : {n m : ℕ} {o o′ w w′ : List ℕ} {r : ConditionOutcome} → t ≡ true → ReadsCondition s (at + 1) n m o o′ w w′ r → ReadsBrackets s at n m o o′ w w′ r
+  brackets-some {n} {m} {o} {o′} {w} {w′} {r} f C = record { says = brackets-as n m o o′ w w′ f r (C .says) }
+
+-- ---- a step
+module _ {s : List ℕ} {at : ℕ} {p : StepOutcome} (P : ReadsPlain s at p) where
+  plain-as : {a : StepOutcome} → p ≡ a → PlainAs s at a
+  plain-as u = subst (ReadsPlain s at) u P .says
+
+  pub written-fails : {k n m : ℕ} {x x′ o o′ w w′ : List ℕ} {j : ℕ} → p ≡ StepFail j → ReadsWritten s at k n m x x′ o o′ w w′ (ConditionFail j)
+  written-fails u = record { says = λ z. plain-as u (outside z) }
+
+  module _ {c j : ℕ} (u : p ≡ StepPast c j) where
+    pub written-place : (at < j) × (j ≤ length s)
+    written-place = (plain-as u .0, plain-as u .1)
+
+    written-as : (k n m : ℕ) (x x′ o o′ w w′ : List ℕ) → x′ ≡ set x k c → (r : ConditionOutcome) → BracketsAs s j n m o o′ w w′ r → WrittenAs s at k n m x x′ o o′ w w′ r
+    written-as k n m x x′ o o′ w w′ e (ConditionPast r) B =
+        record { cell = c; place = j; before = plain-as u .0; noted = e; brackets = B; same = λ z. plain-as u .2 (outside z) ∙ B .same c z }
+    written-as k n m x x′ o o′ w w′ e (ConditionFail f) B = λ z. plain-as u .2 (outside z) ∙ B c z
+
+    pub written-reads : {k n m : ℕ} {x x′ o o′ w w′ : List ℕ} {r : ConditionOutcome} → x′ ≡ set x k c → ReadsBrackets s j n m o o′ w w′ r → ReadsWritten s at k n m x x′ o o′ w w′ r
+    written-reads {k} {n} {m} {x} {x′} {o} {o′} {w} {w′} {r} e B = record { says = written-as k n m x x′ o o′ w w′ e r (B .says) }
+
+-- ---- what follows it
+module _ (s : List ℕ) (at : ℕ) where
+  pub follow-end : length s ≤ at → FollowedAs s at (FollowFail at)
+  follow-end l o = at-end bundleMachine s at (afterBrackets o) l
+
+  module _ (l : at < length s) where
+    pub follow-slash : byteAt s at ≡ 0x2F → FollowedAs s at (More (at + 1))
+    unfolding step
+    follow-slash e = (omega arith, omega arith, λ o. step-at bundleMachine s at (afterBrackets o) (beginStep (outside o)) l (ap (λ (b : ℕ). step (afterBrackets o) at b) e) refl)
+
+    pub follow-line : byteAt s at ≡ 0x0A → FollowedAs s at (Close (at + 1))
+    unfolding step
+    follow-line e = (omega arith, omega arith, refl, λ o. step-at bundleMachine s at (afterBrackets o) (lineEnded o at) l (ap (λ (b : ℕ). step (afterBrackets o) at b) e) refl)
+
+    pub follow-not : (byteAt s at ≡ 0x2F → ⊥) → (byteAt s at ≡ 0x0A → ⊥) → FollowedAs s at (FollowFail at)
+    unfolding step
+    follow-not d e o = dead-at bundleMachine s at (afterBrackets o) dead l (cond-no _ _ (ne-eqb (byteAt s at) 0x2F d) ∙ cond-no _ _ (ne-eqb (byteAt s at) 0x0A e)) refl
+
+-- ---- one step more
+module _ (ws : List Written) (w : Written) where
+  paths-more : allPaths (ws ++ (w ∷ [])) ≡ allPaths ws ++ w .paths
+  paths-more = go ws
+    where
+      go : (vs : List Written) → allPaths (vs ++ (w ∷ [])) ≡ allPaths vs ++ w .paths
+      go [] = append-nil (w .paths)
+      go (v ∷ vs) = ap (λ (l : List (List ℕ)). v .paths ++ l) (go vs) ∙ sym (append-assoc (v .paths) (allPaths vs) (w .paths))
+
+  over-more : overCondition (ws ++ (w ∷ [])) ≡ (overCondition ws || tooMuch (w .paths))
+  over-more = go ws
+    where
+      last : (b : Bool) → (b || false) ≡ (false || b)
+      last true = refl
+      last false = refl
+
+      assoc : (a b c : Bool) → (a || (b || c)) ≡ ((a || b) || c)
+      assoc true b c = refl
+      assoc false b c = refl
+
+      go : (vs : List Written) → overCondition (vs ++ (w ∷ [])) ≡ (overCondition vs || tooMuch (w .paths))
+      go [] = last (tooMuch (w .paths))
+      go (v ∷ vs) = ap (λ (b : Bool). tooMuch (v .paths) || b) (go vs) ∙ assoc (tooMuch (v .paths)) (overCondition vs) (tooMuch (w .paths))
+
+conditions-more : (m : ℕ) (ws : List Written) (w : Written) → conditionEnds m (ws ++ (w ∷ [])) ≡ conditionEnds m ws ++ ((m + length (allPaths ws) + length (w .paths)) ∷ [])
+conditions-more m [] w = let e : m + length (w .paths) ≡ m + 0 + length (w .paths) = omega arith in ap (λ (k : ℕ). k ∷ []) e
+conditions-more m (v ∷ ws) w =
+    let e : m + length (v .paths) + length (allPaths ws) + length (w .paths) ≡ m + length (v .paths ++ allPaths ws) + length (w .paths) = omega (arith, length-append (v .paths) (allPaths ws)) in
+    ap (λ (l : List ℕ). (m + length (v .paths)) ∷ l)
+    (conditions-more (m + length (v .paths)) ws w ∙ ap (λ (k : ℕ). conditionEnds (m + length (v .paths)) ws ++ (k ∷ [])) e)
+
+conditions-length : (m : ℕ) (ws : List Written) → length (conditionEnds m ws) ≡ length ws
+conditions-length m [] = refl
+conditions-length m (w ∷ ws) = ap suc (conditions-length (m + length (w .paths)) ws)
+
+module _ {k n m : ℕ} {x x′ d d′ o o′ w w′ : List ℕ} {ws : List Written} {steps count many : ℕ} {over : Bool} (N : Steps k n m x x′ d d′ o o′ w w′ ws steps count many over) where
+  pub steps-size : (length x′ ≡ length x) × (length d′ ≡ length d) × (length o′ ≡ length o) × (length w′ ≡ length w)
+  steps-size = (
+    ap length (N .wrote-steps) ∙ length-sets x k (outerCells ws),
+    ap length (N .wrote-conditions) ∙ length-sets d (k + 1) (conditionEnds m ws),
+    ap length (N .wrote) ∙ length-sets o n (cellsOf (allPaths ws)),
+    ap length (N .wrote-ways) ∙ length-sets w (m + 1) (endsFrom n (allPaths ws)),
+  )
+
+  module _ {s : List ℕ} {place : ℕ} {x″ d″ o″ w″ : List ℕ} (c : ℕ) {r : Alternatives} (B : BracketsRead s place count many o′ o″ w′ w″ r) (xe : x″ ≡ set x′ steps c)
+      (de : d″ ≡ set d′ (steps + 1) (r .m)) {b : Bool} (be : b ≡ (over || r .over)) where
+    abbrev one : Written
+    one = record { cell = c; paths = B .paths }
+
+    more-paths : allPaths (ws ++ (one ∷ [])) ≡ allPaths ws ++ B .paths
+    more-paths = paths-more ws one
+
+    more-cells : cellsOf (allPaths (ws ++ (one ∷ []))) ≡ cellsOf (allPaths ws) ++ cellsOf (B .paths)
+    more-cells = ap cellsOf more-paths ∙ cells-append (allPaths ws) (B .paths)
+
+    outers-more : outerCells (ws ++ (one ∷ [])) ≡ outerCells ws ++ (c ∷ [])
+    outers-more = map-append (λ (v : Written). v .cell) ws (one ∷ [])
+
+    pub steps-more : Steps k n m x x″ d d″ o o″ w w″ (ws ++ (one ∷ [])) (steps + 1) (r .n) (r .m) b
+    steps-more =
+        let a = N .counted-steps in
+        let e = N .counted in
+        let f = N .counted-ways in
+        let g = B .counted in
+        let h = B .counted-ways in
+        let i = length-append ws (one ∷ []) in
+        let l : length (cellsOf (allPaths (ws ++ (one ∷ [])))) ≡ length (cellsOf (allPaths ws)) + length (cellsOf (B .paths)) =
+        ap length more-cells ∙ length-append (cellsOf (allPaths ws)) (cellsOf (B .paths)) in
+        let y : length (allPaths (ws ++ (one ∷ []))) ≡ length (allPaths ws) + length (B .paths) = ap length more-paths ∙ length-append (allPaths ws) (B .paths) in
+        let p : steps ≡ k + length (outerCells ws) = a ∙ ap (λ (q : ℕ). k + q) (sym (length-map ws (λ (v : Written). v .cell))) in
+        let z : steps + 1 ≡ k + 1 + length (conditionEnds m ws) = omega (arith, conditions-length m ws) in
+        let u : r .m ≡ m + length (allPaths ws) + length (B .paths) = omega arith in
+        let t : many + 1 ≡ m + 1 + length (endsFrom n (allPaths ws)) = omega (arith, ends-length n (allPaths ws)) in
+        record {
+          counted-steps = omega arith;
+          counted = omega arith;
+          counted-ways = omega arith;
+          wrote-steps = xe ∙ ap₂ (λ (q : List ℕ) (v : ℕ). set q v c) (N .wrote-steps) p ∙ sym (sets-more x k (outerCells ws) (c ∷ [])) ∙ ap (sets x k) (sym outers-more);
+          wrote-conditions =
+              de ∙ ap₂ (λ (q : List ℕ) (v : ℕ). set q v (r .m)) (N .wrote-conditions) z ∙ ap (λ (v : ℕ). set (sets d (k + 1) (conditionEnds m ws)) (k + 1 + length (conditionEnds m ws)) v) u
+              ∙ sym (sets-more d (k + 1) (conditionEnds m ws) ((m + length (allPaths ws) + length (B .paths)) ∷ [])) ∙ ap (sets d (k + 1)) (sym (conditions-more m ws one));
+          wrote =
+              B .wrote ∙ ap₂ (λ (q : List ℕ) (v : ℕ). sets q v (cellsOf (B .paths))) (N .wrote) e ∙ sym (sets-more o n (cellsOf (allPaths ws)) (cellsOf (B .paths))) ∙ ap (sets o n) (sym more-cells);
+          wrote-ways =
+              B .wrote-ways ∙ ap₂ (λ (q : List ℕ) (v : ℕ). sets q v (endsFrom count (B .paths))) (N .wrote-ways) t
+              ∙ ap (λ (v : ℕ). sets (sets w (m + 1) (endsFrom n (allPaths ws))) (m + 1 + length (endsFrom n (allPaths ws))) (endsFrom v (B .paths))) e
+              ∙ sym (sets-more w (m + 1) (endsFrom n (allPaths ws)) (endsFrom (n + length (cellsOf (allPaths ws))) (B .paths)))
+              ∙ ap (sets w (m + 1)) (sym (ap (endsFrom n) more-paths ∙ ends-append n (allPaths ws) (B .paths)));
+          limit = be ∙ ap₂ (λ (p q : Bool). p || q) (N .limit) (B .limit) ∙ sym (over-more ws one);
+        }
+
+-- ---- a path
+abbrev started : List PathRead → ℕ → List (WrittenStep Use (Condition Use)) → Outer
+started ps at qs = record { paths = ps; start = at; steps = qs }
+
+abbrev read-steps : List ℕ → List PathRead → ℕ → List Written → Outer
+read-steps s ps at ws = started ps at (reverse (map (stepNoted s) ws))
+
+pub record Upto (s : List ℕ) (at k n m : ℕ) (x x′ d d′ o o′ w w′ : List ℕ) (i steps count many : ℕ) (over : Bool) : Type 0 where
+  pub done : List Written
+  pub low : at ≤ i
+  pub high : i ≤ length s
+  pub noted : Steps k n m x x′ d d′ o o′ w w′ done steps count many over
+  pub few-steps : steps ≤ i
+  pub few : count ≤ i
+  pub few-ways : many ≤ i
+  pub same : (ps : List PathRead) → from bundleMachine (beginStep (outside (started ps at []))) s at ≡ from bundleMachine (beginStep (outside (read-steps s ps at done))) s i
+
+pub upto-start : {s : List ℕ} {at k n m : ℕ} {x d o w : List ℕ} → at < length s → k ≤ at → n ≤ at → m ≤ at → Upto s at k n m x x d d o o w w at k n m false
+upto-start h a b c =
+    record {
+      done = [];
+      low = omega arith;
+      high = omega arith;
+      noted =
+          record {
+            counted-steps = omega arith;
+            counted = omega arith;
+            counted-ways = omega arith;
+            wrote-steps = refl;
+            wrote-conditions = refl;
+            wrote = refl;
+            wrote-ways = refl;
+            limit = refl;
+          };
+      few-steps = a;
+      few = b;
+      few-ways = c;
+      same = λ ps. refl;
+    }
+
+line-begins : (s : List ℕ) (at : ℕ) (ps : List PathRead) → at < length s → from bundleMachine (lineStart ps) s at ≡ from bundleMachine (beginStep (outside (started ps at []))) s at
+unfolding step
+line-begins s at ps h = same-at bundleMachine s at (lineStart ps) (beginStep (outside (started ps at []))) h refl
+
+module _ {s : List ℕ} {at k n m : ℕ} {x x′ d d′ o o′ w w′ : List ℕ} {i steps count many : ℕ} {over : Bool} (U : Upto s at k n m x x′ d d′ o o′ w w′ i steps count many over)
+    (h : at < length s) {x″ o″ w″ : List ℕ} {q : ConditionOutcome} (W : ReadsWritten s i steps count many x′ x″ o′ o″ w′ w″ q) where
+  written-is : {a : ConditionOutcome} → q ≡ a → WrittenAs s i steps count many x′ x″ o′ o″ w′ w″ a
+  written-is u = subst (ReadsWritten s i steps count many x′ x″ o′ o″ w′ w″) u W .says
+
+  pub upto-fails : {j : ℕ} {d″ : List ℕ} → q ≡ ConditionFail j → ReadsLine s at k n m x x″ d d″ o o″ w w″ (Fail j)
+  upto-fails u = record { says = λ ps. line-begins s at ps h ∙ U .same ps ∙ written-is u (read-steps s ps at (U .done)) }
+
+  module _ {r : Alternatives} (u : q ≡ ConditionPast r) where
+    abbrev R : WrittenRead s i steps count many x′ x″ o′ o″ w′ w″ r
+    R = written-is u
+
+    abbrev ws : List Written
+    ws = U .done ++ (record { cell = R .cell; paths = R .brackets .paths } ∷ [])
+
+    pub upto-places : (i < r .at) × (r .at ≤ length s)
+    upto-places =
+        let a = R .before in
+        let b = R .brackets .low in
+        (omega arith, R .brackets .high)
+
+    reversed : (ps : List PathRead) → stepped s (R .cell) (R .brackets .paths) (read-steps s ps at (U .done)) ≡ read-steps s ps at ws
+    reversed ps =
+        ap (started ps at)
+        (sym (reverse-append (map (stepNoted s) (U .done)) (stepNoted s (record { cell = R .cell; paths = R .brackets .paths }) ∷ []))
+        ∙ ap reverse (sym (map-append (stepNoted s) (U .done) (record { cell = R .cell; paths = R .brackets .paths } ∷ []))))
+
+    same-now : (ps : List PathRead) → from bundleMachine (beginStep (outside (started ps at []))) s at ≡ from bundleMachine (afterBrackets (read-steps s ps at ws)) s (r .at)
+    same-now ps = U .same ps ∙ R .same (read-steps s ps at (U .done)) ∙ ap (λ (z : Outer). from bundleMachine (afterBrackets z) s (r .at)) (reversed ps)
+
+    module _ {b : Bool} (be : b ≡ (over || r .over)) {d″ : List ℕ} (de : d″ ≡ set d′ (steps + 1) (r .m)) where
+      noted-now : Steps k n m x x″ d d″ o o″ w w″ ws (steps + 1) (r .n) (r .m) b
+      noted-now = steps-more (U .noted) (R .cell) (R .brackets) (R .noted) de be
+
+      pub upto-length : (length x″ ≡ length x) × (length d″ ≡ length d) × (length o″ ≡ length o) × (length w″ ≡ length w)
+      upto-length = steps-size noted-now
+
+      module _ {f : Follow} (F : Followed s (r .at) f) where
+        followed-as : {a : Follow} → f ≡ a → FollowedAs s (r .at) a
+        followed-as v = subst (Followed s (r .at)) v F .says
+
+        pub upto-stops : {e : ℕ} → f ≡ FollowFail e → ReadsLine s at k n m x x″ d d″ o o″ w w″ (Fail e)
+        upto-stops v = record { says = λ ps. line-begins s at ps h ∙ same-now ps ∙ followed-as v (read-steps s ps at ws) }
+
+        pub upto-later : {e : ℕ} → f ≡ More e → (i < e) × (e ≤ length s)
+        upto-later v =
+            let g = followed-as v .0 in
+            let a = upto-places .0 in
+            (omega arith, followed-as v .1)
+
+        pub upto-next : {e : ℕ} → f ≡ More e → Upto s at k n m x x″ d d″ o o″ w w″ e (steps + 1) (r .n) (r .m) b
+        upto-next v =
+            let g = followed-as v .0 in
+            let a = upto-places .0 in
+            let y = U .low in
+            let l = U .few-steps in
+            let p = R .brackets .few in
+            let z = R .brackets .few-ways in
+            record {
+              done = ws;
+              low = omega arith;
+              high = followed-as v .1;
+              noted = noted-now;
+              few-steps = omega arith;
+              few = omega arith;
+              few-ways = omega arith;
+              same = λ ps. same-now ps ∙ followed-as v .2 (read-steps s ps at ws);
+            }
+
+        pub upto-closes : {e : ℕ} → f ≡ Close e → ReadsLine s at k n m x x″ d d″ o o″ w w″ (Past (record { at = e; k = steps + 1; n = r .n; m = r .m; over = b }))
+        upto-closes {e} v =
+            let g = followed-as v .0 in
+            let j = followed-as v .2 in
+            let a = upto-places .0 in
+            let y = U .low in
+            let l = U .few-steps in
+            let p = R .brackets .few in
+            let z = R .brackets .few-ways in
+            let t : r .at - at ≡ e - 1 - at = omega arith in
+            record {
+              says = record {
+                steps = ws;
+                low = omega arith;
+                high = followed-as v .1;
+                noted = noted-now;
+                few-steps = omega arith;
+                few = omega arith;
+                few-ways = omega arith;
+                same = λ ps. line-begins s at ps h ∙ same-now ps ∙ followed-as v .3 (read-steps s ps at ws)
+                    ∙ ap₂ (λ (c : ℕ) (z : List (WrittenStep Use (Condition Use))). from bundleMachine (lineStart (pathRead at c z ∷ ps)) s e) t (reverse-reverse (map (stepNoted s) ws));
+              };
+            }
