@@ -1,4 +1,4 @@
--- Laws of a set's two words: an operation that works on each bit works on each name, and a set without bits has no name. Assumes nothing.
+-- Laws of a set's two words: an operation that works on each bit works on each name, and a set without bits has no name.
 use mathlib.Core.Bool.{Bool, true, false, _&&_, _||_, or-false}
 use mathlib.Core.Logic.{_↔_}
 use mathlib.Core.Path.{_≡_, refl, sym, ap, ap₂, subst, _∙_}

@@ -1,4 +1,4 @@
--- Laws of sets of names as lists: what a filter has, and which names `everyName` has. Assumes nothing.
+-- Laws of sets of names as lists: what a filter has, and which names `everyName` has.
 use mathlib.Core.Bool.{Bool, true, false, not, _&&_, _||_, and-true}
 use mathlib.Core.List.{[], _∷_, List·Memᴰ as In, List·Memᴰ·head as here}
 use mathlib.Core.Logic.{_↔_, ⊎-elim}

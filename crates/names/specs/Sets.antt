@@ -1,4 +1,4 @@
--- What a `NameSet` means: which names are in it, and the set of names that it is, among some names. Assumes nothing.
+-- What a `NameSet` means: which names are in it, and the set of names that it is, among some names.
 use mathlib.Core.Bool.{Bool, _&&_, _||_}
 use mathlib.Core.List.{[], _∷_}
 use Prim.Native.Nat.{ℕ, zero, suc}

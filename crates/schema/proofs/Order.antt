@@ -1,4 +1,4 @@
--- Laws of the order of refusals: the least place of the lowest number comes first. Assumes nothing.
+-- Laws of the order of refusals: the least place of the lowest number comes first.
 use mathlib.Core.Bool.{Bool, true, false, cond, _&&_, _||_}
 use mathlib.Core.List.{List, [], _∷_, _++_, List·Memᴰ as In, List·Memᴰ·head as here, List·Memᴰ·tail as there, List·Memᴰ·append-cases as append-cases}
 use mathlib.Core.Logic.{_⊎_, inl, inr}
@@ -10,7 +10,7 @@ use borrow.Author.Tests.{ltb-true, ltb-false, le-ltb, eq-eqb, ne-eqb}
 use lib.Dec.{ltb}
 use lib.ListN.{length}
 use Rattle.text_laws.specs.Tests.{cond-yes as yes, cond-no as no}
-use Rattle.schema.proofs.Limits.{head-least}
+use Rattle.schema_places.specs.PlaceLaws.{head-least}
 use Rattle.particles.specs.ReadingLaws.{between-low, between-from}
 use Rattle.text_spec.specs.Scans.{nameAt}
 use Rattle.schema.specs.Names.{firstPlace, isAmong, twiceAt}

@@ -1,5 +1,4 @@
 -- What the schema reader's code hands back is the library's record of a schema, and its test of refusal 1 the library's test.
--- Assumes nothing.
 use mathlib.Core.List.{List}
 use mathlib.Core.Path.{_≡_, refl, ap₂}
 use Prim.Native.Nat.{ℕ}

@@ -1,4 +1,4 @@
--- `twice` meets its contract: none of the first i names is declared before it. Assumes nothing.
+-- `twice` meets its contract: none of the first i names is declared before it.
 use mathlib.Core.Path.{_≡_, refl, sym, _∙_}
 use borrow.Author.Needs.{needs}
 use native.Mathlib.Omega.{arith}

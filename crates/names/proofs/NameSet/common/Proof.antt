@@ -1,4 +1,4 @@
--- `names::NameSet::common` meets its contract, by a law of each bit. Assumes nothing.
+-- `names::NameSet::common` meets its contract, by a law of each bit.
 use mathlib.Core.Bool.{_&&_}
 use lib.Bits.{bitAnd}
 use Rattle.words.specs.Bits.{bit-and}

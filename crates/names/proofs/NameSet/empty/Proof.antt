@@ -1,4 +1,4 @@
--- `names::NameSet::empty` meets its contract. Assumes nothing.
+-- `names::NameSet::empty` meets its contract.
 use Rattle.names.specs.SetLaws.{nothing-in}
 use Rattle.names.proofs.NameSet.empty.Statement.{statement}
 use Rattle.names.proofs.NameSet.empty.Tie as tie

@@ -1,4 +1,4 @@
--- `names::NameSet::insert_text` meets its contract. Assumes nothing.
+-- `names::NameSet::insert_text` meets its contract.
 use borrow.Author.Needs.{needs}
 use lib.Dec.{ltb}
 use Rattle.names.proofs.Words.{text-added}

@@ -1,4 +1,4 @@
--- `names::NameSet::is_empty` meets its contract: joined words are 0 exactly if no name is in the set. Assumes nothing.
+-- `names::NameSet::is_empty` meets its contract: joined words are 0 exactly if no name is in the set.
 use native.Mathlib.Omega.{arith}
 use Rattle.names.proofs.Words.{no-name}
 use Rattle.names.proofs.NameSet.is_empty.Statement.{statement}

@@ -1,4 +1,4 @@
--- `names::NameSet::meets` meets its contract: the elements are looked at first, then the text names. Assumes nothing.
+-- `names::NameSet::meets` meets its contract: the elements are looked at first, then the text names.
 use mathlib.Core.Bool.{Bool, _&&_, _||_}
 use mathlib.Core.Path.{sym, ap, _∙_}
 use borrow.Author.Needs.{needs}

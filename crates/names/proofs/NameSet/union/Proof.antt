@@ -1,4 +1,4 @@
--- `names::NameSet::union` meets its contract, by a law of each bit. Assumes nothing.
+-- `names::NameSet::union` meets its contract, by a law of each bit.
 use mathlib.Core.Bool.{_||_}
 use lib.Bits.{bitOr}
 use Rattle.words.specs.Bits.{bit-or}

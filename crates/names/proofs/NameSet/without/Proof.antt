@@ -1,4 +1,4 @@
--- `names::NameSet::without` meets its contract, by a law of each bit. Assumes nothing.
+-- `names::NameSet::without` meets its contract, by a law of each bit.
 use mathlib.Core.Bool.{not, _&&_}
 use lib.Bits.{bitAnd, bitXor}
 use Rattle.words.specs.Bits.{bit-without}
