@@ -3,9 +3,13 @@
 
 Each case becomes a theorem `definition(texts) = outcome`, closed by computation alone, in a scratch crate outside the repository that
 stands over a copy of the definitions. A case that disagrees is an error of the prover's, and fails this test.
+
+    tests/definitions.py            every case
+    tests/definitions.py WORD..     the cases whose names have one of the words
 """
 import json
 import os
+import re
 import shutil
 import subprocess
 import sys
@@ -16,15 +20,17 @@ CRATES = os.path.join(HERE, "..", "crates")
 SPECS = ["text_spec", "schema_spec", "table_spec", "journal_spec", "path_spec", "projection_spec"]
 JOURNAL_LIMIT = 1048576
 
-# The prover's limit of steps for one declaration does not suffice for the nodes of 4,096 rows.
-NOT_EVALUATED = {"listing-4096-rows"}
+VECTORS = ["edge.jsonl", "more.jsonl"]
+
+# A case that is not evaluated, with the reason.
+NOT_EVALUATED = {
+    "listing-4096-rows": "the prover's limit of steps for one declaration does not suffice for the nodes of 4,096 rows",
+}
 
 HEAD = """-- Written by tests/definitions.py.
-use mathlib.Core.Bool.{cond, true}
 use mathlib.Core.List.{List, [], _∷_, map}
 use mathlib.Core.Path.{_≡_, refl}
 use Prim.Native.Nat.{ℕ}
-use lib.Dec.{ltb}
 use lib.ListN.{length}
 use Rattle.journal_spec.specs.Reading.{readJournal}
 use Rattle.path_spec.specs.Reading.{readBundle}
@@ -35,14 +41,16 @@ use Rattle.projection_spec.specs.Extracts.Reading.{readExtract}
 use Rattle.projection_spec.specs.Inference.Needed.{needed, neededByPath, neededWord}
 use Rattle.projection_spec.specs.Library.Hosts.{extractOf}
 use Rattle.projection_spec.specs.Library.Listing.{listing}
-use Rattle.projection_spec.specs.Library.Records.{passesTable}
+use Rattle.projection_spec.specs.Library.Records.{tableBeside}
 use Rattle.schema_spec.specs.Names.{codeOf, wordOfSet}
 use Rattle.schema_spec.specs.Reading.{readSchema}
 use Rattle.schema_spec.specs.Records.{schemaIn}
 use Rattle.schema_spec.specs.Types.{typesOf}
 use Rattle.table_spec.specs.Rows.{Row}
+use Rattle.text_spec.specs.Calls.{handed, inRoom}
+use Rattle.text_spec.specs.Cells.{tooSmall}
 use Rattle.text_spec.specs.Lists.{bytes}
-use Rattle.text_spec.specs.Refusals.{Outcome, accepted, refused, andThen, numberOf, at, badRecord, tooFewCells}
+use Rattle.text_spec.specs.Refusals.{Outcome, accepted, refused, andThen, numberOf}
 
 data Seen : Type 0 where
   ok : List (List ℕ) → Seen
@@ -62,7 +70,7 @@ abbrev rowButStart : Row → List ℕ
 rowButStart r = r .number ∷ codeOf (r .name) ∷ r .parent ∷ r .size ∷ []
 
 abbrev lent : ℕ → List Row → Outcome (List Row)
-lent n rows = cond (ltb n (length rows)) (refused (at tooFewCells 0)) (accepted rows)
+lent n rows = inRoom (tooSmall n rows) rows
 
 abbrev words : List ℕ → List ℕ → Outcome (List (List ℕ))
 words s b =
@@ -152,38 +160,58 @@ def asked(case):
         return "ok (listing %s %s %s ∷ [])" % tuple(t)
     rows = decimals(filter(None, texts[1].split("\n")))
     columns = [numbers([r[i] for r in rows]) for i in range(5)]
-    return (
-        "cond (passesTable (schemaIn %s) (record { numbers = %s; names = %s; parents = %s; starts = %s; lengths = %s }) %d %s) (ok ((%d ∷ []) ∷ [])) (no 1 0)"
-        % (t[0], *columns, len(rows), t[2], len(rows))
-    )
+    table = "record { columns = record { numbers = %s; names = %s; parents = %s; starts = %s; lengths = %s }; count = %d }" % (*columns, len(rows))
+    return "seen counted (handed (tableBeside (schemaIn %s) %s (%s)) (λ rows. accepted rows))" % (t[0], t[2], table)
 
 
-def main():
-    with open(os.path.join(HERE, "vectors", "edge.jsonl")) as lines:
-        cases = [json.loads(line) for line in lines]
-    chosen = [c for c in cases if c["case"] not in NOT_EVALUATED]
-    body = [HEAD]
-    for i, case in enumerate(chosen):
-        body += ["-- %s" % ascii(case["case"]), "case-%d : %s ≡ %s" % (i, asked(case), expected(case)), "unfolding computing neededWord wordOfSet", "case-%d = refl" % i, ""]
+def theorem(i, case):
+    """A case as a theorem that only computing closes."""
+    lines = ["-- %s" % ascii(case["case"]), "case-%d : %s ≡ %s" % (i, asked(case), expected(case)), "unfolding computing", "case-%d = refl" % i, ""]
+    return "\n".join(lines)
+
+
+def evaluate(cases):
+    """The prover's run on scratch crates with a theorem for each case: as many crates as cores, each with its share of the cases."""
+    parts = os.cpu_count() or 1
     with tempfile.TemporaryDirectory() as scratch:
         for name in SPECS:
             shutil.copytree(os.path.join(CRATES, name), os.path.join(scratch, "crates", name), ignore=shutil.ignore_patterns("must-fail"))
-        crate = os.path.join(scratch, "crates", "vectors")
-        os.makedirs(os.path.join(crate, "src"))
-        os.makedirs(os.path.join(crate, "specs"))
-        files = {"src/lib.rt": "// Theorems alone.\n", "specs/Lib.antt": "pub mod Vectors\n", "specs/Vectors.antt": "\n".join(body)}
-        for path, content in files.items():
-            with open(os.path.join(crate, path), "w") as out:
-                out.write(content)
         with open(os.path.join(CRATES, "..", "crates.txt")) as listed:
-            kept = [line for line in listed if line.split(":")[0] in SPECS]
+            lines = [line for line in listed if line.split(":")[0] in SPECS]
+        for part in range(parts):
+            crate = os.path.join(scratch, "crates", "vectors%d" % part)
+            os.makedirs(os.path.join(crate, "src"))
+            os.makedirs(os.path.join(crate, "specs"))
+            body = "\n".join([HEAD] + [theorem(i, case) for i, case in enumerate(cases) if i % parts == part])
+            files = {"src/lib.rt": "// Theorems alone.\n", "specs/Lib.antt": "pub mod Vectors\n", "specs/Vectors.antt": body}
+            for path, content in files.items():
+                with open(os.path.join(crate, path), "w") as out:
+                    out.write(content)
+            lines.append("vectors%d: %s\n" % (part, " ".join(SPECS)))
         with open(os.path.join(scratch, "crates.txt"), "w") as out:
-            out.write("".join(kept) + "vectors: %s\n" % " ".join(SPECS))
-        run = subprocess.run(["rt", "check"], cwd=scratch, capture_output=True, text=True)
+            out.write("".join(lines))
+        return subprocess.run(["rt", "check"], cwd=scratch, capture_output=True, text=True)
+
+
+def main():
+    cases = []
+    for name in VECTORS:
+        with open(os.path.join(HERE, "vectors", name)) as lines:
+            cases += [json.loads(line) for line in lines]
+    words = sys.argv[1:]
+    cases = [c for c in cases if not words or any(word in c["case"] for word in words)]
+    chosen = [c for c in cases if c["case"] not in NOT_EVALUATED]
+    run = evaluate(chosen)
     if run.returncode != 0:
-        sys.stdout.write(run.stdout + run.stderr)
+        output = run.stdout + run.stderr
+        sys.stdout.write(output)
+        for i in sorted({int(i) for i in re.findall(r"error: `case-(\d+)`", output)}):
+            print("definitions: %s disagrees" % ascii(chosen[i]["case"]))
         sys.exit("definitions: some case of tests/vectors disagrees")
-    print("definitions: %d of %d cases agree, %d not evaluated" % (len(chosen), len(cases), len(cases) - len(chosen)))
+    print("definitions: %d of %d cases agree" % (len(chosen), len(cases)))
+    for case in cases:
+        if case["case"] in NOT_EVALUATED:
+            print("definitions: %s is not evaluated: %s" % (case["case"], NOT_EVALUATED[case["case"]]))
 
 
 main()

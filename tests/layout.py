@@ -48,7 +48,7 @@ def named(crate, libraries):
 
 def private_imports(crate):
     for path, text in files(crate):
-        for other in re.findall(r"Rattle·([a-z0-9_]+)(?:·proofs)?\.proofs\b(?!\.\w+\.Reads\b)", text):
+        for other in re.findall(r"Rattle·([a-z0-9_]+)(?:·proofs)?\.proofs\b(?!(?:\.\w+)+\.Reads\b)", text):
             if other != crate:
                 yield "%s imports the proofs of %s" % (path, other)
 

@@ -1,4 +1,4 @@
--- The rows of an accepted journal are a well-formed table beside its text. Assumes nothing.
+-- The rows of an accepted journal are a well-formed table beside its text.
 use mathlib.Core.Bool.{Bool, true, false, not, _&&_, _||_}
 use mathlib.Core.List.{List, [], _∷_, _++_, reverse, reverseAux, append-nil, List·Memᴰ as In, List·Memᴰ·head as here, List·Memᴰ·tail as there, List·Memᴰ·append-cases as append-cases}
 use mathlib.Core.Logic.{_⊎_, inl, inr}

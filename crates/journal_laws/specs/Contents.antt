@@ -1,4 +1,4 @@
--- Refusals 14 and 15 over trees: the faults found are the elements that are undeclared or whose content does not fit. Assumes nothing.
+-- Refusals 14 and 15 over trees: the faults found are the elements that are undeclared or whose content does not fit.
 use mathlib.Core.Bool.{Bool, not, _||_}
 use mathlib.Core.List.{List, [], _∷_, _++_, List·Memᴰ as In, List·Memᴰ·append-cases as append-cases, Memᴰ·append-left as append-left, Memᴰ·append-right as append-right}
 use mathlib.Core.Logic.{_⊎_, inl, inr, ⊎-elim}

@@ -1,4 +1,4 @@
--- Events that are built with nothing found against them, step by step, as a relation. Assumes nothing.
+-- Events that are built with nothing found against them, step by step, as a relation.
 use mathlib.Core.Bool.{Bool, true, false, cond, not, _||_}
 use mathlib.Core.List.{List, [], _∷_, _++_}
 use mathlib.Core.Option.{Option, none, some}

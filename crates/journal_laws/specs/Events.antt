@@ -1,4 +1,4 @@
--- The one pass over the bytes as two: the bytes turned into events, then the events built into rows. Assumes nothing.
+-- The one pass over the bytes as two: the bytes turned into events, then the events built into rows.
 use mathlib.Core.Bool.{Bool, true, false, cond, not, _&&_}
 use mathlib.Core.List.{List, [], _∷_, _++_}
 use mathlib.Core.Option.{none}
@@ -8,12 +8,13 @@ use native.Mathlib.Omega.{arith}
 use lib.Dec.{T, eqb, leb, ltb}
 use lib.ListN.{length}
 use Rattle.journal_spec.specs.Builder.{Building, onStart, onEnd, onEvent}
-use Rattle.journal_spec.specs.Lexer.{Run, Mode, between, inData, inEntity, opened, inName, afterName, afterSlash, ending, inEndName, afterEndName, stopped, Event, quiet, starts, empties, ends, runs, Lexed, goes, solidBy, tailsWith, dataByte, entityByte, longer, tagByte, endTagByte, lex, lastEvent}
+use Rattle.journal_spec.specs.Lexer.{Run, Mode, between, inData, inEntity, opened, inName, afterName, afterSlash, ending, inEndName, afterEndName, stopped, Event, quiet, starts, empties, ends, runs, Lexed, goes, solidBy, tailsWith, dataByte, entityByte, tagByte, endTagByte, lex, lastEvent}
 use Rattle.journal_spec.specs.Reading.{Machine, step, run, ended}
 use Rattle.schema_spec.specs.Schemas.{Schema}
 use Rattle.text_spec.specs.Bytes.{isBlank, isForeign, startsName, continuesName}
 use Rattle.text_spec.specs.Limits.{maxNameBytes}
 use Rattle.text_spec.specs.Lists.{anyOf, allOf, isEmpty, isNone}
+use Rattle.text_spec.specs.Machines.{longer}
 use Rattle.text_spec.specs.Refusals.{Refusal, at, given, badByte}
 use Rattle.text_laws.specs.Lists.{append-empty}
 use Rattle.text_laws.specs.Refusals.{given-free}
@@ -161,8 +162,8 @@ module _ (size k b : ℕ) (bs : List ℕ) (fits : k ≤ size) (rest : (m : Mode)
       cond-both (Next true) (isBlank b) _ _ (rest (afterEndName at n) tt)
       (cond-both (Next true) (eqb b 0x3E) _ _ (end-next (rest between tt)) (rest (stopped at) tt))
 
-  longer-in-turn : (n : List ℕ) (at : ℕ) (m : Mode) → Next true (goes m) → Next true (goes (longer n at m))
-  longer-in-turn n at m h = cond-both (λ m. Next true (goes m)) (ltb (length n) maxNameBytes) _ _ h (rest (stopped at) tt)
+  longer-in-turn : (n : List ℕ) (at b : ℕ) (part : List ℕ → Mode) → Next true (goes (part (n ++ (b ∷ [])))) → Next true (goes (longer (stopped at) n b part))
+  longer-in-turn n at b part h = cond-both (λ m. Next true (goes m)) (ltb (length n) maxNameBytes) _ _ h (rest (stopped at) tt)
 
   byte-in-turn : (m : Mode) → BegunBefore k m → Next (inTag m) (lex m k b)
   unfolding lex
@@ -175,12 +176,12 @@ module _ (size k b : ℕ) (bs : List ℕ) (fits : k ≤ size) (rest : (m : Mode)
       cond-both (Next true) (eqb b 0x2F) _ _ (rest (ending at) tt)
       (cond-both (Next true) (startsName b) _ _ (rest (inName at (b ∷ [])) tt) (rest (stopped at) tt))
   byte-in-turn (inName at n) h =
-      cond-both (Next true) (continuesName b) _ _ (longer-in-turn n at (inName at (n ++ (b ∷ []))) (rest (inName at (n ++ (b ∷ []))) tt)) (tag-in-turn at n)
+      cond-both (Next true) (continuesName b) _ _ (longer-in-turn n at b (inName at) (rest (inName at (n ++ (b ∷ []))) tt)) (tag-in-turn at n)
   byte-in-turn (afterName at n) h = tag-in-turn at n
   byte-in-turn (afterSlash at n) h = cond-both (Next true) (eqb b 0x3E) _ _ (start-next (end-next (rest between tt))) (rest (stopped at) tt)
   byte-in-turn (ending at) h = cond-both (Next true) (startsName b) _ _ (rest (inEndName at (b ∷ [])) tt) (rest (stopped at) tt)
   byte-in-turn (inEndName at n) h =
-      cond-both (Next true) (continuesName b) _ _ (longer-in-turn n at (inEndName at (n ++ (b ∷ []))) (rest (inEndName at (n ++ (b ∷ []))) tt)) (end-tag-in-turn at n)
+      cond-both (Next true) (continuesName b) _ _ (longer-in-turn n at b (inEndName at) (rest (inEndName at (n ++ (b ∷ []))) tt)) (end-tag-in-turn at n)
   byte-in-turn (afterEndName at n) h = end-tag-in-turn at n
   byte-in-turn (stopped at) h = rest (stopped at) tt
 

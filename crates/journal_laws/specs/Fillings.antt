@@ -1,4 +1,4 @@
--- Open elements of a text that is accepted in the end: their contents can be completed, so a parent holds each child. Assumes nothing.
+-- Open elements of a text that is accepted in the end: their contents can be completed, so a parent holds each child.
 use mathlib.Core.Bool.{Bool, true, false}
 use mathlib.Core.List.{List, [], _∷_, List·Memᴰ as In}
 use mathlib.Core.Option.{some}

@@ -1,4 +1,4 @@
--- What the builder makes of a whole tree: its faults, rows and contents as functions of the tree. Assumes nothing.
+-- What the builder makes of a whole tree: its faults, rows and contents as functions of the tree.
 use mathlib.Core.Bool.{Bool, true, false, not, _||_}
 use mathlib.Core.List.{List, [], _∷_, _++_, append-assoc}
 use mathlib.Core.Option.{Option, none}

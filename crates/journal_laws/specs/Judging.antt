@@ -1,4 +1,4 @@
--- The one-pass reader's outcome is what the conditions say: the first refusal that applies, or the rows of the tree. Assumes nothing.
+-- The one-pass reader's outcome is what the conditions say: the first refusal that applies, or the rows of the tree.
 use mathlib.Core.Bool.{Bool, true, false, not, _&&_, _||_}
 use mathlib.Core.List.{List, [], _∷_, _++_, reverse, List·Memᴰ as In, List·Memᴰ·head as here, List·Memᴰ·tail as there, List·Memᴰ·append-cases as append-cases, Memᴰ·append-left as append-left, Memᴰ·append-right as append-right}
 use mathlib.Core.Logic.{_⊎_, inl, inr}

@@ -1,4 +1,4 @@
--- What an event keeps of a building: a property that each way to go on keeps. Assumes nothing.
+-- What an event keeps of a building: a property that each way to go on keeps.
 use mathlib.Core.Bool.{Bool, not, _||_}
 use mathlib.Core.List.{List, [], _∷_, _++_}
 use mathlib.Core.Option.{Option, none, some}

@@ -12,5 +12,6 @@ pub mod Forests
 pub mod Contents
 pub mod NodeLimits
 pub mod Undeclared
+pub mod OneTree
 pub mod Judging
 pub mod TreeNodes

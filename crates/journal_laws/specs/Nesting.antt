@@ -1,4 +1,4 @@
--- The builder breaks exactly where tokens stop nesting (12) or open depth 65 (13). Assumes nothing.
+-- The builder breaks exactly where tokens stop nesting (12) or open depth 65 (13).
 use mathlib.Core.Bool.{Bool, true, false, cond, not}
 use mathlib.Core.List.{List, [], _∷_, _++_, append-assoc, append-nil, List·Memᴰ·head as here}
 use mathlib.Core.Logic.{_⊎_, inl, inr}

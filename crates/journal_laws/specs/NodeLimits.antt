@@ -1,4 +1,4 @@
--- Rows and refusal 16 over valid trees: the rows built are the tree's, and the faults found are its nodes beyond a limit. Assumes nothing.
+-- Rows and refusal 16 over valid trees: the rows built are the tree's, and the faults found are its nodes beyond a limit.
 use mathlib.Core.Bool.{Bool, true, false, cond, not, _||_}
 use mathlib.Core.List.{List, [], _∷_, _++_, reverse, reverseAux, reverseAux-append, append-nil, List·Memᴰ as In, List·Memᴰ·head as here, List·Memᴰ·append-cases as append-cases, Memᴰ·append-left as append-left, Memᴰ·append-right as append-right}
 use mathlib.Core.Logic.{_⊎_, inl, inr}

@@ -1,4 +1,4 @@
--- What the lexer makes of well-spelt bytes: names, blanks, tags, entities, character data. Assumes nothing.
+-- What the lexer makes of well-spelt bytes: names, blanks, tags, entities, character data.
 use mathlib.Core.Bool.{Bool, true, false, cond, _&&_, _||_}
 use mathlib.Core.List.{List, [], _∷_, _++_, append-assoc, append-nil}
 use mathlib.Core.Logic.{_⊎_, inl, inr}

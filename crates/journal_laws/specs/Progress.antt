@@ -1,4 +1,4 @@
--- Children that some more children complete to a content that fits are names of the model. Assumes nothing.
+-- Children that some more children complete to a content that fits are names of the model.
 use mathlib.Core.Bool.{Bool, true, false, _&&_, _||_}
 use mathlib.Core.List.{List, [], _∷_, _++_, List·Memᴰ as In, List·Memᴰ·head as here, Memᴰ·append-left as append-left, Memᴰ·append-right as append-right}
 use mathlib.Core.Logic.{_⊎_, inl, inr, ⊎-elim}

@@ -1,4 +1,4 @@
--- Every text is either spelt by tokens, or misspelt where the lexer says so. Assumes nothing.
+-- Every text is either spelt by tokens, or misspelt where the lexer says so.
 use mathlib.Core.Bool.{Bool, true, false, cond, _&&_, _||_}
 use mathlib.Core.List.{List, [], _∷_, _++_, map, append-assoc, append-nil, List·Memᴰ as In, List·Memᴰ·head as here, List·Memᴰ·tail as there}
 use mathlib.Core.Logic.{_⊎_, inl, inr}
@@ -12,7 +12,7 @@ use lib.ListN.{length, drop, length-append}
 use Rattle.journal_laws.specs.Events.{told, eventsFrom, modeAfter, cond-cases}
 use Rattle.journal_laws.specs.Passes.{mode-append, Passes, passes-none, passes-byte, passes-append, passes-events, tokenEvents, whole-tag-passes, noEnd, brackets, brackets-more, brackets-end, last-two, no-end-means, data-lex, entity-resets, tag-spelling, tagRest, pieces-not-tag, plain-parts, entity-passes, tag-opens, blank-cases}
 use Rattle.journal_spec.specs.Conditions.{Stretch, nothing-yet, a-tag, a-byte, an-entity, MisspeltHere, bad-tag, bad-entity, section-end, Misspelt}
-use Rattle.journal_spec.specs.Lexer.{Run, run, Mode, between, inData, inEntity, opened, inName, afterName, afterSlash, ending, inEndName, afterEndName, stopped, Event, runs, Lexed, goes, tells, solidBy, tailsWith, dataByte, entityByte, lex, misspeltAt, tagByte, endTagByte, longer}
+use Rattle.journal_spec.specs.Lexer.{Run, run, Mode, between, inData, inEntity, opened, inName, afterName, afterSlash, ending, inEndName, afterEndName, stopped, Event, runs, Lexed, goes, tells, solidBy, tailsWith, dataByte, entityByte, lex, misspeltAt, tagByte, endTagByte}
 use Rattle.journal_spec.specs.Tokens.{Token, startTag, emptyTag, endTag, spellToken, spell, entities, Entity, lt, gt, amp, apos, quot, isPlain, Pieces, none as no-piece, plain, entity, sectionEnd, Spelt, start-spelt, empty-spelt, end-spelt, characters-spelt, TagNext, no-token, start-next, empty-next, end-next, AllSpelt, none as all-none, tag, data-then, Tokens}
 use Rattle.text_laws.specs.Bytes.{one-byte-name, name-snoc}
 use Rattle.text_laws.specs.Lists.{any-in, in-any, empty-of, append-empty, member-fills, all-snoc}
@@ -20,6 +20,7 @@ use Rattle.text_laws.specs.Tests.{passed, failed, true-of, and-cases, or-cases,
 use Rattle.text_spec.specs.Bytes.{isBlank, isName, startsName, continuesName, allBlank}
 use Rattle.text_spec.specs.Limits.{maxNameBytes}
 use Rattle.text_spec.specs.Lists.{anyOf, isEmpty}
+use Rattle.text_spec.specs.Machines.{longer}
 
 -- ---- a tag that is not complete
 
@@ -64,8 +65,9 @@ end-tag-byte-step at b n a h k =
     (λ f. completes {t = endTag n a} end-next (end-spelt h k) (joined b ∙ ap (λ (c : ℕ). 0x3C ∷ 0x2F ∷ (n ++ (a ++ (c ∷ [])))) (eqb→eq b 0x3E (passed f))))
     (λ f. stops))
 
-longer-step : (at b : ℕ) (p n : List ℕ) (m : Mode) → (length n < maxNameBytes → Pending m at (p ++ (b ∷ []))) → TagStep at p b (goes (longer n at m))
-longer-step at b p n m h =
+longer-step : (at b : ℕ) (p n : List ℕ) (part : List ℕ → Mode) → (length n < maxNameBytes → Pending (part (n ++ (b ∷ []))) at (p ++ (b ∷ [])))
+    → TagStep at p b (goes (longer (stopped at) n b part))
+longer-step at b p n part h =
     cond-cases (λ (x : Mode). TagStep at p b (goes x)) (ltb (length n) maxNameBytes) _ _ (λ e. goes-on (h (ltb→lt (length n) maxNameBytes (passed e)))) (λ e. stops)
 
 tag-step : {m : Mode} {at : ℕ} {p : List ℕ} (k b : ℕ) → Pending m at p → TagStep at p b (lex m k b)
@@ -76,7 +78,7 @@ tag-step {at = at} k b after-bracket =
     (λ e. cond-cases (TagStep at (0x3C ∷ []) b) (startsName b) _ _ (λ f. goes-on (in-name (one-byte-name b (passed f)))) (λ f. stops))
 tag-step {at = at} k b (in-name {n = n} h) =
     cond-cases (TagStep at (0x3C ∷ n) b) (continuesName b) _ _
-    (λ e. longer-step at b (0x3C ∷ n) n (inName at (n ++ (b ∷ []))) (λ l. in-name (name-snoc n b h (passed e) l)))
+    (λ e. longer-step at b (0x3C ∷ n) n (inName at) (λ l. in-name (name-snoc n b h (passed e) l)))
     (λ e. subst (λ (l : List ℕ). TagStep at (0x3C ∷ l) b (tagByte at n b)) (append-nil n) (tag-byte-step at b n [] h tt))
 tag-step {at = at} k b (after-name {n = n} a h u) = tag-byte-step at b n a h u
 tag-step {at = at} k b (after-slash {n = n} a h u) =
@@ -89,7 +91,7 @@ tag-step {at = at} k b at-end =
     cond-cases (TagStep at (0x3C ∷ 0x2F ∷ []) b) (startsName b) _ _ (λ f. goes-on (in-end-name (one-byte-name b (passed f)))) (λ f. stops)
 tag-step {at = at} k b (in-end-name {n = n} h) =
     cond-cases (TagStep at (0x3C ∷ 0x2F ∷ n) b) (continuesName b) _ _
-    (λ e. longer-step at b (0x3C ∷ 0x2F ∷ n) n (inEndName at (n ++ (b ∷ []))) (λ l. in-end-name (name-snoc n b h (passed e) l)))
+    (λ e. longer-step at b (0x3C ∷ 0x2F ∷ n) n (inEndName at) (λ l. in-end-name (name-snoc n b h (passed e) l)))
     (λ e. subst (λ (l : List ℕ). TagStep at (0x3C ∷ 0x2F ∷ l) b (endTagByte at n b)) (append-nil n) (end-tag-byte-step at b n [] h tt))
 tag-step {at = at} k b (after-end-name {n = n} a h u) = end-tag-byte-step at b n a h u
 

@@ -1,4 +1,4 @@
--- The rows of an accepted journal are its tree's nodes in document order, each text with its own bytes of the journal. Assumes nothing.
+-- The rows of an accepted journal are its tree's nodes in document order, each text with its own bytes of the journal.
 use mathlib.Core.Bool.{Bool, true, false, cond}
 use mathlib.Core.List.{List, [], _∷_, _++_, append-assoc, append-nil}
 use mathlib.Core.Option.{Option, some}
@@ -8,7 +8,9 @@ use native.Mathlib.Omega.{arith}
 use lib.ListN.{length, length-append, take, getElem?}
 use lib.Seq.{take-at, drop-at}
 use Rattle.journal_laws.specs.Judging.Meaning.{accepted-valid}
+use Rattle.journal_laws.specs.OneTree.{one-tree}
 use Rattle.journal_laws.specs.Walks.{spell-append}
+use Rattle.journal_spec.specs.Conditions.{ValidJournal}
 use Rattle.journal_spec.specs.Reading.{readJournal}
 use Rattle.journal_spec.specs.Tokens.{Token, startTag, emptyTag, endTag, spellToken, spell}
 use Rattle.journal_spec.specs.Trees.{Forest, nothing, data-node, element-node, Spells, no-tokens, data-next, empty-tag, tag-pair, OneRoot, at-once, after-blanks, WellFormedText, indexOf, countIn, nodesUnder, treeNodes, rowsUnder, treeRows}
@@ -170,9 +172,14 @@ tree-nodes {journal = journal} {n = n} {c = c} s w =
     subst (λ (x : List ℕ). OwnBytes x (w .nested .forest)) (append-nil (spell (w .tokens)) ∙ sym (w .spelt .joined)) (own-bytes [] [] refl (w .nested .spelt)) in
     ap (λ (l : List Node). y ∷ l) (under-nodes journal s i c (y ∷ []) 0 1 y refl refl (root-own journal (w .nested .oneRoot) own))
 
--- Demand 2: the rows of an accepted journal are its nodes in document order, with their own text.
-pub accepted-nodes : (limit : ℕ) (s : Schema) (journal : List ℕ) (rows : List Row) (e : readJournal limit s journal ≡ accepted rows)
-    → nodesOf journal rows ≡ treeNodes s (accepted-valid limit s journal rows e .name) (accepted-valid limit s journal rows e .content)
-accepted-nodes limit s journal rows e =
+-- Demand 2: the rows of a valid journal are its nodes in document order, with their own text, by whatever tree the journal is valid,
+pub valid-nodes : {limit : ℕ} {s : Schema} {journal : List ℕ} {rows : List Row} (v : ValidJournal limit s journal rows) → nodesOf journal rows ≡ treeNodes s (v .name) (v .content)
+valid-nodes {s = s} {journal = journal} v = ap (nodesOf journal) (v .gives-rows) ∙ tree-nodes s (v .tree)
+
+-- and those of an accepted one are the nodes of whatever tree its text spells.
+pub accepted-nodes : (limit : ℕ) (s : Schema) (journal : List ℕ) (rows : List Row) {k : ℕ} {n : List ℕ} {c : Forest} → readJournal limit s journal ≡ accepted rows → WellFormedText journal k n c
+    → nodesOf journal rows ≡ treeNodes s n c
+accepted-nodes limit s journal rows {n = n} e w =
     let v = accepted-valid limit s journal rows e in
-    ap (nodesOf journal) (v .gives-rows) ∙ tree-nodes s (v .tree)
+    let t = one-tree (v .tree) w in
+    valid-nodes v ∙ (ap (λ (m : List ℕ). treeNodes s m (v .content)) (t .1) ∙ ap (treeNodes s n) (t .2))

@@ -1,4 +1,4 @@
--- Refusal 14 over tokens: it is found for exactly the tags of undeclared elements. What reasons the builder gives. Assumes nothing.
+-- Refusal 14 over tokens: it is found for exactly the tags of undeclared elements. What reasons the builder gives.
 use mathlib.Core.Bool.{Bool, true, false, cond, not}
 use mathlib.Core.List.{List, [], _∷_, _++_, List·Memᴰ as In, List·Memᴰ·append-cases as append-cases, Memᴰ·append-left as append-left, Memᴰ·append-right as append-right}
 use mathlib.Core.Logic.{_⊎_, inl, inr}

@@ -1,4 +1,4 @@
--- Tokens as moves on a stack of open names, and the trees that such walks spell. Assumes nothing.
+-- Tokens as moves on a stack of open names, and the trees that such walks spell.
 use mathlib.Core.Bool.{Bool, true, false}
 use mathlib.Core.List.{List, [], _∷_, _++_, append-assoc, append-nil}
 use mathlib.Core.Path.{_≡_, refl, sym, ap, subst, _∙_}

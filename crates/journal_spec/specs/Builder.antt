@@ -1,4 +1,4 @@
--- Events turned into rows, with what breaks nesting (12, 13) and what is invalid or too much (14 to 16). Assumes nothing.
+-- Events turned into rows, with what breaks nesting (12, 13) and what is invalid or too much (14 to 16).
 use mathlib.Core.Bool.{Bool, true, false, cond, not, _||_}
 use mathlib.Core.List.{List, [], _∷_, _++_}
 use mathlib.Core.Option.{Option, none, some}

@@ -1,4 +1,4 @@
--- When and where refusals 2, 3 and 11 to 16 apply to a journal text, and the rows that it gives: no machine is mentioned. Assumes nothing.
+-- When and where refusals 2, 3 and 11 to 16 apply to a journal text, and the rows that it gives: no machine is mentioned.
 use mathlib.Core.List.{List, [], _∷_, _++_, List·Memᴰ}
 use mathlib.Core.Logic.{_⊎_}
 use mathlib.Core.Option.{none, some}

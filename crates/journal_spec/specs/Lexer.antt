@@ -1,14 +1,14 @@
--- A journal's bytes turned into events, one byte at a time: tags, and runs of character data. Assumes nothing.
+-- A journal's bytes turned into events, one byte at a time: tags, and runs of character data.
 use mathlib.Core.Bool.{cond, _&&_}
-use mathlib.Core.List.{List, [], _∷_, _++_, map}
+use mathlib.Core.List.{List, [], _∷_, map}
 use mathlib.Core.Option.{Option, none, some}
 use Prim.Native.Nat.{ℕ, suc, _-_}
-use lib.Dec.{eqb, leb, ltb}
-use lib.ListN.{length, drop}
+use lib.Dec.{eqb, leb}
+use lib.ListN.{drop}
 use Rattle.journal_spec.specs.Tokens.{entities}
 use Rattle.text_spec.specs.Bytes.{isBlank, startsName, continuesName}
-use Rattle.text_spec.specs.Limits.{maxNameBytes}
 use Rattle.text_spec.specs.Lists.{anyOf, isEmpty}
+use Rattle.text_spec.specs.Machines.{longer}
 
 -- a run of character data: its start, and its first byte that is not a blank
 pub record Run : Type 0 where
@@ -83,9 +83,6 @@ dataByte r brackets k b =
 abbrev pub entityByte : List (List ℕ) → ℕ → Run → Mode
 entityByte rests at r = cond (isEmpty rests) (stopped at) (cond (anyOf isEmpty rests) (inData r 0) (inEntity rests at r))
 
-abbrev pub longer : List ℕ → ℕ → Mode → Mode
-longer n at m = cond (ltb (length n) maxNameBytes) m (stopped at)
-
 -- after the name of a start tag or an empty tag
 abbrev pub tagByte : ℕ → List ℕ → ℕ → Lexed
 tagByte at n b =
@@ -100,11 +97,11 @@ lex between k b = cond (eqb b 0x3C) (goes (opened k)) (goes (dataByte (run k non
 lex (inData r brackets) k b = cond (eqb b 0x3C) (tells (opened k) (runs r (k - r .start))) (goes (dataByte r brackets k b))
 lex (inEntity rests at r) k b = goes (entityByte (tailsWith b rests) at r)
 lex (opened at) k b = cond (eqb b 0x2F) (goes (ending at)) (cond (startsName b) (goes (inName at (b ∷ []))) (goes (stopped at)))
-lex (inName at n) k b = cond (continuesName b) (goes (longer n at (inName at (n ++ (b ∷ []))))) (tagByte at n b)
+lex (inName at n) k b = cond (continuesName b) (goes (longer (stopped at) n b (inName at))) (tagByte at n b)
 lex (afterName at n) k b = tagByte at n b
 lex (afterSlash at n) k b = cond (eqb b 0x3E) (tells between (empties n at)) (goes (stopped at))
 lex (ending at) k b = cond (startsName b) (goes (inEndName at (b ∷ []))) (goes (stopped at))
-lex (inEndName at n) k b = cond (continuesName b) (goes (longer n at (inEndName at (n ++ (b ∷ []))))) (endTagByte at n b)
+lex (inEndName at n) k b = cond (continuesName b) (goes (longer (stopped at) n b (inEndName at))) (endTagByte at n b)
 lex (afterEndName at n) k b = endTagByte at n b
 lex (stopped at) k b = goes (stopped at)
 

@@ -1,4 +1,4 @@
--- The outcome of reading a journal in one pass: refusals 2, 3 and 11 to 16, or the rows. Assumes nothing.
+-- The outcome of reading a journal in one pass: refusals 2, 3 and 11 to 16, or the rows.
 use mathlib.Core.Bool.{false, not, _&&_, _||_}
 use mathlib.Core.List.{List, [], _∷_, _++_, reverse}
 use Prim.Native.Nat.{ℕ, suc}

@@ -1,4 +1,4 @@
--- The tokens of a journal and their spelling: tags and character data. Assumes nothing.
+-- The tokens of a journal and their spelling: tags and character data.
 use mathlib.Core.Bool.{Bool, not, _||_}
 use mathlib.Core.List.{List, [], _∷_, _++_}
 use mathlib.Core.Path.{_≡_}

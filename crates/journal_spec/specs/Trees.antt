@@ -1,4 +1,4 @@
--- Trees of a journal (source document 000, 2.1), what spells them, and their nodes and rows in document order. Assumes nothing.
+-- Trees of a journal (source document 000, 2.1), what spells them, and their nodes and rows in document order.
 use mathlib.Core.Bool.{cond}
 use mathlib.Core.List.{List, [], _∷_, _++_}
 use Prim.Native.Nat.{ℕ, suc, _+_, max}

@@ -1,4 +1,4 @@
--- Valid trees (XML 1.0, 3; source document 000, definition 2.4). Assumes nothing.
+-- Valid trees (XML 1.0, 3; source document 000, definition 2.4).
 use mathlib.Core.List.{List, [], _∷_}
 use mathlib.Core.Option.{some}
 use mathlib.Core.Path.{_≡_}

@@ -1,4 +1,5 @@
 pub mod Paths
 pub mod Selection
+pub mod Inverses
 pub mod Grammar
 pub mod Reading

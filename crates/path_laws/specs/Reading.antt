@@ -1,4 +1,4 @@
--- Reading a bundle text means what the conditions of refusals 2, 3, 8, 9 and 10 say. Assumes nothing.
+-- Reading a bundle text means what the conditions of refusals 2, 3, 8, 9 and 10 say.
 use mathlib.Core.Bool.{Bool, _||_}
 use mathlib.Core.List.{List, [], _∷_, _++_, map, List·Memᴰ as In, List·Memᴰ·head as here, List·Memᴰ·tail as there, List·Memᴰ·append-cases as append-cases, Memᴰ·append-left as append-left, Memᴰ·append-right as append-right}
 use mathlib.Core.Logic.{_⊎_, inl, inr, ⊎-elim}

@@ -1,22 +1,21 @@
--- What a path selects by computing is what it selects as a set of nodes, given in document order. Assumes nothing.
+-- What a path selects by computing is what it selects as a set of nodes, given in document order.
 use mathlib.Core.Bool.{Bool, true, false, cond, not, _&&_}
-use mathlib.Core.List.{List, [], _∷_, _++_, map, List·Memᴰ as In, List·Memᴰ·head as here, List·Memᴰ·tail as there, List·Memᴰ·eq-of-singleton as of-singleton, Sublistᴰ, Sublistᴰ·slnil, Sublistᴰ·cons, Sublistᴰ·cons-cons, Pairwise, Pairwise·nil, Pairwise·cons, Pairwise·sublistᴰ, List·Nodup}
+use mathlib.Core.List.{List, [], _∷_, map, List·Memᴰ as In, List·Memᴰ·head as here, List·Memᴰ·tail as there, List·Memᴰ·eq-of-singleton as of-singleton, Sublistᴰ, Sublistᴰ·slnil, Sublistᴰ·cons, Sublistᴰ·cons-cons, Pairwise, Pairwise·nil, Pairwise·cons, Pairwise·sublistᴰ}
 use mathlib.Core.Logic.{⊎-elim, ∥∥₁-elim}
-use mathlib.Core.Path.{_≡_, refl, sym, ap, subst, _∙_}
+use mathlib.Core.Path.{_≡_, refl, sym, ap, subst}
 use Prim.Native.Nat.{ℕ, suc, _<_}
 use native.Mathlib.Bridge.{le-prop}
 use native.Mathlib.Omega.{arith}
 use lib.Dec.{T, eqb→eq, eqb-refl}
-use lib.ListN.{getElem?}
-use Rattle.table_laws.specs.Fits.{attached-number}
 use Rattle.table_laws.specs.Nodes.{nodes-equal, nodes-same, parent-edge, edge-parent, test-above, above-test}
+use Rattle.table_laws.specs.Parents.{nodes-numbered}
 use Rattle.path_spec.specs.Paths.{Axis, self, child, descendant, descendantOrSelf, parent, ancestor, ancestorOrSelf, WrittenAxis, along, NodeTest, named, anyNode, anyText, WrittenStep, PlainStep, Condition, unconditional, alternatives, Start, rootElement, LocationPath}
 use Rattle.path_spec.specs.Selection.{NodeSet, Passes, passes-name, passes-node, passes-text, OnAxis, on-self, on-child, on-descendant, here-or-below, below-or-here, on-parent, on-ancestor, here-or-above, above-or-here, OnWritten, on-along, StepSet, PathSet, Always, Only, Holds, no-condition, alternative, StartSet, Selected, passes, onAxis, onWritten, stepFrom, pathFrom, always, holdsAt, startNodes, selected, select, selectRows}
 use Rattle.schema_spec.specs.Names.{Name, element, text}
 use Rattle.schema_spec.specs.Types.{Types}
 use Rattle.table_spec.specs.Conditions.{RowAt, WellFormed}
-use Rattle.table_spec.specs.Nodes.{Node, nodeAt, nodesFrom, nodesOf, nodeNumber, nameOf, isTop, same, isAbove}
-use Rattle.table_spec.specs.Rows.{Row, textOf}
+use Rattle.table_spec.specs.Nodes.{Node, nodesOf, nodeNumber, nameOf, isTop, same, isAbove}
+use Rattle.table_spec.specs.Rows.{Row}
 use Rattle.text_laws.specs.Lists.{any-in, in-any, in-filter, filter-in, member-fills}
 use Rattle.text_laws.specs.Tests.{or-left, or-right, or-cases, and-intro, and-cases, not-intro}
 use Rattle.text_spec.specs.Lists.{anyOf, filterBy, isEmpty}
@@ -170,32 +169,17 @@ selected-in-order doc p =
     let h = selected-filters doc p in
     rw (h .1) (filter-sublist (h .0) doc)
 
--- each node once, where the document has each node once
-pub selected-once : (doc : List Node) (p : LocationPath ℕ) → List·Nodup doc → List·Nodup (selected doc p)
-selected-once doc p d = Pairwise·sublistᴰ (selected-in-order doc p) d
-
 sublist-map : {A B : Type 0} (f : A → B) {xs ys : List A} → Sublistᴰ xs ys → Sublistᴰ (map f xs) (map f ys)
 sublist-map f Sublistᴰ·slnil = Sublistᴰ·slnil
 sublist-map f (Sublistᴰ·cons s) = Sublistᴰ·cons (sublist-map f s)
 sublist-map f (Sublistᴰ·cons-cons e s) = Sublistᴰ·cons-cons (ap f e) (sublist-map f s)
 
 -- the numbers selected rise, where those of the document do
-pub select-rises : (doc : List Node) (p : LocationPath ℕ) → Pairwise _<_ (map nodeNumber doc) → Pairwise _<_ (select doc p)
+select-rises : (doc : List Node) (p : LocationPath ℕ) → Pairwise _<_ (map nodeNumber doc) → Pairwise _<_ (select doc p)
 unfolding select
 select-rises doc p r = Pairwise·sublistᴰ (sublist-map nodeNumber (selected-in-order doc p)) r
 
 -- ---- on a table
-nodes-from-numbered : (lent : List ℕ) (before : List Node) (rows : List Row) → map nodeNumber (nodesFrom lent before rows) ≡ map (λ r. r .number) rows
-nodes-from-numbered lent before [] = refl
-nodes-from-numbered lent before (r ∷ rows) =
-    let y = nodeAt lent before r in
-    ap (λ (k : ℕ). k ∷ map nodeNumber (nodesFrom lent (before ++ (y ∷ [])) rows)) (attached-number (r .number) (r .name) (textOf lent r) (getElem? before (r .parent)))
-    ∙ ap (λ (l : List ℕ). r .number ∷ l) (nodes-from-numbered lent (before ++ (y ∷ [])) rows)
-
-pub nodes-numbered : (lent : List ℕ) (rows : List Row) → map nodeNumber (nodesOf lent rows) ≡ map (λ r. r .number) rows
-unfolding nodesOf
-nodes-numbered lent rows = nodes-from-numbered lent [] rows
-
 -- each row's number is above that of the row before
 abbrev RiseByOne : List Row → Type 0
 RiseByOne rows = (i : ℕ) (q r : Row) → RowAt rows i q → RowAt rows (suc i) r → q .number < r .number
@@ -215,7 +199,20 @@ all-rise [] h = Pairwise·nil
 all-rise (r ∷ rows) h =
     Pairwise·cons (λ k m. ∥∥₁-elim m le-prop (λ i. later-above r rows h k i)) (all-rise rows (λ j x y a b. h (suc j) x y a b))
 
+-- on every well-formed table the numbers selected rise strictly: each once, in document order
 pub select-rows-rises : (s : Types) (lent : List ℕ) (rows : List Row) (p : LocationPath ℕ) → WellFormed s rows → Pairwise _<_ (selectRows lent rows p)
 unfolding selectRows
 select-rows-rises s lent rows p w =
     select-rises (nodesOf lent rows) p (rw (nodes-numbered lent rows) (all-rise rows (λ i q r a b. w .laterRow i q r a b .rises)))
+
+-- "On an empty table nothing is selected."
+from-nothing : (ps : List (WrittenStep ℕ (Condition ℕ))) → pathFrom holdsAt [] ps [] ≡ []
+from-nothing [] = refl
+from-nothing (p ∷ ps) = from-nothing ps
+
+pub select-nothing : (lent : List ℕ) (p : LocationPath ℕ) → selectRows lent [] p ≡ []
+unfolding selectRows select selected nodesOf
+select-nothing lent p = ap (map nodeNumber) (by (p .start))
+  where
+    by : (q : Start) → pathFrom holdsAt [] (p .steps) (startNodes q []) ≡ []
+    by rootElement = from-nothing (p .steps)

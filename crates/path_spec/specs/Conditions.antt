@@ -1,4 +1,4 @@
--- When and where refusals 2, 3, 8, 9 and 10 apply to a bundle text, and what it gives: no machine is mentioned. Assumes nothing.
+-- When and where refusals 2, 3, 8, 9 and 10 apply to a bundle text, and what it gives: no machine is mentioned.
 use mathlib.Core.List.{List, map, List·Memᴰ}
 use mathlib.Core.Option.{none}
 use mathlib.Core.Path.{_≡_}

@@ -1,4 +1,4 @@
--- The grammar of bundle texts, as a relation between a text, the place where it starts and the paths that it spells. Assumes nothing.
+-- The grammar of bundle texts, as a relation between a text, the place where it starts and the paths that it spells.
 use mathlib.Core.List.{List, [], _∷_, _++_}
 use Prim.Native.Nat.{ℕ, suc, _+_}
 use lib.Dec.{T}

@@ -17,7 +17,7 @@ pub record Choice : Type 0 where
   pub axis : WrittenAxis
   pub rest : List ℕ
 
--- "Axis names are judged byte by byte as one choice."
+-- axis names are judged byte by byte, all at once
 abbrev pub allChoices : List Choice
 allChoices = map (λ a. record { axis = a; rest = spellAxis a }) writtenAxes
 

@@ -1,4 +1,4 @@
--- The outcome of reading a bundle text under a schema: refusals 2, 3, 8, 9 and 10, or the paths. Assumes nothing.
+-- The outcome of reading a bundle text under a schema: refusals 2, 3, 8, 9 and 10, or the paths.
 use mathlib.Core.Bool.{Bool, _||_}
 use mathlib.Core.List.{List, [], _∷_, _++_, map}
 use Prim.Native.Nat.{ℕ, suc}

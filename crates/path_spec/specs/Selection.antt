@@ -1,4 +1,4 @@
--- What a path selects (source document 000, 3.1 to 3.3): as sets of nodes over the edges and their closure, and computing. Assumes nothing.
+-- What a path selects (source document 000, 3.1 to 3.3): as sets of nodes over the edges and their closure, and computing.
 use mathlib.Core.Bool.{Bool, true, false, not, _&&_, _||_}
 use mathlib.Core.List.{List, [], _∷_, map, List·Memᴰ}
 use mathlib.Core.Path.{_≡_}

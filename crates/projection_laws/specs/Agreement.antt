@@ -1,6 +1,5 @@
 -- The main lemma: two documents that have the same nodes among those whose own and ancestors' names are all needed give a path the same
 -- nodes. It is symmetric in the documents, and speaks of any start, any type and context, and any conditions with five laws.
--- Assumes nothing.
 use mathlib.Core.Bool.{Bool}
 use mathlib.Core.List.{List, [], _∷_, _++_, List·Memᴰ as In, List·Memᴰ·head as here, Memᴰ·append-left as append-left, Memᴰ·append-right as append-right}
 use mathlib.Core.Path.{_≡_, refl}

@@ -1,4 +1,4 @@
--- Steps without brackets and document 01's conditions meet the laws that the main lemma asks for. Assumes nothing.
+-- Steps without brackets and document 01's conditions meet the laws that the main lemma asks for.
 use mathlib.Core.Bool.{Bool, not}
 use mathlib.Core.List.{List, [], _∷_, List·Memᴰ·head as here}
 use mathlib.Core.Path.{refl, sym, subst}

@@ -1,4 +1,4 @@
--- The nodes of a cut table are the kept nodes of the table, and a cut table is well formed. Assumes nothing.
+-- The nodes of a cut table are the kept nodes of the table, and a cut table is well formed.
 use mathlib.Core.Bool.{Bool, true, false, cond, _&&_, _||_}
 use mathlib.Core.List.{List, [], _∷_, _++_, map, map-append, List·Memᴰ as In, List·Memᴰ·head as here, List·Memᴰ·tail as there, List·Memᴰ·append-cases as append-cases}
 use mathlib.Core.Logic.{_⊎_, inl, inr, ⊎-elim}

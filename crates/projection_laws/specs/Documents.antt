@@ -1,5 +1,4 @@
 -- Nodes of valid documents: their names against holdings, and sets that have the names of a node and of all its ancestors.
--- Assumes nothing.
 use mathlib.Core.List.{List, List·Memᴰ as In}
 use mathlib.Core.Logic.{_⊎_, inl, inr}
 use mathlib.Core.Path.{_≡_, sym, subst}

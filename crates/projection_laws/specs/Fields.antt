@@ -1,4 +1,4 @@
--- Fields of an extract, written and read: numbers in two bytes, one field, the fields of rows. Assumes nothing.
+-- Fields of an extract, written and read: numbers in two bytes, one field, the fields of rows.
 use mathlib.Core.List.{List, [], _∷_, _++_, List·Memᴰ as In}
 use mathlib.Core.Path.{_≡_, refl, _∙_}
 use Prim.Native.Nat.{ℕ, zero, suc, _+_, _/_, _%_, _<_, _≤_}

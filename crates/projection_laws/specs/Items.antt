@@ -1,4 +1,4 @@
--- A row's field and what the reader makes of it: one choice by the row's name. Assumes nothing.
+-- A row's field and what the reader makes of it: one choice by the row's name.
 use mathlib.Core.List.{List, [], _∷_, _++_}
 use mathlib.Core.Option.{some}
 use mathlib.Core.Path.{_≡_, refl}

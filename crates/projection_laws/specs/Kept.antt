@@ -1,4 +1,4 @@
--- A cut keeps exactly the rows that document 01 says, with their numbers. Assumes nothing.
+-- A cut keeps exactly the rows that document 01 says, with their numbers.
 use mathlib.Core.List.{List, List·Memᴰ as In}
 use mathlib.Core.Path.{sym, subst}
 use Prim.Native.Nat.{ℕ}

@@ -1,4 +1,4 @@
--- The types of an accepted schema meet what the main lemma asks of them. Assumes nothing.
+-- The types of an accepted schema meet what the main lemma asks of them.
 use Prim.Native.Nat.{_<_}
 use lib.ListN.{length}
 use Rattle.projection_laws.specs.Documents.{Lawful}

@@ -1,4 +1,4 @@
--- The selected nodes of a listing, and the path that each line names. Assumes nothing.
+-- The header and the lines of a listing: the selected nodes, the path that each line names, and that there is one such listing.
 use mathlib.Core.Bool.{Bool, true, false, cond}
 use mathlib.Core.List.{List, [], _∷_, _++_, map, List·Memᴰ as In, List·Memᴰ·head as here, List·Memᴰ·tail as there}
 use mathlib.Core.Logic.{_⊎_, ⊎-elim}
@@ -10,19 +10,56 @@ use lib.ListN.{length}
 use Rattle.path_laws.specs.Selection.{selected-sound, selected-complete, selected-filters}
 use Rattle.path_spec.specs.Paths.{LocationPath}
 use Rattle.path_spec.specs.Selection.{Selected, selected, select}
-use Rattle.projection_laws.specs.Numbers.{node-known}
-use Rattle.projection_spec.specs.Library.Conditions.{Chosen, FirstPath, Lines, no-lines, next-line}
-use Rattle.projection_spec.specs.Library.Listing.{listingData, isIn, selectedNodes, firstSelecting, listingLine}
+use Rattle.projection_laws.specs.Numbers.{node-known, nodes-count}
+use Rattle.projection_spec.specs.Extracts.Cut.{cut}
+use Rattle.projection_spec.specs.Inference.Needed.{needed}
+use Rattle.projection_spec.specs.Library.Conditions.{Chosen, FirstPath, Lines, no-lines, next-line, Lists, lists}
+use Rattle.projection_spec.specs.Library.Listing.{FilesRead, listingData, isIn, selectedNodes, firstSelecting, nodeLine, listingLine, header, headerOf, listed}
 use Rattle.schema_spec.specs.Schemas.{Schema}
-use Rattle.schema_spec.specs.Types.{Types}
+use Rattle.schema_spec.specs.Types.{Types, typesOf}
 use Rattle.table_spec.specs.Nodes.{Node, nodeNumber, nodesOf}
 use Rattle.table_spec.specs.Rows.{Row}
 use Rattle.table_spec.specs.Tables.{wellFormed}
-use Rattle.text_laws.specs.Lists.{any-in, in-any, filter-in, in-map, map-in}
-use Rattle.text_laws.specs.Tests.{or-cases}
+use Rattle.text_laws.specs.Calls.{IsUnique}
+use Rattle.text_laws.specs.Lists.{any-in, in-any, filter-in, filter-cong, first-split-once, in-map, map-in}
+use Rattle.text_laws.specs.Tests.{or-cases, same-test}
 use Rattle.text_spec.specs.Lists.{anyOf, gather}
 
+-- ---- what a listing says is one
+-- tests that are sound and complete for the same nodes choose alike
+chosen-once : {doc : List Node} {ps : List (LocationPath ℕ)} {ys zs : List Node} → Chosen doc ps ys → Chosen doc ps zs → ys ≡ zs
+chosen-once {doc} c d =
+    c .listed
+    ∙ (filter-cong (c .test) (d .test) doc (λ y i. same-test (c .test y) (d .test y) (implies c d y i) (implies d c y i)) ∙ sym (d .listed))
+  where
+    implies : {doc : List Node} {ps : List (LocationPath ℕ)} {ys zs : List Node} (a : Chosen doc ps ys) (b : Chosen doc ps zs) (y : Node) → In y doc → T (a .test y) → T (b .test y)
+    implies a b y i t =
+        let p = a .sound y i t in
+        b .complete y (p .0) (p .1) (p .2)
+
+first-path-once : {doc : List Node} {ps : List (LocationPath ℕ)} {y : Node} {j k : ℕ} → FirstPath doc ps y j → FirstPath doc ps y k → j ≡ k
+first-path-once {doc} {ps} {y} f g =
+    let e = first-split-once (λ p. Selected doc p y) (f .before) (g .before) (sym (f .joined) ∙ g .joined) (f .selects) (g .selects) (f .none-before) (g .none-before) in
+    f .placed ∙ (ap (λ (l : List (LocationPath ℕ)). suc (length l)) (e .0) ∙ sym (g .placed))
+
+lines-once : {s : Schema} {doc : List Node} {ps : List (LocationPath ℕ)} {ys : List Node} {l m : List ℕ} → Lines s doc ps ys l → Lines s doc ps ys m → l ≡ m
+lines-once no-lines no-lines = refl
+lines-once {s} (next-line {y = y} {rest = rest} j f x) (next-line {rest = more} k g z) =
+    let e : j ≡ k = first-path-once f g in
+    ap (λ (r : List ℕ). nodeLine s y j ++ r) (lines-once x z) ∙ ap (λ (i : ℕ). nodeLine s y i ++ more) e
+
+lists-once : {journal : List ℕ} {f : FilesRead} {out more : List ℕ} → Lists journal f out → Lists journal f more → out ≡ more
+lists-once {journal} {f} (lists {ys = ys} {lines = l} c x) (lists {ys = zs} {lines = m} d z) =
+    let s = f .schema in
+    let top : List Node → List ℕ = λ ns. header (length ns) (length (cut (needed (typesOf s) (f .paths)) (f .rows))) (length (f .rows)) in
+    let e : ys ≡ zs = chosen-once c d in
+    let k : l ≡ m = lines-once x (subst (λ (ns : List Node). Lines s (nodesOf journal (f .rows)) (f .paths) ns m) (sym e) z) in
+    ap (λ (ns : List Node). top ns ++ l) e ∙ ap (λ (t : List ℕ). top zs ++ t) k
+
 module _ (types : Types) (journal : List ℕ) (rows : List Row) (ok : T (wellFormed types rows)) (s : Schema) (ps : List (LocationPath ℕ)) where
+  abbrev files : FilesRead
+  files = record { schema = s; paths = ps; rows = rows }
+
   abbrev doc : List Node
   doc = nodesOf journal rows
 
@@ -44,7 +81,7 @@ module _ (types : Types) (journal : List ℕ) (rows : List Row) (ok : T (wellFor
   unfolding select
   selected-listed y p h = any-in (eqb (nodeNumber y)) (in-map nodeNumber (selected-complete doc p y h)) (eqb-refl (nodeNumber y))
 
-  pub chosen-nodes : Chosen doc ps (selectedNodes (listingData s ps journal rows))
+  chosen-nodes : Chosen doc ps (selectedNodes (listingData journal files))
   chosen-nodes =
       record {
         test = λ y. chosen y ps;
@@ -117,12 +154,25 @@ module _ (types : Types) (journal : List ℕ) (rows : List Row) (ok : T (wellFor
         none-before = λ p j h. f .none-before p j (selected-listed y p h);
       }
 
-  lines-of : (ys : List Node) → ((y : Node) → In y ys → In y doc × T (chosen y ps)) → Lines s doc ps ys (gather (listingLine (listingData s ps journal rows)) ys)
+  lines-of : (ys : List Node) → ((y : Node) → In y ys → In y doc × T (chosen y ps)) → Lines s doc ps ys (gather (listingLine (listingData journal files)) ys)
   unfolding listingLine
   lines-of [] h = no-lines
   lines-of (y ∷ ys) h =
       let c = h y (here refl) in
       next-line (firstSelecting 1 (nodeNumber y) (map (select doc) ps)) (first-path y (c .0) (c .1)) (lines-of ys (λ z i. h z (there i)))
 
-  pub chosen-lines : Lines s doc ps (selectedNodes (listingData s ps journal rows)) (gather (listingLine (listingData s ps journal rows)) (selectedNodes (listingData s ps journal rows)))
-  chosen-lines = lines-of (selectedNodes (listingData s ps journal rows)) (λ y i. filter-in (λ z. chosen z ps) doc i)
+  chosen-lines : Lines s doc ps (selectedNodes (listingData journal files)) (gather (listingLine (listingData journal files)) (selectedNodes (listingData journal files)))
+  chosen-lines = lines-of (selectedNodes (listingData journal files)) (λ y i. filter-in (λ z. chosen z ps) doc i)
+
+  -- what is printed where the three files are accepted
+  pub listed-is : IsUnique (Lists journal files) (listed (listingData journal files))
+  unfolding headerOf
+  listed-is = (all, λ out x. lists-once x all)
+    where
+      lines : List ℕ
+      lines = gather (listingLine (listingData journal files)) (selectedNodes (listingData journal files))
+
+      all : Lists journal files (listed (listingData journal files))
+      all =
+          subst (λ (n : ℕ). Lists journal files (header (length (selectedNodes (listingData journal files))) (length (cut (needed (typesOf s) ps) rows)) n ++ lines))
+          (sym (nodes-count journal rows)) (lists chosen-nodes chosen-lines)

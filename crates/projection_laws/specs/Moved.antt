@@ -1,4 +1,4 @@
--- Rows whose texts stand elsewhere: a well-formed table stays well formed, and its texts stay the same. Assumes nothing.
+-- Rows whose texts stand elsewhere: a well-formed table stays well formed, and its texts stay the same.
 use mathlib.Core.Bool.{not, _&&_, _||_}
 use mathlib.Core.List.{List, [], _∷_, _++_, append-assoc}
 use mathlib.Core.Path.{_≡_, refl, sym, ap, _∙_}

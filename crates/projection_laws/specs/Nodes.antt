@@ -1,5 +1,4 @@
 -- Cutting a document to a set that has a path's needed names changes nothing of what the path selects: the theorem on nodes.
--- Assumes nothing.
 use mathlib.Core.Bool.{Bool, _||_}
 use mathlib.Core.List.{List, map, List·Memᴰ as In, List·Memᴰ·head as here}
 use mathlib.Core.Logic.{_⊎_, ⊎-elim}

@@ -1,4 +1,4 @@
--- Numbers of the nodes of a well-formed table: they rise, so a node is known by its number. Assumes nothing.
+-- Numbers of the nodes of a well-formed table: they rise, so a node is known by its number.
 use mathlib.Core.List.{List, [], _∷_, _++_, List·Memᴰ as In, List·Memᴰ·head as here, List·Memᴰ·tail as there}
 use mathlib.Core.Path.{_≡_, refl, sym, ap, _∙_}
 use Prim.Native.Nat.{ℕ, suc, _<_}

@@ -1,5 +1,5 @@
 -- The rows that a later row may stand under, as the reader of an extract keeps them: the row before and those above it, each found by
--- its number. Assumes nothing.
+-- its number.
 use mathlib.Core.Bool.{false, _||_}
 use mathlib.Core.List.{List, [], _∷_, _++_, map, map-append}
 use mathlib.Core.Logic.{_⊎_, inl, inr, ⊎-elim}

@@ -1,81 +1,64 @@
--- What `listing` prints is what document 01 says: the first refused file, 18 only where all three are accepted, or the header with the
--- lengths of the three lists and a line for each selected node. Assumes nothing.
-use mathlib.Core.Bool.{Bool, true, false}
-use mathlib.Core.List.{List, _++_}
-use mathlib.Core.Path.{_≡_, refl, sym, subst}
+-- What `listing` prints is what document 01 says, and nothing else is: the first refused file, 18 only where all three are accepted, or the
+-- header with the lengths of the three lists and a line for each selected node.
+use mathlib.Core.List.{List}
+use mathlib.Core.Path.{_≡_, sym, ap, subst}
 use Prim.Native.Nat.{ℕ}
-use lib.Dec.{T, ltb, ltb→lt, nltb→le}
-use lib.ListN.{length}
+use lib.Dec.{T}
 use Rattle.journal_laws.specs.Accepted.{accepted-well-formed}
-use Rattle.journal_laws.specs.Judging.{journal-judged}
-use Rattle.journal_spec.specs.Conditions.{JournalApplies, JournalGives}
+use Rattle.journal_laws.specs.Judging.Meaning.{journal-judged-once}
 use Rattle.journal_spec.specs.Reading.{readJournal}
-use Rattle.path_laws.specs.Reading.{bundle-read}
-use Rattle.path_spec.specs.Conditions.{BundleApplies, BundleGives}
-use Rattle.path_spec.specs.Paths.{LocationPath}
 use Rattle.path_spec.specs.Reading.{readBundle}
-use Rattle.projection_spec.specs.Extracts.Cut.{cut}
-use Rattle.projection_spec.specs.Inference.Needed.{needed}
-use Rattle.projection_laws.specs.Listing.{chosen-nodes, chosen-lines}
-use Rattle.projection_laws.specs.Numbers.{nodes-count}
-use Rattle.projection_spec.specs.Library.Conditions.{SchemaTaken, BundleTaken, JournalTaken, Prints, schema-refused, bundle-refused, journal-refused, too-many-rows, lists}
-use Rattle.text_spec.specs.Cells.{tooSmall}
-use Rattle.projection_spec.specs.Library.Listing.{ListingData, listingData, judgeFiles, selectedNodes, listingLine, header, headerOf, printed, listing}
-use Rattle.schema_reading_laws.specs.Reading.{schema-read}
-use Rattle.schema_spec.specs.Conditions.{SchemaApplies, SchemaGives}
+use Rattle.projection_laws.specs.Calls.{schema-is, bundle-is, journal-is, by-room}
+use Rattle.projection_laws.specs.Listing.{listed-is}
+use Rattle.projection_spec.specs.Library.Conditions.{FilesJudged, Lists, Prints, prints-refusal, prints-lists}
+use Rattle.projection_spec.specs.Library.Listing.{FilesRead, judgeFiles, listed, listingData, refusedLine, printed, listing}
 use Rattle.schema_spec.specs.Reading.{readSchema}
-use Rattle.schema_spec.specs.Schemas.{Schema}
 use Rattle.schema_spec.specs.Types.{typesOf}
-use Rattle.table_spec.specs.Rows.{Row}
 use Rattle.table_spec.specs.Tables.{wellFormed, wellFormedWith, textInside}
-use Rattle.text_laws.specs.Tests.{and-cases, not-intro, failed, passed}
+use Rattle.text_laws.specs.Calls.{IsUnique, IsOutcome, turn-is}
+use Rattle.text_laws.specs.Tests.{never, and-cases}
+use Rattle.text_spec.specs.Calls.{goes-on, answered}
 use Rattle.text_spec.specs.Limits.{listingJournalBytes, listingRows}
-use Rattle.text_spec.specs.Lists.{allOf, gather}
-use Rattle.text_spec.specs.Refusals.{Outcome, accepted, refused, judged, andThen, at, given, tooFewCells, firstOf, Judged, turned-back, taken}
+use Rattle.text_spec.specs.Lists.{allOf}
+use Rattle.text_spec.specs.Refusals.{Outcome, accepted, refused}
 
 module _ (schema bundle journal : List ℕ) where
-  -- the text that is printed for an outcome of the three files
-  abbrev Right : Outcome ListingData → Type 0
-  Right o = Prints schema bundle journal (printed o)
+  files-are : IsOutcome (FilesJudged schema bundle journal) (judgeFiles schema bundle journal)
+  unfolding judgeFiles
+  files-are =
+      turn-is (readSchema schema) _ (schema-is schema) (λ s x.
+      turn-is (readBundle s bundle) _ (bundle-is s bundle) (λ ps y.
+      turn-is (readJournal listingJournalBytes s journal) _ (journal-is listingJournalBytes s journal) (λ rows w.
+      by-room listingRows rows _)))
 
-  -- all three are accepted: too many rows, or the listing
-  from-rows : (s : Schema) (ps : List (LocationPath ℕ)) (rows : List Row) → SchemaTaken schema s → BundleTaken s bundle ps → JournalTaken listingJournalBytes s journal rows
-      → readJournal listingJournalBytes s journal ≡ accepted rows → Right (judged (given (tooSmall listingRows rows) (at tooFewCells 0)) (listingData s ps journal rows))
-  unfolding firstOf headerOf wellFormedWith
-  from-rows s ps rows st bt jt e = pick (tooSmall listingRows rows) refl
+  -- the rows of an accepted journal are a well-formed table
+  files-well-formed : {f : FilesRead} → FilesJudged schema bundle journal (accepted f) → T (wellFormed (typesOf (f .schema)) (f .rows))
+  unfolding wellFormedWith
+  files-well-formed (goes-on {a = s} x (goes-on y (goes-on {a = rows} w (answered m)))) =
+      and-cases (wellFormed (typesOf s) rows) (allOf (textInside journal) rows)
+      (accepted-well-formed listingJournalBytes s journal rows (sym (journal-judged-once listingJournalBytes s journal w))) .0
+
+  printed-is : (o : Outcome FilesRead) → IsOutcome (FilesJudged schema bundle journal) o → IsUnique (Prints schema bundle journal) (printed journal o)
+  printed-is (refused f) (j, one) = (prints-refusal j, only)
     where
-      l : ListingData
-      l = listingData s ps journal rows
+      only : (out : List ℕ) → Prints schema bundle journal out → out ≡ refusedLine f
+      only out (prints-refusal {f = g} i) =
+          let e = one (refused g) i in
+          ap refusedLine (cc)
+      only out (prints-lists {f = g} i x) = let e = one (accepted g) i in never (cc)
+  printed-is (accepted f) (j, one) = (prints-lists j (is .0), only)
+    where
+      is : IsUnique (Lists journal f) (listed (listingData journal f))
+      is = listed-is (typesOf (f .schema)) journal (f .rows) (files-well-formed j) (f .schema) (f .paths)
 
-      ok : T (wellFormed (typesOf s) rows)
-      ok = and-cases (wellFormed (typesOf s) rows) (allOf (textInside journal) rows) (accepted-well-formed listingJournalBytes s journal rows e) .0
-
-      pick : (b : Bool) → tooSmall listingRows rows ≡ b → Right (judged (given b (at tooFewCells 0)) l)
-      pick true q = too-many-rows st bt jt (ltb→lt listingRows (length rows) (passed q))
-      pick false q =
-          subst (λ (n : ℕ). Prints schema bundle journal (header (length (selectedNodes l)) (length (cut (needed (typesOf s) ps) rows)) n ++ gather (listingLine l) (selectedNodes l)))
-          (sym (nodes-count journal rows))
-          (lists st bt jt (nltb→le listingRows (length rows) (not-intro (ltb listingRows (length rows)) (failed q))) (chosen-nodes (typesOf s) journal rows ok s ps)
-          (chosen-lines (typesOf s) journal rows ok s ps))
-
-  from-journal : (s : Schema) (ps : List (LocationPath ℕ)) → SchemaTaken schema s → BundleTaken s bundle ps → (o : Outcome (List Row))
-      → readJournal listingJournalBytes s journal ≡ o → Judged (JournalApplies listingJournalBytes s journal) (JournalGives s journal) o
-      → Right (andThen o (λ rows. judged (given (tooSmall listingRows rows) (at tooFewCells 0)) (listingData s ps journal rows)))
-  from-journal s ps st bt (refused f) e (turned-back x) = journal-refused st bt x
-  from-journal s ps st bt (accepted rows) e (taken n g) = from-rows s ps rows st bt (taken n g) e
-
-  from-bundle : (s : Schema) → SchemaTaken schema s → (o : Outcome (List (LocationPath ℕ))) → Judged (BundleApplies s bundle) (BundleGives s bundle) o
-      → Right (andThen o (λ ps. andThen (readJournal listingJournalBytes s journal) (λ rows. judged (given (tooSmall listingRows rows) (at tooFewCells 0)) (listingData s ps journal rows))))
-  from-bundle s st (refused f) (turned-back x) = bundle-refused st x
-  from-bundle s st (accepted ps) (taken n g) =
-      from-journal s ps st (taken n g) (readJournal listingJournalBytes s journal) refl (journal-judged listingJournalBytes s journal)
-
-  from-schema : (o : Outcome Schema) → Judged (SchemaApplies schema) (SchemaGives schema) o
-      → Right (andThen o (λ s. andThen (readBundle s bundle) (λ ps. andThen (readJournal listingJournalBytes s journal) (λ rows. judged (given (tooSmall listingRows rows) (at tooFewCells 0)) (listingData s ps journal rows)))))
-  from-schema (refused f) (turned-back x) = schema-refused x
-  from-schema (accepted s) (taken n g) = from-bundle s (taken n g) (readBundle s bundle) (bundle-read s bundle)
+      only : (out : List ℕ) → Prints schema bundle journal out → out ≡ listed (listingData journal f)
+      only out (prints-refusal {f = g} i) = let e = one (refused g) i in never (cc)
+      only out (prints-lists {f = g} i x) =
+          let e = one (accepted g) i in
+          let same : g ≡ f = cc in
+          is .1 out (subst (λ (h : FilesRead). Lists journal h out) same x)
 
   -- THE THEOREM
-  pub listing-prints : Prints schema bundle journal (listing schema bundle journal)
-  unfolding listing judgeFiles
-  listing-prints = from-schema (readSchema schema) (schema-read schema)
+  pub listing-is : IsUnique (Prints schema bundle journal) (listing schema bundle journal)
+  unfolding listing
+  listing-is = printed-is (judgeFiles schema bundle journal) files-are

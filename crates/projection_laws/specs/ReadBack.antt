@@ -1,4 +1,4 @@
--- An extract read and written returns its bytes. Assumes nothing.
+-- An extract read and written returns its bytes.
 use mathlib.Core.Bool.{Bool, true, false, cond}
 use mathlib.Core.List.{List, [], _∷_, _++_, append-assoc, append-nil, List·Memᴰ as In, List·Memᴰ·head as here, List·Memᴰ·tail as there, Memᴰ·append-left as append-left, Memᴰ·append-right as append-right}
 use mathlib.Core.Option.{Option, none, some}

@@ -1,5 +1,6 @@
--- Refusal 1 on records: the test passes exactly the records that some accepted text gives. Assumes nothing.
-use mathlib.Core.List.{List}
+-- Refusal 1 on records: they hold something exactly if some accepted text gives them, and then what that text gives.
+use mathlib.Core.List.{List, []}
+use mathlib.Core.Option.{none, some}
 use mathlib.Core.Path.{_≡_, refl, sym, ap, subst, _∙_}
 use Prim.Native.Nat.{ℕ, _≤_}
 use native.Mathlib.Omega.{arith}
@@ -9,21 +10,25 @@ use Rattle.path_laws.specs.Reading.{bundle-read, bundle-read-once}
 use Rattle.path_spec.specs.Conditions.{BundleApplies, BundleGives}
 use Rattle.path_spec.specs.Paths.{LocationPath}
 use Rattle.path_spec.specs.Reading.{bundleRefusals, readBundle, isBundleRecord}
-use Rattle.projection_spec.specs.Library.Conditions.{BundleTaken, SchemaHanded, of-schema, BundleHanded, of-bundle}
-use Rattle.projection_spec.specs.Library.Records.{TextRecord, textIn, recordOf, isRecord, passesSchema, passesBundle}
+use Rattle.projection_laws.specs.Handed.{chosen-if}
+use Rattle.projection_spec.specs.Library.Conditions.{SchemaTaken, BundleTaken, SchemaRecord, of-schema, BundleRecord, of-bundle}
+use Rattle.projection_spec.specs.Library.Records.{TextRecord, textIn, recordOf, isRecord, passesSchema, passesBundle, schemaHeld, bundleHeld}
 use Rattle.schema_laws.specs.Accepted.{accepted-spelt}
-use Rattle.schema_laws.specs.Records.{record-producible, producible-record, record-accepted}
-use Rattle.schema_spec.specs.Records.{schemaIn, isSchemaRecord}
+use Rattle.schema_laws.specs.Records.{normal-accepted, producible-record, record-accepted}
+use Rattle.schema_reading_laws.specs.Reading.{schema-read, schema-read-once}
+use Rattle.schema_spec.specs.Conditions.{SchemaApplies, SchemaGives}
+use Rattle.schema_spec.specs.Reading.{readSchema}
+use Rattle.schema_spec.specs.Records.{normal, schemaIn, producible, isSchemaRecord}
 use Rattle.schema_spec.specs.Schemas.{Schema}
 use Rattle.text_laws.specs.Lists.{append-empty, bytes-equal, bytes-same}
 use Rattle.text_laws.specs.Refusals.{judged-accepted}
-use Rattle.text_laws.specs.Tests.{and-intro, and-cases}
+use Rattle.text_laws.specs.Tests.{true-of, and-intro, and-cases, cond-yes}
 use Rattle.text_laws.specs.Texts.{length-within}
 use Rattle.text_laws.specs.Cells.{padded-length, padded-take}
 use Rattle.text_spec.specs.Cells.{padded}
 use Rattle.text_spec.specs.Limits.{maxSchemaBytes, maxBundleBytes}
 use Rattle.text_spec.specs.Lists.{sameBytes}
-use Rattle.text_spec.specs.Refusals.{Outcome, accepted, refused, isAccepted, Judged}
+use Rattle.text_spec.specs.Refusals.{Outcome, accepted, refused, isAccepted, resultOr, Judged}
 use Rattle.text_spec.specs.Texts.{lengthRefusals}
 
 -- ---- a record is its text in cells
@@ -48,29 +53,41 @@ record-is limit r t =
 record-length : (w : List ℕ) → T (isSchemaRecord w) → length w ≤ maxSchemaBytes
 record-length w t = length-within maxSchemaBytes w (accepted-spelt w (schemaIn w) (record-accepted w t) .right-length)
 
-pub schema-handed : (r : TextRecord) → T (passesSchema r) → SchemaHanded r
-unfolding passesSchema
-schema-handed r t =
-    let c = and-cases (isRecord maxSchemaBytes r) (isSchemaRecord (textIn r)) t in
-    subst SchemaHanded (sym (record-is maxSchemaBytes r (c .0))) (of-schema (textIn r) (record-producible (textIn r) (c .1)))
+schema-taken : (w : List ℕ) (s : Schema) → readSchema w ≡ accepted s → SchemaTaken w s
+schema-taken w s e = subst (Judged (SchemaApplies w) (SchemaGives w)) e (schema-read w)
 
-pub handed-schema : {r : TextRecord} → SchemaHanded r → T (passesSchema r)
-unfolding passesSchema
-handed-schema (of-schema w p) =
-    let t = producible-record p in
-    let h = record-length w t in
-    and-intro (isRecord maxSchemaBytes (recordOf maxSchemaBytes w)) (isSchemaRecord (textIn (recordOf maxSchemaBytes w))) (text-record maxSchemaBytes w h)
-    (subst (λ (v : List ℕ). T (isSchemaRecord v)) (sym (record-text maxSchemaBytes w h)) t)
+pub schema-handed : (r : TextRecord) {s : Schema} → schemaHeld r ≡ some s → SchemaRecord r s
+unfolding schemaHeld passesSchema isSchemaRecord
+schema-handed r {s} e =
+    let h = chosen-if (passesSchema r) (some (schemaIn (textIn r))) e in
+    let c = and-cases (isRecord maxSchemaBytes r) (isSchemaRecord (textIn r)) (h .0) in
+    let held : schemaIn (textIn r) ≡ s = cc in
+    let own : normal (textIn r) ≡ textIn r = bytes-equal (normal (textIn r)) (textIn r) (and-cases (isAccepted (readSchema (textIn r))) (sameBytes (normal (textIn r)) (textIn r)) (c .1) .1) in
+    subst (λ (q : TextRecord). SchemaRecord q s) (ap (recordOf maxSchemaBytes) own ∙ sym (record-is maxSchemaBytes r (c .0)))
+    (of-schema (textIn r) (schema-taken (textIn r) s (record-accepted (textIn r) (c .1) ∙ ap (λ (x : Schema). accepted x) held)))
+
+pub handed-schema : {r : TextRecord} {s : Schema} → SchemaRecord r s → schemaHeld r ≡ some s
+unfolding schemaHeld passesSchema schemaIn
+handed-schema (of-schema {s = s} text st) =
+    let e : readSchema text ≡ accepted s = sym (schema-read-once text st) in
+    let t = producible-record (producible text e) in
+    let h = record-length (normal text) t in
+    let own = record-text maxSchemaBytes (normal text) h in
+    cond-yes (some (schemaIn (textIn (recordOf maxSchemaBytes (normal text))))) none
+    (true-of (passesSchema (recordOf maxSchemaBytes (normal text)))
+    (and-intro (isRecord maxSchemaBytes (recordOf maxSchemaBytes (normal text))) (isSchemaRecord (textIn (recordOf maxSchemaBytes (normal text)))) (text-record maxSchemaBytes (normal text) h)
+    (subst (λ (v : List ℕ). T (isSchemaRecord v)) (sym own) t)))
+    ∙ ap (λ (v : List ℕ). some (schemaIn v)) own ∙ ap (λ (o : Outcome Schema). some (resultOr [] o)) (normal-accepted text s e)
 
 -- ---- bundles, under a schema
 module _ (s : Schema) where
-  accepted-bundle : (w : List ℕ) → T (isBundleRecord s w) → (ps : List (LocationPath ℕ)) × (readBundle s w ≡ accepted ps)
+  bundle-accepted : (w : List ℕ) → T (isBundleRecord s w) → readBundle s w ≡ accepted (resultOr [] (readBundle s w))
   unfolding isBundleRecord
-  accepted-bundle w t = pick (readBundle s w) refl t
+  bundle-accepted w t = pick (readBundle s w) t
     where
-      pick : (o : Outcome (List (LocationPath ℕ))) → readBundle s w ≡ o → T (isAccepted o) → (ps : List (LocationPath ℕ)) × (readBundle s w ≡ accepted ps)
-      pick (accepted ps) e u = (ps, e)
-      pick (refused f) e u = absurd u
+      pick : (o : Outcome (List (LocationPath ℕ))) → T (isAccepted o) → o ≡ accepted (resultOr [] o)
+      pick (accepted ps) u = refl
+      pick (refused f) u = absurd u
 
   bundle-length : (w : List ℕ) (ps : List (LocationPath ℕ)) → readBundle s w ≡ accepted ps → length w ≤ maxBundleBytes
   unfolding readBundle bundleRefusals
@@ -79,17 +96,23 @@ module _ (s : Schema) where
   bundle-taken : (w : List ℕ) (ps : List (LocationPath ℕ)) → readBundle s w ≡ accepted ps → BundleTaken s w ps
   bundle-taken w ps e = subst (Judged (BundleApplies s w) (BundleGives s w)) e (bundle-read s w)
 
-  pub bundle-handed : (r : TextRecord) → T (passesBundle s r) → BundleHanded s r
-  unfolding passesBundle
-  bundle-handed r t =
-      let c = and-cases (isRecord maxBundleBytes r) (isBundleRecord s (textIn r)) t in
-      let a = accepted-bundle (textIn r) (c .1) in
-      subst (BundleHanded s) (sym (record-is maxBundleBytes r (c .0))) (of-bundle (textIn r) (bundle-taken (textIn r) (a .0) (a .1)))
+  pub bundle-handed : (r : TextRecord) {ps : List (LocationPath ℕ)} → bundleHeld s r ≡ some ps → BundleRecord s r ps
+  unfolding bundleHeld passesBundle
+  bundle-handed r {ps} e =
+      let h = chosen-if (passesBundle s r) (some (resultOr [] (readBundle s (textIn r)))) e in
+      let c = and-cases (isRecord maxBundleBytes r) (isBundleRecord s (textIn r)) (h .0) in
+      let held : resultOr [] (readBundle s (textIn r)) ≡ ps = cc in
+      subst (λ (q : TextRecord). BundleRecord s q ps) (sym (record-is maxBundleBytes r (c .0)))
+      (of-bundle (textIn r) (bundle-taken (textIn r) ps (bundle-accepted (textIn r) (c .1) ∙ ap (λ (x : List (LocationPath ℕ)). accepted x) held)))
 
-  pub handed-bundle : {r : TextRecord} → BundleHanded s r → T (passesBundle s r)
-  unfolding passesBundle isBundleRecord
+  pub handed-bundle : {r : TextRecord} {ps : List (LocationPath ℕ)} → BundleRecord s r ps → bundleHeld s r ≡ some ps
+  unfolding bundleHeld passesBundle isBundleRecord
   handed-bundle (of-bundle {ps = ps} w j) =
       let e : readBundle s w ≡ accepted ps = sym (bundle-read-once s w j) in
       let h : length w ≤ maxBundleBytes = bundle-length w ps e in
-      and-intro (isRecord maxBundleBytes (recordOf maxBundleBytes w)) (isBundleRecord s (textIn (recordOf maxBundleBytes w))) (text-record maxBundleBytes w h)
-      (subst (λ (v : List ℕ). T (isAccepted (readBundle s v))) (sym (record-text maxBundleBytes w h)) (subst (λ (o : Outcome (List (LocationPath ℕ))). T (isAccepted o)) (sym e) tt))
+      let own = record-text maxBundleBytes w h in
+      cond-yes (some (resultOr [] (readBundle s (textIn (recordOf maxBundleBytes w))))) none
+      (true-of (passesBundle s (recordOf maxBundleBytes w))
+      (and-intro (isRecord maxBundleBytes (recordOf maxBundleBytes w)) (isBundleRecord s (textIn (recordOf maxBundleBytes w))) (text-record maxBundleBytes w h)
+      (subst (λ (v : List ℕ). T (isAccepted (readBundle s v))) (sym own) (subst (λ (o : Outcome (List (LocationPath ℕ))). T (isAccepted o)) (sym e) tt))))
+      ∙ ap (λ (v : List ℕ). some (resultOr [] (readBundle s v))) own ∙ ap (λ (o : Outcome (List (LocationPath ℕ))). some (resultOr [] o)) e

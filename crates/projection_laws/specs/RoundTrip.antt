@@ -1,4 +1,4 @@
--- An extract written and read returns its rows but for text starts; one read and written returns its bytes. Assumes nothing.
+-- An extract written and read returns its rows but for text starts; one read and written returns its bytes.
 use mathlib.Core.Bool.{Bool, true, false, not}
 use mathlib.Core.List.{List, [], _∷_, _++_}
 use mathlib.Core.Logic.{_⊎_, inl, inr, ⊎-elim}
@@ -8,16 +8,17 @@ use Prim.Native.Nat.{ℕ, _≤_}
 use native.Mathlib.Omega.{arith}
 use lib.Dec.{T}
 use lib.ListN.{length, getElem?}
-use Rattle.projection_spec.specs.Extracts.Conditions.{IsExtract, ExtractApplies, length-2, extract-17, SameTables, no-rows, next-row, ExtractGives, gives}
+use Rattle.projection_spec.specs.Extracts.Conditions.{IsExtract, ExtractApplies, length-2, extract-17, SameTables, ExtractGives, gives}
 use Rattle.projection_spec.specs.Extracts.Fields.{countTag, twoBytes, field, fieldOf, writeExtract, extractRows}
 use Rattle.projection_spec.specs.Extracts.Reading.{itemsOf, rowsOfItems, readExtract, isTable, rowsOr}
 use Rattle.projection_laws.specs.Fields.{AreBytes}
 use Rattle.projection_laws.specs.Moved.{same-rows, same-all-inside, root-moved}
 use Rattle.projection_laws.specs.ReadBack.{fields-back}
-use Rattle.projection_laws.specs.TextNames.{TextNames}
+use Rattle.projection_laws.specs.TextNames.{text-names}
 use Rattle.projection_laws.specs.Written.{written-long, table-items}
-use Rattle.schema_spec.specs.Types.{Types}
-use Rattle.table_laws.specs.Fits.{rooted, cellsFit, all-cells}
+use Rattle.schema_spec.specs.Schemas.{Schema}
+use Rattle.schema_spec.specs.Types.{Types, typesOf}
+use Rattle.table_laws.specs.Fits.{rooted, all-cells}
 use Rattle.table_laws.specs.Places.{none-some}
 use Rattle.table_laws.specs.WellFormed.{well-formed-beside}
 use Rattle.table_spec.specs.Rows.{Row}
@@ -53,11 +54,14 @@ module _ (s : Types) (lent : List ℕ) (rows : List Row) (t : T (wellFormedWith 
       and-intro (wellFormed s (extractRows lent rows)) (allOf (textInside (writeExtract lent rows)) (extractRows lent rows)) (root-moved s (fieldOf lent rows) 0 rows (parts .0))
       (same-all-inside extract-same-tables (all-cells s rows (parts .0)) (parts .1))
 
-  -- "Writing a table and reading it returns the rows but for text starts": each text starts at its bytes in the extract.
-  pub write-read : TextNames s → readExtract s (writeExtract lent rows) ≡ accepted (extractRows lent rows)
-  unfolding writeExtract
-  write-read law =
-      accept s (writeExtract lent rows) (extractRows lent rows) (omega (arith, written-long lent rows)) (table-items s law lent rows (parts .0) (parts .1)) extract-well-formed
+-- "Writing a table and reading it returns the rows but for text starts": each text starts at its bytes in the extract.
+pub write-read : (s : Schema) (lent : List ℕ) (rows : List Row) → T (wellFormedWith (typesOf s) lent rows)
+    → readExtract (typesOf s) (writeExtract lent rows) ≡ accepted (extractRows lent rows)
+unfolding writeExtract
+write-read s lent rows t =
+    let c = parts (typesOf s) lent rows t in
+    accept (typesOf s) (writeExtract lent rows) (extractRows lent rows) (omega (arith, written-long lent rows))
+    (table-items (typesOf s) (text-names s) lent rows (c .0) (c .1)) (extract-well-formed (typesOf s) lent rows t)
 
 -- what was accepted was read as a table
 accepted-table : (s : Types) (bs : List ℕ) (rows : List Row) → readExtract s bs ≡ accepted rows
@@ -107,19 +111,19 @@ outcome s b bs = pick (isTable s (b ∷ bs) rows)
     pick false = inl refl
 
 -- what is the writing of a table is read as that table
-written-read : (s : Types) → TextNames s → (bs : List ℕ) (x : IsExtract s bs) → readExtract s bs ≡ accepted (extractRows (x .lent) (x .rows))
-written-read s law bs x =
-    ap (readExtract s) (x .written) ∙ write-read s (x .lent) (x .rows) (well-formed-beside s (x .lent) (x .rows) .1 (x .wellFormed)) law
+written-read : (s : Schema) (bs : List ℕ) (x : IsExtract (typesOf s) bs) → readExtract (typesOf s) bs ≡ accepted (extractRows (x .lent) (x .rows))
+written-read s bs x =
+    ap (readExtract (typesOf s)) (x .written) ∙ write-read s (x .lent) (x .rows) (well-formed-beside (typesOf s) (x .lent) (x .rows) .1 (x .wellFormed))
 
 -- The reader turns bytes back by the first refusal that applies, and else gives the rows of the table that they are the writing of.
-pub extract-judged : (s : Types) → TextNames s → (bs : List ℕ) → AreBytes bs → Judged (ExtractApplies s bs) (ExtractGives s bs) (readExtract s bs)
+pub extract-judged : (s : Schema) (bs : List ℕ) → AreBytes bs → Judged (ExtractApplies (typesOf s) bs) (ExtractGives (typesOf s) bs) (readExtract (typesOf s) bs)
 unfolding readExtract firstOf itemsOf
-extract-judged s law [] small = turned-back (record { applies = length-2 refl; lowest = low; earliest = λ j a. omega arith })
+extract-judged s [] small = turned-back (record { applies = length-2 refl; lowest = low; earliest = λ j a. omega arith })
   where
-    low : (q : Reason) (j : ℕ) → ExtractApplies s [] q j → 2 ≤ reasonNumber q
+    low : (q : Reason) (j : ℕ) → ExtractApplies (typesOf s) [] q j → 2 ≤ reasonNumber q
     low q j (length-2 e) = omega arith
     low q j (extract-17 n) = omega arith
-extract-judged s law (b ∷ bs) small = pick (outcome s b bs)
+extract-judged s (b ∷ bs) small = pick (outcome (typesOf s) b bs)
   where
     all : List ℕ
     all = b ∷ bs
@@ -127,42 +131,42 @@ extract-judged s law (b ∷ bs) small = pick (outcome s b bs)
     full : all ≡ [] → ⊥
     full e = omega (arith, ap length e)
 
-    low : (q : Reason) (j : ℕ) → ExtractApplies s all q j → 17 ≤ reasonNumber q
+    low : (q : Reason) (j : ℕ) → ExtractApplies (typesOf s) all q j → 17 ≤ reasonNumber q
     low q j (length-2 e) = absurd (full e)
     low q j (extract-17 n) = omega arith
 
-    no-extract : readExtract s all ≡ refused (at badExtract 0) → IsExtract s all → ⊥
+    no-extract : readExtract (typesOf s) all ≡ refused (at badExtract 0) → IsExtract (typesOf s) all → ⊥
     no-extract e x =
-        let read = written-read s law all x in
+        let read = written-read s all x in
         let z : _≡_ {A = ℕ} 0 1 = cc (e, read) in
         omega arith
 
-    extract : (rows : List Row) → readExtract s all ≡ accepted rows → IsExtract s all
+    extract : (rows : List Row) → readExtract (typesOf s) all ≡ accepted rows → IsExtract (typesOf s) all
     extract rows e =
-        let table = accepted-table s all rows e .1 in
-        record { lent = all; rows = rows; wellFormed = well-formed-beside s all rows .0 table; written = sym (read-write s all rows small e) }
+        let table = accepted-table (typesOf s) all rows e .1 in
+        record { lent = all; rows = rows; wellFormed = well-formed-beside (typesOf s) all rows .0 table; written = sym (read-write (typesOf s) all rows small e) }
 
-    free : IsExtract s all → (q : Reason) (j : ℕ) → ExtractApplies s all q j → ⊥
+    free : IsExtract (typesOf s) all → (q : Reason) (j : ℕ) → ExtractApplies (typesOf s) all q j → ⊥
     free x q j (length-2 e) = full e
     free x q j (extract-17 n) = n x
 
-    pick : (readExtract s all ≡ refused (at badExtract 0)) ⊎ ((rows : List Row) × (readExtract s all ≡ accepted rows))
-        → Judged (ExtractApplies s all) (ExtractGives s all) (readExtract s all)
+    pick : (readExtract (typesOf s) all ≡ refused (at badExtract 0)) ⊎ ((rows : List Row) × (readExtract (typesOf s) all ≡ accepted rows))
+        → Judged (ExtractApplies (typesOf s) all) (ExtractGives (typesOf s) all) (readExtract (typesOf s) all)
     pick (inl e) =
-        subst (Judged (ExtractApplies s all) (ExtractGives s all)) (sym e)
+        subst (Judged (ExtractApplies (typesOf s) all) (ExtractGives (typesOf s) all)) (sym e)
         (turned-back (record { applies = extract-17 (no-extract e); lowest = low; earliest = λ j a. omega arith }))
     pick (inr c) =
         let x = extract (c .0) (c .1) in
-        let e : readExtract s all ≡ accepted (extractRows all (c .0)) = written-read s law all x in
-        subst (Judged (ExtractApplies s all) (ExtractGives s all)) (sym e) (taken (free x) (gives x))
+        let e : readExtract (typesOf s) all ≡ accepted (extractRows all (c .0)) = written-read s all x in
+        subst (Judged (ExtractApplies (typesOf s) all) (ExtractGives (typesOf s) all)) (sym e) (taken (free x) (gives x))
 
 -- It is the only outcome that does so.
-pub extract-judged-once : (s : Types) → TextNames s → (bs : List ℕ) → AreBytes bs → {o : Outcome (List Row)} → Judged (ExtractApplies s bs) (ExtractGives s bs) o
-    → o ≡ readExtract s bs
-extract-judged-once s law bs small j = judged-once (ExtractApplies s bs) (ExtractGives s bs) one-table j (extract-judged s law bs small)
+pub extract-judged-once : (s : Schema) (bs : List ℕ) → AreBytes bs → {o : Outcome (List Row)} → Judged (ExtractApplies (typesOf s) bs) (ExtractGives (typesOf s) bs) o
+    → o ≡ readExtract (typesOf s) bs
+extract-judged-once s bs small j = judged-once (ExtractApplies (typesOf s) bs) (ExtractGives (typesOf s) bs) one-table j (extract-judged s bs small)
   where
-    one-table : (q r : List Row) → ExtractGives s bs q → ExtractGives s bs r → q ≡ r
+    one-table : (q r : List Row) → ExtractGives (typesOf s) bs q → ExtractGives (typesOf s) bs r → q ≡ r
     one-table q r (gives x) (gives y) =
-        let e = written-read s law bs x in
-        let f = written-read s law bs y in
+        let e = written-read s bs x in
+        let f = written-read s bs y in
         cc

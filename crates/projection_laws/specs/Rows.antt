@@ -1,4 +1,4 @@
--- The nodes of a table without their texts, rows whose parents stand before them, and places in a filtered list. Assumes nothing.
+-- The nodes of a table without their texts, rows whose parents stand before them, and places in a filtered list.
 use mathlib.Core.Bool.{Bool, true, false, cond, _&&_}
 use mathlib.Core.List.{List, [], _∷_, _++_, map, map-append, List·Memᴰ as In, List·Memᴰ·head as here, List·Memᴰ·tail as there, List·Memᴰ·append-cases as append-cases}
 use mathlib.Core.Logic.{_⊎_, ⊎-elim}

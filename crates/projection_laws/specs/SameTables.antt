@@ -1,4 +1,4 @@
--- Tables that are the same but for text starts have the same nodes, so an extract has the nodes of the table it was written from. Assumes nothing.
+-- Tables that are the same but for text starts have the same nodes, so an extract has the nodes of the table it was written from.
 use mathlib.Core.List.{List, [], _∷_, _++_}
 use mathlib.Core.Path.{_≡_, refl, sym, ap, _∙_}
 use Prim.Native.Nat.{ℕ}
@@ -9,12 +9,11 @@ use Rattle.projection_spec.specs.Extracts.Conditions.{SameButStarts, SameTables
 use Rattle.projection_spec.specs.Extracts.Fields.{writeExtract, extractRows}
 use Rattle.projection_spec.specs.Extracts.Reading.{readExtract}
 use Rattle.projection_laws.specs.RoundTrip.{extract-same-tables, write-read}
-use Rattle.projection_laws.specs.TextNames.{TextNames}
-use Rattle.schema_spec.specs.Types.{Types}
+use Rattle.schema_spec.specs.Schemas.{Schema}
+use Rattle.schema_spec.specs.Types.{Types, typesOf}
 use Rattle.table_spec.specs.Nodes.{Node, nodeAt, nodesFrom, nodesOf}
 use Rattle.table_spec.specs.Rows.{Row, textOf}
 use Rattle.table_spec.specs.Tables.{wellFormedWith}
-use Rattle.text_spec.specs.Refusals.{accepted}
 
 same-node : (lent lent′ : List ℕ) {q r : Row} (before : List Node) → SameButStarts q r → textOf lent q ≡ textOf lent′ r
     → nodeAt lent before q ≡ nodeAt lent′ before r
@@ -37,14 +36,14 @@ pub extract-nodes : (s : Types) (lent : List ℕ) (rows : List Row) → T (wellF
 extract-nodes s lent rows t = sym (same-nodes (extract-same-tables s lent rows t))
 
 -- two tables with the same extract have the same nodes, so every path selects the same in both
-module _ (s : Types) (law : TextNames s) (lent lent′ : List ℕ) (rows rows′ : List Row) (t : T (wellFormedWith s lent rows)) (t′ : T (wellFormedWith s lent′ rows′))
+module _ (s : Schema) (lent lent′ : List ℕ) (rows rows′ : List Row) (t : T (wellFormedWith (typesOf s) lent rows)) (t′ : T (wellFormedWith (typesOf s) lent′ rows′))
     (same : writeExtract lent rows ≡ writeExtract lent′ rows′) where
   pub one-extract-nodes : nodesOf lent rows ≡ nodesOf lent′ rows′
   one-extract-nodes =
-      let e = write-read s lent rows t law in
-      let f = ap (readExtract s) same ∙ write-read s lent′ rows′ t′ law in
+      let e = write-read s lent rows t in
+      let f = ap (readExtract (typesOf s)) same ∙ write-read s lent′ rows′ t′ in
       let one : extractRows lent rows ≡ extractRows lent′ rows′ = cc in
-      sym (extract-nodes s lent rows t) ∙ ap (nodesOf (writeExtract lent rows)) one ∙ ap (λ (bs : List ℕ). nodesOf bs (extractRows lent′ rows′)) same ∙ extract-nodes s lent′ rows′ t′
+      sym (extract-nodes (typesOf s) lent rows t) ∙ ap (nodesOf (writeExtract lent rows)) one ∙ ap (λ (bs : List ℕ). nodesOf bs (extractRows lent′ rows′)) same ∙ extract-nodes (typesOf s) lent′ rows′ t′
 
   pub one-extract-selects : (p : LocationPath ℕ) → selectRows lent rows p ≡ selectRows lent′ rows′ p
   unfolding selectRows

@@ -1,5 +1,5 @@
 -- Types and contexts are sound for every axis (source document 000, lemma 4.2): a node that a step reaches has its name in the type,
--- and the names of it and of all its ancestors in the context. Assumes nothing.
+-- and the names of it and of all its ancestors in the context.
 use mathlib.Core.Bool.{Bool, _||_}
 use mathlib.Core.List.{List·Memᴰ as In, Memᴰ·append-left as append-left, Memᴰ·append-right as append-right}
 use mathlib.Core.Logic.{_⊎_, inl, inr, ⊎-elim}

@@ -1,5 +1,5 @@
 -- Demand 3 on tables: a path of a bundle selects the same nodes on a well-formed table and on the table cut to any set that has the
--- bundle's needed names; and tables that are the same but for text starts have the same nodes. Assumes nothing.
+-- bundle's needed names; and tables that are the same but for text starts have the same nodes.
 use mathlib.Core.List.{List, List·Memᴰ as In}
 use mathlib.Core.Path.{_≡_, sym, ap, _∙_}
 use Prim.Native.Nat.{ℕ}

@@ -1,4 +1,4 @@
--- What reading an extract needs of a schema's names, and that every schema has it. Assumes nothing.
+-- What reading an extract needs of a schema's names, and that every schema has it.
 use mathlib.Core.Path.{_≡_, refl, ap}
 use Prim.Native.Nat.{ℕ}
 use lib.Dec.{T, eqb, eqb→eq}

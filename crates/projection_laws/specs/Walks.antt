@@ -1,24 +1,22 @@
--- The needed names that are computed are the names on document 01's walks. Assumes nothing.
+-- The needed names that are computed are the names on document 01's walks.
 use mathlib.Core.Bool.{Bool, _||_}
-use mathlib.Core.List.{List, [], _∷_, List·Memᴰ as In, List·Memᴰ·append-cases as append-cases, Memᴰ·append-left as append-left, Memᴰ·append-right as append-right}
-use mathlib.Core.Logic.{_⊎_, inl, inr, ⊎-elim}
+use mathlib.Core.List.{List, [], _∷_, map, List·Memᴰ as In, List·Memᴰ·append-cases as append-cases, Memᴰ·append-left as append-left, Memᴰ·append-right as append-right}
+use mathlib.Core.Logic.{_⊎_, inl, inr, ⊎-elim, _↔_}
 use mathlib.Core.Path.{_≡_, refl, sym, subst}
 use Prim.Native.Nat.{ℕ, _<_}
 use lib.Dec.{T}
 use lib.ListN.{length}
-use Rattle.path_spec.specs.Paths.{Axis, self, child, descendant, descendantOrSelf, parent, ancestor, ancestorOrSelf, NodeTest, Step, Condition, unconditional, conditionPaths, LocationPath, expand}
-use Rattle.path_spec.specs.Selection.{passes}
-use Rattle.projection_spec.specs.Inference.Needed.{linked, between, complete, need, keepsAll, wantsNothing, keepsName, wantsNames, fromRoot, atStart, neededBeforeFilter, neededByPath, needed}
-use Rattle.projection_spec.specs.Inference.Types.{Env, env, holding, allBelow, allAbove, unionOf, cutTo, move, narrow, infer}
+use Rattle.path_spec.specs.Paths.{Axis, self, child, descendant, descendantOrSelf, parent, ancestor, ancestorOrSelf, NodeTest, Step, PlainStep, Condition, unconditional, alternatives, conditionPaths, LocationPath, expand}
+use Rattle.projection_spec.specs.Inference.Needed.{linked, between, complete, need, keepsAll, wantsNothing, keepsName, wantsNames, fromRoot, neededBeforeFilter, neededByPath, needed}
+use Rattle.projection_spec.specs.Inference.Rules.{type, context, Point, atStart, afterAxis, afterTest, afterCondition, alternativeFrom, tested, afterStep, alternativeSteps, AtOrAbove, Member, self-stays, child-type, descendant-type, descendant-or-self-type, descendant-or-self-added, parent-type, ancestor-type, ancestor-or-self-type, ancestor-or-self-added, test-type, no-condition, condition-type, condition-context}
+use Rattle.projection_spec.specs.Inference.Types.{Env, env, allBelow, allAbove, cutTo, infer}
 use Rattle.projection_spec.specs.Inference.Walks as walks
-use Rattle.projection_spec.specs.Inference.Walks.{Linked, by-self, by-child, by-descendant, stays-down, goes-down, by-parent, by-ancestor, stays-up, goes-up, Passing, descends, descends-or-stays, Walk, at-last, onward, NeededOnWalk, own, conditional, later, Needs, WantsNothing, WantsNames, by-alternative, PathNeeds, ReachedFromRoot, root, next, BundleNeeds, by-path}
-use Rattle.projection_laws.specs.Documents.{Lawful}
-use Rattle.projection_laws.specs.Lawful.{types-lawful}
-use Rattle.projection_laws.specs.Soundness.{in-below, in-above}
-use Rattle.schema_laws.specs.Closure.{Closed, Chain, one, more, chain-from, chain-join, closure-chain, chain-closure, held-in, isBelow-below, below-isBelow, below-names}
-use Rattle.schema_laws.specs.Names.{same-equal, same-name, has-in, in-within, within-in, element-in}
+use Rattle.projection_spec.specs.Inference.Walks.{Passing, descends, descends-or-stays, Linked, by-self, by-child, by-descendant, stays-down, goes-down, by-parent, by-ancestor, stays-up, goes-up, Walk, at-last, onward, NeededOnWalk, own, conditional, later, Needs, PathNeeds, ReachedFromRoot, root, next, BundleNeeds, by-path}
+use Rattle.projection_laws.specs.Rules.{MembersAt, asStep, noCondition, sameCondition, same-steps, Decides, below-set, above-set, alternative-from, step-members, all-decided, names-decided, start-members}
+use Rattle.schema_laws.specs.Closure.{Closed, Chain, one, more, chain-from, chain-join, closure-chain, chain-closure, held-in, isBelow-below, below-isBelow}
+use Rattle.schema_laws.specs.Names.{same-equal, same-name, in-within, within-in, element-in}
 use Rattle.schema_spec.specs.Closure.{related, closure}
-use Rattle.schema_spec.specs.Names.{Name, Names, element, sameName, has, within}
+use Rattle.schema_spec.specs.Names.{Name, Names, element, sameName, within}
 use Rattle.schema_spec.specs.Schemas.{Schema}
 use Rattle.schema_spec.specs.Types.{Types, typesOf, holds, Below, held, further, isBelow}
 use Rattle.text_laws.specs.Lists.{any-in, in-any, in-filter, filter-in, in-gather, gather-in}
@@ -29,17 +27,64 @@ below-join : {s : Schema} {a b c : Name} → Below s a b → Below s b c → Bel
 below-join (held t) d = further t d
 below-join (further t u) d = further t (below-join u d)
 
--- the names that conditions want are those listed
-pub record WantsListed {C : Type 0} (wants : Names → C → Name → Names) (Wants : Names → C → Name → Name → Type 0) : Type 0 where
-  pub sound : (k : Names) (c : C) (a n : Name) → In n (wants k c a) → Wants k c a n
-  pub complete : (k : Names) (c : C) (a n : Name) → Wants k c a n → In n (wants k c a)
+-- ---- every name of a step's type is a neighbour of one of the type before it
+module _ {s : Schema} where
+  axis-from : {x : Axis} {g : Point} {w : NodeTest ℕ} {b : Name} → Member s type (afterAxis g x w) b → (a : Name) × Member s type g a × Linked s x a b
+  axis-from (self-stays {n = b} i) = (b, i, by-self)
+  axis-from (child-type {a = a} i h) = (a, i, by-child h)
+  axis-from (descendant-type {a = a} i d) = (a, i, by-descendant d)
+  axis-from (descendant-or-self-type (descendant-type {a = a} i d)) = (a, i, goes-down d)
+  axis-from (descendant-or-self-added {n = b} i) = (b, i, stays-down)
+  axis-from (parent-type {b = a} k h i) = (a, i, by-parent h)
+  axis-from (ancestor-type {b = a} k d i) = (a, i, by-ancestor d)
+  axis-from (ancestor-or-self-type (ancestor-type {b = a} k d i)) = (a, i, goes-up d)
+  axis-from (ancestor-or-self-added {n = b} i) = (b, i, stays-up)
+
+  test-from : {g : Point} {w : NodeTest ℕ} {n : Name} → Member s type (afterTest g w) n → Member s type g n
+  test-from (test-type i p) = i
+
+  condition-from : {g : Point} {c : Condition ℕ} {n : Name} → Member s type (afterCondition g c) n → Member s type g n
+  condition-from (no-condition i) = i
+  condition-from (condition-type q i j r) = i
+
+  step-from : {g : Point} (p : Step ℕ (Condition ℕ)) {b : Name} → Member s type (afterStep g p) b → (a : Name) × Member s type g a × Linked s (p .axis) a b
+  step-from p i = axis-from (test-from (condition-from i))
+
+  -- the context after a condition is of the context before it, and has all of that at or above a name that is kept
+  context-from : {g : Point} {c : Condition ℕ} {n : Name} → Member s context (afterCondition g c) n → Member s context g n
+  context-from (no-condition k) = k
+  context-from (condition-context k i r) = k
+
+  context-kept : {g : Point} (c : Condition ℕ) {a n : Name} → Member s type (afterCondition g c) a → Member s context g n → AtOrAbove s n a → Member s context (afterCondition g c) n
+  context-kept unconditional i k r = no-condition k
+  context-kept (alternatives qs) i k r = condition-context k i r
+
+  walk-first : {g : Point} {ps : List (Step ℕ (Condition ℕ))} {b : Name} {w : Names} → Walk s g ps (b ∷ w) → Member s type g b
+  walk-first (at-last i) = i
+  walk-first (onward i l r) = i
+
+  -- a walk one step longer in front
+  longer : {g : Point} (p : Step ℕ (Condition ℕ)) {ps : List (Step ℕ (Condition ℕ))} {b : Name} {w : Names} → Walk s (afterStep g p) ps (b ∷ w) → (a : Name) × Walk s g (p ∷ ps) (a ∷ b ∷ w)
+  longer p r =
+      let f = step-from p (walk-first r) in
+      (f .0, onward (f .1) (f .2) r)
+
+  later-needs : {g : Point} (p : Step ℕ (Condition ℕ)) {ps : List (Step ℕ (Condition ℕ))} {n : Name} {w : Names} → Walk s (afterStep g p) ps w → NeededOnWalk s (afterStep g p) ps w n
+      → Needs s g (p ∷ ps) n
+  later-needs p (at-last {a = b} i) q =
+      let r = longer p (at-last i) in
+      record { walk = r .0 ∷ b ∷ []; complete = r .1; onWalk = later q }
+  later-needs p (onward {a = b} {b = c} {w = w} i l z) q =
+      let r = longer p (onward i l z) in
+      record { walk = r .0 ∷ b ∷ c ∷ w; complete = r .1; onWalk = later q }
+
+-- what a condition needs from a name of the point before it
+pub data Wanted (s : Schema) (g : Point) (c : Condition ℕ) (a n : Name) : Type 0 where
+  by-alternative : (q : List (PlainStep ℕ)) → In q (conditionPaths c) → Needs s (alternativeFrom g a) (alternativeSteps q) n → Wanted s g c a n
 
 module _ (s : Schema) (full : 0 < length s) (closed : Closed s) where
   abbrev types : Types
   types = typesOf s
-
-  law : Lawful types
-  law = types-lawful s full closed
 
   -- ---- neighbours: the test and the relation
   same-or-below : (a b : Name) → T (sameName a b || isBelow types a b) → (a ≡ b) ⊎ Below s a b
@@ -75,210 +120,188 @@ module _ (s : Schema) (full : 0 < length s) (closed : Closed s) where
   of-linked (stays-up {a = a}) = itself a
   of-linked (goes-up {a = a} {b = b} d) = below-or-same d a b
 
-  -- ---- every name that an axis leads to is a neighbour of one that it comes from
-  abbrev CameFrom : Axis → Names → Name → Type 0
-  CameFrom x t b = (a : Name) × In a t × T (linked types x a b)
-
-  stayed : (t : Names) (b : Name) (f : Name → Name → Bool) → In b t → (a : Name) × In a t × T (sameName a b || f a b)
-  stayed t b f i = (b, i, or-left (sameName b b) (f b b) (same-name b))
-
-  moved : (t : Names) (b : Name) (f : Name → Name → Bool) → (a : Name) × In a t × T (f a b) → (a : Name) × In a t × T (sameName a b || f a b)
-  moved t b f (a, i, h) = (a, i, or-right (sameName a b) (f a b) h)
-
-  union-in : (a b : Names) {n : Name} → In n (unionOf types a b) → In n a ⊎ In n b
-  union-in a b {n} i =
-      ⊎-elim (λ h. inl (has-in n a h)) (λ h. inr (has-in n b h)) (or-cases (has n a) (has n b) (filter-in (λ m. has m a || has m b) (types .names) i .1))
-
-  from-below : (t : Names) (b : Name) → In b (allBelow types t) → CameFrom descendant t b
-  from-below t b i = in-any (λ a. isBelow types a b) t (filter-in (λ n. anyOf (λ a. isBelow types a n) t) (types .names) i .1)
-
-  from-above : (t : Names) (b : Name) → In b (allAbove types t) → CameFrom ancestor t b
-  from-above t b i = in-any (λ a. isBelow types b a) t (filter-in (λ n. anyOf (λ a. isBelow types n a) t) (types .names) i .1)
-
-  came-from : (x : Axis) (w : NodeTest ℕ) (e : Env) (b : Name) → In b (move types x w e .type) → CameFrom x (e .type) b
-  came-from self w e b i = (b, i, same-name b)
-  came-from child w e b i = in-any (λ a. types .holds a b) (e .type) (filter-in (λ n. anyOf (λ a. types .holds a n) (e .type)) (types .names) i .1)
-  came-from descendant w e b i = from-below (e .type) b i
-  came-from descendantOrSelf w e b i =
-      ⊎-elim (stayed (e .type) b (isBelow types)) (λ h. moved (e .type) b (isBelow types) (from-below (e .type) b h)) (union-in (e .type) (allBelow types (e .type)) i)
-  came-from parent w e b i =
-      in-any (λ a. types .holds b a) (e .type)
-      (filter-in (λ n. anyOf (λ a. types .holds n a) (e .type)) (types .names) (within-in (holding types (e .type)) (e .context) i .0) .1)
-  came-from ancestor w e b i = from-above (e .type) b (within-in (allAbove types (e .type)) (e .context) i .0)
-  came-from ancestorOrSelf w e b i =
-      ⊎-elim (stayed (e .type) b (λ a c. isBelow types c a))
-      (λ h. moved (e .type) b (λ a c. isBelow types c a) (from-above (e .type) b (within-in (allAbove types (e .type)) (e .context) h .0)))
-      (union-in (e .type) (within (allAbove types (e .type)) (e .context)) i)
-
   -- ---- names between two steps: the sets, and the pairs
+  passed-between : (g h : Names) {n : Name} → In n (within (allBelow types g) (allAbove types h)) → (a : Name) × (b : Name) × In a g × In b h × Below s a n × Below s n b
+  passed-between g h {n} i =
+      let w = within-in (allBelow types g) (allAbove types h) i in
+      let a = below-set s closed g .sound n (w .0) in
+      let b = above-set s closed h .sound n (w .1) in
+      (a .0, b .0, a .1, b .1, a .2, b .2)
+
   between-pair : (x : Axis) (g h : Names) {n : Name} → In n (between types x g h)
       → (a : Name) × (b : Name) × In a g × In b h × Passing x × Linked s x a b × Below s a n × Below s n b
   between-pair self g h i = elim i [ ]
   between-pair child g h i = elim i [ ]
-  between-pair descendant g h {n} i =
-      let w = within-in (allBelow types g) (allAbove types h) i in
-      let a = from-below g n (w .0) in
-      let b = from-above h n (w .1) in
-      let u = isBelow-below s (a .0) n (a .2) in
-      let v = isBelow-below s n (b .0) (b .2) in
-      (a .0, b .0, a .1, b .1, descends, by-descendant (below-join u v), u, v)
-  between-pair descendantOrSelf g h {n} i =
-      let w = within-in (allBelow types g) (allAbove types h) i in
-      let a = from-below g n (w .0) in
-      let b = from-above h n (w .1) in
-      let u = isBelow-below s (a .0) n (a .2) in
-      let v = isBelow-below s n (b .0) (b .2) in
-      (a .0, b .0, a .1, b .1, descends-or-stays, goes-down (below-join u v), u, v)
+  between-pair descendant g h i =
+      let (a, b, j, k, u, v) = passed-between g h i in
+      (a, b, j, k, descends, by-descendant (below-join u v), u, v)
+  between-pair descendantOrSelf g h i =
+      let (a, b, j, k, u, v) = passed-between g h i in
+      (a, b, j, k, descends-or-stays, goes-down (below-join u v), u, v)
   between-pair parent g h i = elim i [ ]
   between-pair ancestor g h i = elim i [ ]
   between-pair ancestorOrSelf g h i = elim i [ ]
 
+  between-passed : (g h : Names) {a b n : Name} → In a g → In b h → Below s a n → Below s n b → In n (within (allBelow types g) (allAbove types h))
+  between-passed g h {a} {b} {n} i j u v = in-within (below-set s closed g .complete n (a, i, u)) (above-set s closed h .complete n (b, j, v))
+
   in-between : {x : Axis} (g h : Names) {a b n : Name} → Passing x → In a g → In b h → Below s a n → Below s n b → In n (between types x g h)
-  unfolding typesOf
-  in-between g h descends i j u v =
-      in-within (in-below types law g i (below-names s closed u .1) (below-isBelow s closed u)) (in-above types law h j (below-names s closed v .0) (below-isBelow s closed v))
-  in-between g h descends-or-stays i j u v =
-      in-within (in-below types law g i (below-names s closed u .1) (below-isBelow s closed u)) (in-above types law h j (below-names s closed v .0) (below-isBelow s closed v))
+  in-between g h descends i j u v = between-passed g h i j u v
+  in-between g h descends-or-stays i j u v = between-passed g h i j u v
 
-  -- ---- walks, for conditions whose wants are listed
-  module _ {C : Type 0} (keeps : Names → C → Name → Bool) (wants : Names → C → Name → Names) (Wants : Names → C → Name → Name → Type 0) (listed : WantsListed wants Wants) where
-    step-came-from : (p : Step ℕ C) (e : Env) (b : Name) → In b (infer types keeps p e .type) → CameFrom (p .axis) (e .type) b
-    step-came-from p e b i =
-        let m = move types (p .axis) (p .test) e in
-        let f = narrow types (passes (p .test)) m in
-        came-from (p .axis) (p .test) e b
-        (filter-in (passes (p .test)) (m .type) (filter-in (λ a. keeps (cutTo types (a ∷ []) (f .context)) (p .condition) a) (f .type) i .0) .0)
+  -- the names that conditions want are those listed
+  abbrev pub Lists : {C : Type 0} → (C → Condition ℕ) → (Names → C → Name → Names) → Type 0
+  Lists {C} asCondition wants =
+      (g : Point) (a : Name) (k : Names) → MembersAt s (env (a ∷ []) k) (alternativeFrom g a) → (c : C) (n : Name) → In n (wants k c a) ↔ Wanted s g (asCondition c) a n
 
-    walk-from : (ps : List (Step ℕ C)) (e : Env) (a : Name) → In a (complete types keeps wants ps e) → (w : Names) × Walk s keeps Wants ps e (a ∷ w)
-    walk-from [] e a i = ([], at-last i)
-    walk-from (p ∷ ps) e a i =
+  -- ---- walks, for conditions that are tested as the rules say and whose names are listed
+  module _ {C : Type 0} (asCondition : C → Condition ℕ) (keeps : Names → C → Name → Bool) (wants : Names → C → Name → Names) (decides : Decides s asCondition keeps) (lists : Lists asCondition wants) where
+    abbrev stepOf : Step ℕ C → Step ℕ (Condition ℕ)
+    stepOf = asStep asCondition
+
+    abbrev stepsOf : List (Step ℕ C) → List (Step ℕ (Condition ℕ))
+    stepsOf = map stepOf
+
+    -- from which context the alternatives of a kept name start: K is cut before or after the condition, which makes no difference
+    abbrev nearContext : Step ℕ C → Env → Name → Names
+    nearContext p e a = cutTo types (a ∷ []) (infer types keeps p e .context)
+
+    after : {g : Point} {e : Env} → MembersAt s e g → (p : Step ℕ C) → MembersAt s (infer types keeps p e) (afterStep g (stepOf p))
+    after m p = step-members s closed asCondition keeps decides m p
+
+    near-members : {g : Point} {e : Env} → MembersAt s e g → (p : Step ℕ C) (a : Name) → In a (infer types keeps p e .type)
+        → MembersAt s (env (a ∷ []) (nearContext p e a)) (alternativeFrom (tested g (stepOf p)) a)
+    near-members {g} m p a i =
+        let f = after m p in
+        alternative-from s closed (tested g (stepOf p)) a (f .types .known a i) (f .contexts) (λ n k. context-from k)
+        (λ n k r. context-kept (asCondition (p .condition)) (f .types .sound a i) k r)
+
+    walk-from : {g : Point} {e : Env} → MembersAt s e g → (ps : List (Step ℕ C)) (a : Name) → In a (complete types keeps wants ps e) → (w : Names) × Walk s g (stepsOf ps) (a ∷ w)
+    walk-from m [] a i = ([], at-last (m .types .sound a i))
+    walk-from {e = e} m (p ∷ ps) a i =
         let rest = complete types keeps wants ps (infer types keeps p e) in
         let f = filter-in (λ c. anyOf (λ b. linked types (p .axis) c b) rest) (e .type) i in
         let b = in-any (λ b. linked types (p .axis) a b) rest (f .1) in
-        let r = walk-from ps (infer types keeps p e) (b .0) (b .1) in
-        (b .0 ∷ r .0, onward (f .0) (linked-of (p .axis) a (b .0) (b .2)) (r .1))
+        let r = walk-from (after m p) ps (b .0) (b .1) in
+        (b .0 ∷ r .0, onward (m .types .sound a (f .0)) (linked-of (p .axis) a (b .0) (b .2)) (r .1))
 
-    from-walk : {ps : List (Step ℕ C)} {e : Env} {a : Name} {w : Names} → Walk s keeps Wants ps e (a ∷ w) → In a (complete types keeps wants ps e)
-    from-walk (at-last i) = i
-    from-walk (onward {p = p} {ps = ps} {e = e} {a = a} i l r) =
-        in-filter (λ c. anyOf (λ b. linked types (p .axis) c b) (complete types keeps wants ps (infer types keeps p e))) i
-        (any-in (λ b. linked types (p .axis) a b) (from-walk r) (of-linked l))
+    from-walk : {g : Point} {e : Env} → MembersAt s e g → (ps : List (Step ℕ C)) {a : Name} {w : Names} → Walk s g (stepsOf ps) (a ∷ w) → In a (complete types keeps wants ps e)
+    from-walk m [] {a} (at-last i) = m .types .complete a i
+    from-walk {e = e} m (p ∷ ps) {a} (onward i l r) =
+        in-filter (λ c. anyOf (λ b. linked types (p .axis) c b) (complete types keeps wants ps (infer types keeps p e))) (m .types .complete a i)
+        (any-in (λ b. linked types (p .axis) a b) (from-walk (after m p) ps r) (of-linked l))
 
     complete-typed : (ps : List (Step ℕ C)) (e : Env) {a : Name} → In a (complete types keeps wants ps e) → In a (e .type)
     complete-typed [] e i = i
     complete-typed (p ∷ ps) e i = filter-in (λ c. anyOf (λ b. linked types (p .axis) c b) (complete types keeps wants ps (infer types keeps p e))) (e .type) i .0
 
-    first-typed : {ps : List (Step ℕ C)} {e : Env} {b : Name} {w : Names} → Walk s keeps Wants ps e (b ∷ w) → In b (e .type)
-    first-typed (at-last i) = i
-    first-typed (onward i l r) = i
-
-    -- a walk one step longer in front, with what the rest asks for
-    longer : {p : Step ℕ C} {ps : List (Step ℕ C)} {e : Env} {n : Name} {w : Names} → Walk s keeps Wants ps (infer types keeps p e) w → NeededOnWalk s keeps Wants ps (infer types keeps p e) w n
-        → Needs s keeps Wants (p ∷ ps) e n
-    longer {p} {ps} {e} {n} (at-last {a = b} i) q =
-        let a = step-came-from p e b i in
-        record { walk = a .0 ∷ b ∷ []; complete = onward (a .1) (linked-of (p .axis) (a .0) b (a .2)) (at-last i); onWalk = later q }
-    longer {p} {ps} {e} {n} (onward {a = b} {b = c} {w = w} i l r) q =
-        let a = step-came-from p e b i in
-        record { walk = a .0 ∷ b ∷ c ∷ w; complete = onward (a .1) (linked-of (p .axis) (a .0) b (a .2)) (onward i l r); onWalk = later q }
-
-    pub need-sound : (ps : List (Step ℕ C)) (e : Env) {n : Name} → In n (need types keeps wants ps e) → Needs s keeps Wants ps e n
-    need-sound [] e {n} i = record { walk = n ∷ []; complete = at-last i; onWalk = own }
-    need-sound (p ∷ ps) e {n} i =
-        ⊎-elim by-own (λ j. ⊎-elim by-between (λ k. ⊎-elim by-condition (λ l. let z = need-sound ps f l in longer (z .complete) (z .onWalk)) (append-cases c k)) (append-cases b j))
-        (append-cases g i)
+    pub need-sound : {g : Point} {e : Env} → MembersAt s e g → (ps : List (Step ℕ C)) {n : Name} → In n (need types keeps wants ps e) → Needs s g (stepsOf ps) n
+    need-sound m [] {n} i = record { walk = n ∷ []; complete = at-last (m .types .sound n i); onWalk = own }
+    need-sound {g} {e} m (p ∷ ps) {n} i =
+        ⊎-elim by-own (λ j. ⊎-elim by-between (λ k. ⊎-elim by-condition (λ l. let z = need-sound (after m p) ps l in later-needs (stepOf p) (z .complete) (z .onWalk)) (append-cases c k)) (append-cases b j))
+        (append-cases d i)
       where
         f : Env
         f = infer types keeps p e
 
-        g : Names
-        g = complete types keeps wants (p ∷ ps) e
+        d : Names
+        d = complete types keeps wants (p ∷ ps) e
 
         h : Names
         h = complete types keeps wants ps f
 
         b : Names
-        b = between types (p .axis) g h
+        b = between types (p .axis) d h
 
         c : Names
-        c = gather (λ a. wants (cutTo types (a ∷ []) (f .context)) (p .condition) a) h
+        c = gather (λ a. wants (nearContext p e a) (p .condition) a) h
 
-        by-own : In n g → Needs s keeps Wants (p ∷ ps) e n
+        by-own : In n d → Needs s g (stepsOf (p ∷ ps)) n
         by-own j =
-            let w = walk-from (p ∷ ps) e n j in
+            let w = walk-from m (p ∷ ps) n j in
             record { walk = n ∷ w .0; complete = w .1; onWalk = own }
 
-        by-between : In n b → Needs s keeps Wants (p ∷ ps) e n
+        by-between : In n b → Needs s g (stepsOf (p ∷ ps)) n
         by-between j =
-            let q = between-pair (p .axis) g h j in
-            let w = walk-from ps f (q .1) (q .3) in
+            let q = between-pair (p .axis) d h j in
+            let w = walk-from (after m p) ps (q .1) (q .3) in
             record {
               walk = q .0 ∷ q .1 ∷ w .0;
-              complete = onward (complete-typed (p ∷ ps) e (q .2)) (q .5) (w .1);
+              complete = onward (m .types .sound (q .0) (complete-typed (p ∷ ps) e (q .2))) (q .5) (w .1);
               onWalk = walks.NeededOnWalk.between (q .4) (q .6) (q .7);
             }
 
-        by-condition : In n c → Needs s keeps Wants (p ∷ ps) e n
+        by-condition : In n c → Needs s g (stepsOf (p ∷ ps)) n
         by-condition j =
-            let q = gather-in (λ a. wants (cutTo types (a ∷ []) (f .context)) (p .condition) a) h j in
-            let w = walk-from ps f (q .0) (q .1) in
-            let a = step-came-from p e (q .0) (complete-typed ps f (q .1)) in
-            record {
-              walk = a .0 ∷ q .0 ∷ w .0;
-              complete = onward (a .1) (linked-of (p .axis) (a .0) (q .0) (a .2)) (w .1);
-              onWalk = conditional (listed .sound (cutTo types (q .0 ∷ []) (f .context)) (p .condition) (q .0) n (q .2));
-            }
+            let q = gather-in (λ a. wants (nearContext p e a) (p .condition) a) h j in
+            let w = walk-from (after m p) ps (q .0) (q .1) in
+            let r = longer (stepOf p) (w .1) in
+            wanted-needs (r .1) (lists (tested g (stepOf p)) (q .0) (nearContext p e (q .0)) (near-members m p (q .0) (complete-typed ps f (q .1))) (p .condition) n .0 (q .2))
+          where
+            wanted-needs : {a b : Name} {w : Names} → Walk s g (stepsOf (p ∷ ps)) (a ∷ b ∷ w) → Wanted s (tested g (stepOf p)) (asCondition (p .condition)) b n → Needs s g (stepsOf (p ∷ ps)) n
+            wanted-needs {a} {b} {w} r (by-alternative q i z) = record { walk = a ∷ b ∷ w; complete = r; onWalk = conditional q i (z .complete) (z .onWalk) }
 
-    own-needed : (ps : List (Step ℕ C)) (e : Env) {n : Name} → In n (complete types keeps wants ps e) → In n (need types keeps wants ps e)
-    own-needed [] e i = i
-    own-needed (p ∷ ps) e i = append-left _ i
-
-    asks-needed : {ps : List (Step ℕ C)} {e : Env} {w : Names} {n : Name} → Walk s keeps Wants ps e w → NeededOnWalk s keeps Wants ps e w n → In n (need types keeps wants ps e)
-    asks-needed {ps} {e} r own = own-needed ps e (from-walk r)
-    asks-needed (onward {p = p} {ps = ps} {e = e} {a = a} i l r) (walks.NeededOnWalk.between q u v) =
+    on-walk-needed : {g : Point} {e : Env} → MembersAt s e g → (ps : List (Step ℕ C)) {w : Names} {n : Name} → Walk s g (stepsOf ps) w → NeededOnWalk s g (stepsOf ps) w n → In n (need types keeps wants ps e)
+    on-walk-needed {e = e} m [] r own = from-walk m [] r
+    on-walk-needed {e = e} m (p ∷ ps) r own = append-left _ (from-walk m (p ∷ ps) r)
+    on-walk-needed {e = e} m (p ∷ ps) (onward i l r) (walks.NeededOnWalk.between q u v) =
         let f = infer types keeps p e in
-        append-right (complete types keeps wants (p ∷ ps) e) (append-left _ (in-between (complete types keeps wants (p ∷ ps) e) (complete types keeps wants ps f) q (from-walk (onward {p = p} i l r)) (from-walk r) u v))
-    asks-needed {n = n} (onward {p = p} {ps = ps} {e = e} {b = b} i l r) (conditional q) =
-        let f = infer types keeps p e in
-        let g = complete types keeps wants (p ∷ ps) e in
-        append-right g
-        (append-right (between types (p .axis) g (complete types keeps wants ps f))
-        (append-left _
-        (in-gather (λ a. wants (cutTo types (a ∷ []) (f .context)) (p .condition) a) (from-walk r) (listed .complete (cutTo types (b ∷ []) (f .context)) (p .condition) b n q))))
-    asks-needed (onward {p = p} {ps = ps} {e = e} i l r) (later q) =
-        let f = infer types keeps p e in
-        let g = complete types keeps wants (p ∷ ps) e in
+        let d = complete types keeps wants (p ∷ ps) e in
         let h = complete types keeps wants ps f in
-        append-right g
-        (append-right (between types (p .axis) g h) (append-right (gather (λ a. wants (cutTo types (a ∷ []) (f .context)) (p .condition) a) h) (asks-needed r q)))
+        append-right d (append-left _ (in-between d h q (from-walk m (p ∷ ps) (onward i l r)) (from-walk (after m p) ps r) u v))
+    on-walk-needed {g} {e} m (p ∷ ps) {n = n} (onward {b = b} i l r) (conditional q j y z) =
+        let f = infer types keeps p e in
+        let d = complete types keeps wants (p ∷ ps) e in
+        let h = complete types keeps wants ps f in
+        let k : In b h = from-walk (after m p) ps r in
+        append-right d
+        (append-right (between types (p .axis) d h)
+        (append-left _
+        (in-gather (λ a. wants (nearContext p e a) (p .condition) a) k
+        (lists (tested g (stepOf p)) b (nearContext p e b) (near-members m p b (complete-typed ps f k)) (p .condition) n .1 (by-alternative q j (record { walk = _; complete = y; onWalk = z }))))))
+    on-walk-needed {e = e} m (p ∷ ps) (onward i l r) (later q) =
+        let f = infer types keeps p e in
+        let d = complete types keeps wants (p ∷ ps) e in
+        let h = complete types keeps wants ps f in
+        append-right d
+        (append-right (between types (p .axis) d h) (append-right (gather (λ a. wants (nearContext p e a) (p .condition) a) h) (on-walk-needed (after m p) ps r q)))
 
-    pub need-complete : (ps : List (Step ℕ C)) (e : Env) {n : Name} → Needs s keeps Wants ps e n → In n (need types keeps wants ps e)
-    need-complete ps e z = asks-needed (z .complete) (z .onWalk)
+    pub need-complete : {g : Point} {e : Env} → MembersAt s e g → (ps : List (Step ℕ C)) {n : Name} → Needs s g (stepsOf ps) n → In n (need types keeps wants ps e)
+    need-complete m ps z = on-walk-needed m ps (z .complete) (z .onWalk)
 
-  -- ---- conditions, the last filter, paths and bundles
-  plain-listed : WantsListed wantsNothing WantsNothing
-  plain-listed = record { sound = λ k c a n i. elim i [ ]; complete = λ k c a n w. elim w [ ] }
-
-  condition-listed : WantsListed (wantsNames types) (WantsNames s)
-  condition-listed =
-      record {
-        sound = λ k c a n i.
-            let q = gather-in (λ l. need types keepsAll wantsNothing (expand tt l) (env (a ∷ []) k)) (conditionPaths c) i in
-            by-alternative (q .0) (q .1) (need-sound keepsAll wantsNothing WantsNothing plain-listed (expand tt (q .0)) (env (a ∷ []) k) (q .2));
-        complete = wanted;
-      }
+  -- ---- conditions, paths
+  nothing-listed : Lists noCondition wantsNothing
+  nothing-listed g a k m c n = (λ i. elim i [ ], from)
     where
-      wanted : (k : Names) (c : Condition ℕ) (a n : Name) → WantsNames s k c a n → In n (wantsNames types k c a)
-      wanted k c a n (by-alternative q i z) =
-          in-gather (λ l. need types keepsAll wantsNothing (expand tt l) (env (a ∷ []) k)) i (need-complete keepsAll wantsNothing WantsNothing plain-listed (expand tt q) (env (a ∷ []) k) z)
+      from : Wanted s g unconditional a n → In n []
+      from (by-alternative q i z) = elim i [ ]
+
+  names-listed : Lists sameCondition (wantsNames types)
+  names-listed g a k m c n = (to, from)
+    where
+      needOf : List (PlainStep ℕ) → Names
+      needOf q = need types keepsAll wantsNothing (expand tt q) (env (a ∷ []) k)
+
+      to : In n (gather needOf (conditionPaths c)) → Wanted s g c a n
+      to i =
+          let q = gather-in needOf (conditionPaths c) i in
+          by-alternative (q .0) (q .1) (need-sound noCondition keepsAll wantsNothing (all-decided s closed) nothing-listed m (expand tt (q .0)) (q .2))
+
+      from : Wanted s g c a n → In n (gather needOf (conditionPaths c))
+      from (by-alternative q i z) = in-gather needOf i (need-complete noCondition keepsAll wantsNothing (all-decided s closed) nothing-listed m (expand tt q) z)
 
   pub path-needs : (p : LocationPath ℕ) (n : Name) → In n (neededBeforeFilter types p) → PathNeeds s p n
   unfolding neededBeforeFilter
-  path-needs p n i = need-sound (keepsName types) (wantsNames types) (WantsNames s) condition-listed (expand unconditional (p .steps)) (atStart types (p .start)) i
+  path-needs p n i =
+      let ps = expand unconditional (p .steps) in
+      rw (same-steps ps) at (need-sound sameCondition (keepsName types) (wantsNames types) (names-decided s closed) names-listed (start-members s closed full (p .start)) ps i)
 
   pub needs-path : (p : LocationPath ℕ) (n : Name) → PathNeeds s p n → In n (neededBeforeFilter types p)
   unfolding neededBeforeFilter
-  needs-path p n z = need-complete (keepsName types) (wantsNames types) (WantsNames s) condition-listed (expand unconditional (p .steps)) (atStart types (p .start)) z
+  needs-path p n z =
+      let ps = expand unconditional (p .steps) in
+      let y : Needs s (atStart (p .start)) (map (asStep sameCondition) ps) n = rw (same-steps ps) z in
+      need-complete sameCondition (keepsName types) (wantsNames types) (names-decided s closed) names-listed (start-members s closed full (p .start)) ps y
 
   -- "names that the root reaches by holdings inside this set"
   module _ (r : Names) (P : Name → Type 0) where
@@ -321,16 +344,16 @@ module _ (s : Schema) (full : 0 < length s) (closed : Closed s) where
         (⊎-elim (λ e. or-left (sameName (types .root) n) (related (closure inside (types .holds)) (types .root) n) (subst (λ (x : Name). T (sameName (types .root) x)) e (same-name (types .root))))
         (λ c. or-right (sameName (types .root) n) (related (closure inside (types .holds)) (types .root) n) (chain-closure inside (types .holds) c)) (h .1))
 
-  -- THE THEOREM: a bundle's computed names are those that document 01's walks need
-  pub needed-sound : (ps : List (LocationPath ℕ)) (n : Name) → In n (needed types ps) → BundleNeeds s ps n
+  -- the names of a bundle
+  pub bundle-needs : (ps : List (LocationPath ℕ)) (n : Name) → In n (needed types ps) → BundleNeeds s ps n
   unfolding needed neededByPath
-  needed-sound ps n i =
+  bundle-needs ps n i =
       let g = gather-in (neededByPath types) ps (within-in (types .names) (gather (neededByPath types) ps) i .1) in
       by-path (g .0) (g .1) (filter-reached (neededBeforeFilter types (g .0)) (PathNeeds s (g .0)) (path-needs (g .0)) n (g .2))
 
-  pub needed-complete : (ps : List (LocationPath ℕ)) (n : Name) → BundleNeeds s ps n → In n (needed types ps)
+  pub needs-bundle : (ps : List (LocationPath ℕ)) (n : Name) → BundleNeeds s ps n → In n (needed types ps)
   unfolding needed neededByPath
-  needed-complete ps n (by-path p i z) =
+  needs-bundle ps n (by-path p i z) =
       let j = reached-filter (neededBeforeFilter types p) (PathNeeds s p) (needs-path p) n z in
       let h = reached-chain (neededBeforeFilter types p) (PathNeeds s p) (needs-path p) z in
       in-within (within-in (types .names) (neededBeforeFilter types p) (h .0) .0) (in-gather (neededByPath types) i j)

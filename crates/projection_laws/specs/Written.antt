@@ -1,4 +1,4 @@
--- The rows of a well-formed table, written as fields and read again. Assumes nothing.
+-- The rows of a well-formed table, written as fields and read again.
 use mathlib.Core.List.{List, [], _∷_, _++_, append-assoc}
 use mathlib.Core.Option.{Option, none, some}
 use mathlib.Core.Path.{_≡_, refl, sym, ap, subst₂, _∙_}

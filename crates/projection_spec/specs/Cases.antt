@@ -1,4 +1,10 @@
 pub mod Opened
+pub mod Exits
 pub mod Questions
 pub mod Tried
 pub mod Edges
+pub mod Inference
+pub mod Limits
+pub mod Hosts
+pub mod Calls
+pub mod Rows

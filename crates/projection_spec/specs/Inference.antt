@@ -1,3 +1,4 @@
 pub mod Types
+pub mod Rules
 pub mod Needed
 pub mod Walks

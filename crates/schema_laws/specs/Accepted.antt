@@ -1,4 +1,4 @@
--- What is known of a schema that was accepted: its limits, its elements, its names. Assumes nothing.
+-- What is known of a schema that was accepted: its limits, its elements, its names.
 use mathlib.Core.Bool.{Bool, true, false, cond, not, _||_}
 use mathlib.Core.List.{List, [], _∷_, _++_, map, map-append, List·Memᴰ as In, List·Memᴰ·head as here, List·Memᴰ·tail as there, List·Memᴰ·cases-cons as cases-cons}
 use mathlib.Core.Logic.{_⊎_, inl, inr, ⊎-elim, _↔_}

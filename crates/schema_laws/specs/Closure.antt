@@ -1,5 +1,4 @@
 -- The closure of a relation relates exactly what a chain of one or more steps does, and 'below' computed is one or more holdings.
--- Assumes nothing.
 use mathlib.Core.Bool.{Bool, true, false, cond, _&&_}
 use mathlib.Core.List.{[], _∷_, List·Memᴰ as In, List·Memᴰ·head as here, List·Memᴰ·tail as there}
 use mathlib.Core.Logic.{_⊎_, inl, inr, ⊎-elim, _↔_}

@@ -1,4 +1,4 @@
--- An element is found by its name: the index that a name gives is that of the element with this name. Assumes nothing.
+-- An element is found by its name: the index that a name gives is that of the element with this name.
 use mathlib.Core.Bool.{Bool, true, false, cond}
 use mathlib.Core.List.{List, [], _∷_, List·Memᴰ as In, List·Memᴰ·head as here, List·Memᴰ·tail as there}
 use mathlib.Core.Logic.{_↔_}

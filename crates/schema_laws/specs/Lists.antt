@@ -1,4 +1,4 @@
--- Laws of lists that the reading of a schema needs: parts that are empty, lists with no element twice. Assumes nothing.
+-- Laws of lists that the reading of a schema needs: parts that are empty, lists with no element twice.
 use mathlib.Core.Bool.{Bool, true, false, cond}
 use mathlib.Core.List.{List, [], _∷_, _++_, map, reverse, reverseAux, List·Memᴰ as In, List·Memᴰ·head as here, List·Memᴰ·tail as there, List·Memᴰ·append-cases as append-cases}
 use mathlib.Core.Logic.{⊎-elim}

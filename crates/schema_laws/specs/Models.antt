@@ -1,4 +1,4 @@
--- The computing form of a content model, which keeps marks on its names, decides what fits. Assumes nothing.
+-- The computing form of a content model, which keeps marks on its names, decides what fits.
 use mathlib.Core.Bool.{Bool, true, false, _&&_, _||_}
 use mathlib.Core.List.{List, [], _∷_, _++_}
 use mathlib.Core.Logic.{_⊎_, inl, inr, ⊎-elim, _↔_}

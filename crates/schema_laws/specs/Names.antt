@@ -1,4 +1,4 @@
--- Laws of names and of sets of them: equality and membership are decided, and which names a schema has. Assumes nothing.
+-- Laws of names and of sets of them: equality and membership are decided, and which names a schema has.
 use mathlib.Core.Bool.{Bool, true, false, cond}
 use mathlib.Core.List.{[], _∷_, List·Memᴰ as In, List·Memᴰ·head as here, List·Memᴰ·tail as there, List·Memᴰ·append-cases as append-cases, Memᴰ·append-left as append-left, Memᴰ·append-right as append-right}
 use mathlib.Core.Logic.{_⊎_, inl, inr, ⊎-elim}

@@ -1,4 +1,4 @@
--- The normal form of a schema text: it leads the machine where the text does, and is its own normal form. Assumes nothing.
+-- The normal form of a schema text: it leads the machine where the text does, and is its own normal form.
 use mathlib.Core.Bool.{Bool, true, false, cond, not, _&&_, _||_}
 use mathlib.Core.List.{List, [], _∷_, List·Memᴰ as In, List·Memᴰ·head as here, List·Memᴰ·tail as there, List·Memᴰ·cases-cons as cases-cons}
 use mathlib.Core.Logic.{_⊎_, inl, inr, ⊎-elim}
@@ -20,31 +20,31 @@ use Rattle.text_spec.specs.Limits.{maxNameBytes, maxGroups}
 use Rattle.text_spec.specs.Lists.{allOf}
 
 -- where no blank is due, it does not matter whether the byte before was one
-no-run : (r s : Bool) (bs : List ℕ) → normalFrom zero r bs ≡ normalFrom zero s bs
+pub no-run : (r s : Bool) (bs : List ℕ) → normalFrom zero r bs ≡ normalFrom zero s bs
 no-run r s [] = refl
 no-run r s (b ∷ bs) = refl
 
 -- what is written of one byte, by its kind
 module _ (b : ℕ) (bs : List ℕ) where
-  blank-dropped : (r : Bool) → T (isBlank b) → normalFrom zero r (b ∷ bs) ≡ normalFrom zero true bs
+  pub blank-dropped : (r : Bool) → T (isBlank b) → normalFrom zero r (b ∷ bs) ≡ normalFrom zero true bs
   blank-dropped r t = cond-true (isBlank b) _ _ t
 
-  byte-kept : (r : Bool) → (T (isBlank b) → ⊥) → (b ≡ 0x3C → ⊥) → normalFrom zero r (b ∷ bs) ≡ b ∷ normalFrom zero false bs
+  pub byte-kept : (r : Bool) → (T (isBlank b) → ⊥) → (b ≡ 0x3C → ⊥) → normalFrom zero r (b ∷ bs) ≡ b ∷ normalFrom zero false bs
   byte-kept r n m = cond-false (isBlank b) _ _ n ∙ cond-false (eqb b 0x3C) _ _ (λ t. m (eqb→eq b 0x3C t))
 
   opening-kept : (r : Bool) → b ≡ 0x3C → normalFrom zero r (b ∷ bs) ≡ b ∷ normalFrom 2 false bs
   opening-kept r e = subst (λ (c : ℕ). normalFrom zero r (c ∷ bs) ≡ c ∷ normalFrom 2 false bs) (sym e) refl
 
-  run-dropped : (d : ℕ) → T (isBlank b) → normalFrom (suc d) true (b ∷ bs) ≡ normalFrom (suc d) true bs
+  pub run-dropped : (d : ℕ) → T (isBlank b) → normalFrom (suc d) true (b ∷ bs) ≡ normalFrom (suc d) true bs
   run-dropped d t = cond-true (isBlank b) _ _ t
 
-  run-ends : (d : ℕ) → (T (isBlank b) → ⊥) → normalFrom (suc d) true (b ∷ bs) ≡ b ∷ normalFrom (suc d) false bs
+  pub run-ends : (d : ℕ) → (T (isBlank b) → ⊥) → normalFrom (suc d) true (b ∷ bs) ≡ b ∷ normalFrom (suc d) false bs
   run-ends d n = cond-false (isBlank b) _ _ n
 
-  blank-written : (d : ℕ) → T (isBlank b) → normalFrom (suc d) false (b ∷ bs) ≡ 0x20 ∷ normalFrom d true bs
+  pub blank-written : (d : ℕ) → T (isBlank b) → normalFrom (suc d) false (b ∷ bs) ≡ 0x20 ∷ normalFrom d true bs
   blank-written d t = cond-true (isBlank b) _ _ t
 
-  byte-before : (d : ℕ) → (T (isBlank b) → ⊥) → normalFrom (suc d) false (b ∷ bs) ≡ b ∷ normalFrom (suc d) false bs
+  pub byte-before : (d : ℕ) → (T (isBlank b) → ⊥) → normalFrom (suc d) false (b ∷ bs) ≡ b ∷ normalFrom (suc d) false bs
   byte-before d n = cond-false (isBlank b) _ _ n
 
 -- a normal form is its own

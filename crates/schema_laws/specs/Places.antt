@@ -1,4 +1,4 @@
--- What a schema text spells but for places: the machine never looks at a place, so it can be run without them. Assumes nothing.
+-- What a schema text spells but for places: the machine never looks at a place, so it can be run without them.
 use mathlib.Core.Bool.{Bool, true, false, cond, _&&_}
 use mathlib.Core.List.{List, [], _∷_, map, reverse}
 use mathlib.Core.Option.{some}

@@ -1,5 +1,5 @@
 -- The record of a schema: the normal form of an accepted text is accepted with the same schema, and the test of records passes exactly
--- those that an accepted text gives. Assumes nothing.
+-- those that an accepted text gives.
 use mathlib.Core.Bool.{Bool, true, false, cond, not, _||_}
 use mathlib.Core.List.{List, [], _∷_, _++_, map, map-append}
 use mathlib.Core.Logic.{⊎-elim, _↔_}

@@ -1,4 +1,4 @@
--- Sets of names as 64 bits: a set that is handed back and in again is the same, and bits without a name mean nothing. Assumes nothing.
+-- Sets of names as 64 bits: a set that is handed back and in again is the same, and bits without a name mean nothing.
 use mathlib.Core.Bool.{Bool, true, false, cond}
 use mathlib.Core.List.{[], _∷_, map, List·Memᴰ as In, List·Memᴰ·head as here, List·Memᴰ·tail as there, List·Memᴰ·cases-cons as cases-cons}
 use mathlib.Core.Logic.{_⊎_, inl, inr, ⊎-elim}

@@ -1,4 +1,4 @@
--- Elements by their names. Assumes nothing.
+-- Elements by their names.
 use mathlib.Core.List.{List, map}
 use mathlib.Core.Option.{Option, none, some}
 use mathlib.Core.Path.{_≡_, ap}

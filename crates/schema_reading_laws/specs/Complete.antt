@@ -1,4 +1,4 @@
--- The machine reads each text of the grammar, and spells what its derivation declares, places included. Assumes nothing.
+-- The machine reads each text of the grammar, and spells what its derivation declares, places included.
 use mathlib.Core.Bool.{_&&_}
 use mathlib.Core.List.{List, [], _∷_, _++_, append-assoc, append-nil, reverse, reverseAux, reverse-reverse}
 use mathlib.Core.Option.{some}

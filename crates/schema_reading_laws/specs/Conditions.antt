@@ -1,4 +1,4 @@
--- Refusals 5, 6 and 7 are listed exactly at the places where they apply to the declarations. Assumes nothing.
+-- Refusals 5, 6 and 7 are listed exactly at the places where they apply to the declarations.
 use mathlib.Core.Bool.{Bool, true, false, cond, not}
 use mathlib.Core.List.{List, [], _∷_, _++_, map, List·Memᴰ as In, List·Memᴰ·head as here, List·Memᴰ·tail as there, List·Memᴰ·append-cases as append-cases, Memᴰ·append-left as append-left, Memᴰ·append-right as append-right}
 use mathlib.Core.Logic.{_⊎_, inl, inr, ⊎-elim}

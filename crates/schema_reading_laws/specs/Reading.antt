@@ -1,5 +1,5 @@
 -- Reading a schema text means what the grammar and the conditions say: the first refusal that applies, or the schema that the
--- text's derivation gives. Assumes nothing.
+-- text's derivation gives.
 use mathlib.Core.List.{List, [], _∷_, _++_, List·Memᴰ as In, List·Memᴰ·head as here}
 use mathlib.Core.Path.{_≡_, refl, sym, ap, subst}
 use Prim.Native.Nat.{ℕ}

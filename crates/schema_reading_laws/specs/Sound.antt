@@ -1,4 +1,4 @@
--- Each text that the machine reads is of the grammar, and declares what the machine spells. Assumes nothing.
+-- Each text that the machine reads is of the grammar, and declares what the machine spells.
 use mathlib.Core.Bool.{not}
 use mathlib.Core.List.{List, [], _∷_, _++_, append-assoc, append-nil, reverse, reverseAux, reverse-reverse}
 use mathlib.Core.Path.{_≡_, refl, sym, ap, subst, _∙_}

@@ -1,4 +1,4 @@
--- Relations between names as tables, and the closure of one: one or more steps, by Warshall's method. Assumes nothing.
+-- Relations between names as tables, and the closure of one: one or more steps, by Warshall's method.
 use mathlib.Core.Bool.{Bool, cond, _&&_, _||_}
 use mathlib.Core.List.{List, [], _∷_}
 use Rattle.schema_spec.specs.Names.{Name, Names, sameName, has}

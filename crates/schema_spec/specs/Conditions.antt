@@ -1,4 +1,4 @@
--- When and where refusals 2 to 7 apply to a schema text, and what the text gives: no machine is mentioned. Assumes nothing.
+-- When and where refusals 2 to 7 apply to a schema text, and what the text gives: no machine is mentioned.
 use mathlib.Core.List.{List, List·Memᴰ}
 use mathlib.Core.Path.{_≡_}
 use Prim.Native.Nat.{ℕ, _≤_}

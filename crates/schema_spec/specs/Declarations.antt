@@ -1,4 +1,4 @@
--- Declarations as they are written: each name with its place. Assumes nothing.
+-- Declarations as they are written: each name with its place.
 use mathlib.Core.Bool.{true, false}
 use mathlib.Core.List.{List, []}
 use Prim.Native.Nat.{ℕ}

@@ -1,5 +1,5 @@
 -- The grammar of schema texts: XML 1.0 productions 45 to 51 as document 01 cuts them down, as a relation between a text, the place
--- where it starts and what it declares. Assumes nothing.
+-- where it starts and what it declares.
 use mathlib.Core.List.{List, [], _∷_, _++_}
 use Prim.Native.Nat.{ℕ, suc, _+_}
 use lib.Dec.{T}

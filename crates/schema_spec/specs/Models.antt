@@ -1,4 +1,4 @@
--- Content models: what fits one, as a relation, and a form that computes. Assumes nothing.
+-- Content models: what fits one, as a relation, and a form that computes.
 use mathlib.Core.Bool.{Bool, true, false, _&&_, _||_}
 use mathlib.Core.List.{List, [], _∷_, _++_}
 use Prim.Native.Nat.{ℕ}

@@ -1,4 +1,4 @@
--- Names of the type system, sets of them, and their 64-bit encoding. Assumes nothing.
+-- Names of the type system, sets of them, and their 64-bit encoding.
 use mathlib.Core.Bool.{Bool, true, false, cond}
 use mathlib.Core.List.{List, [], _∷_, _++_, map}
 use mathlib.Core.Option.{Option, none, some}

@@ -1,4 +1,4 @@
--- The outcome of reading a schema text: refusals 2 to 7, or the schema. Assumes nothing.
+-- The outcome of reading a schema text: refusals 2 to 7, or the schema.
 use mathlib.Core.Bool.{cond, not}
 use mathlib.Core.List.{List, [], _∷_, _++_, map}
 use Prim.Native.Nat.{ℕ}

@@ -1,14 +1,14 @@
 -- The record that the schema reader hands back: the accepted text in a normal form, with only the blanks that the grammar requires.
--- Assumes nothing.
-use mathlib.Core.Bool.{Bool, true, false, cond, _&&_}
-use mathlib.Core.List.{List, [], _∷_}
+use mathlib.Core.Bool.{Bool, true, false, cond, not, _&&_}
+use mathlib.Core.List.{List, [], _∷_, _++_}
 use mathlib.Core.Path.{_≡_}
 use Prim.Native.Nat.{ℕ, zero, suc}
-use lib.Dec.{eqb}
+use lib.Dec.{T, eqb}
+use Rattle.schema_spec.specs.Declarations.{elementKeyword}
 use Rattle.schema_spec.specs.Reading.{readSchema}
 use Rattle.schema_spec.specs.Schemas.{Schema}
-use Rattle.text_spec.specs.Bytes.{isBlank}
-use Rattle.text_spec.specs.Lists.{sameBytes}
+use Rattle.text_spec.specs.Bytes.{isBlank, isName}
+use Rattle.text_spec.specs.Lists.{allOf, sameBytes}
 use Rattle.text_spec.specs.Refusals.{Outcome, accepted, refused, isAccepted, resultOr}
 
 -- A declaration has two blanks that production 45 requires, after `<!ELEMENT` and after the name: they come first, as one space each.
@@ -21,6 +21,12 @@ normalFrom (suc due) false (b ∷ bs) = cond (isBlank b) (0x20 ∷ normalFrom du
 
 unfoldable pub normal : List ℕ → List ℕ
 normal text = normalFrom 0 false text
+
+-- What it is: in each declaration one space after `<!ELEMENT` and one after the name, and no other blank.
+pub data OnlyRequiredBlanks : List ℕ → Type 0 where
+  no-declaration : OnlyRequiredBlanks []
+  next-declaration : {r : List ℕ} (n w : List ℕ) → T (isName n) → T (allOf (λ b. not (isBlank b)) w) → OnlyRequiredBlanks r
+      → OnlyRequiredBlanks (elementKeyword ++ (0x20 ∷ (n ++ (0x20 ∷ (w ++ (0x3E ∷ r))))))
 
 -- the schema in a record
 unfoldable pub schemaIn : List ℕ → Schema

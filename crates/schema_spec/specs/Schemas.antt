@@ -1,4 +1,4 @@
--- The schema that declarations give: elements by index, their names, contents and models. Assumes nothing.
+-- The schema that declarations give: elements by index, their names, contents and models.
 use mathlib.Core.Bool.{Bool, true, false, cond}
 use mathlib.Core.List.{List, [], _∷_, map}
 use mathlib.Core.Option.{Option, none, some}

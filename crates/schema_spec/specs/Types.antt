@@ -1,4 +1,4 @@
--- What types are inferred from: the names of a schema, which holds which, below and above. Assumes nothing.
+-- What types are inferred from: the names of a schema, which holds which, below and above.
 use mathlib.Core.Bool.{Bool, false, _&&_}
 use lib.Dec.{T, eqb}
 use Rattle.schema_spec.specs.Closure.{Relation, related, closure}

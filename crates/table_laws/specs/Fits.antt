@@ -1,8 +1,9 @@
--- The test of well-formed tables, taken apart: the root, a later row, a text inside its text. Assumes nothing.
+-- The test of well-formed tables, taken apart: the root, a later row, a text inside its text.
 use mathlib.Core.Bool.{Bool, _&&_, _||_}
-use mathlib.Core.List.{List, [], _∷_, _++_}
+use mathlib.Core.List.{List, [], _∷_, _++_, List·Memᴰ as In, List·Memᴰ·head as here, List·Memᴰ·tail as there}
+use mathlib.Core.Logic.{_⊎_, inl, inr}
 use mathlib.Core.Option.{Option, none, some}
-use mathlib.Core.Path.{_≡_, refl}
+use mathlib.Core.Path.{_≡_, refl, sym, subst}
 use Prim.Native.Nat.{ℕ, _<_, _≤_}
 use lib.Dec.{T, eqb, leb, ltb, eqb→eq, leb→le, le→leb, ltb→lt, lt→ltb}
 use lib.ListN.{getElem?}
@@ -120,3 +121,22 @@ all-cells s [] t = tt
 all-cells s (r ∷ rs) t =
     let c = rooted s r rs t in
     and-intro (cellsFit r) (allOf cellsFit rs) (c .cells) (later-cells s (top (r .number) (r .name) ∷ []) (top (r .number) (r .name)) rs (c .later))
+
+-- each row of a well-formed table has the root's name or one that some name holds
+abbrev pub RootOrHeld : Types → Name → Type 0
+RootOrHeld s n = (n ≡ s .root) ⊎ ((a : Name) × T (s .holds a n))
+
+later-held : (s : Types) (before : List Node) (previous : Node) (rs : List Row) {r : Row} → T (laterRows s before previous rs) → In r rs → RootOrHeld s (r .name)
+later-held s before previous (q ∷ rs) t i =
+    let y = nodeAt [] before q in
+    let u = and-cases (rowFits s before previous q y) (laterRows s (before ++ (y ∷ [])) y rs) t in
+    let f = fitting s before previous q (row-fits s before previous q y (u .0)) in
+    pick i (inr (nameOf (f .parent), f .held)) (later-held s (before ++ (y ∷ [])) y rs (u .1))
+  where
+    pick : {r : Row} → In r (q ∷ rs) → RootOrHeld s (q .name) → (In r rs → RootOrHeld s (r .name)) → RootOrHeld s (r .name)
+    pick (here e) h later = subst (λ (x : Row). RootOrHeld s (x .name)) (sym e) h
+    pick (there j) h later = later j
+
+pub row-held : (s : Types) (rows : List Row) {r : Row} → T (wellFormed s rows) → In r rows → RootOrHeld s (r .name)
+row-held s (q ∷ rs) t (here e) = subst (λ (x : Row). RootOrHeld s (x .name)) (sym e) (inl (rooted s q rs t .name))
+row-held s (q ∷ rs) t (there i) = later-held s (top (q .number) (q .name) ∷ []) (top (q .number) (q .name)) rs (rooted s q rs t .later) i

@@ -3,3 +3,4 @@ pub mod Nodes
 pub mod Fits
 pub mod RowNodes
 pub mod WellFormed
+pub mod Parents

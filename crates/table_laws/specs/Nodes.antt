@@ -1,4 +1,4 @@
--- The tests on nodes mean what they say: `same` equality, `isParent` an edge, `isAbove` the edges' closure. Assumes nothing.
+-- The tests on nodes mean what they say: `same` equality, `isParent` an edge, `isAbove` the edges' closure.
 use mathlib.Core.Bool.{_&&_}
 use mathlib.Core.Logic.{⊎-elim}
 use mathlib.Core.Path.{_≡_, sym, subst}

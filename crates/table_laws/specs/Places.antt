@@ -1,4 +1,4 @@
--- Places in a list that grows at its end. Assumes nothing.
+-- Places in a list that grows at its end.
 use mathlib.Core.List.{List, [], _∷_, _++_, List·Memᴰ as In, List·Memᴰ·head as here, List·Memᴰ·tail as there}
 use mathlib.Core.Logic.{_⊎_, inl, inr, ⊎-elim}
 use mathlib.Core.Option.{Option, none, some}

@@ -1,4 +1,4 @@
--- The node of a row, by its place, and what its ancestors and its depth say of the rows. Assumes nothing.
+-- The node of a row, by its place, and what its ancestors and its depth say of the rows.
 use mathlib.Core.List.{List, []}
 use mathlib.Core.Logic.{⊎-elim}
 use mathlib.Core.Path.{_≡_, refl, sym, ap, subst, _∙_}

@@ -1,4 +1,4 @@
--- The test of well-formed tables passes exactly where document 01's sentences hold. Assumes nothing.
+-- The test of well-formed tables passes exactly where document 01's sentences hold.
 use mathlib.Core.Bool.{Bool, false, not, _&&_, _||_}
 use mathlib.Core.List.{List, [], _∷_, _++_, append-assoc, List·Memᴰ as In}
 use mathlib.Core.Logic.{_↔_, _⊎_, inl, inr, ⊎-elim}

@@ -1,4 +1,4 @@
--- What document 01 says of a well-formed table, sentence by sentence, over positions of rows: no loop is mentioned. Assumes nothing.
+-- What document 01 says of a well-formed table, sentence by sentence, over positions of rows: no loop is mentioned.
 use mathlib.Core.List.{List, List·Memᴰ}
 use mathlib.Core.Logic.{_⊎_}
 use mathlib.Core.Option.{some}

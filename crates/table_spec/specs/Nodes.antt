@@ -1,4 +1,4 @@
--- Nodes, the edges between them and their closure (source document 000, 2.1 and 3.1), and the nodes of a table. Assumes nothing.
+-- Nodes, the edges between them and their closure (source document 000, 2.1 and 3.1), and the nodes of a table.
 use mathlib.Core.Bool.{Bool, true, false, _&&_, _||_}
 use mathlib.Core.List.{List, [], _∷_, _++_}
 use mathlib.Core.Option.{Option, none, some}

@@ -1,4 +1,4 @@
--- Rows, and how they stand in lent cells. Assumes nothing.
+-- Rows, and how they stand in lent cells.
 use mathlib.Core.List.{List, [], _∷_}
 use mathlib.Core.Option.{Option, none, some}
 use Prim.Native.Nat.{ℕ}

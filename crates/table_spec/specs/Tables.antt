@@ -1,4 +1,4 @@
--- Well-formed tables. Assumes nothing.
+-- Well-formed tables.
 use mathlib.Core.Bool.{Bool, true, false, not, _&&_, _||_}
 use mathlib.Core.List.{List, [], _∷_, _++_}
 use Prim.Native.Nat.{ℕ}

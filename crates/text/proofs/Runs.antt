@@ -1,4 +1,4 @@
--- What is computed once over a run of bytes holds at each byte of the run. Assumes nothing.
+-- What is computed once over a run of bytes holds at each byte of the run.
 use mathlib.Core.Path.{_≡_, refl, sym, ap, subst, _∙_}
 use mathlib.Core.Bool.{Bool, true, false, cond, not, _||_, _&&_}
 use mathlib.Core.List.{List, [], _∷_}

@@ -1,4 +1,4 @@
--- The code's classes of bytes as the definition's. Assumes nothing.
+-- The code's classes of bytes as the definition's.
 use mathlib.Core.Bool.{Bool, true, false, _||_}
 use Prim.Native.Nat.{ℕ}
 use lib.Dec.{eqb}

@@ -1,4 +1,4 @@
--- The first of a list of places, or the length where there is none. Assumes nothing.
+-- The first of a list of places, or the length where there is none.
 use mathlib.Core.List.{List}
 use Prim.Native.Nat.{ℕ}
 use lib.ListN.{length}

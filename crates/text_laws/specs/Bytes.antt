@@ -8,7 +8,7 @@ use native.Mathlib.Omega.{arith}
 use lib.Dec.{T, eqb, leb, eqb→eq, le→leb}
 use lib.ListN.{length, length-append}
 use Rattle.text_laws.specs.Lists.{all-snoc}
-use Rattle.text_laws.specs.Tests.{passed, false-of, or-cases, and-intro, and-cases}
+use Rattle.text_laws.specs.Tests.{passed, true-of, false-of, or-cases, and-intro, and-cases}
 use Rattle.text_spec.specs.Bytes.{isBlank, isLetter, isDigit, startsName, continuesName, isName}
 use Rattle.text_spec.specs.Limits.{maxNameBytes}
 use Rattle.text_spec.specs.Lists.{allOf}
@@ -35,6 +35,14 @@ starts-continues b e = go (isLetter b) (isDigit b) (eqb b 0x2D) (eqb b 0x2E) (eq
 -- .. and is no blank
 pub starts-no-blank : (b : ℕ) → startsName b ≡ true → isBlank b ≡ false
 starts-no-blank b e = false-of (isBlank b) (λ t. each-blank (λ c. T (startsName c) → ⊥) (λ z. z) (λ z. z) (λ z. z) b t (passed e))
+
+-- the bytes of a name all continue one
+pub name-bytes : (n : List ℕ) → T (isName n) → T (allOf continuesName n)
+name-bytes [] t = absurd t
+name-bytes (b ∷ n) t =
+    let c = and-cases (startsName b) (allOf continuesName n && leb (length (b ∷ n)) maxNameBytes) t in
+    let d = and-cases (allOf continuesName n) (leb (length (b ∷ n)) maxNameBytes) (c .1) in
+    and-intro (continuesName b) (allOf continuesName n) (passed (starts-continues b (true-of (startsName b) (c .0)))) (d .0)
 
 pub one-byte-name : (b : ℕ) → T (startsName b) → T (isName (b ∷ []))
 one-byte-name b t = and-intro (startsName b) true t tt

@@ -1,54 +1,83 @@
--- Laws of calls: the computing form of each stage satisfies its relation, and nothing else does.
-use mathlib.Core.Bool.{Bool, true, false, cond}
-use mathlib.Core.Path.{_≡_, refl, sym, ap, subst, _∙_}
+-- Laws of calls: the computing form of each stage is the one outcome that its relation allows.
+use mathlib.Core.Bool.{Bool, true, false}
+use mathlib.Core.Option.{Option, none, some}
+use mathlib.Core.Path.{_≡_, refl, ap, subst}
 use lib.Dec.{T}
 use Rattle.text_laws.specs.Tests.{never}
-use Rattle.text_spec.specs.Calls.{tested, Tested, refused-by-1, passes-1, inRoom, InRoom, refused-by-18, answered, Answers, answers, InTurn, refused-here, goes-on}
-use Rattle.text_spec.specs.Refusals.{Refusal, Outcome, accepted, refused, andThen}
+use Rattle.text_spec.specs.Calls.{tested, Tested, refused-by-1, passes-1, inRoom, InRoom, refused-by-18, answered, Answers, answers, handed, Handed, not-handed, holds, InTurn, refused-here, goes-on}
+use Rattle.text_spec.specs.Refusals.{Outcome, accepted, refused, andThen}
 
--- at most one outcome satisfies a relation
-abbrev pub Only : {A : Type 0} → (Outcome A → Type 0) → Type 0
-Only {A} P = (o p : Outcome A) → P o → P p → o ≡ p
+-- a value satisfies a relation, and no other one does
+abbrev pub IsUnique : {A : Type 0} → (A → Type 0) → A → Type 0
+IsUnique {A} P a = P a × ((b : A) → P b → b ≡ a)
+
+abbrev pub IsOutcome : {A : Type 0} → (Outcome A → Type 0) → Outcome A → Type 0
+IsOutcome {A} P o = IsUnique {A = Outcome A} P o
 
 module _ {A : Type 0} where
-  pub tested-means : {Passes : Type 0} {Rest : Outcome A → Type 0} (b : Bool) (o : Outcome A) → (T b → Passes) → (Passes → T b) → (T b → Rest o)
-      → Tested Passes Rest (tested b o)
-  tested-means true o f g h = passes-1 (f tt) (h tt)
-  tested-means false o f g h = refused-by-1 g
+  pub answers-is : {a : A} → IsOutcome (Answers a) (accepted a)
+  answers-is {a} = (answers, only)
+    where
+      only : (p : Outcome A) → Answers a p → p ≡ accepted a
+      only p answers = refl
 
-  pub tested-once : {Passes : Type 0} {Rest : Outcome A → Type 0} → Only Rest → Only (Tested Passes Rest)
-  tested-once u o p (refused-by-1 n) (refused-by-1 m) = refl
-  tested-once u o p (refused-by-1 n) (passes-1 y r) = absurd (n y)
-  tested-once u o p (passes-1 y r) (refused-by-1 n) = absurd (n y)
-  tested-once u o p (passes-1 y r) (passes-1 z q) = u o p r q
+  pub room-is : {Short : Type 0} (b : Bool) (a : A) → (T b → Short) → (Short → T b) → IsOutcome (InRoom Short a) (inRoom b a)
+  room-is {Short} true a f g = (refused-by-18 (f tt), only)
+    where
+      only : (p : Outcome A) → InRoom Short a p → p ≡ inRoom true a
+      only p (refused-by-18 x) = refl
+      only p (answered n) = absurd (n (f tt))
+  room-is {Short} false a f g = (answered g, only)
+    where
+      only : (p : Outcome A) → InRoom Short a p → p ≡ inRoom false a
+      only p (refused-by-18 x) = absurd (g x)
+      only p (answered n) = refl
 
-  pub room-means : {Short : Type 0} (b : Bool) (a : A) → (T b → Short) → (Short → T b) → InRoom Short a (inRoom b a)
-  room-means true a f g = refused-by-18 (f tt)
-  room-means false a f g = answered g
-
-  pub room-once : {Short : Type 0} {a : A} → Only (InRoom Short a)
-  room-once o p (refused-by-18 x) (refused-by-18 y) = refl
-  room-once o p (refused-by-18 x) (answered n) = absurd (n x)
-  room-once o p (answered n) (refused-by-18 x) = absurd (n x)
-  room-once o p (answered n) (answered m) = refl
-
-  pub answers-once : {a : A} → Only (Answers a)
-  answers-once o p answers answers = refl
+  pub tested-is : {Passes : Type 0} {Rest : Outcome A → Type 0} (b : Bool) (o : Outcome A) → (T b → Passes) → (Passes → T b) → (T b → IsOutcome Rest o)
+      → IsOutcome (Tested Passes Rest) (tested b o)
+  tested-is {Passes} {Rest} true o f g h = (passes-1 (f tt) (h tt .0), only)
+    where
+      only : (p : Outcome A) → Tested Passes Rest p → p ≡ o
+      only p (refused-by-1 n) = absurd (n (f tt))
+      only p (passes-1 y r) = h tt .1 p r
+  tested-is {Passes} {Rest} false o f g h = (refused-by-1 g, only)
+    where
+      only : (p : Outcome A) → Tested Passes Rest p → p ≡ tested false o
+      only p (refused-by-1 n) = refl
+      only p (passes-1 y r) = absurd (g y)
 
 module _ {A B : Type 0} where
-  pub turn-means : {First : Outcome A → Type 0} {Next : A → Outcome B → Type 0} (o : Outcome A) (f : A → Outcome B) → First o
-      → ((a : A) → First (accepted a) → Next a (f a)) → InTurn First Next (andThen o f)
-  turn-means (accepted a) f x h = goes-on x (h a x)
-  turn-means (refused r) f x h = refused-here x
+  pub handed-is : {Holds : A → Type 0} {Rest : A → Outcome B → Type 0} (h : Option A) (f : A → Outcome B) → ((a : A) → h ≡ some a → Holds a)
+      → ((a : A) → Holds a → h ≡ some a) → ((a : A) → IsOutcome (Rest a) (f a)) → IsOutcome (Handed Holds Rest) (handed h f)
+  handed-is {Holds} {Rest} none f to from rest = (not-handed (λ a x. let e = from a x in never (cc)), only)
+    where
+      only : (p : Outcome B) → Handed Holds Rest p → p ≡ handed none f
+      only p (not-handed n) = refl
+      only p (holds {a = a} x r) = let e = from a x in never (cc)
+  handed-is {Holds} {Rest} (some a) f to from rest = (holds (to a refl) (rest a .0), only)
+    where
+      only : (p : Outcome B) → Handed Holds Rest p → p ≡ f a
+      only p (not-handed n) = absurd (n a (to a refl))
+      only p (holds {a = b} x r) =
+          let e : some a ≡ some b = from b x in
+          let same : b ≡ a = cc in
+          rest a .1 p (subst (λ (c : A). Rest c p) same r)
 
-  pub turn-once : {First : Outcome A → Type 0} {Next : A → Outcome B → Type 0} → Only First → ((a : A) → Only (Next a)) → Only (InTurn First Next)
-  turn-once {First} {Next} u v o p (refused-here {f = f} x) (refused-here {f = g} y) = same-refusal (u (refused f) (refused g) x y)
+  pub turn-is : {First : Outcome A → Type 0} {Next : A → Outcome B → Type 0} (o : Outcome A) (f : A → Outcome B) → IsOutcome First o
+      → ((a : A) → First (accepted a) → IsOutcome (Next a) (f a)) → IsOutcome (InTurn First Next) (andThen o f)
+  turn-is {First} {Next} (accepted a) f x next = (goes-on (x .0) (next a (x .0) .0), only)
     where
-      same-refusal : _≡_ {A = Outcome A} (refused f) (refused g) → _≡_ {A = Outcome B} (refused f) (refused g)
-      same-refusal e = let h : f ≡ g = cc in ap refused h
-  turn-once u v o p (refused-here {f = f} x) (goes-on {a = a} y n) = let e = u (refused f) (accepted a) x y in never (cc)
-  turn-once u v o p (goes-on {a = a} y n) (refused-here {f = f} x) = let e = u (accepted a) (refused f) y x in never (cc)
-  turn-once {First} {Next} u v o p (goes-on {a = a} x n) (goes-on {a = b} y m) = go (u (accepted a) (accepted b) x y)
+      only : (p : Outcome B) → InTurn First Next p → p ≡ f a
+      only p (refused-here {f = g} y) = let e = x .1 (refused g) y in never (cc)
+      only p (goes-on {a = b} y r) =
+          let e = x .1 (accepted b) y in
+          let same : b ≡ a = cc in
+          next a (x .0) .1 p (subst (λ (c : A). Next c p) same r)
+  turn-is {First} {Next} (refused g) f x next = (refused-here (x .0), only)
     where
-      go : _≡_ {A = Outcome A} (accepted a) (accepted b) → o ≡ p
-      go e = let h : a ≡ b = cc in v b o p (subst (λ (c : A). Next c o) h n) m
+      only : (p : Outcome B) → InTurn First Next p → p ≡ refused g
+      only p (refused-here {f = h} y) =
+          let e = x .1 (refused h) y in
+          let same : h ≡ g = cc in
+          ap refused same
+      only p (goes-on {a = b} y r) = let e = x .1 (accepted b) y in never (cc)

@@ -1,4 +1,4 @@
--- Laws of answers in lent cells: the answer, and then zeros. Assumes nothing.
+-- Laws of answers in lent cells: the answer, and then zeros.
 use mathlib.Core.List.{List, [], _∷_, _++_}
 use mathlib.Core.Path.{_≡_, refl, ap, _∙_}
 use Prim.Native.Nat.{ℕ, zero, suc, _-_, _≤_}

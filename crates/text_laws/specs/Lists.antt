@@ -1,12 +1,12 @@
--- Laws of lists as finite sets: tests over all elements, filters, joined lists, equal lists. Assumes nothing.
-use mathlib.Core.Bool.{Bool, true, false, cond}
+-- Laws of lists as finite sets: tests over all elements, filters, joined lists, equal lists.
+use mathlib.Core.Bool.{Bool, true, false, cond, not, _&&_, _||_}
 use mathlib.Core.List.{List, [], _∷_, _++_, map, List·Memᴰ as In, List·Memᴰ·head as here, List·Memᴰ·tail as there, List·Memᴰ·append-cases as append-cases, Memᴰ·append-left as append-left, Memᴰ·append-right as append-right}
 use mathlib.Core.Logic.{_⊎_, inl, inr, ⊎-elim}
 use mathlib.Core.Option.{Option, none, some}
 use mathlib.Core.Path.{_≡_, refl, sym, ap, subst, _∙_}
 use Prim.Native.Nat.{ℕ}
 use lib.Dec.{T, eqb, eqb→eq, eqb-refl}
-use Rattle.text_laws.specs.Tests.{or-left, or-right, or-cases, and-intro, and-cases}
+use Rattle.text_laws.specs.Tests.{or-left, or-right, or-cases, and-intro, and-cases, failed, same-test}
 use Rattle.text_spec.specs.Lists.{anyOf, allOf, filterBy, gather, sameBy, sameBytes, isEmpty, isNone}
 
 module _ {A : Type 0} where
@@ -21,6 +21,22 @@ module _ {A : Type 0} where
       (λ h.
       let r = in-any f xs h in
       (r .0, there (r .1), r .2)) (or-cases (f x) (anyOf f xs) t)
+
+  pub any-of-cong : (f g : A → Bool) (xs : List A) → ((x : A) → f x ≡ g x) → anyOf f xs ≡ anyOf g xs
+  any-of-cong f g [] h = refl
+  any-of-cong f g (x ∷ xs) h = ap (λ (b : Bool). b || anyOf f xs) (h x) ∙ ap (λ (b : Bool). g x || b) (any-of-cong f g xs h)
+
+  pub any-of-cond : (f : A → Bool) (b : Bool) (x : A) (xs : List A) → anyOf f (cond b (x ∷ xs) xs) ≡ ((b && f x) || anyOf f xs)
+  any-of-cond f true x xs = refl
+  any-of-cond f false x xs = refl
+
+  pub any-of-filter : (f g : A → Bool) (xs : List A) → anyOf f (filterBy g xs) ≡ anyOf (λ x. g x && f x) xs
+  any-of-filter f g [] = refl
+  any-of-filter f g (x ∷ xs) = any-of-cond f (g x) x (filterBy g xs) ∙ ap (λ (b : Bool). (g x && f x) || b) (any-of-filter f g xs)
+
+  pub filled-any : (xs : List A) → not (isEmpty xs) ≡ anyOf (λ x. true) xs
+  filled-any [] = refl
+  filled-any (x ∷ xs) = refl
 
   pub all-in : (f : A → Bool) {xs : List A} {y : A} → T (allOf f xs) → In y xs → T (f y)
   all-in f t (here {x = x} {xs = xs} e) = subst (λ (z : A). T (f z)) (sym e) (and-cases (f x) (allOf f xs) t .0)
@@ -120,6 +136,30 @@ module _ {A : Type 0} where
       let z : _≡_ {A = Bool} (isEmpty {A = A} (x ∷ (xs ++ ys))) (isEmpty {A = A} []) = ap isEmpty e in
       absurd (subst T (sym z) tt)
 
+  -- a list is split in one way at the first element with a property
+  pub first-split-once : (P : A → Type 0) (u v : List A) {x y : A} {r q : List A} → u ++ (x ∷ r) ≡ v ++ (y ∷ q) → P x → P y
+      → ((z : A) → In z u → P z → ⊥) → ((z : A) → In z v → P z → ⊥) → (u ≡ v) × (x ∷ r ≡ y ∷ q)
+  first-split-once P [] [] e p t f g = (refl, e)
+  first-split-once P [] (b ∷ v) {x} e p t f g = absurd (g x (here (cc)) p)
+  first-split-once P (a ∷ u) [] {y = y} e p t f g = absurd (f y (here (cc)) t)
+  first-split-once P (a ∷ u) (b ∷ v) {x} {y} {r} {q} e p t f g =
+      let tails : u ++ (x ∷ r) ≡ v ++ (y ∷ q) = cc in
+      let s = first-split-once P u v tails p t (λ z i. f z (there i)) (λ z i. g z (there i)) in
+      let h : a ≡ b = cc in
+      (ap (λ (l : List A). a ∷ l) (s .0) ∙ ap (λ (c : A). c ∷ v) h, s .1)
+
+  -- .. and in one way after the elements at its front that pass a test
+  pub span-once : (f : A → Bool) (u v : List A) {x y : A} {r q : List A} → u ++ (x ∷ r) ≡ v ++ (y ∷ q) → T (allOf f u) → T (allOf f v)
+      → f x ≡ false → f y ≡ false → (u ≡ v) × (x ∷ r ≡ y ∷ q)
+  span-once f u v e p q g h =
+      first-split-once (λ z. f z ≡ false) u v e g h (λ z i k. failed k (all-in f p i)) (λ z i k. failed k (all-in f q i))
+
+  pub append-cancel : (u : List A) {v w : List A} → u ++ v ≡ u ++ w → v ≡ w
+  append-cancel [] e = e
+  append-cancel (x ∷ u) {v} {w} e =
+      let d : u ++ v ≡ u ++ w = cc in
+      append-cancel u d
+
   -- a test for elements that tells equal ones tells equal lists
   pub same-lists : (same : A → A → Bool) → ((x y : A) → T (same x y) → x ≡ y) → (xs ys : List A) → T (sameBy same xs ys) → xs ≡ ys
   same-lists same h [] [] t = refl
@@ -140,6 +180,24 @@ pub bytes-same : (u : List ℕ) → T (sameBytes u u)
 bytes-same u = same-itself eqb eqb-refl u
 
 module _ {A B : Type 0} where
+  -- some y for some x, or some x for some y
+  pub any-of-any : (h : A → B → Bool) (g : B → Bool) (xs : List A) (ys : List B) → anyOf (λ y. anyOf (λ x. h x y) xs && g y) ys ≡ anyOf (λ x. anyOf (λ y. h x y && g y) ys) xs
+  any-of-any h g xs ys = same-test (anyOf (λ y. anyOf (λ x. h x y) xs && g y) ys) (anyOf (λ x. anyOf (λ y. h x y && g y) ys) xs) to from
+    where
+      to : T (anyOf (λ y. anyOf (λ x. h x y) xs && g y) ys) → T (anyOf (λ x. anyOf (λ y. h x y && g y) ys) xs)
+      to t =
+          let y = in-any (λ y. anyOf (λ x. h x y) xs && g y) ys t in
+          let c = and-cases (anyOf (λ x. h x (y .0)) xs) (g (y .0)) (y .2) in
+          let x = in-any (λ x. h x (y .0)) xs (c .0) in
+          any-in (λ x. anyOf (λ y. h x y && g y) ys) (x .1) (any-in (λ z. h (x .0) z && g z) (y .1) (and-intro (h (x .0) (y .0)) (g (y .0)) (x .2) (c .1)))
+
+      from : T (anyOf (λ x. anyOf (λ y. h x y && g y) ys) xs) → T (anyOf (λ y. anyOf (λ x. h x y) xs && g y) ys)
+      from t =
+          let x = in-any (λ x. anyOf (λ y. h x y && g y) ys) xs t in
+          let y = in-any (λ z. h (x .0) z && g z) ys (x .2) in
+          let c = and-cases (h (x .0) (y .0)) (g (y .0)) (y .2) in
+          any-in (λ y. anyOf (λ x. h x y) xs && g y) (y .1) (and-intro (anyOf (λ x. h x (y .0)) xs) (g (y .0)) (any-in (λ x. h x (y .0)) (x .1) (c .0)) (c .1))
+
   pub in-gather : (f : A → List B) {xs : List A} {x : A} {y : B} → In x xs → In y (f x) → In y (gather f xs)
   in-gather f {y} (here {xs = xs} e) j = append-left (gather f xs) (subst (λ (z : A). In y (f z)) e j)
   in-gather f (there {x = x} i) j = append-right (f x) (in-gather f i j)

@@ -1,4 +1,4 @@
--- A loop that replaces each element of a list in turn: those passed are as they should be, the others as they were. Assumes nothing.
+-- A loop that replaces each element of a list in turn: those passed are as they should be, the others as they were.
 use mathlib.Core.List.{List}
 use mathlib.Core.Logic.{⊎-elim}
 use mathlib.Core.Path.{_≡_, refl, sym, subst, _∙_}

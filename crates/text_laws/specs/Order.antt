@@ -1,5 +1,5 @@
 -- The order of refusals: where a list of refusals agrees with the conditions, the outcome is judged by the first that applies.
--- It serves every reader. Assumes nothing.
+-- It serves every reader.
 use mathlib.Core.Bool.{Bool, true, false, cond, _&&_}
 use mathlib.Core.List.{List, [], _∷_, _++_, List·Memᴰ as In, List·Memᴰ·head as here, List·Memᴰ·tail as there, List·Memᴰ·append-cases as append-cases, Memᴰ·append-left as append-left, Memᴰ·append-right as append-right}
 use mathlib.Core.Logic.{⊎-elim}
@@ -172,6 +172,19 @@ reason-numbered tooFewCells = refl
 -- a number has one reason
 pub number-injective : (q r : Reason) → numberOf q ≡ numberOf r → q ≡ r
 number-injective q r e = sym (reason-numbered q) ∙ ap reasonOf e ∙ reason-numbered r
+
+-- 1 is the least number, and 2 comes before all others
+number-from-1 : (r : Reason) → 1 ≤ numberOf r
+number-from-1 r =
+    let n : (numberOf r ≡ 0 → ⊥) = λ e.
+    let q : tooFewCells ≡ r = ap reasonOf (sym e) ∙ reason-numbered r in
+    omega (arith, ap numberOf q, e) in
+    omega arith
+
+pub number-from-2 : (r : Reason) → (r ≡ badRecord → ⊥) → 2 ≤ numberOf r
+number-from-2 r n =
+    let m : (numberOf r ≡ 1 → ⊥) = λ e. n (number-injective r badRecord e) in
+    omega (arith, number-from-1 r)
 
 -- the first refusal is one
 pub first-once : (Applies : Reason → ℕ → Type 0) {q r : Reason} {j k : ℕ} → IsFirst Applies q j → IsFirst Applies r k → (q ≡ r) × (j ≡ k)

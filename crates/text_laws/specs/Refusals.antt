@@ -1,4 +1,4 @@
--- Laws of the order of refusals: the first of what was found, and what an accepted text was free of. Assumes nothing.
+-- Laws of the order of refusals: the first of what was found, and what an accepted text was free of.
 use mathlib.Core.Bool.{Bool, true, false}
 use mathlib.Core.List.{List, [], _∷_, List·Memᴰ as In, List·Memᴰ·head as here, List·Memᴰ·tail as there}
 use mathlib.Core.Path.{_≡_, refl}

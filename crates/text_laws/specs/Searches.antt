@@ -1,12 +1,13 @@
--- Whether some number below a bound passes a test. Assumes nothing.
-use mathlib.Core.Bool.{Bool, true, false, _&&_, _||_, or-false, and-or-distrib-right}
+-- Whether some number below a bound passes a test.
+use mathlib.Core.Bool.{Bool, true, false, _&&_, _||_, or-false, or-assoc, and-or-distrib-right}
 use mathlib.Core.Logic.{_⊎_, inl, inr, ⊎-elim}
 use mathlib.Core.Path.{_≡_, refl, sym, ap, ap₂, subst, _∙_}
 use Prim.Native.Nat.{ℕ, zero, suc, _+_, _≤_, _<_}
+use native.Mathlib.Nat.{eq-or-lt-of-le}
 use native.Mathlib.Omega.{arith}
 use borrow.Author.Tests.{lt-ltb, le-ltb, ltb-true, ltb-false, eqb-true, eqb-false}
-use lib.Dec.{T, eqb, ltb, eqb→eq, eqb-refl, ltb→lt, lt→ltb}
-use Rattle.text_laws.specs.Tests.{or-left, or-right, or-cases, and-intro, and-cases, decided, same-test}
+use lib.Dec.{T, eqb, leb, ltb, eqb→eq, eqb-refl, leb→le, le→leb, ltb→lt, lt→ltb}
+use Rattle.text_laws.specs.Tests.{or-left, or-right, or-cases, and-intro, and-cases, decided, false-of, same-test}
 use Rattle.text_spec.specs.Lists.{anyBelow}
 
 pub any-below : (n : ℕ) (f : ℕ → Bool) (i : ℕ) → i < n → T (f i) → T (anyBelow n f)
@@ -47,6 +48,45 @@ pub any-none : (n : ℕ) → anyBelow n (λ i. false) ≡ false
 unfolding anyBelow
 any-none zero = refl
 any-none (suc n) = ap (λ (b : Bool). b || false) (any-none n)
+
+pub any-never : (n : ℕ) (f : ℕ → Bool) → ((i : ℕ) → i < n → T (f i) → ⊥) → anyBelow n f ≡ false
+any-never n f none = false-of (anyBelow n f) (λ t. let r = below-any n f t in none (r .0) (r .1) (r .2))
+
+-- number 0 apart
+pub any-zero : (n : ℕ) (f : ℕ → Bool) → anyBelow (suc n) f ≡ (f 0 || anyBelow n (λ i. f (suc i)))
+unfolding anyBelow
+any-zero zero f = sym (or-false (f 0))
+any-zero (suc n) f = ap (λ (b : Bool). b || f (suc n)) (any-zero n f) ∙ or-assoc (f 0) (anyBelow n (λ i. f (suc i))) (f (suc n))
+
+-- some number from k on: one after k, or k itself
+pub any-from : (n : ℕ) (f : ℕ → Bool) (k : ℕ) → k < n → anyBelow n (λ i. leb k i && f i) ≡ (anyBelow n (λ i. leb (suc k) i && f i) || f k)
+any-from n f k l = same-test (anyBelow n (λ i. leb k i && f i)) (later || f k) to from
+  where
+    later : Bool
+    later = anyBelow n (λ i. leb (suc k) i && f i)
+
+    to : T (anyBelow n (λ i. leb k i && f i)) → T (later || f k)
+    to t =
+        let r = below-any n (λ i. leb k i && f i) t in
+        let c = and-cases (leb k (r .0)) (f (r .0)) (r .2) in
+        ⊎-elim (λ e. or-right later (f k) (subst (λ (z : ℕ). T (f z)) (sym e) (c .1)))
+        (λ d. or-left later (f k) (any-below n (λ i. leb (suc k) i && f i) (r .0) (r .1) (and-intro (leb (suc k) (r .0)) (f (r .0)) (le→leb _ _ d) (c .1))))
+        (eq-or-lt-of-le (leb→le k (r .0) (c .0)))
+
+    from : T (later || f k) → T (anyBelow n (λ i. leb k i && f i))
+    from t =
+        ⊎-elim (λ u.
+        let r = below-any n (λ i. leb (suc k) i && f i) u in
+        let c = and-cases (leb (suc k) (r .0)) (f (r .0)) (r .2) in
+        let b : suc k ≤ r .0 = leb→le (suc k) (r .0) (c .0) in
+        any-below n (λ i. leb k i && f i) (r .0) (r .1) (and-intro (leb k (r .0)) (f (r .0)) (le→leb k (r .0) (omega arith)) (c .1)))
+        (λ u. any-below n (λ i. leb k i && f i) k l (and-intro (leb k k) (f k) (le→leb k k (omega arith)) u)) (or-cases later (f k) t)
+
+-- a bound that all numbers that pass keep
+pub any-from-all : (n : ℕ) (f : ℕ → Bool) (k : ℕ) → ((i : ℕ) → i < n → T (f i) → k ≤ i) → anyBelow n (λ i. leb k i && f i) ≡ anyBelow n f
+any-from-all n f k all =
+    any-cong n (λ i. leb k i && f i) f
+    (λ i l. same-test (leb k i && f i) (f i) (λ t. and-cases (leb k i) (f i) t .1) (λ t. and-intro (leb k i) (f i) (le→leb k i (all i l t)) t))
 
 -- a factor that is the same for all
 pub any-and : (n : ℕ) (f : ℕ → Bool) (c : Bool) → anyBelow n (λ i. f i && c) ≡ (anyBelow n f && c)

@@ -1,4 +1,4 @@
--- Laws of tests: a test that passes, one that fails, and their conjunctions. Assumes nothing.
+-- Laws of tests: a test that passes, one that fails, and their conjunctions.
 use mathlib.Core.Bool.{Bool, true, false, cond, not, _&&_, _||_}
 use mathlib.Core.Logic.{_⊎_, inl, inr}
 use mathlib.Core.Path.{_≡_, refl, sym, ap, subst}

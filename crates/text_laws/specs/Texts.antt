@@ -1,20 +1,20 @@
--- Refusals 2 and 3 are listed exactly where they apply, for every text; and places in a list. Assumes nothing.
+-- Refusals 2 and 3 are listed exactly where they apply, for every text; and places in a list.
 use mathlib.Core.Bool.{Bool, true, false, cond, _||_}
 use mathlib.Core.List.{List, [], _∷_, _++_, List·Memᴰ as In, List·Memᴰ·head as here, List·Memᴰ·tail as there, Memᴰ·append-right as append-right}
 use mathlib.Core.Logic.{_⊎_, inl, inr, ⊎-elim}
-use mathlib.Core.Path.{_≡_, refl, sym, ap, subst, _∙_}
+use mathlib.Core.Path.{_≡_, refl, sym, ap, ap₂, subst, _∙_}
 use Prim.Native.Nat.{ℕ, zero, suc, _+_, _≤_, _<_}
 use native.Mathlib.Omega.{arith}
 use lib.Dec.{T, ltb, ltb→lt, lt→ltb, nltb→le}
 use lib.ListN.{length, drop}
 use lib.Seq.{drop-append-le}
-use Rattle.text_laws.specs.Order.{Found, Listed, found-given, found-all, listed-given, listed-all}
+use Rattle.text_laws.specs.Order.{Found, Listed, found-given, found-all, listed-given, listed-all, number-from-2, first-once}
 use Rattle.text_laws.specs.Lists.{empty-of}
 use Rattle.text_laws.specs.Refusals.{given-free}
 use Rattle.text_laws.specs.Tests.{or-left, or-right, or-cases, not-intro}
 use Rattle.text_spec.specs.Bytes.{isForeign}
 use Rattle.text_spec.specs.Lists.{isEmpty, placesFrom}
-use Rattle.text_spec.specs.Refusals.{Reason, badLength, badByte, at}
+use Rattle.text_spec.specs.Refusals.{Reason, badRecord, badLength, badByte, Refusal, at, Outcome, refused, IsFirst, Judged, turned-back, taken}
 use Rattle.text_spec.specs.Texts.{lengthRefusals, byteRefusals, SplitAt, LengthApplies, ByteApplies}
 
 module _ {A : Type 0} where
@@ -110,6 +110,35 @@ pub length-within : (limit : ℕ) (text : List ℕ) → lengthRefusals limit tex
 length-within limit text e =
     nltb→le limit (length text)
     (not-intro (ltb limit (length text)) (λ t. given-free (isEmpty text || ltb limit (length text)) (at badLength 0) e (or-right (isEmpty text) (ltb limit (length text)) t)))
+
+-- A text over its limit is refused by 2, where 1 does not apply; one within it that has a byte is not.
+module _ {A : Type 0} (Applies : Reason → ℕ → Type 0) (Gives : A → Type 0) (limit : ℕ) (text : List ℕ) where
+  pub over-length : ((k : ℕ) → Applies badRecord k → ⊥) → ((k : ℕ) → LengthApplies limit text k → Applies badLength k) → limit < length text → {o : Outcome A}
+      → Judged Applies Gives o → o ≡ refused (at badLength 0)
+  over-length no-1 is-2 l {o} j = judged-2 j
+    where
+      first : IsFirst Applies badLength 0
+      first =
+          record {
+            applies = is-2 0 (inr l, refl);
+            lowest = λ q k x. number-from-2 q (λ e. no-1 k (subst (λ (r : Reason). Applies r k) e x));
+            earliest = λ k x. omega arith;
+          }
+
+      judged-2 : {o : Outcome A} → Judged Applies Gives o → o ≡ refused (at badLength 0)
+      judged-2 (turned-back {f = f} x) =
+          let e = first-once Applies x first in
+          ap refused (ap₂ at (e .0) (e .1))
+      judged-2 (taken n g) = absurd (n badLength 0 (first .applies))
+
+  pub within-length : ((k : ℕ) → Applies badLength k → LengthApplies limit text k) → 1 ≤ length text → length text ≤ limit → {f : Refusal}
+      → Judged Applies Gives (refused f) → f .reason ≡ badLength → ⊥
+  within-length is-length more less {f} (turned-back x) e =
+      pick (is-length (f .place) (subst (λ (r : Reason). Applies r (f .place)) e (x .applies)) .0)
+    where
+      pick : (text ≡ []) ⊎ (limit < length text) → ⊥
+      pick (inl m) = omega (arith, ap length m, more)
+      pick (inr l) = omega (arith, l, less)
 
 -- a list is split at each of its places, and at each of its elements
 pub split-at : {A : Type 0} (xs : List A) (n : ℕ) → n < length xs → SplitAt xs n

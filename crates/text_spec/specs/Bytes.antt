@@ -1,4 +1,4 @@
--- Bytes, their six classes, blanks, and names of 1 to 31 bytes. Assumes nothing.
+-- Bytes, their six classes, blanks, and names of 1 to 31 bytes.
 use mathlib.Core.Bool.{Bool, false, cond, not, _&&_, _||_}
 use mathlib.Core.List.{List, [], _∷_}
 use Prim.Native.Nat.{ℕ}

@@ -1,8 +1,8 @@
 -- What a call of a public function answers. "Number 1 is tested before any text. Texts are then judged whole in turn: schema, bundle,
--- journal or extract; 18 is last." Each of the three as a definition that computes and as a relation.
+-- journal or extract; 18 is last." Each as a definition that computes and as a relation.
 use mathlib.Core.Bool.{Bool, cond}
 use mathlib.Core.List.{List, []}
-use mathlib.Core.Path.{_≡_}
+use mathlib.Core.Option.{Option, none, some}
 use Prim.Native.Nat.{ℕ}
 use Rattle.text_spec.specs.Cells.{padded}
 use Rattle.text_spec.specs.Refusals.{Refusal, Outcome, accepted, refused, at, badRecord, tooFewCells}
@@ -29,6 +29,15 @@ module _ {A : Type 0} where
     answers : Answers a (accepted a)
 
 module _ {A B : Type 0} where
+  -- a record or a table is handed in: 1 unless it is one, and then the rest with what it holds
+  abbrev pub handed : Option A → (A → Outcome B) → Outcome B
+  handed none f = refused (at badRecord 0)
+  handed (some a) f = f a
+
+  pub data Handed (Holds : A → Type 0) (Rest : A → Outcome B → Type 0) : Outcome B → Type 0 where
+    not-handed : ((a : A) → Holds a → ⊥) → Handed Holds Rest (refused (at badRecord 0))
+    holds : {a : A} {o : Outcome B} → Holds a → Rest a o → Handed Holds Rest o
+
   -- a text is judged, and what comes next only where it is accepted (`andThen` of Refusals)
   pub data InTurn (First : Outcome A → Type 0) (Next : A → Outcome B → Type 0) : Outcome B → Type 0 where
     refused-here : {f : Refusal} → First (refused f) → InTurn First Next (refused f)

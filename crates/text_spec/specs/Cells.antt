@@ -1,4 +1,4 @@
--- Answers in lent cells: the answer and then zeros, or all zeros on refusal. Assumes nothing.
+-- Answers in lent cells: the answer and then zeros, or all zeros on refusal.
 use mathlib.Core.Bool.{Bool}
 use mathlib.Core.List.{List, [], _∷_, _++_}
 use mathlib.Core.Path.{_≡_}

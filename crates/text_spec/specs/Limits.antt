@@ -1,4 +1,4 @@
--- Every limit of document 01, in one place. Assumes nothing.
+-- Every limit of document 01, in one place.
 use Prim.Native.Nat.{ℕ}
 
 -- Schema: declarations, names in a model, bytes, open parentheses, bytes of a name

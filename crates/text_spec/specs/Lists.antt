@@ -1,4 +1,4 @@
--- Lists as texts and as finite sets: tests, filters, places, parts. Assumes nothing.
+-- Lists as texts and as finite sets: tests, filters, places, parts.
 use mathlib.Core.Bool.{Bool, true, false, cond, _&&_, _||_}
 use mathlib.Core.List.{List, [], _∷_, _++_}
 use mathlib.Core.Option.{Option, none, some}

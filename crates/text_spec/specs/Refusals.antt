@@ -1,4 +1,4 @@
--- Why a text is turned back: the eighteen refusals, their order, and the outcome of a reader. Assumes nothing.
+-- Why a text is turned back: the eighteen refusals, their order, and the outcome of a reader.
 use mathlib.Core.Bool.{Bool, true, false, cond, _&&_, _||_}
 use mathlib.Core.List.{List, [], _∷_, map}
 use mathlib.Core.Option.{Option, none, some}

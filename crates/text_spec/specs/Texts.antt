@@ -1,4 +1,4 @@
--- Refusals 2 and 3, which every text meets before its own. Assumes nothing.
+-- Refusals 2 and 3, which every text meets before its own.
 use mathlib.Core.Bool.{_||_}
 use mathlib.Core.List.{List, [], _∷_, _++_}
 use mathlib.Core.Logic.{_⊎_}

@@ -1,5 +1,4 @@
 -- Laws of sets of numbers as the bits of a word: what each machine operation does to the bits, and that equal bits make equal words.
--- Assumes nothing.
 use mathlib.Core.Bool.{Bool, true, false, not, _&&_, _||_, true≢false, false≢true}
 use mathlib.Core.Logic.{_⊎_, inl, inr}
 use mathlib.Core.Path.{_≡_, refl, sym, ap, subst, _∙_}

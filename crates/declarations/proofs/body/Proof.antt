@@ -5,10 +5,17 @@ use Rattle.declarations.proofs.body.Statement.{statement}
 use Rattle.declarations.proofs.body.Tie as tie
 
 skip-requires : tie.Need-skip-requires
-skip-requires c κs = content-high (c .before .before .before .before .before .before .before .content .ensures) (c .before .p .given .1)
+skip-requires c κs =
+    let at-p = c .before in
+    let at-content = at-p .before .before .before .before .before .before in
+    content-high (at-content .content .ensures) (at-p .p .given .1)
 
 returns : tie.Need-returns
-returns c = record { says = body-end (c .before .before .before .before .before .before .before .before .before .content .ensures) (c .before .before .before .p .given .1) (c .before .skip .ensures) (c .if1 .taken) }
+returns c =
+    let at-skip = c .before in
+    let at-p = at-skip .before .before in
+    let at-content = at-p .before .before .before .before .before .before in
+    record { says = body-end (at-content .content .ensures) (at-p .p .given .1) (at-skip .skip .ensures) (c .if1 .taken) }
 
 returns-2 : tie.Need-returns-2
 returns-2 c =
@@ -18,7 +25,9 @@ returns-2 c =
     body-close (at-content .content .ensures) (at-p .p .given .1) (at-skip .skip .ensures) (c .before .before .if1 .left) (c .if2 .taken)
 
 returns-3 : tie.Need-returns-3
-returns-3 c = record { says = body-fails (c .before .before .before .before .before .before .before .content .ensures) (c .before .j .given .1) }
+returns-3 c =
+    let at-content = c .before .before .before .before .before .before .before in
+    record { says = body-fails (at-content .content .ensures) (c .before .j .given .1) }
 
 returns-4 : tie.Need-returns-4
 returns-4 c =

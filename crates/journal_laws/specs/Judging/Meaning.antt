@@ -1,5 +1,5 @@
 -- A journal text is accepted exactly when it spells a tree that is valid under the schema and within the limits, and then its rows are
--- that tree's nodes. Assumes nothing.
+-- that tree's nodes.
 use mathlib.Core.Bool.{Bool, true, false, not, _||_}
 use mathlib.Core.List.{List, [], _∷_, reverse, List·Memᴰ as In, List·Memᴰ·head as here, Memᴰ·append-right as append-right}
 use mathlib.Core.Logic.{_⊎_, inl, inr, ⊎-elim}
@@ -12,28 +12,29 @@ use lib.ListN.{length, length-append}
 use Rattle.journal_laws.specs.Contents.{Misplaced, wrong-root, wrong-content, tree-14, tree-15, tree-wrong-root}
 use Rattle.journal_laws.specs.Events.{build, eventsFrom, none-foreign}
 use Rattle.journal_laws.specs.Forests.{treeHeld, closedBuilding, nested-built}
-use Rattle.journal_laws.specs.Judging.{built, found, read-as, source, Source, in-length, in-foreign, in-misspelt, in-broken, in-early, in-faults, as-tokens, nothing-found, tree-or-broken, accepted-tree, accepted-fits, accepted-rows, foreign-origin, ForeignAt, journal-judged}
+use Rattle.journal_laws.specs.Judging.{built, found, read-as, source, Source, in-length, in-foreign, in-misspelt, in-broken, in-early, in-faults, as-tokens, nothing-found, accepted-tree, accepted-fits, accepted-rows, foreign-origin, ForeignAt, journal-judged}
 use Rattle.journal_laws.specs.Nesting.{start}
-use Rattle.journal_laws.specs.NodeLimits.{Over, over-split, split-over, AllFitTree, tree-rows, tree-over, over-tree, faultless-fits}
+use Rattle.journal_laws.specs.NodeLimits.{Over, over-split, split-over, AllFitTree, tree-rows, tree-over, over-tree}
+use Rattle.journal_laws.specs.OneTree.{one-tree}
 use Rattle.journal_laws.specs.Passes.{tokens-lexed}
 use Rattle.journal_laws.specs.Undeclared.{Late, late-14, late-15, late-16, reasons-of}
 use Rattle.journal_spec.specs.Builder.{Building, wrongRoot}
 use Rattle.journal_spec.specs.Conditions.{JournalApplies, JournalGives, gives, ValidJournal}
 use Rattle.journal_spec.specs.Lexer.{between}
 use Rattle.journal_spec.specs.Reading.{initial, run, endsEarly, readJournal}
-use Rattle.journal_spec.specs.Trees.{Forest, WellFormedText, treeRows, treeStarts, NodeStart}
+use Rattle.journal_spec.specs.Trees.{Forest, treeRows, treeStarts, NodeStart}
 use Rattle.journal_spec.specs.Validity.{the-root, ContentFits, Valid}
 use Rattle.schema_spec.specs.Schemas.{Schema, elementNamed, contentAt}
 use Rattle.table_spec.specs.Rows.{Row}
 use Rattle.text_laws.specs.Lists.{all-in, memberless, append-empty, empty-of}
-use Rattle.text_laws.specs.Order.{first-once}
+use Rattle.text_laws.specs.Order.{judged-once}
 use Rattle.text_laws.specs.Refusals.{judged-accepted, judged-free, given-in}
 use Rattle.text_laws.specs.Tests.{or-cases, not-intro, not-elim, decided, never}
 use Rattle.text_laws.specs.Texts.{length-within, split-at, in-split}
 use Rattle.text_spec.specs.Bytes.{isForeign}
 use Rattle.text_spec.specs.Limits.{maxNodes, maxTextBytes}
 use Rattle.text_spec.specs.Lists.{isEmpty, isNone}
-use Rattle.text_spec.specs.Refusals.{Reason, Refusal, at, allAt, misspelt, badContent, undeclaredElement, overNodeLimit, badLength, Outcome, accepted, refused, IsFirst, Judged, turned-back, taken}
+use Rattle.text_spec.specs.Refusals.{Reason, Refusal, at, allAt, misspelt, badContent, undeclaredElement, overNodeLimit, badLength, Outcome, accepted, Judged}
 use Rattle.text_spec.specs.Texts.{SplitAt, lengthRefusals}
 
 -- a declared root that is not the wrong one is the schema's
@@ -182,37 +183,17 @@ module _ (limit : ℕ) (s : Schema) (lent : List ℕ) where
         ∙ (judged-free (found limit s lent) (reverse (built limit s lent .rows)) (memberless (found limit s lent) (λ f i. none-found f (source limit s lent i)))
         ∙ ap accepted (ap (λ (b : Building). reverse (b .rows)) built-as ∙ (tree-rows s (v .place) (v .name) (v .content) (v .valid .each) ∙ sym (v .gives-rows))))
 
--- Two trees that one text spells give the same rows.
-pub one-rows : (limit : ℕ) (s : Schema) (lent : List ℕ) {rows rows′ : List Row} → ValidJournal limit s lent rows → ValidJournal limit s lent rows′ → rows ≡ rows′
-one-rows limit s lent {rows} {rows′} v w =
-    let e : accepted rows ≡ accepted rows′ = sym (valid-accepted limit s lent rows v) ∙ valid-accepted limit s lent rows′ w in
-    cc
+-- A text gives one list of rows: those of the one tree that it spells.
+pub one-rows : {limit : ℕ} {s : Schema} {lent : List ℕ} {rows rows′ : List Row} → ValidJournal limit s lent rows → ValidJournal limit s lent rows′ → rows ≡ rows′
+one-rows {s = s} v w =
+    let t = one-tree (v .tree) (w .tree) in
+    v .gives-rows ∙ (ap (λ (n : List ℕ). treeRows s n (v .content)) (t .1) ∙ (ap (treeRows s (w .name)) (t .2) ∙ sym (w .gives-rows)))
+
+gives-once : (s : Schema) (lent : List ℕ) (rows rows′ : List Row) → JournalGives s lent rows → JournalGives s lent rows′ → rows ≡ rows′
+gives-once s lent rows rows′ (gives {c = c} x) (gives {n = m} y) =
+    let t = one-tree x y in
+    ap (λ (n : List ℕ). treeRows s n c) (t .1) ∙ ap (treeRows s m) (t .2)
 
 -- The conditions admit at most one outcome: that of the reader.
-module _ (limit : ℕ) (s : Schema) (lent : List ℕ) where
-  -- whatever tree a text spells against which nothing was found has the rows that were built
-  tree-given : found limit s lent ≡ [] → {k : ℕ} {n : List ℕ} {c : Forest} → WellFormedText lent k n c → reverse (built limit s lent .rows) ≡ treeRows s n c
-  tree-given free {k} {n} {c} w = pick (tree-or-broken limit s lent w)
-    where
-      pick : ((f : Refusal) × (built limit s lent .broken ≡ some f)) ⊎ (built limit s lent ≡ closedBuilding (treeHeld s k n c)) → reverse (built limit s lent .rows) ≡ treeRows s n c
-      pick (inl x) = absurd (nothing-found limit s lent free (x .0) (in-broken (x .1)))
-      pick (inr a) =
-          ap (λ (b : Building). reverse (b .rows)) a
-          ∙ tree-rows s k n c (faultless-fits s k n c (λ f i. absurd (nothing-found limit s lent free f (in-faults (subst (λ (b : Building). In f (b .faults)) (sym a) i)))))
-
-  taken-once : {rows : List Row} → ((r : Reason) (k : ℕ) → JournalApplies limit s lent r k → ⊥) → JournalGives s lent rows → (o : Outcome (List Row)) → readJournal limit s lent ≡ o
-      → Judged (JournalApplies limit s lent) (JournalGives s lent) o → accepted rows ≡ o
-  taken-once free g (refused f) e (turned-back x) = absurd (free (f .reason) (f .place) (x .applies))
-  taken-once free (gives w) (accepted rows) e (taken n h) =
-      let j = judged-accepted (found limit s lent) (reverse (built limit s lent .rows)) rows (sym (read-as limit s lent) ∙ e) in
-      ap accepted (sym (tree-given (j .0) w) ∙ j .1)
-
-  turned-once : {f : Refusal} → IsFirst (JournalApplies limit s lent) (f .reason) (f .place) → (o : Outcome (List Row)) → Judged (JournalApplies limit s lent) (JournalGives s lent) o → refused f ≡ o
-  turned-once {f} x (refused g) (turned-back y) =
-      let e = first-once (JournalApplies limit s lent) x y in
-      ap refused (ap (λ (r : Reason). at r (f .place)) (e .0) ∙ ap (at (g .reason)) (e .1))
-  turned-once {f} x (accepted rows) (taken n g) = absurd (n (f .reason) (f .place) (x .applies))
-
-  pub journal-judged-once : {o : Outcome (List Row)} → Judged (JournalApplies limit s lent) (JournalGives s lent) o → o ≡ readJournal limit s lent
-  journal-judged-once (turned-back x) = turned-once x (readJournal limit s lent) (journal-judged limit s lent)
-  journal-judged-once (taken n g) = taken-once n g (readJournal limit s lent) refl (journal-judged limit s lent)
+pub journal-judged-once : (limit : ℕ) (s : Schema) (lent : List ℕ) {o : Outcome (List Row)} → Judged (JournalApplies limit s lent) (JournalGives s lent) o → o ≡ readJournal limit s lent
+journal-judged-once limit s lent j = judged-once (JournalApplies limit s lent) (JournalGives s lent) (gives-once s lent) j (journal-judged limit s lent)

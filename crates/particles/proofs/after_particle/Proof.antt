@@ -6,16 +6,27 @@ use Rattle.particles.proofs.after_particle.Statement.{statement}
 use Rattle.particles.proofs.after_particle.Tie as tie
 
 returns : tie.Need-returns
-returns c = record { says = follow-end (c .before .before .before .args .sep) (c .before .skip .ensures) (c .if1 .taken) }
+returns c =
+    let start = c .before .before .before in
+    record { says = follow-end (start .args .sep) (c .before .skip .ensures) (c .if1 .taken) }
 
 returns-2 : tie.Need-returns-2
-returns-2 c = record { says = follow-close (c .before .before .before .before .before .args .sep) (c .before .before .before .skip .ensures) (c .before .before .if1 .left) (c .if2 .taken) }
+returns-2 c =
+    let at-if1 = c .before .before in
+    let start = at-if1 .before .before .before in
+    record { says = follow-close (start .args .sep) (at-if1 .before .skip .ensures) (at-if1 .if1 .left) (c .if2 .taken) }
 
 returns-3 : tie.Need-returns-3
-returns-3 c = record { says = follow-more (c .before .before .before .before .before .before .before .args .sep) (c .before .before .before .before .before .skip .ensures) (c .before .before .before .before .if1 .left) (sym (c .before .may-part .ensures) ∙ c .if3 .taken) }
+returns-3 c =
+    let at-if1 = c .before .before .before .before in
+    let start = at-if1 .before .before .before in
+    record { says = follow-more (start .args .sep) (at-if1 .before .skip .ensures) (at-if1 .if1 .left) (sym (c .before .may-part .ensures) ∙ c .if3 .taken) }
 
 returns-4 : tie.Need-returns-4
-returns-4 c = record { says = follow-not (c .before .before .before .before .before .before .before .args .sep) (c .before .before .before .before .before .skip .ensures) (c .before .before .before .before .if1 .left) (c .before .before .if2 .left) (sym (c .before .may-part .ensures) ∙ c .if3 .left) }
+returns-4 c =
+    let at-if1 = c .before .before .before .before in
+    let start = at-if1 .before .before .before in
+    record { says = follow-not (start .args .sep) (at-if1 .before .skip .ensures) (at-if1 .if1 .left) (c .before .before .if2 .left) (sym (c .before .may-part .ensures) ∙ c .if3 .left) }
 
 pub after-particle-spec : {M : Type 1} → statement M
 after-particle-spec =

@@ -1,4 +1,4 @@
--- Parts read from left to right, the last first, make the lists of the grammar: alternatives, conditions, paths, bundles. Assumes nothing.
+-- Parts read from left to right, the last first, make the lists of the grammar: alternatives, conditions, paths, bundles.
 use mathlib.Core.List.{List, [], _∷_, _++_, reverse, reverseAux, append-assoc, append-nil}
 use mathlib.Core.Bool.{false}
 use mathlib.Core.Path.{_≡_, refl, subst}

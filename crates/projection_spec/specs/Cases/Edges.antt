@@ -1,8 +1,10 @@
--- Cases at the edges of the refusals, of the last filter and of refusal 1. Assumes nothing.
+-- Cases at the edges of the refusals, of the last filter, of refusal 1 and of content models; each axis and each kind of condition on J; listings.
 use mathlib.Core.List.{List, [], _∷_, _++_, map}
 use mathlib.Core.Path.{_≡_, refl}
+use Prim.Native.Nat.{ℕ}
+use Prim.Native.String.{String}
 use Rattle.projection_spec.specs.Cases.Opened.{computing}
-use Rattle.projection_spec.specs.Cases.Questions.{Text, schemaRead, bundleRead, journalRead, extractRead, tableLent, names, taken, turnedBack, theNames, answerTo, Case, case, AllHold, copies, pathsRead}
+use Rattle.projection_spec.specs.Cases.Questions.{Text, schemaRead, bundleRead, journalRead, extractRead, tableLent, names, nodes, printed, taken, turnedBack, theNames, theNumbers, theBytes, answerTo, Case, case, AllHold, copies, pathsRead}
 use Rattle.projection_spec.specs.Cases.Tried.{schemaS, journalJ, steps}
 use Rattle.projection_spec.specs.Inference.Needed.{neededBeforeFilter}
 use Rattle.table_spec.specs.Columns.{Columns}
@@ -15,6 +17,10 @@ use mathlib.Core.Bool.{true}
 -- an element that may hold all three kinds of content
 abbrev pub schemaA : Text
 schemaA = bytes "<!ELEMENT a (a|b|t)*><!ELEMENT b EMPTY><!ELEMENT t (#PCDATA)>"
+
+-- an element with a model of two empty ones
+abbrev pub modelOf : String → Text
+modelOf model = bytes "<!ELEMENT a " ++ (bytes model ++ bytes "><!ELEMENT b EMPTY><!ELEMENT c EMPTY>")
 
 -- a schema for which the last filter drops a name: elements r, m, z, y, x, a, q
 abbrev pub schemaR : Text
@@ -75,11 +81,73 @@ cases =
     ∷ case (extractRead schemaS (0x01 ∷ 0x00 ∷ 0x05 ∷ 0x00 ∷ 0x00 ∷ 0x00 ∷ 0x00 ∷ 0x00 ∷ 0x03 ∷ 0x00 ∷ 0x02 ∷ 0x00 ∷ 0x01 ∷ [])) taken
     ∷ case (extractRead schemaS (0x01 ∷ 0x00 ∷ 0x05 ∷ 0x00 ∷ 0x00 ∷ 0x00 ∷ 0x00 ∷ 0x00 ∷ 0x03 ∷ 0x00 ∷ 0x02 ∷ 0x00 ∷ 0x02 ∷ [])) (turnedBack 17 0)
     ∷ case (extractRead schemaS []) (turnedBack 2 0)
+    -- 15: `?`, `+`, `|` and `,`, each on both sides
+    ∷ case (journalRead (modelOf "(b?)") (bytes "<a/>")) taken
+    ∷ case (journalRead (modelOf "(b?)") (bytes "<a><b/></a>")) taken
+    ∷ case (journalRead (modelOf "(b?)") (bytes "<a><b/><b/></a>")) (turnedBack 15 0)
+    ∷ case (journalRead (modelOf "(b+)") (bytes "<a><b/><b/></a>")) taken
+    ∷ case (journalRead (modelOf "(b+)") (bytes "<a/>")) (turnedBack 15 0)
+    ∷ case (journalRead (modelOf "(b*)") (bytes "<a/>")) taken
+    ∷ case (journalRead (modelOf "(b*)") (bytes "<a><b/><b/></a>")) taken
+    ∷ case (journalRead (modelOf "(b|c)") (bytes "<a><c/></a>")) taken
+    ∷ case (journalRead (modelOf "(b|c)") (bytes "<a><b/><c/></a>")) (turnedBack 15 0)
+    ∷ case (journalRead (modelOf "(b,c)") (bytes "<a><b/><c/></a>")) taken
+    ∷ case (journalRead (modelOf "(b,c)") (bytes "<a><c/><b/></a>")) (turnedBack 15 0)
     ∷ []
 
 pub all-hold : AllHold cases
 unfolding computing answerTo cases
 all-hold = refl
+
+-- ---- selections: J's nodes are scan 0, plate 1, well 2, tile 3, focus 4, its text 5, and the tile 6 under plate
+abbrev pub selecting : String → List ℕ → Case
+selecting p numbers = case (nodes schemaS (bytes p) journalJ) (theNumbers (numbers ∷ []))
+
+pub selections : List Case
+selections =
+    -- each axis
+    selecting "self::node()\n" (0 ∷ [])
+    ∷ selecting "child::node()\n" (1 ∷ [])
+    ∷ selecting "descendant::node()\n" (1 ∷ 2 ∷ 3 ∷ 4 ∷ 5 ∷ 6 ∷ [])
+    ∷ selecting "descendant-or-self::node()\n" (0 ∷ 1 ∷ 2 ∷ 3 ∷ 4 ∷ 5 ∷ 6 ∷ [])
+    ∷ selecting "descendant-or-self::scan\n" (0 ∷ [])
+    ∷ selecting "descendant::tile/parent::node()\n" (1 ∷ 2 ∷ [])
+    ∷ selecting "descendant::focus/ancestor::node()\n" (0 ∷ 1 ∷ 2 ∷ 3 ∷ [])
+    ∷ selecting "descendant::focus/ancestor-or-self::node()\n" (0 ∷ 1 ∷ 2 ∷ 3 ∷ 4 ∷ [])
+    -- each test
+    ∷ selecting "descendant::tile\n" (3 ∷ 6 ∷ [])
+    ∷ selecting "descendant::focus/child::node()\n" (5 ∷ [])
+    ∷ selecting "descendant::node()/self::text()\n" (5 ∷ [])
+    -- "a condition holds when some alternative selects a node": a tile or a focus below; two steps; an axis upwards
+    ∷ selecting "descendant::node()[child::focus or child::tile]\n" (1 ∷ 2 ∷ 3 ∷ [])
+    ∷ selecting "descendant::tile[child::focus/child::text()]\n" (3 ∷ [])
+    ∷ selecting "descendant::tile[parent::well]\n" (3 ∷ [])
+    ∷ selecting "descendant::node()[self::well or self::focus]/child::node()\n" (3 ∷ 5 ∷ [])
+    ∷ []
+
+pub selections-hold : AllHold selections
+unfolding computing answerTo selections
+selections-hold = refl
+
+-- ---- listings
+pub listings : List Case
+listings =
+    -- nothing is selected, and nothing is needed
+    case (printed schemaS (bytes "self::plate\n") journalJ) (theBytes (bytes "selected 0 kept 0 of 7\n"))
+    -- both paths select 3 and 6: each counts once, with the first path's place
+    ∷ case (printed schemaS (bytes "descendant::tile\ndescendant::node()\n") journalJ)
+    (theBytes (bytes "selected 6 kept 7 of 7\n1 2 /scan/plate\n2 2 /scan/plate/well\n3 1 /scan/plate/well/tile\n4 2 /scan/plate/well/tile/focus\n"
+    ++ bytes "5 2 /scan/plate/well/tile/focus/text()\n6 1 /scan/plate/tile\n"))
+    ∷ case (printed schemaS (bytes "self::scan\n") (bytes "<scan/>")) (theBytes (bytes "selected 1 kept 1 of 1\n0 1 /scan\n"))
+    -- the first file that is refused, alone
+    ∷ case (printed [] (bytes "self::cell\n") []) (theBytes (bytes "refused 2 at 0\n"))
+    ∷ case (printed schemaS (bytes "self::scan\nchild::cell\n") []) (theBytes (bytes "refused 10 at 18\n"))
+    ∷ case (printed schemaS (bytes "self::scan\n") (bytes "<scan><tile/></scan>")) (theBytes (bytes "refused 15 at 0\n"))
+    ∷ []
+
+pub listings-hold : AllHold listings
+unfolding computing answerTo listings
+listings-hold = refl
 
 -- before the last filter z, element 2, is needed: it stands on a complete walk
 pub z-on-a-walk : anyOf (λ p. has (element 2) (neededBeforeFilter (typesOf (schemaIn schemaR)) p)) (pathsRead schemaR filtered) ≡ true

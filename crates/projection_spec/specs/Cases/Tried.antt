@@ -1,5 +1,5 @@
 -- Document 01's cases: the paths tried on S and J, the two extracts in hex, the fourth row's numbers, the listing, and the pairs
--- accepted and turned back. One table, one theorem. Assumes nothing.
+-- accepted and turned back. One table, one theorem.
 use mathlib.Core.List.{List, [], _∷_, _++_, map}
 use mathlib.Core.Path.{refl}
 use Prim.Native.Nat.{ℕ, zero, suc}

@@ -1,4 +1,4 @@
--- When refusals 2 and 17 apply to an extract, and what it gives; what a cut keeps: no loop is mentioned. Assumes nothing.
+-- When refusals 2 and 17 apply to an extract, and what it gives; what a cut keeps: no loop is mentioned.
 use mathlib.Core.List.{List, [], _∷_, List·Memᴰ}
 use mathlib.Core.Path.{_≡_}
 use Prim.Native.Nat.{ℕ}

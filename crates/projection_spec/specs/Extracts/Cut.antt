@@ -1,4 +1,4 @@
--- Cutting a table to a set of names. Assumes nothing.
+-- Cutting a table to a set of names.
 use mathlib.Core.Bool.{Bool, cond}
 use mathlib.Core.List.{List, [], _∷_, _++_}
 use Prim.Native.Nat.{ℕ}

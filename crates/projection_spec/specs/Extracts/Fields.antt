@@ -1,4 +1,4 @@
--- The bytes of an extract: "fields of a one-byte tag, a two-byte length (high byte first) and a value". Assumes nothing.
+-- The bytes of an extract: "fields of a one-byte tag, a two-byte length (high byte first) and a value".
 use mathlib.Core.List.{List, [], _∷_, _++_}
 use mathlib.Core.Option.{Option, none, some}
 use Prim.Native.Nat.{ℕ, _+_, _/_, _%_}

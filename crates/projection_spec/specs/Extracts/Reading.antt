@@ -1,4 +1,4 @@
--- The outcome of reading an extract under a schema: refusals 2 and 17, or the rows. Assumes nothing.
+-- The outcome of reading an extract under a schema: refusals 2 and 17, or the rows.
 use mathlib.Core.Bool.{Bool, false, cond, not}
 use mathlib.Core.List.{List, [], _∷_, _++_}
 use mathlib.Core.Option.{Option, none, some}

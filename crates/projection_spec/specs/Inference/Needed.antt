@@ -1,4 +1,4 @@
--- The names that a path and a bundle need (document 01, "Needed names"), computing. Assumes nothing.
+-- The names that a path and a bundle need (document 01, "Needed names"), computing.
 use mathlib.Core.Bool.{Bool, true, not, _||_}
 use mathlib.Core.List.{List, [], _∷_, _++_}
 use Prim.Native.Nat.{ℕ}

@@ -1,4 +1,4 @@
--- Types and contexts, step by step (source document 000, 4.1; document 01, "Needed names"). Sets are lists of names. Assumes nothing.
+-- Types and contexts, step by step (source document 000, 4.1; document 01, "Needed names"). Sets are lists of names.
 use mathlib.Core.Bool.{Bool, _||_}
 use mathlib.Core.List.{List, [], _∷_, _++_}
 use Prim.Native.Nat.{ℕ}

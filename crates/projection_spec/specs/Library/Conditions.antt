@@ -1,4 +1,4 @@
--- When refusals 1 and 18 apply, and the order in which texts are judged: no reader is mentioned. Assumes nothing.
+-- When refusals 1 and 18 apply, and what each public function answers: no reader is mentioned.
 use mathlib.Core.Bool.{Bool}
 use mathlib.Core.List.{List, [], _∷_, _++_, List·Memᴰ}
 use mathlib.Core.Logic.{_⊎_}
@@ -10,96 +10,168 @@ use lib.ListN.{length, getElem?}
 use Rattle.journal_spec.specs.Conditions.{JournalApplies, JournalGives}
 use Rattle.path_spec.specs.Conditions.{BundleApplies, BundleGives}
 use Rattle.path_spec.specs.Paths.{LocationPath}
-use Rattle.path_spec.specs.Selection.{Selected, selectRows}
+use Rattle.path_spec.specs.Selection.{Selected}
 use Rattle.projection_spec.specs.Extracts.Conditions.{ExtractApplies, ExtractGives}
-use Rattle.projection_spec.specs.Extracts.Cut.{cut}
-use Rattle.projection_spec.specs.Inference.Needed.{needed}
-use Rattle.projection_spec.specs.Library.Hosts.{HostAnswer, hostAnswer, extractOf}
-use Rattle.table_spec.specs.Columns.{Sizes, Columns, sizesOf, cellsFrom}
-use Rattle.projection_spec.specs.Library.Listing.{decimal, lineFeed, chain, header, refusedLine}
-use Rattle.projection_spec.specs.Library.Records.{TextRecord, recordOf}
+use Rattle.projection_spec.specs.Extracts.Cut.{cut, cutToWord}
+use Rattle.projection_spec.specs.Extracts.Fields.{writeExtract}
+use Rattle.projection_spec.specs.Inference.Needed.{needed, neededWord}
+use Rattle.projection_spec.specs.Library.Calls.{RowText, textOfRow}
+use Rattle.projection_spec.specs.Library.Chains.{chain}
+use Rattle.projection_spec.specs.Library.Hosts.{HostAnswer, hostAnswer, Lent, extractOf}
+use Rattle.projection_spec.specs.Library.Listing.{FilesRead, nodeLine, header, refusedLine}
+use Rattle.projection_spec.specs.Library.Records.{TextRecord, recordOf, LentTable}
+use Rattle.projection_spec.specs.Library.Selections.{askedPaths, Selections, selections}
 use Rattle.schema_spec.specs.Conditions.{SchemaApplies, SchemaGives}
-use Rattle.schema_spec.specs.Records.{SchemaProducible}
+use Rattle.schema_spec.specs.Records.{normal}
 use Rattle.schema_spec.specs.Schemas.{Schema}
 use Rattle.schema_spec.specs.Types.{typesOf}
-use Rattle.table_spec.specs.Conditions.{WellFormedBeside}
-use Rattle.table_spec.specs.Nodes.{Node, nodeNumber, nodesOf}
+use Rattle.table_spec.specs.Columns.{Sizes, allOfSize, sizesOf, cellsFrom}
+use Rattle.table_spec.specs.Conditions.{RowAt, WellFormed, WellFormedBeside}
+use Rattle.table_spec.specs.Nodes.{Node, nodesOf}
 use Rattle.table_spec.specs.Rows.{Row, rowsOf}
+use Rattle.text_spec.specs.Calls.{Tested, Handed, InTurn, InRoom, Answers}
 use Rattle.text_spec.specs.Limits.{maxSchemaBytes, maxBundleBytes, maxJournalBytes, maxPaths, listingJournalBytes, listingRows}
-use Rattle.text_spec.specs.Lists.{bytes, filterBy}
-use Rattle.text_spec.specs.Refusals.{Reason, Outcome, accepted, refused, Judged, IsFirst, at, badRecord, tooFewCells}
+use Rattle.text_spec.specs.Lists.{filterBy}
+use Rattle.text_spec.specs.Refusals.{Refusal, Outcome, accepted, refused, Judged}
 
--- Texts that are accepted, and what they give.
+-- Texts as they are judged, and texts that are accepted with what they give.
+abbrev pub SchemaJudged : List ℕ → Outcome Schema → Type 0
+SchemaJudged text o = Judged (SchemaApplies text) (SchemaGives text) o
+
+abbrev pub BundleJudged : Schema → List ℕ → Outcome (List (LocationPath ℕ)) → Type 0
+BundleJudged s text o = Judged (BundleApplies s text) (BundleGives s text) o
+
+abbrev pub JournalJudged : ℕ → Schema → List ℕ → Outcome (List Row) → Type 0
+JournalJudged limit s text o = Judged (JournalApplies limit s text) (JournalGives s text) o
+
+abbrev pub ExtractJudged : Schema → List ℕ → Outcome (List Row) → Type 0
+ExtractJudged s text o = Judged (ExtractApplies (typesOf s) text) (ExtractGives (typesOf s) text) o
+
 abbrev pub SchemaTaken : List ℕ → Schema → Type 0
-SchemaTaken text s = Judged (SchemaApplies text) (SchemaGives text) (accepted s)
+SchemaTaken text s = SchemaJudged text (accepted s)
 
 abbrev pub BundleTaken : Schema → List ℕ → List (LocationPath ℕ) → Type 0
-BundleTaken s text ps = Judged (BundleApplies s text) (BundleGives s text) (accepted ps)
+BundleTaken s text ps = BundleJudged s text (accepted ps)
 
 abbrev pub JournalTaken : ℕ → Schema → List ℕ → List Row → Type 0
-JournalTaken limit s text rows = Judged (JournalApplies limit s text) (JournalGives s text) (accepted rows)
+JournalTaken limit s text rows = JournalJudged limit s text (accepted rows)
 
-abbrev pub ExtractTaken : Schema → List ℕ → List Row → Type 0
-ExtractTaken s text rows = Judged (ExtractApplies (typesOf s) text) (ExtractGives (typesOf s) text) (accepted rows)
+-- ---- refusal 1
+-- "one that its reader can't produce": the records that some accepted text gives, with what they hold
+pub data SchemaRecord : TextRecord → Schema → Type 0 where
+  of-schema : {s : Schema} (text : List ℕ) → SchemaTaken text s → SchemaRecord (recordOf maxSchemaBytes (normal text)) s
 
--- 1. "one that its reader can't produce": the records that some accepted text gives
-pub data SchemaHanded : TextRecord → Type 0 where
-  of-schema : (r : List ℕ) → SchemaProducible r → SchemaHanded (recordOf maxSchemaBytes r)
-
-pub data BundleHanded (s : Schema) : TextRecord → Type 0 where
-  of-bundle : {ps : List (LocationPath ℕ)} (r : List ℕ) → BundleTaken s r ps → BundleHanded s (recordOf maxBundleBytes r)
+pub data BundleRecord (s : Schema) : TextRecord → List (LocationPath ℕ) → Type 0 where
+  of-bundle : {ps : List (LocationPath ℕ)} (text : List ℕ) → BundleTaken s text ps → BundleRecord s (recordOf maxBundleBytes text) ps
 
 pub data EqualSizes : Sizes → Type 0 where
-  equal-sizes : {n : ℕ} → EqualSizes (record { numbers = n; names = n; parents = n; starts = n; lengths = n })
+  equal-sizes : {n : ℕ} → EqualSizes (allOfSize n)
 
--- 1. lent columns whose first rows are a well-formed table with the text beside it
-pub record TableHanded (s : Schema) (c : Columns) (count : ℕ) (lent : List ℕ) : Type 0 where
-  pub rows : List Row
-  pub equal : EqualSizes (sizesOf c)
-  pub enough : count ≤ length (c .numbers)
-  pub named : rowsOf (cellsFrom c 0 count) ≡ some rows
-  pub wellFormed : WellFormedBeside (typesOf s) lent rows
+-- lent columns whose first cells are these rows
+pub record RowsLent (t : LentTable) (rows : List Row) : Type 0 where
+  pub equal : EqualSizes (sizesOf (t .columns))
+  pub enough : t .count ≤ length (t .columns .numbers)
+  pub named : rowsOf (cellsFrom (t .columns) 0 (t .count)) ≡ some rows
 
+-- a well-formed table, and one with the text beside it
+pub record TableHanded (s : Schema) (t : LentTable) (rows : List Row) : Type 0 where
+  pub lent : RowsLent t rows
+  pub wellFormed : WellFormed (typesOf s) rows
+
+pub record TableBeside (s : Schema) (text : List ℕ) (t : LentTable) (rows : List Row) : Type 0 where
+  pub lent : RowsLent t rows
+  pub wellFormed : WellFormedBeside (typesOf s) text rows
+
+-- ---- what each public function answers, in the words of Calls (text_spec)
+-- a table in lent columns
+abbrev pub InColumns : Sizes → List Row → Outcome (List Row) → Type 0
+InColumns z rows o = InRoom (z .numbers < length rows) rows o
+
+abbrev pub ReadsSchema : List ℕ → Outcome TextRecord → Type 0
+ReadsSchema text o = InTurn (SchemaJudged text) (λ s. Answers (recordOf maxSchemaBytes (normal text))) o
+
+abbrev pub ReadsBundle : TextRecord → List ℕ → Outcome TextRecord → Type 0
+ReadsBundle schema text o = Handed (SchemaRecord schema) (λ s. InTurn (BundleJudged s text) (λ ps. Answers (recordOf maxBundleBytes text))) o
+
+abbrev pub ReadsJournal : TextRecord → List ℕ → Sizes → Outcome (List Row) → Type 0
+ReadsJournal schema journal z o =
+    Handed (SchemaRecord schema) (λ s. Tested (EqualSizes z) (InTurn (JournalJudged maxJournalBytes s journal) (λ rows. InColumns z rows))) o
+
+abbrev pub GivesNeeded : TextRecord → TextRecord → Outcome ℕ → Type 0
+GivesNeeded schema bundle o = Handed (SchemaRecord schema) (λ s. Handed (BundleRecord s bundle) (λ ps. Answers (neededWord (typesOf s) ps))) o
+
+abbrev pub CutsTable : TextRecord → LentTable → ℕ → Sizes → Outcome (List Row) → Type 0
+CutsTable schema table word z o =
+    Handed (SchemaRecord schema) (λ s. Handed (TableHanded s table) (λ rows. Tested (EqualSizes z) (InColumns z (cutToWord (typesOf s) word rows)))) o
+
+abbrev pub WritesExtract : TextRecord → LentTable → List ℕ → ℕ → Outcome (List ℕ) → Type 0
+WritesExtract schema table lent size o =
+    Handed (SchemaRecord schema)
+    (λ s. Handed (TableBeside s lent table) (λ rows. InRoom (size < length (writeExtract lent rows)) (writeExtract lent rows))) o
+
+abbrev pub ReadsExtract : TextRecord → List ℕ → Sizes → Outcome (List Row) → Type 0
+ReadsExtract schema extract z o = Handed (SchemaRecord schema) (λ s. Tested (EqualSizes z) (InTurn (ExtractJudged s extract) (λ rows. InColumns z rows))) o
+
+-- 18 for selected numbers and their counts
+abbrev pub TooFewSelections : ℕ → ℕ → Selections → Type 0
+TooFewSelections items counts a = (items < length (a .items)) ⊎ (counts < length (a .counts))
+
+abbrev pub SelectsNodes : TextRecord → TextRecord → ℕ → LentTable → List ℕ → ℕ → ℕ → Outcome Selections → Type 0
+SelectsNodes schema bundle place table lent items counts o =
+    Handed (SchemaRecord schema)
+    (λ s.
+    Handed (BundleRecord s bundle)
+    (λ ps.
+    Tested (place ≤ length ps)
+    (Handed (TableBeside s lent table)
+    (λ rows.
+    InRoom (TooFewSelections items counts (selections lent rows (askedPaths place ps))) (selections lent rows (askedPaths place ps)))))) o
+
+abbrev pub GivesText : TextRecord → LentTable → List ℕ → ℕ → Outcome RowText → Type 0
+GivesText schema table lent position o =
+    Handed (SchemaRecord schema)
+    (λ s. Handed (TableBeside s lent table) (λ rows. Handed (RowAt rows position) (λ r. Answers (textOfRow (r .name) r)))) o
+
+-- the node of the row at a position
+abbrev pub NodeAt : List Row → ℕ → Node → Type 0
+NodeAt rows position y = getElem? (nodesOf [] rows) position ≡ some y
+
+abbrev pub GivesChain : TextRecord → LentTable → ℕ → ℕ → Outcome (List ℕ) → Type 0
+GivesChain schema table position size o =
+    Handed (SchemaRecord schema)
+    (λ s. Handed (TableHanded s table) (λ rows. Handed (NodeAt rows position) (λ y. InRoom (size < length (chain s y)) (chain s y)))) o
+
+-- ---- the host's two functions
 -- 18. "A lent output has fewer cells than the answer takes."
-abbrev pub TooFewCells : Sizes → ℕ → HostAnswer → Type 0
-TooFewCells z size a = (z .numbers < length (a .rows)) ⊎ (size < length (a .items))
+abbrev pub TooFewCells : Lent → HostAnswer → Type 0
+TooFewCells l a = (l .columns .numbers < length (a .rows)) ⊎ ((l .items < length (a .items)) ⊎ (l .counts < length (a .counts)))
 
--- "Number 1 is tested before any text. Texts are then judged whole in turn: schema, bundle, journal or extract; 18 is last."
--- Making an extract:
-pub data Makes (schema bundle journal : List ℕ) (z : Sizes) (size : ℕ) : Outcome HostAnswer → Type 0 where
-  by-1 : (EqualSizes z → ⊥) → Makes schema bundle journal z size (refused (at badRecord 0))
-  by-schema : {r : Reason} {k : ℕ} → EqualSizes z → IsFirst (SchemaApplies schema) r k → Makes schema bundle journal z size (refused (at r k))
-  by-bundle : {s : Schema} {r : Reason} {k : ℕ} → EqualSizes z → SchemaTaken schema s → IsFirst (BundleApplies s bundle) r k
-      → Makes schema bundle journal z size (refused (at r k))
-  by-journal : {s : Schema} {ps : List (LocationPath ℕ)} {r : Reason} {k : ℕ} → EqualSizes z → SchemaTaken schema s → BundleTaken s bundle ps
-      → IsFirst (JournalApplies maxJournalBytes s journal) r k → Makes schema bundle journal z size (refused (at r k))
-  by-18 : {s : Schema} {ps : List (LocationPath ℕ)} {rows : List Row} → EqualSizes z → SchemaTaken schema s → BundleTaken s bundle ps
-      → JournalTaken maxJournalBytes s journal rows → TooFewCells z size (hostAnswer rows (extractOf s ps journal rows))
-      → Makes schema bundle journal z size (refused (at tooFewCells 0))
-  makes : {s : Schema} {ps : List (LocationPath ℕ)} {rows : List Row} → EqualSizes z → SchemaTaken schema s → BundleTaken s bundle ps
-      → JournalTaken maxJournalBytes s journal rows → (TooFewCells z size (hostAnswer rows (extractOf s ps journal rows)) → ⊥)
-      → Makes schema bundle journal z size (accepted (hostAnswer rows (extractOf s ps journal rows)))
+abbrev pub InLent : Lent → HostAnswer → Outcome HostAnswer → Type 0
+InLent l a o = InRoom (TooFewCells l a) a o
 
--- a path number out of range is refused by 1
-pub data OutOfRange (schema bundle : List ℕ) (path : ℕ) : Type 0 where
-  never : maxPaths ≤ path → OutOfRange schema bundle path
-  not-here : {s : Schema} {ps : List (LocationPath ℕ)} → SchemaTaken schema s → BundleTaken s bundle ps → length ps ≤ path → OutOfRange schema bundle path
+abbrev pub Makes : List ℕ → List ℕ → List ℕ → Lent → Outcome HostAnswer → Type 0
+Makes schema bundle journal l o =
+    Tested (EqualSizes (l .columns))
+    (InTurn (SchemaJudged schema)
+    (λ s.
+    InTurn (BundleJudged s bundle)
+    (λ ps. InTurn (JournalJudged maxJournalBytes s journal) (λ rows. InLent l (hostAnswer rows (extractOf s ps journal rows) []))))) o
 
--- Selecting from an extract:
-pub data Selects (schema bundle : List ℕ) (path : ℕ) (extract : List ℕ) (z : Sizes) (size : ℕ) : Outcome HostAnswer → Type 0 where
-  by-1 : ((EqualSizes z → ⊥) ⊎ OutOfRange schema bundle path) → Selects schema bundle path extract z size (refused (at badRecord 0))
-  by-schema : {r : Reason} {k : ℕ} → EqualSizes z → (OutOfRange schema bundle path → ⊥) → IsFirst (SchemaApplies schema) r k
-      → Selects schema bundle path extract z size (refused (at r k))
-  by-bundle : {s : Schema} {r : Reason} {k : ℕ} → EqualSizes z → (OutOfRange schema bundle path → ⊥) → SchemaTaken schema s
-      → IsFirst (BundleApplies s bundle) r k → Selects schema bundle path extract z size (refused (at r k))
-  by-extract : {s : Schema} {ps : List (LocationPath ℕ)} {p : LocationPath ℕ} {r : Reason} {k : ℕ} → EqualSizes z → SchemaTaken schema s → BundleTaken s bundle ps
-      → getElem? ps path ≡ some p → IsFirst (ExtractApplies (typesOf s) extract) r k → Selects schema bundle path extract z size (refused (at r k))
-  by-18 : {s : Schema} {ps : List (LocationPath ℕ)} {p : LocationPath ℕ} {rows : List Row} → EqualSizes z → SchemaTaken schema s → BundleTaken s bundle ps
-      → getElem? ps path ≡ some p → ExtractTaken s extract rows → TooFewCells z size (hostAnswer rows (selectRows extract rows p))
-      → Selects schema bundle path extract z size (refused (at tooFewCells 0))
-  selects : {s : Schema} {ps : List (LocationPath ℕ)} {p : LocationPath ℕ} {rows : List Row} → EqualSizes z → SchemaTaken schema s → BundleTaken s bundle ps
-      → getElem? ps path ≡ some p → ExtractTaken s extract rows → (TooFewCells z size (hostAnswer rows (selectRows extract rows p)) → ⊥)
-      → Selects schema bundle path extract z size (accepted (hostAnswer rows (selectRows extract rows p)))
+-- A place of 9 or more no bundle has; where schema and bundle are accepted, one past the bundle's paths is out of range, too.
+pub data OutOfRange (schema bundle : List ℕ) (place : ℕ) : Type 0 where
+  in-no-bundle : maxPaths < place → OutOfRange schema bundle place
+  not-here : {s : Schema} {ps : List (LocationPath ℕ)} → SchemaTaken schema s → BundleTaken s bundle ps → length ps < place → OutOfRange schema bundle place
+
+abbrev pub Selects : List ℕ → List ℕ → ℕ → List ℕ → Lent → Outcome HostAnswer → Type 0
+Selects schema bundle place extract l o =
+    Tested (EqualSizes (l .columns) × (OutOfRange schema bundle place → ⊥))
+    (InTurn (SchemaJudged schema)
+    (λ s.
+    InTurn (BundleJudged s bundle)
+    (λ ps.
+    InTurn (ExtractJudged s extract)
+    (λ rows.
+    InLent l (hostAnswer rows (selections extract rows (askedPaths place ps) .items) (selections extract rows (askedPaths place ps) .counts)))))) o
 
 -- the nodes that some path of the bundle selects, in document order and once each
 pub record Chosen (doc : List Node) (ps : List (LocationPath ℕ)) (ys : List Node) : Type 0 where
@@ -122,18 +194,24 @@ pub record FirstPath (doc : List Node) (ps : List (LocationPath ℕ)) (y : Node)
 pub data Lines (s : Schema) (doc : List Node) (ps : List (LocationPath ℕ)) : List Node → List ℕ → Type 0 where
   no-lines : Lines s doc ps [] []
   next-line : {y : Node} {ys : List Node} {rest : List ℕ} (place : ℕ) → FirstPath doc ps y place → Lines s doc ps ys rest
-      → Lines s doc ps (y ∷ ys) ((decimal (nodeNumber y) ++ (bytes " " ++ (decimal place ++ (bytes " " ++ (chain s y ++ lineFeed))))) ++ rest)
+      → Lines s doc ps (y ∷ ys) (nodeLine s y place ++ rest)
 
--- `listing`: the first refused file alone; 18 only where all three are accepted; otherwise the header with the lengths of the three lists
+-- the header with the lengths of the three lists, and then the lines
+pub data Lists (journal : List ℕ) (f : FilesRead) : List ℕ → Type 0 where
+  lists : {ys : List Node} {lines : List ℕ} → Chosen (nodesOf journal (f .rows)) (f .paths) ys → Lines (f .schema) (nodesOf journal (f .rows)) (f .paths) ys lines
+      → Lists journal f (header (length ys) (length (cut (needed (typesOf (f .schema)) (f .paths)) (f .rows))) (length (f .rows)) ++ lines)
+
+-- the three files in turn, and 18 only where all three are accepted
+abbrev pub FilesJudged : List ℕ → List ℕ → List ℕ → Outcome FilesRead → Type 0
+FilesJudged schema bundle journal o =
+    InTurn (SchemaJudged schema)
+    (λ s.
+    InTurn (BundleJudged s bundle)
+    (λ ps.
+    InTurn (JournalJudged listingJournalBytes s journal)
+    (λ rows. InRoom (listingRows < length rows) (record { schema = s; paths = ps; rows = rows })))) o
+
+-- `listing`: "the first file refused prints `refused N at P` alone"
 pub data Prints (schema bundle journal : List ℕ) : List ℕ → Type 0 where
-  schema-refused : {r : Reason} {k : ℕ} → IsFirst (SchemaApplies schema) r k → Prints schema bundle journal (refusedLine (at r k))
-  bundle-refused : {s : Schema} {r : Reason} {k : ℕ} → SchemaTaken schema s → IsFirst (BundleApplies s bundle) r k
-      → Prints schema bundle journal (refusedLine (at r k))
-  journal-refused : {s : Schema} {ps : List (LocationPath ℕ)} {r : Reason} {k : ℕ} → SchemaTaken schema s → BundleTaken s bundle ps
-      → IsFirst (JournalApplies listingJournalBytes s journal) r k → Prints schema bundle journal (refusedLine (at r k))
-  too-many-rows : {s : Schema} {ps : List (LocationPath ℕ)} {rows : List Row} → SchemaTaken schema s → BundleTaken s bundle ps
-      → JournalTaken listingJournalBytes s journal rows → listingRows < length rows → Prints schema bundle journal (refusedLine (at tooFewCells 0))
-  lists : {s : Schema} {ps : List (LocationPath ℕ)} {rows : List Row} {ys : List Node} {lines : List ℕ} → SchemaTaken schema s → BundleTaken s bundle ps
-      → JournalTaken listingJournalBytes s journal rows → length rows ≤ listingRows → Chosen (nodesOf journal rows) ps ys
-      → Lines s (nodesOf journal rows) ps ys lines
-      → Prints schema bundle journal (header (length ys) (length (cut (needed (typesOf s) ps) rows)) (length rows) ++ lines)
+  prints-refusal : {f : Refusal} → FilesJudged schema bundle journal (refused f) → Prints schema bundle journal (refusedLine f)
+  prints-lists : {f : FilesRead} {out : List ℕ} → FilesJudged schema bundle journal (accepted f) → Lists journal f out → Prints schema bundle journal out

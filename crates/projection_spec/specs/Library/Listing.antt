@@ -1,4 +1,4 @@
--- The whole of `listing`: from three files' bytes, a missing one as empty, to the bytes printed. Assumes nothing.
+-- The whole of `listing`: from three files' bytes, a missing one as empty, to the bytes printed.
 use mathlib.Core.Bool.{Bool, cond}
 use mathlib.Core.List.{List, [], _∷_, _++_, map}
 use Prim.Native.Nat.{ℕ, zero, suc, _+_, _/_, _%_}
@@ -6,20 +6,21 @@ use lib.Dec.{eqb, ltb}
 use lib.ListN.{length}
 use Rattle.projection_spec.specs.Extracts.Cut.{cut}
 use Rattle.journal_spec.specs.Reading.{readJournal}
+use Rattle.text_spec.specs.Calls.{inRoom}
 use Rattle.text_spec.specs.Cells.{tooSmall}
 use Rattle.path_spec.specs.Paths.{LocationPath}
 use Rattle.path_spec.specs.Reading.{readBundle}
 use Rattle.path_spec.specs.Selection.{select}
-use Rattle.schema_spec.specs.Names.{Name, element, text}
 use Rattle.schema_spec.specs.Reading.{readSchema}
-use Rattle.schema_spec.specs.Schemas.{Schema, nameAt}
+use Rattle.schema_spec.specs.Schemas.{Schema}
 use Rattle.schema_spec.specs.Types.{typesOf}
-use Rattle.table_spec.specs.Nodes.{Node, top, under, nodeNumber, nodesOf}
+use Rattle.table_spec.specs.Nodes.{Node, nodeNumber, nodesOf}
 use Rattle.table_spec.specs.Rows.{Row}
 use Rattle.text_spec.specs.Limits.{listingJournalBytes, listingRows}
 use Rattle.text_spec.specs.Lists.{bytes, anyOf, filterBy, gather}
-use Rattle.text_spec.specs.Refusals.{Refusal, Outcome, accepted, refused, judged, andThen, numberOf, at, given, tooFewCells}
+use Rattle.text_spec.specs.Refusals.{Refusal, Outcome, accepted, refused, andThen, numberOf}
 use Rattle.projection_spec.specs.Inference.Needed.{needed}
+use Rattle.projection_spec.specs.Library.Chains.{chain}
 
 -- a number in decimal; 20 digits are enough for 64 bits
 abbrev pub decimalIn : ℕ → ℕ → List ℕ
@@ -34,6 +35,20 @@ decimal n = decimalIn 20 n
 abbrev pub lineFeed : List ℕ
 lineFeed = bytes "\n"
 
+-- what the three files give
+pub record FilesRead : Type 0 where
+  pub schema : Schema
+  pub paths : List (LocationPath ℕ)
+  pub rows : List Row
+
+-- "It lends 4,096 rows for the whole journal, reads at most 32,768 bytes of journal"
+unfoldable pub judgeFiles : List ℕ → List ℕ → List ℕ → Outcome FilesRead
+judgeFiles schema bundle journal =
+    andThen (readSchema schema) (λ s.
+    andThen (readBundle s bundle) (λ ps.
+    andThen (readJournal listingJournalBytes s journal) (λ rows.
+    inRoom (tooSmall listingRows rows) (record { schema = s; paths = ps; rows = rows }))))
+
 -- what is listed: the schema, the nodes of the journal, the rows kept, and the numbers that each path selects
 pub record ListingData : Type 0 where
   pub schema : Schema
@@ -41,18 +56,15 @@ pub record ListingData : Type 0 where
   pub kept : ℕ
   pub selections : List (List ℕ)
 
-abbrev pub listingData : Schema → List (LocationPath ℕ) → List ℕ → List Row → ListingData
-listingData s ps journal rows =
-    let doc = nodesOf journal rows in
-    record { schema = s; nodes = doc; kept = length (cut (needed (typesOf s) ps) rows); selections = map (select doc) ps }
-
--- "It lends 4,096 rows for the whole journal, reads at most 32,768 bytes of journal"
-unfoldable pub judgeFiles : List ℕ → List ℕ → List ℕ → Outcome ListingData
-judgeFiles schema bundle journal =
-    andThen (readSchema schema) (λ s.
-    andThen (readBundle s bundle) (λ ps.
-    andThen (readJournal listingJournalBytes s journal) (λ rows.
-    judged (given (tooSmall listingRows rows) (at tooFewCells 0)) (listingData s ps journal rows))))
+abbrev pub listingData : List ℕ → FilesRead → ListingData
+listingData journal f =
+    let doc = nodesOf journal (f .rows) in
+    record {
+      schema = f .schema;
+      nodes = doc;
+      kept = length (cut (needed (typesOf (f .schema)) (f .paths)) (f .rows));
+      selections = map (select doc) (f .paths);
+    }
 
 abbrev pub isIn : ℕ → List ℕ → Bool
 isIn k ks = anyOf (eqb k) ks
@@ -66,19 +78,12 @@ abbrev pub firstSelecting : ℕ → ℕ → List (List ℕ) → ℕ
 firstSelecting i k [] = i
 firstSelecting i k (ks ∷ kss) = cond (isIn k ks) i (firstSelecting (suc i) k kss)
 
--- "the chain of tags from the root down to it, a text ending in `text()`"
-abbrev pub tag : Schema → Name → List ℕ
-tag s (element e) = nameAt s e
-tag s (text e) = bytes "text()"
-
-abbrev pub chain : Schema → Node → List ℕ
-chain s (top k n) = bytes "/" ++ tag s n
-chain s (under k n w p) = chain s p ++ (bytes "/" ++ tag s n)
-
 -- "number, place in the bundle .., and the chain"
+abbrev pub nodeLine : Schema → Node → ℕ → List ℕ
+nodeLine s y place = decimal (nodeNumber y) ++ (bytes " " ++ (decimal place ++ (bytes " " ++ (chain s y ++ lineFeed))))
+
 unfoldable pub listingLine : ListingData → Node → List ℕ
-listingLine l y =
-    decimal (nodeNumber y) ++ (bytes " " ++ (decimal (firstSelecting 1 (nodeNumber y) (l .selections)) ++ (bytes " " ++ (chain (l .schema) y ++ lineFeed))))
+listingLine l y = nodeLine (l .schema) y (firstSelecting 1 (nodeNumber y) (l .selections))
 
 -- "a header: nodes selected, rows kept, rows in all"
 abbrev pub header : ℕ → ℕ → ℕ → List ℕ
@@ -91,9 +96,13 @@ headerOf l = header (length (selectedNodes l)) (l .kept) (length (l .nodes))
 unfoldable pub refusedLine : Refusal → List ℕ
 refusedLine f = bytes "refused " ++ (decimal (numberOf (f .reason)) ++ (bytes " at " ++ (decimal (f .place) ++ lineFeed)))
 
-abbrev pub printed : Outcome ListingData → List ℕ
-printed (refused f) = refusedLine f
-printed (accepted l) = headerOf l ++ gather (listingLine l) (selectedNodes l)
+-- the header and then a line for each selected node
+abbrev pub listed : ListingData → List ℕ
+listed l = headerOf l ++ gather (listingLine l) (selectedNodes l)
+
+abbrev pub printed : List ℕ → Outcome FilesRead → List ℕ
+printed journal (refused f) = refusedLine f
+printed journal (accepted f) = listed (listingData journal f)
 
 unfoldable pub listing : List ℕ → List ℕ → List ℕ → List ℕ
-listing schema bundle journal = printed (judgeFiles schema bundle journal)
+listing schema bundle journal = printed journal (judgeFiles schema bundle journal)

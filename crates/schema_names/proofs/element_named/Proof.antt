@@ -1,4 +1,4 @@
--- `element_named` meets its contract: a slice that is not a name from its start to its end is no name of the text. Assumes nothing.
+-- `element_named` meets its contract: a slice that is not a name from its start to its end is no name of the text.
 use mathlib.Core.List.{List, map}
 use mathlib.Core.Path.{sym, ap, _∙_}
 use Prim.Native.Nat.{ℕ}

@@ -1,4 +1,4 @@
--- `find` meets its contract: none of the first i names is the one sought. Assumes nothing.
+-- `find` meets its contract: none of the first i names is the one sought.
 use mathlib.Core.List.{map}
 use mathlib.Core.Path.{_≡_, refl, sym, ap, _∙_}
 use Prim.Native.Nat.{_-_, _≤_}

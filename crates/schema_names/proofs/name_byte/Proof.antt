@@ -1,4 +1,4 @@
--- `name_byte` meets its contract. Assumes nothing.
+-- `name_byte` meets its contract.
 use mathlib.Core.Path.{sym, _∙_}
 use borrow.Author.Needs.{needs}
 use native.Mathlib.Omega.{arith}

@@ -1,4 +1,4 @@
--- `past_name` meets its contract: what is left of the name starts at i. Assumes nothing.
+-- `past_name` meets its contract: what is left of the name starts at i.
 use mathlib.Core.Path.{_≡_, refl, ap}
 use Prim.Native.Nat.{_+_, _-_}
 use lib.ListN.{length}

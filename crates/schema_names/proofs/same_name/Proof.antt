@@ -1,4 +1,4 @@
--- `same_name` meets its contract: the names are the same if what is left of them is. Assumes nothing.
+-- `same_name` meets its contract: the names are the same if what is left of them is.
 use mathlib.Core.Path.{_≡_, refl, sym, _∙_}
 use Prim.Native.Nat.{_+_, _-_}
 use lib.ListN.{length}

@@ -1,5 +1,4 @@
 -- `class_of` meets its contract: each way out is for a run of bytes, or for single bytes, and the rule is computed over each.
--- Assumes nothing.
 use mathlib.Core.List.{List, [], _∷_}
 use Prim.Native.Nat.{ℕ}
 use native.Mathlib.Omega.{arith}

@@ -1,4 +1,4 @@
--- `continues_name` meets its contract: the class of the byte tells, but for `-`, `.` and `_`. Assumes nothing.
+-- `continues_name` meets its contract: the class of the byte tells, but for `-`, `.` and `_`.
 use mathlib.Core.Bool.{true}
 use mathlib.Core.Path.{ap, _∙_}
 use Rattle.text_spec.specs.Bytes.{classOf, continuesName}

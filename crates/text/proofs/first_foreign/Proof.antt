@@ -1,4 +1,4 @@
--- `first_foreign` meets its contract: no byte before i is foreign, so the first place is that in what is left. Assumes nothing.
+-- `first_foreign` meets its contract: no byte before i is foreign, so the first place is that in what is left.
 use mathlib.Core.Bool.{Bool, true, false, cond}
 use mathlib.Core.List.{List, _∷_}
 use mathlib.Core.Path.{_≡_, refl, sym, ap, _∙_}

@@ -1,4 +1,4 @@
--- `is_blank` meets its contract: the tests in their order. Assumes nothing.
+-- `is_blank` meets its contract: the tests in their order.
 use borrow.Author.Tests.{eq-eqb, ne-eqb}
 use Rattle.text.proofs.is_blank.Statement.{statement}
 use Rattle.text.proofs.is_blank.Tie as tie

@@ -1,4 +1,4 @@
--- `is_foreign` meets its contract: the class of the byte tells. Assumes nothing.
+-- `is_foreign` meets its contract: the class of the byte tells.
 use mathlib.Core.Path.{_∙_}
 use Rattle.text_spec.specs.Bytes.{classOf, isForeign}
 use Rattle.text.specs.Classes.{isForeignClass}

@@ -1,4 +1,4 @@
--- `joins_name` meets its contract: the tests in their order. Assumes nothing.
+-- `joins_name` meets its contract: the tests in their order.
 use borrow.Author.Tests.{eq-eqb, ne-eqb}
 use Rattle.text.proofs.joins_name.Statement.{statement}
 use Rattle.text.proofs.joins_name.Tie as tie

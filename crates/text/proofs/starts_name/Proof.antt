@@ -1,4 +1,4 @@
--- `starts_name` meets its contract: the class of the byte tells, but for `_`. Assumes nothing.
+-- `starts_name` meets its contract: the class of the byte tells, but for `_`.
 use mathlib.Core.Bool.{false}
 use mathlib.Core.Path.{_∙_}
 use lib.Dec.{eqb}

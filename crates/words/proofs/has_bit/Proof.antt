@@ -1,4 +1,4 @@
--- `words::has_bit` meets its contract: at 64 and past it, a word has no bit. Assumes nothing.
+-- `words::has_bit` meets its contract: at 64 and past it, a word has no bit.
 use mathlib.Core.Path.{sym}
 use native.Mathlib.Omega.{arith}
 use borrow.Author.Needs.{needs}

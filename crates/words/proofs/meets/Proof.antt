@@ -1,4 +1,4 @@
--- `words::meets` meets its contract. Assumes nothing.
+-- `words::meets` meets its contract.
 use native.Mathlib.Omega.{arith}
 use Rattle.words.specs.Bits.{meet-bits}
 use Rattle.words.proofs.meets.Statement.{statement}

@@ -1,4 +1,4 @@
--- `words::with_bit` meets its contract: below 64 one is shifted to the bit and does not wrap. Assumes nothing.
+-- `words::with_bit` meets its contract: below 64 one is shifted to the bit and does not wrap.
 use mathlib.Core.Bool.{Bool, _&&_, _||_, or-false, and-true, and-false}
 use mathlib.Core.Path.{_≡_, sym, ap, _∙_}
 use Prim.Native.Nat.{ℕ, _*_, _%_, _^_, _<_, _≤_}

@@ -1,0 +1,129 @@
+// A condition of a compiled path judged for all rows at once: each alternative from its last step back.
+ghost use mathlib.Core.Path.{_≡_};
+ghost use Prim.Native.Nat.{_-_};
+ghost use lib.ListN.{length};
+ghost use Rattle.compiled_paths.specs.Columns.{plainIn, alternativesIn, conditionIn};
+ghost use Rattle.condition_passes.specs.Conditions.{AlternativePass, ConditionPass, KeepPass};
+ghost use Rattle.marks.specs.Columns.{union, intersection};
+ghost use Rattle.marks.specs.Selection.{noMarks, alternativeMarks, alternativesMarks, conditionMarks};
+ghost use Rattle.step_passes.specs.Tests.{namesIn};
+use axis_passes::MARKED;
+use axis_passes::UNMARKED;
+use axis_passes::fill;
+use axis_passes::intersect;
+use axis_passes::unite;
+use compiled_paths::ALTERNATIVE_STARTS;
+use compiled_paths::STEPS;
+use step_passes::step_back;
+
+// How many cells a range has.
+pub fn range_size(start: u16, end: u16) -> usize
+    ensures { λ n. ⌜ n ≡ end - start ⌝ }
+{
+    if start < end {
+        (end - start) as usize
+    } else {
+        0
+    }
+}
+
+// Adds the rows from which `size` steps, the first of them at `first`, lead to some row; `steps` and `next` are scratch.
+fn alternative<'a>(
+    parents: &[u16],
+    codes: &[u8],
+    axes: &'a [u8; STEPS],
+    lows: &'a [u8; STEPS],
+    highs: &'a [u8; STEPS],
+    first: usize,
+    size: usize,
+    held: &mut [u8],
+    steps: &mut [u8],
+    next: &mut [u8],
+)
+    requires { ⌜ AlternativePass (now parents) (now codes) first size (now held) (now steps) (now next) ⌝ }
+    ensures { λ _. ⌜ now (held .exit) ≡ union (now (held .entry)) (alternativeMarks (now (parents .entry)) (namesIn (now (codes .entry))) (plainIn (now (axes .entry)) (now (lows .entry)) (now (highs .entry)) size first)) ⌝ }
+{
+    fill(steps, MARKED);
+    let mut k = first + size;
+    while first < k {
+        k -= 1;
+        step_back(parents, codes, axes[k], lows[k], highs[k], steps, next);
+    }
+    unite(&steps[..], held);
+}
+
+// The rows from which one of `count` alternatives, the first of them at `first`, leads to some row; `steps` and `next` are scratch.
+fn condition<'a>(
+    parents: &[u16],
+    codes: &[u8],
+    axes: &'a [u8; STEPS],
+    lows: &'a [u8; STEPS],
+    highs: &'a [u8; STEPS],
+    alternatives: &'a [u16; ALTERNATIVE_STARTS],
+    first: usize,
+    count: usize,
+    held: &mut [u8],
+    steps: &mut [u8],
+    next: &mut [u8],
+)
+    requires { ⌜ ConditionPass (now parents) (now codes) (now alternatives) first count (now held) (now steps) (now next) ⌝ }
+    ensures { λ _. ⌜ now (held .exit) ≡ alternativesMarks (now (parents .entry)) (namesIn (now (codes .entry))) (noMarks (length (now (parents .entry)))) (alternativesIn (now (axes .entry)) (now (lows .entry)) (now (highs .entry)) (now (alternatives .entry)) count first) ⌝ }
+{
+    fill(held, UNMARKED);
+    let end = first + count;
+    let mut i = first;
+    while i < end {
+        let start = alternatives[i];
+        let size = range_size(start, alternatives[i + 1]);
+        alternative(
+            parents,
+            codes,
+            axes,
+            lows,
+            highs,
+            start as usize,
+            size,
+            held,
+            steps,
+            next,
+        );
+        i += 1;
+    }
+}
+
+// Keeps the rows where a condition of `count` alternatives, the first of them at `first`, holds; none are no condition. `held`, `steps` and
+// `next` are scratch.
+pub fn keep<'a>(
+    parents: &[u16],
+    codes: &[u8],
+    axes: &'a [u8; STEPS],
+    lows: &'a [u8; STEPS],
+    highs: &'a [u8; STEPS],
+    alternatives: &'a [u16; ALTERNATIVE_STARTS],
+    first: usize,
+    count: usize,
+    marks: &mut [u8],
+    held: &mut [u8],
+    steps: &mut [u8],
+    next: &mut [u8],
+)
+    requires { ⌜ KeepPass (now parents) (now codes) (now alternatives) first count (now marks) (now held) (now steps) (now next) ⌝ }
+    ensures { λ _. ⌜ now (marks .exit) ≡ intersection (now (marks .entry)) (conditionMarks (now (parents .entry)) (namesIn (now (codes .entry))) (conditionIn (now (axes .entry)) (now (lows .entry)) (now (highs .entry)) (now (alternatives .entry)) count first)) ⌝ }
+{
+    if count != 0 {
+        condition(
+            parents,
+            codes,
+            axes,
+            lows,
+            highs,
+            alternatives,
+            first,
+            count,
+            held,
+            steps,
+            next,
+        );
+        intersect(&held[..], marks);
+    }
+}

@@ -1,0 +1,18 @@
+-- `known_names::handed_in` meets its contract.
+use mathlib.Core.Path.{_∙_}
+use borrow.Author.Needs.{needs}
+use Rattle.names.specs.Encoding.{handed-in}
+use Rattle.type_steps.specs.Laws.{common-known, common-setIn}
+use Rattle.known_names.proofs.handed_in.Statement.{statement}
+use Rattle.known_names.proofs.handed_in.Tie as tie
+
+returns : tie.Need-returns
+returns c = λ s small named.
+    let start = c .before .before .args in
+    let set = c .before .from-word in (
+      common-setIn s (start .all) (set .result) (c .common .result) named (c .common .ensures) ∙ handed-in s small (start .word) (set .result) (set .ensures),
+      common-known s (start .all) (set .result) (c .common .result) named (c .common .ensures),
+    )
+
+pub handed-in-spec : {M : Type 1} → statement M
+handed-in-spec = tie.close (tie.spec (λ c κs. search needs) (λ c κs. search needs) returns)

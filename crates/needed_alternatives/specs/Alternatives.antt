@@ -1,0 +1,38 @@
+-- Alternatives from a type and a context: whether one of them ends with a type that is not empty, and what they need.
+use mathlib.Core.Bool.{Bool, not}
+use mathlib.Core.List.{List, [], _∷_, List·Memᴰ}
+use mathlib.Core.Path.{_≡_}
+use Prim.Native.Nat.{ℕ, _+_, _<_, _≤_}
+use lib.ListN.{length, getD}
+use Rattle.name_codes.specs.Codes.{nameOfCode}
+use Rattle.names.specs.declared.NameSet.{NameSet}
+use Rattle.path_spec.specs.Paths.{PlainStep, expand}
+use Rattle.projection_spec.specs.Inference.Needed.{keepsAll, wantsNothing, need}
+use Rattle.projection_spec.specs.Inference.Types.{Env, env, cutTo, inferAll}
+use Rattle.schema_spec.specs.Names.{Names, namesOf}
+use Rattle.schema_spec.specs.Schemas.{Schema}
+use Rattle.schema_spec.specs.Types.{typesOf}
+use Rattle.text_spec.specs.Lists.{anyOf, gather, isEmpty}
+use Rattle.type_steps.specs.Relations.{setIn, envIn}
+use Rattle.type_steps.specs.declared.Inferred.{Inferred}
+
+-- one name, in the context k cut to it and above it
+abbrev pub FromName : Schema → NameSet → ℕ → Inferred → Type 0
+FromName s k c r = List·Memᴰ (nameOfCode c) (namesOf s) → envIn s r ≡ env (nameOfCode c ∷ []) (cutTo (typesOf s) (nameOfCode c ∷ []) (setIn s k))
+
+-- the steps end with a type that is not empty
+abbrev pub endsSome : Schema → Env → List (PlainStep ℕ) → Bool
+endsSome s e q = not (isEmpty (inferAll (typesOf s) keepsAll (expand tt q) e .type))
+
+abbrev pub anyEndsSome : Schema → Env → List (List (PlainStep ℕ)) → Bool
+anyEndsSome s e qs = anyOf (λ q. endsSome s e q) qs
+
+abbrev pub needOfAll : Schema → Env → List (List (PlainStep ℕ)) → Names
+needOfAll s e qs = gather (λ q. need (typesOf s) keepsAll wantsNothing (expand tt q) e) qs
+
+-- columns that have n alternatives from i on
+pub record HasAlternatives (axes lows highs ways : List ℕ) (i n : ℕ) : Type 0 where
+  pub room : i + n < length ways
+  pub inside : (j : ℕ) → getD ways j 0 ≤ length axes
+  pub lows-size : length lows ≡ length axes
+  pub highs-size : length highs ≡ length axes

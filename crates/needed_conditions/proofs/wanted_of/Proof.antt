@@ -1,0 +1,40 @@
+-- `needed_conditions::wanted_of` meets its contract.
+use mathlib.Core.Bool.{Bool, _&&_}
+use mathlib.Core.Path.{sym, ap, _∙_}
+use borrow.Author.Needs.{needs}
+use Rattle.name_codes.specs.Codes.{nameOfCode}
+use Rattle.compiled_paths.specs.Columns.{alternativesIn}
+use Rattle.path_spec.specs.Paths.{alternatives}
+use Rattle.needed_alternatives.specs.Alternatives.{needOfAll}
+use Rattle.needed_conditions.specs.Conditions.{wantsIn}
+use Rattle.back_steps.specs.Laws.{within-member}
+use Rattle.projection_spec.specs.Inference.Types.{Env}
+use Rattle.schema_spec.specs.Names.{has}
+use Rattle.text_laws.specs.Tests.{passed}
+use Rattle.type_steps.specs.Relations.{envIn}
+use Rattle.needed_conditions.proofs.wanted_of.Statement.{statement}
+use Rattle.needed_conditions.proofs.wanted_of.Tie as tie
+
+need-of-all-requires : tie.Need-need-of-all-requires
+need-of-all-requires c κs = (c .before .before .before .before .before .before .before .pre .0)
+
+returns : tie.Need-returns
+returns c = λ s k only m i.
+    let start = c .before .before .before .before .before .before .before .before .args in
+    let q = alternatives (alternativesIn (start .axes .now) (start .lows .now) (start .highs .now) (start .ways .now) (start .n) (start .i)) in
+    let a = nameOfCode (start .c) in
+    let there = sym (c .before .before .before .has .ensures) ∙ c .before .before .if1 .taken in
+    within-member s (c .need-of-all .result) (needOfAll s (envIn s (c .before .from-name .result)) (alternativesIn (start .axes .now) (start .lows .now) (start .highs .now) (start .ways .now) (start .n) (start .i))) (c .need-of-all .ensures s k) m i
+    ∙ ap (λ (e : Env). has m (needOfAll s e (alternativesIn (start .axes .now) (start .lows .now) (start .highs .now) (start .ways .now) (start .n) (start .i)))) (c .before .from-name .ensures s k (only a (passed there)))
+    ∙ ap (λ (b : Bool). b && has m (wantsIn s (start .k) q a)) (sym there)
+
+returns-2 : tie.Need-returns-2
+returns-2 c = λ s k only m i.
+    let start = c .before .before .before .before .before .before .before .args in
+    let q = alternatives (alternativesIn (start .axes .now) (start .lows .now) (start .highs .now) (start .ways .now) (start .n) (start .i)) in
+    c .empty .ensures m ∙ ap (λ (b : Bool). b && has m (wantsIn s (start .k) q (nameOfCode (start .c)))) (sym (c .before .if1 .left) ∙ c .before .before .has .ensures)
+
+pub wanted-of-spec : {M : Type 1} → statement M
+wanted-of-spec =
+    tie.close
+    (tie.spec (λ c κs. search needs) (λ c κs. search needs) need-of-all-requires (λ c κs. search needs) returns returns-2)

@@ -1,0 +1,128 @@
+// The names that a bundle needs: the union of what its paths need.
+ghost use mathlib.Core.Path.{_≡_};
+ghost use Prim.Native.Nat.{_≤_};
+ghost use lib.ListN.{length};
+ghost use Rattle.compiled_paths.specs.Columns.{bundleIn};
+ghost use Rattle.compiled_paths.specs.Paths.{pathsIn, Shaped};
+ghost use Rattle.needed_names.specs.Bundles.{HasPaths};
+ghost use Rattle.projection_spec.specs.Inference.Needed.{needed, neededWord};
+ghost use Rattle.schema_spec.specs.Schemas.{Schema};
+ghost use Rattle.schema_spec.specs.Types.{typesOf};
+ghost use Rattle.text_spec.specs.Limits.{maxDeclarations};
+ghost use Rattle.type_steps.specs.Relations.{RelationsOf, NamesOf, Known, setIn};
+use back_steps::together;
+use compiled_paths::CompiledPaths;
+use names::MAX_ELEMENTS;
+use names::NameSet;
+use needed_paths::path_needed;
+
+// The names that `n` paths from `i` on need.
+fn paths_needed(
+    all: NameSet,
+    holds: [NameSet; MAX_ELEMENTS],
+    below: [NameSet; MAX_ELEMENTS],
+    axes: &[u8],
+    lows: &[u8],
+    highs: &[u8],
+    ways: &[u16],
+    conditions: &[u16],
+    paths: &[u8],
+    i: usize,
+    n: usize,
+) -> NameSet
+    requires { ⌜ HasPaths (now axes) (now lows) (now highs) (now ways) (now conditions) (now paths) i n ⌝ }
+    ensures { λ r. ⌜ ((s : Schema) → RelationsOf s holds below → NamesOf s all → setIn s r ≡ needed (typesOf s) (bundleIn (now (axes .entry)) (now (lows .entry)) (now (highs .entry)) (now (ways .entry)) (now (conditions .entry)) (now (paths .entry)) n i)) ⌝ }
+{
+    if n == 0 {
+        NameSet::empty()
+    } else {
+        let first = ranges::byte_start(paths, i);
+        let size = ranges::byte_size(paths, i);
+        let one = path_needed(
+            all,
+            holds,
+            below,
+            axes,
+            lows,
+            highs,
+            ways,
+            conditions,
+            first,
+            size,
+        );
+        let rest = paths_needed(
+            all,
+            holds,
+            below,
+            axes,
+            lows,
+            highs,
+            ways,
+            conditions,
+            paths,
+            i + 1,
+            n - 1,
+        );
+        together(one, rest)
+    }
+}
+
+// What the paths of a bundle need, among the names `all` of the schema.
+fn bundle_needed(
+    all: NameSet,
+    holds: [NameSet; MAX_ELEMENTS],
+    below: [NameSet; MAX_ELEMENTS],
+    bundle: CompiledPaths,
+) -> NameSet
+    requires { ⌜ Shaped bundle ⌝ }
+    ensures { λ r. ⌜ ((s : Schema) → RelationsOf s holds below → NamesOf s all → setIn s r ≡ needed (typesOf s) (pathsIn bundle)) ⌝ }
+{
+    let axes = bundle.axes;
+    let lows = bundle.lows;
+    let highs = bundle.highs;
+    let ways = bundle.alternatives;
+    let conditions = bundle.conditions;
+    let paths = bundle.paths;
+    paths_needed(
+        all,
+        holds,
+        below,
+        &axes,
+        &lows,
+        &highs,
+        &ways,
+        &conditions,
+        &paths,
+        0,
+        bundle.count,
+    )
+}
+
+// The names that a bundle needs, under a schema of `count` elements, as a set of names of the schema alone.
+pub fn needed_set(
+    count: usize,
+    holds: [NameSet; MAX_ELEMENTS],
+    below: [NameSet; MAX_ELEMENTS],
+    bundle: CompiledPaths,
+) -> NameSet
+    requires { ⌜ Shaped bundle × (count ≤ maxDeclarations) ⌝ }
+    ensures { λ r. ⌜ ((s : Schema) → RelationsOf s holds below → count ≡ length s → (setIn s r ≡ needed (typesOf s) (pathsIn bundle)) × Known s r) ⌝ }
+{
+    let all = known_names::names_of(holds, count);
+    let whole = bundle_needed(all, holds, below, bundle);
+    whole.common(all)
+}
+
+// The names that a bundle needs, as 64 bits.
+pub fn needed_word(
+    count: usize,
+    holds: [NameSet; MAX_ELEMENTS],
+    below: [NameSet; MAX_ELEMENTS],
+    bundle: CompiledPaths,
+) -> u64
+    requires { ⌜ Shaped bundle × (count ≤ maxDeclarations) ⌝ }
+    ensures { λ r. ⌜ ((s : Schema) → RelationsOf s holds below → count ≡ length s → r ≡ neededWord (typesOf s) (pathsIn bundle)) ⌝ }
+{
+    let set = needed_set(count, holds, below, bundle);
+    set.to_word()
+}

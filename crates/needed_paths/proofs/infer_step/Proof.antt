@@ -1,0 +1,49 @@
+-- `needed_paths::infer_step` meets its contract.
+use mathlib.Core.Path.{refl}
+use borrow.Author.Needs.{needs}
+use native.Mathlib.Omega.{arith}
+use Rattle.compiled_paths.specs.Columns.{conditionIn}
+use Rattle.needed_paths.specs.Laws.{condition-alternatives, condition-range, infer-written-step}
+use Rattle.type_steps.specs.Relations.{envIn}
+use Rattle.needed_paths.proofs.infer_step.Statement.{statement}
+use Rattle.needed_paths.proofs.infer_step.Tie as tie
+
+start-requires : tie.Need-start-requires
+start-requires c κs =
+    let l = c .before .before .before .before .before .pre .counted in
+    omega arith
+
+size-requires : tie.Need-size-requires
+size-requires c κs =
+    let l = c .before .before .before .before .before .before .pre .counted in
+    omega arith
+
+conditioned-requires : tie.Need-conditioned-requires
+conditioned-requires c κs =
+    let start = c .before .before .before .before .before .before .before .before .before .before .before in
+    let first = c .before .before .before .before .before .start in
+    let count = c .before .before .before .before .size in
+    condition-alternatives (start .args .axes .now) (start .args .lows .now) (start .args .highs .now) (start .args .ways .now) (start .args .conditions .now) (start .args .k) 1 (first .result) (count .result) (start .pre) (first .ensures) (count .ensures)
+
+returns : tie.Need-returns
+returns c = λ s k named i.
+    let start = c .before .before .before .before .before .before .before .before .before .before .before .before .args in
+    let first = c .before .before .before .before .before .before .start in
+    let count = c .before .before .before .before .before .size in
+    let gone = c .before .step in
+    infer-written-step (start .axes .now) (start .lows .now) (start .highs .now) (start .ways .now) (start .conditions .now) s i (start .k) (conditionIn (start .axes .now) (start .lows .now) (start .highs .now) (start .ways .now) (count .result) (first .result))
+    (envIn s (start .e)) (envIn s (gone .result)) (envIn s (c .conditioned .result)) (gone .result .context)
+    (condition-range (start .axes .now) (start .lows .now) (start .highs .now) (start .ways .now) (start .conditions .now) (start .k) (first .result) (count .result) (first .ensures) (count .ensures)) (gone .ensures s k) refl (c .conditioned .ensures s k named)
+
+pub infer-step-spec : {M : Type 1} → statement M
+infer-step-spec =
+    tie.close
+    (tie.spec
+    start-requires
+    size-requires
+    (λ c. search needs)
+    (λ c. search needs)
+    (λ c. search needs)
+    (λ c κs. search needs)
+    conditioned-requires
+    returns)

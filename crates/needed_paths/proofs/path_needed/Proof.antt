@@ -1,0 +1,24 @@
+-- `needed_paths::path_needed` meets its contract.
+use mathlib.Core.Path.{ap, ap₂, _∙_}
+use borrow.Author.Needs.{needs}
+use Rattle.compiled_paths.specs.Columns.{stepsIn}
+use Rattle.path_spec.specs.Paths.{unconditional, expand}
+use Rattle.projection_spec.specs.Inference.Needed.{keepsName, wantsNames, need, fromRoot, neededBeforeFilter, neededByPath}
+use Rattle.projection_spec.specs.Inference.Types.{Env, env}
+use Rattle.schema_spec.specs.Types.{typesOf}
+use Rattle.type_steps.specs.Relations.{setIn}
+use Rattle.needed_paths.proofs.path_needed.Statement.{statement}
+use Rattle.needed_paths.proofs.path_needed.Tie as tie
+
+returns : tie.Need-returns
+unfolding neededByPath neededBeforeFilter typesOf
+returns c = λ s k named.
+    let start = c .before .before .before .before .before .before .before .before .args in
+    let root = c .before .before .root in
+    let ps = expand unconditional (stepsIn (start .axes .now) (start .lows .now) (start .highs .now) (start .ways .now) (start .conditions .now) (start .n) (start .k)) in
+    let e = root .ensures s (k .full) in
+    c .from-root .ensures s k (need (typesOf s) (keepsName (typesOf s)) (wantsNames (typesOf s)) ps (env (setIn s (root .result)) (setIn s (root .result)))) (c .before .need-steps .ensures s k named 1 .names)
+    ∙ ap (λ (x : Env). fromRoot (typesOf s) (need (typesOf s) (keepsName (typesOf s)) (wantsNames (typesOf s)) ps x)) (ap₂ env e e)
+
+pub path-needed-spec : {M : Type 1} → statement M
+path-needed-spec = tie.close (tie.spec (λ c κs. search needs) (λ c κs. search needs) (λ c κs. search needs) returns)

@@ -1,0 +1,23 @@
+-- `either` meets its contract: the keyword, and then where the two axes part.
+use Rattle.path_axes.proofs.Axes.{both-past, both-fail}
+use Rattle.scanning.specs.OutcomeLaws.{spelt-end}
+use borrow.Author.Needs.{needs}
+use Rattle.path_axes.proofs.either.Statement.{statement}
+use Rattle.path_axes.proofs.either.Tie as tie
+
+or-self-requires : tie.Need-or-self-requires
+or-self-requires c κs =
+    (spelt-end (c .before .before .before .spell .ensures) (c .before .j .given .1) .1, c .before .before .before .before .before .before .pre .2)
+
+returns : tie.Need-returns
+returns c =
+    both-past (c .before .before .before .before .before .before .before .args .axis) (c .before .before .before .before .spell .ensures) (c .before .before .before .before .before .before .before .pre .1) (c .before .before .j .given .1) (c .or-self .ensures)
+
+returns-2 : tie.Need-returns-2
+returns-2 c =
+    both-fail (c .before .before .before .before .before .before .args .axis) (c .before .before .before .spell .ensures) (c .before .before .before .before .before .before .pre .1) (c .before .j2 .given .1)
+
+pub either-spec : {M : Type 1} → statement M
+either-spec =
+    tie.close
+    (tie.spec (λ c κs. search needs) (λ c. search needs) or-self-requires (λ c. search needs) returns returns-2)

@@ -1,0 +1,72 @@
+-- `plain_steps::infer_plain` meets its contract; the steps that are left fall.
+use mathlib.Core.List.{List}
+use mathlib.Core.Path.{sym, ap}
+use borrow.Author.Needs.{needs}
+use Prim.Native.Nat.{ℕ, suc, _<_}
+use borrow.Fn.Kinds.{In}
+use borrow.Fn.PlainCycle.{Measures, is, falls, and}
+use Rattle.plain_steps.proofs.infer_plain.Reads as infer-plain
+use Rattle.plain_steps.proofs.infer_plain.Kinds as infer-plain-kinds
+use Rattle.plain_steps.proofs.+infer_plain.Lts-infer_plain as infer-plain-lts
+use Rattle.type_steps.proofs.step.Reads as step-reads
+use Rattle.plain_steps.proofs.+infer_plain.{statement}
+use Rattle.plain_steps.proofs.+infer_plain.Tie.{close}
+use Rattle.compiled_paths.specs.Columns.{plain-none}
+use Rattle.path_spec.specs.Paths.{PlainStep, expandFrom}
+use Rattle.plain_steps.specs.Laws.{infer-plain-step}
+use Rattle.projection_spec.specs.Inference.Needed.{keepsAll}
+use Rattle.projection_spec.specs.Inference.Types.{inferAll}
+use Rattle.schema_spec.specs.Types.{typesOf}
+use Rattle.type_steps.specs.Relations.{envIn}
+
+abbrev μ-infer-plain : Measures 3 infer-plain-kinds.ps ℕ
+μ-infer-plain κs a = a .1 .1 .1 .1 .1 .1 .0
+
+abbrev infer-plain-at : ℕ → In 3 infer-plain-kinds.ps
+infer-plain-at t = and 3 infer-plain-kinds.ps (is 3 infer-plain-kinds.ps μ-infer-plain t) infer-plain.Pre
+
+abbrev infer-plain-below : ℕ → In 3 infer-plain-kinds.ps
+infer-plain-below t = and 3 infer-plain-kinds.ps (falls 3 infer-plain-kinds.ps _<_ μ-infer-plain t) infer-plain.Pre
+
+infer-plain-returns : (t : ℕ) → infer-plain-lts.Need-returns (
+  step-reads.Asked,
+  step-reads.Learnt,
+  infer-plain-below t,
+  infer-plain.Post,
+) (infer-plain-at t) infer-plain.Post
+infer-plain-returns t c =
+    λ s k i.
+    let start = c .before .before .before .before .args in
+    sym (ap (λ (ps : List (PlainStep ℕ)). inferAll (typesOf s) keepsAll (expandFrom tt i ps) (envIn s (start .e)))
+    (plain-none (start .axes .now) (start .lows .now) (start .highs .now) (start .n) (start .k) (c .if1 .taken)))
+
+infer-plain-returns-2 : (t : ℕ) → infer-plain-lts.Need-returns-2 (
+  step-reads.Asked,
+  step-reads.Learnt,
+  infer-plain-below t,
+  infer-plain.Post,
+) (infer-plain-at t) infer-plain.Post
+infer-plain-returns-2 t c =
+    λ s k i.
+    let start = c .before .before .before .before .before .before .before .before .before .args in
+    infer-plain-step (start .axes .now) (start .lows .now) (start .highs .now) s i (start .n) (start .k) (c .before .before .before .before .before .if1 .left)
+    (envIn s (start .e)) (envIn s (c .before .step .result)) (envIn s (c .infer-plain .result)) (c .before .step .ensures s k) (c .infer-plain .ensures s k (suc i))
+
+pub +infer-plain-spec : {M : Type 1} → statement M
++infer-plain-spec = close μ-infer-plain λ t. infer-plain-lts.spec (
+  step-reads.Asked,
+  step-reads.Learnt,
+  infer-plain-below t,
+  infer-plain.Post,
+)
+    (infer-plain-at t)
+    infer-plain.Post
+    (λ c. search needs)
+    (λ c. search needs)
+    (λ c. search needs)
+    (λ c κs. search needs)
+    (λ c. search needs)
+    (λ c. search needs)
+    (λ c κs. search needs)
+    (infer-plain-returns t)
+    (infer-plain-returns-2 t)

@@ -1,0 +1,69 @@
+// Steps without brackets, from a type and a context: where they end, and what their walks to the last step need.
+ghost use mathlib.Core.Path.{_≡_};
+ghost use Prim.Native.Nat.{ℕ};
+ghost use Rattle.back_steps.specs.Needs.{NeedsOf};
+ghost use Rattle.compiled_paths.specs.Columns.{plainIn};
+ghost use Rattle.path_spec.specs.Paths.{expandFrom};
+ghost use Rattle.plain_steps.specs.Columns.{HasSteps};
+ghost use Rattle.projection_spec.specs.Inference.Needed.{keepsAll, wantsNothing};
+ghost use Rattle.projection_spec.specs.Inference.Types.{inferAll};
+ghost use Rattle.schema_spec.specs.Schemas.{Schema};
+ghost use Rattle.schema_spec.specs.Types.{typesOf};
+ghost use Rattle.type_steps.specs.Relations.{RelationsOf, envIn};
+use back_steps::Needs;
+use back_steps::with_step;
+use names::MAX_ELEMENTS;
+use names::NameSet;
+use type_steps::Inferred;
+use type_steps::step;
+
+// The type and the context that `n` steps from `k` on end with.
+pub fn infer_plain(
+    holds: [NameSet; MAX_ELEMENTS],
+    below: [NameSet; MAX_ELEMENTS],
+    axes: &[u8],
+    lows: &[u8],
+    highs: &[u8],
+    k: usize,
+    n: usize,
+    e: Inferred,
+) -> Inferred
+    requires { ⌜ HasSteps (now axes) (now lows) (now highs) k n ⌝ }
+    ensures { λ r. ⌜ ((s : Schema) → RelationsOf s holds below → (i : ℕ) → envIn s r ≡ inferAll (typesOf s) keepsAll (expandFrom tt i (plainIn (now (axes .entry)) (now (lows .entry)) (now (highs .entry)) n k)) (envIn s e)) ⌝ }
+{
+    if n == 0 {
+        e
+    } else {
+        let f = step(holds, below, axes[k], lows[k], highs[k], e);
+        infer_plain(holds, below, axes, lows, highs, k + 1, n - 1, f)
+    }
+}
+
+// What `n` steps from `k` on need.
+pub fn need_plain(
+    holds: [NameSet; MAX_ELEMENTS],
+    below: [NameSet; MAX_ELEMENTS],
+    axes: &[u8],
+    lows: &[u8],
+    highs: &[u8],
+    k: usize,
+    n: usize,
+    e: Inferred,
+) -> Needs
+    requires { ⌜ HasSteps (now axes) (now lows) (now highs) k n ⌝ }
+    ensures { λ r. ⌜ ((s : Schema) → RelationsOf s holds below → (i : ℕ) → NeedsOf s keepsAll wantsNothing (expandFrom tt i (plainIn (now (axes .entry)) (now (lows .entry)) (now (highs .entry)) n k)) (envIn s e) r) ⌝ }
+{
+    let t = e.types;
+    if n == 0 {
+        Needs {
+            complete: t,
+            names: t,
+        }
+    } else {
+        let axis = axes[k];
+        let f = step(holds, below, axis, lows[k], highs[k], e);
+        let later = need_plain(holds, below, axes, lows, highs, k + 1, n - 1, f);
+        let none = NameSet::empty();
+        with_step(holds, below, axis, t, none, later)
+    }
+}

@@ -1,0 +1,33 @@
+// The numbers that one compiled path selects on a table in columns, in lent cells.
+ghost use Rattle.marks.specs.Selection.{selectColumns};
+ghost use Rattle.row_numbers.specs.Cells.{Appended};
+ghost use Rattle.select.specs.Paths.{OnePass, pathIn};
+ghost use Rattle.step_passes.specs.Tests.{namesIn};
+use compiled_paths::CompiledPaths;
+use row_numbers::append;
+use selection::select_path;
+
+// Writes the numbers that the path `i` selects into the cells from `at` on, as far as there is room, and gives the cell past them. On an
+// empty table nothing is selected. `marks`, `held`, `steps` and `next` are scratch, a byte for each row.
+pub fn select_one(
+    paths: CompiledPaths,
+    i: usize,
+    numbers: &[u16],
+    codes: &[u8],
+    parents: &[u16],
+    items: &mut [u16],
+    at: usize,
+    marks: &mut [u8],
+    held: &mut [u8],
+    steps: &mut [u8],
+    next: &mut [u8],
+) -> usize
+    requires { ⌜ OnePass paths i (now numbers) (now codes) (now parents) at (now marks) (now held) (now steps) (now next) ⌝ }
+    ensures { λ n. ⌜ Appended (now (items .entry)) at (selectColumns (now (parents .entry)) (namesIn (now (codes .entry))) (now (numbers .entry)) (pathIn paths i)) n (now (items .exit)) ⌝ }
+{
+    if parents.len() == 0 {
+        return at;
+    }
+    select_path(paths, i, parents, codes, marks, held, steps, next);
+    append(numbers, &marks[..], items, at)
+}

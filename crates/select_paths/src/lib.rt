@@ -1,0 +1,50 @@
+// The numbers that compiled paths select on a table in columns, joined and counted, in lent cells.
+ghost use Rattle.select_paths.specs.Joined.{AllPass, JoinedAs};
+use compiled_paths::CompiledPaths;
+use row_numbers::clear_from;
+use row_numbers::put;
+use select::select_one;
+
+// Writes the numbers that the paths from `first` to before `end` select, joined, and how many each selects; past them zeros. Gives how many
+// numbers they are: more than there are cells where the room is too small.
+pub fn select_paths(
+    paths: CompiledPaths,
+    first: usize,
+    end: usize,
+    numbers: &[u16],
+    codes: &[u8],
+    parents: &[u16],
+    items: &mut [u16],
+    counts: &mut [u16],
+    marks: &mut [u8],
+    held: &mut [u8],
+    steps: &mut [u8],
+    next: &mut [u8],
+) -> usize
+    requires { ⌜ AllPass paths first end (now numbers) (now codes) (now parents) (now marks) (now held) (now steps) (now next) ⌝ }
+    ensures { λ n. ⌜ JoinedAs paths first end (now (numbers .entry)) (now (codes .entry)) (now (parents .entry)) (now (items .entry)) (now (counts .entry)) n (now (items .exit)) (now (counts .exit)) ⌝ }
+{
+    let mut n: usize = 0;
+    let mut i = first;
+    while i < end {
+        let m = select_one(
+            paths,
+            i,
+            numbers,
+            codes,
+            parents,
+            items,
+            n,
+            marks,
+            held,
+            steps,
+            next,
+        );
+        put(counts, i - first, (m - n) as u16);
+        n = m;
+        i += 1;
+    }
+    clear_from(items, n);
+    clear_from(counts, end - first);
+    n
+}

@@ -1,0 +1,65 @@
+use mathlib.Core.Path.{sym, _∙_}
+use Prim.Native.Nat.{_+_, _-_}
+use borrow.Author.Tests.{not-true}
+use Rattle.selection.specs.Steps.{StepsSoFar, steps-begun, steps-pass, steps-next, steps-all, steps-ended}
+use borrow.Author.Needs.{needs}
+use native.Mathlib.Omega.{arith}
+use Rattle.selection.proofs.steps_from.Statement.{statement}
+use Rattle.selection.proofs.steps_from.Tie as tie
+
+abbrev Inv-loop : tie.InvT-loop
+Inv-loop parents codes axes lows highs alternatives conditions first size marks₀ held₀ steps₀ next₀ end k₀ marks held steps next k =
+    StepsSoFar parents codes axes lows highs alternatives conditions first size marks₀ k marks held steps next
+
+abbrev μ-loop : tie.MeasureT-loop
+μ-loop parents codes axes lows highs alternatives conditions first size marks₀ held₀ steps₀ next₀ end k₀ marks held steps next k = first + size - k
+
+add-end : tie.Need-add-end Inv-loop μ-loop
+add-end c = omega (arith, c .before .before .before .before .before .before .pre .inside)
+
+loop-holds : tie.Need-loop-holds Inv-loop μ-loop
+loop-holds c = steps-begun _ _ _ _ _ _ _ _ _ _ _ _ _ (c .before .before .before .before .before .before .pre)
+
+returns : tie.Need-returns Inv-loop μ-loop
+returns c =
+    let at = c .before .before .before .before .loop in
+    steps-ended _ _ _ _ _ _ _ _ _ _ (at .k) (at .marks) (at .held) (at .steps) (at .next) (at .inv) (sym (c .before .any-marked .ensures) ∙ not-true _ (c .if1 .taken))
+
+step-requires : tie.Need-step-requires Inv-loop μ-loop
+step-requires c κs =
+    let at = c .before .before .before .before .before .before .before .before .loop in
+    steps-pass _ _ _ _ _ _ _ _ _ _ (at .k) (at .marks) (at .held) (at .steps) (at .next) (at .inv) _ _ _ (c .before .before .before .before .before .before .before .before .before .before .before .before .before .before .before .pre) (omega arith)
+
+loop-again : tie.Need-loop-again Inv-loop μ-loop
+loop-again c =
+    let at = c .before .before .before .before .before .before .before .before .before .before .before .before .before .before .before .before .before .loop in
+    steps-next _ _ _ _ _ _ _ _ _ _ (at .k) (at .marks) (at .held) (at .steps) (at .next) (at .inv) _ _ _ _ (omega arith) (c .before .before .before .before .before .before .before .before .step .ensures) (omega arith) (omega arith) (omega arith)
+
+returns-2 : tie.Need-returns-2 Inv-loop μ-loop
+returns-2 c =
+    let at = c .before .loop in
+    steps-all _ _ _ _ _ _ _ _ _ _ (at .k) (at .marks) (at .held) (at .steps) (at .next) (at .inv) (omega arith)
+
+pub steps-from-spec : {M : Type 1} → statement M
+steps-from-spec =
+    tie.close
+    (tie.spec
+    Inv-loop
+    μ-loop
+    add-end
+    loop-holds
+    (λ c κs. search needs)
+    (λ c. search needs)
+    (λ c. search needs)
+    (λ c. search needs)
+    (λ c. search needs)
+    returns
+    step-requires
+    (λ c. search needs)
+    (λ c. search needs)
+    loop-again
+    (λ c. search needs)
+    (λ c. search needs)
+    (λ c. search needs)
+    (λ c. search needs)
+    returns-2)

@@ -1,0 +1,5 @@
+pub mod Axes
+pub mod Marked
+pub mod Conditions
+pub mod Paths
+pub mod Meaning

@@ -1,0 +1,122 @@
+-- One step of a compiled path on the columns of a table: forward along its axis, and back along the inverse axis.
+use mathlib.Core.List.{List}
+use mathlib.Core.Path.{_≡_, sym, ap, _∙_}
+use Prim.Native.Nat.{ℕ, _<_}
+use borrow.Author.Tests.{ne-eqb}
+use lib.ListN.{length}
+use Rattle.compiled_paths.specs.Columns.{axisOf, testOf}
+use Rattle.marks.specs.Columns.{RowSet, marks, OnlyMarks, union, intersection, marks-length, only-marks}
+use Rattle.marks.specs.Parents.{imageMarks}
+use Rattle.marks.specs.Passes.{AxisPass, SameLength, self-image, rangeMarks}
+use Rattle.marks.specs.Selection.{testMarks}
+use Rattle.path_laws.specs.Inverses.{inverse}
+use Rattle.path_spec.specs.Paths.{Axis, self}
+use Rattle.step_passes.specs.Tests.{namesIn, Coded, InRange, range-test}
+use Rattle.table_laws.specs.Parents.{ParentsBefore}
+
+-- ---- definitions
+module _ (ps codes : List ℕ) (axis low high : ℕ) where
+  -- the rows that a step leads to from the marked ones, before its condition
+  unfoldable pub forwardMarks : List ℕ → List ℕ
+  forwardMarks m = intersection (imageMarks (axisOf axis) ps m) (testMarks (testOf low high) (namesIn codes))
+
+  -- the rows from which a step leads to a marked one
+  unfoldable pub backwardMarks : List ℕ → List ℕ
+  backwardMarks m = imageMarks (inverse (axisOf axis)) ps (intersection m (testMarks (testOf low high) (namesIn codes)))
+
+-- ---- what the passes ask
+-- the columns of parents and of names of a table that is not empty
+pub record TableColumns (ps codes : List ℕ) : Type 0 where
+  pub before : ParentsBefore ps
+  pub filled : 0 < length ps
+  pub size : length codes ≡ length ps
+  pub coded : Coded codes
+
+pub record MarkColumn (ps m : List ℕ) : Type 0 where
+  pub marked : OnlyMarks m
+  pub size : length m ≡ length ps
+
+-- a table, a column of marks and room for another
+pub record StepPass (ps codes m out : List ℕ) : Type 0 where
+  pub table : TableColumns ps codes
+  pub column : MarkColumn ps m
+  pub room : length out ≡ length ps
+
+pub record TestPass (codes m : List ℕ) : Type 0 where
+  pub size : length codes ≡ length m
+  pub marked : OnlyMarks m
+  pub coded : Coded codes
+
+-- ---- columns stay columns
+pub marks-column : (ps : List ℕ) (f : RowSet) → MarkColumn ps (marks (length ps) f)
+marks-column ps f = record { marked = only-marks (length ps) f; size = marks-length (length ps) f }
+
+pub image-column : (a : Axis) (ps m : List ℕ) → MarkColumn ps (imageMarks a ps m)
+unfolding imageMarks
+image-column a ps m = marks-column ps _
+
+module _ (ps m k : List ℕ) (c : MarkColumn ps m) where
+  pub union-column : MarkColumn ps (union m k)
+  unfolding union
+  union-column = record { marked = only-marks (length m) _; size = marks-length (length m) _ ∙ c .size }
+
+  pub intersection-column : MarkColumn ps (intersection m k)
+  unfolding intersection
+  intersection-column = record { marked = only-marks (length m) _; size = marks-length (length m) _ ∙ c .size }
+
+pub forward-column : (ps codes : List ℕ) (axis low high : ℕ) (m : List ℕ) → MarkColumn ps (forwardMarks ps codes axis low high m)
+unfolding forwardMarks
+forward-column ps codes axis low high m = intersection-column ps (imageMarks (axisOf axis) ps m) (testMarks (testOf low high) (namesIn codes)) (image-column (axisOf axis) ps m)
+
+pub backward-column : (ps codes : List ℕ) (axis low high : ℕ) (m : List ℕ) → MarkColumn ps (backwardMarks ps codes axis low high m)
+unfolding backwardMarks
+backward-column ps codes axis low high m = image-column (inverse (axisOf axis)) ps (intersection m (testMarks (testOf low high) (namesIn codes)))
+
+pub columns-same-length : {ps m out : List ℕ} → MarkColumn ps m → MarkColumn ps out → SameLength m out
+columns-same-length c d = record { marked = c .marked; marks-out = d .marked; size = c .size ∙ sym (d .size) }
+
+-- ---- axes by their numbers
+pub axis-number : (c k : ℕ) (ps m out : List ℕ) → c ≡ k → out ≡ imageMarks (axisOf k) ps m → out ≡ imageMarks (axisOf c) ps m
+axis-number c k ps m out e h = rw e h
+
+pub axis-other : (c : ℕ) → (c ≡ 1 → ⊥) → (c ≡ 2 → ⊥) → (c ≡ 3 → ⊥) → (c ≡ 4 → ⊥) → (c ≡ 5 → ⊥) → (c ≡ 6 → ⊥) → axisOf c ≡ self
+unfolding axisOf
+axis-other c h1 h2 h3 h4 h5 h6 = rw (ne-eqb c 1 h1, ne-eqb c 2 h2, ne-eqb c 3 h3, ne-eqb c 4 h4, ne-eqb c 5 h5, ne-eqb c 6 h6)
+
+pub image-kept : (c : ℕ) (ps m was out : List ℕ) → AxisPass ps m was → axisOf c ≡ self → out ≡ m → out ≡ imageMarks (axisOf c) ps m
+image-kept c ps m was out h e d = rw e (d ∙ self-image ps m was h)
+
+-- ---- a test
+pub tested : (low high a b : ℕ) (codes m y : List ℕ) → TestPass codes m → InRange a b (testOf low high) → y ≡ intersection m (rangeMarks a b codes)
+    → y ≡ intersection m (testMarks (testOf low high) (namesIn codes))
+tested low high a b codes m y h r e = e ∙ ap (intersection m) (range-test a b (testOf low high) codes r (h .coded))
+
+-- ---- forward: the axis, then the test
+module _ (ps codes m out : List ℕ) (h : StepPass ps codes m out) where
+  pub pass-axis : AxisPass ps m out
+  pass-axis = record { before = h .table .before; filled = h .table .filled; marked = h .column .marked; size = h .column .size; room = h .room }
+
+  pub moved-test : (axis : ℕ) (x k : List ℕ) → x ≡ imageMarks (axisOf axis) ps m → k ≡ x → TestPass codes k
+  moved-test axis x k e d =
+      let c : MarkColumn ps k = rw (d ∙ e) (image-column (axisOf axis) ps m) in
+      record { size = h .table .size ∙ sym (c .size); marked = c .marked; coded = h .table .coded }
+
+  pub moved : (axis low high : ℕ) (x k y : List ℕ) → x ≡ imageMarks (axisOf axis) ps m → k ≡ x → y ≡ intersection k (testMarks (testOf low high) (namesIn codes))
+      → y ≡ forwardMarks ps codes axis low high m
+  unfolding forwardMarks
+  moved axis low high x k y e d f = f ∙ ap (λ (l : List ℕ). intersection l (testMarks (testOf low high) (namesIn codes))) (d ∙ e)
+
+  -- ---- back: the test, then the inverse axis
+  pub pass-test : TestPass codes m
+  pass-test = record { size = h .table .size ∙ sym (h .column .size); marked = h .column .marked; coded = h .table .coded }
+
+  module _ (low high : ℕ) (k : List ℕ) (e : k ≡ intersection m (testMarks (testOf low high) (namesIn codes))) where
+    pub tested-axis : AxisPass ps k out
+    tested-axis =
+        let c : MarkColumn ps k = rw e (intersection-column ps m (testMarks (testOf low high) (namesIn codes)) (h .column)) in
+        record { before = h .table .before; filled = h .table .filled; marked = c .marked; size = c .size; room = h .room }
+
+    pub moved-back : (axis i : ℕ) (x : List ℕ) → axisOf i ≡ inverse (axisOf axis) → x ≡ imageMarks (axisOf i) ps k → x ≡ backwardMarks ps codes axis low high m
+    unfolding backwardMarks
+    moved-back axis i x d f =
+        f ∙ ap (imageMarks (axisOf i) ps) e ∙ ap (λ (a : Axis). imageMarks a ps (intersection m (testMarks (testOf low high) (namesIn codes)))) d

@@ -1,0 +1,141 @@
+// One step of a compiled path for all rows at once: forward along its axis, and back along the inverse axis.
+ghost use mathlib.Core.Path.{_≡_};
+ghost use Rattle.compiled_paths.specs.Columns.{axisOf, testOf};
+ghost use Rattle.marks.specs.Columns.{intersection};
+ghost use Rattle.marks.specs.Parents.{imageMarks};
+ghost use Rattle.marks.specs.Passes.{AxisPass};
+ghost use Rattle.marks.specs.Selection.{testMarks};
+ghost use Rattle.path_laws.specs.Inverses.{inverse};
+ghost use Rattle.step_passes.specs.Steps.{forwardMarks, backwardMarks, StepPass, TestPass};
+ghost use Rattle.step_passes.specs.Tests.{namesIn, InRange};
+use axis_passes::ancestors;
+use axis_passes::ancestors_or_self;
+use axis_passes::children;
+use axis_passes::copy;
+use axis_passes::descendants;
+use axis_passes::descendants_or_self;
+use axis_passes::filter;
+use axis_passes::parents_of;
+
+// Axes by their numbers, in the order of document 01.
+pub const SELF: u8 = 0;
+
+pub const CHILD: u8 = 1;
+
+pub const DESCENDANT: u8 = 2;
+
+pub const DESCENDANT_OR_SELF: u8 = 3;
+
+pub const PARENT: u8 = 4;
+
+pub const ANCESTOR: u8 = 5;
+
+pub const ANCESTOR_OR_SELF: u8 = 6;
+
+// The first code of a text name, and the last code that a name can have.
+const TEXT_NAMES: u8 = 32;
+
+const LAST_CODE: u8 = 63;
+
+// The rows on an axis from the marked ones.
+fn axis_image(axis: u8, parents: &[u16], from: &[u8], out: &mut [u8])
+    requires { ⌜ AxisPass (now parents) (now from) (now out) ⌝ }
+    ensures { λ _. ⌜ now (out .exit) ≡ imageMarks (axisOf axis) (now (parents .entry)) (now (from .entry)) ⌝ }
+{
+    match axis {
+        CHILD => children(parents, from, out),
+        DESCENDANT => descendants(parents, from, out),
+        DESCENDANT_OR_SELF => descendants_or_self(parents, from, out),
+        PARENT => parents_of(parents, from, out),
+        ANCESTOR => ancestors(parents, from, out),
+        ANCESTOR_OR_SELF => ancestors_or_self(parents, from, out),
+        _ => copy(from, out),
+    }
+}
+
+fn inverse_of(axis: u8) -> u8
+    ensures { λ r. ⌜ axisOf r ≡ inverse (axisOf axis) ⌝ }
+{
+    match axis {
+        CHILD => PARENT,
+        DESCENDANT => ANCESTOR,
+        DESCENDANT_OR_SELF => ANCESTOR_OR_SELF,
+        PARENT => CHILD,
+        ANCESTOR => DESCENDANT,
+        ANCESTOR_OR_SELF => DESCENDANT_OR_SELF,
+        _ => SELF,
+    }
+}
+
+struct CodeRange {
+    low: u8,
+    high: u8,
+}
+
+// The codes of the names that pass a compiled step's test.
+fn code_range(low: u8, high: u8) -> CodeRange
+    ensures { λ r. ⌜ InRange (r .low) (r .high) (testOf low high) ⌝ }
+{
+    if low == high {
+        if low < TEXT_NAMES {
+            return CodeRange { low, high: low };
+        }
+        return CodeRange { low: 1, high: 0 };
+    }
+    if low == 0 {
+        return CodeRange {
+            low: 0,
+            high: LAST_CODE,
+        };
+    }
+    CodeRange {
+        low: TEXT_NAMES,
+        high: LAST_CODE,
+    }
+}
+
+// The rows of the column whose names pass a compiled step's test.
+pub fn filter_test(codes: &[u8], low: u8, high: u8, marks: &mut [u8])
+    requires { ⌜ TestPass (now codes) (now marks) ⌝ }
+    ensures { λ _. ⌜ now (marks .exit) ≡ intersection (now (marks .entry)) (testMarks (testOf low high) (namesIn (now (codes .entry)))) ⌝ }
+{
+    let range = code_range(low, high);
+    filter(codes, range.low, range.high, marks);
+}
+
+// The rows that a step leads to from the marked ones, before its condition; `next` is scratch.
+pub fn step_forward(
+    parents: &[u16],
+    codes: &[u8],
+    axis: u8,
+    low: u8,
+    high: u8,
+    marks: &mut [u8],
+    next: &mut [u8],
+)
+    requires { ⌜ StepPass (now parents) (now codes) (now marks) (now next) ⌝ }
+    ensures { λ _. ⌜ now (marks .exit) ≡ forwardMarks (now (parents .entry)) (now (codes .entry)) axis low high (now (marks .entry)) ⌝ }
+{
+    axis_image(axis, parents, &marks[..], next);
+    copy(&next[..], marks);
+    filter_test(codes, low, high, marks);
+}
+
+// The rows from which a step leads to a marked one; `next` is scratch.
+pub fn step_back(
+    parents: &[u16],
+    codes: &[u8],
+    axis: u8,
+    low: u8,
+    high: u8,
+    marks: &mut [u8],
+    next: &mut [u8],
+)
+    requires { ⌜ StepPass (now parents) (now codes) (now marks) (now next) ⌝ }
+    ensures { λ _. ⌜ now (marks .exit) ≡ backwardMarks (now (parents .entry)) (now (codes .entry)) axis low high (now (marks .entry)) ⌝ }
+{
+    filter_test(codes, low, high, marks);
+    let inverse = inverse_of(axis);
+    axis_image(inverse, parents, &marks[..], next);
+    copy(&next[..], marks);
+}

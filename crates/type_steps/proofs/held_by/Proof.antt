@@ -1,0 +1,11 @@
+-- `type_steps::held_by` meets its contract.
+use borrow.Author.Needs.{needs}
+use Rattle.type_steps.specs.Laws.{related-heldBy}
+use Rattle.type_steps.proofs.held_by.Statement.{statement}
+use Rattle.type_steps.proofs.held_by.Tie as tie
+
+returns : tie.Need-returns
+returns c = λ s k. related-heldBy s (c .before .args .holds) (c .before .args .below) k (c .before .args .t) (c .related-from .result) (c .related-from .ensures)
+
+pub held-by-spec : {M : Type 1} → statement M
+held-by-spec = tie.close (tie.spec (λ c κs. search needs) returns)

@@ -1,0 +1,39 @@
+-- What relations belong to a schema, and the names, the type and the context that words stand for.
+use mathlib.Core.List.{List, List·Memᴰ}
+use mathlib.Core.Path.{_≡_}
+use Prim.Native.Nat.{_<_, _≤_}
+use lib.Dec.{T}
+use lib.ListN.{length}
+use Rattle.closures.specs.Schemas.{RelationOf}
+use Rattle.names.specs.Sets.{member, setOf}
+use Rattle.names.specs.declared.NameSet.{NameSet}
+use Rattle.projection_spec.specs.Inference.Types.{Env, env}
+use Rattle.schema_laws.specs.Closure.{Closed}
+use Rattle.schema_spec.specs.Names.{Name, Names, has, namesOf}
+use Rattle.schema_spec.specs.Schemas.{Schema}
+use Rattle.schema_spec.specs.Types.{holds, typesOf, isBelow}
+use Rattle.text_spec.specs.Limits.{maxDeclarations}
+use Rattle.type_steps.specs.declared.Inferred.{Inferred}
+
+-- what each element of a schema holds, and what is below it
+pub record RelationsOf (s : Schema) (held beneath : List NameSet) : Type 0 where
+  pub small : length s ≤ maxDeclarations
+  pub full : 0 < length s
+  pub closed : Closed s
+  pub holding : RelationOf (holds s) held
+  pub below : RelationOf (isBelow (typesOf s)) beneath
+
+-- the set has exactly the names of the schema
+abbrev pub NamesOf : Schema → NameSet → Type 0
+NamesOf s all = (n : Name) → member all n ≡ has n (namesOf s)
+
+-- the set has only names of the schema
+abbrev pub Known : Schema → NameSet → Type 0
+Known s x = (n : Name) → T (member x n) → List·Memᴰ n (namesOf s)
+
+-- those names of the schema that are in the set, in their order
+abbrev pub setIn : Schema → NameSet → Names
+setIn s x = setOf (namesOf s) x
+
+abbrev pub envIn : Schema → Inferred → Env
+envIn s e = env (setIn s (e .types)) (setIn s (e .context))

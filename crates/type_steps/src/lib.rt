@@ -1,0 +1,248 @@
+// One step of the inference of types and contexts, over sets of names as words.
+ghost use mathlib.Core.Path.{_≡_};
+ghost use Prim.Native.Nat.{ℕ};
+ghost use Rattle.path_spec.specs.Selection.{passes};
+ghost use Rattle.path_spec.specs.Paths.{NodeTest, named, anyText, child, descendant, descendantOrSelf, parent, ancestor, ancestorOrSelf};
+ghost use Rattle.projection_spec.specs.Inference.Types.{heldBy, holding, allBelow, allAbove, unionOf, cutTo, move, narrow};
+ghost use Rattle.schema_spec.specs.Names.{within};
+ghost use Rattle.schema_spec.specs.Schemas.{Schema};
+ghost use Rattle.schema_spec.specs.Types.{typesOf};
+ghost use Rattle.type_steps.specs.Laws.{Tested};
+ghost use Rattle.compiled_paths.specs.Columns.{axisOf, testOf};
+ghost use Rattle.type_steps.specs.Relations.{RelationsOf, setIn, envIn};
+use names::MAX_ELEMENTS;
+use names::NameSet;
+
+// A type and a context.
+pub struct Inferred {
+    pub types: NameSet,
+    pub context: NameSet,
+}
+
+fn wide(x: u8) -> usize
+    ensures { λ r. ⌜ r ≡ x ⌝ }
+{
+    x as usize
+}
+
+// All that a set holds.
+pub fn held_by(
+    holds: [NameSet; MAX_ELEMENTS],
+    below: [NameSet; MAX_ELEMENTS],
+    t: NameSet,
+) -> NameSet
+    ensures { λ r. ⌜ ((s : Schema) → RelationsOf s holds below → setIn s r ≡ heldBy (typesOf s) (setIn s t)) ⌝ }
+{
+    closures::related_from(holds, t)
+}
+
+// Those that hold a name of a set.
+pub fn holding(
+    holds: [NameSet; MAX_ELEMENTS],
+    below: [NameSet; MAX_ELEMENTS],
+    t: NameSet,
+) -> NameSet
+    ensures { λ r. ⌜ ((s : Schema) → RelationsOf s holds below → setIn s r ≡ holding (typesOf s) (setIn s t)) ⌝ }
+{
+    closures::related_to(holds, t)
+}
+
+// All below a set.
+pub fn all_below(
+    holds: [NameSet; MAX_ELEMENTS],
+    below: [NameSet; MAX_ELEMENTS],
+    t: NameSet,
+) -> NameSet
+    ensures { λ r. ⌜ ((s : Schema) → RelationsOf s holds below → setIn s r ≡ allBelow (typesOf s) (setIn s t)) ⌝ }
+{
+    closures::related_from(below, t)
+}
+
+// All above a set.
+pub fn all_above(
+    holds: [NameSet; MAX_ELEMENTS],
+    below: [NameSet; MAX_ELEMENTS],
+    t: NameSet,
+) -> NameSet
+    ensures { λ r. ⌜ ((s : Schema) → RelationsOf s holds below → setIn s r ≡ allAbove (typesOf s) (setIn s t)) ⌝ }
+{
+    closures::related_to(below, t)
+}
+
+// The names of both sets.
+pub fn union_of(a: NameSet, b: NameSet) -> NameSet
+    ensures { λ r. ⌜ ((s : Schema) → setIn s r ≡ unionOf (typesOf s) (setIn s a) (setIn s b)) ⌝ }
+{
+    a.union(b)
+}
+
+// What both sets have.
+pub fn common_of(a: NameSet, b: NameSet) -> NameSet
+    ensures { λ r. ⌜ ((s : Schema) → setIn s r ≡ within (setIn s a) (setIn s b)) ⌝ }
+{
+    a.common(b)
+}
+
+// The names of the set `k` that are in the set `t` or above it.
+pub fn cut_to(
+    holds: [NameSet; MAX_ELEMENTS],
+    below: [NameSet; MAX_ELEMENTS],
+    t: NameSet,
+    k: NameSet,
+) -> NameSet
+    ensures { λ r. ⌜ ((s : Schema) → RelationsOf s holds below → setIn s r ≡ cutTo (typesOf s) (setIn s t) (setIn s k)) ⌝ }
+{
+    let up = all_above(holds, below, t);
+    let near = union_of(t, up);
+    common_of(k, near)
+}
+
+// The element `e` alone, if it is in the set.
+fn only_element(t: NameSet, e: usize) -> NameSet
+    ensures { λ r. ⌜ Tested (named e) t r ⌝ }
+{
+    let one = NameSet::empty().insert_element(e);
+    t.common(one)
+}
+
+// The text names of a set.
+fn only_texts(t: NameSet) -> NameSet
+    ensures { λ r. ⌜ Tested anyText t r ⌝ }
+{
+    NameSet {
+        elements: 0,
+        texts: t.texts,
+    }
+}
+
+// What a set has that passes a test, given as a range of codes.
+fn tested(t: NameSet, low: u8, high: u8) -> NameSet
+    ensures { λ r. ⌜ Tested (testOf low high) t r ⌝ }
+{
+    if low == high {
+        only_element(t, wide(low))
+    } else if low == 0 {
+        t
+    } else {
+        only_texts(t)
+    }
+}
+
+fn to_children(
+    holds: [NameSet; MAX_ELEMENTS],
+    below: [NameSet; MAX_ELEMENTS],
+    low: u8,
+    high: u8,
+    e: Inferred,
+) -> Inferred
+    ensures { λ r. ⌜ ((s : Schema) → RelationsOf s holds below → envIn s r ≡ move (typesOf s) child (testOf low high) (envIn s e)) ⌝ }
+{
+    let types = held_by(holds, below, e.types);
+    let passing = tested(types, low, high);
+    let context = union_of(e.context, passing);
+    Inferred { types, context }
+}
+
+fn to_descendants(
+    holds: [NameSet; MAX_ELEMENTS],
+    below: [NameSet; MAX_ELEMENTS],
+    e: Inferred,
+) -> Inferred
+    ensures { λ r. ⌜ ((s : Schema) → RelationsOf s holds below → (w : NodeTest ℕ) → envIn s r ≡ move (typesOf s) descendant w (envIn s e)) ⌝ }
+{
+    let types = all_below(holds, below, e.types);
+    let context = union_of(e.context, types);
+    Inferred { types, context }
+}
+
+fn to_descendants_or_self(
+    holds: [NameSet; MAX_ELEMENTS],
+    below: [NameSet; MAX_ELEMENTS],
+    e: Inferred,
+) -> Inferred
+    ensures { λ r. ⌜ ((s : Schema) → RelationsOf s holds below → (w : NodeTest ℕ) → envIn s r ≡ move (typesOf s) descendantOrSelf w (envIn s e)) ⌝ }
+{
+    let down = all_below(holds, below, e.types);
+    let types = union_of(e.types, down);
+    let context = union_of(e.context, types);
+    Inferred { types, context }
+}
+
+fn to_parents(
+    holds: [NameSet; MAX_ELEMENTS],
+    below: [NameSet; MAX_ELEMENTS],
+    e: Inferred,
+) -> Inferred
+    ensures { λ r. ⌜ ((s : Schema) → RelationsOf s holds below → (w : NodeTest ℕ) → envIn s r ≡ move (typesOf s) parent w (envIn s e)) ⌝ }
+{
+    let holders = holding(holds, below, e.types);
+    let types = common_of(holders, e.context);
+    let context = cut_to(holds, below, types, e.context);
+    Inferred { types, context }
+}
+
+fn to_ancestors(
+    holds: [NameSet; MAX_ELEMENTS],
+    below: [NameSet; MAX_ELEMENTS],
+    e: Inferred,
+) -> Inferred
+    ensures { λ r. ⌜ ((s : Schema) → RelationsOf s holds below → (w : NodeTest ℕ) → envIn s r ≡ move (typesOf s) ancestor w (envIn s e)) ⌝ }
+{
+    let up = all_above(holds, below, e.types);
+    let types = common_of(up, e.context);
+    let context = cut_to(holds, below, types, e.context);
+    Inferred { types, context }
+}
+
+fn to_ancestors_or_self(
+    holds: [NameSet; MAX_ELEMENTS],
+    below: [NameSet; MAX_ELEMENTS],
+    e: Inferred,
+) -> Inferred
+    ensures { λ r. ⌜ ((s : Schema) → RelationsOf s holds below → (w : NodeTest ℕ) → envIn s r ≡ move (typesOf s) ancestorOrSelf w (envIn s e)) ⌝ }
+{
+    let up = all_above(holds, below, e.types);
+    let near = common_of(up, e.context);
+    let types = union_of(e.types, near);
+    let context = cut_to(holds, below, types, e.context);
+    Inferred { types, context }
+}
+
+// The type and the context that an axis leads to.
+fn moved(
+    holds: [NameSet; MAX_ELEMENTS],
+    below: [NameSet; MAX_ELEMENTS],
+    axis: u8,
+    low: u8,
+    high: u8,
+    e: Inferred,
+) -> Inferred
+    ensures { λ r. ⌜ ((s : Schema) → RelationsOf s holds below → envIn s r ≡ move (typesOf s) (axisOf axis) (testOf low high) (envIn s e)) ⌝ }
+{
+    match axis {
+        1 => to_children(holds, below, low, high, e),
+        2 => to_descendants(holds, below, e),
+        3 => to_descendants_or_self(holds, below, e),
+        4 => to_parents(holds, below, e),
+        5 => to_ancestors(holds, below, e),
+        6 => to_ancestors_or_self(holds, below, e),
+        _ => e,
+    }
+}
+
+// A step but for its condition: the axis, then the test.
+pub fn step(
+    holds: [NameSet; MAX_ELEMENTS],
+    below: [NameSet; MAX_ELEMENTS],
+    axis: u8,
+    low: u8,
+    high: u8,
+    e: Inferred,
+) -> Inferred
+    ensures { λ r. ⌜ ((s : Schema) → RelationsOf s holds below → envIn s r ≡ narrow (typesOf s) (passes (testOf low high)) (move (typesOf s) (axisOf axis) (testOf low high) (envIn s e))) ⌝ }
+{
+    let gone = moved(holds, below, axis, low, high, e);
+    let types = tested(gone.types, low, high);
+    let context = cut_to(holds, below, types, gone.context);
+    Inferred { types, context }
+}
