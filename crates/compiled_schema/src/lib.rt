@@ -11,7 +11,7 @@ use models::MAX_POSITIONS;
 use names::MAX_ELEMENTS;
 use names::NameSet;
 use schema::Judgement;
-use schema::MAX_USES;
+use schema_places::MAX_USES;
 
 // A cell for each position that a model may have, for each element.
 pub const MAX_CELLS: usize = MAX_ELEMENTS * MAX_POSITIONS;

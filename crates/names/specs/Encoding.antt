@@ -38,11 +38,11 @@ unfolding setOfWord
 not-every w n h =
     has-filter (λ m. hasBit w (codeOf m)) everyName n ∙ ap (λ (b : Bool). b && hasBit w (codeOf n)) (false-of (has n everyName) (λ t. h (has-in n everyName t)))
 
-pub split-right : (w : ℕ) → w < 2 ^ 64 → (n : Name) → member (split w) n ≡ has n (setOfWord everyName w)
-split-right w fits (element e) =
+pub split-means-setOfWord : (w : ℕ) → w < 2 ^ 64 → (n : Name) → member (split w) n ≡ has n (setOfWord everyName w)
+split-means-setOfWord w fits (element e) =
     ⊎-elim (λ h. bit-cut w 32 e h ∙ sym (in-every w (element e) (element-every e h)))
     (λ h. bit-cut-past w 32 e h ∙ sym (not-every w (element e) (λ i. let l = every-element e i in omega arith))) (below-or-past e 32)
-split-right w fits (text e) =
+split-means-setOfWord w fits (text e) =
     bit-down w 32 e
     ∙ ⊎-elim (λ h. sym (in-every w (text e) (text-every e h)))
     (λ h. bit-past 64 w (32 + e) fits (omega arith) ∙ sym (not-every w (text e) (λ i. let l = every-text e i in omega arith))) (below-or-past e 32)
@@ -76,8 +76,8 @@ every-below : (s : Names) → wordOfSet everyName s < 2 ^ 64
 unfolding everyName
 every-below s = word-below (largest maxDeclarations) (omega arith) s
 
-pub joined-right : (s : NameSet) → joined s ≡ wordOfSet everyName (setOf everyName s)
-joined-right s = same-bits 64 (joined s) (wordOfSet everyName (setOf everyName s)) (joined-below s) (every-below (setOf everyName s)) same
+pub joined-means-wordOfSet : (s : NameSet) → joined s ≡ wordOfSet everyName (setOf everyName s)
+joined-means-wordOfSet s = same-bits 64 (joined s) (wordOfSet everyName (setOf everyName s)) (joined-below s) (every-below (setOf everyName s)) same
   where
     same : (i : ℕ) → i < 64 → hasBit (joined s) i ≡ hasBit (wordOfSet everyName (setOf everyName s)) i
     same i l =

@@ -1,5 +1,4 @@
-pub mod Limits
 pub mod Naming
 pub mod Order
-pub mod Outcomes
 pub mod Resolving
+pub mod Outcomes

@@ -10,7 +10,7 @@ use borrow.Author.Tests.{ltb-true, ltb-false, le-ltb, eq-eqb, ne-eqb}
 use lib.Dec.{ltb}
 use lib.ListN.{length}
 use Rattle.text_laws.specs.Tests.{cond-yes as yes, cond-no as no}
-use Rattle.schema.proofs.Limits.{head-least}
+use Rattle.schema_places.specs.PlaceLaws.{head-least}
 use Rattle.particles.specs.ReadingLaws.{between-low, between-from}
 use Rattle.text_spec.specs.Scans.{nameAt}
 use Rattle.schema.specs.Names.{firstPlace, isAmong, twiceAt}

@@ -9,7 +9,7 @@ use borrow.Author.Tests.{lt-ltb, le-ltb}
 use lib.Dec.{ltb}
 use lib.ListN.{length, take, drop, replicate, length-map, take-append-drop}
 use lib.Seq.{take-length, take-at, length-take-le}
-use Rattle.schema.proofs.Limits.{places-back}
+use Rattle.schema_places.specs.PlaceLaws.{places-back}
 use Rattle.schema.proofs.Naming.{twice-places, undeclared-places}
 use Rattle.schema.proofs.Order.{Later, later-none, later-all, later-append, least-first, place-found, place-none, places-rise, filter-rise, twice-rise}
 use Rattle.schema.proofs.Resolving.{used-elements}
@@ -17,11 +17,11 @@ use Rattle.schema.specs.Judging.{reasonOf, outcomeOf, sized, JudgedAs, J
 use Rattle.schema.specs.Names.{firstPlace, namesBefore, twiceAt, missingAt, elementAt, Resolved}
 use Rattle.declarations.specs.DeclarationLaws.{declared-names}
 use Rattle.particles.specs.Readings.{useAt, Between}
-use Rattle.schema.specs.Whole.{WithinLimits, Limits, within, passed, AllSpelt, AllRead}
-use Rattle.schema.specs.declared.All.{All}
-use Rattle.schema.specs.declared.All.the-variants.{Past as AllPast, Fail as AllFail}
+use Rattle.schema_places.specs.Whole.{WithinLimits, Limits, within, passed, AllSpelt, AllRead}
+use Rattle.schema_places.specs.declared.All.{All}
+use Rattle.schema_places.specs.declared.All.the-variants.{Past as AllPast, Fail as AllFail}
 use Rattle.schema.specs.declared.Judgement.the-variants.{Accepted, Refused}
-use Rattle.schema.specs.declared.Counts.{Counts}
+use Rattle.schema_places.specs.declared.Counts.{Counts}
 use Rattle.schema.specs.declared.Judgement.{Judgement}
 use Rattle.schema.specs.declared.Kind.{Kind}
 use Rattle.schema.specs.declared.Kind.the-variants.{BadLength, BadByte, BadGrammar, OverLimit, DeclaredTwice, Undeclared}

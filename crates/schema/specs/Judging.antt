@@ -8,7 +8,7 @@ use Rattle.schema.specs.declared.Judgement.the-variants.{Accepted, Refus
 use Rattle.schema.specs.declared.Kind.{Kind}
 use Rattle.schema.specs.declared.Kind.the-variants.{BadLength, BadByte, BadGrammar, OverLimit, DeclaredTwice, Undeclared}
 use Rattle.schema.specs.declared.Schema.{Schema as Record}
-use Rattle.schema.specs.Whole.{WithinLimits}
+use Rattle.schema_places.specs.Whole.{WithinLimits}
 use Rattle.schema_spec.specs.Declarations.{Declaration}
 use Rattle.schema_spec.specs.Machine.{parse}
 use Rattle.schema_spec.specs.Models.{usesIn}

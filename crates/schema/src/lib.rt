@@ -1,15 +1,15 @@
-// Schemas, and judging their texts. Refusals 2 and 3 are a test and a scan. 4 is found declaration by declaration, with the places of the
-// names and the first place that passes a limit (5). 6 and 7 are loops over those places.
+// Schemas, and judging their texts. Refusals 2 and 3 are a test and a scan; 4 and 5 come with the places of the names (`schema_places`); 6 and 7
+// are loops over those places.
 ghost use mathlib.Core.List.{[]};
 ghost use mathlib.Core.Path.{_≡_};
-ghost use Prim.Native.Nat.{_+_, _*_, _≤_, _<_};
-ghost use lib.ListN.{length, getD, replicate};
-ghost use Rattle.schema.specs.Whole.{overLimit, AllRead};
+ghost use Prim.Native.Nat.{_+_, _*_};
+ghost use lib.ListN.{length, replicate};
 ghost use Rattle.schema.specs.Names.{firstPlace, twiceAt, Resolved};
 ghost use Rattle.schema.specs.Judging.{emptySchema, reasonOf, Readable, Spelling, JudgedAs, JudgedNames, JudgedInto};
 ghost use Rattle.text_spec.specs.Limits.{maxDeclarations, maxModelNames};
 ghost use Rattle.text_spec.specs.Refusals.{numberOf};
-use declarations::DeclarationOutcome;
+use schema_places::All;
+use schema_places::MAX_USES;
 
 // A schema: an accepted text in its normal form, in the first `len` bytes; the others are 0.
 pub struct Schema {
@@ -37,88 +37,6 @@ impl Schema {
             len: 0,
         }
     }
-}
-
-// The names that the models of a schema use, and one more: where a limit is passed, its place is among them.
-pub const MAX_USES: usize = Schema::MAX_DECLARATIONS * Schema::MAX_MODEL_NAMES + 1;
-
-// All declarations: how many there are, how many names their models use, and the first place that passes a limit, or the text's length.
-pub struct Counts {
-    pub d: usize,
-    pub n: usize,
-    pub over: usize,
-}
-
-pub enum All {
-    Past(Counts),
-    Fail(usize),
-}
-
-// The cell k, or 0 where there is none.
-fn cell(cells: &[usize], k: usize) -> usize
-    ensures { λ r. ⌜ r ≡ getD (now (cells .entry)) k 0 ⌝ }
-{
-    if k < cells.len() {
-        return cells[k];
-    }
-    0
-}
-
-// The first place that passes a limit, after a declaration that starts at i, is the one with index d and takes the count of names from n to m.
-fn over_limit(
-    size: usize,
-    over: usize,
-    d: usize,
-    i: usize,
-    n: usize,
-    m: usize,
-    uses: &[usize],
-) -> usize
-    requires { ⌜ n ≤ m ⌝ }
-    ensures { λ r. ⌜ r ≡ overLimit size over d i n m (now (uses .entry)) ⌝ }
-{
-    if over < size {
-        return over;
-    }
-    if Schema::MAX_DECLARATIONS <= d {
-        return i;
-    }
-    if Schema::MAX_MODEL_NAMES < m - n {
-        return cell(uses, n + Schema::MAX_MODEL_NAMES);
-    }
-    size
-}
-
-// Reads all declarations. The places of the declared names go to `names`, those of the names in models to `uses`.
-fn all_declarations(s: &[u8], names: &mut [usize], uses: &mut [usize]) -> All
-    requires { ⌜ (length (now names) ≡ maxDeclarations) × (length (now uses) ≡ maxDeclarations * maxModelNames + 1) ⌝ }
-    ensures { λ r. ⌜ AllRead (now (s .entry)) (now (names .entry)) (now (names .exit)) (now (uses .exit)) r ⌝ }
-{
-    let size = s.len();
-    let mut i = scanning::skip(s, 0);
-    let mut d: usize = 0;
-    let mut n: usize = 0;
-    let mut over = size;
-    // judging needs no links between positions, so it lends a single cell for them
-    let mut unused = [0u64; 1];
-    while i < s.len() {
-        match declarations::declaration(s, i, uses, n, &mut unused) {
-            DeclarationOutcome::Fail(j) => return All::Fail(j),
-            DeclarationOutcome::Past(p) => {
-                let end = p.at;
-                let m = p.n;
-                scanning::note(names, d, p.name);
-                over = over_limit(size, over, d, i, n, m, uses);
-                d += 1;
-                n = m;
-                i = scanning::skip(s, end);
-            }
-        }
-    }
-    if d == 0 {
-        return All::Fail(i);
-    }
-    All::Past(Counts { d, n, over })
 }
 
 // The first of the declared names that is declared before it, or the text's length.
@@ -206,7 +124,7 @@ fn judge(s: &[u8], names: &mut [usize], uses: &mut [usize]) -> Judgement
     requires { ⌜ Readable (now s) × (now names ≡ replicate maxDeclarations 0) × (length (now uses) ≡ maxDeclarations * maxModelNames + 1) ⌝ }
     ensures { λ r. ⌜ JudgedInto (now (s .entry)) (now (names .exit)) (now (uses .exit)) r ⌝ }
 {
-    match all_declarations(s, names, uses) {
+    match schema_places::all_declarations(s, names, uses) {
         All::Fail(j) => Judgement::Refused(Kind::BadGrammar, j),
         All::Past(c) => {
             let d = c.d;

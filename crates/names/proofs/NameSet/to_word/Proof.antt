@@ -3,7 +3,7 @@ use mathlib.Core.Path.{_≡_, ap, _∙_}
 use Prim.Native.Nat.{ℕ, _*_, _%_, _^_}
 use native.Mathlib.Omega.{arith}
 use lib.Bits.{bitOr}
-use Rattle.names.specs.Encoding.{joined-right}
+use Rattle.names.specs.Encoding.{joined-means-wordOfSet}
 use Rattle.names.proofs.NameSet.to_word.Statement.{statement}
 use Rattle.names.proofs.NameSet.to_word.Tie as tie
 
@@ -13,7 +13,7 @@ shifted t = omega arith
 returns : tie.Need-returns
 returns c =
     let s = c .before .before .args .self in
-    ap (λ (w : ℕ). bitOr (s .elements % 2 ^ 32) w) (shifted (s .texts)) ∙ joined-right s
+    ap (λ (w : ℕ). bitOr (s .elements % 2 ^ 32) w) (shifted (s .texts)) ∙ joined-means-wordOfSet s
 
 pub to-word-spec : {M : Type 1} → statement M
 to-word-spec = tie.close (tie.spec returns)

@@ -8,9 +8,9 @@ use lib.Dec.{leb, ltb}
 use lib.ListN.{length, take, drop, getD}
 use Rattle.particles.specs.Readings.{useAt, Between}
 use Rattle.scanning.specs.Outcomes.{NoBlank}
-use Rattle.schema.specs.declared.All.{All}
-use Rattle.schema.specs.declared.All.the-variants.{Past, Fail}
-use Rattle.schema.specs.declared.Counts.{Counts}
+use Rattle.schema_places.specs.declared.All.{All}
+use Rattle.schema_places.specs.declared.All.the-variants.{Past, Fail}
+use Rattle.schema_places.specs.declared.Counts.{Counts}
 use Rattle.schema_spec.specs.Declarations.{Declaration}
 use Rattle.schema_spec.specs.Machine.{between, from, parse}
 use Rattle.schema_spec.specs.Reading.{limitPlaces, usesOf}

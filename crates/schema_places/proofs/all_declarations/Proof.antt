@@ -2,12 +2,12 @@
 use mathlib.Core.Path.{_≡_, refl}
 use Prim.Native.Nat.{_-_}
 use lib.ListN.{length}
-use Rattle.schema.proofs.Limits.{all-start, all-none, all-spelt, all-fail, all-known, all-next}
-use Rattle.schema.specs.Whole.{UpTo}
+use Rattle.schema_places.proofs.Limits.{all-start, all-none, all-spelt, all-fail, all-known, all-next}
+use Rattle.schema_places.specs.Whole.{UpTo}
 use borrow.Author.Needs.{needs}
 use native.Mathlib.Omega.{arith}
-use Rattle.schema.proofs.all_declarations.Statement.{statement}
-use Rattle.schema.proofs.all_declarations.Tie as tie
+use Rattle.schema_places.proofs.all_declarations.Statement.{statement}
+use Rattle.schema_places.proofs.all_declarations.Tie as tie
 
 abbrev Inv-loop : tie.InvT-loop
 Inv-loop s names₀ uses₀ size i₀ d₀ n₀ over₀ unused₀ names uses i d n over unused = UpTo s i d n over names₀ names uses × (length unused ≡ 1)

@@ -17,7 +17,8 @@ use Rattle.particles.specs.Readings.{useAt, Between}
 use Rattle.scanning.specs.Outcomes.{Skipped}
 use Rattle.text_laws.specs.Scans.{at-end}
 use Rattle.text_laws.specs.Tests.{cond-yes as yes, cond-no as no}
-use Rattle.schema.specs.Whole.{overLimit, WithinLimits, Limits, within, passed, UpTo, AllSpelt}
+use Rattle.schema_places.specs.PlaceLaws.{places-back, between-least, head-least}
+use Rattle.schema_places.specs.Whole.{overLimit, WithinLimits, Limits, within, passed, UpTo, AllSpelt}
 use Rattle.declarations.specs.declared.DeclarationEnd.{DeclarationEnd}
 use Rattle.declarations.specs.declared.DeclarationOutcome.{DeclarationOutcome}
 use Rattle.declarations.specs.declared.DeclarationOutcome.the-variants.{Past as DeclPast, Fail as DeclFail}
@@ -64,24 +65,11 @@ drop-map f zero xs = refl
 drop-map f (suc k) [] = refl
 drop-map f (suc k) (x ∷ xs) = drop-map f k xs
 
-pub places-back : (s ps : List ℕ) → map (λ (u : Use). u .place) (map (useAt s) ps) ≡ ps
-places-back s [] = refl
-places-back s (p ∷ ps) = ap (λ (l : List ℕ). p ∷ l) (places-back s ps)
-
 -- ---- places in rising order
-between-least : (low high : ℕ) (ps : List ℕ) {x : ℕ} → Between low high ps → In x ps → (low ≤ x) × (x < high)
-between-least low high (p ∷ ps) b (here q) = let y = b .0 in let z = between-low (suc p) high ps (b .1) in (omega arith, omega arith)
-between-least low high (p ∷ ps) b (there i) = let z = between-least (suc p) high ps (b .1) i in let y = b .0 in (omega (arith, z .0), z .1)
-
 between-drop : (low high k : ℕ) (ps : List ℕ) → Between low high ps → Between low high (drop k ps)
 between-drop low high zero ps b = b
 between-drop low high (suc k) [] b = b
 between-drop low high (suc k) (p ∷ ps) b = let y = b .0 in between-drop low high k ps (between-from (suc p) low high ps (omega arith) (b .1))
-
--- the head of a list in rising order is its least
-pub head-least : (low high p : ℕ) (ps : List ℕ) {x : ℕ} → Between low high (p ∷ ps) → In x (p ∷ ps) → p ≤ x
-head-least low high p ps b (here q) = omega arith
-head-least low high p ps b (there i) = let z = between-least (suc p) high ps (b .1) i in omega (arith, z .0)
 
 -- ---- one more declaration
 abbrev extra : Declaration → List ℕ
