@@ -11,7 +11,7 @@ use lib.ListN.{length, set, length-append, length-map, length-reverse}
 use lib.Seq.{sets, length-sets}
 use Rattle.bundle_paths.specs.Readings.{LineCells, pathNoted, allSteps, pathEnds, firstOver, overLimit, ReadsBundle}
 use Rattle.bundle_paths.specs.declared.BundleOutcome.the-variants.{Past, Fail}
-use Rattle.path_conditions.specs.Laws.{sets-more, cells-append, ends-append, ends-length}
+use Rattle.path_conditions.specs.Laws.{cells-append, ends-append, ends-length}
 use Rattle.path_conditions.specs.Readings.{cellsOf, endsFrom, tooMuch}
 use Rattle.path_lines.specs.Readings.{Written, stepNoted, conditionOf, outerCells, allPaths, conditionEnds, overCondition, Steps, LineRead, LineAs, ReadsLine}
 use Rattle.path_lines.specs.declared.Line.{Line}
@@ -21,6 +21,7 @@ use Rattle.path_spec.specs.Grammar.{PathRead}
 use Rattle.path_spec.specs.Machine.{lineStart, bundleMachine, parse}
 use Rattle.path_spec.specs.Reading.{passesConditionLimit, passesLimit}
 use Rattle.path_steps.specs.Readings.{plainNoted}
+use Rattle.text_laws.specs.Cells.{sets-append}
 use Rattle.text_laws.specs.Scans.{at-end}
 use Rattle.text_laws.specs.Tests.{cond-no}
 use Rattle.text_spec.specs.Limits.{maxSteps, maxAlternatives, maxAlternativeSteps, maxPathBytes, maxPaths}
@@ -90,18 +91,18 @@ module _ {k n m : ℕ} {x x′ x″ d d′ d″ o o′ o″ w w′ w″ : List �
         counted = omega arith;
         counted-ways = omega arith;
         wrote-steps =
-            M .wrote-steps ∙ ap₂ (λ (l : List ℕ) (v : ℕ). sets l v (outerCells vs)) (N .wrote-steps) s1 ∙ sym (sets-more x k (outerCells ws) (outerCells vs))
+            M .wrote-steps ∙ ap₂ (λ (l : List ℕ) (v : ℕ). sets l v (outerCells vs)) (N .wrote-steps) s1 ∙ sym (sets-append x k (outerCells ws) (outerCells vs))
             ∙ ap (sets x k) (sym (map-append (λ (u : Written). u .cell) ws vs));
         wrote-conditions =
             M .wrote-conditions ∙ ap₂ (λ (l : List ℕ) (v : ℕ). sets l v (conditionEnds many vs)) (N .wrote-conditions) s2
             ∙ ap (λ (v : ℕ). sets (sets d (k + 1) (conditionEnds m ws)) (k + 1 + length (conditionEnds m ws)) (conditionEnds v vs)) n3
-            ∙ sym (sets-more d (k + 1) (conditionEnds m ws) (conditionEnds (m + length (allPaths ws)) vs)) ∙ ap (sets d (k + 1)) (sym (conditions-append m ws vs));
+            ∙ sym (sets-append d (k + 1) (conditionEnds m ws) (conditionEnds (m + length (allPaths ws)) vs)) ∙ ap (sets d (k + 1)) (sym (conditions-append m ws vs));
         wrote =
-            M .wrote ∙ ap₂ (λ (l : List ℕ) (v : ℕ). sets l v (cellsOf (allPaths vs))) (N .wrote) n2 ∙ sym (sets-more o n (cellsOf (allPaths ws)) (cellsOf (allPaths vs))) ∙ ap (sets o n) (sym q);
+            M .wrote ∙ ap₂ (λ (l : List ℕ) (v : ℕ). sets l v (cellsOf (allPaths vs))) (N .wrote) n2 ∙ sym (sets-append o n (cellsOf (allPaths ws)) (cellsOf (allPaths vs))) ∙ ap (sets o n) (sym q);
         wrote-ways =
             M .wrote-ways ∙ ap₂ (λ (l : List ℕ) (v : ℕ). sets l v (endsFrom count (allPaths vs))) (N .wrote-ways) s3
             ∙ ap (λ (v : ℕ). sets (sets w (m + 1) (endsFrom n (allPaths ws))) (m + 1 + length (endsFrom n (allPaths ws))) (endsFrom v (allPaths vs))) n2
-            ∙ sym (sets-more w (m + 1) (endsFrom n (allPaths ws)) (endsFrom (n + length (cellsOf (allPaths ws))) (allPaths vs)))
+            ∙ sym (sets-append w (m + 1) (endsFrom n (allPaths ws)) (endsFrom (n + length (cellsOf (allPaths ws))) (allPaths vs)))
             ∙ ap (sets w (m + 1)) (sym (ap (endsFrom n) p ∙ ends-append n (allPaths ws) (allPaths vs)));
         limit = refl;
       }
@@ -230,7 +231,7 @@ module _ {s x x′ d d′ y y′ o o′ w w′ : List ℕ} {i count k n m over :
             let c : count + 1 ≡ 1 + length (pathEnds 0 (U .done)) = let a = U .counted in omega (arith, paths-length 0 (U .done)) in
             let e : p .k ≡ 0 + length (allSteps (U .done)) + length (R .steps) = let a = U .noted .counted-steps in let b = R .noted .counted-steps in omega arith in
             ye ∙ ap₂ (λ (z : List ℕ) (q : ℕ). set z q (p .k)) (U .wrote-paths) c ∙ ap (λ (q : ℕ). set (sets y 1 (pathEnds 0 (U .done))) (1 + length (pathEnds 0 (U .done))) q) e
-            ∙ sym (sets-more y 1 (pathEnds 0 (U .done)) ((0 + length (allSteps (U .done)) + length (R .steps)) ∷ [])) ∙ ap (sets y 1) (sym (paths-more 0 (U .done) one))
+            ∙ sym (sets-append y 1 (pathEnds 0 (U .done)) ((0 + length (allSteps (U .done)) + length (R .steps)) ∷ [])) ∙ ap (sets y 1) (sym (paths-more 0 (U .done) one))
 
         pub upto-next : Upto s x x″ d d″ y y″ o o″ w w″ (p .at) (count + 1) (p .k) (p .n) (p .m) v
         upto-next =

@@ -559,7 +559,7 @@ plain-mode r c k b h =
     let p = plain-parts b h in
     subst (λ (l : Lexed). OpenMode (l .mode) ⊎ (l .mode ≡ stopped (k - 2))) (sym (data-lex r c k b (p .0)))
     (cond-cases P (isBlank b) _ _ (λ e. inl open-data)
-    (λ e. cond-cases P (eqb b 0x26) _ _ (λ f. let z : _≡_ {A = ℕ} 0 1 = cc (p .1) in absurd (omega arith))
+    (λ e. cond-cases P (eqb b 0x26) _ _ (λ f. never (cc (p .1)))
     (λ f. cond-cases P (eqb b 0x5D) _ _ (λ g. inl open-data) (λ g. cond-cases P (eqb b 0x3E && leb 2 c) _ _ (λ i. inr refl) (λ i. inl open-data)))))
   where
     P : Mode → Type 0

@@ -2,9 +2,9 @@
 use mathlib.Core.List.{List, [], _∷_, _++_, map-append}
 use mathlib.Core.Path.{_≡_, refl, sym, ap, ap₂, subst, _∙_}
 use Prim.Native.Nat.{ℕ, suc, _+_, _≤_}
-use native.Mathlib.Nat.{add-zero, add-suc, suc-add}
+use native.Mathlib.Nat.{add-zero}
 use native.Mathlib.Omega.{arith}
-use lib.ListN.{length, set, length-append, length-map}
+use lib.ListN.{length, length-append, length-map}
 use lib.Seq.{sets}
 use Rattle.particles.specs.Automata.{Built}
 use Rattle.particles.specs.Readings.{useAt, Between, Noted, Reading, PartAs, ReadsPart, Around, Ended, indicatorAt, PartIndicated}
@@ -13,6 +13,7 @@ use Rattle.particles.specs.declared.PartOutcome.{PartOutcome}
 use Rattle.schema_spec.specs.Declarations.{Use, Indicator, once, optional, any, oneOrMore, indicated}
 use Rattle.schema_spec.specs.Machine.{State, past, from}
 use Rattle.schema_spec.specs.Models.{Particle, uses}
+use Rattle.text_laws.specs.Cells.{sets-append}
 
 -- ---- places in rising order
 pub between-low : (low high : ℕ) (ps : List ℕ) → Between low high ps → low ≤ high
@@ -32,11 +33,6 @@ between-join low mid high [] qs b c = between-from mid low high qs b c
 between-join low mid high (p ∷ ps) qs b c = (b .0, between-join (suc p) mid high ps qs (b .1) c)
 
 -- ---- names noted in cells
-sets-more : (o : List ℕ) (n : ℕ) (xs ys : List ℕ) → sets o n (xs ++ ys) ≡ sets (sets o n xs) (n + length xs) ys
-sets-more o n [] ys = ap (λ (k : ℕ). sets o k ys) (sym (add-zero n))
-sets-more o n (x ∷ xs) ys =
-    sets-more (set o n x) (suc n) xs ys ∙ ap (λ (k : ℕ). sets (sets (set o n x) (suc n) xs) k ys) (suc-add n (length xs) ∙ sym (add-suc n (length xs)))
-
 module _ {s : List ℕ} {at n : ℕ} {o : List ℕ} where
   pub noted-none : {end : ℕ} → at ≤ end → Noted s at n o o end n []
   noted-none h = record { places = []; names = refl; rise = h; counted = sym (add-zero n); wrote = refl }
@@ -48,7 +44,7 @@ module _ {s : List ℕ} {at n : ℕ} {o : List ℕ} where
         names = ap₂ (λ (x y : List Use). x ++ y) (M .names) (N .names) ∙ sym (map-append (useAt s) (M .places) (N .places));
         rise = between-join at i j (M .places) (N .places) (M .rise) (N .rise);
         counted = let a = M .counted in let b = N .counted in let l = length-append (M .places) (N .places) in omega arith;
-        wrote = N .wrote ∙ ap₂ (λ (x : List ℕ) (k : ℕ). sets x k (N .places)) (M .wrote) (M .counted) ∙ sym (sets-more o n (M .places) (N .places));
+        wrote = N .wrote ∙ ap₂ (λ (x : List ℕ) (k : ℕ). sets x k (N .places)) (M .wrote) (M .counted) ∙ sym (sets-append o n (M .places) (N .places));
       }
 
   module _ {o′ : List ℕ} {i c : ℕ} {us : List Use} (M : Noted s at n o o′ i c us) where

@@ -7,7 +7,7 @@ use native.Mathlib.Omega.{arith}
 use lib.Dec.{ltb}
 use lib.ListN.{length, set, length-append, length-reverse}
 use lib.Seq.{sets, length-sets}
-use Rattle.path_conditions.specs.Laws.{sets-more, cells-more, ends-more, ends-length}
+use Rattle.path_conditions.specs.Laws.{cells-more, ends-more, ends-length}
 use Rattle.path_conditions.specs.Readings.{inAlternative, plainPast, AlternativeRead, AlternativeAs, ReadsAlternative, closed, FollowedAs, Followed, cellsOf, endsFrom, longAlternative, conditionNoted, opened, ReadsCondition}
 use Rattle.path_conditions.specs.declared.AlternativeOutcome.{AlternativeOutcome}
 use Rattle.path_conditions.specs.declared.AlternativeOutcome.the-variants.{Past as AlternativePast, Fail as AlternativeFail}
@@ -19,6 +19,7 @@ use Rattle.path_spec.specs.Paths.{WrittenAxis, NodeTest, PlainStep, alternative
 use Rattle.path_steps.specs.Readings.{plainNoted}
 use Rattle.schema_laws.specs.Lists.{map-reverse}
 use Rattle.schema_spec.specs.Declarations.{Use}
+use Rattle.text_laws.specs.Cells.{sets-append}
 use Rattle.text_spec.specs.Limits.{maxAlternatives, maxAlternativeSteps}
 use Rattle.text_spec.specs.Machines.{from}
 use Rattle.text_spec.specs.Scans.{byteAt}
@@ -126,7 +127,7 @@ module _ {s : List ℕ} {at n m : ℕ} {o o′ w w′ : List ℕ} {i count k : �
 
       wrote-now : o″ ≡ sets o n (cellsOf qs)
       wrote-now =
-          R .wrote ∙ ap₂ (λ (x : List ℕ) (p : ℕ). sets x p q) (U .wrote) (U .counted) ∙ sym (sets-more o n (cellsOf (U .done)) q) ∙ ap (sets o n) (sym (cells-more (U .done) q))
+          R .wrote ∙ ap₂ (λ (x : List ℕ) (p : ℕ). sets x p q) (U .wrote) (U .counted) ∙ sym (sets-append o n (cellsOf (U .done)) q) ∙ ap (sets o n) (sym (cells-more (U .done) q))
 
       length-now : length qs ≡ length (U .done) + 1
       length-now = length-append (U .done) (q ∷ [])
@@ -148,7 +149,7 @@ module _ {s : List ℕ} {at n m : ℕ} {o o′ w w′ : List ℕ} {i count k : �
             let g : k + 1 ≡ m + 1 + length (endsFrom n (U .done)) = omega (arith, ends-length n (U .done)) in
             let h : c ≡ n + length (cellsOf (U .done)) + length q = q-length ∙ ap (λ (x : ℕ). x + length q) (U .counted) in
             we ∙ ap₂ (λ (x : List ℕ) (p : ℕ). set x p c) (U .wrote-ways) g ∙ ap (λ (y : ℕ). set (sets w (m + 1) (endsFrom n (U .done))) (m + 1 + length (endsFrom n (U .done))) y) h
-            ∙ sym (sets-more w (m + 1) (endsFrom n (U .done)) ((n + length (cellsOf (U .done)) + length q) ∷ [])) ∙ ap (sets w (m + 1)) (sym (ends-more n (U .done) q))
+            ∙ sym (sets-append w (m + 1) (endsFrom n (U .done)) ((n + length (cellsOf (U .done)) + length q) ∷ [])) ∙ ap (sets w (m + 1)) (sym (ends-more n (U .done) q))
 
         pub upto-length : (length o″ ≡ length o) × (length w″ ≡ length w)
         upto-length = (ap length wrote-now ∙ length-sets o n (cellsOf qs), ap length ways-now ∙ length-sets w (m + 1) (endsFrom n qs))

@@ -8,7 +8,6 @@ use borrow.Author.Tests.{eq-eqb, ne-eqb, eqb-true, eqb-false}
 use lib.Dec.{eqb}
 use lib.ListN.{length, set, length-set, length-reverse}
 use lib.Seq.{sets, length-sets}
-use Rattle.path_conditions.specs.Laws.{sets-more}
 use Rattle.path_conditions.specs.Readings.{Stands, NoSlash, inAlternative, plainPast, ReadsAlternative, closed, FollowedAs}
 use Rattle.path_conditions.specs.declared.AlternativeOutcome.the-variants.{Past, Fail}
 use Rattle.path_conditions.specs.declared.Follow.the-variants.{Close, More, Fail as FollowFail}
@@ -21,6 +20,7 @@ use Rattle.scanning.specs.OutcomeLaws.{spelt-end, spelt-past, spelt-fail}
 use Rattle.scanning.specs.Outcomes.{Spelt}
 use Rattle.scanning.specs.declared.Read.{Read}
 use Rattle.scanning.specs.declared.Read.the-variants.{Past as SpeltPast, Fail as SpeltFail}
+use Rattle.text_laws.specs.Cells.{sets-append}
 use Rattle.text_laws.specs.Scans.{step-at, dead-at, at-end}
 use Rattle.text_laws.specs.Tests.{never, cond-yes, cond-no}
 use Rattle.text_spec.specs.Lists.{bytes}
@@ -31,7 +31,7 @@ use Rattle.text_spec.specs.Scans.{byteAt}
 pub noted-next : (o : List ℕ) (n : ℕ) {o′ o″ : List ℕ} {k : ℕ} (c : ℕ) (cs : List ℕ) → o′ ≡ sets o n (reverse cs) → k ≡ n + length cs → o″ ≡ set o′ k c → o″ ≡ sets o n (reverse (c ∷ cs))
 noted-next o n {o′} {o″} {k} c cs e l w =
     let f : k ≡ n + length (reverse cs) = l ∙ ap (λ (i : ℕ). n + i) (sym (length-reverse cs)) in
-    w ∙ ap₂ (λ (x : List ℕ) (i : ℕ). set x i c) e f ∙ sym (sets-more o n (reverse cs) (c ∷ [])) ∙ ap (sets o n) (sym (reverse-append (c ∷ []) cs))
+    w ∙ ap₂ (λ (x : List ℕ) (i : ℕ). set x i c) e f ∙ sym (sets-append o n (reverse cs) (c ∷ [])) ∙ ap (sets o n) (sym (reverse-append (c ∷ []) cs))
 
 -- ---- a byte at a place
 pub stands-none : (s : List ℕ) (at b : ℕ) → length s ≤ at → Stands s at b false

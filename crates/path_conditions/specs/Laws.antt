@@ -1,18 +1,11 @@
--- Laws of numbers noted in cells, and of the steps and the ends of alternatives.
+-- Laws of the steps and the ends of alternatives.
 use mathlib.Core.List.{List, [], _∷_, _++_, append-nil, append-assoc}
 use mathlib.Core.Path.{_≡_, refl, sym, ap, _∙_}
 use Prim.Native.Nat.{ℕ, suc, _+_}
-use native.Mathlib.Nat.{add-zero, add-suc, suc-add}
+use native.Mathlib.Nat.{add-zero}
 use native.Mathlib.Omega.{arith}
-use lib.ListN.{length, set, length-append}
-use lib.Seq.{sets}
+use lib.ListN.{length, length-append}
 use Rattle.path_conditions.specs.Readings.{cellsOf, endsFrom}
-
--- ---- cells
-pub sets-more : (o : List ℕ) (n : ℕ) (xs ys : List ℕ) → sets o n (xs ++ ys) ≡ sets (sets o n xs) (n + length xs) ys
-sets-more o n [] ys = ap (λ (k : ℕ). sets o k ys) (sym (add-zero n))
-sets-more o n (x ∷ xs) ys =
-    sets-more (set o n x) (suc n) xs ys ∙ ap (λ (k : ℕ). sets (sets (set o n x) (suc n) xs) k ys) (suc-add n (length xs) ∙ sym (add-suc n (length xs)))
 
 -- ---- alternatives in cells: one more, or some more
 pub cells-more : (qs : List (List ℕ)) (q : List ℕ) → cellsOf (qs ++ (q ∷ [])) ≡ cellsOf qs ++ q

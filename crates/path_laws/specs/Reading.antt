@@ -23,7 +23,7 @@ use Rattle.text_laws.specs.Departures.{departs-once, departs-not}
 use Rattle.text_laws.specs.Lists.{any-in, in-any, in-filter, filter-in, in-gather, gather-in, in-map, map-in, is-none}
 use Rattle.text_laws.specs.Order.{Listed, judged-first, judged-once, listed-left, listed-right}
 use Rattle.text_laws.specs.Refusals.{in-given, given-in}
-use Rattle.text_laws.specs.Tests.{or-left, or-right, or-cases}
+use Rattle.text_laws.specs.Tests.{never, or-left, or-right, or-cases}
 use Rattle.text_laws.specs.Texts.{split-first, split-later, length-found, length-listed, bytes-found, bytes-listed}
 use Rattle.text_spec.specs.Limits.{maxSteps, maxAlternatives, maxAlternativeSteps, maxPathBytes, maxPaths, maxBundleBytes}
 use Rattle.text_spec.specs.Lists.{anyOf, filterBy, gather, isNone}
@@ -212,7 +212,7 @@ module _ (s : Schema) (text : List ℕ) where
       not-spelt : {ps : List PathRead} {A : Type 0} → BundleText 0 text ps → A
       not-spelt {ps} b =
           let f : departs k ≡ spells ps = sym e ∙ parse-complete b in
-          absurd (let z : _≡_ {A = ℕ} 0 1 = cc in omega arith)
+          never cc
 
       complete : {r : Reason} {j : ℕ} → BundleApplies s text r j → Listed (withTextual (at badPath k ∷ [])) r j
       complete (length-2 p) = length-in (at badPath k ∷ []) p

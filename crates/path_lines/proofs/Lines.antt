@@ -8,7 +8,7 @@ use borrow.Author.Tests.{ltb-true, ltb-false, ne-eqb}
 use lib.Dec.{ltb}
 use lib.ListN.{length, set, length-append, length-map}
 use lib.Seq.{sets, length-sets}
-use Rattle.path_conditions.specs.Laws.{sets-more, cells-append, ends-append, ends-length}
+use Rattle.path_conditions.specs.Laws.{cells-append, ends-append, ends-length}
 use Rattle.path_conditions.specs.Readings.{Stands, cellsOf, endsFrom, tooMuch, conditionNoted, opened, ConditionAs, ReadsCondition}
 use Rattle.path_conditions.specs.declared.Alternatives.{Alternatives}
 use Rattle.path_conditions.specs.declared.ConditionOutcome.{ConditionOutcome}
@@ -24,6 +24,7 @@ use Rattle.path_steps.specs.Readings.{stepAxis, stepTest, PlainAs, ReadsPlain}
 use Rattle.path_steps.specs.declared.StepOutcome.{StepOutcome}
 use Rattle.path_steps.specs.declared.StepOutcome.the-variants.{Past as StepPast, Fail as StepFail}
 use Rattle.schema_spec.specs.Declarations.{Use}
+use Rattle.text_laws.specs.Cells.{sets-append}
 use Rattle.text_laws.specs.Scans.{step-at, dead-at, same-at, at-end}
 use Rattle.text_laws.specs.Tests.{cond-no}
 use Rattle.text_spec.specs.Machines.{from}
@@ -212,16 +213,16 @@ module _ {k n m : ℕ} {x x′ d d′ o o′ w w′ : List ℕ} {ws : List Writt
           counted-steps = omega arith;
           counted = omega arith;
           counted-ways = omega arith;
-          wrote-steps = xe ∙ ap₂ (λ (q : List ℕ) (v : ℕ). set q v c) (N .wrote-steps) p ∙ sym (sets-more x k (outerCells ws) (c ∷ [])) ∙ ap (sets x k) (sym outers-more);
+          wrote-steps = xe ∙ ap₂ (λ (q : List ℕ) (v : ℕ). set q v c) (N .wrote-steps) p ∙ sym (sets-append x k (outerCells ws) (c ∷ [])) ∙ ap (sets x k) (sym outers-more);
           wrote-conditions =
               de ∙ ap₂ (λ (q : List ℕ) (v : ℕ). set q v (r .m)) (N .wrote-conditions) z ∙ ap (λ (v : ℕ). set (sets d (k + 1) (conditionEnds m ws)) (k + 1 + length (conditionEnds m ws)) v) u
-              ∙ sym (sets-more d (k + 1) (conditionEnds m ws) ((m + length (allPaths ws) + length (B .paths)) ∷ [])) ∙ ap (sets d (k + 1)) (sym (conditions-more m ws one));
+              ∙ sym (sets-append d (k + 1) (conditionEnds m ws) ((m + length (allPaths ws) + length (B .paths)) ∷ [])) ∙ ap (sets d (k + 1)) (sym (conditions-more m ws one));
           wrote =
-              B .wrote ∙ ap₂ (λ (q : List ℕ) (v : ℕ). sets q v (cellsOf (B .paths))) (N .wrote) e ∙ sym (sets-more o n (cellsOf (allPaths ws)) (cellsOf (B .paths))) ∙ ap (sets o n) (sym more-cells);
+              B .wrote ∙ ap₂ (λ (q : List ℕ) (v : ℕ). sets q v (cellsOf (B .paths))) (N .wrote) e ∙ sym (sets-append o n (cellsOf (allPaths ws)) (cellsOf (B .paths))) ∙ ap (sets o n) (sym more-cells);
           wrote-ways =
               B .wrote-ways ∙ ap₂ (λ (q : List ℕ) (v : ℕ). sets q v (endsFrom count (B .paths))) (N .wrote-ways) t
               ∙ ap (λ (v : ℕ). sets (sets w (m + 1) (endsFrom n (allPaths ws))) (m + 1 + length (endsFrom n (allPaths ws))) (endsFrom v (B .paths))) e
-              ∙ sym (sets-more w (m + 1) (endsFrom n (allPaths ws)) (endsFrom (n + length (cellsOf (allPaths ws))) (B .paths)))
+              ∙ sym (sets-append w (m + 1) (endsFrom n (allPaths ws)) (endsFrom (n + length (cellsOf (allPaths ws))) (B .paths)))
               ∙ ap (sets w (m + 1)) (sym (ap (endsFrom n) more-paths ∙ ends-append n (allPaths ws) (B .paths)));
           limit = be ∙ ap₂ (λ (p q : Bool). p || q) (N .limit) (B .limit) ∙ sym (over-more ws one);
         }

@@ -26,7 +26,7 @@ use Rattle.table_spec.specs.Tables.{wellFormed, wellFormedWith, textInside}
 use Rattle.text_laws.specs.Lists.{empty-of, append-empty}
 use Rattle.text_laws.specs.Order.{judged-once}
 use Rattle.text_laws.specs.Refusals.{judged-accepted, judged-free, given-free}
-use Rattle.text_laws.specs.Tests.{true-of, false-of, and-cases, and-intro, not-intro, decided}
+use Rattle.text_laws.specs.Tests.{never, true-of, false-of, and-cases, and-intro, not-intro, decided}
 use Rattle.text_spec.specs.Lists.{allOf, isEmpty}
 use Rattle.text_spec.specs.Refusals.{Outcome, accepted, refused, at, given, judged, Reason, badLength, badExtract, Judged, turned-back, taken, firstOf, numberOf as reasonNumber}
 
@@ -138,8 +138,7 @@ extract-judged s (b ∷ bs) small = pick (outcome (typesOf s) b bs)
     no-extract : readExtract (typesOf s) all ≡ refused (at badExtract 0) → IsExtract (typesOf s) all → ⊥
     no-extract e x =
         let read = written-read s all x in
-        let z : _≡_ {A = ℕ} 0 1 = cc (e, read) in
-        omega arith
+        never (cc (e, read))
 
     extract : (rows : List Row) → readExtract (typesOf s) all ≡ accepted rows → IsExtract (typesOf s) all
     extract rows e =

@@ -7,7 +7,7 @@ use native.Mathlib.Numerals.{add-one}
 use native.Mathlib.Omega.{arith}
 use lib.ListN.{length, drop, take, getD, drop-of-length-le}
 use lib.Seq.{drop-cons, take-suc, take-length, length-take-le}
-use Rattle.text_laws.specs.Tests.{cond-yes as yes, cond-no as no}
+use Rattle.text_laws.specs.Tests.{never, cond-yes as yes, cond-no as no}
 use Rattle.schema_names.specs.NameLaws.{found-one, found-none}
 use Rattle.text_spec.specs.Scans.{nameAt}
 use Rattle.schema.specs.Names.{firstPlace, namesBefore, isAmong, twiceAt, missingAt}
@@ -80,8 +80,8 @@ module _ (s : List ℕ) (ns : List (List ℕ)) (ps : List ℕ) (i : ℕ) where
 -- ---- against the definitions
 pub twice-places : (s : List ℕ) (ns : List (List ℕ)) (ds : List Declaration) (ps : List ℕ) → map (λ e. e .name) ds ≡ map (useAt s) ps → twicePlaces ns ds ≡ twiceAt s ns ps
 twice-places s ns [] [] e = refl
-twice-places s ns [] (p ∷ ps) e = absurd (let z : _≡_ {A = ℕ} 0 1 = cc in omega arith)
-twice-places s ns (d ∷ ds) [] e = absurd (let z : _≡_ {A = ℕ} 0 1 = cc in omega arith)
+twice-places s ns [] (p ∷ ps) e = never cc
+twice-places s ns (d ∷ ds) [] e = never cc
 twice-places s ns (d ∷ ds) (p ∷ ps) e =
     let h : d .name ≡ useAt s p = cc in
     let t : map (λ e. e .name) ds ≡ map (useAt s) ps = cc in

@@ -15,7 +15,7 @@ use Rattle.schema_spec.specs.Grammar.{Blanks, none, blank, space, Parts, first-
 use Rattle.schema_spec.specs.Machine.{Frame, fresh, holding, Opening, Head, State, between, beforeName, inName, beforeContent, afterOpen, expecting, inUse, closed, past, afterContent, join, headed, ends, parse}
 use Rattle.schema_spec.specs.Models.{Particle, named, Content}
 use Rattle.text_laws.specs.Machines.{final-spells}
-use Rattle.text_laws.specs.Tests.{and-cases}
+use Rattle.text_laws.specs.Tests.{never, and-cases}
 use Rattle.text_spec.specs.Bytes.{startsName, continuesName, isName}
 use Rattle.text_spec.specs.Limits.{maxNameBytes, maxGroups}
 use Rattle.text_spec.specs.Lists.{bytes, allOf}
@@ -186,8 +186,7 @@ ends-some (d ∷ done) n = refl
 reversed-some : (d : Declaration) (ds : List Declaration) → reverse (d ∷ ds) ≡ [] → ⊥
 reversed-some d ds e =
     let f : d ∷ ds ≡ [] = sym (reverse-reverse (d ∷ ds)) ∙ ap reverse e in
-    let z : _≡_ {A = ℕ} 0 1 = cc in
-    omega arith
+    never cc
 
 -- a text that ends where a declaration may begin, after at least one
 pub path-spells : {text : List ℕ} (done : List Declaration) → Transitions (between []) 0 text (between done) → (done ≡ [] → ⊥) → parse text ≡ spells (reverse done)

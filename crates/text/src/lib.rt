@@ -18,11 +18,12 @@ pub fn class_of(b: u8) -> Class
     ensures { λ r. ⌜ meant r ≡ classOf b ⌝ }
 {
     match b {
-        9 | 10 | 32 => Class::Blank,
-        65..=90 | 97..=122 => Class::Letter,
-        48..=57 => Class::Digit,
-        33 | 35 | 38 | 40..=44 | 47 | 58..=60 | 62..=63 | 91 | 93 | 124 => Class::Markup,
-        33..=126 => Class::Other,
+        b'\t' | b'\n' | b' ' => Class::Blank,
+        b'A'..=b'Z' | b'a'..=b'z' => Class::Letter,
+        b'0'..=b'9' => Class::Digit,
+        b'!' | b'#' | b'&' | b'('..=b',' | b'/' | b':'..=b'<' | b'>'..=b'?' | b'[' | b']' | b'|' =>
+            Class::Markup,
+        b'!'..=b'~' => Class::Other,
         _ => Class::Foreign,
     }
 }
@@ -30,13 +31,13 @@ pub fn class_of(b: u8) -> Class
 pub fn is_blank(b: u8) -> bool
     ensures { λ r. ⌜ r ≡ isBlank b ⌝ }
 {
-    if b == 32 {
+    if b == b' ' {
         return true;
     }
-    if b == 9 {
+    if b == b'\t' {
         return true;
     }
-    b == 10
+    b == b'\n'
 }
 
 fn foreign(class: Class) -> bool
@@ -76,20 +77,20 @@ fn in_name(class: Class, digits: bool, other: bool) -> bool
 pub fn starts_name(b: u8) -> bool
     ensures { λ r. ⌜ r ≡ startsName b ⌝ }
 {
-    in_name(class_of(b), false, b == 95)
+    in_name(class_of(b), false, b == b'_')
 }
 
 // `-`, `.` or `_`, which a name may have after its first byte.
 fn joins_name(b: u8) -> bool
     ensures { λ r. ⌜ r ≡ joinsName b ⌝ }
 {
-    if b == 45 {
+    if b == b'-' {
         return true;
     }
-    if b == 46 {
+    if b == b'.' {
         return true;
     }
-    b == 95
+    b == b'_'
 }
 
 pub fn continues_name(b: u8) -> bool

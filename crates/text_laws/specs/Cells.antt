@@ -1,9 +1,11 @@
--- Laws of answers in lent cells: the answer, and then zeros.
+-- Laws of lent cells: an answer and then zeros; numbers noted one after the other.
 use mathlib.Core.List.{List, [], _∷_, _++_}
-use mathlib.Core.Path.{_≡_, refl, ap, _∙_}
-use Prim.Native.Nat.{ℕ, zero, suc, _-_, _≤_}
+use mathlib.Core.Path.{_≡_, refl, sym, ap, _∙_}
+use Prim.Native.Nat.{ℕ, zero, suc, _+_, _-_, _≤_}
+use native.Mathlib.Nat.{add-zero, add-suc, suc-add}
 use native.Mathlib.Omega.{arith}
-use lib.ListN.{length, take, drop, replicate}
+use lib.ListN.{length, take, drop, replicate, set}
+use lib.Seq.{sets}
 use Rattle.text_spec.specs.Cells.{padded, InCells}
 
 -- the zeros that are left
@@ -38,3 +40,9 @@ pub padded-take : (n : ℕ) (xs : List ℕ) → length xs ≤ n → take (length
 padded-take n [] h = refl
 padded-take zero (x ∷ xs) h = absurd (omega arith)
 padded-take (suc n) (x ∷ xs) h = ap (λ (l : List ℕ). x ∷ l) (padded-take n xs (omega arith))
+
+-- Two runs of numbers noted at once are the one, and then the other behind it.
+pub sets-append : (o : List ℕ) (n : ℕ) (xs ys : List ℕ) → sets o n (xs ++ ys) ≡ sets (sets o n xs) (n + length xs) ys
+sets-append o n [] ys = ap (λ (k : ℕ). sets o k ys) (sym (add-zero n))
+sets-append o n (x ∷ xs) ys =
+    sets-append (set o n x) (suc n) xs ys ∙ ap (λ (k : ℕ). sets (sets (set o n x) (suc n) xs) k ys) (suc-add n (length xs) ∙ sym (add-suc n (length xs)))
