@@ -1,0 +1,43 @@
+#!/usr/bin/env python3
+"""The second implementation on the cases of tests/vectors: builds it with rustc and fails where an outcome differs from the case's own."""
+import json
+import os
+import struct
+import subprocess
+import sys
+import tempfile
+
+HERE = os.path.dirname(os.path.abspath(__file__))
+VECTORS = os.path.join(HERE, "..", "vectors")
+
+
+def build(folder):
+    program = os.path.join(folder, "second")
+    subprocess.run(["rustc", "--edition", "2021", "-O", "-D", "warnings", "-o", program, os.path.join(HERE, "src", "main.rs")], check=True)
+    return program
+
+
+def encoded(case):
+    texts = [t.encode("latin-1") for t in case["texts"]]
+    head = "%s\n%d\n%s\n" % (case["does"], len(texts), " ".join(map(str, case["limits"])))
+    return head.encode() + b"".join(struct.pack(">I", len(t)) + t for t in texts)
+
+
+def main():
+    cases = [json.loads(line) for name in ("edge.jsonl", "more.jsonl") for line in open(os.path.join(VECTORS, name))]
+    with tempfile.TemporaryDirectory() as folder:
+        answer = subprocess.run([build(folder)], input=b"".join(map(encoded, cases)), stdout=subprocess.PIPE, check=True).stdout
+    at, wrong = 0, 0
+    for case in cases:
+        size = struct.unpack_from(">I", answer, at)[0]
+        gives = answer[at + 4:at + 4 + size].decode("latin-1")
+        at += 4 + size
+        if gives != case["gives"]:
+            wrong += 1
+            print("second: %s gives %r, not %r" % (case["case"], gives[:120], case["gives"][:120]))
+    if at != len(answer) or wrong:
+        sys.exit("second: %d of %d cases differ" % (wrong, len(cases)))
+    print("second: all %d cases agree" % len(cases))
+
+
+main()
