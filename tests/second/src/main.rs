@@ -1,11 +1,13 @@
 //! A second implementation of document 01, written from it and not from the proved code, to compare with. Nothing here is proved.
-//! Standard input holds cases: what is done (a line), the number of texts (a line), the limits (a line), then each text after
+//! `second journals SEED COUNT CASES OUTCOMES` writes random journals under random schemas and their outcomes into two files, in the form of
+//! tests/timing/plain_journal.c. `second demand3 SEED COUNT` tries demand 3 on random schemas, bundles and journals. Without arguments standard input holds cases: what is done (a line), the number of texts (a line), the limits (a line), then each text after
 //! its length in four bytes. Standard output holds for each the outcome as in tests/vectors, after its length in four bytes.
 mod bundle;
 mod extract;
 mod journal;
 mod listing;
 mod needed;
+mod random;
 mod schema;
 mod table;
 mod text;
@@ -13,7 +15,7 @@ mod text;
 use crate::bundle::read_bundle;
 use crate::journal::read_journal;
 use crate::needed::{bits, bundle_needs, path_needs};
-use crate::schema::{read_schema, Name};
+use crate::schema::{read_schema, Name, Names, Schema};
 use crate::table::Row;
 use crate::text::{refused, Refused};
 use std::io::{stdin, stdout, BufRead, Read, Write};
@@ -83,6 +85,10 @@ fn outcome(does: &str, texts: &[Vec<u8>], limits: &[usize]) -> Result<Vec<u8>, R
     }
 }
 
+fn message(r: Refused) -> Vec<u8> {
+    format!("refused {} at {}\n", r.number, r.place).into_bytes()
+}
+
 fn line(input: &mut impl BufRead) -> Option<String> {
     let mut l = String::new();
     (input.read_line(&mut l).unwrap() > 0).then(|| l.trim_end().to_string())
@@ -96,14 +102,95 @@ fn bytes(input: &mut impl Read) -> Vec<u8> {
     text
 }
 
+fn random_schema(r: &mut random::Random) -> (Vec<u8>, Schema) {
+    loop {
+        let text = random::schema(r).into_bytes();
+        if let Ok(s) = read_schema(&text) {
+            return (text, s);
+        }
+    }
+}
+
+/// A journal and the schema that it is read with: as made, damaged at a byte, or with a tag changed.
+fn random_journal(r: &mut random::Random) -> (Vec<u8>, Vec<u8>) {
+    let (schema, s) = random_schema(r);
+    let made = random::journal(r, &s);
+    let journal = match r.below(4) {
+        0 | 1 => made,
+        2 => random::damaged(r, &made),
+        _ => random::retagged(r, &made),
+    };
+    (schema, journal)
+}
+
+fn write_journals(seed: u64, count: usize, cases: &str, outcomes: &str) {
+    let mut r = random::Random::new(seed);
+    let (mut into, mut expected) = (Vec::new(), Vec::new());
+    let mut numbers = std::collections::BTreeMap::new();
+    for _ in 0..count {
+        let (schema, journal) = random_journal(&mut r);
+        let lent = if r.chance(3) { r.below(20) } else { 65_535 };
+        for n in [MAX_JOURNAL, lent] {
+            into.extend((n as u32).to_be_bytes());
+        }
+        for t in [&schema, &journal] {
+            into.extend((t.len() as u32).to_be_bytes());
+            into.extend(t);
+        }
+        let gives = outcome("journal", &[schema, journal], &[MAX_JOURNAL, lent]);
+        *numbers.entry(gives.as_ref().map_or_else(|r| r.number, |_| 0)).or_insert(0) += 1;
+        expected.extend(gives.unwrap_or_else(message));
+    }
+    std::fs::write(cases, into).unwrap();
+    std::fs::write(outcomes, expected).unwrap();
+    println!("outcomes by refusal, 0 for none: {numbers:?}");
+}
+
+fn numbers(rows: &[Row], path: &bundle::Path) -> Vec<usize> {
+    table::selected(rows, path).into_iter().map(|i| rows[i].number).collect()
+}
+
+/// Each path selects the same nodes on the whole journal, on its extract, and on cuts to sets that contain the needed names.
+fn try_demand3(seed: u64, count: usize) {
+    let mut r = random::Random::new(seed);
+    let (mut tried, mut found, mut smaller) = (0, 0, 0);
+    while tried < count {
+        let (_, s) = random_schema(&mut r);
+        let text = random::journal(&mut r, &s);
+        let (Ok(paths), Ok(rows)) = (read_bundle(&s, random::bundle(&mut r, &s).as_bytes()), read_journal(&s, &text, MAX_JOURNAL)) else { continue };
+        let needed = bundle_needs(&s, &paths);
+        let more: Names = (0..64).filter_map(Name::of_code).filter(|n| needed.contains(n) || r.chance(30)).collect();
+        let kept = table::cut(&rows, &needed);
+        let read = extract::read_extract(&s, &extract::write_extract(&kept, &text)).expect("an extract is read back");
+        for p in &paths {
+            let whole = numbers(&rows, p);
+            assert!(whole == numbers(&kept, p) && whole == numbers(&table::cut(&rows, &more), p) && whole == numbers(&read, p), "{p:?}");
+            found += !whole.is_empty() as usize;
+        }
+        smaller += (kept.len() < rows.len()) as usize;
+        tried += 1;
+    }
+    println!("demand 3 held {tried} times; {found} selections had nodes, {smaller} extracts had fewer rows than their journals");
+    assert!(found > count / 10 && smaller > count / 10);
+}
+
 fn main() {
+    let arguments: Vec<String> = std::env::args().skip(1).collect();
+    if let [what, seed, count, cases, outcomes] = &arguments[..] {
+        assert_eq!(what, "journals");
+        return write_journals(seed.parse().unwrap(), count.parse().unwrap(), cases, outcomes);
+    }
+    if let [what, seed, count] = &arguments[..] {
+        assert_eq!(what, "demand3");
+        return try_demand3(seed.parse().unwrap(), count.parse().unwrap());
+    }
     let mut input = stdin().lock();
     let mut output = stdout().lock();
     while let Some(does) = line(&mut input) {
         let texts: usize = line(&mut input).unwrap().parse().unwrap();
         let limits: Vec<usize> = line(&mut input).unwrap().split_whitespace().map(|w| w.parse().unwrap()).collect();
         let texts: Vec<Vec<u8>> = (0..texts).map(|_| bytes(&mut input)).collect();
-        let gives = outcome(&does, &texts, &limits).unwrap_or_else(|r| format!("refused {} at {}\n", r.number, r.place).into_bytes());
+        let gives = outcome(&does, &texts, &limits).unwrap_or_else(message);
         output.write_all(&(gives.len() as u32).to_be_bytes()).unwrap();
         output.write_all(&gives).unwrap();
     }

@@ -1,5 +1,6 @@
 #!/usr/bin/env python3
-"""The second implementation on the cases of tests/vectors: builds it with rustc and fails where an outcome differs from the case's own."""
+"""The second implementation: builds it with rustc, fails where an outcome differs from that of a case of tests/vectors, then tries demand 3 on
+random schemas, bundles and journals. run.py [SEED COUNT]."""
 import json
 import os
 import struct
@@ -26,7 +27,9 @@ def encoded(case):
 def main():
     cases = [json.loads(line) for name in ("edge.jsonl", "more.jsonl") for line in open(os.path.join(VECTORS, name))]
     with tempfile.TemporaryDirectory() as folder:
-        answer = subprocess.run([build(folder)], input=b"".join(map(encoded, cases)), stdout=subprocess.PIPE, check=True).stdout
+        program = build(folder)
+        answer = subprocess.run([program], input=b"".join(map(encoded, cases)), stdout=subprocess.PIPE, check=True).stdout
+        subprocess.run([program, "demand3", *(sys.argv[1:] or ["1", "10000"])], check=True)
     at, wrong = 0, 0
     for case in cases:
         size = struct.unpack_from(">I", answer, at)[0]
