@@ -3,7 +3,7 @@ use mathlib.Core.Bool.{Bool, true, false, cond}
 use mathlib.Core.List.{List}
 use mathlib.Core.Logic.{_⊎_, inl, inr}
 use mathlib.Core.Path.{_≡_, refl, sym, subst}
-use Prim.Native.Nat.{ℕ, zero, suc, _≤_, _<_}
+use Prim.Native.Nat.{ℕ, zero, suc, _<_}
 use native.Mathlib.Omega.{arith}
 use lib.Dec.{T, eqb, eqb→eq, eqb-refl}
 use lib.ListN.{getD}
@@ -70,7 +70,8 @@ module _ {parents : List ℕ} where
         pick true h s =
             let r : 0 ≡ p = cc in
             let k : 1 ≡ e = cc in
-            subst (λ (x : ℕ). StoppedAt found parents 0 p x) k (subst (λ (x : ℕ). StoppedAt found parents 0 x 1) r (record { passes = passed h; on = itself; line = root-line }))
+            subst (λ (x : ℕ). StoppedAt found parents 0 p x) k
+            (subst (λ (x : ℕ). StoppedAt found parents 0 x 1) r (record { passes = passed h; on = itself; line = root-line }))
         pick false h s = never (cc)
     climb-stopped (next-line {i = i} {d = d} l) p e q = pick (found (suc i)) refl q (λ s. climb-stopped l p e s)
       where
@@ -94,8 +95,8 @@ module _ {parents : List ℕ} where
         pick false h s = failed h (subst (λ (x : ℕ). T (found x)) (root-only o refl) t)
     climb-nowhere (next-line {i = i} {d = d} l) q p o t = pick (found (suc i)) refl q (line-cases o) (λ s u. climb-nowhere l s p u t)
       where
-        pick : (b : Bool) → found (suc i) ≡ b → cond b (stopped (suc i) (suc d)) (climb found parents (getD parents (suc i) 0) d) ≡ nowhere → (p ≡ suc i) ⊎ OnLine parents p (getD parents (suc i) 0)
-            → (climb found parents (getD parents (suc i) 0) d ≡ nowhere → OnLine parents p (getD parents (suc i) 0) → ⊥) → ⊥
+        pick : (b : Bool) → found (suc i) ≡ b → cond b (stopped (suc i) (suc d)) (climb found parents (getD parents (suc i) 0) d) ≡ nowhere
+            → (p ≡ suc i) ⊎ OnLine parents p (getD parents (suc i) 0) → (climb found parents (getD parents (suc i) 0) d ≡ nowhere → OnLine parents p (getD parents (suc i) 0) → ⊥) → ⊥
         pick true h s u rest = never (cc)
         pick false h s (inl e) rest = failed h (subst (λ (x : ℕ). T (found x)) e t)
         pick false h s (inr u) rest = rest s u
