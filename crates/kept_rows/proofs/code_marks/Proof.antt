@@ -1,0 +1,44 @@
+use mathlib.Core.Path.{refl, sym}
+use Prim.Native.Nat.{_-_}
+use lib.ListN.{length}
+use Rattle.kept_rows.specs.Kept.{inSet, codeCount, codes-next}
+use Rattle.marks.specs.Columns.{marks, marks-length}
+use Rattle.marks.specs.Forward.{Forward, forward-none, forward-all}
+use borrow.Author.Needs.{needs}
+use native.Mathlib.Omega.{arith}
+use Rattle.kept_rows.proofs.code_marks.Statement.{statement}
+use Rattle.kept_rows.proofs.code_marks.Tie as tie
+
+abbrev Inv-loop : tie.InvT-loop
+Inv-loop set table₀ c₀ table c = Forward (marks codeCount (inSet set)) table₀ c table
+
+abbrev μ-loop : tie.MeasureT-loop
+μ-loop set table₀ c₀ table c = length table₀ - c
+
+loop-holds : tie.Need-loop-holds Inv-loop μ-loop
+loop-holds c = forward-none _ _
+
+loop-again : tie.Need-loop-again Inv-loop μ-loop
+loop-again c =
+    let at = c .before .before .before .loop in
+    codes-next _ _ (at .c) (at .table) _ _ (omega arith) (at .inv) (c .mark-of .ensures) (c .before .has .ensures) refl
+
+returns : tie.Need-returns Inv-loop μ-loop
+returns c =
+    let at = c .before .loop in
+    forward-all _ _ (at .c) (at .table) (sym (marks-length codeCount _)) (at .inv) (omega (arith, at .inv .size))
+
+pub code-marks-spec : {M : Type 1} → statement M
+code-marks-spec =
+    tie.close
+    (tie.spec
+    Inv-loop
+    μ-loop
+    loop-holds
+    (λ c κs. search needs)
+    (λ c κs. search needs)
+    (λ c. search needs)
+    (λ c. search needs)
+    (λ c. search needs)
+    loop-again
+    returns)
