@@ -24,7 +24,7 @@ fn name_byte(s: &[u8], i: usize) -> u8
 }
 
 // The place past the name at place p.
-fn past_name(t: &[u8], p: usize) -> usize
+pub fn past_name(t: &[u8], p: usize) -> usize
     ensures { λ r. ⌜ r ≡ p + length (nameAt (now (t .entry)) p) ⌝ }
 {
     let mut i = p;

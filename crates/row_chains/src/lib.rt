@@ -1,0 +1,146 @@
+// Chains of tags: from the root down to a row of a table, `/` and the element's name for each, `text()` for a text. The names stand in a text,
+// from `starts` on, `sizes` bytes each.
+ghost use mathlib.Core.List.{map};
+ghost use mathlib.Core.Path.{_≡_};
+ghost use Prim.Native.Nat.{_+_, _≤_};
+ghost use lib.ListN.{length};
+ghost use lib.Seq.{sets};
+ghost use Rattle.row_chains.specs.Answers.{Answered};
+ghost use Rattle.row_chains.specs.Chains.{linkAt, linkSize, chainAt, chainSize, SizesFit, NamesAt, LinkPass, SizePass, ChainPass, Chained};
+ghost use Rattle.row_numbers.specs.Cells.{Cleared};
+ghost use Rattle.text_spec.specs.Scans.{nameAt};
+use names::MAX_ELEMENTS;
+
+// How many bytes each of the names at the places `names` of a text has.
+pub fn name_sizes(text: &[u8], names: &[usize], sizes: &mut [usize])
+    requires { ⌜ length (now names) ≡ length (now sizes) ⌝ }
+    ensures { λ _. ⌜ now (sizes .exit) ≡ map (λ p. length (nameAt (now (text .entry)) p)) (now (names .entry)) ⌝ }
+{
+    let mut e = 0;
+    while e < names.len() {
+        let p = names[e];
+        sizes[e] = schema_names::past_name(text, p) - p;
+        e += 1;
+    }
+}
+
+// Copies a text into cells from `at` on.
+fn copy(text: &[u8], out: &mut [u8], at: usize)
+    requires { ⌜ at + length (now text) ≤ length (now out) ⌝ }
+    ensures { λ _. ⌜ now (out .exit) ≡ sets (now (out .entry)) at (now (text .entry)) ⌝ }
+{
+    let mut i = 0;
+    while i < text.len() {
+        out[at + i] = text[i];
+        i += 1;
+    }
+}
+
+// How many bytes `/` and the tag of a name take, by the name's code.
+fn link_size(sizes: &[usize], code: u8) -> usize
+    requires { ⌜ SizesFit (now sizes) ⌝ }
+    ensures { λ r. ⌜ r ≡ linkSize (now (sizes .entry)) code ⌝ }
+{
+    let e = code as usize;
+    if e < MAX_ELEMENTS { sizes[e] + 1 } else { 7 }
+}
+
+// Writes `/` and the tag of a name from `at` on, and gives the cell past it.
+fn put_link(
+    text: &[u8],
+    starts: &[usize],
+    sizes: &[usize],
+    code: u8,
+    out: &mut [u8],
+    at: usize,
+) -> usize
+    requires { ⌜ LinkPass (now text) (now starts) (now sizes) code (now out) at ⌝ }
+    ensures { λ n. ⌜ (n ≡ at + length (linkAt (now (text .entry)) (now (starts .entry)) (now (sizes .entry)) code)) × (now (out .exit) ≡ sets (now (out .entry)) at (linkAt (now (text .entry)) (now (starts .entry)) (now (sizes .entry)) code)) ⌝ }
+{
+    let e = code as usize;
+    out[at] = b'/';
+    if e < MAX_ELEMENTS {
+        let from = starts[e];
+        let size = sizes[e];
+        let to = from + size;
+        copy(&text[from..to], out, at + 1);
+        return at + 1 + size;
+    }
+    copy(b"text()", out, at + 1);
+    at + 7
+}
+
+// How many bytes the chain of a row takes.
+pub fn chain_size(sizes: &[usize], codes: &[u8], parents: &[u16], row: usize) -> usize
+    requires { ⌜ SizePass (now sizes) (now codes) (now parents) row ⌝ }
+    ensures { λ r. ⌜ r ≡ chainSize (now (sizes .entry)) (now (codes .entry)) (now (parents .entry)) row ⌝ }
+{
+    let mut r = row;
+    let mut n = 0;
+    while r != 0 {
+        n += link_size(sizes, codes[r]);
+        r = parents[r] as usize;
+    }
+    n + link_size(sizes, codes[0])
+}
+
+// Writes the chain of a row into the first cells, which suffice, its parent's chain first, and gives the cell past it.
+pub fn write_chain(
+    text: &[u8],
+    starts: &[usize],
+    sizes: &[usize],
+    codes: &[u8],
+    parents: &[u16],
+    row: usize,
+    out: &mut [u8],
+) -> usize
+    requires { ⌜ ChainPass (now text) (now starts) (now sizes) (now codes) (now parents) row (now out) ⌝ }
+    ensures { λ n. ⌜ Chained (now (text .entry)) (now (starts .entry)) (now (sizes .entry)) (now (codes .entry)) (now (parents .entry)) row (now (out .entry)) n (now (out .exit)) ⌝ }
+{
+    if row == 0 {
+        return put_link(text, starts, sizes, codes[0], out, 0);
+    }
+    let up = parents[row] as usize;
+    let at = write_chain(text, starts, sizes, codes, parents, up, out);
+    put_link(text, starts, sizes, codes[row], out, at)
+}
+
+// Clears the cells from `n` on.
+fn clear_from(out: &mut [u8], n: usize)
+    ensures { λ _. ⌜ Cleared (now (out .entry)) n (now (out .exit)) ⌝ }
+{
+    let mut i = n;
+    while i < out.len() {
+        out[i] = 0;
+        i += 1;
+    }
+}
+
+// The number of bytes that a chain takes, or refusal 18.
+pub enum ChainAnswer {
+    Written(usize),
+    TooFewCells,
+}
+
+// Writes the chain of a row into lent cells, and zeros past it. Where they do not suffice nothing is written but zeros.
+pub fn put_chain(
+    text: &[u8],
+    starts: &[usize],
+    sizes: &[usize],
+    codes: &[u8],
+    parents: &[u16],
+    row: usize,
+    out: &mut [u8],
+) -> ChainAnswer
+    requires { ⌜ NamesAt (now text) (now starts) (now sizes) × SizePass (now sizes) (now codes) (now parents) row ⌝ }
+    ensures { λ r. ⌜ Answered (chainAt (now (text .entry)) (now (starts .entry)) (now (sizes .entry)) (now (codes .entry)) (now (parents .entry)) row) (length (now (out .entry))) r (now (out .exit)) ⌝ }
+{
+    let size = chain_size(sizes, codes, parents, row);
+    if out.len() < size {
+        clear_from(out, 0);
+        return ChainAnswer::TooFewCells;
+    }
+    let end = write_chain(text, starts, sizes, codes, parents, row, out);
+    clear_from(out, end);
+    ChainAnswer::Written(end)
+}
