@@ -17,7 +17,7 @@ import tempfile
 
 HERE = os.path.dirname(os.path.abspath(__file__))
 CRATES = os.path.join(HERE, "..", "crates")
-SPECS = ["text_spec", "schema_spec", "table_spec", "journal_spec", "path_spec", "projection_spec"]
+SPECS = ["text_spec", "schema_spec", "table_spec", "journal_spec", "path_spec", "inference_spec", "extract_spec", "library_spec"]
 JOURNAL_LIMIT = 1048576
 
 VECTORS = ["edge.jsonl", "more.jsonl"]
@@ -35,13 +35,13 @@ use lib.ListN.{length}
 use Rattle.journal_spec.specs.Reading.{readJournal}
 use Rattle.path_spec.specs.Reading.{readBundle}
 use Rattle.path_spec.specs.Selection.{selectRows}
-use Rattle.projection_spec.specs.Cases.Opened.{computing}
-use Rattle.projection_spec.specs.Extracts.Cut.{cut}
-use Rattle.projection_spec.specs.Extracts.Reading.{readExtract}
-use Rattle.projection_spec.specs.Inference.Needed.{needed, neededByPath, neededWord}
-use Rattle.projection_spec.specs.Library.Hosts.{extractOf}
-use Rattle.projection_spec.specs.Library.Listing.{listing}
-use Rattle.projection_spec.specs.Library.Records.{tableBeside}
+use Rattle.library_spec.specs.Cases.Opened.{computing}
+use Rattle.extract_spec.specs.Cut.{cut}
+use Rattle.extract_spec.specs.Reading.{readExtract}
+use Rattle.inference_spec.specs.Needed.{needed, neededByPath, neededWord}
+use Rattle.library_spec.specs.Hosts.{extractOf}
+use Rattle.library_spec.specs.Listing.{listing}
+use Rattle.library_spec.specs.Records.{tableBeside}
 use Rattle.schema_spec.specs.Names.{codeOf, wordOfSet}
 use Rattle.schema_spec.specs.Reading.{readSchema}
 use Rattle.schema_spec.specs.Records.{schemaIn}

@@ -10,8 +10,8 @@ use Rattle.names.specs.SetLaws.{has-filter, has-setOf, setOf-in}
 use Rattle.names.specs.Sets.{member, setOf}
 use Rattle.names.specs.declared.NameSet.{NameSet}
 use Rattle.path_spec.specs.Paths.{Axis, self, child, descendant, descendantOrSelf, parent, ancestor, ancestorOrSelf, Step}
-use Rattle.projection_spec.specs.Inference.Needed.{linked, between, complete, need}
-use Rattle.projection_spec.specs.Inference.Types.{Env, heldBy, holding, allBelow, allAbove, unionOf, cutTo, infer}
+use Rattle.inference_spec.specs.Needed.{linked, between, complete, need}
+use Rattle.inference_spec.specs.Types.{Env, heldBy, holding, allBelow, allAbove, unionOf, cutTo, infer}
 use Rattle.schema_laws.specs.Names.{has-in, in-has}
 use Rattle.schema_spec.specs.Names.{Name, Names, sameName, has, within, namesOf}
 use Rattle.schema_spec.specs.Schemas.{Schema}

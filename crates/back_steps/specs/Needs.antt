@@ -5,8 +5,8 @@ use mathlib.Core.Path.{_≡_}
 use Prim.Native.Nat.{ℕ, _+_}
 use Rattle.names.specs.declared.NameSet.{NameSet}
 use Rattle.path_spec.specs.Paths.{Axis, Step}
-use Rattle.projection_spec.specs.Inference.Needed.{linked, between, complete, need}
-use Rattle.projection_spec.specs.Inference.Types.{Env}
+use Rattle.inference_spec.specs.Needed.{linked, between, complete, need}
+use Rattle.inference_spec.specs.Types.{Env}
 use Rattle.schema_spec.specs.Names.{Name, Names, has, within, namesOf}
 use Rattle.schema_spec.specs.Schemas.{Schema}
 use Rattle.schema_spec.specs.Types.{Types, typesOf}

@@ -2,8 +2,8 @@
 ghost use mathlib.Core.List.{_++_};
 ghost use mathlib.Core.Path.{_≡_};
 ghost use Prim.Native.Nat.{_+_};
-ghost use Rattle.projection_spec.specs.Inference.Needed.{between, complete, need};
-ghost use Rattle.projection_spec.specs.Inference.Types.{allBelow, allAbove, unionOf};
+ghost use Rattle.inference_spec.specs.Needed.{between, complete, need};
+ghost use Rattle.inference_spec.specs.Types.{allBelow, allAbove, unionOf};
 ghost use Rattle.schema_spec.specs.Names.{Names, namesOf, within};
 ghost use Rattle.schema_spec.specs.Schemas.{Schema};
 ghost use Rattle.schema_spec.specs.Types.{typesOf};

@@ -7,8 +7,8 @@ use lib.ListN.{length, getD}
 use Rattle.name_codes.specs.Codes.{nameOfCode}
 use Rattle.names.specs.declared.NameSet.{NameSet}
 use Rattle.path_spec.specs.Paths.{PlainStep, expand}
-use Rattle.projection_spec.specs.Inference.Needed.{keepsAll, wantsNothing, need}
-use Rattle.projection_spec.specs.Inference.Types.{Env, env, cutTo, inferAll}
+use Rattle.inference_spec.specs.Needed.{keepsAll, wantsNothing, need}
+use Rattle.inference_spec.specs.Types.{Env, env, cutTo, inferAll}
 use Rattle.schema_spec.specs.Names.{Names, namesOf}
 use Rattle.schema_spec.specs.Schemas.{Schema}
 use Rattle.schema_spec.specs.Types.{typesOf}

@@ -13,8 +13,8 @@ use Rattle.names.specs.declared.NameSet.{NameSet}
 use Rattle.needed_alternatives.specs.Alternatives.{endsSome, anyEndsSome, needOfAll, HasAlternatives}
 use Rattle.path_spec.specs.Paths.{PlainStep, expand}
 use Rattle.plain_steps.specs.Columns.{HasSteps}
-use Rattle.projection_spec.specs.Inference.Needed.{keepsAll, wantsNothing, need}
-use Rattle.projection_spec.specs.Inference.Types.{Env}
+use Rattle.inference_spec.specs.Needed.{keepsAll, wantsNothing, need}
+use Rattle.inference_spec.specs.Types.{Env}
 use Rattle.schema_laws.specs.Names.{has-in, in-has}
 use Rattle.schema_spec.specs.Names.{Name, Names, element, text, namesOf, within}
 use Rattle.schema_spec.specs.Schemas.{Schema}

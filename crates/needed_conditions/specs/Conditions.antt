@@ -4,8 +4,8 @@ use mathlib.Core.List.{[], _∷_}
 use Prim.Native.Nat.{ℕ}
 use Rattle.names.specs.declared.NameSet.{NameSet}
 use Rattle.path_spec.specs.Paths.{Condition}
-use Rattle.projection_spec.specs.Inference.Needed.{keepsName, wantsNames}
-use Rattle.projection_spec.specs.Inference.Types.{cutTo}
+use Rattle.inference_spec.specs.Needed.{keepsName, wantsNames}
+use Rattle.inference_spec.specs.Types.{cutTo}
 use Rattle.schema_spec.specs.Names.{Name, Names}
 use Rattle.schema_spec.specs.Schemas.{Schema}
 use Rattle.schema_spec.specs.Types.{typesOf}

@@ -9,7 +9,7 @@ ghost use Rattle.names.specs.Sets.{member};
 ghost use Rattle.needed_alternatives.specs.Alternatives.{HasAlternatives};
 ghost use Rattle.needed_conditions.specs.Conditions.{keepsIn, wantsIn};
 ghost use Rattle.path_spec.specs.Paths.{alternatives};
-ghost use Rattle.projection_spec.specs.Inference.Types.{narrow};
+ghost use Rattle.inference_spec.specs.Types.{narrow};
 ghost use Rattle.schema_spec.specs.Names.{Name, has, namesOf, within};
 ghost use Rattle.schema_spec.specs.Schemas.{Schema};
 ghost use Rattle.schema_spec.specs.Types.{typesOf};

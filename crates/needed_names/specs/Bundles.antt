@@ -9,7 +9,7 @@ use Rattle.compiled_paths.specs.Columns.{startAt, sizeAt, stepsIn, bundleIn, bu
 use Rattle.names.specs.declared.NameSet.{NameSet}
 use Rattle.needed_paths.specs.Columns.{HasWrittenSteps}
 use Rattle.path_spec.specs.Paths.{LocationPath, fromRootElement}
-use Rattle.projection_spec.specs.Inference.Needed.{neededByPath, needed}
+use Rattle.inference_spec.specs.Needed.{neededByPath, needed}
 use Rattle.schema_spec.specs.Names.{Names, namesOf, within}
 use Rattle.schema_spec.specs.Schemas.{Schema}
 use Rattle.schema_spec.specs.Types.{typesOf}

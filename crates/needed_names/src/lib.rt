@@ -5,7 +5,7 @@ ghost use lib.ListN.{length};
 ghost use Rattle.compiled_paths.specs.Columns.{bundleIn};
 ghost use Rattle.compiled_paths.specs.Paths.{pathsIn, Shaped};
 ghost use Rattle.needed_names.specs.Bundles.{HasPaths};
-ghost use Rattle.projection_spec.specs.Inference.Needed.{needed, neededWord};
+ghost use Rattle.inference_spec.specs.Needed.{needed, neededWord};
 ghost use Rattle.schema_spec.specs.Schemas.{Schema};
 ghost use Rattle.schema_spec.specs.Types.{typesOf};
 ghost use Rattle.text_spec.specs.Limits.{maxDeclarations};

@@ -13,8 +13,8 @@ use Rattle.needed_conditions.specs.Conditions.{keepsIn}
 use Rattle.needed_paths.specs.Columns.{analysedAt, conditionAt, HasWrittenSteps}
 use Rattle.path_spec.specs.Paths.{Step, WrittenStep, Condition, unconditional, expandFrom}
 use Rattle.path_spec.specs.Selection.{passes}
-use Rattle.projection_spec.specs.Inference.Needed.{keepsName, wantsNames}
-use Rattle.projection_spec.specs.Inference.Types.{Env, cutTo, move, narrow, infer}
+use Rattle.inference_spec.specs.Needed.{keepsName, wantsNames}
+use Rattle.inference_spec.specs.Types.{Env, cutTo, move, narrow, infer}
 use Rattle.schema_spec.specs.Names.{Names, namesOf, within}
 use Rattle.schema_spec.specs.Schemas.{Schema}
 use Rattle.schema_spec.specs.Types.{typesOf}

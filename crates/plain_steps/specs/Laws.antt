@@ -9,8 +9,8 @@ use Rattle.names.specs.Sets.{member}
 use Rattle.names.specs.declared.NameSet.{NameSet}
 use Rattle.path_spec.specs.Paths.{Step, PlainStep, expandFrom}
 use Rattle.path_spec.specs.Selection.{passes}
-use Rattle.projection_spec.specs.Inference.Needed.{complete, keepsAll, wantsNothing}
-use Rattle.projection_spec.specs.Inference.Types.{Env, env, allAbove, cutTo, move, narrow, infer, inferAll}
+use Rattle.inference_spec.specs.Needed.{complete, keepsAll, wantsNothing}
+use Rattle.inference_spec.specs.Types.{Env, env, allAbove, cutTo, move, narrow, infer, inferAll}
 use Rattle.schema_spec.specs.Names.{Name, Names, has, within, namesOf}
 use Rattle.schema_spec.specs.Schemas.{Schema}
 use Rattle.schema_spec.specs.Types.{Types, typesOf}

@@ -15,14 +15,14 @@ use Rattle.projection_laws.specs.Fields.{AreBytes}
 use Rattle.projection_laws.specs.Handed.{sizes-equal, equal-sized, table-handed, handed-table, table-beside, beside-table}
 use Rattle.projection_laws.specs.Records.{schema-handed, handed-schema, bundle-handed, handed-bundle}
 use Rattle.projection_laws.specs.RoundTrip.{extract-judged, extract-judged-once}
-use Rattle.projection_spec.specs.Extracts.Cut.{cutToWord}
-use Rattle.projection_spec.specs.Extracts.Fields.{writeExtract}
-use Rattle.projection_spec.specs.Extracts.Reading.{readExtract}
-use Rattle.projection_spec.specs.Library.Calls.{schemaRead, bundleRead, journalRead, neededNames, tableCut, extractWritten, extractRead, nodesSelected, rowText, rowChain}
-use Rattle.projection_spec.specs.Library.Chains.{chain}
-use Rattle.projection_spec.specs.Library.Conditions.{SchemaJudged, BundleJudged, JournalJudged, ExtractJudged, SchemaRecord, BundleRecord, EqualSizes, TableHanded, TableBeside, ReadsSchema, ReadsBundle, ReadsJournal, GivesNeeded, CutsTable, WritesExtract, ReadsExtract, TooFewSelections, SelectsNodes, GivesText, GivesChain}
-use Rattle.projection_spec.specs.Library.Records.{TextRecord, schemaHeld, bundleHeld, LentTable, tableHeld, tableBeside}
-use Rattle.projection_spec.specs.Library.Selections.{askedPaths, Selections, selections}
+use Rattle.extract_spec.specs.Cut.{cutToWord}
+use Rattle.extract_spec.specs.Fields.{writeExtract}
+use Rattle.extract_spec.specs.Reading.{readExtract}
+use Rattle.library_spec.specs.Calls.{schemaRead, bundleRead, journalRead, neededNames, tableCut, extractWritten, extractRead, nodesSelected, rowText, rowChain}
+use Rattle.library_spec.specs.Chains.{chain}
+use Rattle.library_spec.specs.Conditions.{SchemaJudged, BundleJudged, JournalJudged, ExtractJudged, SchemaRecord, BundleRecord, EqualSizes, TableHanded, TableBeside, ReadsSchema, ReadsBundle, ReadsJournal, GivesNeeded, CutsTable, WritesExtract, ReadsExtract, TooFewSelections, SelectsNodes, GivesText, GivesChain}
+use Rattle.library_spec.specs.Records.{TextRecord, schemaHeld, bundleHeld, LentTable, tableHeld, tableBeside}
+use Rattle.library_spec.specs.Selections.{askedPaths, Selections, selections}
 use Rattle.schema_reading_laws.specs.Reading.{schema-read, schema-read-once}
 use Rattle.schema_spec.specs.Reading.{readSchema}
 use Rattle.schema_spec.specs.Schemas.{Schema}

@@ -12,7 +12,7 @@ use lib.Seq.{take-nil}
 use Rattle.table_laws.specs.Fits.{RowFits, row-fits, fits-row, Rooted, rooted, rooted-fits}
 use Rattle.table_laws.specs.Nodes.{nodes-equal, equal-same, test-above, above-test}
 use Rattle.table_laws.specs.Places.{at-in}
-use Rattle.projection_spec.specs.Extracts.Cut.{kept, renumbered, cutFrom, cut}
+use Rattle.extract_spec.specs.Cut.{kept, renumbered, cutFrom, cut}
 use Rattle.projection_laws.specs.Rows.{bare, bare-kept, bare-node, bare-filter, filtered-at, Grown, next-row, root-grown}
 use Rattle.schema_spec.specs.Names.{Name, Names, element, text, has, isText}
 use Rattle.schema_spec.specs.Types.{Types}

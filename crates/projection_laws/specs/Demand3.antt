@@ -23,14 +23,14 @@ use Rattle.projection_laws.specs.RoundTrip.{extract-same-tables, write-r
 use Rattle.projection_laws.specs.SameTables.{one-extract-selects}
 use Rattle.projection_laws.specs.Selections.{asked-in, selections-agree}
 use Rattle.projection_laws.specs.Tables.{cut-selects-same, same-tables-select}
-use Rattle.projection_spec.specs.Extracts.Conditions.{SameTables}
-use Rattle.projection_spec.specs.Extracts.Cut.{cut, cutToWord}
-use Rattle.projection_spec.specs.Extracts.Fields.{extractRows}
-use Rattle.projection_spec.specs.Extracts.Reading.{readExtract}
-use Rattle.projection_spec.specs.Inference.Needed.{neededByPath, needed}
-use Rattle.projection_spec.specs.Library.Conditions.{SchemaTaken, BundleTaken, JournalTaken, Makes}
-use Rattle.projection_spec.specs.Library.Hosts.{HostAnswer, hostAnswer, Lent, inLent, extractOf, makeExtract, bundlePaths, selectFrom, resultOf}
-use Rattle.projection_spec.specs.Library.Selections.{askedPaths, Selections, selections}
+use Rattle.extract_spec.specs.Conditions.{SameTables}
+use Rattle.extract_spec.specs.Cut.{cut, cutToWord}
+use Rattle.extract_spec.specs.Fields.{extractRows}
+use Rattle.extract_spec.specs.Reading.{readExtract}
+use Rattle.inference_spec.specs.Needed.{neededByPath, needed}
+use Rattle.library_spec.specs.Conditions.{SchemaTaken, BundleTaken, JournalTaken, Makes}
+use Rattle.library_spec.specs.Hosts.{HostAnswer, hostAnswer, Lent, inLent, extractOf, makeExtract, bundlePaths, selectFrom, resultOf}
+use Rattle.library_spec.specs.Selections.{askedPaths, Selections, selections}
 use Rattle.schema_laws.specs.Accepted.{accepted-filled, accepted-closed}
 use Rattle.schema_laws.specs.Names.{within-in}
 use Rattle.schema_laws.specs.Words.{in-setOfWord}

@@ -3,7 +3,7 @@ use mathlib.Core.List.{List, List·Memᴰ as In}
 use mathlib.Core.Logic.{_⊎_, inl, inr}
 use mathlib.Core.Path.{_≡_, sym, subst}
 use lib.Dec.{T}
-use Rattle.projection_spec.specs.Extracts.Cut.{kept}
+use Rattle.extract_spec.specs.Cut.{kept}
 use Rattle.schema_laws.specs.Names.{has-in, in-has}
 use Rattle.schema_spec.specs.Names.{Name, Names, has}
 use Rattle.schema_spec.specs.Types.{Types, isBelow}

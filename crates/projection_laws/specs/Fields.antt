@@ -6,8 +6,8 @@ use native.Mathlib.Omega.{arith}
 use lib.Dec.{leb, le→leb, lit<}
 use lib.ListN.{length, length-append}
 use lib.Seq.{drop-append-add, take-at, take-append-seam, drop-append-seam}
-use Rattle.projection_spec.specs.Extracts.Fields.{elementTag, textTag, countTag, twoBytes, field, rowField}
-use Rattle.projection_spec.specs.Extracts.Reading.{elementItem, textItem, countItem, noItem, inTwo, itemOf, itemsFrom}
+use Rattle.extract_spec.specs.Fields.{elementTag, textTag, countTag, twoBytes, field, rowField}
+use Rattle.extract_spec.specs.Reading.{elementItem, textItem, countItem, noItem, inTwo, itemOf, itemsFrom}
 use Rattle.schema_spec.specs.Names.{element, text}
 use Rattle.text_laws.specs.Tests.{cond-true}
 use Rattle.text_spec.specs.Lists.{part}

@@ -6,8 +6,8 @@ use mathlib.Core.Path.{_≡_, sym, ap, subst, _∙_}
 use Prim.Native.Nat.{ℕ}
 use lib.Dec.{T, eqb, eqb→eq, eqb-refl, leb, leb→le, le→leb}
 use lib.ListN.{length}
-use Rattle.projection_spec.specs.Library.Conditions.{EqualSizes, equal-sizes, RowsLent, TableHanded, TableBeside}
-use Rattle.projection_spec.specs.Library.Records.{LentTable, rowsLent, keptIf, tableHeld, tableBeside}
+use Rattle.library_spec.specs.Conditions.{EqualSizes, equal-sizes, RowsLent, TableHanded, TableBeside}
+use Rattle.library_spec.specs.Records.{LentTable, rowsLent, keptIf, tableHeld, tableBeside}
 use Rattle.schema_spec.specs.Schemas.{Schema}
 use Rattle.schema_spec.specs.Types.{typesOf}
 use Rattle.table_laws.specs.WellFormed.{table-means, table-tests, well-formed-beside}

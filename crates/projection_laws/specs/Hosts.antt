@@ -15,9 +15,9 @@ use Rattle.path_spec.specs.Reading.{readBundle}
 use Rattle.projection_laws.specs.Calls.{schema-is, bundle-is, journal-is, extract-is, by-sizes}
 use Rattle.projection_laws.specs.Fields.{AreBytes}
 use Rattle.projection_laws.specs.Handed.{sizes-equal, equal-sized}
-use Rattle.projection_spec.specs.Extracts.Reading.{readExtract}
-use Rattle.projection_spec.specs.Library.Conditions.{SchemaJudged, BundleJudged, SchemaTaken, BundleTaken, TooFewCells, InLent, Makes, OutOfRange, in-no-bundle, not-here, Selects}
-use Rattle.projection_spec.specs.Library.Hosts.{HostAnswer, Lent, inLent, makeExtract, bundlePaths, inRange, selectFrom}
+use Rattle.extract_spec.specs.Reading.{readExtract}
+use Rattle.library_spec.specs.Conditions.{SchemaJudged, BundleJudged, SchemaTaken, BundleTaken, TooFewCells, InLent, Makes, OutOfRange, in-no-bundle, not-here, Selects}
+use Rattle.library_spec.specs.Hosts.{HostAnswer, Lent, inLent, makeExtract, bundlePaths, inRange, selectFrom}
 use Rattle.schema_reading_laws.specs.Reading.{schema-read, schema-read-once}
 use Rattle.schema_spec.specs.Reading.{readSchema}
 use Rattle.schema_spec.specs.Schemas.{Schema}

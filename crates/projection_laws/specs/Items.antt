@@ -4,8 +4,8 @@ use mathlib.Core.Option.{some}
 use mathlib.Core.Path.{_≡_, refl}
 use Prim.Native.Nat.{ℕ, suc, _+_, _<_}
 use lib.ListN.{length, getElem?}
-use Rattle.projection_spec.specs.Extracts.Fields.{countTag, twoBytes, field, rowField, numberAt, fieldOf, startAt}
-use Rattle.projection_spec.specs.Extracts.Reading.{Item, elementItem, textItem, itemsFrom, Placed, openFrom, rowsOfLaterItems, rowsOfItems}
+use Rattle.extract_spec.specs.Fields.{countTag, twoBytes, field, rowField, numberAt, fieldOf, startAt}
+use Rattle.extract_spec.specs.Reading.{Item, elementItem, textItem, itemsFrom, Placed, openFrom, rowsOfLaterItems, rowsOfItems}
 use Rattle.projection_laws.specs.Fields.{element-read, text-read}
 use Rattle.projection_laws.specs.Opens.{placed}
 use Rattle.schema_spec.specs.Names.{element, text, Name}

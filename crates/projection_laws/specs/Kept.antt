@@ -3,8 +3,8 @@ use mathlib.Core.List.{List, List·Memᴰ as In}
 use mathlib.Core.Path.{sym, subst}
 use Prim.Native.Nat.{ℕ}
 use lib.Dec.{T}
-use Rattle.projection_spec.specs.Extracts.Conditions.{Kept}
-use Rattle.projection_spec.specs.Extracts.Cut.{kept, cut}
+use Rattle.extract_spec.specs.Conditions.{Kept}
+use Rattle.extract_spec.specs.Cut.{kept, cut}
 use Rattle.projection_laws.specs.Cutting.{rows-cut}
 use Rattle.projection_laws.specs.Documents.{Within, own-within, above-within, within-kept, kept-within}
 use Rattle.schema_spec.specs.Names.{Names}

@@ -19,10 +19,10 @@ use Rattle.path_spec.specs.Conditions.{BundleApplies, BundleGives}
 use Rattle.path_spec.specs.Conditions as bundles
 use Rattle.path_spec.specs.Paths.{LocationPath}
 use Rattle.path_spec.specs.Reading.{readBundle}
-use Rattle.projection_spec.specs.Library.Calls.{inColumns, journalRead}
-use Rattle.projection_spec.specs.Library.Hosts.{Lent, hostAnswer, inLent, extractOf, makeExtract}
-use Rattle.projection_spec.specs.Library.Listing.{FilesRead, judgeFiles, listingData, refusedLine, listed, listing}
-use Rattle.projection_spec.specs.Library.Records.{TextRecord, schemaHeld}
+use Rattle.library_spec.specs.Calls.{inColumns, journalRead}
+use Rattle.library_spec.specs.Hosts.{Lent, hostAnswer, inLent, extractOf, makeExtract}
+use Rattle.library_spec.specs.Listing.{FilesRead, judgeFiles, listingData, refusedLine, listed, listing}
+use Rattle.library_spec.specs.Records.{TextRecord, schemaHeld}
 use Rattle.schema_reading_laws.specs.Reading.{schema-read}
 use Rattle.schema_spec.specs.Conditions.{SchemaApplies, SchemaGives}
 use Rattle.schema_spec.specs.Conditions as schemas

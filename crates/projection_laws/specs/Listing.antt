@@ -11,10 +11,10 @@ use Rattle.path_laws.specs.Selection.{selected-sound, selected-complete, select
 use Rattle.path_spec.specs.Paths.{LocationPath}
 use Rattle.path_spec.specs.Selection.{Selected, selected, select}
 use Rattle.projection_laws.specs.Numbers.{node-known, nodes-count}
-use Rattle.projection_spec.specs.Extracts.Cut.{cut}
-use Rattle.projection_spec.specs.Inference.Needed.{needed}
-use Rattle.projection_spec.specs.Library.Conditions.{Chosen, FirstPath, Lines, no-lines, next-line, Lists, lists}
-use Rattle.projection_spec.specs.Library.Listing.{FilesRead, listingData, isIn, selectedNodes, firstSelecting, nodeLine, listingLine, header, headerOf, listed}
+use Rattle.extract_spec.specs.Cut.{cut}
+use Rattle.inference_spec.specs.Needed.{needed}
+use Rattle.library_spec.specs.Conditions.{Chosen, FirstPath, Lines, no-lines, next-line, Lists, lists}
+use Rattle.library_spec.specs.Listing.{FilesRead, listingData, isIn, selectedNodes, firstSelecting, nodeLine, listingLine, header, headerOf, listed}
 use Rattle.schema_spec.specs.Schemas.{Schema}
 use Rattle.schema_spec.specs.Types.{Types, typesOf}
 use Rattle.table_spec.specs.Nodes.{Node, nodeNumber, nodesOf}

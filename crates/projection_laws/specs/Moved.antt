@@ -7,8 +7,8 @@ use native.Mathlib.Omega.{arith}
 use lib.Dec.{T, eqb, leb, eqb→eq, eqb-refl, leb→le, le→leb}
 use lib.ListN.{length, length-append, length-take, length-drop}
 use lib.Seq.{drop-nil}
-use Rattle.projection_spec.specs.Extracts.Conditions.{SameButStarts, SameTables, no-rows, next-row}
-use Rattle.projection_spec.specs.Extracts.Fields.{rowField, fieldOf, startAt, rowsAt}
+use Rattle.extract_spec.specs.Conditions.{SameButStarts, SameTables, no-rows, next-row}
+use Rattle.extract_spec.specs.Fields.{rowField, fieldOf, startAt, rowsAt}
 use Rattle.projection_laws.specs.Fields.{text-cut}
 use Rattle.projection_laws.specs.Items.{sizeAt, parentNumber}
 use Rattle.schema_spec.specs.Names.{element, text, Name, isText}

@@ -10,7 +10,7 @@ use native.Mathlib.Nat.{le-of-eq}
 use native.Mathlib.Omega.{arith}
 use lib.Dec.{T, eqb, eqb→eq, eqb-refl}
 use lib.ListN.{length, getElem?, length-map}
-use Rattle.projection_spec.specs.Extracts.Reading.{Placed, openFrom}
+use Rattle.extract_spec.specs.Reading.{Placed, openFrom}
 use Rattle.schema_spec.specs.Names.{element, text, isText}
 use Rattle.table_laws.specs.Nodes.{nodes-equal}
 use Rattle.table_laws.specs.Places.{none-some, at-before, at-only, at-before-or-end}

@@ -8,8 +8,8 @@ use native.Mathlib.Omega.{arith}
 use lib.Dec.{T, eqb, leb, eqb→eq, leb→le}
 use lib.ListN.{length, take, drop, getElem?, length-append, take-append-drop}
 use lib.Seq.{length-take-le}
-use Rattle.projection_spec.specs.Extracts.Fields.{elementTag, textTag, countTag, twoBytes, field, numberAt, fieldOf}
-use Rattle.projection_spec.specs.Extracts.Reading.{Item, elementItem, textItem, countItem, noItem, inTwo, elementValue, textValue, countValue, itemOf, itemsFrom, Placed, openFrom, topRow, topElement, consRow, rowsOfLaterItems, rowsOfItems}
+use Rattle.extract_spec.specs.Fields.{elementTag, textTag, countTag, twoBytes, field, numberAt, fieldOf}
+use Rattle.extract_spec.specs.Reading.{Item, elementItem, textItem, countItem, noItem, inTwo, elementValue, textValue, countValue, itemOf, itemsFrom, Placed, openFrom, topRow, topElement, consRow, rowsOfLaterItems, rowsOfItems}
 use Rattle.projection_laws.specs.Fields.{AreBytes, two-bytes-written, text-cut}
 use Rattle.projection_laws.specs.Items.{opensAfter, rowAt, restWritten}
 use Rattle.projection_laws.specs.Opens.{placed}

@@ -8,9 +8,9 @@ use Prim.Native.Nat.{ℕ, _≤_}
 use native.Mathlib.Omega.{arith}
 use lib.Dec.{T}
 use lib.ListN.{length, getElem?}
-use Rattle.projection_spec.specs.Extracts.Conditions.{IsExtract, ExtractApplies, length-2, extract-17, SameTables, ExtractGives, gives}
-use Rattle.projection_spec.specs.Extracts.Fields.{countTag, twoBytes, field, fieldOf, writeExtract, extractRows}
-use Rattle.projection_spec.specs.Extracts.Reading.{itemsOf, rowsOfItems, readExtract, isTable, rowsOr}
+use Rattle.extract_spec.specs.Conditions.{IsExtract, ExtractApplies, length-2, extract-17, SameTables, ExtractGives, gives}
+use Rattle.extract_spec.specs.Fields.{countTag, twoBytes, field, fieldOf, writeExtract, extractRows}
+use Rattle.extract_spec.specs.Reading.{itemsOf, rowsOfItems, readExtract, isTable, rowsOr}
 use Rattle.projection_laws.specs.Fields.{AreBytes}
 use Rattle.projection_laws.specs.Moved.{same-rows, same-all-inside, root-moved}
 use Rattle.projection_laws.specs.ReadBack.{fields-back}

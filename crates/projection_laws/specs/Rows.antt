@@ -8,7 +8,7 @@ use Prim.Native.Nat.{ℕ, zero, suc}
 use lib.Dec.{T}
 use lib.ListN.{length, take, drop, getElem?}
 use lib.Seq.{take-nil}
-use Rattle.projection_spec.specs.Extracts.Cut.{kept}
+use Rattle.extract_spec.specs.Cut.{kept}
 use Rattle.projection_laws.specs.Documents.{Valid, AllValid}
 use Rattle.schema_spec.specs.Names.{Name, Names, has}
 use Rattle.schema_spec.specs.Types.{Types}

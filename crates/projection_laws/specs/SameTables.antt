@@ -5,9 +5,9 @@ use Prim.Native.Nat.{ℕ}
 use lib.Dec.{T}
 use Rattle.path_spec.specs.Paths.{LocationPath}
 use Rattle.path_spec.specs.Selection.{select, selectRows}
-use Rattle.projection_spec.specs.Extracts.Conditions.{SameButStarts, SameTables, no-rows, next-row}
-use Rattle.projection_spec.specs.Extracts.Fields.{writeExtract, extractRows}
-use Rattle.projection_spec.specs.Extracts.Reading.{readExtract}
+use Rattle.extract_spec.specs.Conditions.{SameButStarts, SameTables, no-rows, next-row}
+use Rattle.extract_spec.specs.Fields.{writeExtract, extractRows}
+use Rattle.extract_spec.specs.Reading.{readExtract}
 use Rattle.projection_laws.specs.RoundTrip.{extract-same-tables, write-read}
 use Rattle.schema_spec.specs.Schemas.{Schema}
 use Rattle.schema_spec.specs.Types.{Types, typesOf}

@@ -7,7 +7,7 @@ use lib.ListN.{length, getElem?}
 use lib.Seq.{take-at, drop-at}
 use Rattle.path_spec.specs.Paths.{LocationPath}
 use Rattle.path_spec.specs.Selection.{selectRows}
-use Rattle.projection_spec.specs.Library.Selections.{askedPaths, Selections, selections, splitBy}
+use Rattle.library_spec.specs.Selections.{askedPaths, Selections, selections, splitBy}
 use Rattle.table_spec.specs.Rows.{Row}
 use Rattle.text_spec.specs.Lists.{gather, listOf}
 

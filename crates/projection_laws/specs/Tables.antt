@@ -6,9 +6,9 @@ use Prim.Native.Nat.{ℕ}
 use lib.Dec.{T}
 use Rattle.path_spec.specs.Paths.{LocationPath}
 use Rattle.path_spec.specs.Selection.{select, selectRows}
-use Rattle.projection_spec.specs.Extracts.Conditions.{SameTables}
-use Rattle.projection_spec.specs.Extracts.Cut.{cut}
-use Rattle.projection_spec.specs.Inference.Needed.{needed}
+use Rattle.extract_spec.specs.Conditions.{SameTables}
+use Rattle.extract_spec.specs.Cut.{cut}
+use Rattle.inference_spec.specs.Needed.{needed}
 use Rattle.projection_laws.specs.Cutting.{rows-cut}
 use Rattle.projection_laws.specs.Documents.{SubsetOf, Lawful}
 use Rattle.projection_laws.specs.Nodes.{select-cut, path-needed}

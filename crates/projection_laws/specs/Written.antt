@@ -6,8 +6,8 @@ use Prim.Native.Nat.{ℕ, zero, suc, _+_, _<_, _≤_}
 use native.Mathlib.Omega.{arith}
 use lib.Dec.{T, eqb, eqb-refl}
 use lib.ListN.{length, getElem?, length-append}
-use Rattle.projection_spec.specs.Extracts.Fields.{countTag, twoBytes, field, rowField, fieldOf, writeExtract, rowsAt, extractRows}
-use Rattle.projection_spec.specs.Extracts.Reading.{itemsFrom, itemsOf, Placed, openFrom, rowsOfLaterItems, rowsOfItems}
+use Rattle.extract_spec.specs.Fields.{countTag, twoBytes, field, rowField, fieldOf, writeExtract, rowsAt, extractRows}
+use Rattle.extract_spec.specs.Reading.{itemsFrom, itemsOf, Placed, openFrom, rowsOfLaterItems, rowsOfItems}
 use Rattle.projection_laws.specs.Fields.{count-read}
 use Rattle.projection_laws.specs.Items.{opensAfter, field-item, item-row, root-item, parentNumber, restWritten}
 use Rattle.projection_laws.specs.Moved.{HasText, has-text, restart}

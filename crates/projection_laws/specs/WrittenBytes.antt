@@ -12,12 +12,12 @@ use Rattle.journal_laws.specs.Judging.Meaning.{journal-judged-once}
 use Rattle.path_spec.specs.Paths.{LocationPath}
 use Rattle.projection_laws.specs.Cutting.{cut-well-formed-with}
 use Rattle.projection_laws.specs.Fields.{AreBytes}
-use Rattle.projection_spec.specs.Extracts.Cut.{cut}
-use Rattle.projection_spec.specs.Extracts.Fields.{elementTag, textTag, countTag, twoBytes, field, rowField, numberAt, fieldOf, writeExtract}
-use Rattle.projection_spec.specs.Inference.Needed.{needed}
-use Rattle.projection_spec.specs.Library.Conditions.{SchemaTaken, JournalTaken, of-schema, WritesExtract, Makes}
-use Rattle.projection_spec.specs.Library.Hosts.{HostAnswer, Lent, extractOf}
-use Rattle.projection_spec.specs.Library.Records.{TextRecord, LentTable}
+use Rattle.extract_spec.specs.Cut.{cut}
+use Rattle.extract_spec.specs.Fields.{elementTag, textTag, countTag, twoBytes, field, rowField, numberAt, fieldOf, writeExtract}
+use Rattle.inference_spec.specs.Needed.{needed}
+use Rattle.library_spec.specs.Conditions.{SchemaTaken, JournalTaken, of-schema, WritesExtract, Makes}
+use Rattle.library_spec.specs.Hosts.{HostAnswer, Lent, extractOf}
+use Rattle.library_spec.specs.Records.{TextRecord, LentTable}
 use Rattle.schema_laws.specs.Accepted.{accepted-element, accepted-held}
 use Rattle.schema_reading_laws.specs.Reading.{schema-read-once}
 use Rattle.schema_spec.specs.Names.{Name, element, text, isText, namesOf}

@@ -12,7 +12,7 @@ use Rattle.names.specs.SetLaws.{setOf-in, in-setOf}
 use Rattle.names.specs.Sets.{member, setOf}
 use Rattle.names.specs.declared.NameSet.{NameSet}
 use Rattle.back_steps.specs.Laws.{within-member}
-use Rattle.projection_spec.specs.Inference.Needed.{fromRoot}
+use Rattle.inference_spec.specs.Needed.{fromRoot}
 use Rattle.schema_laws.specs.Closure as chains
 use Rattle.schema_laws.specs.Closure.{Closed, Chain, chain-from, closure-chain, chain-closure, text-holds-none, holder-in, held-in}
 use Rattle.schema_laws.specs.Names.{within-in, in-element}

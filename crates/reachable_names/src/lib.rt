@@ -6,7 +6,7 @@ ghost use Prim.Native.Nat.{ℕ, _<_};
 ghost use lib.ListN.{length};
 ghost use Rattle.closures.specs.Relations.{relates};
 ghost use Rattle.names.specs.Sets.{member};
-ghost use Rattle.projection_spec.specs.Inference.Needed.{fromRoot};
+ghost use Rattle.inference_spec.specs.Needed.{fromRoot};
 ghost use Rattle.schema_spec.specs.Names.{Name, Names, element, namesOf, within};
 ghost use Rattle.schema_spec.specs.Schemas.{Schema};
 ghost use Rattle.schema_spec.specs.Types.{typesOf};

@@ -16,7 +16,7 @@ use Rattle.compiled_schema.specs.declared.CompiledSchema.{CompiledSchema}
 use Rattle.models.specs.Automaton.{AutomatonOf}
 use Rattle.names.specs.Sets.{member, setOf}
 use Rattle.names.specs.declared.NameSet.{NameSet}
-use Rattle.projection_spec.specs.Inference.Types.{heldBy, holding, allBelow, allAbove}
+use Rattle.inference_spec.specs.Types.{heldBy, holding, allBelow, allAbove}
 use Rattle.schema_laws.specs.Accepted.{accepted-length, accepted-closed}
 use Rattle.schema_names.specs.Lookup.{found, element-by-place}
 use Rattle.schema_names.specs.declared.Lookup.{Lookup}

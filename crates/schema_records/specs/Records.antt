@@ -2,7 +2,7 @@
 use mathlib.Core.List.{List}
 use mathlib.Core.Path.{_≡_, refl, ap₂}
 use Prim.Native.Nat.{ℕ}
-use Rattle.projection_spec.specs.Library.Records.{TextRecord, recordOf, passesSchema}
+use Rattle.library_spec.specs.Records.{TextRecord, recordOf, passesSchema}
 use Rattle.schema_reader.specs.Records.{ReadAs, passesRecord}
 use Rattle.schema_reader.specs.declared.SchemaRead.{SchemaRead}
 use Rattle.schema_spec.specs.Records.{schemaRecord}

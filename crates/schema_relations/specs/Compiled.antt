@@ -10,7 +10,7 @@ use Rattle.compiled_paths.specs.declared.CompiledPaths.{CompiledPaths}
 use Rattle.compiled_schema.specs.Compiled.{CompiledOf}
 use Rattle.compiled_schema.specs.declared.CompiledSchema.{CompiledSchema}
 use Rattle.names.specs.declared.NameSet.{NameSet}
-use Rattle.projection_spec.specs.Inference.Needed.{needed, neededWord}
+use Rattle.inference_spec.specs.Needed.{needed, neededWord}
 use Rattle.schema_laws.specs.Accepted.{accepted-length, accepted-filled, accepted-closed, schemaIn-length}
 use Rattle.schema_spec.specs.Reading.{readSchema}
 use Rattle.schema_spec.specs.Records.{schemaIn}

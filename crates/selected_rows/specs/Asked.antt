@@ -12,7 +12,7 @@ use Rattle.compiled_paths.specs.declared.CompiledPaths.{CompiledPaths}
 use Rattle.marks.specs.Selection.{selectColumns, parentsOf, numbersOf}
 use Rattle.path_spec.specs.Paths.{LocationPath}
 use Rattle.path_spec.specs.Selection.{selectRows}
-use Rattle.projection_spec.specs.Library.Selections.{askedPaths, selections}
+use Rattle.library_spec.specs.Selections.{askedPaths, selections}
 use Rattle.schema_spec.specs.Types.{Types}
 use Rattle.select.specs.Paths.{pathIn, pathsFrom}
 use Rattle.select_paths.specs.Joined.{itemsOf, countsOf}

@@ -15,7 +15,7 @@ use Rattle.names.specs.Sets.{member, setOf, everyName}
 use Rattle.names.specs.declared.NameSet.{NameSet}
 use Rattle.path_spec.specs.Paths.{Axis, self, child, descendant, descendantOrSelf, parent, ancestor, ancestorOrSelf, NodeTest, named, anyNode, anyText}
 use Rattle.path_spec.specs.Selection.{passes}
-use Rattle.projection_spec.specs.Inference.Types.{Env, env, heldBy, holding, allBelow, allAbove, unionOf, cutTo, move, narrow}
+use Rattle.inference_spec.specs.Types.{Env, env, heldBy, holding, allBelow, allAbove, unionOf, cutTo, move, narrow}
 use Rattle.schema_laws.specs.Names.{has-in, in-has}
 use Rattle.schema_spec.specs.Names.{Name, Names, element, text, sameName, has, within, namesOf}
 use Rattle.schema_spec.specs.Schemas.{Schema}

@@ -7,7 +7,7 @@ use lib.ListN.{length}
 use Rattle.closures.specs.Schemas.{RelationOf}
 use Rattle.names.specs.Sets.{member, setOf}
 use Rattle.names.specs.declared.NameSet.{NameSet}
-use Rattle.projection_spec.specs.Inference.Types.{Env, env}
+use Rattle.inference_spec.specs.Types.{Env, env}
 use Rattle.schema_laws.specs.Closure.{Closed}
 use Rattle.schema_spec.specs.Names.{Name, Names, has, namesOf}
 use Rattle.schema_spec.specs.Schemas.{Schema}

@@ -3,7 +3,7 @@ ghost use mathlib.Core.Path.{_≡_};
 ghost use Prim.Native.Nat.{ℕ};
 ghost use Rattle.path_spec.specs.Selection.{passes};
 ghost use Rattle.path_spec.specs.Paths.{NodeTest, named, anyText, child, descendant, descendantOrSelf, parent, ancestor, ancestorOrSelf};
-ghost use Rattle.projection_spec.specs.Inference.Types.{heldBy, holding, allBelow, allAbove, unionOf, cutTo, move, narrow};
+ghost use Rattle.inference_spec.specs.Types.{heldBy, holding, allBelow, allAbove, unionOf, cutTo, move, narrow};
 ghost use Rattle.schema_spec.specs.Names.{within};
 ghost use Rattle.schema_spec.specs.Schemas.{Schema};
 ghost use Rattle.schema_spec.specs.Types.{typesOf};

@@ -1,7 +1,7 @@
 -- `back_steps::or_below` meets its contract.
 use mathlib.Core.Path.{ap, _∙_}
 use borrow.Author.Needs.{needs}
-use Rattle.projection_spec.specs.Inference.Types.{unionOf}
+use Rattle.inference_spec.specs.Types.{unionOf}
 use Rattle.schema_spec.specs.Types.{typesOf}
 use Rattle.type_steps.specs.Relations.{setIn}
 use Rattle.back_steps.proofs.or_below.Statement.{statement}

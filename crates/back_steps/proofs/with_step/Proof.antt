@@ -3,7 +3,7 @@ use mathlib.Core.Path.{refl}
 use mathlib.Core.List.{_++_}
 use borrow.Author.Needs.{needs}
 use Rattle.back_steps.specs.Laws.{setIn-within}
-use Rattle.projection_spec.specs.Inference.Needed.{between}
+use Rattle.inference_spec.specs.Needed.{between}
 use Rattle.schema_spec.specs.Types.{typesOf}
 use Rattle.compiled_paths.specs.Columns.{axisOf}
 use Rattle.type_steps.specs.Relations.{setIn}

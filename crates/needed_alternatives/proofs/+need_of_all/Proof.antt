@@ -7,7 +7,7 @@ use Rattle.compiled_paths.specs.Columns.{plainIn, alternativesIn, alternatives-
 use Rattle.needed_alternatives.specs.Alternatives.{needOfAll}
 use Rattle.needed_alternatives.specs.Laws.{alternative-steps, alternatives-after, need-one-and-rest}
 use Rattle.path_spec.specs.Paths.{PlainStep, expand}
-use Rattle.projection_spec.specs.Inference.Needed.{keepsAll, wantsNothing, need}
+use Rattle.inference_spec.specs.Needed.{keepsAll, wantsNothing, need}
 use Rattle.schema_spec.specs.Names.{namesOf, within}
 use Rattle.schema_spec.specs.Types.{typesOf}
 use Rattle.type_steps.specs.Relations.{envIn}

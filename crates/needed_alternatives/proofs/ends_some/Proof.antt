@@ -3,7 +3,7 @@ use mathlib.Core.Bool.{not}
 use mathlib.Core.Path.{ap, _∙_}
 use borrow.Author.Needs.{needs}
 use Rattle.needed_alternatives.specs.Laws.{overlap-some-setIn}
-use Rattle.projection_spec.specs.Inference.Types.{Env}
+use Rattle.inference_spec.specs.Types.{Env}
 use Rattle.text_spec.specs.Lists.{isEmpty}
 use Rattle.needed_alternatives.proofs.ends_some.Statement.{statement}
 use Rattle.needed_alternatives.proofs.ends_some.Tie as tie

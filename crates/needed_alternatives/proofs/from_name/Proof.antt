@@ -3,7 +3,7 @@ use mathlib.Core.Path.{ap, ap₂, _∙_}
 use borrow.Author.Needs.{needs}
 use Rattle.name_codes.specs.Laws.{single-list}
 use Rattle.name_codes.specs.Codes.{nameOfCode}
-use Rattle.projection_spec.specs.Inference.Types.{env, cutTo}
+use Rattle.inference_spec.specs.Types.{env, cutTo}
 use Rattle.schema_spec.specs.Names.{Names}
 use Rattle.schema_spec.specs.Types.{typesOf}
 use Rattle.type_steps.specs.Relations.{setIn}

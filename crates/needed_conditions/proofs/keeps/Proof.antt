@@ -7,7 +7,7 @@ use Rattle.compiled_paths.specs.Columns.{alternativesIn}
 use Rattle.path_spec.specs.Paths.{alternatives}
 use Rattle.needed_alternatives.specs.Alternatives.{anyEndsSome}
 use Rattle.needed_conditions.specs.Conditions.{keepsIn}
-use Rattle.projection_spec.specs.Inference.Types.{Env}
+use Rattle.inference_spec.specs.Types.{Env}
 use Rattle.needed_conditions.proofs.keeps.Statement.{statement}
 use Rattle.needed_conditions.proofs.keeps.Tie as tie
 

@@ -8,7 +8,7 @@ use Rattle.path_spec.specs.Paths.{alternatives}
 use Rattle.needed_alternatives.specs.Alternatives.{needOfAll}
 use Rattle.needed_conditions.specs.Conditions.{wantsIn}
 use Rattle.back_steps.specs.Laws.{within-member}
-use Rattle.projection_spec.specs.Inference.Types.{Env}
+use Rattle.inference_spec.specs.Types.{Env}
 use Rattle.schema_spec.specs.Names.{has}
 use Rattle.text_laws.specs.Tests.{passed}
 use Rattle.type_steps.specs.Relations.{envIn}

@@ -3,7 +3,7 @@ use mathlib.Core.Path.{_∙_}
 use borrow.Author.Needs.{needs}
 use Rattle.compiled_paths.specs.Paths.{pathsIn}
 use Rattle.needed_names.specs.Words.{word-of-known}
-use Rattle.projection_spec.specs.Inference.Needed.{needed, neededWord}
+use Rattle.inference_spec.specs.Needed.{needed, neededWord}
 use Rattle.schema_spec.specs.Types.{typesOf}
 use Rattle.needed_names.proofs.needed_word.Statement.{statement}
 use Rattle.needed_names.proofs.needed_word.Tie as tie

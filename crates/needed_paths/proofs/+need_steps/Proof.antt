@@ -7,7 +7,7 @@ use Rattle.back_steps.specs.Needs.{NeedsOf}
 use Rattle.compiled_paths.specs.Columns.{steps-none}
 use Rattle.needed_paths.specs.Laws.{first-step, later-steps, needs-written-step}
 use Rattle.path_spec.specs.Paths.{WrittenStep, Condition, unconditional, expandFrom}
-use Rattle.projection_spec.specs.Inference.Needed.{keepsName, wantsNames}
+use Rattle.inference_spec.specs.Needed.{keepsName, wantsNames}
 use Rattle.schema_spec.specs.Types.{typesOf}
 use Rattle.type_steps.specs.Relations.{envIn}
 use borrow.Author.Needs.{needs}

@@ -3,8 +3,8 @@ use mathlib.Core.Path.{ap, ap₂, _∙_}
 use borrow.Author.Needs.{needs}
 use Rattle.compiled_paths.specs.Columns.{stepsIn}
 use Rattle.path_spec.specs.Paths.{unconditional, expand}
-use Rattle.projection_spec.specs.Inference.Needed.{keepsName, wantsNames, need, fromRoot, neededBeforeFilter, neededByPath}
-use Rattle.projection_spec.specs.Inference.Types.{Env, env}
+use Rattle.inference_spec.specs.Needed.{keepsName, wantsNames, need, fromRoot, neededBeforeFilter, neededByPath}
+use Rattle.inference_spec.specs.Types.{Env, env}
 use Rattle.schema_spec.specs.Types.{typesOf}
 use Rattle.type_steps.specs.Relations.{setIn}
 use Rattle.needed_paths.proofs.path_needed.Statement.{statement}

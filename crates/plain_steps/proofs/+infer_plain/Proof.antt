@@ -14,8 +14,8 @@ use Rattle.plain_steps.proofs.+infer_plain.Tie.{close}
 use Rattle.compiled_paths.specs.Columns.{plain-none}
 use Rattle.path_spec.specs.Paths.{PlainStep, expandFrom}
 use Rattle.plain_steps.specs.Laws.{infer-plain-step}
-use Rattle.projection_spec.specs.Inference.Needed.{keepsAll}
-use Rattle.projection_spec.specs.Inference.Types.{inferAll}
+use Rattle.inference_spec.specs.Needed.{keepsAll}
+use Rattle.inference_spec.specs.Types.{inferAll}
 use Rattle.schema_spec.specs.Types.{typesOf}
 use Rattle.type_steps.specs.Relations.{envIn}
 

@@ -18,7 +18,7 @@ use Rattle.plain_steps.specs.Laws.{needs-plain-step}
 use Rattle.back_steps.specs.Laws.{needs-last}
 use Rattle.back_steps.specs.Needs.{NeedsOf}
 use Rattle.compiled_paths.specs.Columns.{plain-none}
-use Rattle.projection_spec.specs.Inference.Needed.{keepsAll, wantsNothing}
+use Rattle.inference_spec.specs.Needed.{keepsAll, wantsNothing}
 use Rattle.type_steps.specs.Relations.{envIn}
 
 abbrev μ-need-plain : Measures 3 need-plain-kinds.ps ℕ

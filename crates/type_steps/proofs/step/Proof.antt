@@ -2,7 +2,7 @@
 use mathlib.Core.Path.{ap, _∙_}
 use borrow.Author.Needs.{needs}
 use Rattle.path_spec.specs.Selection.{passes}
-use Rattle.projection_spec.specs.Inference.Types.{Env, narrow}
+use Rattle.inference_spec.specs.Types.{Env, narrow}
 use Rattle.schema_spec.specs.Types.{typesOf}
 use Rattle.type_steps.specs.Laws.{narrow-parts, tested-filter}
 use Rattle.compiled_paths.specs.Columns.{testOf}

@@ -1,0 +1,5 @@
+pub mod Cut
+pub mod Fields
+pub mod Reading
+pub mod Conditions
+pub mod Cases

@@ -1,0 +1,1 @@
+// Cases alone: they stand in specs/.

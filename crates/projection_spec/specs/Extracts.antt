@@ -1,4 +1,0 @@
-pub mod Cut
-pub mod Fields
-pub mod Reading
-pub mod Conditions

@@ -1,4 +1,0 @@
-pub mod Types
-pub mod Rules
-pub mod Needed
-pub mod Walks

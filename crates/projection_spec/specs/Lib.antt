@@ -1,4 +1,0 @@
-pub mod Inference
-pub mod Extracts
-pub mod Library
-pub mod Cases
