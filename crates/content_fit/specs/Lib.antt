@@ -1,0 +1,3 @@
+pub mod Fillings
+pub mod FillingLaws
+pub mod Entries
