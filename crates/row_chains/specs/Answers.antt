@@ -1,12 +1,11 @@
 -- A chain answered in lent cells: its bytes and then zeros, or refusal 18 and zeros alone.
-use mathlib.Core.Bool.{Bool, true, false, cond}
+use mathlib.Core.Bool.{Bool, true, false}
 use mathlib.Core.List.{List, [], _++_}
 use mathlib.Core.Path.{_≡_, refl, sym, ap, _∙_}
 use Prim.Native.Nat.{ℕ, _+_, _≤_, _<_}
 use native.Mathlib.Omega.{arith}
 use borrow.Author.Tests.{lt-ltb, le-ltb}
-use lib.Dec.{ltb}
-use lib.ListN.{length, getD, take, drop, List·getD-append}
+use lib.ListN.{length, getD, drop, List·getD-append}
 use lib.Seq.{sets, length-sets, sets-eq}
 use Rattle.row_chains.specs.Chains.{chainAt, chainSize, NamesAt, Chained, chain-length}
 use Rattle.row_chains.specs.declared.ChainAnswer.{ChainAnswer}
