@@ -1,2 +1,5 @@
 pub mod Order
 pub mod Limits
+pub mod Names
+pub mod Columns
+pub mod Filled

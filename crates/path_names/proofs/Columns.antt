@@ -10,8 +10,10 @@ use borrow.Author.Tests.{eq-eqb, ne-eqb, lt-ltb, le-ltb}
 use lib.Dec.{eqb, ltb}
 use lib.ListN.{length, take, set, getD, length-map}
 use lib.Seq.{sets, take-suc, length-take-le, length-sets, take-length}
+use Rattle.path_names.specs.Columns.{map-next, column-next}
 use Rattle.path_names.specs.Steps.{lastCode, codes, nameRange, rangeOf, earliest, earliestOf, axisCell, lowCell, highCell, lostCell, Compiled}
 use Rattle.path_names.specs.declared.Range.{Range}
+use Rattle.path_steps.specs.Readings.{axisCount}
 use Rattle.schema_names.specs.NameLaws.{found-one, found-none}
 use Rattle.schema_spec.specs.Schemas.{indexFrom}
 use Rattle.text_laws.specs.Cells.{sets-append}
@@ -70,18 +72,6 @@ earliest-more : (a : ℕ) (xs : List ℕ) (x : ℕ) → earliestOf a (xs ++ (x �
 earliest-more a [] x = refl
 earliest-more a (y ∷ xs) x = earliest-more (earliest a y) xs x
 
-module _ (f : ℕ → ℕ) (cells : List ℕ) (i : ℕ) (h : i < length cells) where
-  map-next : map f (take (i + 1) cells) ≡ map f (take i cells) ++ (f (getD cells i 0) ∷ [])
-  map-next = ap (λ (n : ℕ). map f (take n cells)) (add-one i) ∙ ap (map f) (take-suc cells i 0 h) ∙ map-append f (take i cells) (getD cells i 0 ∷ [])
-
-  column-next : (column column′ : List ℕ) (at : ℕ) → column′ ≡ sets column at (map f (take i cells))
-      → set column′ (at + i) (f (getD cells i 0)) ≡ sets column at (map f (take (i + 1) cells))
-  column-next column column′ at e =
-      let l : i ≡ length (map f (take i cells)) = sym (length-map (take i cells) f ∙ length-take-le i cells (omega arith)) in
-      ap (λ (c : List ℕ). set c (at + i) (f (getD cells i 0))) e
-      ∙ ap (λ (n : ℕ). set (sets column at (map f (take i cells))) (at + n) (f (getD cells i 0))) l
-      ∙ sym (sets-append column at (map f (take i cells)) (f (getD cells i 0) ∷ [])) ∙ ap (sets column at) (sym map-next)
-
 pub compiled-sizes : {names : List (List ℕ)} {text cells : List ℕ} {at : ℕ} {axes axes′ lows lows′ highs highs′ : List ℕ} {lost least : ℕ}
     → Compiled names text cells at axes axes′ lows lows′ highs highs′ lost least
     → (length axes′ ≡ length axes) × (length lows′ ≡ length lows) × (length highs′ ≡ length highs)
@@ -100,7 +90,7 @@ module _ (names : List (List ℕ)) (text cells : List ℕ) (at : ℕ) (axes lows
         let e : i ≡ length cells = omega arith in
         subst (λ (l : List ℕ). Compiled names text l at axes axes′ lows lows′ highs highs′ lost least) (ap (λ (n : ℕ). take n cells) e ∙ take-length cells) C
 
-    pub compiled-next : i < length cells → {r : Range} → r ≡ rangeOf names text (getD cells i 0 / 8) → {least′ : ℕ} → least′ ≡ earliest least (r .lost)
+    pub compiled-next : i < length cells → {r : Range} → r ≡ rangeOf names text (getD cells i 0 / axisCount) → {least′ : ℕ} → least′ ≡ earliest least (r .lost)
         → CompiledTo (i + 1) (set axes′ (at + i) (axisCell (getD cells i 0))) (set lows′ (at + i) (r .low)) (set highs′ (at + i) (r .high)) least′
     compiled-next h {r} e {least′} d =
         record {

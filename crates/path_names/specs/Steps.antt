@@ -8,6 +8,7 @@ use Prim.Native.Nat.{ℕ, _+_, _-_, _/_, _%_}
 use lib.Dec.{eqb, ltb}
 use lib.Seq.{sets}
 use Rattle.path_names.specs.declared.Range.{Range}
+use Rattle.path_steps.specs.Readings.{axisCount}
 use Rattle.schema_spec.specs.Schemas.{indexFrom}
 use Rattle.text_spec.specs.Limits.{maxDeclarations}
 use Rattle.text_spec.specs.Scans.{nameAt}
@@ -40,17 +41,17 @@ earliestOf a (x ∷ xs) = earliestOf (earliest a x) xs
 
 -- what is written of a step by its number
 abbrev pub axisCell : ℕ → ℕ
-axisCell c = c % 8
+axisCell c = c % axisCount
 
 module _ (names : List (List ℕ)) (text : List ℕ) where
   abbrev pub lowCell : ℕ → ℕ
-  lowCell c = rangeOf names text (c / 8) .low
+  lowCell c = rangeOf names text (c / axisCount) .low
 
   abbrev pub highCell : ℕ → ℕ
-  highCell c = rangeOf names text (c / 8) .high
+  highCell c = rangeOf names text (c / axisCount) .high
 
   abbrev pub lostCell : ℕ → ℕ
-  lostCell c = rangeOf names text (c / 8) .lost
+  lostCell c = rangeOf names text (c / axisCount) .lost
 
   pub record Compiled (cells : List ℕ) (at : ℕ) (axes axes′ lows lows′ highs highs′ : List ℕ) (lost r : ℕ) : Type 0 where
     pub wrote-axes : axes′ ≡ sets axes at (map axisCell cells)
