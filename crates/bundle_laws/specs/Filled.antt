@@ -126,9 +126,9 @@ pub record Noted (ls : List LineCells) (outers cells paths conditions ways : Lis
   pub few : Few ls
   pub outers-are : outers ≡ outerCells (allSteps ls)
   pub cells-are : cells ≡ cellsOf (allPaths (allSteps ls))
-  pub paths-are : paths ≡ sets (replicate (suc maxPaths) 0) 1 (pathEnds 0 ls)
-  pub conditions-are : conditions ≡ sets (replicate (suc writtenSteps) 0) 1 (conditionEnds 0 (allSteps ls))
-  pub ways-are : ways ≡ sets (replicate (suc allAlternatives) 0) 1 (endsFrom 0 (allPaths (allSteps ls)))
+  pub paths-are : paths ≡ sets (replicate (maxPaths + 1) 0) 1 (pathEnds 0 ls)
+  pub conditions-are : conditions ≡ sets (replicate (writtenSteps + 1) 0) 1 (conditionEnds 0 (allSteps ls))
+  pub ways-are : ways ≡ sets (replicate (allAlternatives + 1) 0) 1 (endsFrom 0 (allPaths (allSteps ls)))
 
 module _ {ls : List LineCells} {outers cells paths conditions ways : List ℕ} (N : Noted ls outers cells paths conditions ways) where
   outers-count : length outers ≡ length (allSteps ls)
@@ -258,7 +258,7 @@ first-cells n k xs e h =
     ap (take k) (sets-eq xs (replicate n 0) 0 z) ∙ take-at xs (drop (0 + length xs) (replicate n 0)) k (omega arith)
 
 module _ {text outers conditions paths cells ways : List ℕ} {c : Bundled}
-    (R : BundleRead text (replicate writtenSteps 0) outers (replicate (suc writtenSteps) 0) conditions (replicate (suc maxPaths) 0) paths (replicate innerSteps 0) cells (replicate (suc allAlternatives) 0) ways c)
+    (R : BundleRead text (replicate writtenSteps 0) outers (replicate (writtenSteps + 1) 0) conditions (replicate (maxPaths + 1) 0) paths (replicate innerSteps 0) cells (replicate (allAlternatives + 1) 0) ways c)
     (short : length text ≤ maxBundleBytes) (within : c .over ≡ 0) where
   read-few : Few (R .lines)
   read-few = all-few text (R .lines) short (R .spelt) (sym (R .limit) ∙ within)

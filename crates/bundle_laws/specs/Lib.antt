@@ -3,3 +3,4 @@ pub mod Limits
 pub mod Names
 pub mod Columns
 pub mod Filled
+pub mod Texts

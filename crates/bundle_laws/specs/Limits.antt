@@ -2,12 +2,12 @@
 use mathlib.Core.Bool.{Bool, true, false, cond, _||_}
 use mathlib.Core.List.{List, [], _∷_, _++_, map, append-assoc, List·Memᴰ as In, List·Memᴰ·head as here, List·Memᴰ·tail as there}
 use mathlib.Core.Path.{_≡_, refl, sym, ap, subst, _∙_}
-use Prim.Native.Nat.{ℕ, suc, _+_, _*_, _≤_}
+use Prim.Native.Nat.{ℕ, suc, _+_, _*_, _≤_, _<_}
 use native.Mathlib.Omega.{arith}
 use borrow.Author.Tests.{leb-false, ltb-false}
 use lib.Dec.{leb, ltb}
 use lib.ListN.{length, length-append, length-map}
-use Rattle.bundle_laws.specs.Order.{Least}
+use Rattle.bundle_laws.specs.Order.{Later, later-none, later-all, later-append, Least}
 use Rattle.bundle_paths.specs.Readings.{LineCells, pathNoted, allSteps, firstOver}
 use Rattle.compiled_paths.specs.Sizes.{writtenSteps, allAlternatives, innerSteps, stepsOfAll, bracketedSteps, stepsOf, steps-few}
 use Rattle.path_conditions.specs.Laws.{cells-append}
@@ -24,7 +24,7 @@ use Rattle.text_laws.specs.Tests.{or-false, never}
 use Rattle.text_spec.specs.Limits.{maxSteps, maxAlternatives, maxPaths, maxPathBytes, maxBundleBytes}
 use Rattle.text_spec.specs.Lists.{anyOf, gather}
 use Rattle.text_spec.specs.Machines.{spells}
-use Rattle.text_spec.specs.Refusals.{Refusal, at, given, overPathLimit}
+use Rattle.text_spec.specs.Refusals.{Reason, numberOf, Refusal, at, given, overPathLimit}
 
 -- ---- paths stand one after the other
 abbrev Rising : ℕ → List PathRead → Type 0
@@ -82,6 +82,14 @@ limits-none i (p ∷ ps) e = pick (passesLimit i p) (limits-none (suc i) ps) e
         → given b (at overPathLimit (p .place)) ++ limitRefusals (suc i) ps ≡ []
     pick true h f = absurd (omega arith)
     pick false h f = h f
+
+pub limits-later : (r : Reason) → numberOf r < numberOf overPathLimit → (i : ℕ) (ps : List PathRead) → Later r (limitRefusals i ps)
+limits-later r h i [] = later-none r
+limits-later r h i (p ∷ ps) = later-append r (given (passesLimit i p) (at overPathLimit (p .place))) (limitRefusals (suc i) ps) (one (passesLimit i p)) (limits-later r h (suc i) ps)
+  where
+    one : (b : Bool) → Later r (given b (at overPathLimit (p .place)))
+    one true = later-all r overPathLimit (p .place ∷ []) h
+    one false = later-none r
 
 module _ (text : List ℕ) (ps : List PathRead) (e : parse text ≡ spells ps) where
   pub over-first : (m : ℕ) → firstOver 0 ps ≡ m + 1 → Least overPathLimit m (limitRefusals 0 ps)

@@ -208,13 +208,14 @@ module _ (text : List ℕ) where
           in-gather stepUses (b .1) (append-right (cellUses (b .0 .cell)) (in-gather (gather cellUses) (b .2) (in-gather cellUses (a .2) m)))
 
 -- ---- refusals of 10
+-- one more than the least place, or 0
+abbrev pub lostPlace : List (List ℕ) → List ℕ → List LineCells → ℕ
+lostPlace names text ls =
+    earliestOf (earliestOf 0 (map (lostCell names text) (outerCells (allSteps ls)))) (map (lostCell names text) (cellsOf (allPaths (allSteps ls))))
+
 module _ (names : List (List ℕ)) (text : List ℕ) (s : Schema) (e : names ≡ map (λ x. x .name) s) (ls : List LineCells) where
   abbrev places : List ℕ
   places = undeclaredPlaces s (map (pathNoted text) ls)
-
-  -- one more than the least place, or 0
-  abbrev pub lostPlace : ℕ
-  lostPlace = earliestOf (earliestOf 0 (map (lostCell names text) (outerCells (allSteps ls)))) (map (lostCell names text) (cellsOf (allPaths (allSteps ls))))
 
   unknown-as : (u : Use) → elementNamed s (u .name) ≡ indexFrom 0 (u .name) names
   unfolding elementNamed
@@ -231,7 +232,7 @@ module _ (names : List (List ℕ)) (text : List ℕ) (s : Schema) (e : names ≡
       let b = filter-in (λ (v : Use). isNone (elementNamed s (v .name))) (gather (λ p. pathUses (p .path)) (map (pathNoted text) ls)) (a .1) in
       (a .0, subst (In (a .0)) (all-uses text ls) (b .0), a .2, sym (unknown-as (a .0)) ∙ is-none (elementNamed s (a .0 .name)) (b .1))
 
-  lost-least : LeastOf (0 ∷ map (lostCell names text) (outerCells (allSteps ls) ++ cellsOf (allPaths (allSteps ls)))) lostPlace
+  lost-least : LeastOf (0 ∷ map (lostCell names text) (outerCells (allSteps ls) ++ cellsOf (allPaths (allSteps ls)))) (lostPlace names text ls)
   lost-least =
       subst (LeastOf (0 ∷ map (lostCell names text) (outerCells (allSteps ls) ++ cellsOf (allPaths (allSteps ls)))))
       (ap (earliestOf 0) (map-append (lostCell names text) (outerCells (allSteps ls)) (cellsOf (allPaths (allSteps ls))))
@@ -239,23 +240,23 @@ module _ (names : List (List ℕ)) (text : List ℕ) (s : Schema) (e : names ≡
       (least-of 0 (map (lostCell names text) (outerCells (allSteps ls) ++ cellsOf (allPaths (allSteps ls)))))
 
   -- a listed place is one of those found
-  found-low : (k : ℕ) → In k places → (lostPlace ≡ 0 → ⊥) × (lostPlace ≤ k + 1)
+  found-low : (k : ℕ) → In k places → (lostPlace names text ls ≡ 0 → ⊥) × (lostPlace names text ls ≤ k + 1)
   found-low k i =
       let a = in-place k i in
       let b = use-of-cell text (allSteps ls) (a .0) (a .1) in
       let l = use-lost names text (b .0) (a .0) (b .2) (a .3) in
       let q = a .2 in
       let z : lostCell names text (b .0) ≡ k + 1 = l ∙ ap (λ (n : ℕ). n + 1) (sym q) in
-      subst (λ (n : ℕ). (lostPlace ≡ 0 → ⊥) × (lostPlace ≤ n)) z
+      subst (λ (n : ℕ). (lostPlace names text ls ≡ 0 → ⊥) × (lostPlace names text ls ≤ n)) z
       (lost-least .low (lostCell names text (b .0)) (there (in-map (lostCell names text) (b .1))) (λ n. absurd (omega arith)))
 
-  pub lost-none : lostPlace ≡ 0 → places ≡ []
+  pub lost-none : lostPlace names text ls ≡ 0 → places ≡ []
   lost-none z = memberless places (λ k i. found-low k i .0 z)
 
-  pub lost-first : (m : ℕ) → lostPlace ≡ m + 1 → Least undeclaredInPath m (allAt undeclaredInPath places)
+  pub lost-first : (m : ℕ) → lostPlace names text ls ≡ m + 1 → Least undeclaredInPath m (allAt undeclaredInPath places)
   lost-first m z = least-all undeclaredInPath m places (go (lost-least .member)) (λ k i. let h = found-low k i .1 in omega arith)
     where
-      go : In lostPlace (0 ∷ map (lostCell names text) (outerCells (allSteps ls) ++ cellsOf (allPaths (allSteps ls)))) → In m places
+      go : In (lostPlace names text ls) (0 ∷ map (lostCell names text) (outerCells (allSteps ls) ++ cellsOf (allPaths (allSteps ls)))) → In m places
       go (here f) = absurd (omega arith)
       go (there i) =
           let a = map-in (lostCell names text) (outerCells (allSteps ls) ++ cellsOf (allPaths (allSteps ls))) i in

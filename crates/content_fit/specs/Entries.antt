@@ -2,9 +2,9 @@
 use Prim.Native.Nat.{_≤_}
 use native.Mathlib.Omega.{arith}
 use lib.ListN.{length}
-use Rattle.compiled_schema.specs.Automata.{entries-automaton}
-use Rattle.compiled_schema.specs.Compiled.{EntriesOf}
-use Rattle.compiled_schema.specs.declared.Entries.{Entries}
+use Rattle.schema_entries.specs.Automata.{entries-automaton}
+use Rattle.schema_entries.specs.Columns.{EntriesOf}
+use Rattle.schema_entries.specs.declared.Entries.{Entries}
 use Rattle.content_fit.specs.Fillings.{KindsOf, Sized, ModelsOf}
 use Rattle.schema_elements.specs.EntryLaws.{entry-size}
 use Rattle.schema_spec.specs.Schemas.{Schema}

@@ -19,7 +19,7 @@ use Rattle.fitting.specs.declared.State.{State}
 use Rattle.fitting.specs.declared.State.the-variants.{Start, Amid}
 use Rattle.schema_spec.specs.Models.{Particle, Content, empty, pcdata, children, advance, complete}
 use Rattle.schema_spec.specs.Schemas.{Schema, contentAt}
-use Rattle.compiled_schema.specs.Compiled.{cellsAt, endsAt}
+use Rattle.schema_entries.specs.Columns.{cellsAt, endsAt}
 use Rattle.schema_elements.specs.Entries.{kindOf, emptyKind}
 
 module _ (s : Schema) where

@@ -6,7 +6,7 @@ use mathlib.Core.Path.{_≡_}
 use Prim.Native.Nat.{ℕ, _≤_, _<_}
 use lib.Dec.{eqb}
 use lib.ListN.{length, getD}
-use Rattle.compiled_schema.specs.Compiled.{cellsAt, endsAt}
+use Rattle.schema_entries.specs.Columns.{cellsAt, endsAt}
 use Rattle.content_fit.specs.declared.FillingState.{FillingState}
 use Rattle.fitting.specs.Fitting.{progressOf}
 use Rattle.fitting.specs.declared.State.{State}

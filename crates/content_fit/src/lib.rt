@@ -5,17 +5,17 @@ ghost use mathlib.Core.Option.{Option};
 ghost use mathlib.Core.Path.{_≡_};
 ghost use Prim.Native.Nat.{ℕ, _≤_, _<_};
 ghost use lib.Dec.{ltb};
-ghost use Rattle.compiled_schema.specs.Compiled.{cellsAt, endsAt};
+ghost use Rattle.schema_entries.specs.Columns.{cellsAt, endsAt};
 ghost use Rattle.content_fit.specs.Fillings.{filling, misfitKind, stateIn, isChildren, StateOf, Found, KindsOf, ModelsOf, Sized, advancedTo};
 ghost use Rattle.fitting.specs.Steps.{Stepped};
 ghost use Rattle.journal_spec.specs.Builder.{Filling, fillingFor, withChild, withRun, fitsAtEnd};
 ghost use Rattle.schema_spec.specs.Schemas.{Schema};
 ghost use Rattle.text_spec.specs.Limits.{maxDeclarations, maxModelNames};
-use compiled_schema::MAX_CELLS;
 use fitting::State;
 use models::Ends;
 use models::MAX_POSITIONS;
 use names::MAX_ELEMENTS;
+use schema_entries::MAX_CELLS;
 
 // The kinds of content, as words: those of schema_elements, of which CHILDREN has no child yet, and three more.
 pub const EMPTY: u64 = 0;

@@ -17,7 +17,6 @@ ghost use Rattle.text_spec.specs.Limits.{maxDepth};
 ghost use Rattle.text_spec.specs.Lists.{isNone};
 use build_state::Build;
 use build_state::BuildStep;
-use compiled_schema::MAX_CELLS;
 use fault_keys::BAD_NESTING;
 use fault_keys::OVER_DEPTH;
 use name_words::Name;
@@ -26,6 +25,7 @@ use open_levels::LEVELS;
 use open_levels::Level;
 use open_levels::MAX_DEPTH;
 use row_columns::RowCells;
+use schema_entries::MAX_CELLS;
 
 // The row of the innermost open element, or 0.
 fn parent_row(levels: &[u64; LEVELS], d: usize) -> u64

@@ -2,7 +2,7 @@ use mathlib.Core.Path.{_≡_, subst}
 use Prim.Native.Nat.{ℕ, _+_, _-_, _*_}
 use native.Mathlib.Omega.{arith}
 use denote.Ref.{now}
-use Rattle.compiled_schema.specs.Compiled.{cellsAt}
+use Rattle.schema_entries.specs.Columns.{cellsAt}
 use Rattle.fitting.specs.Steps.{Stepped}
 use Rattle.models.specs.declared.Ends.{Ends}
 use Rattle.text_spec.specs.Limits.{maxModelNames}
