@@ -1,0 +1,5 @@
+pub mod State
+pub mod StateLaws
+pub mod Starts
+pub mod Ends
+pub mod Runs

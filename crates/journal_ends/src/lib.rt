@@ -1,0 +1,108 @@
+// End tags and runs of character data: the end of the innermost open element, its text; refusals 12, 15 and 16 there.
+ghost use mathlib.Core.Bool.{true};
+ghost use mathlib.Core.List.{List};
+ghost use mathlib.Core.Path.{_≡_};
+ghost use Prim.Native.Nat.{ℕ, _≤_, _<_};
+ghost use lib.ListN.{length};
+ghost use Rattle.build_state.specs.Starts.{isInnermost};
+ghost use Rattle.build_state.specs.State.{Safe, Built, Leaves, SafeStep, outsideBy, placeIn};
+ghost use Rattle.content_fit.specs.Fillings.{ModelsOf};
+ghost use Rattle.fault_keys.specs.Keys.{placeLimit};
+ghost use Rattle.journal_spec.specs.Builder.{Building, onEnd, onRun};
+ghost use Rattle.journal_spec.specs.Lexer.{run};
+ghost use Rattle.name_words.specs.Words.{Spells};
+ghost use Rattle.schema_spec.specs.Schemas.{Schema};
+ghost use Rattle.text_spec.specs.Limits.{maxDeclarations, maxDepth};
+ghost use Rattle.text_spec.specs.Lists.{isNone};
+use build_state::Build;
+use build_state::BuildStep;
+use content_fit::PCDATA;
+use fault_keys::BAD_NESTING;
+use name_words::Name;
+use names::MAX_ELEMENTS;
+use open_levels::LEVELS;
+use row_columns::RowCells;
+
+// No place.
+pub const NO_PLACE: u32 = 4294967295;
+
+// The innermost open element ends.
+pub fn close(
+    firsts: &[u64; MAX_ELEMENTS],
+    lasts: &[u64; MAX_ELEMENTS],
+    nullables: &[bool; MAX_ELEMENTS],
+    levels: &[u64; LEVELS],
+    m: Build,
+) -> Build
+    requires { ⌜ (0 < m .depth) × (m .depth ≤ maxDepth) ⌝ }
+    ensures { λ r. ⌜ (r .depth ≤ m .depth) × (r .count ≡ m .count) × ((s : Schema) (b : Building) (n : List ℕ) (k : ℕ) (elements predecessors sizes : List ℕ) → ModelsOf s (now (firsts .entry)) (now (lasts .entry)) (now (nullables .entry)) elements predecessors sizes → isInnermost (b .opens) n ≡ true → isNone (b .broken) ≡ true → Built s (now (levels .entry)) m b → Built s (now (levels .entry)) r (onEnd n k b)) ⌝ }
+{
+    let level = open_levels::load(levels, m.depth);
+    let filling = level.filling;
+    let fits = content_fit::fits_at_end(firsts, lasts, nullables, filling);
+    build_state::without_element(m, fits, level.place)
+}
+
+// Whether an end tag with this name ends the innermost open element, declared or not.
+fn is_own_name(levels: &[u64; LEVELS], d: usize, name: Name) -> bool
+    requires { ⌜ d ≤ maxDepth ⌝ }
+    ensures { λ r. ⌜ ((s : Schema) (b : Building) (m : Build) (n : List ℕ) → d ≡ m .depth → (d ≡ 0 → ⊥) → Spells name n → Built s (now (levels .entry)) m b → r ≡ isInnermost (b .opens) n) ⌝ }
+{
+    let level = open_levels::load(levels, d);
+    let own = level.name;
+    name.same(own)
+}
+
+// An end tag.
+pub fn on_end(
+    firsts: &[u64; MAX_ELEMENTS],
+    lasts: &[u64; MAX_ELEMENTS],
+    nullables: &[bool; MAX_ELEMENTS],
+    levels: &[u64; LEVELS],
+    m: Build,
+    name: Name,
+    at: u32,
+) -> Build
+    requires { ⌜ m .depth ≤ maxDepth ⌝ }
+    ensures { λ r. ⌜ (r .depth ≤ m .depth) × (r .count ≡ m .count) × ((s : Schema) (b : Building) (n : List ℕ) (elements predecessors sizes : List ℕ) → ModelsOf s (now (firsts .entry)) (now (lasts .entry)) (now (nullables .entry)) elements predecessors sizes → Spells name n → isNone (b .broken) ≡ true → Built s (now (levels .entry)) m b → Built s (now (levels .entry)) r (onEnd n at b)) ⌝ }
+{
+    let d = m.depth;
+    if d == 0 {
+        return build_state::broken(m, BAD_NESTING, at);
+    }
+    if is_own_name(levels, d, name) {
+        return close(firsts, lasts, nullables, levels, m);
+    }
+    build_state::broken(m, BAD_NESTING, at)
+}
+
+// A run of character data outside the root, which may be only blanks.
+fn outside(m: Build, solid: u32) -> Build
+    ensures { λ r. ⌜ r ≡ outsideBy solid m ⌝ }
+{
+    if solid == NO_PLACE {
+        return m;
+    }
+    build_state::broken(m, BAD_NESTING, solid)
+}
+
+// A run of character data: where it starts, its first byte that is not a blank or NO_PLACE, how many bytes it has.
+pub fn on_run(levels: &mut [u64; LEVELS], m: Build, start: u32, solid: u32, size: u32) -> BuildStep
+    requires { ⌜ Safe (now levels) m × (m .count < placeLimit) ⌝ }
+    ensures { λ r. ⌜ SafeStep (now (levels .exit)) m r × ((s : Schema) (b : Building) → length s ≤ maxDeclarations → isNone (b .broken) ≡ true → Built s (now (levels .entry)) m b → Leaves s (now (levels .exit)) m b r (onRun (run start (placeIn solid)) size b)) ⌝ }
+{
+    let d = m.depth;
+    if d == 0 {
+        return build_state::without_row(outside(m, solid));
+    }
+    let level = open_levels::load(levels, d);
+    let old = level.filling;
+    let new = content_fit::with_run(old, solid == NO_PLACE);
+    open_levels::refill(levels, d, new);
+    if old.kind != PCDATA {
+        return build_state::without_row(m);
+    }
+    let row: RowCells = build_state::text_row(old.element, level.row, start, size);
+    let build = build_state::with_text(m, start, size);
+    BuildStep { build, row }
+}

@@ -1,0 +1,171 @@
+// Start tags: one child more of the innermost open element, a new open element and its row; refusals 12 to 16 at a start tag.
+ghost use mathlib.Core.Bool.{true};
+ghost use mathlib.Core.List.{List, _∷_};
+ghost use mathlib.Core.Option.{Option};
+ghost use mathlib.Core.Path.{_≡_};
+ghost use Prim.Native.Nat.{ℕ, _≤_, _<_};
+ghost use lib.ListN.{length};
+ghost use Rattle.build_state.specs.State.{Safe, Built, Leaves, SafeStep};
+ghost use Rattle.content_fit.specs.Fillings.{Found, KindsOf, ModelsOf, Sized};
+ghost use Rattle.fault_keys.specs.Keys.{placeLimit};
+ghost use Rattle.journal_spec.specs.Builder.{Open, Building, parentRow, refill, withChild, fillingFor, begin, onStart};
+ghost use Rattle.journal_starts.specs.Starts.{SafeStart};
+ghost use Rattle.name_words.specs.Words.{Spells};
+ghost use Rattle.open_levels.specs.Levels.{AllLevels, Opened};
+ghost use Rattle.schema_spec.specs.Schemas.{Schema, elementNamed};
+ghost use Rattle.text_spec.specs.Limits.{maxDepth};
+ghost use Rattle.text_spec.specs.Lists.{isNone};
+use build_state::Build;
+use build_state::BuildStep;
+use compiled_schema::MAX_CELLS;
+use fault_keys::BAD_NESTING;
+use fault_keys::OVER_DEPTH;
+use name_words::Name;
+use names::MAX_ELEMENTS;
+use open_levels::LEVELS;
+use open_levels::Level;
+use open_levels::MAX_DEPTH;
+use row_columns::RowCells;
+
+// The row of the innermost open element, or 0.
+fn parent_row(levels: &[u64; LEVELS], d: usize) -> u64
+    requires { ⌜ d ≤ maxDepth ⌝ }
+    ensures { λ r. ⌜ ((s : Schema) (os : List Open) → d ≡ length os → Opened s (now (levels .entry)) os → r ≡ parentRow os) ⌝ }
+{
+    if d == 0 {
+        return 0;
+    }
+    let level = open_levels::load(levels, d);
+    level.row
+}
+
+// One child more of the innermost open element.
+fn fit_child(
+    firsts: &[u64; MAX_ELEMENTS],
+    lasts: &[u64; MAX_ELEMENTS],
+    nullables: &[bool; MAX_ELEMENTS],
+    elements: &[u8; MAX_CELLS],
+    predecessors: &[u64; MAX_CELLS],
+    sizes: &[usize; MAX_ELEMENTS],
+    levels: &mut [u64; LEVELS],
+    d: usize,
+    e: usize,
+)
+    requires { ⌜ (d ≤ maxDepth) × AllLevels (now levels) × Sized (now sizes) ⌝ }
+    ensures { λ _. ⌜ AllLevels (now (levels .exit)) × ((s : Schema) (o : Option ℕ) (os : List Open) → d ≡ length os → ModelsOf s (now (firsts .entry)) (now (lasts .entry)) (now (nullables .entry)) (now (elements .entry)) (now (predecessors .entry)) (now (sizes .entry)) → Found s o e → Opened s (now (levels .entry)) os → Opened s (now (levels .exit)) (refill (withChild o) os)) ⌝ }
+{
+    let level = open_levels::load(levels, d);
+    let old = level.filling;
+    let new = content_fit::with_child(
+        firsts,
+        lasts,
+        nullables,
+        elements,
+        predecessors,
+        sizes,
+        old,
+        e,
+    );
+    open_levels::refill(levels, d, new);
+}
+
+// The element e, or an undeclared one, is open at the level past d.
+fn open_element(
+    kinds: &[u8; MAX_ELEMENTS],
+    levels: &mut [u64; LEVELS],
+    d: usize,
+    e: usize,
+    row: usize,
+    at: u32,
+    name: Name,
+)
+    requires { ⌜ (d < maxDepth) × AllLevels (now levels) ⌝ }
+    ensures { λ _. ⌜ AllLevels (now (levels .exit)) × ((s : Schema) (o : Option ℕ) (os : List Open) (n : List ℕ) → d ≡ length os → KindsOf s (now (kinds .entry)) → Found s o e → Spells name n → Opened s (now (levels .entry)) os → Opened s (now (levels .exit)) (record { name = n; place = at; row = row; filling = fillingFor s o } ∷ os)) ⌝ }
+{
+    let filling = content_fit::filling_for(kinds, e);
+    let level = Level {
+        name,
+        place: at as u64,
+        row: row as u64,
+        filling,
+    };
+    open_levels::store(levels, d + 1, level);
+}
+
+// The element e, or an undeclared one, begins.
+fn begin(
+    kinds: &[u8; MAX_ELEMENTS],
+    firsts: &[u64; MAX_ELEMENTS],
+    lasts: &[u64; MAX_ELEMENTS],
+    nullables: &[bool; MAX_ELEMENTS],
+    elements: &[u8; MAX_CELLS],
+    predecessors: &[u64; MAX_CELLS],
+    sizes: &[usize; MAX_ELEMENTS],
+    levels: &mut [u64; LEVELS],
+    m: Build,
+    e: usize,
+    name: Name,
+    at: u32,
+) -> BuildStep
+    requires { ⌜ Safe (now levels) m × Sized (now sizes) × (m .depth < maxDepth) × (m .count < placeLimit) ⌝ }
+    ensures { λ r. ⌜ SafeStep (now (levels .exit)) m r × (0 < r .build .depth) × ((s : Schema) (b : Building) (n : List ℕ) → KindsOf s (now (kinds .entry)) → ModelsOf s (now (firsts .entry)) (now (lasts .entry)) (now (nullables .entry)) (now (elements .entry)) (now (predecessors .entry)) (now (sizes .entry)) → Found s (elementNamed s n) e → Spells name n → isNone (b .broken) ≡ true → Built s (now (levels .entry)) m b → Leaves s (now (levels .exit)) m b r (begin s n at b)) ⌝ }
+{
+    let d = m.depth;
+    let count = m.count;
+    let parent = parent_row(levels, d);
+    fit_child(
+        firsts,
+        lasts,
+        nullables,
+        elements,
+        predecessors,
+        sizes,
+        levels,
+        d,
+        e,
+    );
+    open_element(kinds, levels, d, e, count, at, name);
+    let row: RowCells = build_state::element_row(e, parent);
+    let build = build_state::with_element(m, e, at);
+    BuildStep { build, row }
+}
+
+// A start tag. 12 comes before 13, so a second root is judged first.
+pub fn on_start(
+    kinds: &[u8; MAX_ELEMENTS],
+    firsts: &[u64; MAX_ELEMENTS],
+    lasts: &[u64; MAX_ELEMENTS],
+    nullables: &[bool; MAX_ELEMENTS],
+    elements: &[u8; MAX_CELLS],
+    predecessors: &[u64; MAX_CELLS],
+    sizes: &[usize; MAX_ELEMENTS],
+    levels: &mut [u64; LEVELS],
+    m: Build,
+    e: usize,
+    name: Name,
+    at: u32,
+) -> BuildStep
+    requires { ⌜ Safe (now levels) m × Sized (now sizes) × (m .count < placeLimit) ⌝ }
+    ensures { λ r. ⌜ SafeStart (now (levels .exit)) m r × ((s : Schema) (b : Building) (n : List ℕ) → KindsOf s (now (kinds .entry)) → ModelsOf s (now (firsts .entry)) (now (lasts .entry)) (now (nullables .entry)) (now (elements .entry)) (now (predecessors .entry)) (now (sizes .entry)) → Found s (elementNamed s n) e → Spells name n → isNone (b .broken) ≡ true → Built s (now (levels .entry)) m b → Leaves s (now (levels .exit)) m b r (onStart s n at b)) ⌝ }
+{
+    if build_state::is_second_root(m) {
+        return build_state::without_row(build_state::broken(m, BAD_NESTING, at));
+    }
+    if MAX_DEPTH <= m.depth {
+        return build_state::without_row(build_state::broken(m, OVER_DEPTH, at));
+    }
+    begin(
+        kinds,
+        firsts,
+        lasts,
+        nullables,
+        elements,
+        predecessors,
+        sizes,
+        levels,
+        m,
+        e,
+        name,
+        at,
+    )
+}
