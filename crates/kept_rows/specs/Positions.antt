@@ -88,7 +88,7 @@ pub rank-bound : (m : List ℕ) (r : ℕ) → rank m r ≤ r
 rank-bound m r = let h = total-bound (λ q. 1) m 1 r (λ q l. omega arith) in omega arith
 
 -- a test on a position is the mark
-nonzero-position : (m : List ℕ) (r : ℕ) → not (eqb (positionOf m r) 0) ≡ isMarked m r
+pub nonzero-position : (m : List ℕ) (r : ℕ) → not (eqb (positionOf m r) 0) ≡ isMarked m r
 nonzero-position m r = pick (isMarked m r)
   where
     pick : (b : Bool) → not (eqb (cond b (rank m r + 1) 0) 0) ≡ b

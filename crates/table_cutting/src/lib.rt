@@ -1,0 +1,140 @@
+// Cutting a table in columns to a set of names, into other lent columns.
+ghost use lib.ListN.{length};
+ghost use Rattle.kept_rows.specs.Kept.{inSet};
+ghost use Rattle.row_numbers.specs.Cells.{Cleared};
+ghost use Rattle.cut_rows.specs.Rows.{table, OfLength};
+ghost use Rattle.table_cutting.specs.Cut.{ClearedFrom, Cutting, CutAs, TableColumns};
+use cut_rows::write_rows;
+use kept_rows::MAX_ROWS;
+use kept_rows::NOT_KEPT;
+use kept_rows::number_kept;
+use names::NameSet;
+use row_numbers::clear_from;
+
+// Clears the cells from `n` on.
+fn clear_bytes(out: &mut [u8], n: usize)
+    ensures { λ _. ⌜ Cleared (now (out .entry)) n (now (out .exit)) ⌝ }
+{
+    let mut i = n;
+    while i < out.len() {
+        out[i] = 0;
+        i += 1;
+    }
+}
+
+fn clear_words(out: &mut [u32], n: usize)
+    ensures { λ _. ⌜ Cleared (now (out .entry)) n (now (out .exit)) ⌝ }
+{
+    let mut i = n;
+    while i < out.len() {
+        out[i] = 0;
+        i += 1;
+    }
+}
+
+fn clear_columns(
+    out_numbers: &mut [u16],
+    out_names: &mut [u8],
+    out_parents: &mut [u16],
+    out_starts: &mut [u32],
+    out_lengths: &mut [u16],
+    n: usize,
+)
+    ensures { λ _. ⌜ ClearedFrom (table (now («out_numbers» .entry)) (now («out_names» .entry)) (now («out_parents» .entry)) (now («out_starts» .entry)) (now («out_lengths» .entry))) n (table (now («out_numbers» .exit)) (now («out_names» .exit)) (now («out_parents» .exit)) (now («out_starts» .exit)) (now («out_lengths» .exit))) ⌝ }
+{
+    clear_from(out_numbers, n);
+    clear_bytes(out_names, n);
+    clear_from(out_parents, n);
+    clear_words(out_starts, n);
+    clear_from(out_lengths, n);
+}
+
+// Cuts a table to a set of names: the rows kept, and then zeros, or zeros alone where there is too little room. Gives how many rows are
+// kept. `positions` is scratch, a cell for each row.
+fn cut_into(
+    set: NameSet,
+    numbers: &[u16],
+    names: &[u8],
+    parents: &[u16],
+    starts: &[u32],
+    lengths: &[u16],
+    positions: &mut [u16],
+    out_numbers: &mut [u16],
+    out_names: &mut [u8],
+    out_parents: &mut [u16],
+    out_starts: &mut [u32],
+    out_lengths: &mut [u16],
+) -> usize
+    requires { ⌜ Cutting (table (now numbers) (now names) (now parents) (now starts) (now lengths)) (now positions) (table (now «out_numbers») (now «out_names») (now «out_parents») (now «out_starts») (now «out_lengths»)) ⌝ }
+    ensures { λ n. ⌜ CutAs (inSet set) (table (now (numbers .entry)) (now (names .entry)) (now (parents .entry)) (now (starts .entry)) (now (lengths .entry))) (table (now («out_numbers» .entry)) (now («out_names» .entry)) (now («out_parents» .entry)) (now («out_starts» .entry)) (now («out_lengths» .entry))) n (table (now («out_numbers» .exit)) (now («out_names» .exit)) (now («out_parents» .exit)) (now («out_starts» .exit)) (now («out_lengths» .exit))) ⌝ }
+{
+    let n = number_kept(set, names, parents, positions) as usize;
+    if out_numbers.len() < n {
+        clear_columns(
+            out_numbers,
+            out_names,
+            out_parents,
+            out_starts,
+            out_lengths,
+            0,
+        );
+        return n;
+    }
+    write_rows(
+        numbers,
+        names,
+        parents,
+        starts,
+        lengths,
+        &positions[..],
+        out_numbers,
+        out_names,
+        out_parents,
+        out_starts,
+        out_lengths,
+    );
+    clear_columns(
+        out_numbers,
+        out_names,
+        out_parents,
+        out_starts,
+        out_lengths,
+        n,
+    );
+    n
+}
+
+// The same with scratch of its own: two bytes for each row that there can be, 131,070 in all.
+pub fn cut(
+    set: NameSet,
+    numbers: &[u16],
+    names: &[u8],
+    parents: &[u16],
+    starts: &[u32],
+    lengths: &[u16],
+    out_numbers: &mut [u16],
+    out_names: &mut [u8],
+    out_parents: &mut [u16],
+    out_starts: &mut [u32],
+    out_lengths: &mut [u16],
+) -> usize
+    requires { ⌜ TableColumns (table (now numbers) (now names) (now parents) (now starts) (now lengths)) × OfLength (table (now «out_numbers») (now «out_names») (now «out_parents») (now «out_starts») (now «out_lengths»)) (length (now «out_numbers»)) ⌝ }
+    ensures { λ n. ⌜ CutAs (inSet set) (table (now (numbers .entry)) (now (names .entry)) (now (parents .entry)) (now (starts .entry)) (now (lengths .entry))) (table (now («out_numbers» .entry)) (now («out_names» .entry)) (now («out_parents» .entry)) (now («out_starts» .entry)) (now («out_lengths» .entry))) n (table (now («out_numbers» .exit)) (now («out_names» .exit)) (now («out_parents» .exit)) (now («out_starts» .exit)) (now («out_lengths» .exit))) ⌝ }
+{
+    let mut positions = [NOT_KEPT; MAX_ROWS];
+    let count = parents.len();
+    cut_into(
+        set,
+        numbers,
+        names,
+        parents,
+        starts,
+        lengths,
+        &mut positions[..count],
+        out_numbers,
+        out_names,
+        out_parents,
+        out_starts,
+        out_lengths,
+    )
+}
