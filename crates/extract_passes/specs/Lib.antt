@@ -1,0 +1,6 @@
+pub mod Steps
+pub mod Places
+pub mod Levels
+pub mod Rows
+pub mod Tables
+pub mod Reading
