@@ -10,8 +10,9 @@ use lib.Dec.{T}
 use lib.ListN.{length, take, getD}
 use Rattle.closures.specs.Relations.{relatedFrom, relatedTo}
 use Rattle.closures.specs.Schemas.{holds-relating, below-relating, relatedFrom-filter, relatedTo-filter}
-use Rattle.compiled_schema.specs.Automata.{entries-automaton}
-use Rattle.compiled_schema.specs.Compiled.{cellsAt, endsAt, CompiledOf}
+use Rattle.schema_entries.specs.Automata.{entries-automaton}
+use Rattle.compiled_schema.specs.Compiled.{CompiledOf}
+use Rattle.schema_entries.specs.Columns.{cellsAt, endsAt}
 use Rattle.compiled_schema.specs.declared.CompiledSchema.{CompiledSchema}
 use Rattle.models.specs.Automaton.{AutomatonOf}
 use Rattle.names.specs.Sets.{member, setOf}

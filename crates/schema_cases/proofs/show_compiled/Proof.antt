@@ -1,6 +1,6 @@
 -- `show_compiled` is safe and ends: a model has no more positions than cells.
 use Prim.Native.Nat.{_-_, _≤_}
-use Rattle.compiled_schema.specs.Automata.{entries-room}
+use Rattle.schema_entries.specs.Automata.{entries-room}
 use Rattle.schema_elements.specs.EntryLaws.{entry-size}
 use Rattle.text_spec.specs.Limits.{maxDeclarations}
 use borrow.Author.Needs.{needs}
