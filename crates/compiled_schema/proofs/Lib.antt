@@ -1,3 +1,1 @@
-pub mod LentCells
-pub mod Columns
 pub mod Whole

@@ -1,34 +1,33 @@
 -- The compiled form of a whole text: refused, or accepted with the names that were found in it.
-use mathlib.Core.Bool.{false}
+use mathlib.Core.Bool.{Bool, false, true, _&&_}
 use mathlib.Core.List.{List, [], map}
 use mathlib.Core.Logic.{_↔_}
 use mathlib.Core.Path.{_≡_, refl, sym, ap, _∙_}
 use Prim.Native.Nat.{ℕ, _≤_}
 use native.Mathlib.Omega.{arith}
-use lib.Dec.{T}
+use lib.Dec.{T, eqb}
 use lib.ListN.{length, take, replicate, length-map}
 use lib.Seq.{take-all}
 use Rattle.closures.specs.Relations.{relates, Reachable}
 use Rattle.closures.specs.Schemas.{reachability-isBelow}
-use Rattle.compiled_schema.proofs.Columns.{blank, filled-first, filled-all, unheld-at}
-use Rattle.compiled_schema.specs.Compiled.{EntriesOf, CompiledOf}
-use Rattle.compiled_schema.specs.declared.Entries.{Entries}
-use Rattle.names.specs.Sets.{member}
+use Rattle.compiled_schema.specs.Compiled.{CompiledOf}
 use Rattle.names.specs.declared.NameSet.{NameSet}
 use Rattle.schema.specs.Judging.{outcomeOf, sized, declaredAt, JudgedInto}
 use Rattle.schema.specs.declared.Judgement.{Judgement}
 use Rattle.schema.specs.declared.Judgement.the-variants.{Accepted, Refused}
 use Rattle.schema.specs.declared.Kind.{Kind}
 use Rattle.schema_elements.specs.Reading.{AcceptedWith}
+use Rattle.schema_entries.specs.Columns.{EntriesOf}
+use Rattle.schema_entries.specs.declared.Entries.{Entries}
 use Rattle.schema_laws.specs.Accepted.{Spelt, accepted-spelt, accepted-closed}
 use Rattle.schema_spec.specs.Closure.{byWayOf, closure}
 use Rattle.schema_spec.specs.Declarations.{Declaration}
 use Rattle.schema_spec.specs.Machine.{parse}
-use Rattle.schema_spec.specs.Names.{Name, element, namesOf}
+use Rattle.schema_spec.specs.Names.{Name, element, text as textName, namesOf}
 use Rattle.schema_spec.specs.Reading.{readSchema}
 use Rattle.schema_spec.specs.Records.{schemaIn}
 use Rattle.schema_spec.specs.Schemas.{Schema, declaredNames, resolved, schemaOf}
-use Rattle.schema_spec.specs.Types.{typesOf, isBelow}
+use Rattle.schema_spec.specs.Types.{holds, typesOf, isBelow}
 use Rattle.text_laws.specs.Cells.{padded-zeros}
 use Rattle.text_laws.specs.Tests.{never}
 use Rattle.text_spec.specs.Cells.{padded}
@@ -37,20 +36,30 @@ use Rattle.text_spec.specs.Machines.{Parsed}
 use Rattle.text_spec.specs.Scans.{nameAt}
 use Rattle.text_spec.specs.Refusals.{Outcome, accepted, refused, resultOr}
 
+none-held : (a b : Name) → holds [] a b ≡ false
+unfolding «holds»
+none-held (element a) (element b) = refl
+none-held (element a) (textName b) = pick (eqb a b)
+  where
+    pick : (t : Bool) → (t && false) ≡ false
+    pick false = refl
+    pick true = refl
+none-held (textName a) b = refl
+
 none-below : (a b : Name) → isBelow (typesOf []) a b ≡ false
 unfolding typesOf closure byWayOf namesOf
 none-below a b = refl
 
-pub empty-compiled : (x : NameSet) → ((n : Name) → member x n ≡ false) → (text : List ℕ)
+pub empty-compiled : (t : Entries) → EntriesOf [] t → (text : List ℕ)
     → CompiledOf text []
-    (record { count = 0; names = replicate maxDeclarations 0; entries = blank x; below = replicate maxDeclarations x })
-empty-compiled x none text =
+    (record { count = 0; names = replicate maxDeclarations 0; entries = t; below = t .«holds» })
+empty-compiled t made text =
     record {
       counted = refl;
       places = sym (padded-zeros maxDeclarations);
       named = refl;
-      entries = filled-all [] 0 (blank x) refl (filled-first [] x none);
-      beneath = λ a b. unheld-at x none maxDeclarations a b ∙ sym (none-below (element a) b);
+      entries = made;
+      beneath = λ a b. made .held a b ∙ none-held (element a) b ∙ sym (none-below (element a) b);
     }
 
 module _ (text : List ℕ) {names uses : List ℕ} {r : Judgement} (J : JudgedInto text names uses r) where

@@ -5,7 +5,7 @@ use Rattle.compiled_schema.proofs.CompiledSchema.empty.Statement.{state
 use Rattle.compiled_schema.proofs.CompiledSchema.empty.Tie as tie
 
 returns : tie.Need-returns
-returns c = empty-compiled (c .empty .result) (c .empty .ensures)
+returns c = empty-compiled (c .before .empty .result) (c .before .empty .ensures)
 
 pub empty-spec : {M : Type 1} → statement M
 empty-spec = tie.close (tie.spec (λ c κs. search needs) returns)

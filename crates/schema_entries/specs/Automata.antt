@@ -5,8 +5,8 @@ use Prim.Native.Nat.{ℕ, _*_, _-_, _≤_, _<_}
 use native.Mathlib.Omega.{arith}
 use lib.ListN.{length, take, drop, getD, length-take, length-drop}
 use lib.Seq.{take-take}
-use Rattle.compiled_schema.specs.Compiled.{cellsAt, endsAt, EntriesOf}
-use Rattle.compiled_schema.specs.declared.Entries.{Entries}
+use Rattle.schema_entries.specs.Columns.{cellsAt, endsAt, EntriesOf}
+use Rattle.schema_entries.specs.declared.Entries.{Entries}
 use Rattle.models.specs.Automaton.{AutomatonOf}
 use Rattle.schema_elements.specs.EntryLaws.{entry-automaton, entry-size}
 use Rattle.schema_spec.specs.Models.{Particle, children}

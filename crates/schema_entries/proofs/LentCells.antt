@@ -8,7 +8,7 @@ use lib.ListN.{length, take, drop, replicate, length-append, length-drop, take-a
 use lib.Seq.{take-append-le, drop-append-le, drop-append-add, take-at, drop-at, length-take-le}
 use Rattle.text_laws.specs.Cells.{drop-replicate}
 use Rattle.text_laws.specs.Searches.{below-or-past}
-use Rattle.compiled_schema.specs.Compiled.{cellsAt}
+use Rattle.schema_entries.specs.Columns.{cellsAt}
 use Rattle.text_spec.specs.Limits.{maxModelNames}
 
 module _ (b : ℕ) (p q : List ℕ) where

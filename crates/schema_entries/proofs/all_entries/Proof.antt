@@ -1,16 +1,16 @@
 -- `all_entries` meets its contract: the entries of the declarations that were read are filled.
 use mathlib.Core.Path.{_≡_, refl, ap, _∙_}
 use Prim.Native.Nat.{_+_, _*_, _-_, _≤_}
-use Rattle.compiled_schema.proofs.Columns.{Filled, filled-first, filled-next, filled-all}
-use Rattle.compiled_schema.proofs.LentCells.{lent}
+use Rattle.schema_entries.proofs.Filling.{Filled, filled-first, filled-next, filled-all}
+use Rattle.schema_entries.proofs.LentCells.{lent}
 use Rattle.schema_elements.specs.Reading.{AtDeclaration}
 use Rattle.schema_elements.specs.ReadingLaws.{at-first, elements-few, used-within}
 use Rattle.schema_spec.specs.Records.{schemaIn}
 use Rattle.text_spec.specs.Limits.{maxDeclarations, maxModelNames}
 use borrow.Author.Needs.{needs}
 use native.Mathlib.Omega.{arith}
-use Rattle.compiled_schema.proofs.all_entries.Statement.{statement}
-use Rattle.compiled_schema.proofs.all_entries.Tie as tie
+use Rattle.schema_entries.proofs.all_entries.Statement.{statement}
+use Rattle.schema_entries.proofs.all_entries.Tie as tie
 
 abbrev Inv-loop : tie.InvT-loop
 Inv-loop s uses count kinds₀ sizes₀ firsts₀ lasts₀ nullables₀ elements₀ predecessors₀ holds₀ at₀ n₀ d₀ kinds sizes firsts lasts nullables elements predecessors holds at n d =
@@ -43,6 +43,13 @@ element-entry-requires c κs =
       lent (at .elements) (at .d) ∙ ap (λ x. x .elements) clear,
       lent (at .predecessors) (at .d) ∙ ap (λ x. x .predecessors) clear,
     )
+
+-- the same at each column
+array-write : tie.Need-array-write-kinds Inv-loop μ-loop
+array-write c = search needs
+
+mul-write : tie.Need-mul-sizes Inv-loop μ-loop
+mul-write c = search needs
 
 add-n : tie.Need-add-n Inv-loop μ-loop
 add-n c =
@@ -97,14 +104,14 @@ all-entries-spec =
     (λ c. search needs)
     (λ c. search needs)
     element-entry-requires
-    (λ c. search needs)
-    (λ c. search needs)
-    (λ c. search needs)
-    (λ c. search needs)
-    (λ c. search needs)
-    (λ c. search needs)
-    (λ c. search needs)
-    (λ c. search needs)
+    array-write
+    mul-write
+    array-write
+    mul-write
+    array-write
+    mul-write
+    array-write
+    array-write
     (λ c. search needs)
     (λ c. search needs)
     add-n

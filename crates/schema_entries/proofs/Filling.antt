@@ -9,9 +9,9 @@ use native.Mathlib.Omega.{arith}
 use lib.ListN.{length, getD, set, replicate, length-set, length-replicate, getD-replicate}
 use lib.Seq.{getD-set-same, getD-set-other}
 use Rattle.closures.specs.Relations.{relates}
-use Rattle.compiled_schema.proofs.LentCells.{putBack, back-here, back-other, back-long, clear-cells}
-use Rattle.compiled_schema.specs.Compiled.{cellsAt, entryAt, EntriesOf}
-use Rattle.compiled_schema.specs.declared.Entries.{Entries}
+use Rattle.schema_entries.proofs.LentCells.{putBack, back-here, back-other, back-long, clear-cells}
+use Rattle.schema_entries.specs.Columns.{cellsAt, entryAt, EntriesOf}
+use Rattle.schema_entries.specs.declared.Entries.{Entries}
 use Rattle.names.specs.SetLaws.{nothing-in}
 use Rattle.names.specs.Sets.{member, nothing}
 use Rattle.names.specs.declared.NameSet.{NameSet}
