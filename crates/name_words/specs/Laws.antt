@@ -1,4 +1,4 @@
--- Laws of names as words: one byte more, and equal words are equal names. Assumes nothing.
+-- Laws of names as words: one byte more, and equal words are equal names.
 use mathlib.Core.Bool.{Bool, true, false, cond}
 use mathlib.Core.List.{List, [], _∷_, _++_, append-assoc}
 use mathlib.Core.Path.{_≡_, refl, sym, ap, subst, _∙_}

@@ -1,4 +1,4 @@
--- Names as four words. Assumes nothing.
+-- Names as four words.
 use mathlib.Core.Bool.{Bool, cond}
 use mathlib.Core.List.{List, [], _∷_}
 use mathlib.Core.Path.{_≡_}

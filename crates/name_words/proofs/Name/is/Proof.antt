@@ -1,4 +1,4 @@
--- `Name::is` meets its contract: no word differs in a bit. Assumes nothing.
+-- `Name::is` meets its contract: no word differs in a bit.
 use borrow.Author.Needs.{needs}
 use Rattle.name_words.specs.Laws.{words-decide}
 use Rattle.name_words.specs.Words.{nameAt}

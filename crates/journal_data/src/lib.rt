@@ -1,0 +1,257 @@
+// One byte of a journal's character data: a function for each mode, which is handed the byte and its kind.
+ghost use mathlib.Core.Bool.{cond};
+ghost use mathlib.Core.Option.{none};
+ghost use mathlib.Core.Path.{_≡_};
+ghost use Prim.Native.Nat.{_-_, _<_};
+ghost use lib.Dec.{eqb};
+ghost use lib.ListN.{set};
+ghost use Rattle.journal_data.specs.Runs.{Plain};
+ghost use Rattle.journal_kinds.specs.Kinds.{dataBy};
+ghost use Rattle.journal_spec.specs.Lexer.{run, goes};
+ghost use Rattle.journal_state.specs.Entities.{entityDead, firstLetter, secondLetter, nextState};
+ghost use Rattle.journal_state.specs.Places.{noPlace};
+ghost use Rattle.journal_state.specs.Relation.{stepped, named, Handed, Meant, Steps};
+use journal_kinds::AMPERSAND;
+use journal_kinds::BLANK;
+use journal_kinds::BRACKET;
+use journal_kinds::GREATER;
+use journal_kinds::LESS;
+use journal_state::AFTER_BRACKET;
+use journal_state::AFTER_BRACKETS;
+use journal_state::AT;
+use journal_state::BLANKS;
+use journal_state::ENTITY;
+use journal_state::Lex;
+use journal_state::NONE;
+use journal_state::OPENED;
+use journal_state::QUIET;
+use journal_state::RUNS;
+use journal_state::SOLID;
+use journal_state::SOLID_AT;
+use journal_state::START;
+use journal_state::STOPPED;
+use journal_state::counts;
+use journal_state::goes;
+use journal_state::note_foreign;
+use journal_state::stop;
+use journal_state::tells;
+
+// The states of an entity past its end, and where nothing can follow.
+const ENTITY_ENDED: u32 = 9;
+
+const ENTITY_DEAD: u32 = 10;
+
+// A `<`.
+fn tag_opens(places: &mut [u32; 4], l: Lex, event: u8) -> Lex
+    requires { ⌜ l .place < noPlace ⌝ }
+    ensures { λ r. ⌜ (r ≡ stepped 6 event l) × (now (places .exit) ≡ set (now (places .entry)) 0 (l .place)) ⌝ }
+{
+    let at = l.place;
+    places[AT] = at as u32;
+    tells(OPENED, l, event)
+}
+
+// An `&`.
+fn entity_begins(places: &mut [u32; 4], l: Lex) -> Lex
+    requires { ⌜ l .place < noPlace ⌝ }
+    ensures { λ r. ⌜ (r ≡ named 5 0 (l .name) l) × (now (places .exit) ≡ set (now (places .entry)) 0 (l .place)) ⌝ }
+{
+    let at = l.place;
+    places[AT] = at as u32;
+    counts(ENTITY, l, 0)
+}
+
+// A byte of character data that is not `<`, where the run, from `start`, has only blanks so far.
+fn data_byte(places: &mut [u32; 4], l: Lex, start: u32, b: u8, c: u8) -> Lex
+    requires { ⌜ Handed l (now places) b c ⌝ }
+    ensures { λ r. ⌜ Meant l (now (places .entry)) b r (now (places .exit)) (goes (dataBy (run start none) 0 (l .place) c)) ⌝ }
+{
+    let at = l.place;
+    places[START] = start;
+    if c == BLANK {
+        places[SOLID_AT] = NONE;
+        return goes(BLANKS, l);
+    }
+    places[SOLID_AT] = at as u32;
+    if c == AMPERSAND {
+        return entity_begins(places, l);
+    }
+    if c == BRACKET {
+        return goes(AFTER_BRACKET, l);
+    }
+    note_foreign(places, at, c);
+    goes(SOLID, l)
+}
+
+pub fn between_byte(places: &mut [u32; 4], l: Lex, b: u8, c: u8) -> Lex
+    requires { ⌜ Handed l (now places) b c ⌝ }
+    ensures { λ r. ⌜ Steps 0 l (now (places .entry)) b r (now (places .exit)) ⌝ }
+{
+    if c == LESS {
+        return tag_opens(places, l, QUIET);
+    }
+    data_byte(places, l, l.place as u32, b, c)
+}
+
+pub fn blanks_byte(places: &mut [u32; 4], l: Lex, b: u8, c: u8) -> Lex
+    requires { ⌜ Handed l (now places) b c ⌝ }
+    ensures { λ r. ⌜ Steps 1 l (now (places .entry)) b r (now (places .exit)) ⌝ }
+{
+    if c == LESS {
+        return tag_opens(places, l, RUNS);
+    }
+    let start = places[START];
+    data_byte(places, l, start, b, c)
+}
+
+// A byte that is not part of `]]>`, where the run has a byte that is not a blank.
+fn plain_byte(places: &mut [u32; 4], l: Lex, b: u8, c: u8) -> Lex
+    requires { ⌜ Handed l (now places) b c ⌝ }
+    ensures { λ r. ⌜ Plain l (now (places .entry)) b c r (now (places .exit)) ⌝ }
+{
+    if c < LESS {
+        return goes(SOLID, l);
+    }
+    if c == LESS {
+        return tag_opens(places, l, RUNS);
+    }
+    if c == AMPERSAND {
+        return entity_begins(places, l);
+    }
+    if c == BRACKET {
+        return goes(AFTER_BRACKET, l);
+    }
+    note_foreign(places, l.place, c);
+    goes(SOLID, l)
+}
+
+pub fn solid_byte(places: &mut [u32; 4], l: Lex, b: u8, c: u8) -> Lex
+    requires { ⌜ Handed l (now places) b c ⌝ }
+    ensures { λ r. ⌜ Steps 2 l (now (places .entry)) b r (now (places .exit)) ⌝ }
+{
+    plain_byte(places, l, b, c)
+}
+
+pub fn after_bracket_byte(places: &mut [u32; 4], l: Lex, b: u8, c: u8) -> Lex
+    requires { ⌜ Handed l (now places) b c ⌝ }
+    ensures { λ r. ⌜ Steps 3 l (now (places .entry)) b r (now (places .exit)) ⌝ }
+{
+    if c == BRACKET {
+        return goes(AFTER_BRACKETS, l);
+    }
+    plain_byte(places, l, b, c)
+}
+
+// Two before a place, at least 0.
+fn two_before(place: usize) -> u32
+    requires { ⌜ place < noPlace ⌝ }
+    ensures { λ r. ⌜ r ≡ place - 2 ⌝ }
+{
+    if place < 2 { 0 } else { (place - 2) as u32 }
+}
+
+pub fn after_brackets_byte(places: &mut [u32; 4], l: Lex, b: u8, c: u8) -> Lex
+    requires { ⌜ Handed l (now places) b c ⌝ }
+    ensures { λ r. ⌜ Steps 4 l (now (places .entry)) b r (now (places .exit)) ⌝ }
+{
+    if c == BRACKET {
+        return goes(AFTER_BRACKETS, l);
+    }
+    if c == GREATER {
+        places[AT] = two_before(l.place);
+        return goes(STOPPED, l);
+    }
+    plain_byte(places, l, b, c)
+}
+
+fn first_letter(b: u8) -> u32
+    ensures { λ r. ⌜ r ≡ firstLetter b ⌝ }
+{
+    if b == b'l' {
+        return 1;
+    }
+    if b == b'g' {
+        return 1;
+    }
+    if b == b'a' {
+        return 3;
+    }
+    if b == b'q' {
+        return 7;
+    }
+    ENTITY_DEAD
+}
+
+// After `&a`.
+fn second_letter(b: u8) -> u32
+    ensures { λ r. ⌜ r ≡ secondLetter b ⌝ }
+{
+    if b == b'm' {
+        return 4;
+    }
+    if b == b'p' {
+        return 5;
+    }
+    ENTITY_DEAD
+}
+
+fn only(b: u8, expected: u8, next: u32) -> u32
+    ensures { λ r. ⌜ r ≡ cond (eqb b expected) next entityDead ⌝ }
+{
+    if b == expected {
+        return next;
+    }
+    ENTITY_DEAD
+}
+
+// The next state of an entity: an automaton of nine states for all five, a letter at a time.
+fn entity_next(s: u32, b: u8) -> u32
+    requires { ⌜ s < 9 ⌝ }
+    ensures { λ r. ⌜ r ≡ nextState s b ⌝ }
+{
+    if s == 0 {
+        return first_letter(b);
+    }
+    if s == 3 {
+        return second_letter(b);
+    }
+    if s == 1 {
+        return only(b, b't', 2);
+    }
+    if s == 2 {
+        return only(b, b';', ENTITY_ENDED);
+    }
+    if s == 4 {
+        return only(b, b'p', 2);
+    }
+    if s == 5 {
+        return only(b, b'o', 6);
+    }
+    if s == 6 {
+        return only(b, b's', 2);
+    }
+    if s == 7 {
+        return only(b, b'u', 8);
+    }
+    only(b, b'o', 1)
+}
+
+pub fn entity_byte(places: &mut [u32; 4], l: Lex, b: u8, c: u8) -> Lex
+    requires { ⌜ Handed l (now places) b c ⌝ }
+    ensures { λ r. ⌜ Steps 5 l (now (places .entry)) b r (now (places .exit)) ⌝ }
+{
+    let s = l.count;
+    if ENTITY_ENDED <= s {
+        return stop(places, l, c);
+    }
+    let next = entity_next(s, b);
+    if next == ENTITY_ENDED {
+        note_foreign(places, l.place, c);
+        return goes(SOLID, l);
+    }
+    if ENTITY_ENDED < next {
+        return stop(places, l, c);
+    }
+    note_foreign(places, l.place, c);
+    counts(ENTITY, l, next)
+}

@@ -1,0 +1,4 @@
+pub mod Places
+pub mod Entities
+pub mod Relation
+pub mod Laws
