@@ -10,7 +10,7 @@ use lib.ListN.{getD}
 use Rattle.schema_spec.specs.Names.{Name, element, text, isText, hasBit, codeOf, nameOfCode}
 use Rattle.schema_spec.specs.Types.{Types}
 use Rattle.schema_laws.specs.Words.{codeOf-nameOfCode}
-use Rattle.table_passes.specs.Passes.{isTextCode, depthUnder, cellsFit, laterFits}
+use Rattle.table_passes.specs.Passes.{isTextCode, depthUnder, textCellsFit, laterFits, laterCells}
 use Rattle.table_spec.specs.Nodes.{deeper}
 use Rattle.table_spec.specs.Rows.{Row, cellsOf}
 use Rattle.table_spec.specs.Tables.{textFits}
@@ -61,7 +61,7 @@ fit-by : (r : Row) (n : Name) → r .name ≡ n
 fit-by r (element e) q = refl
 fit-by r (text e) q = refl
 
-code-cells : (r : Row) → Coded (r .name) → cellsFit (cellsOf r) ≡ textFits (r .name) r
+code-cells : (r : Row) → Coded (r .name) → textCellsFit (codeOf (r .name)) (r .start) (r .size) ≡ textFits (r .name) r
 code-cells r k =
     ap (λ (b : Bool). cond b (leb 1 (r .size) && leb (r .size) maxTextBytes) (eqb (r .start) 0 && eqb (r .size) 0)) (code-text (codeOf (r .name)) (r .name) k)
     ∙ fit-by r (r .name) refl
@@ -88,10 +88,10 @@ module _ (q : Row) (word depth : ℕ) (r : Row) (before : Coded (q .name)) (this
   was-text : isTextCode (codeOf (q .name)) ≡ isText (q .name)
   was-text = code-text (codeOf (q .name)) (q .name) before
 
-  pub later-parts : T (laterFits (cellsOf q) word depth (cellsOf r)) → FitsAfter q word depth r
+  pub later-parts : T (laterCells (cellsOf q) word depth (cellsOf r)) → FitsAfter q word depth r
   unfolding laterFits bits both
   later-parts t =
-      let rest₄ = cellsFit (cellsOf r) in
+      let rest₄ = textCellsFit (codeOf (r .name)) (r .start) (r .size) in
       let rest₃ = not both && rest₄ in
       let rest₂ = leb (depthUnder (codeOf (r .name)) depth) maxDepth && rest₃ in
       let rest₁ = bits && rest₂ in
@@ -109,7 +109,7 @@ module _ (q : Row) (word depth : ℕ) (r : Row) (before : Coded (q .name)) (this
         cells = subst T (code-cells r this) (c₄ .1);
       }
 
-  pub parts-later : FitsAfter q word depth r → T (laterFits (cellsOf q) word depth (cellsOf r))
+  pub parts-later : FitsAfter q word depth r → T (laterCells (cellsOf q) word depth (cellsOf r))
   unfolding laterFits bits both
   parts-later f =
       and-intro (ltb (q .number) (r .number)) _ (lt→ltb _ _ (f .rises))
@@ -117,9 +117,19 @@ module _ (q : Row) (word depth : ℕ) (r : Row) (before : Coded (q .name)) (this
       (and-intro bits _ (f .held)
       (and-intro (leb (depthUnder (codeOf (r .name)) depth) maxDepth) _
       (le→leb (depthUnder (codeOf (r .name)) depth) maxDepth (rw (code-depth (codeOf (r .name)) (r .name) depth this) (f .shallow)))
-      (and-intro (not both) (cellsFit (cellsOf r)) (not-intro both alone) (subst T (sym (code-cells r this)) (f .cells))))))
+      (and-intro (not both) (textCellsFit (codeOf (r .name)) (r .start) (r .size)) (not-intro both alone) (subst T (sym (code-cells r this)) (f .cells))))))
     where
       alone : T (isTextCode (codeOf (r .name)) && isTextCode (codeOf (q .name))) → ⊥
       alone t =
           let c = and-cases (isTextCode (codeOf (r .name))) (isTextCode (codeOf (q .name))) t in
           f .lone (subst T is-text (c .0)) (subst T was-text (c .1))
+
+-- a row that fits is not too deep
+pub fits-depth : (before : ℕ) (follows : Bool) (word depth number code start size : ℕ) → T (laterFits before follows word depth number code start size)
+    → depthUnder code depth ≤ maxDepth
+unfolding laterFits
+fits-depth before follows word depth number code start size t =
+    let c₀ = and-cases (ltb before number) _ t in
+    let c₁ = and-cases (ltb number maxNodes) _ (c₀ .1) in
+    let c₂ = and-cases (hasBit word code) _ (c₁ .1) in
+    leb→le _ _ (and-cases (leb (depthUnder code depth) maxDepth) _ (c₂ .1) .0)

@@ -20,18 +20,26 @@ abbrev pub depthUnder : ℕ → ℕ → ℕ
 depthUnder code depth = cond (isTextCode code) depth (suc depth)
 
 -- "an element .. carries text 0, 0; a text row has length 1 to 4,096"
-abbrev pub cellsFit : Cells → Bool
-cellsFit r = cond (isTextCode (r .name)) (leb 1 (r .size) && leb (r .size) maxTextBytes) (eqb (r .start) 0 && eqb (r .size) 0)
+abbrev pub textCellsFit : ℕ → ℕ → ℕ → Bool
+textCellsFit code start size = cond (isTextCode code) (leb 1 size && leb size maxTextBytes) (eqb start 0 && eqb size 0)
 
 -- row 0
-unfoldable pub rootFits : Cells → Bool
-rootFits r = eqb (r .number) 0 && (eqb (r .name) 0 && (eqb (r .parent) 0 && (eqb (r .start) 0 && eqb (r .size) 0)))
+unfoldable pub rootFits : ℕ → ℕ → ℕ → ℕ → ℕ → Bool
+rootFits number code parent start size = eqb number 0 && (eqb code 0 && (eqb parent 0 && (eqb start 0 && eqb size 0)))
 
--- a row after another, under a parent of this depth which holds the names whose bits a word has: a second text of an element follows on the first
-unfoldable pub laterFits : Cells → ℕ → ℕ → Cells → Bool
-laterFits before word depth r =
-    ltb (before .number) (r .number) && (ltb (r .number) maxNodes
-    && (hasBit word (r .name) && (leb (depthUnder (r .name) depth) maxDepth && (not (isTextCode (r .name) && isTextCode (before .name)) && cellsFit r))))
+-- A later row, after a row with this number that is a text or not, under a parent of this depth which holds the names whose bits a word has.
+-- A second text of an element follows on the first.
+unfoldable pub laterFits : ℕ → Bool → ℕ → ℕ → ℕ → ℕ → ℕ → ℕ → Bool
+laterFits before afterText word depth number code start size =
+    ltb before number && (ltb number maxNodes
+    && (hasBit word code && (leb (depthUnder code depth) maxDepth && (not (isTextCode code && afterText) && textCellsFit code start size))))
+
+-- the same by the rows' cells
+abbrev pub rootCells : Cells → Bool
+rootCells r = rootFits (r .number) (r .name) (r .parent) (r .start) (r .size)
+
+abbrev pub laterCells : Cells → ℕ → ℕ → Cells → Bool
+laterCells before word depth r = laterFits (before .number) (isTextCode (before .name)) word depth (r .number) (r .name) (r .start) (r .size)
 
 -- ---- all rows; `words` has for each element the names that it holds
 -- the innermost open element after row i, whose parent is row p
@@ -50,7 +58,7 @@ module _ (words : List ℕ) (c : Columns) where
   abbrev pub fitsUnder : ℕ → (ℕ → ℕ → Bool) → Climbed → Bool
   fitsUnder i later nowhere = false
   fitsUnder i later (stopped p d) =
-      laterFits (cellsAt c i) (getD words (codeAt c p) 0) d (cellsAt c (suc i)) && later (openAfter (codeAt c (suc i)) (suc i) p) (depthUnder (codeAt c (suc i)) d)
+      laterCells (cellsAt c i) (getD words (codeAt c p) 0) d (cellsAt c (suc i)) && later (openAfter (codeAt c (suc i)) (suc i) p) (depthUnder (codeAt c (suc i)) d)
 
   -- the n rows after row i
   abbrev pub laterPass : ℕ → ℕ → ℕ → ℕ → Bool
@@ -60,4 +68,4 @@ module _ (words : List ℕ) (c : Columns) where
   -- the first n rows
   unfoldable pub rowsPass : ℕ → Bool
   rowsPass zero = true
-  rowsPass (suc n) = rootFits (cellsAt c 0) && laterPass n 0 0 1
+  rowsPass (suc n) = rootCells (cellsAt c 0) && laterPass n 0 0 1

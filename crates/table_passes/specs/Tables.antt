@@ -17,7 +17,7 @@ use Rattle.table_laws.specs.WellFormed.{table-means, table-tests}
 use Rattle.table_passes.specs.Climbs.{Climbed, stopped, nowhere, climb}
 use Rattle.table_passes.specs.Codes.{HeldWords, named-coded, later-parts, parts-later}
 use Rattle.table_passes.specs.Lines.{Stands, open-root}
-use Rattle.table_passes.specs.Passes.{rootFits, laterFits, fitsUnder, laterPass, rowsPass, openAfter, depthUnder, codeAt, parentAt}
+use Rattle.table_passes.specs.Passes.{rootFits, laterFits, rootCells, laterCells, fitsUnder, laterPass, rowsPass, openAfter, depthUnder, codeAt, parentAt}
 use Rattle.table_passes.specs.Rows.{Carried, fits-later, later-fits}
 use Rattle.table_spec.specs.Columns.{Columns, cellsAt, cellsFrom}
 use Rattle.table_spec.specs.Conditions.{RowAt, TextCells, of-element, of-text, LaterRow, WellFormed}
@@ -76,6 +76,9 @@ rows-stand c k (suc n) rows e =
         subst (λ (x : ℕ). Stands c x r) w (t .each i r g)
 
 -- ---- the pass on rows that stand in columns
+cells-fit : {a b x y : Cells} → a ≡ x → b ≡ y → (word depth : ℕ) → T (laterCells a word depth b) → T (laterCells x word depth y)
+cells-fit {b = b} {x = x} e f word depth t = subst (λ (z : Cells). T (laterCells x word depth z)) f (subst (λ (z : Cells). T (laterCells z word depth b)) e t)
+
 module _ (s : Types) (words : List ℕ) (hw : HeldWords s words) (c : Columns) where
   module _ (rows : List Row) (stands : (i : ℕ) (r : Row) → RowAt rows i r → Stands c i r) where
     -- one row of a pass
@@ -89,8 +92,8 @@ module _ (s : Types) (words : List ℕ) (hw : HeldWords s words) (c : Columns) w
         pick (stopped x e) z u =
             let code = codeAt c (suc i) in
             let w = getD words (codeAt c x) 0 in
-            let a = and-cases (laterFits (cellsAt c i) w e (cellsAt c (suc i))) (laterPass words c n (suc i) (openAfter code (suc i) x) (depthUnder code e)) u in
-            let f = later-parts q w e r (stands i q g .coded) (stands (suc i) r h .coded) (rw (stands i q g .cells, stands (suc i) r h .cells) at (a .0)) in
+            let a = and-cases (laterCells (cellsAt c i) w e (cellsAt c (suc i))) (laterPass words c n (suc i) (openAfter code (suc i) x) (depthUnder code e)) u in
+            let f = later-parts q w e r (stands i q g .coded) (stands (suc i) r h .coded) (cells-fit (stands i q g .cells) (stands (suc i) r h .cells) w e (a .0)) in
             let m = fits-later s words hw rows c stands i q r p d k g h x e z f in
             (m .0, (openAfter code (suc i) x, depthUnder code e, m .1, a .1))
 
@@ -119,8 +122,8 @@ module _ (s : Types) (words : List ℕ) (hw : HeldWords s words) (c : Columns) w
         let e = m .0 in
         let x = getD words (codeAt c (r .parent)) 0 in
         let fit = parts-later q x e r (stands i q g .coded) (stands (suc i) r (h .1) .coded) (m .2) in
-        rw (m .1) (and-intro (laterFits (cellsAt c i) x e (cellsAt c (suc i))) (laterPass words c n (suc i) (openAfter code (suc i) (r .parent)) (depthUnder code e))
-        (rw (stands i q g .cells, stands (suc i) r (h .1) .cells) fit)
+        rw (m .1) (and-intro (laterCells (cellsAt c i) x e (cellsAt c (suc i))) (laterPass words c n (suc i) (openAfter code (suc i) (r .parent)) (depthUnder code e))
+        (cells-fit (sym (stands i q g .cells)) (sym (stands (suc i) r (h .1) .cells)) x e fit)
         (means-pass n (suc i) (openAfter code (suc i) (r .parent)) (depthUnder code e) r (m .3) (h .1) (omega arith) w))
 
   root-carried : (rows : List Row) (r : Row) → RowAt rows 0 r → r .name ≡ element 0 → Carried s rows 0 r 0 1
@@ -135,11 +138,11 @@ module _ (s : Types) (words : List ℕ) (hw : HeldWords s words) (c : Columns) w
     first : cellsAt c 0 ≡ cellsOf r
     first = stands 0 r refl .cells
 
-    passed-means : T (rootFits (cellsAt c 0) && laterPass words c n 0 0 1) → WellFormed s (r ∷ rs)
+    passed-means : T (rootCells (cellsAt c 0) && laterPass words c n 0 0 1) → WellFormed s (r ∷ rs)
     unfolding rootFits
     passed-means t =
-        let x = subst (λ (z : Cells). T (rootFits z)) first (and-cases (rootFits (cellsAt c 0)) (laterPass words c n 0 0 1) t .0) in
-        let later = and-cases (rootFits (cellsAt c 0)) (laterPass words c n 0 0 1) t .1 in
+        let x = subst (λ (z : Cells). T (rootCells z)) first (and-cases (rootCells (cellsAt c 0)) (laterPass words c n 0 0 1) t .0) in
+        let later = and-cases (rootCells (cellsAt c 0)) (laterPass words c n 0 0 1) t .1 in
         let rest₂ = eqb (r .start) 0 && eqb (r .size) 0 in
         let rest₁ = eqb (r .parent) 0 && rest₂ in
         let c₀ = and-cases (eqb (r .number) 0) (eqb (codeOf (r .name)) 0 && rest₁) x in
@@ -154,15 +157,15 @@ module _ (s : Types) (words : List ℕ) (hw : HeldWords s words) (c : Columns) w
           laterRow = λ j a b u v. pass-means (r ∷ rs) stands n 0 0 1 r (root-carried (r ∷ rs) r refl name) refl (omega arith) later j a b (omega arith) u v;
         }
 
-    means-passed : WellFormed s (r ∷ rs) → T (rootFits (cellsAt c 0) && laterPass words c n 0 0 1)
+    means-passed : WellFormed s (r ∷ rs) → T (rootCells (cellsAt c 0) && laterPass words c n 0 0 1)
     unfolding rootFits
     means-passed w =
         let k = w .rootRow r refl in
         let name : r .name ≡ element 0 = k .1 ∙ hw .root in
-        and-intro (rootFits (cellsAt c 0)) (laterPass words c n 0 0 1) (subst (λ (z : Cells). T (rootFits z)) (sym first) (cells name (k .3)))
+        and-intro (rootCells (cellsAt c 0)) (laterPass words c n 0 0 1) (subst (λ (z : Cells). T (rootCells z)) (sym first) (cells name (k .3)))
         (means-pass (r ∷ rs) stands n 0 0 1 r (root-carried (r ∷ rs) r refl name) refl (omega arith) w)
       where
-        cells : r .name ≡ element 0 → TextCells r → T (rootFits (cellsOf r))
+        cells : r .name ≡ element 0 → TextCells r → T (rootCells (cellsOf r))
         cells name (of-element e a b) = rw (w .rootRow r refl .0, name, w .rootRow r refl .2, a, b) tt
         cells name (of-text {e = x} e a b) = let same : text x ≡ element 0 = sym e ∙ name in never (cc)
 
@@ -174,11 +177,11 @@ module _ (s : Types) (words : List ℕ) (hw : HeldWords s words) (c : Columns) w
   rows-tested (r ∷ rs) (suc n) f =
       let size : length rs ≡ n = omega (arith, f .size) in
       let stands : (i : ℕ) (z : Row) → RowAt (r ∷ rs) i z → Stands c i z = λ i z g. (let e : 0 + i ≡ i = omega arith in subst (λ (x : ℕ). Stands c x z) e (f .each i z g)) in
-      same-test (rootFits (cellsAt c 0) && laterPass words c n 0 0 1) (wellFormed s (r ∷ rs)) (λ t. table-tests s (r ∷ rs) (passed-means r rs n size stands t))
+      same-test (rootCells (cellsAt c 0) && laterPass words c n 0 0 1) (wellFormed s (r ∷ rs)) (λ t. table-tests s (r ∷ rs) (passed-means r rs n size stands t))
       (λ t. means-passed r rs n size stands (table-means s (r ∷ rs) t))
 
   -- ---- rows that pass have names
-  fits-named : (before : Cells) (a depth : ℕ) (r : Cells) → T (laterFits before (getD words a 0) depth r) → T (hasBit (getD words a 0) (r .name))
+  fits-named : (before : Cells) (a depth : ℕ) (r : Cells) → T (laterCells before (getD words a 0) depth r) → T (hasBit (getD words a 0) (r .name))
   unfolding laterFits
   fits-named before a depth r t =
       let c₀ = and-cases (ltb (before .number) (r .number)) _ t in
@@ -203,7 +206,7 @@ module _ (s : Types) (words : List ℕ) (hw : HeldWords s words) (c : Columns) w
       pick (stopped x e) u rest =
           let code = codeAt c (suc i) in
           let w = codeAt c x in
-          let a = and-cases (laterFits (cellsAt c i) (getD words w 0) e (cellsAt c (suc i))) (laterPass words c n (suc i) (openAfter code (suc i) x) (depthUnder code e)) u in
+          let a = and-cases (laterCells (cellsAt c i) (getD words w 0) e (cellsAt c (suc i))) (laterPass words c n (suc i) (openAfter code (suc i) x) (depthUnder code e)) u in
           let bit = fits-named (cellsAt c i) w e (cellsAt c (suc i)) (a .0) in
           cons-some (rowOf (cellsAt c (suc i))) (rowsOf (cellsFrom c (suc (suc i)) n))
           (named-row (suc i) (nameOfCode code) refl (λ h. failed (hw .unnamed w code h) bit)) (rest (openAfter code (suc i) x) (depthUnder code e) (a .1))
@@ -213,7 +216,7 @@ module _ (s : Types) (words : List ℕ) (hw : HeldWords s words) (c : Columns) w
   pass-named zero t = ([], refl)
   pass-named (suc n) t =
       let x = cellsAt c 0 in
-      let a = and-cases (rootFits x) (laterPass words c n 0 0 1) t in
+      let a = and-cases (rootCells x) (laterPass words c n 0 0 1) t in
       let b = and-cases (eqb (x .number) 0) _ (a .0) in
       let e : codeAt c 0 ≡ 0 = eqb→eq _ _ (and-cases (eqb (x .name) 0) _ (b .1) .0) in
       cons-some (rowOf x) (rowsOf (cellsFrom c 1 n)) (named-row 0 (nameOfCode (codeAt c 0)) refl (λ h. never (cc (ap nameOfCode e)))) (later-named n 0 0 1 (a .1))
