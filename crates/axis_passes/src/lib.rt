@@ -5,7 +5,7 @@ ghost use lib.Dec.{leb};
 ghost use lib.ListN.{length, replicate};
 ghost use Rattle.marks.specs.Columns.{mark, isMarked, OnlyMarks, union, intersection};
 ghost use Rattle.marks.specs.Parents.{imageMarks};
-ghost use Rattle.marks.specs.Passes.{AxisPass, SameLength, rangeMarks};
+ghost use Rattle.marks.specs.Passes.{AxisPass, SameLength, FilterPass, rangeMarks};
 ghost use Rattle.path_spec.specs.Paths.{child, descendant, descendantOrSelf, parent, ancestor, ancestorOrSelf};
 ghost use Rattle.text_spec.specs.Lists.{anyBelow};
 
@@ -38,18 +38,18 @@ pub fn copy(from: &[u8], out: &mut [u8])
     }
 }
 
-// Some row is marked.
+// Some row is marked. There is no test in the loop, so that the compiler vectorises it.
 pub fn any_marked(marks: &[u8]) -> bool
+    requires { ⌜ OnlyMarks (now marks) ⌝ }
     ensures { λ b. ⌜ b ≡ anyBelow (length (now (marks .entry))) (isMarked (now (marks .entry))) ⌝ }
 {
+    let mut x = UNMARKED;
     let mut r = 0;
     while r < marks.len() {
-        if marks[r] == MARKED {
-            return true;
-        }
+        x = x | marks[r];
         r += 1;
     }
-    false
+    x == MARKED
 }
 
 // The rows of either column.
@@ -90,14 +90,14 @@ fn in_range(code: u8, low: u8, high: u8) -> u8
     x
 }
 
-// The rows of the column whose codes are from `low` to `high`.
-pub fn filter(codes: &[u8], low: u8, high: u8, out: &mut [u8])
-    requires { ⌜ (length (now codes) ≡ length (now out)) × OnlyMarks (now out) ⌝ }
-    ensures { λ _. ⌜ now (out .exit) ≡ intersection (now (out .entry)) (rangeMarks low high (now (codes .entry))) ⌝ }
+// The marked rows whose codes are from `low` to `high`.
+pub fn filter(codes: &[u8], low: u8, high: u8, from: &[u8], out: &mut [u8])
+    requires { ⌜ FilterPass (now codes) (now from) (now out) ⌝ }
+    ensures { λ _. ⌜ now (out .exit) ≡ intersection (now (from .entry)) (rangeMarks low high (now (codes .entry))) ⌝ }
 {
     let mut r = 0;
     while r < out.len() {
-        out[r] = out[r] & in_range(codes[r], low, high);
+        out[r] = from[r] & in_range(codes[r], low, high);
         r += 1;
     }
 }

@@ -9,14 +9,16 @@ use lib.ListN.{length, getD, replicate, length-replicate}
 use Rattle.compiled_paths.specs.Columns.{plainIn, alternativeAt, alternativesIn, conditionIn, condition-none, condition-some}
 use Rattle.compiled_paths.specs.Paths.{AtMost}
 use Rattle.compiled_paths.specs.Sizes.{allSteps, allAlternatives}
-use Rattle.marks.specs.Columns.{isMarked, union, intersection, marks-cong, marks-marked}
+use Rattle.marks.specs.Columns.{isMarked, union, intersection, marks-cong, marks-marked, no-row-marked}
 use Rattle.marks.specs.Passes.{SameLength, fill-marks}
+use Rattle.marks.specs.Roots.{intersection-none}
 use Rattle.marks.specs.Selection.{inverseMarks, noMarks, allMarks, alternativeMarks, alternativesMarks, conditionMarks}
 use Rattle.path_spec.specs.Paths.{WrittenAxis, along, PlainStep, Condition}
 use Rattle.schema_spec.specs.Names.{Name}
 use Rattle.step_passes.specs.Steps.{backwardMarks, TableColumns, MarkColumn, StepPass, marks-column, image-column, union-column, columns-same-length}
 use Rattle.step_passes.specs.Tests.{namesIn}
 use Rattle.path_laws.specs.Inverses.{inverse}
+use Rattle.text_spec.specs.Lists.{anyBelow}
 
 -- ---- what the passes ask
 pub record AlternativePass (ps codes : List ℕ) (first size : ℕ) (held steps next : List ℕ) : Type 0 where
@@ -206,3 +208,10 @@ module _ (ps codes axes lows highs ways : List ℕ) (first count : ℕ) (m held 
       h .column .marked ∙ marks-cong (length m) (isMarked m) (λ r. isMarked m r && isMarked (allMarks (length ps)) r)
       (λ r l. sym (ap (λ (t : Bool). isMarked m r && t) (marks-marked (length ps) (λ q. true) r (omega (arith, h .column .size))) ∙ and-true (isMarked m r)))
       ∙ sym (ap (λ (c : Condition ℕ). intersection m (conditionMarks ps (namesIn codes) c)) (condition-none axes lows highs ways count first e))
+
+  -- where no row is marked none is left to keep
+  pub none-kept : anyBelow (length m) (isMarked m) ≡ false → m ≡ intersection m (conditionMarks ps (namesIn codes) (conditionIn axes lows highs ways count first))
+  none-kept e =
+      let is : m ≡ noMarks (length m) = no-row-marked m (h .column .marked) e in
+      let judged : List ℕ = conditionMarks ps (namesIn codes) (conditionIn axes lows highs ways count first) in
+      is ∙ sym (intersection-none (length m) judged) ∙ sym (ap (λ (l : List ℕ). intersection l judged) is)

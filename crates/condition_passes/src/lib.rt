@@ -9,6 +9,7 @@ ghost use Rattle.marks.specs.Selection.{noMarks, alternativeMarks, alternatives
 ghost use Rattle.step_passes.specs.Tests.{namesIn};
 use axis_passes::MARKED;
 use axis_passes::UNMARKED;
+use axis_passes::any_marked;
 use axis_passes::fill;
 use axis_passes::intersect;
 use axis_passes::unite;
@@ -91,8 +92,8 @@ fn condition<'a>(
     }
 }
 
-// Keeps the rows where a condition of `count` alternatives, the first of them at `first`, holds; none are no condition. `held`, `steps` and
-// `next` are scratch.
+// Keeps the rows where a condition of `count` alternatives, the first of them at `first`, holds; none are no condition. Where no row is
+// marked nothing is judged. `held`, `steps` and `next` are scratch.
 pub fn keep<'a>(
     parents: &[u16],
     codes: &[u8],
@@ -111,19 +112,21 @@ pub fn keep<'a>(
     ensures { λ _. ⌜ now (marks .exit) ≡ intersection (now (marks .entry)) (conditionMarks (now (parents .entry)) (namesIn (now (codes .entry))) (conditionIn (now (axes .entry)) (now (lows .entry)) (now (highs .entry)) (now (alternatives .entry)) count first)) ⌝ }
 {
     if count != 0 {
-        condition(
-            parents,
-            codes,
-            axes,
-            lows,
-            highs,
-            alternatives,
-            first,
-            count,
-            held,
-            steps,
-            next,
-        );
-        intersect(&held[..], marks);
+        if any_marked(&marks[..]) {
+            condition(
+                parents,
+                codes,
+                axes,
+                lows,
+                highs,
+                alternatives,
+                first,
+                count,
+                held,
+                steps,
+                next,
+            );
+            intersect(&held[..], marks);
+        }
     }
 }

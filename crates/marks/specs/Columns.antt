@@ -1,16 +1,14 @@
 -- Sets of rows, and columns that have a mark for each row: 1 where the row is in the set, else 0.
 use mathlib.Core.Bool.{Bool, true, false, cond, _&&_, _||_}
 use mathlib.Core.List.{List, [], _∷_}
-use mathlib.Core.Path.{_≡_, refl, sym, ap, ap₂, _∙_}
-use Prim.Native.Nat.{ℕ, zero, suc, _+_, _<_, _≤_}
-use native.Mathlib.Numerals.{add-one}
+use mathlib.Core.Path.{_≡_, refl, sym, ap, _∙_}
+use Prim.Native.Nat.{ℕ, zero, suc, _<_}
 use native.Mathlib.Omega.{arith}
-use borrow.Author.Tests.{eq-eqb, ne-eqb}
 use lib.Dec.{eqb}
 use lib.ListN.{length, getD}
 use lib.Seq.{ext-getD}
 use Rattle.text_laws.specs.Searches.{any-below}
-use Rattle.text_laws.specs.Tests.{passed, failed, true-of, false-of}
+use Rattle.text_laws.specs.Tests.{failed, false-of}
 use Rattle.text_spec.specs.Lists.{anyBelow}
 
 -- ---- definitions
@@ -84,19 +82,7 @@ only-marks n f = rw (marks-length n f) (marks-cong n f (isMarked (marks n f)) (�
 pub mark-at : (m : List ℕ) → OnlyMarks m → (r : ℕ) → r < length m → getD m r 0 ≡ mark (isMarked m r)
 mark-at m e r l = ap (λ (k : List ℕ). getD k r 0) e ∙ marks-at (length m) (isMarked m) r l
 
--- ---- whether some row is marked
-pub marked-found : (m : List ℕ) (r : ℕ) → r < length m → getD m r 0 ≡ 1 → true ≡ anyBelow (length m) (isMarked m)
-marked-found m r l e = sym (true-of (anyBelow (length m) (isMarked m)) (any-below (length m) (isMarked m) r l (passed (eq-eqb (getD m r 0) 1 e))))
-
-pub unmarked-next : (m : List ℕ) (r : ℕ) → anyBelow r (isMarked m) ≡ false → (getD m r 0 ≡ 1 → ⊥) → anyBelow (r + 1) (isMarked m) ≡ false
-unfolding anyBelow
-unmarked-next m r e d = ap (λ (n : ℕ). anyBelow n (isMarked m)) (add-one r) ∙ ap₂ _||_ e (ne-eqb (getD m r 0) 1 d)
-
-pub unmarked-all : (m : List ℕ) (r : ℕ) → anyBelow r (isMarked m) ≡ false → r ≤ length m → length m ≤ r → false ≡ anyBelow (length m) (isMarked m)
-unmarked-all m r e b l =
-    let z : r ≡ length m = omega arith in
-    sym e ∙ ap (λ (n : ℕ). anyBelow n (isMarked m)) z
-
+-- a column with no marked row
 pub no-row-marked : (m : List ℕ) → OnlyMarks m → anyBelow (length m) (isMarked m) ≡ false → m ≡ marks (length m) (λ r. false)
 no-row-marked m h e =
     h ∙ marks-cong (length m) (isMarked m) (λ r. false) (λ r l. false-of (isMarked m r) (λ t. failed e (any-below (length m) (isMarked m) r l t)))

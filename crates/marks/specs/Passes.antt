@@ -3,18 +3,20 @@ use mathlib.Core.Bool.{Bool, false, _&&_, _||_, and-false}
 use mathlib.Core.List.{List}
 use mathlib.Core.Path.{_≡_, refl, sym, ap, subst, _∙_}
 use Prim.Native.Nat.{ℕ, suc, _+_, _-_, _<_, _≤_}
+use native.Mathlib.Numerals.{add-one}
 use native.Mathlib.Omega.{arith}
 use borrow.Author.Tests.{le-leb, lt-leb}
 use lib.Bits.{bitOr, bitAnd}
-use lib.Dec.{leb}
+use lib.Dec.{eqb, leb}
 use lib.ListN.{length, getD, set, length-set, replicate, length-replicate, getD-replicate}
 use lib.Seq.{ext-getD, getD-set-same}
 use Rattle.marks.specs.Backward.{propagated, propagated-none, propagated-all, propagated-own, propagated-next, ancestor-step, ancestor-or-self-step}
-use Rattle.marks.specs.Columns.{RowSet, mark, isMarked, marks, OnlyMarks, union, intersection, marks-length, marks-at, marks-cong, only-marks, mark-at}
+use Rattle.marks.specs.Columns.{RowSet, mark, isMarked, marks, OnlyMarks, union, intersection, mark-test, marks-length, marks-at, marks-marked, marks-cong, mark-at}
 use Rattle.marks.specs.Forward.{Forward, forward-next, forward-all, or-marks, and-marks, image-self, child-root, child-later, descendant-root, descendant-later, descendant-or-self-root, descendant-or-self-later}
 use Rattle.marks.specs.Parents.{image, imageMarks}
 use Rattle.path_spec.specs.Paths.{Axis, self, child, descendant, descendantOrSelf, parent, ancestor, ancestorOrSelf}
 use Rattle.table_laws.specs.Parents.{ParentsBefore}
+use Rattle.text_spec.specs.Lists.{anyBelow}
 
 -- a column of parents, one of marks and room for another, of a table that is not empty
 pub record AxisPass (ps m out : List ℕ) : Type 0 where
@@ -29,6 +31,12 @@ pub record SameLength (m out : List ℕ) : Type 0 where
   pub marked : OnlyMarks m
   pub marks-out : OnlyMarks out
   pub size : length m ≡ length out
+
+-- a column of codes, one of marks and room for another
+pub record FilterPass (codes m out : List ℕ) : Type 0 where
+  pub marked : OnlyMarks m
+  pub size : length m ≡ length out
+  pub codes-size : length codes ≡ length out
 
 -- the rows whose codes are in a range
 unfoldable pub rangeMarks : ℕ → ℕ → List ℕ → List ℕ
@@ -83,26 +91,46 @@ module _ (m was : List ℕ) (h : SameLength m was) where
         (ap (λ (x : ℕ). bitAnd x (getD m r 0)) (w .rows .kept r (omega arith) ∙ mark-at was (h .marks-out) r b) ∙ ap (bitAnd (mark (isMarked was r))) (mark-of b)
         ∙ and-marks (isMarked was r) (isMarked m r) ∙ sym (marks-at (length was) (λ q. isMarked was q && isMarked m q) r b))
 
--- a filter meets with a column that is never written
-pub range-marks : (low high : ℕ) (codes was : List ℕ) → length codes ≡ length was → OnlyMarks was → SameLength (rangeMarks low high codes) was
+pub range-at : (low high : ℕ) (codes : List ℕ) (r : ℕ) → r < length codes → isMarked (rangeMarks low high codes) r ≡ (leb low (getD codes r 0) && leb (getD codes r 0) high)
 unfolding rangeMarks
-range-marks low high codes was e h =
-    record {
-      marked = only-marks (length codes) (λ r. leb low (getD codes r 0) && leb (getD codes r 0) high);
-      marks-out = h;
-      size = marks-length (length codes) (λ r. leb low (getD codes r 0) && leb (getD codes r 0) high) ∙ e;
-    }
+range-at low high codes r l = marks-marked (length codes) (λ q. leb low (getD codes q 0) && leb (getD codes q 0) high) r l
 
-pub range-at : (low high : ℕ) (codes : List ℕ) (r : ℕ) → r < length codes → getD (rangeMarks low high codes) r 0 ≡ mark (leb low (getD codes r 0) && leb (getD codes r 0) high)
-unfolding rangeMarks
-range-at low high codes r l = marks-at (length codes) (λ q. leb low (getD codes q 0) && leb (getD codes q 0) high) r l
+-- ---- a filter
+module _ (low high : ℕ) (codes m was : List ℕ) (h : FilterPass codes m was) where
+  abbrev kept : List ℕ
+  kept = intersection m (rangeMarks low high codes)
 
-pub range-next : (low high : ℕ) (codes was : List ℕ) → length codes ≡ length was → OnlyMarks was → (r : ℕ) (out : List ℕ) (x : ℕ) → r < length out
-    → x ≡ mark (leb low (getD codes r 0) && leb (getD codes r 0) high) → Forward (intersection was (rangeMarks low high codes)) was r out
-    → Forward (intersection was (rangeMarks low high codes)) was (r + 1) (set out r (bitAnd (getD out r 0) x))
-range-next low high codes was e h r out x l d w =
-    subst (λ (y : ℕ). Forward (intersection was (rangeMarks low high codes)) was (r + 1) (set out r (bitAnd (getD out r 0) y)))
-    (range-at low high codes r (omega (arith, w .size)) ∙ sym d) (intersection-next (rangeMarks low high codes) was (range-marks low high codes was e h) r out l w)
+  pub filter-length : length was ≡ length kept
+  unfolding intersection
+  filter-length = sym (marks-length (length m) (λ q. isMarked m q && isMarked (rangeMarks low high codes) q) ∙ h .size)
+
+  pub filter-next : (r : ℕ) (out : List ℕ) (x : ℕ) → r < length out → x ≡ mark (leb low (getD codes r 0) && leb (getD codes r 0) high) → Forward kept was r out
+      → Forward kept was (r + 1) (set out r (bitAnd (getD m r 0) x))
+  unfolding intersection
+  filter-next r out x l e w =
+      let b : r < length m = omega (arith, w .size, h .size) in
+      forward-next kept was r out (bitAnd (getD m r 0) x) w l
+      (ap (λ (y : ℕ). bitAnd y x) (mark-at m (h .marked) r b)
+      ∙ ap (bitAnd (mark (isMarked m r))) (e ∙ ap mark (sym (range-at low high codes r (omega (arith, w .size, h .codes-size)))))
+      ∙ and-marks (isMarked m r) (isMarked (rangeMarks low high codes) r)
+      ∙ sym (marks-at (length m) (λ q. isMarked m q && isMarked (rangeMarks low high codes) q) r b))
+
+-- ---- whether some row is marked, with r rows behind the pass
+module _ (m : List ℕ) where
+  pub some-none : 0 ≡ mark (anyBelow 0 (isMarked m))
+  unfolding anyBelow
+  some-none = refl
+
+  pub some-next : (r x : ℕ) → OnlyMarks m → r < length m → x ≡ mark (anyBelow r (isMarked m)) → bitOr x (getD m r 0) ≡ mark (anyBelow (r + 1) (isMarked m))
+  unfolding anyBelow
+  some-next r x h l e =
+      ap (λ (y : ℕ). bitOr y (getD m r 0)) e ∙ ap (bitOr (mark (anyBelow r (isMarked m)))) (mark-at m h r l) ∙ or-marks (anyBelow r (isMarked m)) (isMarked m r)
+      ∙ sym (ap (λ (n : ℕ). mark (anyBelow n (isMarked m))) (add-one r))
+
+  pub some-all : (r x : ℕ) → r ≤ length m → length m ≤ r → x ≡ mark (anyBelow r (isMarked m)) → eqb x 1 ≡ anyBelow (length m) (isMarked m)
+  some-all r x b l e =
+      let z : r ≡ length m = omega arith in
+      ap (λ (y : ℕ). eqb y 1) e ∙ mark-test (anyBelow r (isMarked m)) ∙ ap (λ (n : ℕ). anyBelow n (isMarked m)) z
 
 -- a code against a range
 pub code-above : (low high code : ℕ) → high < code → 0 ≡ mark (leb low code && leb code high)

@@ -1,4 +1,5 @@
-// The numbers of marked rows, written one after the other into lent cells; past them zeros.
+// The numbers of marked rows, written one after the other into lent cells, and counts; past them zeros. Counts are wider than numbers: a path
+// may select more nodes than the largest number (D25).
 ghost use mathlib.Core.Path.{_≡_};
 ghost use Rattle.marks.specs.Columns.{picked};
 ghost use Rattle.row_numbers.specs.Cells.{written, Cleared, AppendPass, Appended};
@@ -34,6 +35,26 @@ pub fn clear_from(out: &mut [u16], n: usize)
     let mut i = n;
     while i < out.len() {
         out[i] = 0;
+        i += 1;
+    }
+}
+
+// Writes a count, if its cell is there.
+pub fn put_count(counts: &mut [u32], n: usize, count: u32)
+    ensures { λ _. ⌜ now (counts .exit) ≡ written (now (counts .entry)) n count ⌝ }
+{
+    if n < counts.len() {
+        counts[n] = count;
+    }
+}
+
+// Clears the cells of counts from `n` on.
+pub fn clear_counts_from(counts: &mut [u32], n: usize)
+    ensures { λ _. ⌜ Cleared (now (counts .entry)) n (now (counts .exit)) ⌝ }
+{
+    let mut i = n;
+    while i < counts.len() {
+        counts[i] = 0;
         i += 1;
     }
 }

@@ -1,8 +1,9 @@
 // The numbers that compiled paths select on a table in columns, joined and counted, in lent cells.
 ghost use Rattle.select_paths.specs.Joined.{AllPass, JoinedAs};
 use compiled_paths::CompiledPaths;
+use row_numbers::clear_counts_from;
 use row_numbers::clear_from;
-use row_numbers::put;
+use row_numbers::put_count;
 use select::select_one;
 
 // Writes the numbers that the paths from `first` to before `end` select, joined, and how many each selects; past them zeros. Gives how many
@@ -15,7 +16,7 @@ pub fn select_paths(
     codes: &[u8],
     parents: &[u16],
     items: &mut [u16],
-    counts: &mut [u16],
+    counts: &mut [u32],
     marks: &mut [u8],
     held: &mut [u8],
     steps: &mut [u8],
@@ -40,11 +41,11 @@ pub fn select_paths(
             steps,
             next,
         );
-        put(counts, i - first, (m - n) as u16);
+        put_count(counts, i - first, (m - n) as u32);
         n = m;
         i += 1;
     }
     clear_from(items, n);
-    clear_from(counts, end - first);
+    clear_counts_from(counts, end - first);
     n
 }

@@ -1,22 +1,21 @@
 -- The steps of a compiled path, one after the other from the root.
 use mathlib.Core.Bool.{false}
 use mathlib.Core.List.{List}
-use mathlib.Core.Path.{_≡_, refl, sym, ap, _∙_}
-use Prim.Native.Nat.{ℕ, zero, suc, _+_, _-_, _<_, _≤_}
+use mathlib.Core.Path.{_≡_, sym, ap, _∙_}
+use Prim.Native.Nat.{ℕ, suc, _+_, _-_, _<_, _≤_}
 use native.Mathlib.Numerals.{add-one}
 use native.Mathlib.Omega.{arith}
-use borrow.Author.Tests.{eq-eqb, ne-eqb}
 use lib.Dec.{eqb}
-use lib.ListN.{length, getD, set, length-set, replicate, length-replicate, getD-replicate}
-use lib.Seq.{getD-set-same, getD-set-other}
+use lib.ListN.{length, getD}
 use Rattle.compiled_paths.specs.Columns.{sizeAt, startAt, conditionIn, stepAt, stepsIn, pathAt}
 use Rattle.compiled_paths.specs.Paths.{AtMost, Shaped}
 use Rattle.compiled_paths.specs.Sizes.{writtenSteps, allSteps, allAlternatives}
 use Rattle.compiled_paths.specs.declared.CompiledPaths.{CompiledPaths}
 use Rattle.condition_passes.specs.Conditions.{KeepPass}
-use Rattle.marks.specs.Columns.{mark, isMarked, intersection, marks-by-rows, no-row-marked}
+use Rattle.marks.specs.Columns.{isMarked, intersection, no-row-marked}
 use Rattle.marks.specs.Roots.{steps-none}
 use Rattle.marks.specs.Selection.{noMarks, conditionMarks, stepMarks, stepsMarks, rootMarks, pathMarks}
+use Rattle.root_passes.specs.Roots.{FirstPass}
 use Rattle.step_passes.specs.Steps.{forwardMarks, TableColumns, MarkColumn, StepPass, marks-column, intersection-column, forward-column}
 use Rattle.step_passes.specs.Tests.{namesIn}
 use Rattle.text_spec.specs.Lists.{anyBelow}
@@ -35,12 +34,29 @@ pub record StepAtPass (ps codes ways conditions : List ℕ) (k : ℕ) (m held st
   pub column : MarkColumn ps m
   pub scratch : Scratch ps held steps next
 
+-- the marks may be anything where a path starts
+pub record FirstAtPass (ps codes ways conditions : List ℕ) (k : ℕ) (m held steps next : List ℕ) : Type 0 where
+  pub table : TableColumns ps codes
+  pub inside : k < writtenSteps
+  pub alternative-starts : AtMost allSteps ways
+  pub condition-starts : AtMost allAlternatives conditions
+  pub room : length m ≡ length ps
+  pub scratch : Scratch ps held steps next
+
 pub record StepsPass (ps codes ways conditions : List ℕ) (first size : ℕ) (m held steps next : List ℕ) : Type 0 where
   pub table : TableColumns ps codes
   pub inside : first + size ≤ writtenSteps
   pub alternative-starts : AtMost allSteps ways
   pub condition-starts : AtMost allAlternatives conditions
   pub column : MarkColumn ps m
+  pub scratch : Scratch ps held steps next
+
+pub record RootStepsPass (ps codes ways conditions : List ℕ) (first size : ℕ) (m held steps next : List ℕ) : Type 0 where
+  pub table : TableColumns ps codes
+  pub inside : first + size ≤ writtenSteps
+  pub alternative-starts : AtMost allSteps ways
+  pub condition-starts : AtMost allAlternatives conditions
+  pub room : length m ≡ length ps
   pub scratch : Scratch ps held steps next
 
 pub record PathPass (c : CompiledPaths) (i : ℕ) (ps codes m held steps next : List ℕ) : Type 0 where
@@ -50,34 +66,68 @@ pub record PathPass (c : CompiledPaths) (i : ℕ) (ps codes m held steps next : 
   pub room : length m ≡ length ps
   pub scratch : Scratch ps held steps next
 
--- ---- one step
-module _ (ps codes axes lows highs ways conditions : List ℕ) (k : ℕ) (m held steps next : List ℕ) (h : StepAtPass ps codes ways conditions k m held steps next) where
-  pub step-pass : StepPass ps codes m next
-  step-pass = record { table = h .table; column = h .column; room = h .scratch .room-next }
+-- ---- the condition of a step
+module _ (ps codes axes lows highs ways conditions : List ℕ) (k : ℕ) where
+  -- the rows where it holds
+  abbrev holding : List ℕ
+  holding = conditionMarks ps (namesIn codes) (conditionIn axes lows highs ways (sizeAt conditions k) (startAt conditions k))
 
-  pub step-keep : (n : ℕ) (x y : List ℕ) → n ≡ getD conditions (k + 1) 0 - getD conditions k 0
-      → x ≡ forwardMarks ps codes (getD axes k 0) (getD lows k 0) (getD highs k 0) m → length y ≡ length next → KeepPass ps codes ways (getD conditions k 0) n x held steps y
-  step-keep n x y e d f =
-      record {
-        condition = record {
+  module _ (m held steps next : List ℕ) (h : StepAtPass ps codes ways conditions k m held steps next) where
+    pub at-keep : (n : ℕ) → n ≡ getD conditions (k + 1) 0 - getD conditions k 0 → KeepPass ps codes ways (getD conditions k 0) n m held steps next
+    at-keep n e =
+        record {
+          condition = record {
+            table = h .table;
+            inside = omega (arith, h .condition-starts k, h .condition-starts (k + 1));
+            starts = h .alternative-starts;
+            room-held = h .scratch .room-held;
+            room-steps = h .scratch .room-steps;
+            room-next = h .scratch .room-next;
+          };
+          column = h .column;
+        }
+
+    pub at-kept : (n : ℕ) (y : List ℕ) → n ≡ getD conditions (k + 1) 0 - getD conditions k 0
+        → y ≡ intersection m (conditionMarks ps (namesIn codes) (conditionIn axes lows highs ways n (getD conditions k 0))) → y ≡ intersection m holding
+    at-kept n y e f = f ∙ ap (λ (s : ℕ). intersection m (conditionMarks ps (namesIn codes) (conditionIn axes lows highs ways s (getD conditions k 0)))) e
+
+    -- ---- one step from marked rows
+    pub step-pass : StepPass ps codes m next
+    step-pass = record { table = h .table; column = h .column; room = h .scratch .room-next }
+
+    pub step-kept : (x y : List ℕ) → x ≡ forwardMarks ps codes (getD axes k 0) (getD lows k 0) (getD highs k 0) m → length y ≡ length next
+        → StepAtPass ps codes ways conditions k x held steps y
+    step-kept x y d f =
+        record {
           table = h .table;
-          inside = omega (arith, h .condition-starts k, h .condition-starts (k + 1));
-          starts = h .alternative-starts;
-          room-held = h .scratch .room-held;
-          room-steps = h .scratch .room-steps;
-          room-next = f ∙ h .scratch .room-next;
-        };
-        column = rw d (forward-column ps codes (getD axes k 0) (getD lows k 0) (getD highs k 0) m);
-      }
+          inside = h .inside;
+          alternative-starts = h .alternative-starts;
+          condition-starts = h .condition-starts;
+          column = rw d (forward-column ps codes (getD axes k 0) (getD lows k 0) (getD highs k 0) m);
+          scratch = record { room-held = h .scratch .room-held; room-steps = h .scratch .room-steps; room-next = f ∙ h .scratch .room-next };
+        }
 
-  pub step-marked : (n : ℕ) (x y : List ℕ) → n ≡ getD conditions (k + 1) 0 - getD conditions k 0
-      → x ≡ forwardMarks ps codes (getD axes k 0) (getD lows k 0) (getD highs k 0) m
-      → y ≡ intersection x (conditionMarks ps (namesIn codes) (conditionIn axes lows highs ways n (getD conditions k 0)))
+  -- ---- the first step, from the root
+  module _ (m held steps next : List ℕ) (h : FirstAtPass ps codes ways conditions k m held steps next) where
+    pub first-pass : FirstPass ps codes m next
+    first-pass = record { table = h .table; room-marks = h .room; room-next = h .scratch .room-next }
+
+    pub first-kept : (x y : List ℕ) → x ≡ forwardMarks ps codes (getD axes k 0) (getD lows k 0) (getD highs k 0) (rootMarks (length ps)) → length y ≡ length next
+        → StepAtPass ps codes ways conditions k x held steps y
+    first-kept x y d f =
+        record {
+          table = h .table;
+          inside = h .inside;
+          alternative-starts = h .alternative-starts;
+          condition-starts = h .condition-starts;
+          column = rw d (forward-column ps codes (getD axes k 0) (getD lows k 0) (getD highs k 0) (rootMarks (length ps)));
+          scratch = record { room-held = h .scratch .room-held; room-steps = h .scratch .room-steps; room-next = f ∙ h .scratch .room-next };
+        }
+
+  pub step-marked : (m x y : List ℕ) → x ≡ forwardMarks ps codes (getD axes k 0) (getD lows k 0) (getD highs k 0) m → y ≡ intersection x holding
       → y ≡ stepMarks ps (namesIn codes) (stepAt axes lows highs ways conditions k) m
   unfolding stepMarks forwardMarks
-  step-marked n x y e d f =
-      f ∙ ap (λ (l : List ℕ). intersection l (conditionMarks ps (namesIn codes) (conditionIn axes lows highs ways n (getD conditions k 0)))) d
-      ∙ ap (λ (s : ℕ). intersection (forwardMarks ps codes (getD axes k 0) (getD lows k 0) (getD highs k 0) m) (conditionMarks ps (namesIn codes) (conditionIn axes lows highs ways s (getD conditions k 0)))) e
+  step-marked m x y d f = f ∙ ap (λ (l : List ℕ). intersection l holding) d
 
 pub step-column : (ps codes axes lows highs ways conditions : List ℕ) (k : ℕ) (m x : List ℕ) → MarkColumn ps m
     → x ≡ stepMarks ps (namesIn codes) (stepAt axes lows highs ways conditions k) m → MarkColumn ps x
@@ -166,42 +216,76 @@ module _ (ps codes axes lows highs ways conditions : List ℕ) (first size : ℕ
         is : m ≡ noMarks (length ps)
         is = no-row-marked m (w .column .marked) e ∙ ap noMarks (w .column .size)
 
--- ---- the root's column
-pub root-set : (n : ℕ) (k : List ℕ) → 0 < n → k ≡ replicate n 0 → set k 0 1 ≡ rootMarks n
-unfolding rootMarks
-root-set n k l e = marks-by-rows n (λ r. eqb r 0) (set k 0 1) (length-set k 0 1 ∙ long) row
-  where
-    long : length k ≡ n
-    long = ap length e ∙ length-replicate n 0
-
-    row : (r : ℕ) → r < n → getD (set k 0 1) r 0 ≡ mark (eqb r 0)
-    row zero b = getD-set-same k 0 1 0 (omega (arith, long)) ∙ sym (ap mark (eq-eqb 0 0 refl))
-    row (suc r) b =
-        getD-set-other k 0 (suc r) 1 0 (λ z. omega arith) ∙ ap (λ (l : List ℕ). getD l (suc r) 0) e ∙ getD-replicate n (suc r) 0 0 b
-        ∙ sym (ap mark (ne-eqb (suc r) 0 (λ z. omega arith)))
-
+-- ---- steps from the root
 pub root-column : (ps : List ℕ) → MarkColumn ps (rootMarks (length ps))
 unfolding rootMarks
 root-column ps = marks-column ps (λ r. eqb r 0)
 
+module _ (ps codes axes lows highs ways conditions : List ℕ) (first size : ℕ) (m held steps next : List ℕ) (h : RootStepsPass ps codes ways conditions first size m held steps next) where
+  -- no step: the root alone
+  pub no-steps : (x : List ℕ) → size ≡ 0 → x ≡ rootMarks (length m) → x ≡ stepsMarks ps (namesIn codes) (stepsIn axes lows highs ways conditions size first) (rootMarks (length ps))
+  unfolding stepsMarks stepsIn
+  no-steps x e d = rw e (d ∙ ap rootMarks (h .room))
+
+  pub first-at : (size ≡ 0 → ⊥) → FirstAtPass ps codes ways conditions first m held steps next
+  first-at d =
+      record {
+        table = h .table;
+        inside = omega (arith, h .inside);
+        alternative-starts = h .alternative-starts;
+        condition-starts = h .condition-starts;
+        room = h .room;
+        scratch = h .scratch;
+      }
+
+  module _ (x : List ℕ) (e : x ≡ stepMarks ps (namesIn codes) (stepAt axes lows highs ways conditions first) (rootMarks (length ps))) (d : size ≡ 0 → ⊥) where
+    pub later-pass : (y z u : List ℕ) → length y ≡ length held → length z ≡ length steps → length u ≡ length next
+        → StepsPass ps codes ways conditions (first + 1) (size - 1) x y z u
+    later-pass y z u f g i =
+        record {
+          table = h .table;
+          inside = omega (arith, h .inside);
+          alternative-starts = h .alternative-starts;
+          condition-starts = h .condition-starts;
+          column = step-column ps codes axes lows highs ways conditions first (rootMarks (length ps)) x (root-column ps) e;
+          scratch = record {
+            room-held = f ∙ h .scratch .room-held;
+            room-steps = g ∙ h .scratch .room-steps;
+            room-next = i ∙ h .scratch .room-next;
+          };
+        }
+
+    pub later-marked : (y : List ℕ) → y ≡ stepsMarks ps (namesIn codes) (stepsIn axes lows highs ways conditions (size - 1) (first + 1)) x
+        → y ≡ stepsMarks ps (namesIn codes) (stepsIn axes lows highs ways conditions size first) (rootMarks (length ps))
+    unfolding stepsMarks stepsIn
+    later-marked y f =
+        f ∙ ap (stepsMarks ps (namesIn codes) (stepsIn axes lows highs ways conditions (size - 1) (first + 1))) e
+        ∙ ap (λ (j : ℕ). stepsMarks ps (namesIn codes) (stepsIn axes lows highs ways conditions (size - 1) j) one) (add-one first)
+        ∙ sym (ap (λ (n : ℕ). stepsMarks ps (namesIn codes) (stepsIn axes lows highs ways conditions n first) (rootMarks (length ps))) one-more)
+      where
+        one : List ℕ
+        one = stepMarks ps (namesIn codes) (stepAt axes lows highs ways conditions first) (rootMarks (length ps))
+
+        one-more : size ≡ suc (size - 1)
+        one-more = omega arith
+
 -- ---- a path
 module _ (c : CompiledPaths) (i : ℕ) (ps codes m held steps next : List ℕ) (h : PathPass c i ps codes m held steps next) where
-  pub path-steps : (n : ℕ) (x : List ℕ) → n ≡ getD (c .paths) (i + 1) 0 - getD (c .paths) i 0 → x ≡ rootMarks (length m)
-      → StepsPass ps codes (c .alternatives) (c .conditions) (getD (c .paths) i 0) n x held steps next
-  path-steps n x e d =
+  pub path-steps : (n : ℕ) → n ≡ getD (c .paths) (i + 1) 0 - getD (c .paths) i 0
+      → RootStepsPass ps codes (c .alternatives) (c .conditions) (getD (c .paths) i 0) n m held steps next
+  path-steps n e =
       record {
         table = h .table;
         inside = omega (arith, h .shaped .paths-in i, h .shaped .paths-in (i + 1));
         alternative-starts = h .shaped .alternatives-in;
         condition-starts = h .shaped .conditions-in;
-        column = rw (d ∙ ap rootMarks (h .room)) (root-column ps);
+        room = h .room;
         scratch = h .scratch;
       }
 
-  pub path-marked : (n : ℕ) (x y : List ℕ) → n ≡ getD (c .paths) (i + 1) 0 - getD (c .paths) i 0 → x ≡ rootMarks (length m)
-      → y ≡ stepsMarks ps (namesIn codes) (stepsIn (c .axes) (c .lows) (c .highs) (c .alternatives) (c .conditions) n (getD (c .paths) i 0)) x
+  pub path-marked : (n : ℕ) (y : List ℕ) → n ≡ getD (c .paths) (i + 1) 0 - getD (c .paths) i 0
+      → y ≡ stepsMarks ps (namesIn codes) (stepsIn (c .axes) (c .lows) (c .highs) (c .alternatives) (c .conditions) n (getD (c .paths) i 0)) (rootMarks (length ps))
       → y ≡ pathMarks ps (namesIn codes) (pathAt (c .axes) (c .lows) (c .highs) (c .alternatives) (c .conditions) (c .paths) i)
   unfolding pathMarks
-  path-marked n x y e d f =
-      f ∙ ap (λ (s : ℕ). stepsMarks ps (namesIn codes) (stepsIn (c .axes) (c .lows) (c .highs) (c .alternatives) (c .conditions) s (getD (c .paths) i 0)) x) e
-      ∙ ap (stepsMarks ps (namesIn codes) (stepsIn (c .axes) (c .lows) (c .highs) (c .alternatives) (c .conditions) (sizeAt (c .paths) i) (startAt (c .paths) i))) (d ∙ ap rootMarks (h .room))
+  path-marked n y e f =
+      f ∙ ap (λ (s : ℕ). stepsMarks ps (namesIn codes) (stepsIn (c .axes) (c .lows) (c .highs) (c .alternatives) (c .conditions) s (getD (c .paths) i 0)) (rootMarks (length ps))) e

@@ -1,22 +1,57 @@
 // The rows that a compiled path selects, marked: its steps one after the other from the root.
 ghost use mathlib.Core.Path.{_≡_};
-ghost use Prim.Native.Nat.{_<_};
-ghost use lib.ListN.{length, set, replicate};
-ghost use Rattle.compiled_paths.specs.Columns.{stepAt, stepsIn, pathAt};
-ghost use Rattle.marks.specs.Selection.{stepMarks, stepsMarks, pathMarks, rootMarks};
-ghost use Rattle.selection.specs.Steps.{StepAtPass, StepsPass, PathPass};
+ghost use lib.ListN.{length};
+ghost use Rattle.compiled_paths.specs.Columns.{sizeAt, startAt, conditionIn, stepAt, stepsIn, pathAt};
+ghost use Rattle.marks.specs.Columns.{intersection};
+ghost use Rattle.marks.specs.Selection.{conditionMarks, stepMarks, stepsMarks, pathMarks, rootMarks};
+ghost use Rattle.selection.specs.Steps.{StepAtPass, FirstAtPass, StepsPass, RootStepsPass, PathPass};
 ghost use Rattle.step_passes.specs.Tests.{namesIn};
-use axis_passes::MARKED;
-use axis_passes::UNMARKED;
 use axis_passes::any_marked;
-use axis_passes::fill;
 use compiled_paths::ALTERNATIVE_STARTS;
 use compiled_paths::CONDITION_STARTS;
 use compiled_paths::CompiledPaths;
 use compiled_paths::STEPS;
 use condition_passes::keep;
 use condition_passes::range_size;
+use root_passes::mark_root;
+use root_passes::step_from_root;
 use step_passes::step_forward;
+
+// Keeps the rows where the condition of the written step `k` holds; `held`, `steps` and `next` are scratch.
+fn keep_at<'a>(
+    parents: &[u16],
+    codes: &[u8],
+    axes: &'a [u8; STEPS],
+    lows: &'a [u8; STEPS],
+    highs: &'a [u8; STEPS],
+    alternatives: &'a [u16; ALTERNATIVE_STARTS],
+    conditions: &'a [u16; CONDITION_STARTS],
+    k: usize,
+    marks: &mut [u8],
+    held: &mut [u8],
+    steps: &mut [u8],
+    next: &mut [u8],
+)
+    requires { ⌜ StepAtPass (now parents) (now codes) (now alternatives) (now conditions) k (now marks) (now held) (now steps) (now next) ⌝ }
+    ensures { λ _. ⌜ now (marks .exit) ≡ intersection (now (marks .entry)) (conditionMarks (now (parents .entry)) (namesIn (now (codes .entry))) (conditionIn (now (axes .entry)) (now (lows .entry)) (now (highs .entry)) (now (alternatives .entry)) (sizeAt (now (conditions .entry)) k) (startAt (now (conditions .entry)) k))) ⌝ }
+{
+    let start = conditions[k];
+    let count = range_size(start, conditions[k + 1]);
+    keep(
+        parents,
+        codes,
+        axes,
+        lows,
+        highs,
+        alternatives,
+        start as usize,
+        count,
+        marks,
+        held,
+        steps,
+        next,
+    );
+}
 
 // The rows that the written step `k` leads to from the marked ones; `held`, `steps` and `next` are scratch.
 fn step<'a>(
@@ -37,17 +72,50 @@ fn step<'a>(
     ensures { λ _. ⌜ now (marks .exit) ≡ stepMarks (now (parents .entry)) (namesIn (now (codes .entry))) (stepAt (now (axes .entry)) (now (lows .entry)) (now (highs .entry)) (now (alternatives .entry)) (now (conditions .entry)) k) (now (marks .entry)) ⌝ }
 {
     step_forward(parents, codes, axes[k], lows[k], highs[k], marks, next);
-    let start = conditions[k];
-    let count = range_size(start, conditions[k + 1]);
-    keep(
+    keep_at(
         parents,
         codes,
         axes,
         lows,
         highs,
         alternatives,
-        start as usize,
-        count,
+        conditions,
+        k,
+        marks,
+        held,
+        steps,
+        next,
+    );
+}
+
+// The rows that the written step `k` leads to from the root; `held`, `steps` and `next` are scratch.
+fn first_step<'a>(
+    parents: &[u16],
+    codes: &[u8],
+    axes: &'a [u8; STEPS],
+    lows: &'a [u8; STEPS],
+    highs: &'a [u8; STEPS],
+    alternatives: &'a [u16; ALTERNATIVE_STARTS],
+    conditions: &'a [u16; CONDITION_STARTS],
+    k: usize,
+    marks: &mut [u8],
+    held: &mut [u8],
+    steps: &mut [u8],
+    next: &mut [u8],
+)
+    requires { ⌜ FirstAtPass (now parents) (now codes) (now alternatives) (now conditions) k (now marks) (now held) (now steps) (now next) ⌝ }
+    ensures { λ _. ⌜ now (marks .exit) ≡ stepMarks (now (parents .entry)) (namesIn (now (codes .entry))) (stepAt (now (axes .entry)) (now (lows .entry)) (now (highs .entry)) (now (alternatives .entry)) (now (conditions .entry)) k) (rootMarks (length (now (parents .entry)))) ⌝ }
+{
+    step_from_root(parents, codes, axes[k], lows[k], highs[k], marks, next);
+    keep_at(
+        parents,
+        codes,
+        axes,
+        lows,
+        highs,
+        alternatives,
+        conditions,
+        k,
         marks,
         held,
         steps,
@@ -98,13 +166,58 @@ fn steps_from<'a>(
     }
 }
 
-// The root alone.
-fn mark_root(marks: &mut [u8])
-    requires { ⌜ 0 < length (now marks) ⌝ }
-    ensures { λ _. ⌜ now (marks .exit) ≡ rootMarks (length (now (marks .entry))) ⌝ }
+// The rows that `size` written steps, the first of them at `first`, lead to from the root.
+fn steps_from_root<'a>(
+    parents: &[u16],
+    codes: &[u8],
+    axes: &'a [u8; STEPS],
+    lows: &'a [u8; STEPS],
+    highs: &'a [u8; STEPS],
+    alternatives: &'a [u16; ALTERNATIVE_STARTS],
+    conditions: &'a [u16; CONDITION_STARTS],
+    first: usize,
+    size: usize,
+    marks: &mut [u8],
+    held: &mut [u8],
+    steps: &mut [u8],
+    next: &mut [u8],
+)
+    requires { ⌜ RootStepsPass (now parents) (now codes) (now alternatives) (now conditions) first size (now marks) (now held) (now steps) (now next) ⌝ }
+    ensures { λ _. ⌜ now (marks .exit) ≡ stepsMarks (now (parents .entry)) (namesIn (now (codes .entry))) (stepsIn (now (axes .entry)) (now (lows .entry)) (now (highs .entry)) (now (alternatives .entry)) (now (conditions .entry)) size first) (rootMarks (length (now (parents .entry)))) ⌝ }
 {
-    fill(marks, UNMARKED);
-    marks[0] = MARKED;
+    if size == 0 {
+        mark_root(marks);
+        return;
+    }
+    first_step(
+        parents,
+        codes,
+        axes,
+        lows,
+        highs,
+        alternatives,
+        conditions,
+        first,
+        marks,
+        held,
+        steps,
+        next,
+    );
+    steps_from(
+        parents,
+        codes,
+        axes,
+        lows,
+        highs,
+        alternatives,
+        conditions,
+        first + 1,
+        size - 1,
+        marks,
+        held,
+        steps,
+        next,
+    );
 }
 
 // The rows of a table that is not empty that the path `i` selects; `held`, `steps` and `next` are scratch.
@@ -123,8 +236,7 @@ pub fn select_path(
 {
     let start = paths.paths[i] as u16;
     let size = range_size(start, paths.paths[i + 1] as u16);
-    mark_root(marks);
-    steps_from(
+    steps_from_root(
         parents,
         codes,
         &paths.axes,

@@ -1,18 +1,21 @@
 -- One step of a compiled path on the columns of a table: forward along its axis, and back along the inverse axis.
+use mathlib.Core.Bool.{false}
 use mathlib.Core.List.{List}
 use mathlib.Core.Path.{_≡_, sym, ap, _∙_}
 use Prim.Native.Nat.{ℕ, _<_}
 use borrow.Author.Tests.{ne-eqb}
-use lib.ListN.{length}
+use lib.ListN.{length, replicate}
 use Rattle.compiled_paths.specs.Columns.{axisOf, testOf}
-use Rattle.marks.specs.Columns.{RowSet, marks, OnlyMarks, union, intersection, marks-length, only-marks}
+use Rattle.marks.specs.Columns.{RowSet, isMarked, marks, OnlyMarks, union, intersection, marks-length, only-marks, no-row-marked}
 use Rattle.marks.specs.Parents.{imageMarks}
-use Rattle.marks.specs.Passes.{AxisPass, SameLength, self-image, rangeMarks}
-use Rattle.marks.specs.Selection.{testMarks}
+use Rattle.marks.specs.Passes.{AxisPass, SameLength, FilterPass, self-image, rangeMarks, fill-marks}
+use Rattle.marks.specs.Roots.{image-none}
+use Rattle.marks.specs.Selection.{noMarks, testMarks}
 use Rattle.path_laws.specs.Inverses.{inverse}
 use Rattle.path_spec.specs.Paths.{Axis, self}
 use Rattle.step_passes.specs.Tests.{namesIn, Coded, InRange, range-test}
 use Rattle.table_laws.specs.Parents.{ParentsBefore}
+use Rattle.text_spec.specs.Lists.{anyBelow}
 
 -- ---- definitions
 module _ (ps codes : List ℕ) (axis low high : ℕ) where
@@ -42,9 +45,8 @@ pub record StepPass (ps codes m out : List ℕ) : Type 0 where
   pub column : MarkColumn ps m
   pub room : length out ≡ length ps
 
-pub record TestPass (codes m : List ℕ) : Type 0 where
-  pub size : length codes ≡ length m
-  pub marked : OnlyMarks m
+pub record TestPass (codes m out : List ℕ) : Type 0 where
+  pub columns : FilterPass codes m out
   pub coded : Coded codes
 
 -- ---- columns stay columns
@@ -87,36 +89,56 @@ pub image-kept : (c : ℕ) (ps m was out : List ℕ) → AxisPass ps m was → a
 image-kept c ps m was out h e d = rw e (d ∙ self-image ps m was h)
 
 -- ---- a test
-pub tested : (low high a b : ℕ) (codes m y : List ℕ) → TestPass codes m → InRange a b (testOf low high) → y ≡ intersection m (rangeMarks a b codes)
+pub tested : (low high a b : ℕ) (codes m y : List ℕ) → Coded codes → InRange a b (testOf low high) → y ≡ intersection m (rangeMarks a b codes)
     → y ≡ intersection m (testMarks (testOf low high) (namesIn codes))
-tested low high a b codes m y h r e = e ∙ ap (intersection m) (range-test a b (testOf low high) codes r (h .coded))
+tested low high a b codes m y h r e = e ∙ ap (intersection m) (range-test a b (testOf low high) codes r h)
+
+pub column-test : {ps codes m out : List ℕ} → TableColumns ps codes → MarkColumn ps m → length out ≡ length ps → TestPass codes m out
+column-test t c e =
+    record { columns = record { marked = c .marked; size = c .size ∙ sym e; codes-size = t .size ∙ sym e }; coded = t .coded }
 
 -- ---- forward: the axis, then the test
 module _ (ps codes m out : List ℕ) (h : StepPass ps codes m out) where
   pub pass-axis : AxisPass ps m out
   pass-axis = record { before = h .table .before; filled = h .table .filled; marked = h .column .marked; size = h .column .size; room = h .room }
 
-  pub moved-test : (axis : ℕ) (x k : List ℕ) → x ≡ imageMarks (axisOf axis) ps m → k ≡ x → TestPass codes k
-  moved-test axis x k e d =
-      let c : MarkColumn ps k = rw (d ∙ e) (image-column (axisOf axis) ps m) in
-      record { size = h .table .size ∙ sym (c .size); marked = c .marked; coded = h .table .coded }
+  pub moved-test : (axis : ℕ) (x : List ℕ) → x ≡ imageMarks (axisOf axis) ps m → TestPass codes x m
+  moved-test axis x e = column-test (h .table) (rw e (image-column (axisOf axis) ps m)) (h .column .size)
 
-  pub moved : (axis low high : ℕ) (x k y : List ℕ) → x ≡ imageMarks (axisOf axis) ps m → k ≡ x → y ≡ intersection k (testMarks (testOf low high) (namesIn codes))
+  pub moved : (axis low high : ℕ) (x y : List ℕ) → x ≡ imageMarks (axisOf axis) ps m → y ≡ intersection x (testMarks (testOf low high) (namesIn codes))
       → y ≡ forwardMarks ps codes axis low high m
   unfolding forwardMarks
-  moved axis low high x k y e d f = f ∙ ap (λ (l : List ℕ). intersection l (testMarks (testOf low high) (namesIn codes))) (d ∙ e)
+  moved axis low high x y e f = f ∙ ap (λ (l : List ℕ). intersection l (testMarks (testOf low high) (namesIn codes))) e
 
   -- ---- back: the test, then the inverse axis
-  pub pass-test : TestPass codes m
-  pass-test = record { size = h .table .size ∙ sym (h .column .size); marked = h .column .marked; coded = h .table .coded }
+  pub pass-test : TestPass codes m out
+  pass-test = column-test (h .table) (h .column) (h .room)
 
   module _ (low high : ℕ) (k : List ℕ) (e : k ≡ intersection m (testMarks (testOf low high) (namesIn codes))) where
-    pub tested-axis : AxisPass ps k out
+    tested-column : MarkColumn ps k
+    tested-column = rw e (intersection-column ps m (testMarks (testOf low high) (namesIn codes)) (h .column))
+
+    pub tested-marks : OnlyMarks k
+    tested-marks = tested-column .marked
+
+    pub tested-axis : AxisPass ps k m
     tested-axis =
-        let c : MarkColumn ps k = rw e (intersection-column ps m (testMarks (testOf low high) (namesIn codes)) (h .column)) in
-        record { before = h .table .before; filled = h .table .filled; marked = c .marked; size = c .size; room = h .room }
+        record {
+          before = h .table .before;
+          filled = h .table .filled;
+          marked = tested-column .marked;
+          size = tested-column .size;
+          room = h .column .size;
+        }
 
     pub moved-back : (axis i : ℕ) (x : List ℕ) → axisOf i ≡ inverse (axisOf axis) → x ≡ imageMarks (axisOf i) ps k → x ≡ backwardMarks ps codes axis low high m
     unfolding backwardMarks
     moved-back axis i x d f =
         f ∙ ap (imageMarks (axisOf i) ps) e ∙ ap (λ (a : Axis). imageMarks a ps (intersection m (testMarks (testOf low high) (namesIn codes)))) d
+
+    -- no marked row passes the test
+    pub none-back : (axis : ℕ) (x : List ℕ) → anyBelow (length k) (isMarked k) ≡ false → x ≡ replicate (length m) 0 → x ≡ backwardMarks ps codes axis low high m
+    unfolding backwardMarks
+    none-back axis x d f =
+        f ∙ ap (λ (n : ℕ). replicate n 0) (h .column .size) ∙ fill-marks (length ps) false
+        ∙ sym (ap (imageMarks (inverse (axisOf axis)) ps) (sym e ∙ no-row-marked k tested-marks d ∙ ap noMarks (tested-column .size)) ∙ image-none (inverse (axisOf axis)) ps)

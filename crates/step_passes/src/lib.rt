@@ -8,12 +8,15 @@ ghost use Rattle.marks.specs.Selection.{testMarks};
 ghost use Rattle.path_laws.specs.Inverses.{inverse};
 ghost use Rattle.step_passes.specs.Steps.{forwardMarks, backwardMarks, StepPass, TestPass};
 ghost use Rattle.step_passes.specs.Tests.{namesIn, InRange};
+use axis_passes::UNMARKED;
 use axis_passes::ancestors;
 use axis_passes::ancestors_or_self;
+use axis_passes::any_marked;
 use axis_passes::children;
 use axis_passes::copy;
 use axis_passes::descendants;
 use axis_passes::descendants_or_self;
+use axis_passes::fill;
 use axis_passes::filter;
 use axis_passes::parents_of;
 
@@ -94,13 +97,13 @@ fn code_range(low: u8, high: u8) -> CodeRange
     }
 }
 
-// The rows of the column whose names pass a compiled step's test.
-pub fn filter_test(codes: &[u8], low: u8, high: u8, marks: &mut [u8])
-    requires { ⌜ TestPass (now codes) (now marks) ⌝ }
-    ensures { λ _. ⌜ now (marks .exit) ≡ intersection (now (marks .entry)) (testMarks (testOf low high) (namesIn (now (codes .entry)))) ⌝ }
+// The marked rows whose names pass a compiled step's test.
+pub fn filter_test(codes: &[u8], low: u8, high: u8, from: &[u8], out: &mut [u8])
+    requires { ⌜ TestPass (now codes) (now from) (now out) ⌝ }
+    ensures { λ _. ⌜ now (out .exit) ≡ intersection (now (from .entry)) (testMarks (testOf low high) (namesIn (now (codes .entry)))) ⌝ }
 {
     let range = code_range(low, high);
-    filter(codes, range.low, range.high, marks);
+    filter(codes, range.low, range.high, from, out);
 }
 
 // The rows that a step leads to from the marked ones, before its condition; `next` is scratch.
@@ -117,11 +120,10 @@ pub fn step_forward(
     ensures { λ _. ⌜ now (marks .exit) ≡ forwardMarks (now (parents .entry)) (now (codes .entry)) axis low high (now (marks .entry)) ⌝ }
 {
     axis_image(axis, parents, &marks[..], next);
-    copy(&next[..], marks);
-    filter_test(codes, low, high, marks);
+    filter_test(codes, low, high, &next[..], marks);
 }
 
-// The rows from which a step leads to a marked one; `next` is scratch.
+// The rows from which a step leads to a marked one; `next` is scratch. Where no marked row passes the test there is none.
 pub fn step_back(
     parents: &[u16],
     codes: &[u8],
@@ -134,8 +136,11 @@ pub fn step_back(
     requires { ⌜ StepPass (now parents) (now codes) (now marks) (now next) ⌝ }
     ensures { λ _. ⌜ now (marks .exit) ≡ backwardMarks (now (parents .entry)) (now (codes .entry)) axis low high (now (marks .entry)) ⌝ }
 {
-    filter_test(codes, low, high, marks);
+    filter_test(codes, low, high, &marks[..], next);
+    if !any_marked(&next[..]) {
+        fill(marks, UNMARKED);
+        return;
+    }
     let inverse = inverse_of(axis);
-    axis_image(inverse, parents, &marks[..], next);
-    copy(&next[..], marks);
+    axis_image(inverse, parents, &next[..], marks);
 }

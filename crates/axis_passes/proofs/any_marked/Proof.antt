@@ -1,8 +1,8 @@
-use mathlib.Core.Bool.{false}
-use mathlib.Core.Path.{_≡_, refl}
+use mathlib.Core.Path.{_≡_}
 use Prim.Native.Nat.{_-_, _≤_}
 use lib.ListN.{length}
-use Rattle.marks.specs.Columns.{isMarked, marked-found, unmarked-next, unmarked-all}
+use Rattle.marks.specs.Columns.{mark, isMarked}
+use Rattle.marks.specs.Passes.{some-none, some-next, some-all}
 use Rattle.text_spec.specs.Lists.{anyBelow}
 use borrow.Author.Needs.{needs}
 use native.Mathlib.Omega.{arith}
@@ -10,29 +10,24 @@ use Rattle.axis_passes.proofs.any_marked.Statement.{statement}
 use Rattle.axis_passes.proofs.any_marked.Tie as tie
 
 abbrev Inv-loop : tie.InvT-loop
-Inv-loop marks r₀ r = (r ≤ length marks) × (anyBelow r (isMarked marks) ≡ false)
+Inv-loop marks x₀ r₀ x r = (r ≤ length marks) × (x ≡ mark (anyBelow r (isMarked marks)))
 
 abbrev μ-loop : tie.MeasureT-loop
-μ-loop marks r₀ r = length marks - r
+μ-loop marks x₀ r₀ x r = length marks - r
 
 loop-holds : tie.Need-loop-holds Inv-loop μ-loop
-unfolding anyBelow
-loop-holds c = (omega arith, refl)
-
-returns : tie.Need-returns Inv-loop μ-loop
-returns c =
-    let at = c .before .before .before .loop in
-    marked-found (c .before .before .before .before .args .marks .now) (at .r) (omega arith) (c .if1 .taken)
+loop-holds c = (omega arith, some-none (c .args .marks .now))
 
 loop-again : tie.Need-loop-again Inv-loop μ-loop
 loop-again c =
-    let at = c .before .before .before .loop in
-    (omega arith, unmarked-next (c .before .before .before .before .args .marks .now) (at .r) (at .inv .1) (c .if1 .left))
+    let turn = c .before .before in
+    let at = turn .loop in
+    (omega arith, some-next (turn .before .args .marks .now) (at .r) (at .x) (turn .before .pre) (omega arith) (at .inv .1))
 
-returns-2 : tie.Need-returns-2 Inv-loop μ-loop
-returns-2 c =
+returns : tie.Need-returns Inv-loop μ-loop
+returns c =
     let at = c .before .loop in
-    unmarked-all (c .before .before .args .marks .now) (at .r) (at .inv .1) (at .inv .0) (omega arith)
+    some-all (c .before .before .args .marks .now) (at .r) (at .x) (at .inv .0) (omega arith) (at .inv .1)
 
 pub any-marked-spec : {M : Type 1} → statement M
 any-marked-spec =
@@ -42,8 +37,7 @@ any-marked-spec =
     μ-loop
     loop-holds
     (λ c. search needs)
-    returns
     (λ c. search needs)
     (λ c. search needs)
     loop-again
-    returns-2)
+    returns)

@@ -3,17 +3,39 @@ use borrow.Author.Needs.{needs}
 use Rattle.select.proofs.select_one.Statement.{statement}
 use Rattle.select.proofs.select_one.Tie as tie
 
+-- the states that answers go back to
+abbrev else1-before : tie.After-select-path → tie.Else1
+else1-before c = c .before .before .before .before .before
+
+abbrev start-before : tie.Then1 → tie.Start
+start-before c = c .before .before .before .before .before .before .before .before .before
+
+abbrev start-before-2 : tie.Else1 → tie.Start
+start-before-2 c = c .before .before .before .before .before .before .before .before .before
+
+abbrev select-path-before : tie.After-append-arg2 → tie.After-select-path
+select-path-before c = c .before .before .before .before .before .before .before .before .before .before
+
+abbrev select-path-before-2 : tie.After-slice-known10 → tie.After-select-path
+select-path-before-2 c = select-path-before (c .before .before .before)
+
 returns : tie.Need-returns
-returns c = none-selected _ _ _ _ _ _ _ _ _ _ (c .before .before .before .before .before .before .before .before .before .pre) _ (c .if1 .taken)
+returns c = none-selected _ _ _ _ _ _ _ _ _ _ ((start-before c) .pre) _ (c .if1 .taken)
 
 select-path-requires : tie.Need-select-path-requires
-select-path-requires c κs = one-path _ _ _ _ _ _ _ _ _ _ (c .before .before .before .before .before .before .before .before .before .before .before .before .before .pre) (c .before .before .before .before .if1 .left)
+select-path-requires c κs =
+    let else1 = c .before .before .before .before in
+    one-path _ _ _ _ _ _ _ _ _ _ ((start-before-2 else1) .pre) (else1 .if1 .left)
 
 append-requires : tie.Need-append-requires
-append-requires c κs = one-append _ _ _ _ _ _ _ _ _ _ (c .before .before .before .before .before .before .before .before .before .before .before .before .before .before .before .before .before .before .before .before .before .before .before .before .pre) _ (c .before .before .before .before .before .before .before .before .before .before .select-path .ensures)
+append-requires c κs =
+    let after-select-path = select-path-before c in
+    one-append _ _ _ _ _ _ _ _ _ _ ((start-before-2 (else1-before after-select-path)) .pre) _ (after-select-path .select-path .ensures)
 
 returns-2 : tie.Need-returns-2
-returns-2 c = one-selected _ _ _ _ _ _ _ _ _ _ (c .before .before .before .before .before .before .before .before .before .before .before .before .before .before .before .before .before .before .before .before .before .before .before .before .before .before .before .pre) _ _ _ _ (c .before .before .before .before .before .before .before .before .before .before .before .before .before .select-path .ensures) (c .before .before .append .ensures)
+returns-2 c =
+    let after-select-path = select-path-before-2 c in
+    one-selected _ _ _ _ _ _ _ _ _ _ ((start-before-2 (else1-before after-select-path)) .pre) _ _ _ _ (after-select-path .select-path .ensures) (c .before .before .append .ensures)
 
 pub select-one-spec : {M : Type 1} → statement M
 select-one-spec =

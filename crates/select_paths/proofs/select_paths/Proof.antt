@@ -12,41 +12,75 @@ Inv-loop paths first end numbers codes parents items₀ counts₀ marks₀ held�
 abbrev μ-loop : tie.MeasureT-loop
 μ-loop paths first end numbers codes parents items₀ counts₀ marks₀ held₀ steps₀ next₀ n₀ i₀ items counts marks held steps next n i = end - i
 
+-- the states that answers go back to
+abbrev in-loop-before : tie.After-select-one Inv-loop μ-loop → tie.In-loop Inv-loop μ-loop
+in-loop-before c = c .before .before .before .before .before .before
+
+abbrev clear-from-before : tie.After-slice-known14 Inv-loop μ-loop → tie.After-clear-from Inv-loop μ-loop
+clear-from-before c = c .before .before .before .before .before .before
+
+abbrev start-before : tie.After-slice-known6 Inv-loop μ-loop → tie.Start Inv-loop μ-loop
+start-before c = c .before .before .before .before .before .before .before .before .before
+
+abbrev start-before-2 : tie.At-loop Inv-loop μ-loop → tie.Start Inv-loop μ-loop
+start-before-2 c = start-before (c .before)
+
+abbrev select-one-before : tie.After-put-count-arg Inv-loop μ-loop → tie.After-select-one Inv-loop μ-loop
+select-one-before c = c .before .before .before .before .before .before .before .before .before .before .before
+
+abbrev select-one-before-2 : tie.After-slice-known12 Inv-loop μ-loop → tie.After-select-one Inv-loop μ-loop
+select-one-before-2 c = select-one-before (c .before .before .before)
+
 loop-holds : tie.Need-loop-holds Inv-loop μ-loop
-loop-holds c = paths-begun _ _ _ _ _ _ _ _ _ _ _ _ (c .before .before .before .before .before .before .before .before .before .pre)
+loop-holds c = paths-begun _ _ _ _ _ _ _ _ _ _ _ _ ((start-before c) .pre)
 
 select-one-requires : tie.Need-select-one-requires Inv-loop μ-loop
 select-one-requires c κs =
-    let at = c .before .before .before .before .before .before .loop in
-    paths-one _ _ _ _ _ _ _ _ (at .i) (at .n) (at .items) (at .counts) (at .marks) (at .held) (at .steps) (at .next) (at .inv) _ _ _ _ (c .before .before .before .before .before .before .before .before .before .before .before .before .before .before .before .before .pre) (omega arith)
+    let turn = c .before .before .before .before .before .before in
+    let at = turn .loop in
+    paths-one _ _ _ _ _ _ _ _ (at .i) (at .n) (at .items) (at .counts) (at .marks) (at .held) (at .steps) (at .next) (at .inv) _ _ _ _ ((start-before-2 turn) .pre) (omega arith)
 
-sub-put : tie.Need-sub-put Inv-loop μ-loop
-sub-put c = omega (arith, c .before .before .before .before .before .before .before .before .before .before .before .before .before .before .before .before .before .before .loop .inv .low)
+sub-put-count : tie.Need-sub-put-count Inv-loop μ-loop
+sub-put-count c = omega (arith, in-loop-before (select-one-before c) .before .loop .inv .low)
 
-sub-put-2 : tie.Need-sub-put-2 Inv-loop μ-loop
-sub-put-2 c = omega (arith, c .before .before .before .before .before .before .before .before .before .before .before .select-one .ensures .count)
+sub-put-count-2 : tie.Need-sub-put-count-2 Inv-loop μ-loop
+sub-put-count-2 c = omega (arith, (select-one-before c) .select-one .ensures .count)
 
-cast-put : tie.Need-cast-put Inv-loop μ-loop
-cast-put c =
-    let at = c .before .before .before .before .before .before .before .before .before .before .before .before .before .before .before .before .before .before .loop in
-    omega (arith, one-fits _ _ _ _ _ _ _ _ (at .i) (at .n) (at .items) (at .counts) (at .marks) (at .held) (at .steps) (at .next) (at .inv) _ _ (c .before .before .before .before .before .before .before .before .before .before .before .select-one .ensures) (c .before .before .before .before .before .before .before .before .before .before .before .before .before .before .before .before .before .before .before .before .before .before .before .before .before .before .before .before .pre .columns))
+cast-put-count : tie.Need-cast-put-count Inv-loop μ-loop
+cast-put-count c =
+    let after-select-one = select-one-before c in
+    let turn = in-loop-before after-select-one .before in
+    let at = turn .loop in
+    omega (
+      arith,
+      one-fits _ _ _ _ _ _ _ _ (at .i) (at .n) (at .items) (at .counts) (at .marks) (at .held) (at .steps) (at .next) (at .inv) _ _
+          (after-select-one .select-one .ensures) ((start-before-2 turn) .pre .columns),
+    )
 
 add-i : tie.Need-add-i Inv-loop μ-loop
-add-i c = omega (arith, c .before .before .before .before .before .before .before .before .before .before .before .before .before .before .before .before .before .before .before .before .before .before .before .before .before .before .before .before .before .before .before .pre .inside, c .before .before .before .before .before .before .before .before .before .before .before .before .before .before .before .before .before .before .before .before .before .before .before .before .before .before .before .before .before .before .before .pre .shaped .few)
+add-i c =
+    let in-loop = in-loop-before (select-one-before-2 c) in
+    let start = start-before-2 (in-loop .before) in
+    omega (arith, start .pre .inside, start .pre .shaped .few, in-loop .loop-test .taken)
 
 loop-again : tie.Need-loop-again Inv-loop μ-loop
 loop-again c =
-    let at = c .before .before .before .before .before .before .before .before .before .before .before .before .before .before .before .before .before .before .before .before .before .loop in
-    paths-next _ _ _ _ _ _ _ _ (at .i) (at .n) (at .items) (at .counts) (at .marks) (at .held) (at .steps) (at .next) (at .inv) _ _ (c .before .before .before .before .before .before .before .before .before .before .before .before .before .before .select-one .ensures)
-    (c .before .before .before .before .before .before .before .before .before .before .before .before .before .before .before .before .before .before .before .before .before .before .before .before .before .before .before .before .before .before .before .pre .columns) _ _ _ _ _ (omega arith) (c .before .before .put .ensures) (omega arith) (omega arith) (omega arith) (omega arith)
+    let after-select-one = select-one-before-2 c in
+    let turn = in-loop-before after-select-one .before in
+    let at = turn .loop in
+    paths-next _ _ _ _ _ _ _ _ (at .i) (at .n) (at .items) (at .counts) (at .marks) (at .held) (at .steps) (at .next) (at .inv) _ _
+    (after-select-one .select-one .ensures) ((start-before-2 turn) .pre .columns) _ _ _ _ _ (omega arith) (c .before .before .put-count .ensures)
+    (omega arith) (omega arith) (omega arith) (omega arith)
 
-sub-clear-from : tie.Need-sub-clear-from Inv-loop μ-loop
-sub-clear-from c = omega (arith, c .before .before .before .before .before .before .before .before .before .before .before .before .before .before .before .before .pre .order)
+sub-clear-counts-from : tie.Need-sub-clear-counts-from Inv-loop μ-loop
+sub-clear-counts-from c = omega (arith, (start-before-2 (c .before .before .before .before .before .before)) .pre .order)
 
 returns : tie.Need-returns Inv-loop μ-loop
 returns c =
-    let at = c .before .before .before .before .before .before .before .before .before .loop in
-    paths-all _ _ _ _ _ _ _ _ (at .i) (at .n) (at .items) (at .counts) (at .marks) (at .held) (at .steps) (at .next) (at .inv) (omega arith) _ _ (c .before .before .before .before .before .before .clear-from .ensures) (c .before .before .clear-from2 .ensures)
+    let after-clear-from = clear-from-before c in
+    let at = after-clear-from .before .before .before .loop in
+    paths-all _ _ _ _ _ _ _ _ (at .i) (at .n) (at .items) (at .counts) (at .marks) (at .held) (at .steps) (at .next) (at .inv) (omega arith) _ _
+    (after-clear-from .clear-from .ensures) (c .before .before .clear-counts-from .ensures)
 
 pub select-paths-spec : {M : Type 1} → statement M
 select-paths-spec =
@@ -56,15 +90,15 @@ select-paths-spec =
     μ-loop
     loop-holds
     select-one-requires
-    sub-put
-    sub-put-2
-    cast-put
+    sub-put-count
+    sub-put-count-2
+    cast-put-count
     (λ c κs. search needs)
     add-i
     (λ c. search needs)
     loop-again
     (λ c κs. search needs)
-    sub-clear-from
+    sub-clear-counts-from
     (λ c κs. search needs)
     (λ c. search needs)
     (λ c. search needs)

@@ -14,11 +14,27 @@ Inv-loop parents codes axes lows highs alternatives conditions first size marks�
 abbrev μ-loop : tie.MeasureT-loop
 μ-loop parents codes axes lows highs alternatives conditions first size marks₀ held₀ steps₀ next₀ end k₀ marks held steps next k = first + size - k
 
+-- the states that answers go back to
+abbrev start-before : tie.After-slice-known4 Inv-loop μ-loop → tie.Start Inv-loop μ-loop
+start-before c = c .before .before .before .before .before .before
+
+abbrev start-before-2 : tie.At-loop Inv-loop μ-loop → tie.Start Inv-loop μ-loop
+start-before-2 c = start-before (c .before)
+
+abbrev loop-before : tie.After-step-arg4 Inv-loop μ-loop → tie.At-loop Inv-loop μ-loop
+loop-before c = c .before .before .before .before .before .before .before .before
+
+abbrev step-before : tie.After-slice-known8 Inv-loop μ-loop → tie.After-step Inv-loop μ-loop
+step-before c = c .before .before .before .before .before .before .before .before
+
+abbrev loop-before-2 : tie.After-step Inv-loop μ-loop → tie.At-loop Inv-loop μ-loop
+loop-before-2 c = loop-before (c .before)
+
 add-end : tie.Need-add-end Inv-loop μ-loop
-add-end c = omega (arith, c .before .before .before .before .before .before .pre .inside)
+add-end c = omega (arith, (start-before c) .pre .inside)
 
 loop-holds : tie.Need-loop-holds Inv-loop μ-loop
-loop-holds c = steps-begun _ _ _ _ _ _ _ _ _ _ _ _ _ (c .before .before .before .before .before .before .pre)
+loop-holds c = steps-begun _ _ _ _ _ _ _ _ _ _ _ _ _ ((start-before c) .pre)
 
 returns : tie.Need-returns Inv-loop μ-loop
 returns c =
@@ -27,13 +43,15 @@ returns c =
 
 step-requires : tie.Need-step-requires Inv-loop μ-loop
 step-requires c κs =
-    let at = c .before .before .before .before .before .before .before .before .loop in
-    steps-pass _ _ _ _ _ _ _ _ _ _ (at .k) (at .marks) (at .held) (at .steps) (at .next) (at .inv) _ _ _ (c .before .before .before .before .before .before .before .before .before .before .before .before .before .before .before .pre) (omega arith)
+    let turn = loop-before c in
+    let at = turn .loop in
+    steps-pass _ _ _ _ _ _ _ _ _ _ (at .k) (at .marks) (at .held) (at .steps) (at .next) (at .inv) _ _ _ ((start-before-2 turn) .pre) (omega arith)
 
 loop-again : tie.Need-loop-again Inv-loop μ-loop
 loop-again c =
-    let at = c .before .before .before .before .before .before .before .before .before .before .before .before .before .before .before .before .before .loop in
-    steps-next _ _ _ _ _ _ _ _ _ _ (at .k) (at .marks) (at .held) (at .steps) (at .next) (at .inv) _ _ _ _ (omega arith) (c .before .before .before .before .before .before .before .before .step .ensures) (omega arith) (omega arith) (omega arith)
+    let after-step = step-before c in
+    let at = (loop-before-2 after-step) .loop in
+    steps-next _ _ _ _ _ _ _ _ _ _ (at .k) (at .marks) (at .held) (at .steps) (at .next) (at .inv) _ _ _ _ (omega arith) (after-step .step .ensures) (omega arith) (omega arith) (omega arith)
 
 returns-2 : tie.Need-returns-2 Inv-loop μ-loop
 returns-2 c =

@@ -3,11 +3,17 @@ use borrow.Author.Needs.{needs}
 use Rattle.step_passes.proofs.filter_test.Statement.{statement}
 use Rattle.step_passes.proofs.filter_test.Tie as tie
 
+-- the states that answers go back to
+abbrev start-before : tie.After-code-range → tie.Start
+start-before c = c .before .before .before .before
+
 filter-requires : tie.Need-filter-requires
-filter-requires c κs = (c .before .before .before .before .pre .size, c .before .before .before .before .pre .marked)
+filter-requires c κs = (start-before (c .before)) .pre .columns
 
 returns : tie.Need-returns
-returns c = tested _ _ _ _ _ _ _ (c .before .before .before .before .before .before .before .pre) (c .before .before .before .before .code-range .ensures) (c .before .before .filter .ensures)
+returns c =
+    let after-code-range = c .before .before .before .before in
+    tested _ _ _ _ _ _ _ ((start-before after-code-range) .pre .coded) (after-code-range .code-range .ensures) (c .before .before .filter .ensures)
 
 pub filter-test-spec : {M : Type 1} → statement M
 filter-test-spec = tie.close (tie.spec (λ c κs. search needs) filter-requires (λ c. search needs) returns)
