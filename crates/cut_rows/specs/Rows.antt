@@ -108,11 +108,11 @@ pub record RowsNoted (m : List ℕ) (c o : Columns) (r : ℕ) (x : Columns) : Ty
 pub rows-none : (m : List ℕ) (c o : Columns) → RowsNoted m c o 0 o
 rows-none m c o =
     record {
-      numbers = noted-none (λ q. getD (c .numbers) q 0) m (o .numbers);
-      names = noted-none (λ q. getD (c .names) q 0) m (o .names);
-      parents = noted-none (λ q. rank m (getD (c .parents) q 0)) m (o .parents);
-      starts = noted-none (λ q. getD (c .starts) q 0) m (o .starts);
-      lengths = noted-none (λ q. getD (c .lengths) q 0) m (o .lengths);
+      numbers = noted-none _ _ _;
+      names = noted-none _ _ _;
+      parents = noted-none _ _ _;
+      starts = noted-none _ _ _;
+      lengths = noted-none _ _ _;
     }
 
 pub rows-all : (m : List ℕ) (c o : Columns) (n r : ℕ) (x : Columns) → r ≡ n → RowsNoted m c o r x → RowsNoted m c o n x
@@ -121,11 +121,11 @@ rows-all m c o n r x e w = subst (λ (k : ℕ). RowsNoted m c o k x) e w
 pub rows-sizes : (m : List ℕ) (c o : Columns) (r : ℕ) (x : Columns) → RowsNoted m c o r x → OfLength o (length (o .numbers)) → OfLength x (length (o .numbers))
 rows-sizes m c o r x w h =
     record {
-      numbers = noted-length (λ q. getD (c .numbers) q 0) m (o .numbers) r (x .numbers) (w .numbers);
-      names = noted-length (λ q. getD (c .names) q 0) m (o .names) r (x .names) (w .names) ∙ h .names;
-      parents = noted-length (λ q. rank m (getD (c .parents) q 0)) m (o .parents) r (x .parents) (w .parents) ∙ h .parents;
-      starts = noted-length (λ q. getD (c .starts) q 0) m (o .starts) r (x .starts) (w .starts) ∙ h .starts;
-      lengths = noted-length (λ q. getD (c .lengths) q 0) m (o .lengths) r (x .lengths) (w .lengths) ∙ h .lengths;
+      numbers = noted-length _ _ _ r (x .numbers) (w .numbers);
+      names = noted-length _ _ _ r (x .names) (w .names) ∙ h .names;
+      parents = noted-length _ _ _ r (x .parents) (w .parents) ∙ h .parents;
+      starts = noted-length _ _ _ r (x .starts) (w .starts) ∙ h .starts;
+      lengths = noted-length _ _ _ r (x .lengths) (w .lengths) ∙ h .lengths;
     }
 
 same-length : (x : Columns) (n : ℕ) → OfLength x n → OfLength x (length (x .numbers))
@@ -185,20 +185,20 @@ module _ (pos : List ℕ) (c o : Columns) (h : CutPass pos c o) where
             let u : isMarked (markedBy pos) r ≡ false = position-unmarked (markedBy pos) r (sym (position r l) ∙ z) in
             rw (e ∙ sym (row-cut pos c x r z))
             (record {
-              numbers = noted-unmarked (λ q. getD (c .numbers) q 0) (markedBy pos) (o .numbers) r (x .numbers) u (w .numbers);
-              names = noted-unmarked (λ q. getD (c .names) q 0) (markedBy pos) (o .names) r (x .names) u (w .names);
-              parents = noted-unmarked (λ q. rank (markedBy pos) (getD (c .parents) q 0)) (markedBy pos) (o .parents) r (x .parents) u (w .parents);
-              starts = noted-unmarked (λ q. getD (c .starts) q 0) (markedBy pos) (o .starts) r (x .starts) u (w .starts);
-              lengths = noted-unmarked (λ q. getD (c .lengths) q 0) (markedBy pos) (o .lengths) r (x .lengths) u (w .lengths);
+              numbers = noted-unmarked _ _ _ r (x .numbers) u (w .numbers);
+              names = noted-unmarked _ _ _ r (x .names) u (w .names);
+              parents = noted-unmarked _ _ _ r (x .parents) u (w .parents);
+              starts = noted-unmarked _ _ _ r (x .starts) u (w .starts);
+              lengths = noted-unmarked _ _ _ r (x .lengths) u (w .lengths);
             })
         by false q =
             let d = eqb-false (getD pos r 0) 0 q in
             let n = at-position d in
             rw (e ∙ sym (row-kept pos c x r d))
             (record {
-              numbers = noted-marked (λ q. getD (c .numbers) q 0) (markedBy pos) (o .numbers) r (x .numbers) (marked d) (w .numbers) _ _ n refl;
-              names = noted-marked (λ q. getD (c .names) q 0) (markedBy pos) (o .names) r (x .names) (marked d) (w .names) _ _ n refl;
-              parents = noted-marked (λ q. rank (markedBy pos) (getD (c .parents) q 0)) (markedBy pos) (o .parents) r (x .parents) (marked d) (w .parents) _ _ n (omega (arith, at-parent d));
-              starts = noted-marked (λ q. getD (c .starts) q 0) (markedBy pos) (o .starts) r (x .starts) (marked d) (w .starts) _ _ n refl;
-              lengths = noted-marked (λ q. getD (c .lengths) q 0) (markedBy pos) (o .lengths) r (x .lengths) (marked d) (w .lengths) _ _ n refl;
+              numbers = noted-marked _ _ _ r (x .numbers) (marked d) (w .numbers) _ _ n refl;
+              names = noted-marked _ _ _ r (x .names) (marked d) (w .names) _ _ n refl;
+              parents = noted-marked _ _ _ r (x .parents) (marked d) (w .parents) _ _ n (omega (arith, at-parent d));
+              starts = noted-marked _ _ _ r (x .starts) (marked d) (w .starts) _ _ n refl;
+              lengths = noted-marked _ _ _ r (x .lengths) (marked d) (w .lengths) _ _ n refl;
             })

@@ -57,12 +57,12 @@ module _ (m : List ℕ) (c o : Columns) (r : ℕ) (x : Columns) (w : RowsNoted m
   unfolding answered paddedColumns keptColumns
   rows-answered n y q v =
       let l : n ≤ length (o .numbers) = omega (arith, room .enough) in
-      let a = noted-cleared (λ q. getD (c .numbers) q 0) m (o .numbers) r (x .numbers) (y .numbers) n (w .numbers) q l (v .numbers) in
-      let b = noted-cleared (λ q. getD (c .names) q 0) m (o .names) r (x .names) (y .names) n (w .names) q (omega (arith, room .sizes .names)) (v .names) in
+      let a = noted-cleared _ _ _ r (x .numbers) (y .numbers) n (w .numbers) q l (v .numbers) in
+      let b = noted-cleared _ _ _ r (x .names) (y .names) n (w .names) q (omega (arith, room .sizes .names)) (v .names) in
       let d =
-      noted-cleared (λ q. rank m (getD (c .parents) q 0)) m (o .parents) r (x .parents) (y .parents) n (w .parents) q (omega (arith, room .sizes .parents)) (v .parents) in
-      let e = noted-cleared (λ q. getD (c .starts) q 0) m (o .starts) r (x .starts) (y .starts) n (w .starts) q (omega (arith, room .sizes .starts)) (v .starts) in
-      let f = noted-cleared (λ q. getD (c .lengths) q 0) m (o .lengths) r (x .lengths) (y .lengths) n (w .lengths) q (omega (arith, room .sizes .lengths)) (v .lengths) in
+      noted-cleared _ _ _ r (x .parents) (y .parents) n (w .parents) q (omega (arith, room .sizes .parents)) (v .parents) in
+      let e = noted-cleared _ _ _ r (x .starts) (y .starts) n (w .starts) q (omega (arith, room .sizes .starts)) (v .starts) in
+      let f = noted-cleared _ _ _ r (x .lengths) (y .lengths) n (w .lengths) q (omega (arith, room .sizes .lengths)) (v .lengths) in
       rw (le-ltb (length (o .numbers)) n l) (columns-equal y (paddedColumns (sizesOf o) (keptColumns m c r)) a b d e f)
 
 -- ---- cutting
