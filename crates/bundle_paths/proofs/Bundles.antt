@@ -9,6 +9,7 @@ use borrow.Author.Tests.{ne-eqb, lt-ltb, le-ltb, le-leb, lt-leb}
 use lib.Dec.{eqb, leb, ltb}
 use lib.ListN.{length, set, length-append, length-map, length-reverse}
 use lib.Seq.{sets, length-sets}
+use Rattle.bundle_paths.specs.Laws.{paths-append, conditions-append, conditions-length}
 use Rattle.bundle_paths.specs.Readings.{LineCells, pathNoted, allSteps, pathEnds, firstOver, overLimit, ReadsBundle}
 use Rattle.bundle_paths.specs.declared.BundleOutcome.the-variants.{Past, Fail}
 use Rattle.path_conditions.specs.Laws.{cells-append, ends-append, ends-length}
@@ -54,20 +55,6 @@ first-more i (q ∷ ps) p = pick (passesLimit i q) (first-more (suc i) ps p)
         h ∙ ap (λ (k : ℕ). cond (eqb (firstOver (suc i) ps) 0) (cond (passesLimit k p) (p .place + 1) 0) (firstOver (suc i) ps)) e
 
 -- ---- steps after steps
-paths-append : (ws vs : List Written) → allPaths (ws ++ vs) ≡ allPaths ws ++ allPaths vs
-paths-append [] vs = refl
-paths-append (w ∷ ws) vs = ap (λ (l : List (List ℕ)). w .paths ++ l) (paths-append ws vs) ∙ sym (append-assoc (w .paths) (allPaths ws) (allPaths vs))
-
-conditions-append : (m : ℕ) (ws vs : List Written) → conditionEnds m (ws ++ vs) ≡ conditionEnds m ws ++ conditionEnds (m + length (allPaths ws)) vs
-conditions-append m [] vs = ap (λ (k : ℕ). conditionEnds k vs) (sym (add-zero m))
-conditions-append m (w ∷ ws) vs =
-    let e : m + length (w .paths) + length (allPaths ws) ≡ m + length (w .paths ++ allPaths ws) = omega (arith, length-append (w .paths) (allPaths ws)) in
-    ap (λ (l : List ℕ). (m + length (w .paths)) ∷ l) (conditions-append (m + length (w .paths)) ws vs ∙ ap (λ (k : ℕ). conditionEnds (m + length (w .paths)) ws ++ conditionEnds k vs) e)
-
-conditions-length : (m : ℕ) (ws : List Written) → length (conditionEnds m ws) ≡ length ws
-conditions-length m [] = refl
-conditions-length m (w ∷ ws) = ap suc (conditions-length (m + length (w .paths)) ws)
-
 module _ {k n m : ℕ} {x x′ x″ d d′ d″ o o′ o″ w w′ w″ : List ℕ} {ws vs : List Written} {steps count many steps′ count′ many′ : ℕ} {a b : Bool}
     (N : Steps k n m x x′ d d′ o o′ w w′ ws steps count many a) (M : Steps steps count many x′ x″ d′ d″ o′ o″ w′ w″ vs steps′ count′ many′ b) where
   steps-join : Steps k n m x x″ d d″ o o″ w w″ (ws ++ vs) steps′ count′ many′ (overCondition (ws ++ vs))

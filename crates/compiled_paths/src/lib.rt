@@ -1,7 +1,7 @@
 // The paths of a bundle in columns of numbers, derived from its text and never judged.
 ghost use mathlib.Core.List.{[]};
 ghost use mathlib.Core.Path.{_≡_};
-ghost use Rattle.compiled_paths.specs.Paths.{pathsIn};
+ghost use Rattle.compiled_paths.specs.Paths.{pathsIn, Shaped};
 
 // The steps outside brackets, and all steps.
 pub const WRITTEN_STEPS: usize = 128;
@@ -36,7 +36,7 @@ pub struct CompiledPaths {
 impl CompiledPaths {
     // No path.
     pub fn empty() -> CompiledPaths
-        ensures { λ r. ⌜ pathsIn r ≡ [] ⌝ }
+        ensures { λ r. ⌜ (pathsIn r ≡ []) × Shaped r ⌝ }
     {
         CompiledPaths {
             count: 0,

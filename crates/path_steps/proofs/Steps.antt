@@ -16,7 +16,7 @@ use Rattle.path_laws.specs.Grammar.Machine.{test-naming}
 use Rattle.path_spec.specs.Grammar.{PathRead}
 use Rattle.path_spec.specs.Machine.{Context, State, dead, beforeTest, inTest, inCall, afterCall, callOf, beginStep, step, ends, bundleMachine}
 use Rattle.path_spec.specs.Paths.{WrittenAxis, NodeTest, named, anyNode, anyText}
-use Rattle.path_steps.specs.Readings.{useAt, testNoted, stepAxis, stepTest, testsIn, TestAs, ReadsTest, named-at, called, ReadsPlain, Packed}
+use Rattle.path_steps.specs.Readings.{axisCount, useAt, testNoted, stepAxis, stepTest, testsIn, TestAs, ReadsTest, named-at, called, ReadsPlain, Packed}
 use Rattle.path_steps.specs.declared.StepOutcome.{StepOutcome}
 use Rattle.path_steps.specs.declared.StepOutcome.the-variants.{Past, Fail}
 use Rattle.scanning.specs.OutcomeLaws.{named-end, named-past, named-fail}
@@ -188,7 +188,7 @@ module _ {s : List ℕ} {at : ℕ} (l : at < length s) (g : startsName (byteAt s
         record { says = test-later beforeTest (named-at s at) s at j (omega arith) due-name o (R .says) }
 
 -- ---- a step
-pub packed : (a t : ℕ) → a ≤ maxAxis → Packed a t (t * 8 + a)
+pub packed : (a t : ℕ) → a ≤ maxAxis → Packed a t (t * axisCount + a)
 packed a t h = record { axis = omega arith; test = omega arith }
 
 module _ {s : List ℕ} {at : ℕ} {r : AxisOutcome} (A : ReadsAxis beginStep s at r) where

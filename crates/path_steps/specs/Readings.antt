@@ -5,7 +5,7 @@ use mathlib.Core.Path.{_≡_}
 use Prim.Native.Nat.{ℕ, _+_, _-_, _/_, _%_, _≤_, _<_}
 use lib.Dec.{eqb}
 use lib.ListN.{length}
-use Rattle.path_axes.specs.Readings.{axisNumbered}
+use Rattle.path_axes.specs.Readings.{maxAxis, axisNumbered}
 use Rattle.path_spec.specs.Machine.{Context, State, inTest, inCall, afterCall, beginStep, bundleMachine}
 use Rattle.path_spec.specs.Paths.{WrittenAxis, NodeTest, named, anyNode, anyText, PlainStep}
 use Rattle.path_steps.specs.declared.StepOutcome.{StepOutcome}
@@ -21,12 +21,16 @@ useAt s p = record { place = p; name = nameAt s p }
 unfoldable pub testNoted : List ℕ → ℕ → NodeTest Use
 testNoted s t = cond (eqb t 0) anyNode (cond (eqb t 1) anyText (named (useAt s (t - 2))))
 
--- a step by its number: eight times that of its test and that of its axis
+-- the number of axes
+abbrev pub axisCount : ℕ
+axisCount = maxAxis + 1
+
+-- a step by its number: so many times that of its test, and that of its axis
 unfoldable pub stepAxis : ℕ → WrittenAxis
-stepAxis c = axisNumbered (c % 8)
+stepAxis c = axisNumbered (c % axisCount)
 
 unfoldable pub stepTest : List ℕ → ℕ → NodeTest Use
-stepTest s c = testNoted s (c / 8)
+stepTest s c = testNoted s (c / axisCount)
 
 abbrev pub plainNoted : List ℕ → ℕ → PlainStep Use
 plainNoted s c = record { axis = stepAxis c; test = stepTest s c; condition = tt }
@@ -63,5 +67,5 @@ pub record ReadsPlain (s : List ℕ) (at : ℕ) (r : StepOutcome) : Type 0 where
 
 -- the number of a step with this axis and this test
 pub record Packed (a t r : ℕ) : Type 0 where
-  pub axis : r % 8 ≡ a
-  pub test : r / 8 ≡ t
+  pub axis : r % axisCount ≡ a
+  pub test : r / axisCount ≡ t

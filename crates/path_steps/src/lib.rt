@@ -17,8 +17,8 @@ pub const TEXT: usize = 1;
 
 pub const NAMES: usize = 2;
 
-// The number of axes, and one.
-pub const AXES: usize = 8;
+// The number of axes.
+pub const AXES: usize = 7;
 
 // The number of a test or a step and the place past it, or where the text departs from it.
 pub enum StepOutcome {

@@ -1,0 +1,6 @@
+pub mod Order
+pub mod Limits
+pub mod Names
+pub mod Columns
+pub mod Filled
+pub mod Texts

@@ -1,0 +1,32 @@
+-- `test_range` meets its contract: the two tests that are called, then the name.
+use native.Mathlib.Omega.{arith}
+use borrow.Author.Needs.{needs}
+use Rattle.path_names.proofs.Columns.{range-node, range-text, range-lost, range-named}
+use Rattle.path_names.proofs.test_range.Statement.{statement}
+use Rattle.path_names.proofs.test_range.Tie as tie
+
+returns : tie.Need-returns
+returns c =
+    let args = c .before .before .before .before .args in
+    range-node (args .schema .now) (args .names .now) (args .text .now) (args .test) (c .if1 .taken)
+
+returns-2 : tie.Need-returns-2
+returns-2 c =
+    let args = c .before .before .before .before .before .args in
+    range-text (args .schema .now) (args .names .now) (args .text .now) (args .test) (c .before .if1 .left) (c .if2 .taken)
+
+returns-3 : tie.Need-returns-3
+returns-3 c =
+    let at-if2 = c .before .before in
+    let args = at-if2 .before .before .before .before .before .args in
+    range-lost (args .schema .now) (args .names .now) (args .text .now) (args .test) (at-if2 .before .if1 .left) (at-if2 .if2 .left) (c .before .find .ensures) (c .if3 .taken)
+
+returns-4 : tie.Need-returns-4
+returns-4 c =
+    let at-if2 = c .before .before in
+    let args = at-if2 .before .before .before .before .before .args in
+    range-named (args .schema .now) (args .names .now) (args .text .now) (args .test) (at-if2 .before .if1 .left) (at-if2 .if2 .left) (c .before .find .ensures) (c .if3 .left)
+
+pub test-range-spec : {M : Type 1} → statement M
+test-range-spec =
+    tie.close (tie.spec returns returns-2 (λ c. search needs) (λ c κs. search needs) (λ c. search needs) returns-3 (λ c. search needs) returns-4)
