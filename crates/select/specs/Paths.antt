@@ -13,11 +13,12 @@ use Rattle.marks.specs.Columns.{picked}
 use Rattle.marks.specs.Selection.{stepsMarks, pathMarks, rootMarks, selectColumns}
 use Rattle.path_spec.specs.Paths.{LocationPath}
 use Rattle.row_numbers.specs.Cells.{AppendPass, Appended}
-use Rattle.selection.specs.Steps.{Scratch, PathPass, step-column, root-column}
+use Rattle.selection.specs.Steps.{PathPass, root-column}
 use Rattle.step_passes.specs.Steps.{MarkColumn}
 use Rattle.step_passes.specs.Tests.{namesIn, Coded}
 use Rattle.table_laws.specs.Parents.{ParentsBefore}
 use Rattle.text_spec.specs.Limits.{maxNodes, maxPaths}
+use Rattle.written_steps.specs.Steps.{Scratch, step-column}
 
 -- the path i, and n paths from i on
 abbrev pub pathIn : CompiledPaths → ℕ → LocationPath ℕ

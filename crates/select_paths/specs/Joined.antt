@@ -11,11 +11,11 @@ use Rattle.marks.specs.Selection.{selectColumns}
 use Rattle.path_spec.specs.Paths.{LocationPath}
 use Rattle.row_numbers.specs.Cells.{written, Appended, Cleared, appended-appended, appended-cleared, appended-one}
 use Rattle.select.specs.Paths.{pathIn, pathsFrom, Columns, OnePass, selected-few}
-use Rattle.selection.specs.Steps.{Scratch}
 use Rattle.step_passes.specs.Tests.{namesIn}
 use Rattle.text_spec.specs.Cells.{padded}
 use Rattle.text_spec.specs.Limits.{maxNodes}
 use Rattle.text_spec.specs.Lists.{gather}
+use Rattle.written_steps.specs.Steps.{Scratch}
 
 pub record AllPass (c : CompiledPaths) (first end : ℕ) (numbers codes ps m held steps next : List ℕ) : Type 0 where
   pub shaped : Shaped c

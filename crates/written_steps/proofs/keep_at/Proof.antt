@@ -1,8 +1,8 @@
-use Rattle.selection.specs.Steps.{at-keep, at-kept}
+use Rattle.written_steps.specs.Steps.{at-keep, at-kept}
 use borrow.Author.Needs.{needs}
 use native.Mathlib.Omega.{arith}
-use Rattle.selection.proofs.keep_at.Statement.{statement}
-use Rattle.selection.proofs.keep_at.Tie as tie
+use Rattle.written_steps.proofs.keep_at.Statement.{statement}
+use Rattle.written_steps.proofs.keep_at.Tie as tie
 
 -- the states that answers go back to
 abbrev range-size-before : tie.After-keep → tie.After-range-size

@@ -1,0 +1,121 @@
+// A written step of a compiled path for all rows at once, its condition included: from marked rows, or from the root.
+ghost use mathlib.Core.Path.{_≡_};
+ghost use lib.ListN.{length};
+ghost use Rattle.compiled_paths.specs.Columns.{sizeAt, startAt, conditionIn, stepAt};
+ghost use Rattle.marks.specs.Columns.{intersection};
+ghost use Rattle.marks.specs.Selection.{conditionMarks, stepMarks, rootMarks};
+ghost use Rattle.step_passes.specs.Tests.{namesIn};
+ghost use Rattle.written_steps.specs.Steps.{StepAtPass, FirstAtPass};
+use compiled_paths::ALTERNATIVE_STARTS;
+use compiled_paths::CONDITION_STARTS;
+use compiled_paths::STEPS;
+use condition_passes::keep;
+use condition_passes::range_size;
+use root_passes::step_from_root;
+use step_passes::step_forward;
+
+// Keeps the rows where the condition of the written step `k` holds; `held`, `steps` and `next` are scratch.
+fn keep_at<'a>(
+    parents: &[u16],
+    codes: &[u8],
+    axes: &'a [u8; STEPS],
+    lows: &'a [u8; STEPS],
+    highs: &'a [u8; STEPS],
+    alternatives: &'a [u16; ALTERNATIVE_STARTS],
+    conditions: &'a [u16; CONDITION_STARTS],
+    k: usize,
+    marks: &mut [u8],
+    held: &mut [u8],
+    steps: &mut [u8],
+    next: &mut [u8],
+)
+    requires { ⌜ StepAtPass (now parents) (now codes) (now alternatives) (now conditions) k (now marks) (now held) (now steps) (now next) ⌝ }
+    ensures { λ _. ⌜ now (marks .exit) ≡ intersection (now (marks .entry)) (conditionMarks (now (parents .entry)) (namesIn (now (codes .entry))) (conditionIn (now (axes .entry)) (now (lows .entry)) (now (highs .entry)) (now (alternatives .entry)) (sizeAt (now (conditions .entry)) k) (startAt (now (conditions .entry)) k))) ⌝ }
+{
+    let start = conditions[k];
+    let count = range_size(start, conditions[k + 1]);
+    keep(
+        parents,
+        codes,
+        axes,
+        lows,
+        highs,
+        alternatives,
+        start as usize,
+        count,
+        marks,
+        held,
+        steps,
+        next,
+    );
+}
+
+// The rows that the written step `k` leads to from the marked ones; `held`, `steps` and `next` are scratch.
+pub fn step<'a>(
+    parents: &[u16],
+    codes: &[u8],
+    axes: &'a [u8; STEPS],
+    lows: &'a [u8; STEPS],
+    highs: &'a [u8; STEPS],
+    alternatives: &'a [u16; ALTERNATIVE_STARTS],
+    conditions: &'a [u16; CONDITION_STARTS],
+    k: usize,
+    marks: &mut [u8],
+    held: &mut [u8],
+    steps: &mut [u8],
+    next: &mut [u8],
+)
+    requires { ⌜ StepAtPass (now parents) (now codes) (now alternatives) (now conditions) k (now marks) (now held) (now steps) (now next) ⌝ }
+    ensures { λ _. ⌜ now (marks .exit) ≡ stepMarks (now (parents .entry)) (namesIn (now (codes .entry))) (stepAt (now (axes .entry)) (now (lows .entry)) (now (highs .entry)) (now (alternatives .entry)) (now (conditions .entry)) k) (now (marks .entry)) ⌝ }
+{
+    step_forward(parents, codes, axes[k], lows[k], highs[k], marks, next);
+    keep_at(
+        parents,
+        codes,
+        axes,
+        lows,
+        highs,
+        alternatives,
+        conditions,
+        k,
+        marks,
+        held,
+        steps,
+        next,
+    );
+}
+
+// The rows that the written step `k` leads to from the root; `held`, `steps` and `next` are scratch.
+pub fn first_step<'a>(
+    parents: &[u16],
+    codes: &[u8],
+    axes: &'a [u8; STEPS],
+    lows: &'a [u8; STEPS],
+    highs: &'a [u8; STEPS],
+    alternatives: &'a [u16; ALTERNATIVE_STARTS],
+    conditions: &'a [u16; CONDITION_STARTS],
+    k: usize,
+    marks: &mut [u8],
+    held: &mut [u8],
+    steps: &mut [u8],
+    next: &mut [u8],
+)
+    requires { ⌜ FirstAtPass (now parents) (now codes) (now alternatives) (now conditions) k (now marks) (now held) (now steps) (now next) ⌝ }
+    ensures { λ _. ⌜ now (marks .exit) ≡ stepMarks (now (parents .entry)) (namesIn (now (codes .entry))) (stepAt (now (axes .entry)) (now (lows .entry)) (now (highs .entry)) (now (alternatives .entry)) (now (conditions .entry)) k) (rootMarks (length (now (parents .entry)))) ⌝ }
+{
+    step_from_root(parents, codes, axes[k], lows[k], highs[k], marks, next);
+    keep_at(
+        parents,
+        codes,
+        axes,
+        lows,
+        highs,
+        alternatives,
+        conditions,
+        k,
+        marks,
+        held,
+        steps,
+        next,
+    );
+}
