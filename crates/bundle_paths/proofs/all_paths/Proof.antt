@@ -1,4 +1,5 @@
 -- `all_paths` meets its contract: path by path.
+use mathlib.Core.Path.{_≡_}
 use Prim.Native.Nat.{_-_}
 use native.Mathlib.Omega.{arith}
 use lib.ListN.{length}
@@ -15,89 +16,135 @@ abbrev μ-loop : tie.MeasureT-loop
 μ-loop s outers₀ conditions₀ paths₀ cells₀ ways₀ i₀ d₀ k₀ n₀ m₀ over₀ outers conditions paths cells ways i d k n m over =
     length s - i
 
+-- ---- the states that answers look back at
+-- the call, from a turn of the loop
+abbrev start-of : tie.At-loop Inv-loop μ-loop → tie.Start Inv-loop μ-loop
+start-of c = c .before .before .before .before .before .before .before
+
+-- the turn in which a path was read
+abbrev turn-of : tie.After-path Inv-loop μ-loop → tie.At-loop Inv-loop μ-loop
+turn-of c = c .before .before .before .before .before .before
+
+-- the path's reading, once it is known to be past
+abbrev path-of : tie.After-p Inv-loop μ-loop → tie.After-path Inv-loop μ-loop
+path-of c = c .before .before .before .before .before .before .before .before .before .before
+
+-- that it is past, from the test of its limits
+abbrev past-of : tie.After-over-limit Inv-loop μ-loop → tie.After-p Inv-loop μ-loop
+past-of c = c .before .before
+
+-- the columns have their lengths
+sizes : (c : tie.At-loop Inv-loop μ-loop) → (length (c .loop .outers) ≡ length (start-of c .args .outers .now))
+    × (length (c .loop .conditions) ≡ length (start-of c .args .conditions .now))
+    × (length (c .loop .paths) ≡ length (start-of c .args .paths .now)) × (length (c .loop .cells) ≡ length (start-of c .args .cells .now))
+    × (length (c .loop .ways) ≡ length (start-of c .args .ways .now))
+sizes c = upto-size (c .loop .inv)
+
+-- ---- the answers
 loop-holds : tie.Need-loop-holds Inv-loop μ-loop
-loop-holds c =
-    upto-start
+loop-holds c = upto-start
 
 path-requires : tie.Need-path-requires Inv-loop μ-loop
 path-requires c κs =
-    (c .before .before .before .before .loop-test .taken, c .before .before .before .before .before .before .before .before .before .before .before .before .pre .1, c .before .before .before .before .before .loop .inv .few-steps, c .before .before .before .before .before .loop .inv .few-cells, c .before .before .before .before .before .loop .inv .few-ways)
+    let test = c .before .before .before .before in
+    let turn = test .before in
+    (test .loop-test .taken, start-of turn .pre .1, turn .loop .inv .few-steps, turn .loop .inv .few-cells, turn .loop .inv .few-ways)
 
 same-length : tie.Need-same-length Inv-loop μ-loop
-same-length c =
-    let z = upto-size (c .before .before .before .before .before .before .before .before .before .before .before .before .before .before .before .before .before .loop .inv) in let za = z .0 in let zb = z .1 in let zc = z .2 in let zd = z .3 in let ze = z .4 in search needs
+same-length c = let l = sizes (turn-of (c .before .before .before .before .before .before .before .before .before .before .before)) .0 in search needs
 
 same-length-2 : tie.Need-same-length-2 Inv-loop μ-loop
-same-length-2 c =
-    let z = upto-size (c .before .before .before .before .before .before .before .before .before .before .before .before .before .before .before .before .before .loop .inv) in let za = z .0 in let zb = z .1 in let zc = z .2 in let zd = z .3 in let ze = z .4 in search needs
+same-length-2 c = let l = sizes (turn-of (c .before .before .before .before .before .before .before .before .before .before .before)) .1 in search needs
 
 same-length-3 : tie.Need-same-length-3 Inv-loop μ-loop
-same-length-3 c =
-    let z = upto-size (c .before .before .before .before .before .before .before .before .before .before .before .before .before .before .before .before .before .loop .inv) in let za = z .0 in let zb = z .1 in let zc = z .2 in let zd = z .3 in let ze = z .4 in search needs
+same-length-3 c = let l = sizes (turn-of (c .before .before .before .before .before .before .before .before .before .before .before)) .2 in search needs
 
 same-length-4 : tie.Need-same-length-4 Inv-loop μ-loop
-same-length-4 c =
-    let z = upto-size (c .before .before .before .before .before .before .before .before .before .before .before .before .before .before .before .before .before .loop .inv) in let za = z .0 in let zb = z .1 in let zc = z .2 in let zd = z .3 in let ze = z .4 in search needs
+same-length-4 c = let l = sizes (turn-of (c .before .before .before .before .before .before .before .before .before .before .before)) .3 in search needs
 
 same-length-5 : tie.Need-same-length-5 Inv-loop μ-loop
-same-length-5 c =
-    let z = upto-size (c .before .before .before .before .before .before .before .before .before .before .before .before .before .before .before .before .before .loop .inv) in let za = z .0 in let zb = z .1 in let zc = z .2 in let zd = z .3 in let ze = z .4 in search needs
+same-length-5 c = let l = sizes (turn-of (c .before .before .before .before .before .before .before .before .before .before .before)) .4 in search needs
 
 returns : tie.Need-returns Inv-loop μ-loop
 returns c =
-    upto-fails (c .before .before .before .before .before .before .before .before .before .before .before .before .before .before .before .before .before .loop .inv) (c .before .before .before .before .before .before .before .before .before .before .before .path .ensures) (c .before .j .given .1)
+    let read = c .before .before .before .before .before .before .before .before .before .before .before in
+    upto-fails (turn-of read .loop .inv) (read .path .ensures) (c .before .j .given .1)
 
 sub-over-limit : tie.Need-sub-over-limit Inv-loop μ-loop
 sub-over-limit c =
-    let q = upto-places (c .before .before .before .before .before .before .before .before .before .before .before .before .before .before .before .before .before .loop .inv) (c .before .before .before .before .before .before .before .before .before .before .before .path .ensures) (c .before .p .given .1) in let qa = q .0 in let qb = q .1 in let qc = q .2 in search needs
+    let read = path-of (c .before) in
+    let q = upto-places (turn-of read .loop .inv) (read .path .ensures) (c .before .p .given .1) in
+    let qa = q .0 in
+    let qb = q .1 in
+    let qc = q .2 in
+    search needs
 
 sub-over-limit-2 : tie.Need-sub-over-limit-2 Inv-loop μ-loop
 sub-over-limit-2 c =
-    let q = upto-places (c .before .before .before .before .before .before .before .before .before .before .before .before .before .before .before .before .before .loop .inv) (c .before .before .before .before .before .before .before .before .before .before .before .path .ensures) (c .before .p .given .1) in let qa = q .0 in let qb = q .1 in let qc = q .2 in search needs
+    let read = path-of (c .before) in
+    let q = upto-places (turn-of read .loop .inv) (read .path .ensures) (c .before .p .given .1) in
+    let qa = q .0 in
+    let qb = q .1 in
+    let qc = q .2 in
+    search needs
 
 sub-over-limit-3 : tie.Need-sub-over-limit-3 Inv-loop μ-loop
 sub-over-limit-3 c =
-    let q = upto-places (c .before .before .before .before .before .before .before .before .before .before .before .before .before .before .before .before .before .loop .inv) (c .before .before .before .before .before .before .before .before .before .before .before .path .ensures) (c .before .p .given .1) in let qa = q .0 in let qb = q .1 in let qc = q .2 in search needs
+    let read = path-of (c .before) in
+    let q = upto-places (turn-of read .loop .inv) (read .path .ensures) (c .before .p .given .1) in
+    let qa = q .0 in
+    let qb = q .1 in
+    let qc = q .2 in
+    search needs
 
 over-limit-requires : tie.Need-over-limit-requires Inv-loop μ-loop
 over-limit-requires c κs =
-    let h = c .before .before .before .before .before .before .before .before .before .before .before .before .before .before .before .before .before .loop .inv .high in let l = c .before .before .before .before .before .before .before .before .before .before .before .before .before .before .before .before .before .before .before .before .before .before .before .before .pre .1 in omega arith
+    let turn = turn-of (path-of (c .before)) in
+    let h = turn .loop .inv .high in
+    let l = start-of turn .pre .1 in
+    omega arith
 
 add-d : tie.Need-add-d Inv-loop μ-loop
 add-d c =
-    let f = c .before .before .before .before .before .before .before .before .before .before .before .before .before .before .before .before .before .before .loop .inv .few in let h = c .before .before .before .before .before .before .before .before .before .before .before .before .before .before .before .before .before .before .loop .inv .high in let l = c .before .before .before .before .before .before .before .before .before .before .before .before .before .before .before .before .before .before .before .before .before .before .before .before .before .pre .1 in search needs
+    let turn = turn-of (path-of (past-of c)) in
+    let f = turn .loop .inv .few in
+    let h = turn .loop .inv .high in
+    let l = start-of turn .pre .1 in
+    search needs
 
 loop-less : tie.Need-loop-less Inv-loop μ-loop
 loop-less c =
-    let q = upto-places (c .before .before .before .before .before .before .before .before .before .before .before .before .before .before .before .before .before .before .before .before .before .before .loop .inv) (c .before .before .before .before .before .before .before .before .before .before .before .before .before .before .before .before .path .ensures) (c .before .before .before .before .before .before .p .given .1) in let qa = q .0 in let qb = q .1 in let qc = q .2 in omega arith
+    let past = past-of (c .before .before .before .before) in
+    let q = upto-places (turn-of (path-of past) .loop .inv) (path-of past .path .ensures) (past .p .given .1) in
+    let qa = q .0 in
+    let qb = q .1 in
+    let qc = q .2 in
+    omega arith
 
 loop-again : tie.Need-loop-again Inv-loop μ-loop
 loop-again c =
-    upto-next (c .before .before .before .before .before .before .before .before .before .before .before .before .before .before .before .before .before .before .before .before .before .before .loop .inv) (c .before .before .before .before .before .before .before .before .before .before .before .before .before .before .before .before .path .ensures) (c .before .before .before .before .before .before .p .given .1) (c .before .before .before .before .over-limit .ensures) (c .before .before .note .ensures)
+    let limited = c .before .before .before .before in
+    let past = past-of limited in
+    upto-next (turn-of (path-of past) .loop .inv) (path-of past .path .ensures) (past .p .given .1)
+    (limited .over-limit .ensures) (c .before .before .note .ensures)
 
 same-length-6 : tie.Need-same-length-6 Inv-loop μ-loop
-same-length-6 c =
-    let z = upto-size (c .before .loop .inv) in let za = z .0 in let zb = z .1 in let zc = z .2 in let zd = z .3 in let ze = z .4 in search needs
+same-length-6 c = let l = sizes (c .before) .0 in search needs
 
 same-length-7 : tie.Need-same-length-7 Inv-loop μ-loop
-same-length-7 c =
-    let z = upto-size (c .before .loop .inv) in let za = z .0 in let zb = z .1 in let zc = z .2 in let zd = z .3 in let ze = z .4 in search needs
+same-length-7 c = let l = sizes (c .before) .1 in search needs
 
 same-length-8 : tie.Need-same-length-8 Inv-loop μ-loop
-same-length-8 c =
-    let z = upto-size (c .before .loop .inv) in let za = z .0 in let zb = z .1 in let zc = z .2 in let zd = z .3 in let ze = z .4 in search needs
+same-length-8 c = let l = sizes (c .before) .2 in search needs
 
 same-length-9 : tie.Need-same-length-9 Inv-loop μ-loop
-same-length-9 c =
-    let z = upto-size (c .before .loop .inv) in let za = z .0 in let zb = z .1 in let zc = z .2 in let zd = z .3 in let ze = z .4 in search needs
+same-length-9 c = let l = sizes (c .before) .3 in search needs
 
 same-length-10 : tie.Need-same-length-10 Inv-loop μ-loop
-same-length-10 c =
-    let z = upto-size (c .before .loop .inv) in let za = z .0 in let zb = z .1 in let zc = z .2 in let zd = z .3 in let ze = z .4 in search needs
+same-length-10 c = let l = sizes (c .before) .4 in search needs
 
 returns-2 : tie.Need-returns-2 Inv-loop μ-loop
-returns-2 c =
-    upto-whole (c .before .loop .inv) (c .loop-test .left) (c .before .before .before .before .before .before .before .before .pre .0)
+returns-2 c = upto-whole (c .before .loop .inv) (c .loop-test .left) (start-of (c .before) .pre .0)
 
 pub all-paths-spec : {M : Type 1} → statement M
 all-paths-spec =

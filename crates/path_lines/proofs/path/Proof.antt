@@ -1,4 +1,5 @@
 -- `path` meets its contract: step by step, up to the line feed.
+use mathlib.Core.Path.{_≡_}
 use Prim.Native.Nat.{_-_}
 use native.Mathlib.Omega.{arith}
 use lib.ListN.{length}
@@ -15,85 +16,140 @@ abbrev μ-loop : tie.MeasureT-loop
 μ-loop s at outers₀ conditions₀ k cells₀ n ways₀ m i₀ steps₀ count₀ many₀ over₀ outers conditions cells ways i steps count many over =
     length s - i
 
+-- ---- the states that answers look back at
+-- the call, from a turn of the loop
+abbrev start-of : tie.At-loop Inv-loop μ-loop → tie.Start Inv-loop μ-loop
+start-of c = c .before .before .before .before .before .before
+
+-- the turn in which a step was read
+abbrev turn-of : tie.After-written-step Inv-loop μ-loop → tie.At-loop Inv-loop μ-loop
+turn-of c = c .before .before .before .before
+
+-- the step's reading, once it is known to be past
+abbrev step-of : tie.After-p Inv-loop μ-loop → tie.After-written-step Inv-loop μ-loop
+step-of c = c .before .before .before .before .before .before .before .before
+
+module _ (c : tie.At-loop Inv-loop μ-loop) where
+  -- the columns have their lengths
+  sizes : (length (c .loop .outers) ≡ length (start-of c .args .outers .now)) × (length (c .loop .conditions) ≡ length (start-of c .args .conditions .now))
+      × (length (c .loop .cells) ≡ length (start-of c .args .cells .now)) × (length (c .loop .ways) ≡ length (start-of c .args .ways .now))
+  sizes = steps-size (c .loop .inv .noted)
+
+-- once it is known what follows the step
+module _ (c : tie.After-after-step Inv-loop μ-loop) where
+  abbrev at-note : tie.After-note Inv-loop μ-loop
+  at-note = c .before .before .before
+
+  abbrev at-either : tie.After-either Inv-loop μ-loop
+  at-either = at-note .before .before
+
+  abbrev at-past : tie.After-p Inv-loop μ-loop
+  at-past = at-either .before .before
+
+  abbrev at-step : tie.After-written-step Inv-loop μ-loop
+  at-step = step-of at-past
+
+  abbrev at-turn : tie.At-loop Inv-loop μ-loop
+  at-turn = turn-of at-step
+
+  abbrev at-start : tie.Start Inv-loop μ-loop
+  at-start = start-of at-turn
+
+  -- the columns still have their lengths
+  lengths : (length (at-step .written-step .last .1 .1 .0) ≡ length (at-start .args .outers .now))
+      × (length (at-note .note .last .0) ≡ length (at-start .args .conditions .now))
+      × (length (at-step .written-step .last .1 .1 .1 .1 .0) ≡ length (at-start .args .cells .now))
+      × (length (at-step .written-step .last .1 .1 .1 .1 .1 .1 .0) ≡ length (at-start .args .ways .now))
+  lengths =
+      upto-length (at-turn .loop .inv) (at-start .pre .0) (at-step .written-step .ensures) (at-past .p .given .1)
+      (at-either .either .ensures) (at-note .note .ensures)
+
+-- ---- the answers
 loop-holds : tie.Need-loop-holds Inv-loop μ-loop
 loop-holds c =
-    upto-start (c .before .before .before .before .before .pre .0) (c .before .before .before .before .before .pre .2) (c .before .before .before .before .before .pre .3) (c .before .before .before .before .before .pre .4)
+    let start = c .before .before .before .before .before in
+    upto-start (start .pre .0) (start .pre .2) (start .pre .3) (start .pre .4)
 
 written-step-requires : tie.Need-written-step-requires Inv-loop μ-loop
 written-step-requires c κs =
-    (c .before .before .before .loop .inv .high, c .before .before .before .before .before .before .before .before .before .pre .1, c .before .before .before .loop .inv .few, c .before .before .before .loop .inv .few-ways)
+    let turn = c .before .before .before in
+    (turn .loop .inv .high, start-of turn .pre .1, turn .loop .inv .few, turn .loop .inv .few-ways)
 
 same-length : tie.Need-same-length Inv-loop μ-loop
-same-length c =
-    let z = steps-size (c .before .before .before .before .before .before .before .before .before .before .before .before .before .loop .inv .noted) in let za = z .0 in let zb = z .1 in let zc = z .2 in let zd = z .3 in search needs
+same-length c = let l = sizes (turn-of (c .before .before .before .before .before .before .before .before .before)) .0 in search needs
 
 same-length-2 : tie.Need-same-length-2 Inv-loop μ-loop
-same-length-2 c =
-    let z = steps-size (c .before .before .before .before .before .before .before .before .before .before .before .before .before .loop .inv .noted) in let za = z .0 in let zb = z .1 in let zc = z .2 in let zd = z .3 in search needs
+same-length-2 c = let l = sizes (turn-of (c .before .before .before .before .before .before .before .before .before)) .1 in search needs
 
 same-length-3 : tie.Need-same-length-3 Inv-loop μ-loop
-same-length-3 c =
-    let z = steps-size (c .before .before .before .before .before .before .before .before .before .before .before .before .before .loop .inv .noted) in let za = z .0 in let zb = z .1 in let zc = z .2 in let zd = z .3 in search needs
+same-length-3 c = let l = sizes (turn-of (c .before .before .before .before .before .before .before .before .before)) .2 in search needs
 
 same-length-4 : tie.Need-same-length-4 Inv-loop μ-loop
-same-length-4 c =
-    let z = steps-size (c .before .before .before .before .before .before .before .before .before .before .before .before .before .loop .inv .noted) in let za = z .0 in let zb = z .1 in let zc = z .2 in let zd = z .3 in search needs
+same-length-4 c = let l = sizes (turn-of (c .before .before .before .before .before .before .before .before .before)) .3 in search needs
 
 returns : tie.Need-returns Inv-loop μ-loop
 returns c =
-    upto-fails (c .before .before .before .before .before .before .before .before .before .before .before .before .before .loop .inv) (c .before .before .before .before .before .before .before .before .before .before .before .before .before .before .before .before .before .before .before .pre .0) (c .before .before .before .before .before .before .before .before .before .written-step .ensures) (c .before .j .given .1)
+    let step = c .before .before .before .before .before .before .before .before .before in
+    upto-fails (turn-of step .loop .inv) (start-of (turn-of step) .pre .0) (step .written-step .ensures) (c .before .j .given .1)
 
 add-steps : tie.Need-add-steps Inv-loop μ-loop
 add-steps c =
-    let f = c .before .before .before .before .before .before .before .before .before .before .before .before .before .before .loop .inv .few-steps in let h = c .before .before .before .before .before .before .before .before .before .before .before .before .before .before .loop .inv .high in let l = c .before .before .before .before .before .before .before .before .before .before .before .before .before .before .before .before .before .before .before .before .pre .1 in search needs
+    let turn = turn-of (step-of (c .before .before)) in
+    let f = turn .loop .inv .few-steps in
+    let h = turn .loop .inv .high in
+    let l = start-of turn .pre .1 in
+    search needs
 
 same-length-5 : tie.Need-same-length-5 Inv-loop μ-loop
-same-length-5 c =
-    let z = steps-size (c .before .before .before .before .before .before .before .before .before .before .before .before .before .before .before .before .before .before .before .before .before .before .loop .inv .noted) in let za = z .0 in let zb = z .1 in let zc = z .2 in let zd = z .3 in let l = upto-length (c .before .before .before .before .before .before .before .before .before .before .before .before .before .before .before .before .before .before .before .before .before .before .loop .inv) (c .before .before .before .before .before .before .before .before .before .before .before .before .before .before .before .before .before .before .before .before .before .before .before .before .before .before .before .before .pre .0) (c .before .before .before .before .before .before .before .before .before .before .before .before .before .before .before .before .before .before .written-step .ensures) (c .before .before .before .before .before .before .before .before .before .before .p .given .1) (c .before .before .before .before .before .before .before .before .either .ensures) (c .before .before .before .before .before .before .note .ensures) in let la = l .0 in let lb = l .1 in let lc = l .2 in let ld = l .3 in search needs
+same-length-5 c = let l = lengths (c .before .before .before) .0 in search needs
 
 same-length-6 : tie.Need-same-length-6 Inv-loop μ-loop
-same-length-6 c =
-    let z = steps-size (c .before .before .before .before .before .before .before .before .before .before .before .before .before .before .before .before .before .before .before .before .before .before .loop .inv .noted) in let za = z .0 in let zb = z .1 in let zc = z .2 in let zd = z .3 in let l = upto-length (c .before .before .before .before .before .before .before .before .before .before .before .before .before .before .before .before .before .before .before .before .before .before .loop .inv) (c .before .before .before .before .before .before .before .before .before .before .before .before .before .before .before .before .before .before .before .before .before .before .before .before .before .before .before .before .pre .0) (c .before .before .before .before .before .before .before .before .before .before .before .before .before .before .before .before .before .before .written-step .ensures) (c .before .before .before .before .before .before .before .before .before .before .p .given .1) (c .before .before .before .before .before .before .before .before .either .ensures) (c .before .before .before .before .before .before .note .ensures) in let la = l .0 in let lb = l .1 in let lc = l .2 in let ld = l .3 in search needs
+same-length-6 c = let l = lengths (c .before .before .before) .1 in search needs
 
 same-length-7 : tie.Need-same-length-7 Inv-loop μ-loop
-same-length-7 c =
-    let z = steps-size (c .before .before .before .before .before .before .before .before .before .before .before .before .before .before .before .before .before .before .before .before .before .before .loop .inv .noted) in let za = z .0 in let zb = z .1 in let zc = z .2 in let zd = z .3 in let l = upto-length (c .before .before .before .before .before .before .before .before .before .before .before .before .before .before .before .before .before .before .before .before .before .before .loop .inv) (c .before .before .before .before .before .before .before .before .before .before .before .before .before .before .before .before .before .before .before .before .before .before .before .before .before .before .before .before .pre .0) (c .before .before .before .before .before .before .before .before .before .before .before .before .before .before .before .before .before .before .written-step .ensures) (c .before .before .before .before .before .before .before .before .before .before .p .given .1) (c .before .before .before .before .before .before .before .before .either .ensures) (c .before .before .before .before .before .before .note .ensures) in let la = l .0 in let lb = l .1 in let lc = l .2 in let ld = l .3 in search needs
+same-length-7 c = let l = lengths (c .before .before .before) .2 in search needs
 
 same-length-8 : tie.Need-same-length-8 Inv-loop μ-loop
-same-length-8 c =
-    let z = steps-size (c .before .before .before .before .before .before .before .before .before .before .before .before .before .before .before .before .before .before .before .before .before .before .loop .inv .noted) in let za = z .0 in let zb = z .1 in let zc = z .2 in let zd = z .3 in let l = upto-length (c .before .before .before .before .before .before .before .before .before .before .before .before .before .before .before .before .before .before .before .before .before .before .loop .inv) (c .before .before .before .before .before .before .before .before .before .before .before .before .before .before .before .before .before .before .before .before .before .before .before .before .before .before .before .before .pre .0) (c .before .before .before .before .before .before .before .before .before .before .before .before .before .before .before .before .before .before .written-step .ensures) (c .before .before .before .before .before .before .before .before .before .before .p .given .1) (c .before .before .before .before .before .before .before .before .either .ensures) (c .before .before .before .before .before .before .note .ensures) in let la = l .0 in let lb = l .1 in let lc = l .2 in let ld = l .3 in search needs
+same-length-8 c = let l = lengths (c .before .before .before) .3 in search needs
 
 returns-2 : tie.Need-returns-2 Inv-loop μ-loop
 returns-2 c =
-    upto-stops (c .before .before .before .before .before .before .before .before .before .before .before .before .before .before .before .before .before .before .before .before .before .before .loop .inv) (c .before .before .before .before .before .before .before .before .before .before .before .before .before .before .before .before .before .before .before .before .before .before .before .before .before .before .before .before .pre .0) (c .before .before .before .before .before .before .before .before .before .before .before .before .before .before .before .before .before .before .written-step .ensures) (c .before .before .before .before .before .before .before .before .before .before .p .given .1) (c .before .before .before .before .before .before .before .before .either .ensures) (c .before .before .before .before .before .before .note .ensures) (c .before .before .before .after-step .ensures) (c .before .f .given .1)
+    let next = c .before .before .before in
+    upto-stops (at-turn next .loop .inv) (at-start next .pre .0) (at-step next .written-step .ensures) (at-past next .p .given .1)
+    (at-either next .either .ensures) (at-note next .note .ensures) (next .after-step .ensures) (c .before .f .given .1)
 
 loop-less : tie.Need-loop-less Inv-loop μ-loop
 loop-less c =
-    let l = upto-later (c .before .before .before .before .before .before .before .before .before .before .before .before .before .before .before .before .before .before .before .before .before .before .loop .inv) (c .before .before .before .before .before .before .before .before .before .before .before .before .before .before .before .before .before .before .before .before .before .before .before .before .before .before .before .before .pre .0) (c .before .before .before .before .before .before .before .before .before .before .before .before .before .before .before .before .before .before .written-step .ensures) (c .before .before .before .before .before .before .before .before .before .before .p .given .1) (c .before .before .before .before .before .before .before .before .either .ensures) (c .before .before .before .before .before .before .note .ensures) (c .before .before .before .after-step .ensures) (c .before .f2 .given .1) in let a = l .0 in let b = l .1 in omega arith
+    let next = c .before .before .before in
+    let l = upto-later (at-turn next .loop .inv) (at-start next .pre .0) (at-step next .written-step .ensures) (at-past next .p .given .1)
+    (at-either next .either .ensures) (at-note next .note .ensures) (next .after-step .ensures) (c .before .f2 .given .1) in
+    let a = l .0 in
+    let b = l .1 in
+    omega arith
 
 loop-again : tie.Need-loop-again Inv-loop μ-loop
 loop-again c =
-    upto-next (c .before .before .before .before .before .before .before .before .before .before .before .before .before .before .before .before .before .before .before .before .before .before .loop .inv) (c .before .before .before .before .before .before .before .before .before .before .before .before .before .before .before .before .before .before .before .before .before .before .before .before .before .before .before .before .pre .0) (c .before .before .before .before .before .before .before .before .before .before .before .before .before .before .before .before .before .before .written-step .ensures) (c .before .before .before .before .before .before .before .before .before .before .p .given .1) (c .before .before .before .before .before .before .before .before .either .ensures) (c .before .before .before .before .before .before .note .ensures) (c .before .before .before .after-step .ensures) (c .before .f2 .given .1)
+    let next = c .before .before .before in
+    upto-next (at-turn next .loop .inv) (at-start next .pre .0) (at-step next .written-step .ensures) (at-past next .p .given .1)
+    (at-either next .either .ensures) (at-note next .note .ensures) (next .after-step .ensures) (c .before .f2 .given .1)
 
 same-length-9 : tie.Need-same-length-9 Inv-loop μ-loop
-same-length-9 c =
-    let z = steps-size (c .before .before .before .before .before .before .before .before .before .before .before .before .before .before .before .before .before .before .before .before .before .before .loop .inv .noted) in let za = z .0 in let zb = z .1 in let zc = z .2 in let zd = z .3 in let l = upto-length (c .before .before .before .before .before .before .before .before .before .before .before .before .before .before .before .before .before .before .before .before .before .before .loop .inv) (c .before .before .before .before .before .before .before .before .before .before .before .before .before .before .before .before .before .before .before .before .before .before .before .before .before .before .before .before .pre .0) (c .before .before .before .before .before .before .before .before .before .before .before .before .before .before .before .before .before .before .written-step .ensures) (c .before .before .before .before .before .before .before .before .before .before .p .given .1) (c .before .before .before .before .before .before .before .before .either .ensures) (c .before .before .before .before .before .before .note .ensures) in let la = l .0 in let lb = l .1 in let lc = l .2 in let ld = l .3 in search needs
+same-length-9 c = let l = lengths (c .before .before .before) .0 in search needs
 
 same-length-10 : tie.Need-same-length-10 Inv-loop μ-loop
-same-length-10 c =
-    let z = steps-size (c .before .before .before .before .before .before .before .before .before .before .before .before .before .before .before .before .before .before .before .before .before .before .loop .inv .noted) in let za = z .0 in let zb = z .1 in let zc = z .2 in let zd = z .3 in let l = upto-length (c .before .before .before .before .before .before .before .before .before .before .before .before .before .before .before .before .before .before .before .before .before .before .loop .inv) (c .before .before .before .before .before .before .before .before .before .before .before .before .before .before .before .before .before .before .before .before .before .before .before .before .before .before .before .before .pre .0) (c .before .before .before .before .before .before .before .before .before .before .before .before .before .before .before .before .before .before .written-step .ensures) (c .before .before .before .before .before .before .before .before .before .before .p .given .1) (c .before .before .before .before .before .before .before .before .either .ensures) (c .before .before .before .before .before .before .note .ensures) in let la = l .0 in let lb = l .1 in let lc = l .2 in let ld = l .3 in search needs
+same-length-10 c = let l = lengths (c .before .before .before) .1 in search needs
 
 same-length-11 : tie.Need-same-length-11 Inv-loop μ-loop
-same-length-11 c =
-    let z = steps-size (c .before .before .before .before .before .before .before .before .before .before .before .before .before .before .before .before .before .before .before .before .before .before .loop .inv .noted) in let za = z .0 in let zb = z .1 in let zc = z .2 in let zd = z .3 in let l = upto-length (c .before .before .before .before .before .before .before .before .before .before .before .before .before .before .before .before .before .before .before .before .before .before .loop .inv) (c .before .before .before .before .before .before .before .before .before .before .before .before .before .before .before .before .before .before .before .before .before .before .before .before .before .before .before .before .pre .0) (c .before .before .before .before .before .before .before .before .before .before .before .before .before .before .before .before .before .before .written-step .ensures) (c .before .before .before .before .before .before .before .before .before .before .p .given .1) (c .before .before .before .before .before .before .before .before .either .ensures) (c .before .before .before .before .before .before .note .ensures) in let la = l .0 in let lb = l .1 in let lc = l .2 in let ld = l .3 in search needs
+same-length-11 c = let l = lengths (c .before .before .before) .2 in search needs
 
 same-length-12 : tie.Need-same-length-12 Inv-loop μ-loop
-same-length-12 c =
-    let z = steps-size (c .before .before .before .before .before .before .before .before .before .before .before .before .before .before .before .before .before .before .before .before .before .before .loop .inv .noted) in let za = z .0 in let zb = z .1 in let zc = z .2 in let zd = z .3 in let l = upto-length (c .before .before .before .before .before .before .before .before .before .before .before .before .before .before .before .before .before .before .before .before .before .before .loop .inv) (c .before .before .before .before .before .before .before .before .before .before .before .before .before .before .before .before .before .before .before .before .before .before .before .before .before .before .before .before .pre .0) (c .before .before .before .before .before .before .before .before .before .before .before .before .before .before .before .before .before .before .written-step .ensures) (c .before .before .before .before .before .before .before .before .before .before .p .given .1) (c .before .before .before .before .before .before .before .before .either .ensures) (c .before .before .before .before .before .before .note .ensures) in let la = l .0 in let lb = l .1 in let lc = l .2 in let ld = l .3 in search needs
+same-length-12 c = let l = lengths (c .before .before .before) .3 in search needs
 
 returns-3 : tie.Need-returns-3 Inv-loop μ-loop
 returns-3 c =
-    upto-closes (c .before .before .before .before .before .before .before .before .before .before .before .before .before .before .before .before .before .before .before .before .before .before .loop .inv) (c .before .before .before .before .before .before .before .before .before .before .before .before .before .before .before .before .before .before .before .before .before .before .before .before .before .before .before .before .pre .0) (c .before .before .before .before .before .before .before .before .before .before .before .before .before .before .before .before .before .before .written-step .ensures) (c .before .before .before .before .before .before .before .before .before .before .p .given .1) (c .before .before .before .before .before .before .before .before .either .ensures) (c .before .before .before .before .before .before .note .ensures) (c .before .before .before .after-step .ensures) (c .before .f3 .given .1)
+    let next = c .before .before .before in
+    upto-closes (at-turn next .loop .inv) (at-start next .pre .0) (at-step next .written-step .ensures) (at-past next .p .given .1)
+    (at-either next .either .ensures) (at-note next .note .ensures) (next .after-step .ensures) (c .before .f3 .given .1)
 
 pub path-spec : {M : Type 1} → statement M
 path-spec =

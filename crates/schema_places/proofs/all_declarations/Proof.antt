@@ -15,99 +15,127 @@ Inv-loop s names₀ uses₀ size i₀ d₀ n₀ over₀ unused₀ names uses i d
 abbrev μ-loop : tie.MeasureT-loop
 μ-loop s names₀ uses₀ size i₀ d₀ n₀ over₀ unused₀ names uses i d n over unused = length s - i
 
+-- ---- the states that answers look back at
+-- the call, from a turn of the loop
+abbrev start-of : tie.At-loop Inv-loop μ-loop → tie.Start Inv-loop μ-loop
+start-of c = c .before .before .before .before .before
+
+-- the test of the turn in which a declaration was read
+abbrev test-of : tie.After-declaration Inv-loop μ-loop → tie.In-loop Inv-loop μ-loop
+test-of c = c .before .before .before
+
+-- the declaration's reading, once it is known to be past
+abbrev declaration-of : tie.After-p Inv-loop μ-loop → tie.After-declaration Inv-loop μ-loop
+declaration-of c = c .before .before .before .before .before
+
+-- that it is past, from the noting of its name
+abbrev past-of : tie.After-note Inv-loop μ-loop → tie.After-p Inv-loop μ-loop
+past-of c = c .before .before .before
+
+-- ---- the answers
 loop-holds : tie.Need-loop-holds Inv-loop μ-loop
-loop-holds c = (all-start (c .skip .ensures) (c .before .before .before .before .pre .0) (c .before .before .before .before .pre .1), refl)
+loop-holds c =
+    let start = c .before .before .before .before in
+    (all-start (c .skip .ensures) (start .pre .0) (start .pre .1), refl)
 
 slice-aggregate-declaration : tie.Need-slice-aggregate-declaration Inv-loop μ-loop
 slice-aggregate-declaration c = let l = c .before .before .before .loop .inv .1 in search needs
 
 declaration-requires : tie.Need-declaration-requires Inv-loop μ-loop
-declaration-requires c κs = (c .before .before .loop-test .taken, c .before .before .before .loop .inv .0 .few-uses, c .before .before .before .loop .inv .0 .no-blank)
+declaration-requires c κs =
+    let test = c .before .before in
+    (test .loop-test .taken, test .before .loop .inv .0 .few-uses, test .before .loop .inv .0 .no-blank)
 
 same-length : tie.Need-same-length Inv-loop μ-loop
-same-length c = let a = c .before .before .before .before .before .before .before .before .before .before .loop .inv .0 .room in
-    let b = c .before .before .before .before .before .before .before .before .before .before .loop .inv .0 .room-uses in
-    let e = c .before .before .before .before .before .before .before .before .before .before .before .before .before .before .before .pre in
+same-length c =
+    let turn = test-of (c .before .before .before .before .before .before) .before in
+    let a = turn .loop .inv .0 .room in
+    let b = turn .loop .inv .0 .room-uses in
+    let e = start-of turn .pre in
     search needs
 
 same-length-2 : tie.Need-same-length-2 Inv-loop μ-loop
-same-length-2 c = let a = c .before .before .before .before .before .before .before .before .before .before .loop .inv .0 .room in
-    let b = c .before .before .before .before .before .before .before .before .before .before .loop .inv .0 .room-uses in
-    let e = c .before .before .before .before .before .before .before .before .before .before .before .before .before .before .before .pre in
+same-length-2 c =
+    let turn = test-of (c .before .before .before .before .before .before) .before in
+    let a = turn .loop .inv .0 .room in
+    let b = turn .loop .inv .0 .room-uses in
+    let e = start-of turn .pre in
     search needs
 
 returns : tie.Need-returns Inv-loop μ-loop
 returns c =
-    let at-declaration = c .before .before .before .before .before .before in
-    let at-loop-test = at-declaration .before .before .before in
-    let at-loop = at-loop-test .before in
-    record { says = all-fail (at-loop .loop .inv .0) (at-loop-test .loop-test .taken) (at-declaration .declaration .ensures) (c .before .j .given .1) }
+    let read = c .before .before .before .before .before .before in
+    record { says = all-fail (test-of read .before .loop .inv .0) (test-of read .loop-test .taken) (read .declaration .ensures) (c .before .j .given .1) }
 
 over-limit-requires : tie.Need-over-limit-requires Inv-loop μ-loop
 over-limit-requires c κs =
-    let at-p = c .before .before .before .before .before .before in
-    let at-declaration = at-p .before .before .before .before .before in
-    let at-loop-test = at-declaration .before .before .before in
-    let at-loop = at-loop-test .before in
-    all-known (at-loop .loop .inv .0) (at-loop-test .loop-test .taken) (at-declaration .declaration .ensures) (at-p .p .given .1) .0
+    let past = c .before .before .before .before .before .before in
+    let read = declaration-of past in
+    all-known (test-of read .before .loop .inv .0) (test-of read .loop-test .taken) (read .declaration .ensures) (past .p .given .1) .0
 
 add-d : tie.Need-add-d Inv-loop μ-loop
-add-d c = let f = c .before .before .before .before .before .before .before .before .before .before .before .before .before .before .before .before .loop .inv .0 .few in search needs
+add-d c = let f = test-of (declaration-of (past-of (c .before .before .before .before))) .before .loop .inv .0 .few in search needs
 
 skip-requires-2 : tie.Need-skip-requires-2 Inv-loop μ-loop
 skip-requires-2 c κs =
-    let at-p = c .before .before .before .before .before .before .before in
-    let at-declaration = at-p .before .before .before .before .before in
-    let at-loop-test = at-declaration .before .before .before in
-    let at-loop = at-loop-test .before in
-    all-known (at-loop .loop .inv .0) (at-loop-test .loop-test .taken) (at-declaration .declaration .ensures) (at-p .p .given .1) .1
+    let past = c .before .before .before .before .before .before .before in
+    let read = declaration-of past in
+    all-known (test-of read .before .loop .inv .0) (test-of read .loop-test .taken) (read .declaration .ensures) (past .p .given .1) .1
 
 loop-less : tie.Need-loop-less Inv-loop μ-loop
 loop-less c =
-    let at-note = c .before .before .before .before .before in
-    let at-p = at-note .before .before .before in
-    let at-declaration = at-p .before .before .before .before .before in
-    let at-loop-test = at-declaration .before .before .before in
-    let at-loop = at-loop-test .before in
-    let x = all-next (at-loop .loop .inv .0) (at-loop-test .loop-test .taken) (at-declaration .declaration .ensures) (at-p .p .given .1) (at-note .note .ensures) (c .before .over-limit .ensures) (c .skip2 .ensures) in
+    let noted = c .before .before .before .before .before in
+    let past = past-of noted in
+    let read = declaration-of past in
+    let x = all-next (test-of read .before .loop .inv .0) (test-of read .loop-test .taken) (read .declaration .ensures) (past .p .given .1)
+    (noted .note .ensures) (c .before .over-limit .ensures) (c .skip2 .ensures) in
     let y = x .0 in
     let z = x .1 .high in
     omega arith
 
 loop-again : tie.Need-loop-again Inv-loop μ-loop
 loop-again c =
-    let at-note = c .before .before .before .before .before in
-    let at-p = at-note .before .before .before in
-    let at-declaration = at-p .before .before .before .before .before in
-    let at-loop-test = at-declaration .before .before .before in
-    let at-loop = at-loop-test .before in
-    (all-next (at-loop .loop .inv .0) (at-loop-test .loop-test .taken) (at-declaration .declaration .ensures) (at-p .p .given .1) (at-note .note .ensures) (c .before .over-limit .ensures) (c .skip2 .ensures) .1, search needs)
+    let noted = c .before .before .before .before .before in
+    let past = past-of noted in
+    let read = declaration-of past in (
+      all-next (test-of read .before .loop .inv .0) (test-of read .loop-test .taken) (read .declaration .ensures) (past .p .given .1)
+          (noted .note .ensures) (c .before .over-limit .ensures) (c .skip2 .ensures) .1,
+      search needs,
+    )
 
 same-length-3 : tie.Need-same-length-3 Inv-loop μ-loop
-same-length-3 c = let a = c .before .before .loop .inv .0 .room in
-    let b = c .before .before .loop .inv .0 .room-uses in
-    let e = c .before .before .before .before .before .before .before .pre in
+same-length-3 c =
+    let turn = c .before .before in
+    let a = turn .loop .inv .0 .room in
+    let b = turn .loop .inv .0 .room-uses in
+    let e = start-of turn .pre in
     search needs
 
 same-length-4 : tie.Need-same-length-4 Inv-loop μ-loop
-same-length-4 c = let a = c .before .before .loop .inv .0 .room in
-    let b = c .before .before .loop .inv .0 .room-uses in
-    let e = c .before .before .before .before .before .before .before .pre in
+same-length-4 c =
+    let turn = c .before .before in
+    let a = turn .loop .inv .0 .room in
+    let b = turn .loop .inv .0 .room-uses in
+    let e = start-of turn .pre in
     search needs
 
 returns-2 : tie.Need-returns-2 Inv-loop μ-loop
 returns-2 c = record { says = all-none (c .before .before .loop .inv .0) (c .before .loop-test .left) (c .if1 .taken) }
 
 same-length-5 : tie.Need-same-length-5 Inv-loop μ-loop
-same-length-5 c = let a = c .before .before .loop .inv .0 .room in
-    let b = c .before .before .loop .inv .0 .room-uses in
-    let e = c .before .before .before .before .before .before .before .pre in
+same-length-5 c =
+    let turn = c .before .before in
+    let a = turn .loop .inv .0 .room in
+    let b = turn .loop .inv .0 .room-uses in
+    let e = start-of turn .pre in
     search needs
 
 same-length-6 : tie.Need-same-length-6 Inv-loop μ-loop
-same-length-6 c = let a = c .before .before .loop .inv .0 .room in
-    let b = c .before .before .loop .inv .0 .room-uses in
-    let e = c .before .before .before .before .before .before .before .pre in
+same-length-6 c =
+    let turn = c .before .before in
+    let a = turn .loop .inv .0 .room in
+    let b = turn .loop .inv .0 .room-uses in
+    let e = start-of turn .pre in
     search needs
 
 returns-3 : tie.Need-returns-3 Inv-loop μ-loop
