@@ -4,3 +4,4 @@ pub mod Codes
 pub mod Lines
 pub mod Rows
 pub mod Tables
+pub mod Texts

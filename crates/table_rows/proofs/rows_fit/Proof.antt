@@ -10,13 +10,20 @@ returns : tie.Need-returns
 returns c = rows-none _ _ _ (c .if1 .taken)
 
 returns-2 : tie.Need-returns-2
-returns-2 c = rows-rootless _ _ _ (c .before .before .before .before .before .before .before .if1 .left) (sym (c .before .root-fits .ensures) ∙ not-true _ (c .if2 .taken))
+returns-2 c =
+    let some = c .before .before .before .before .before .before .before in
+    rows-rootless _ _ _ (some .if1 .left) (sym (c .before .root-fits .ensures) ∙ not-true _ (c .if2 .taken))
 
 later-rows-fit-requires : tie.Need-later-rows-fit-requires
-later-rows-fit-requires c κs = (c .before .before .before .before .before .before .before .before .before .before .before .before .before .pre, root-at _ _ (c .before .before .before .before .before .before .before .if1 .left) (sym (c .before .root-fits .ensures) ∙ not-false _ (c .if2 .left)))
+later-rows-fit-requires c κs =
+    let some = c .before .before .before .before .before .before .before in
+    let start = some .before .before .before .before .before .before in
+    (start .pre, root-at _ _ (some .if1 .left) (sym (c .before .root-fits .ensures) ∙ not-false _ (c .if2 .left)))
 
 returns-3 : tie.Need-returns-3
-returns-3 c = c .later-rows-fit .ensures ∙ rows-rooted _ _ _ (c .before .before .before .before .before .before .before .before .if1 .left) (sym (c .before .before .root-fits .ensures) ∙ not-false _ (c .before .if2 .left))
+returns-3 c =
+    let some = c .before .before .before .before .before .before .before .before in
+    c .later-rows-fit .ensures ∙ rows-rooted _ _ _ (some .if1 .left) (sym (c .before .before .root-fits .ensures) ∙ not-false _ (c .before .if2 .left))
 
 pub rows-fit-spec : {M : Type 1} → statement M
 rows-fit-spec =
