@@ -57,7 +57,7 @@ pub record Clean (b : Building) : Type 0 where
   pub unbroken : b .broken ≡ none
   pub faultless : b .faults ≡ []
 
-clean-event : (s : Schema) (e : Event) (b : Building) → Clean (onEvent s e b) → Clean b
+pub clean-event : (s : Schema) (e : Event) (b : Building) → Clean (onEvent s e b) → Clean b
 unfolding onEvent
 clean-event s e b c = by (b .broken) refl c
   where

@@ -1,0 +1,86 @@
+// The end of a journal: the run of character data that the end makes whole, and the key of all that was found.
+ghost use mathlib.Core.Path.{_≡_};
+ghost use Prim.Native.Nat.{_<_};
+ghost use lib.ListN.{length};
+ghost use Rattle.fault_keys.specs.Keys.{placeLimit};
+ghost use Rattle.journal_findings.specs.Endings.{isDataMode, withEvent, Ended};
+ghost use Rattle.journal_findings.specs.Findings.{endsBefore, foundKey};
+ghost use Rattle.journal_state.specs.Places.{noPlace};
+use build_state::Build;
+use fault_keys::BAD_BYTE;
+use fault_keys::BAD_NESTING;
+use fault_keys::MISSPELT;
+use fault_keys::noted;
+use journal_state::AFTER_BRACKETS;
+use journal_state::AT;
+use journal_state::BLANKS;
+use journal_state::FOREIGN_AT;
+use journal_state::Lex;
+use journal_state::NONE;
+use journal_state::QUIET;
+use journal_state::RUNS;
+use name_words::Name;
+
+fn with_event(l: Lex, event: u8) -> Lex
+    ensures { λ r. ⌜ r ≡ withEvent event l ⌝ }
+{
+    let name: Name = l.name;
+    Lex {
+        place: l.place,
+        mode: l.mode,
+        event,
+        count: l.count,
+        name,
+    }
+}
+
+// Whether the mode is one of character data.
+fn is_data(mode: u8) -> bool
+    ensures { λ r. ⌜ r ≡ isDataMode mode ⌝ }
+{
+    if mode < BLANKS {
+        return false;
+    }
+    mode <= AFTER_BRACKETS
+}
+
+// The event that the end of the text makes: a run of character data is whole.
+pub fn ending(places: &mut [u32; 4], l: Lex) -> Lex
+    requires { ⌜ (l .place < noPlace) × (length (now places) ≡ 4) ⌝ }
+    ensures { λ r. ⌜ Ended l (now (places .entry)) r (now (places .exit)) ⌝ }
+{
+    if is_data(l.mode) {
+        let at = l.place;
+        places[AT] = at as u32;
+        return with_event(l, RUNS);
+    }
+    with_event(l, QUIET)
+}
+
+// Whether the text ends too early for nesting: an element is open, or there was none.
+fn ends_early(m: Build) -> bool
+    ensures { λ r. ⌜ r ≡ endsBefore m ⌝ }
+{
+    if build_state::is_judged(m) {
+        if m.depth != 0 {
+            return true;
+        }
+        return m.count == 0;
+    }
+    false
+}
+
+// The key of the first refusal of a text of n bytes that stands within its limit.
+pub fn found_key(places: &[u32; 4], l: Lex, m: Build, n: usize) -> u64
+    requires { ⌜ n < noPlace ⌝ }
+    ensures { λ r. ⌜ r ≡ foundKey (now (places .entry)) (l .mode) m n ⌝ }
+{
+    let early = noted(m.fault, ends_early(m), BAD_NESTING, n as u32);
+    let misspelt = noted(early, AFTER_BRACKETS < l.mode, MISSPELT, places[AT]);
+    noted(
+        misspelt,
+        places[FOREIGN_AT] != NONE,
+        BAD_BYTE,
+        places[FOREIGN_AT],
+    )
+}

@@ -1,0 +1,21 @@
+// What reading a journal has come to, by value: the lexer's state and the builder's. Beside it four places, the open elements and the
+// columns are lent.
+ghost use mathlib.Core.Path.{_≡_};
+ghost use Rattle.reader_state.specs.Reading.{started};
+use build_state::Build;
+use journal_state::Lex;
+use name_words::Name;
+
+pub struct ReaderState {
+    pub lex: Lex,
+    pub build: Build,
+}
+
+// Before the first byte.
+pub fn start() -> ReaderState
+    ensures { λ r. ⌜ r ≡ started ⌝ }
+{
+    let lex: Lex = journal_state::initial();
+    let build: Build = build_state::initial();
+    ReaderState { lex, build }
+}
