@@ -131,7 +131,7 @@ pub fn read_schema(text: &[u8]) -> SchemaRead
 }
 
 // Whether two slices hold the same bytes.
-fn same_cells(a: &[u8], b: &[u8]) -> bool
+pub fn same_cells(a: &[u8], b: &[u8]) -> bool
     ensures { λ r. ⌜ r ≡ sameBytes (now (a .entry)) (now (b .entry)) ⌝ }
 {
     if a.len() != b.len() {
