@@ -1,0 +1,42 @@
+use Rattle.needed_texts.specs.Texts.{names-inside, names-taken, names-few, judged-shaped, judged-needed}
+use Rattle.schema_relations.specs.Compiled.{compiled-few}
+use borrow.Author.Needs.{needs}
+use native.Mathlib.Omega.{arith}
+use Rattle.needed_texts.proofs.needed_by_texts.Statement.{statement}
+use Rattle.needed_texts.proofs.needed_by_texts.Tie as tie
+
+-- the states that answers go back to
+abbrev compile-before : tie.After-paths → tie.After-compile
+compile-before c = c .before .before .before .before .before .before .before
+
+abbrev compile-before-2 : tie.After-needed-word → tie.After-compile
+compile-before-2 c = compile-before (c .before)
+
+array-share-prefix-names : tie.Need-array-share-prefix-names
+array-share-prefix-names c = names-inside _ _ (c .before .before .before .before .compile .ensures)
+
+slice-aggregate-judge-bundle : tie.Need-slice-aggregate-judge-bundle
+slice-aggregate-judge-bundle c = names-taken _ _ (c .before .before .before .before .before .compile .ensures)
+
+judge-bundle-requires : tie.Need-judge-bundle-requires
+judge-bundle-requires c κs = names-few _ _ (c .before .before .before .before .before .compile .ensures)
+
+needed-word-requires : tie.Need-needed-word-requires
+needed-word-requires c κs =
+    let after-compile = compile-before c in
+    (judged-shaped _ _ _ (after-compile .compile .ensures) _ (c .before .judge-bundle .ensures), compiled-few _ _ (after-compile .compile .ensures))
+
+returns : tie.Need-returns
+returns c =
+    judged-needed _ _ _ ((compile-before-2 c) .compile .ensures) _ (c .before .before .judge-bundle .ensures) _ (c .needed-word .ensures)
+
+pub needed-by-texts-spec : {M : Type 1} → statement M
+needed-by-texts-spec =
+    tie.close
+    (tie.spec
+    (λ c κs. search needs)
+    array-share-prefix-names
+    slice-aggregate-judge-bundle
+    judge-bundle-requires
+    needed-word-requires
+    returns)

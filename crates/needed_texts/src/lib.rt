@@ -1,0 +1,19 @@
+// The names that a bundle text needs under a schema text, from the compiled forms of both.
+ghost use Rattle.needed_texts.specs.Texts.{NeededBy};
+use names::MAX_ELEMENTS;
+use names::NameSet;
+
+// As 64 bits. Of a schema text that is refused nothing is said.
+pub fn needed_by_texts(schema: &[u8], text: &[u8]) -> u64
+    ensures { λ r. ⌜ NeededBy (now (schema .entry)) (now (text .entry)) r ⌝ }
+{
+    let compiled = compiled_schema::compile(schema);
+    let count = compiled.count;
+    let names = compiled.names;
+    let entries = compiled.entries;
+    let holds: [NameSet; MAX_ELEMENTS] = entries.holds;
+    let below: [NameSet; MAX_ELEMENTS] = compiled.below;
+    let judged = bundle::judge_bundle(schema, &names[..count], text);
+    let paths = judged.paths;
+    needed_names::needed_word(count, holds, below, paths)
+}
