@@ -84,7 +84,7 @@ fn model(
     if s[i] == b'#' {
         return nameless(pcdata(s, i + 1), n, Content::Pcdata);
     }
-    match particles::group(s, i, 0, out, n, n, predecessors) {
+    match model_groups::group(s, i, 0, out, n, n, predecessors) {
         PartOutcome::Past(p) => {
             let q = particles::indicated(s, p, predecessors);
             let ends = q.ends;

@@ -1,25 +1,18 @@
-// The particles of a content model, by recursive descent: where a particle or a group ends or departs from the grammar, the places of the
-// names that it uses, and its position automaton.
+// What the particles of a content model are made of: names, indicators and separators. Where each ends or departs from the grammar, and what it
+// makes of the model's position automaton.
 ghost use mathlib.Core.Bool.{true};
 ghost use mathlib.Core.Path.{_≡_};
 ghost use Prim.Native.Nat.{_≤_, _<_};
 ghost use lib.ListN.{length};
 ghost use Rattle.particles.specs.Automata.{Repeated, Joined};
-ghost use Rattle.particles.specs.Readings.{isIndicator, Indicated, indicatorAt, PartIndicated, mayPart, Followed, ReadsName, ReadsParticle, ReadsGroup};
+ghost use Rattle.particles.specs.Readings.{isIndicator, Indicated, indicatorAt, PartIndicated, mayPart, Followed, ReadsName};
 ghost use Rattle.text_spec.specs.Bytes.{startsName};
-ghost use Rattle.text_spec.specs.Limits.{maxGroups};
 ghost use Rattle.text_spec.specs.Scans.{byteAt};
 use models::Ends;
 use scanning::Read;
 
-// The groups of a model that may be open at once.
-pub const MAX_GROUPS: usize = 8;
-
-// The groups around the innermost one that may be open.
-const DEEPEST: usize = MAX_GROUPS - 1;
-
 // What stands for a separator where none has come yet.
-const UNPARTED: u8 = 0;
+pub const UNPARTED: u8 = 0;
 
 // A part of a model: the place past it, the number of names noted so far, and where it may begin and end.
 pub struct Part {
@@ -117,7 +110,7 @@ fn may_part(sep: u8, b: u8) -> bool
 }
 
 // What follows a particle that ends at `at`, after blanks.
-fn after_particle(s: &[u8], at: usize, sep: u8) -> Follow
+pub fn after_particle(s: &[u8], at: usize, sep: u8) -> Follow
     requires { ⌜ at ≤ length (now s) ⌝ }
     ensures { λ r. ⌜ Followed (now (s .entry)) at sep r ⌝ }
 {
@@ -136,7 +129,7 @@ fn after_particle(s: &[u8], at: usize, sep: u8) -> Follow
 }
 
 // Where a group begins and ends that `sep` parts: so far `a`, and then the particle `b`.
-fn join(sep: u8, a: Ends, b: Ends, predecessors: &mut [u64]) -> Ends
+pub fn join(sep: u8, a: Ends, b: Ends, predecessors: &mut [u64]) -> Ends
     ensures { λ r. ⌜ Joined sep a b (now (predecessors .entry)) (now (predecessors .exit)) r ⌝ }
 {
     if sep == UNPARTED {
@@ -150,7 +143,7 @@ fn join(sep: u8, a: Ends, b: Ends, predecessors: &mut [u64]) -> Ends
 }
 
 // Past the name at i and its indicator. Its place is noted at n; the names of its model are counted from `start` on.
-fn use_name(
+pub fn use_name(
     s: &[u8],
     i: usize,
     out: &mut [usize],
@@ -173,83 +166,5 @@ fn use_name(
             PartOutcome::Past(indicated(s, p, predecessors))
         }
         Read::Fail(j) => PartOutcome::Fail(j),
-    }
-}
-
-// Past a particle that is due at `at`, after blanks, in a group with `depth` groups around it. The places of its names are noted from n on.
-fn particle(
-    s: &[u8],
-    at: usize,
-    depth: usize,
-    out: &mut [usize],
-    n: usize,
-    start: usize,
-    predecessors: &mut [u64],
-) -> PartOutcome
-    requires { ⌜ (at ≤ length (now s)) × (depth < maxGroups) × (n ≤ at) × (start ≤ n) ⌝ }
-    ensures { λ r. ⌜ ReadsParticle (now (s .entry)) at depth n start (now (out .entry)) (now (out .exit)) (now (predecessors .entry)) (now (predecessors .exit)) r ⌝ }
-{
-    let i = scanning::skip(s, at);
-    if s.len() <= i {
-        return PartOutcome::Fail(i);
-    }
-    if text::starts_name(s[i]) {
-        return use_name(s, i, out, n, start, predecessors);
-    }
-    if s[i] != b'(' {
-        return PartOutcome::Fail(i);
-    }
-    if DEEPEST <= depth {
-        return PartOutcome::Fail(i);
-    }
-    match group(s, i + 1, depth + 1, out, n, start, predecessors) {
-        PartOutcome::Past(p) => PartOutcome::Past(indicated(s, p, predecessors)),
-        PartOutcome::Fail(j) => PartOutcome::Fail(j),
-    }
-}
-
-// Past the group whose first particle is due at `at`.
-pub fn group(
-    s: &[u8],
-    at: usize,
-    depth: usize,
-    out: &mut [usize],
-    n: usize,
-    start: usize,
-    predecessors: &mut [u64],
-) -> PartOutcome
-    requires { ⌜ (at ≤ length (now s)) × (depth < maxGroups) × (n ≤ at) × (start ≤ n) ⌝ }
-    ensures { λ r. ⌜ ReadsGroup (now (s .entry)) at depth n start (now (out .entry)) (now (out .exit)) (now (predecessors .entry)) (now (predecessors .exit)) r ⌝ }
-{
-    let mut i = at;
-    let mut count = n;
-    let mut sep = UNPARTED;
-    let mut ends = Ends {
-        first: 0,
-        last: 0,
-        nullable: false,
-    };
-    loop {
-        match particle(s, i, depth, out, count, start, predecessors) {
-            PartOutcome::Fail(j) => return PartOutcome::Fail(j),
-            PartOutcome::Past(p) => {
-                let end = p.at;
-                let joined = join(sep, ends, p.ends, predecessors);
-                count = p.n;
-                ends = joined;
-                match after_particle(s, end, sep) {
-                    Follow::Fail(j) => return PartOutcome::Fail(j),
-                    Follow::Close(j) => return PartOutcome::Past(Part {
-                        at: j,
-                        n: count,
-                        ends,
-                    }),
-                    Follow::More(b, j) => {
-                        sep = b;
-                        i = j;
-                    }
-                }
-            }
-        }
     }
 }

@@ -24,7 +24,7 @@ impl Schema {
 
     pub const MAX_BYTES: usize = 8192;
 
-    pub const MAX_GROUPS: usize = particles::MAX_GROUPS;
+    pub const MAX_GROUPS: usize = model_groups::MAX_GROUPS;
 
     pub const MAX_NAME_BYTES: usize = scanning::MAX_NAME_BYTES;
 

@@ -73,28 +73,19 @@ returns c =
 sub-over-limit : tie.Need-sub-over-limit Inv-loop μ-loop
 sub-over-limit c =
     let read = path-of (c .before) in
-    let q = upto-places (turn-of read .loop .inv) (read .path .ensures) (c .before .p .given .1) in
-    let qa = q .0 in
-    let qb = q .1 in
-    let qc = q .2 in
+    let l = upto-places (turn-of read .loop .inv) (read .path .ensures) (c .before .p .given .1) .2 in
     search needs
 
 sub-over-limit-2 : tie.Need-sub-over-limit-2 Inv-loop μ-loop
 sub-over-limit-2 c =
     let read = path-of (c .before) in
-    let q = upto-places (turn-of read .loop .inv) (read .path .ensures) (c .before .p .given .1) in
-    let qa = q .0 in
-    let qb = q .1 in
-    let qc = q .2 in
+    let l = upto-places (turn-of read .loop .inv) (read .path .ensures) (c .before .p .given .1) .0 in
     search needs
 
 sub-over-limit-3 : tie.Need-sub-over-limit-3 Inv-loop μ-loop
 sub-over-limit-3 c =
     let read = path-of (c .before) in
-    let q = upto-places (turn-of read .loop .inv) (read .path .ensures) (c .before .p .given .1) in
-    let qa = q .0 in
-    let qb = q .1 in
-    let qc = q .2 in
+    let l = upto-places (turn-of read .loop .inv) (read .path .ensures) (c .before .p .given .1) .0 in
     search needs
 
 over-limit-requires : tie.Need-over-limit-requires Inv-loop μ-loop

@@ -6,22 +6,22 @@ use borrow.Author.Needs.{needs}
 use borrow.Fn.Kinds.{In}
 use borrow.Fn.PlainCycle.{Measures, is, falls, and}
 use lib.ListN.{length}
-use Rattle.particles.proofs.Particles.{particle-end, particle-name, particle-not, particle-deep, open-fails, open-high, open-reads, GroupUpTo, group-start, group-length, group-links, group-many, group-fails, particle-high, group-stops, group-closes, group-next}
+use Rattle.model_groups.proofs.Groups.{particle-end, particle-name, particle-not, particle-deep, open-fails, open-high, open-reads, GroupUpTo, group-start, group-length, group-links, group-many, group-fails, particle-high, group-stops, group-closes, group-next}
 use Rattle.text_spec.specs.Limits.{maxGroups}
-use Rattle.particles.proofs.group.Reads as group
-use Rattle.particles.proofs.group.Kinds as group-kinds
-use Rattle.particles.proofs.+group+particle.Lts-group as group-lts
-use Rattle.particles.proofs.particle.Reads as particle
-use Rattle.particles.proofs.particle.Kinds as particle-kinds
-use Rattle.particles.proofs.+group+particle.Lts-particle as particle-lts
+use Rattle.model_groups.proofs.group.Reads as group
+use Rattle.model_groups.proofs.group.Kinds as group-kinds
+use Rattle.model_groups.proofs.+group+particle.Lts-group as group-lts
+use Rattle.model_groups.proofs.particle.Reads as particle
+use Rattle.model_groups.proofs.particle.Kinds as particle-kinds
+use Rattle.model_groups.proofs.+group+particle.Lts-particle as particle-lts
 use Rattle.particles.proofs.after_particle.Reads as after-particle-reads
 use Rattle.particles.proofs.indicated.Reads as indicated-reads
 use Rattle.particles.proofs.join.Reads as join-reads
 use Rattle.particles.proofs.use_name.Reads as use-name-reads
 use Rattle.scanning.proofs.skip.Reads as skip-reads
 use Rattle.text.proofs.starts_name.Reads as starts-name-reads
-use Rattle.particles.proofs.+group+particle.{statement}
-use Rattle.particles.proofs.+group+particle.Tie.{close}
+use Rattle.model_groups.proofs.+group+particle.{statement}
+use Rattle.model_groups.proofs.+group+particle.Tie.{close}
 
 abbrev μ-group : Measures 3 group-kinds.ps ℕ
 μ-group κs a = 2 * (maxGroups - a .1 .1 .0) + 1
