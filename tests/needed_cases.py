@@ -1,0 +1,48 @@
+#!/usr/bin/env python3
+"""Writes crates/needed_cases/stdin and stdout. With --check it compares instead.
+
+The cases of tests/vectors that ask for needed names: the schema (128 is added to the first byte of its length), its bundle, and each path of the
+bundle as a bundle of its own. The case gives the names of the bundle and those of each path."""
+import json
+import os
+import sys
+
+HERE = os.path.dirname(os.path.abspath(__file__))
+CRATE = os.path.join(HERE, "..", "crates", "needed_cases")
+
+
+def cases():
+    for name in ("edge", "more"):
+        with open(os.path.join(HERE, "vectors", name + ".jsonl"), encoding="utf-8") as f:
+            for line in f:
+                case = json.loads(line)
+                if case["does"] == "needed":
+                    yield case
+
+
+def main():
+    read, written = b"", ""
+    schema = None
+    for case in cases():
+        texts = [text.encode("latin-1") for text in case["texts"]]
+        if texts[0] != schema:
+            schema = texts[0]
+            read += (2 ** 15 + len(schema)).to_bytes(2, "big") + schema
+        paths = texts[1].splitlines(keepends=True)
+        words = case["gives"].split()
+        assert len(words) == 1 + len(paths), case["case"]
+        for bundle, word in zip([texts[1]] + paths, words):
+            read += len(bundle).to_bytes(2, "big") + bundle
+            written += "%d\n" % int(word, 16)
+    for name, content in (("stdin", read), ("stdout", written.encode("ascii"))):
+        path = os.path.join(CRATE, name)
+        if "--check" in sys.argv[1:]:
+            with open(path, "rb") as f:
+                if f.read() != content:
+                    sys.exit("needed_cases: %s is not what tests/needed_cases.py says" % name)
+        else:
+            with open(path, "wb") as f:
+                f.write(content)
+
+
+main()

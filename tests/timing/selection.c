@@ -1,0 +1,183 @@
+/* The cost of selecting eight paths on 60,000 rows against plain C passes that do the same on the same columns, and the cost of needed names with
+   schema and bundle read. Links the archive of crates/timing. Prints both times of each and the ratio; ends with 1 where the answers differ. */
+#include <stdint.h>
+#include <stdio.h>
+#include <string.h>
+#include <time.h>
+
+enum { ROWS = 60000, PATHS = 8, CELLS = PATHS * ROWS, TURNS = 40 };
+
+/* the archive: a slice is a pointer and a length */
+uint64_t time_needed(const uint8_t *schema, size_t schema_size, const uint8_t *bundle, size_t bundle_size);
+size_t time_selection(const uint8_t *schema, size_t schema_size, const uint8_t *bundle, size_t bundle_size, const uint16_t *numbers, size_t,
+    const uint8_t *codes, size_t, const uint16_t *parents, size_t, uint16_t *items, size_t, uint32_t *counts, size_t, uint8_t *marks, size_t,
+    uint8_t *held, size_t, uint8_t *steps, size_t, uint8_t *next, size_t);
+
+static const char schema[] =
+    "<!ELEMENT journal (tray*)><!ELEMENT tray (note?, well*)><!ELEMENT well (image*)><!ELEMENT image (focus?, shift?, note?, lamp?, dye?)>"
+    "<!ELEMENT focus (#PCDATA)><!ELEMENT shift (#PCDATA)><!ELEMENT note (#PCDATA)><!ELEMENT lamp (power, dye?)><!ELEMENT dye EMPTY>"
+    "<!ELEMENT power (#PCDATA)><!ELEMENT stage (limit*)><!ELEMENT limit EMPTY>";
+enum { JOURNAL, TRAY, WELL, IMAGE, FOCUS, SHIFT, NOTE };
+
+static const char bundle[] =
+    "descendant::image[child::focus or child::shift]/parent::well\n"
+    "child::tray/child::well[descendant::text()]/child::image/child::focus\n"
+    "descendant::focus/ancestor::tray\n"
+    "descendant-or-self::node()/child::shift[parent::image/child::note]/parent::image\n"
+    "descendant::text()/ancestor-or-self::node()[self::well or self::tray]\n"
+    "child::tray[child::note]/descendant::shift/parent::image/child::focus/child::text()\n"
+    "descendant::well[child::image/child::shift/child::text()]\n"
+    "descendant::image[ancestor::tray/child::note]/descendant-or-self::node()\n";
+
+/* ---- the same paths for the plain passes */
+enum { SELF, CHILD, DESCENDANT, DESCENDANT_OR_SELF, PARENT, ANCESTOR, ANCESTOR_OR_SELF };
+static const int inverse[] = { SELF, PARENT, ANCESTOR, ANCESTOR_OR_SELF, CHILD, DESCENDANT, DESCENDANT_OR_SELF };
+
+struct step { int axis, low, high; };
+struct alternative { int count; struct step steps[4]; };
+struct written { struct step step; int count; struct alternative alternatives[4]; };
+struct path { int count; struct written steps[8]; };
+#define NAME(n) n, n
+#define TEXT 32, 63
+#define NODE 0, 63
+
+static const struct path paths[PATHS] = {
+    { 2, { { { DESCENDANT, NAME(IMAGE) }, 2, { { 1, { { CHILD, NAME(FOCUS) } } }, { 1, { { CHILD, NAME(SHIFT) } } } } }, { { PARENT, NAME(WELL) } } } },
+    { 4, { { { CHILD, NAME(TRAY) } }, { { CHILD, NAME(WELL) }, 1, { { 1, { { DESCENDANT, TEXT } } } } }, { { CHILD, NAME(IMAGE) } }, { { CHILD, NAME(FOCUS) } } } },
+    { 2, { { { DESCENDANT, NAME(FOCUS) } }, { { ANCESTOR, NAME(TRAY) } } } },
+    { 3, { { { DESCENDANT_OR_SELF, NODE } }, { { CHILD, NAME(SHIFT) }, 1, { { 2, { { PARENT, NAME(IMAGE) }, { CHILD, NAME(NOTE) } } } } }, { { PARENT, NAME(IMAGE) } } } },
+    { 2, { { { DESCENDANT, TEXT } }, { { ANCESTOR_OR_SELF, NODE }, 2, { { 1, { { SELF, NAME(WELL) } } }, { 1, { { SELF, NAME(TRAY) } } } } } } },
+    { 5, { { { CHILD, NAME(TRAY) }, 1, { { 1, { { CHILD, NAME(NOTE) } } } } }, { { DESCENDANT, NAME(SHIFT) } }, { { PARENT, NAME(IMAGE) } }, { { CHILD, NAME(FOCUS) } }, { { CHILD, TEXT } } } },
+    { 1, { { { DESCENDANT, NAME(WELL) }, 1, { { 3, { { CHILD, NAME(IMAGE) }, { CHILD, NAME(SHIFT) }, { CHILD, TEXT } } } } } } },
+    { 2, { { { DESCENDANT, NAME(IMAGE) }, 1, { { 2, { { ANCESTOR, NAME(TRAY) }, { CHILD, NAME(NOTE) } } } } }, { { DESCENDANT_OR_SELF, NODE } } } },
+};
+
+static uint16_t numbers[ROWS], parents[ROWS], items[CELLS], plain_items[CELLS];
+static uint32_t counts[PATHS], plain_counts[PATHS];
+static uint8_t codes[ROWS], columns[4][ROWS];
+static int rows;
+
+static void image(int axis, const uint8_t *restrict from, uint8_t *restrict out) {
+    const uint16_t *restrict p = parents;
+    int n = rows;
+    switch (axis) {
+    case SELF: memcpy(out, from, n); break;
+    case CHILD: out[0] = 0; for (int r = 1; r < n; r++) out[r] = from[p[r]]; break;
+    case DESCENDANT: out[0] = 0; for (int r = 1; r < n; r++) out[r] = from[p[r]] | out[p[r]]; break;
+    case DESCENDANT_OR_SELF: out[0] = from[0]; for (int r = 1; r < n; r++) out[r] = from[r] | out[p[r]]; break;
+    case PARENT: memset(out, 0, n); for (int r = n - 1; r > 0; r--) out[p[r]] |= from[r]; break;
+    case ANCESTOR: memset(out, 0, n); for (int r = n - 1; r > 0; r--) out[p[r]] |= from[r] | out[r]; break;
+    default: memcpy(out, from, n); for (int r = n - 1; r > 0; r--) out[p[r]] |= out[r];
+    }
+}
+
+static void root_image(int axis, uint8_t *restrict out) {
+    const uint16_t *restrict p = parents;
+    int n = rows;
+    switch (axis) {
+    case CHILD: for (int r = 0; r < n; r++) out[r] = p[r] == 0; out[0] = 0; break;
+    case DESCENDANT: memset(out, 1, n); out[0] = 0; break;
+    case DESCENDANT_OR_SELF: memset(out, 1, n); break;
+    case PARENT: case ANCESTOR: memset(out, 0, n); break;
+    default: memset(out, 0, n); out[0] = 1;
+    }
+}
+
+static void filter(struct step s, uint8_t *restrict marks) {
+    const uint8_t *restrict c = codes;
+    int n = rows, low = s.low, high = s.high;
+    for (int r = 0; r < n; r++) marks[r] &= c[r] >= low && c[r] <= high;
+}
+
+static void unite(const uint8_t *restrict from, uint8_t *restrict out) { int n = rows; for (int r = 0; r < n; r++) out[r] |= from[r]; }
+
+static void intersect(const uint8_t *restrict from, uint8_t *restrict out) { int n = rows; for (int r = 0; r < n; r++) out[r] &= from[r]; }
+
+static size_t collect(const uint8_t *restrict marks, uint16_t *restrict out) {
+    const uint16_t *restrict from = numbers;
+    int n = rows;
+    size_t k = 0;
+    for (int r = 0; r < n; r++) { out[k] = from[r]; k += marks[r]; }
+    return k;
+}
+
+static size_t plain_path(const struct path *path, uint16_t *out) {
+    uint8_t *now = columns[0], *other = columns[1], *held = columns[2];
+    for (int k = 0; k < path->count; k++) {
+        const struct written *w = &path->steps[k];
+        if (k == 0) root_image(w->step.axis, now);
+        else { image(w->step.axis, now, other); uint8_t *t = now; now = other; other = t; }
+        filter(w->step, now);
+        if (!memchr(now, 1, rows)) break;
+        if (w->count == 0) continue;
+        memset(held, 0, rows);
+        for (int a = 0; a < w->count; a++) {
+            uint8_t *from = columns[3], *to = other;
+            memset(from, 1, rows);
+            for (int j = w->alternatives[a].count - 1; j >= 0; j--) {
+                filter(w->alternatives[a].steps[j], from);
+                image(inverse[w->alternatives[a].steps[j].axis], from, to);
+                uint8_t *t = from; from = to; to = t;
+            }
+            unite(from, held);
+        }
+        intersect(held, now);
+    }
+    return collect(now, out);
+}
+
+static size_t plain(void) {
+    size_t n = 0;
+    for (int i = 0; i < PATHS; i++) { plain_counts[i] = plain_path(&paths[i], plain_items + n); n += plain_counts[i]; }
+    memset(plain_items + n, 0, sizeof plain_items - n * sizeof *plain_items);
+    return n;
+}
+
+static size_t proved(void) {
+    return time_selection((const uint8_t *)schema, sizeof schema - 1, (const uint8_t *)bundle, sizeof bundle - 1, numbers, rows, codes, rows, parents, rows,
+        items, CELLS, counts, PATHS, columns[0], rows, columns[1], rows, columns[2], rows, columns[3], rows);
+}
+
+/* ---- a table: trays of wells of images, some of each part missing */
+static unsigned seed = 12345;
+static unsigned random_below(unsigned n) { seed = seed * 1103515245u + 12345u; return (seed >> 16) % n; }
+static int add(int code, int parent) { codes[rows] = code; parents[rows] = parent; numbers[rows] = rows; return rows++; }
+static void add_text(int code, int parent) { add(32 + code, add(code, parent)); }
+
+static void fill_table(void) {
+    add(JOURNAL, 0);
+    while (rows < ROWS - 10) {
+        int tray = add(TRAY, 0);
+        if (random_below(2)) add_text(NOTE, tray);
+        for (unsigned w = 20 + random_below(40); w > 0 && rows < ROWS - 10; w--) {
+            int well = add(WELL, tray);
+            for (unsigned i = random_below(9); i > 0 && rows < ROWS - 10; i--) {
+                int image = add(IMAGE, well);
+                if (random_below(4)) add_text(FOCUS, image);
+                if (!random_below(3)) add_text(SHIFT, image);
+                if (!random_below(8)) add_text(NOTE, image);
+            }
+        }
+    }
+}
+
+static double seconds(void) { struct timespec t; clock_gettime(CLOCK_PROCESS_CPUTIME_ID, &t); return t.tv_sec + t.tv_nsec * 1e-9; }
+
+static double least(size_t (*f)(void)) {
+    double best = 1e9;
+    for (int k = 0; k < TURNS; k++) { double a = seconds(); f(); double b = seconds() - a; if (b < best) best = b; }
+    return best;
+}
+
+static size_t needed(void) { return time_needed((const uint8_t *)schema, sizeof schema - 1, (const uint8_t *)bundle, sizeof bundle - 1) != 0; }
+
+int main(void) {
+    fill_table();
+    size_t n = plain(), m = proved();
+    if (n != m || memcmp(items, plain_items, sizeof items) || memcmp(counts, plain_counts, sizeof counts)) { puts("the answers differ"); return 1; }
+    double a = 1e9, b = 1e9;
+    for (int k = 0; k < 5; k++) { double p = least(plain), q = least(proved); if (p < a) a = p; if (q < b) b = q; }
+    printf("eight paths on %d rows, %zu numbers: plain %.0f microseconds, proved %.0f, ratio %.2f\n", rows, n, a * 1e6, b * 1e6, b / a);
+    printf("needed names, schema and bundle read: %.0f microseconds\n", least(needed) * 1e6);
+    return 0;
+}
