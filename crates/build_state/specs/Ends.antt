@@ -1,5 +1,5 @@
 -- Laws of end tags.
-use mathlib.Core.Bool.{Bool, true, false, true≢false, not}
+use mathlib.Core.Bool.{Bool, true, false, cond, not}
 use mathlib.Core.List.{List, [], _∷_, _++_}
 use mathlib.Core.Path.{_≡_, refl, sym, ap, ap₂, subst, _∙_}
 use Prim.Native.Nat.{ℕ, suc, _-_, _%_, _≤_, _<_}
@@ -16,7 +16,7 @@ use Rattle.fault_keys.specs.Keys.{noKey, placeLimit, leastKey, notedKey}
 use Rattle.journal_spec.specs.Builder.{Open, Building, building, breaks, fitsAtEnd, endOf, onEnd}
 use Rattle.open_levels.specs.Levels.{levelAt, Opened}
 use Rattle.schema_spec.specs.Schemas.{Schema}
-use Rattle.text_spec.specs.Lists.{isNone, sameBytes}
+use Rattle.text_spec.specs.Lists.{isNone, listOf, sameBytes}
 use Rattle.text_spec.specs.Refusals.{at, given, badNesting, badContent}
 
 module _ (s : Schema) (b : Building) (levels : List ℕ) (m : Build) (w : Built s levels m b) (n : List ℕ) (k : ℕ) where
@@ -78,7 +78,24 @@ module _ (s : Schema) (b : Building) (levels : List ℕ) (m : Build) (w : Built 
         own-place : place % placeLimit ≡ top .own .place
         own-place = ap (λ (x : ℕ). x % placeLimit) (g ∙ top .level .place) ∙ mod-eq-of-lt low
 
-    -- no row begins
-    pub end-rows : onEnd n k b .rows ≡ b .rows
+    -- no refusal applies after it: then none did before
+    pub end-none : (r : Build) → Built s levels r (onEnd n k b) → r .fault ≡ noKey → m .fault ≡ noKey
     unfolding closing
-    end-rows = ap (λ (c : Building). c .rows) (end-closes top)
+    end-none r v z =
+        let found = subst (λ (c : Building). leastKey (listOf (c .broken) ++ c .faults) ≡ noKey) (end-closes top) (sym (v .fault) ∙ z) in
+        faults-now s b levels m whole w
+        ∙ noted-none (not (fitsAtEnd (top .own .filling))) 15 (top .own .place) (leastKey (b .faults)) (omega arith) (top .level .placed)
+        (sym (least-given (not (fitsAtEnd (top .own .filling))) badContent (top .own .place) (b .faults)) ∙ found) .1
+
+-- an end tag begins no row
+pub end-keeps-rows : (n : List ℕ) (k : ℕ) (b : Building) → onEnd n k b .rows ≡ b .rows
+end-keeps-rows n k b = pick (b .opens)
+  where
+    same : (t : Bool) (c d : Building) → c .rows ≡ b .rows → d .rows ≡ b .rows → cond t c d .rows ≡ b .rows
+    same true c d p q = p
+    same false c d p q = q
+
+    pick : (os : List Open) → endOf os n k b .rows ≡ b .rows
+    pick [] = refl
+    pick (o ∷ os) =
+        same (sameBytes n (o .name)) (building os (b .rooted) (given (not (fitsAtEnd (o .filling))) (at badContent (o .place)) ++ b .faults) (b .rows) (b .count)) (breaks (at badNesting k) b) refl refl

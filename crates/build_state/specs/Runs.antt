@@ -10,7 +10,7 @@ use native.Mathlib.Omega.{arith}
 use borrow.Author.Tests.{le-leb, leb-false, ltb-false, ne-eqb}
 use lib.Dec.{eqb, leb, ltb}
 use lib.ListN.{length}
-use Rattle.build_state.specs.State.{judgedFrom, build, RowsBelow, Safe, Built, Rows, begun-row, Leaves, SafeStep, brokenBy, outsideBy, texted, textCells, noPlace, placeIn, step}
+use Rattle.build_state.specs.State.{judgedFrom, build, RowsBelow, Safe, Built, Rows, begun-row, Leaves, SafeStep, brokenBy, outsideBy, texted, textCells, step}
 use Rattle.build_state.specs.StateLaws.{Innermost, innermost, refilled, length-refill, below-more, below-refill, faults-now, placed-now, judged-now, breaks-built, built-as, leaves-kept}
 use Rattle.build_state.specs.declared.Build.{Build}
 use Rattle.build_state.specs.declared.BuildStep.{BuildStep}
@@ -20,6 +20,7 @@ use Rattle.fault_keys.specs.KeyLaws.{least-given, placed-given, noted-none, not
 use Rattle.fault_keys.specs.Keys.{noKey, placeLimit, leastKey, notedKey}
 use Rattle.journal_spec.specs.Builder.{Filling, unjudged, misfit, unfilled, filledByText, filledByChildren, Open, Building, building, breaks, refill, withRun, outside, textNode, inside, onRun}
 use Rattle.journal_spec.specs.Lexer.{Run, run}
+use Rattle.journal_state.specs.Places.{noPlace, placeOr}
 use Rattle.open_levels.specs.Levels.{AllLevels, levelAt, withFilling, Stored, LevelOf, Opened}
 use Rattle.open_levels.specs.declared.Level.{Level}
 use Rattle.row_columns.specs.Columns.{cells}
@@ -31,7 +32,7 @@ use Rattle.text_spec.specs.Limits.{maxDeclarations, maxNodes, maxTextBytes}
 use Rattle.text_spec.specs.Lists.{isNone}
 use Rattle.text_spec.specs.Refusals.{at, given, badNesting, overNodeLimit}
 
-pub none-test : (x : ℕ) → isNone (placeIn x) ≡ eqb x noPlace
+pub none-test : (x : ℕ) → isNone (placeOr x) ≡ eqb x noPlace
 none-test x = pick (eqb x noPlace)
   where
     pick : (y : Bool) → isNone (cond y none (some x)) ≡ y
@@ -45,7 +46,7 @@ or-false false y e = (refl, e)
 -- ---- outside the root
 module _ (s : Schema) (b : Building) (levels : List ℕ) (m : Build) (whole : isNone (b .broken) ≡ true) (w : Built s levels m b) where
   pub outside-leaves : (start solid size : ℕ) (row : RowCells) → solid < placeLimit → m .depth ≡ 0
-      → Leaves s levels m b (step (outsideBy solid m) row) (onRun (run start (placeIn solid)) size b)
+      → Leaves s levels m b (step (outsideBy solid m) row) (onRun (run start (placeOr solid)) size b)
   outside-leaves start solid size row p z = from (b .opens) (w .depth) refl
     where
       pick : (y : Bool) → Leaves s levels m b (step (cond y m (brokenBy 12 solid m)) row) (outside (cond y none (some solid)) b)
@@ -53,9 +54,9 @@ module _ (s : Schema) (b : Building) (levels : List ℕ) (m : Build) (whole : is
       pick false =
           leaves-kept {x = step (brokenBy 12 solid m) row} refl refl (breaks-built s b levels m whole w badNesting solid (omega arith) p)
 
-      from : (os : List Open) → m .depth ≡ length os → b .opens ≡ os → Leaves s levels m b (step (outsideBy solid m) row) (onRun (run start (placeIn solid)) size b)
+      from : (os : List Open) → m .depth ≡ length os → b .opens ≡ os → Leaves s levels m b (step (outsideBy solid m) row) (onRun (run start (placeOr solid)) size b)
       from [] d e =
-          subst (λ (os : List Open). Leaves s levels m b (step (outsideBy solid m) row) (inside os (run start (placeIn solid)) size b)) (sym e) (pick (eqb solid noPlace))
+          subst (λ (os : List Open). Leaves s levels m b (step (outsideBy solid m) row) (inside os (run start (placeOr solid)) size b)) (sym e) (pick (eqb solid noPlace))
       from (o ∷ os) d e = absurd (omega arith)
 
 pub outside-safe : (levels : List ℕ) (m : Build) (solid : ℕ) (row : RowCells) → Safe levels m → SafeStep levels m (step (outsideBy solid m) row)
@@ -147,20 +148,20 @@ module _ (s : Schema) (b : Building) (levels u : List ℕ) (m : Build) (whole : 
 
   -- its content has one run more
   abbrev between : Building
-  between = building (refill (withRun (isNone (placeIn solid))) (b .opens)) (b .rooted) (b .faults) (b .rows) (b .count)
+  between = building (refill (withRun (isNone (placeOr solid))) (b .opens)) (b .rooted) (b .faults) (b .rows) (b .count)
 
-  between-opened : Opened s u (refill (withRun (isNone (placeIn solid))) (b .opens))
+  between-opened : Opened s u (refill (withRun (isNone (placeOr solid))) (b .opens))
   between-opened =
       subst (λ (y : Bool). Opened s u (refill (withRun y) (b .opens))) (sym (none-test solid))
       (refilled s (withRun (eqb solid noPlace)) (b .opens) levels u (m .depth) v f (w .depth) loaded st fits (w .opened))
 
-  between-built : Built s u m (building (refill (withRun (isNone (placeIn solid))) (b .opens)) (b .rooted) (b .faults) (b .rows) (b .count))
+  between-built : Built s u m (building (refill (withRun (isNone (placeOr solid))) (b .opens)) (b .rooted) (b .faults) (b .rows) (b .count))
   between-built =
       record {
         safe = record { all = st .long; shallow = w .safe .shallow };
-        depth = w .depth ∙ sym (length-refill (withRun (isNone (placeIn solid))) (b .opens));
+        depth = w .depth ∙ sym (length-refill (withRun (isNone (placeOr solid))) (b .opens));
         opened = between-opened;
-        below = below-refill (b .count) (withRun (isNone (placeIn solid))) (b .opens) (w .below);
+        below = below-refill (b .count) (withRun (isNone (placeOr solid))) (b .opens) (w .below);
         count = w .count;
         listed = w .listed;
         rooted = w .rooted;
@@ -170,35 +171,35 @@ module _ (s : Schema) (b : Building) (levels u : List ℕ) (m : Build) (whole : 
         few = w .few;
       }
 
-  run-inside : onRun (run start (placeIn solid)) size b ≡ textNode (top .own .filling) (run start (placeIn solid)) size (top .own .row) between
+  run-inside : onRun (run start (placeOr solid)) size b ≡ textNode (top .own .filling) (run start (placeOr solid)) size (top .own .row) between
   run-inside =
-      ap (λ (os : List Open). inside os (run start (placeIn solid)) size b) (top .same)
+      ap (λ (os : List Open). inside os (run start (placeOr solid)) size b) (top .same)
       ∙ ap
-      (λ (os : List Open). textNode (top .own .filling) (run start (placeIn solid)) size (top .own .row) (building (refill (withRun (isNone (placeIn solid))) os) (b .rooted) (b .faults) (b .rows) (b .count)))
+      (λ (os : List Open). textNode (top .own .filling) (run start (placeOr solid)) size (top .own .row) (building (refill (withRun (isNone (placeOr solid))) os) (b .rooted) (b .faults) (b .rows) (b .count)))
       (sym (top .same))
 
   -- that makes no node
-  pub run-plain : (row : RowCells) → (v .filling .kind ≡ pcdataKind → ⊥) → Leaves s u m b (step m row) (onRun (run start (placeIn solid)) size b)
+  pub run-plain : (row : RowCells) → (v .filling .kind ≡ pcdataKind → ⊥) → Leaves s u m b (step m row) (onRun (run start (placeOr solid)) size b)
   run-plain row n =
       subst (Leaves s u m b (step m row))
       (sym
       (run-inside
-      ∙ no-text s (v .filling) (top .own .filling) (run start (placeIn solid)) size (top .own .row) between n (level .filling)))
+      ∙ no-text s (v .filling) (top .own .filling) (run start (placeOr solid)) size (top .own .row) between n (level .filling)))
       (leaves-kept {x = step m row} refl refl between-built)
 
   -- that makes one
   pub run-text : length s ≤ maxDeclarations → start < placeLimit → v .filling .kind ≡ pcdataKind
-      → Leaves s u m b (step (texted m start size) (textCells (v .filling .element) (v .row) start size)) (onRun (run start (placeIn solid)) size b)
+      → Leaves s u m b (step (texted m start size) (textCells (v .filling .element) (v .row) start size)) (onRun (run start (placeOr solid)) size b)
   run-text few p e =
       let x = text-state s (v .filling) (top .own .filling) e (level .filling) in
-      subst (λ (y : ℕ). Leaves s u m b (step (texted m start size) (textCells (v .filling .element) y start size)) (onRun (run start (placeIn solid)) size b)) (sym (level .row))
+      subst (λ (y : ℕ). Leaves s u m b (step (texted m start size) (textCells (v .filling .element) y start size)) (onRun (run start (placeOr solid)) size b)) (sym (level .row))
       (subst (Leaves s u m b (step (texted m start size) (textCells (v .filling .element) (top .own .row) start size)))
-      (sym (run-inside ∙ ap (λ (y : Filling). textNode y (run start (placeIn solid)) size (top .own .row) between) (x .1))) (noted x))
+      (sym (run-inside ∙ ap (λ (y : Filling). textNode y (run start (placeOr solid)) size (top .own .row) between) (x .1))) (noted x))
     where
       noted : (v .filling .element < length s) × (top .own .filling ≡ filledByText (v .filling .element))
-          → Leaves s u m b (step (texted m start size) (textCells (v .filling .element) (top .own .row) start size)) (textNode (filledByText (v .filling .element)) (run start (placeIn solid)) size (top .own .row) between)
+          → Leaves s u m b (step (texted m start size) (textCells (v .filling .element) (top .own .row) start size)) (textNode (filledByText (v .filling .element)) (run start (placeOr solid)) size (top .own .row) between)
       noted x =
-          let l = text-leaves s between u m refl between-built (v .filling .element) start size (top .own .row) (omega (arith, x .0)) p (subst (RowsBelow (b .count)) (top .same) (w .below) .0) (placeIn solid) in
+          let l = text-leaves s between u m refl between-built (v .filling .element) start size (top .own .row) (omega (arith, x .0)) p (subst (RowsBelow (b .count)) (top .same) (w .below) .0) (placeOr solid) in
           record { built = l .built; rows = l .rows }
 
 pub text-safe : (levels : List ℕ) (m : Build) (start size : ℕ) (row : RowCells) → Safe levels m → SafeStep levels m (step (texted m start size) row)

@@ -1,7 +1,6 @@
 -- What the code's state says of the definition's `Building`.
 use mathlib.Core.Bool.{Bool, true, cond, not, _&&_, _||_}
 use mathlib.Core.List.{List, [], _∷_, _++_}
-use mathlib.Core.Option.{Option, none, some}
 use mathlib.Core.Path.{_≡_}
 use Prim.Native.Nat.{ℕ, suc, _+_, _%_, _≤_, _<_}
 use lib.Dec.{eqb, leb, ltb}
@@ -10,6 +9,7 @@ use Rattle.build_state.specs.declared.Build.{Build}
 use Rattle.build_state.specs.declared.BuildStep.{BuildStep}
 use Rattle.fault_keys.specs.Keys.{noKey, keyAt, leastKey, notedKey, Placed}
 use Rattle.journal_spec.specs.Builder.{Open, Building}
+use Rattle.journal_state.specs.Places.{noPlace}
 use Rattle.open_levels.specs.Levels.{AllLevels, Opened}
 use Rattle.row_columns.specs.Columns.{cells}
 use Rattle.row_columns.specs.declared.RowCells.{RowCells}
@@ -98,13 +98,6 @@ elementCells e parent = record { name = e % 256; parent = parent % 65536; start 
 
 abbrev pub textCells : ℕ → ℕ → ℕ → ℕ → RowCells
 textCells e parent start size = record { name = e % 32 + 32; parent = parent % 65536; start = start; size = size % 65536 }
-
--- the cell that holds no place
-abbrev pub noPlace : ℕ
-noPlace = 4294967295
-
-abbrev pub placeIn : ℕ → Option ℕ
-placeIn x = cond (eqb x noPlace) none (some x)
 
 -- a run of character data outside the root
 abbrev pub outsideBy : ℕ → Build → Build

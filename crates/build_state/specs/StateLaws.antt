@@ -8,7 +8,7 @@ use native.Mathlib.Omega.{arith}
 use borrow.Author.Tests.{lt-leb, leb-true}
 use lib.Dec.{leb}
 use lib.ListN.{length}
-use Rattle.build_state.specs.State.{judgedFrom, RowsBelow, Safe, Built, Rows, kept, Leaves, SafeStep, brokenBy, build, step}
+use Rattle.build_state.specs.State.{judgedFrom, RowsBelow, Safe, Built, Rows, kept, begun-row, Leaves, SafeStep, brokenBy, build, step}
 use Rattle.build_state.specs.declared.Build.{Build}
 use Rattle.build_state.specs.declared.BuildStep.{BuildStep}
 use Rattle.content_fit.specs.Fillings.{StateOf}
@@ -19,8 +19,10 @@ use Rattle.journal_spec.specs.Builder.{Filling, Open, Building, breaks, refill}
 use Rattle.open_levels.specs.LevelLaws.{opened-refilled}
 use Rattle.open_levels.specs.Levels.{levelAt, withFilling, Stored, LevelOf, Opened}
 use Rattle.open_levels.specs.declared.Level.{Level}
+use Rattle.row_columns.specs.Columns.{cells}
 use Rattle.row_columns.specs.declared.RowCells.{RowCells}
 use Rattle.schema_spec.specs.Schemas.{Schema}
+use Rattle.table_spec.specs.Rows.{Row}
 use Rattle.text_spec.specs.Lists.{isNone, listOf}
 use Rattle.text_spec.specs.Refusals.{Refusal, Reason, numberOf, at, firstOf}
 
@@ -113,7 +115,7 @@ built-as {s} {u} {m} {n} {b} {c} e f w = subst (λ (z : Build). Built s u z b) (
 
 -- a step that begins no row
 pub leaves-kept : {s : Schema} {u : List ℕ} {m : Build} {b c : Building} {x : BuildStep} → x .build .count ≡ m .count → c .rows ≡ b .rows → Built s u (x .build) c → Leaves s u m b x c
-leaves-kept {m = m} {b = b} {x = x} e f w = record { built = w; rows = λ z. subst (λ (rows : List _). Rows (m .count) x (b .rows) rows) (sym f) (kept e) }
+leaves-kept {m = m} {b = b} {x = x} e f w = record { built = w; rows = λ z. subst (λ (rows : List Row). Rows (m .count) x (b .rows) rows) (sym f) (kept e) }
 
 -- the kept key is that of the first refusal that applies
 pub fault-is-first : {s : Schema} {u : List ℕ} {m : Build} {b : Building} → Built s u m b → keyOr (firstOf (listOf (b .broken) ++ b .faults)) ≡ m .fault
@@ -127,3 +129,8 @@ safe-as {u} {m} {x} {y} e w = subst (λ (z : BuildStep). SafeStep u m z) (sym e)
 
 pub broken-safe : (u : List ℕ) (m : Build) (number k : ℕ) (row : RowCells) → Safe u m → SafeStep u m (step (brokenBy number k m) row)
 broken-safe u m number k row w = record { safe = record { all = w .all; shallow = w .shallow }; counted = omega arith }
+
+-- a step with the same count and row begins the same row
+pub rows-as : {count : ℕ} {x y : BuildStep} {a b : List Row} → y .build .count ≡ x .build .count → y .row ≡ x .row → Rows count x a b → Rows count y a b
+rows-as e f (kept p) = kept (e ∙ p)
+rows-as {count} e f (begun-row p q) = begun-row (e ∙ p) (ap (cells count) f ∙ q)

@@ -5,11 +5,12 @@ ghost use mathlib.Core.Path.{_≡_};
 ghost use Prim.Native.Nat.{ℕ, _≤_, _<_};
 ghost use lib.ListN.{length};
 ghost use Rattle.build_state.specs.Starts.{isInnermost};
-ghost use Rattle.build_state.specs.State.{Safe, Built, Leaves, SafeStep, outsideBy, placeIn};
+ghost use Rattle.build_state.specs.State.{Safe, Built, Leaves, SafeStep, outsideBy};
 ghost use Rattle.content_fit.specs.Fillings.{ModelsOf};
 ghost use Rattle.fault_keys.specs.Keys.{placeLimit};
 ghost use Rattle.journal_spec.specs.Builder.{Building, onEnd, onRun};
 ghost use Rattle.journal_spec.specs.Lexer.{run};
+ghost use Rattle.journal_state.specs.Places.{placeOr};
 ghost use Rattle.name_words.specs.Words.{Spells};
 ghost use Rattle.schema_spec.specs.Schemas.{Schema};
 ghost use Rattle.text_spec.specs.Limits.{maxDeclarations, maxDepth};
@@ -18,13 +19,11 @@ use build_state::Build;
 use build_state::BuildStep;
 use content_fit::PCDATA;
 use fault_keys::BAD_NESTING;
+use journal_state::NONE;
 use name_words::Name;
 use names::MAX_ELEMENTS;
 use open_levels::LEVELS;
 use row_columns::RowCells;
-
-// No place.
-pub const NO_PLACE: u32 = 4294967295;
 
 // The innermost open element ends.
 pub fn close(
@@ -80,16 +79,16 @@ pub fn on_end(
 fn outside(m: Build, solid: u32) -> Build
     ensures { λ r. ⌜ r ≡ outsideBy solid m ⌝ }
 {
-    if solid == NO_PLACE {
+    if solid == NONE {
         return m;
     }
     build_state::broken(m, BAD_NESTING, solid)
 }
 
-// A run of character data: where it starts, its first byte that is not a blank or NO_PLACE, how many bytes it has.
+// A run of character data: where it starts, its first byte that is not a blank or NONE, how many bytes it has.
 pub fn on_run(levels: &mut [u64; LEVELS], m: Build, start: u32, solid: u32, size: u32) -> BuildStep
     requires { ⌜ Safe (now levels) m × (m .count < placeLimit) ⌝ }
-    ensures { λ r. ⌜ SafeStep (now (levels .exit)) m r × ((s : Schema) (b : Building) → length s ≤ maxDeclarations → isNone (b .broken) ≡ true → Built s (now (levels .entry)) m b → Leaves s (now (levels .exit)) m b r (onRun (run start (placeIn solid)) size b)) ⌝ }
+    ensures { λ r. ⌜ SafeStep (now (levels .exit)) m r × ((s : Schema) (b : Building) → length s ≤ maxDeclarations → isNone (b .broken) ≡ true → Built s (now (levels .entry)) m b → Leaves s (now (levels .exit)) m b r (onRun (run start (placeOr solid)) size b)) ⌝ }
 {
     let d = m.depth;
     if d == 0 {
@@ -97,7 +96,7 @@ pub fn on_run(levels: &mut [u64; LEVELS], m: Build, start: u32, solid: u32, size
     }
     let level = open_levels::load(levels, d);
     let old = level.filling;
-    let new = content_fit::with_run(old, solid == NO_PLACE);
+    let new = content_fit::with_run(old, solid == NONE);
     open_levels::refill(levels, d, new);
     if old.kind != PCDATA {
         return build_state::without_row(m);

@@ -1,6 +1,6 @@
 use borrow.Author.Tests.{eq-eqb, ne-eqb}
 use mathlib.Core.Path.{refl}
-use Rattle.build_state.specs.State.{noPlace}
+use Rattle.journal_state.specs.Places.{noPlace}
 use borrow.Author.Needs.{needs}
 use Rattle.journal_ends.proofs.outside.Statement.{statement}
 use Rattle.journal_ends.proofs.outside.Tie as tie

@@ -1,0 +1,150 @@
+// Events of a journal turned into open elements, content and rows: refusals 12 to 16.
+ghost use mathlib.Core.Bool.{true};
+ghost use mathlib.Core.List.{List};
+ghost use mathlib.Core.Path.{_≡_};
+ghost use Prim.Native.Nat.{ℕ, _≤_, _<_};
+ghost use lib.ListN.{length};
+ghost use Rattle.build_state.specs.Starts.{isInnermost};
+ghost use Rattle.build_state.specs.State.{judgedFrom, Safe, Built, Leaves, SafeStep};
+ghost use Rattle.content_fit.specs.Fillings.{KindsOf, ModelsOf, Sized};
+ghost use Rattle.element_names.specs.Names.{NamesOf};
+ghost use Rattle.fault_keys.specs.Keys.{placeLimit};
+ghost use Rattle.journal_builder.specs.Events.{startEvent, tagEvent, closedAfter};
+ghost use Rattle.journal_spec.specs.Builder.{Building, onUnbroken, onEvent};
+ghost use Rattle.journal_spec.specs.Lexer.{run, runs};
+ghost use Rattle.journal_state.specs.Places.{placeOr};
+ghost use Rattle.name_words.specs.Words.{Spells};
+ghost use Rattle.schema_spec.specs.Schemas.{Schema};
+ghost use Rattle.text_spec.specs.Limits.{maxDeclarations};
+ghost use Rattle.text_spec.specs.Lists.{isNone};
+use build_state::Build;
+use build_state::BuildStep;
+use compiled_schema::MAX_CELLS;
+use element_names::HASHES;
+use element_names::WORDS;
+use journal_state::EMPTIES;
+use journal_state::ENDS;
+use name_words::Name;
+use names::MAX_ELEMENTS;
+use open_levels::LEVELS;
+use row_columns::RowCells;
+
+// The end of an empty tag's element, if nesting is not broken.
+fn closed(
+    firsts: &[u64; MAX_ELEMENTS],
+    lasts: &[u64; MAX_ELEMENTS],
+    nullables: &[bool; MAX_ELEMENTS],
+    levels: &[u64; LEVELS],
+    begun: BuildStep,
+) -> BuildStep
+    requires { ⌜ Safe (now levels) (begun .build) × (judgedFrom ≤ begun .build .fault → 0 < begun .build .depth) ⌝ }
+    ensures { λ r. ⌜ Safe (now (levels .entry)) (r .build) × (r .build .count ≡ begun .build .count) × ((s : Schema) (m : Build) (b c : Building) (n : List ℕ) (k : ℕ) (elements predecessors sizes : List ℕ) → ModelsOf s (now (firsts .entry)) (now (lasts .entry)) (now (nullables .entry)) elements predecessors sizes → (isNone (c .broken) ≡ true → isInnermost (c .opens) n ≡ true) → Leaves s (now (levels .entry)) m b begun c → Leaves s (now (levels .entry)) m b r (closedAfter n k c)) ⌝ }
+{
+    let m = begun.build;
+    let row: RowCells = begun.row;
+    if build_state::is_judged(m) {
+        let build = journal_ends::close(firsts, lasts, nullables, levels, m);
+        return BuildStep { build, row };
+    }
+    begun
+}
+
+// A start tag or an empty tag. The element of its name is found once.
+fn start_tag(
+    words: &[u64; WORDS],
+    hints: &[u8; HASHES],
+    count: usize,
+    kinds: &[u8; MAX_ELEMENTS],
+    firsts: &[u64; MAX_ELEMENTS],
+    lasts: &[u64; MAX_ELEMENTS],
+    nullables: &[bool; MAX_ELEMENTS],
+    elements: &[u8; MAX_CELLS],
+    predecessors: &[u64; MAX_CELLS],
+    sizes: &[usize; MAX_ELEMENTS],
+    levels: &mut [u64; LEVELS],
+    m: Build,
+    empty: bool,
+    name: Name,
+    at: u32,
+) -> BuildStep
+    requires { ⌜ Safe (now levels) m × Sized (now sizes) × (m .count < placeLimit) × (count ≤ maxDeclarations) ⌝ }
+    ensures { λ r. ⌜ SafeStep (now (levels .exit)) m r × ((s : Schema) (b : Building) (n : List ℕ) → NamesOf s (now (words .entry)) → count ≡ length s → KindsOf s (now (kinds .entry)) → ModelsOf s (now (firsts .entry)) (now (lasts .entry)) (now (nullables .entry)) (now (elements .entry)) (now (predecessors .entry)) (now (sizes .entry)) → Spells name n → isNone (b .broken) ≡ true → Built s (now (levels .entry)) m b → Leaves s (now (levels .exit)) m b r (onUnbroken s (startEvent empty n at) b)) ⌝ }
+{
+    let e = element_names::find(words, hints, count, name);
+    let begun = journal_starts::on_start(
+        kinds,
+        firsts,
+        lasts,
+        nullables,
+        elements,
+        predecessors,
+        sizes,
+        levels,
+        m,
+        e,
+        name,
+        at,
+    );
+    if empty {
+        return closed(firsts, lasts, nullables, levels, begun);
+    }
+    begun
+}
+
+// A tag, by the number of its event in journal_state.
+pub fn on_tag(
+    words: &[u64; WORDS],
+    hints: &[u8; HASHES],
+    count: usize,
+    kinds: &[u8; MAX_ELEMENTS],
+    firsts: &[u64; MAX_ELEMENTS],
+    lasts: &[u64; MAX_ELEMENTS],
+    nullables: &[bool; MAX_ELEMENTS],
+    elements: &[u8; MAX_CELLS],
+    predecessors: &[u64; MAX_CELLS],
+    sizes: &[usize; MAX_ELEMENTS],
+    levels: &mut [u64; LEVELS],
+    m: Build,
+    event: u8,
+    name: Name,
+    at: u32,
+) -> BuildStep
+    requires { ⌜ Safe (now levels) m × Sized (now sizes) × (m .count < placeLimit) × (count ≤ maxDeclarations) ⌝ }
+    ensures { λ r. ⌜ SafeStep (now (levels .exit)) m r × ((s : Schema) (b : Building) (n : List ℕ) → NamesOf s (now (words .entry)) → count ≡ length s → KindsOf s (now (kinds .entry)) → ModelsOf s (now (firsts .entry)) (now (lasts .entry)) (now (nullables .entry)) (now (elements .entry)) (now (predecessors .entry)) (now (sizes .entry)) → Spells name n → Built s (now (levels .entry)) m b → Leaves s (now (levels .exit)) m b r (onEvent s (tagEvent event n at) b)) ⌝ }
+{
+    if !build_state::is_judged(m) {
+        return build_state::without_row(m);
+    }
+    if event == ENDS {
+        let build = journal_ends::on_end(firsts, lasts, nullables, levels, m, name, at);
+        return build_state::without_row(build);
+    }
+    start_tag(
+        words,
+        hints,
+        count,
+        kinds,
+        firsts,
+        lasts,
+        nullables,
+        elements,
+        predecessors,
+        sizes,
+        levels,
+        m,
+        event == EMPTIES,
+        name,
+        at,
+    )
+}
+
+// A run of character data: where it starts, its first byte that is not a blank or journal_state::NONE, how many bytes it has.
+pub fn on_run(levels: &mut [u64; LEVELS], m: Build, start: u32, solid: u32, size: u32) -> BuildStep
+    requires { ⌜ Safe (now levels) m × (m .count < placeLimit) ⌝ }
+    ensures { λ r. ⌜ SafeStep (now (levels .exit)) m r × ((s : Schema) (b : Building) → length s ≤ maxDeclarations → Built s (now (levels .entry)) m b → Leaves s (now (levels .exit)) m b r (onEvent s (runs (run start (placeOr solid)) size) b)) ⌝ }
+{
+    if build_state::is_judged(m) {
+        return journal_ends::on_run(levels, m, start, solid, size);
+    }
+    build_state::without_row(m)
+}
