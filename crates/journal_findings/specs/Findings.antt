@@ -11,10 +11,10 @@ use Rattle.build_state.specs.State.{judgedFrom, Built}
 use Rattle.build_state.specs.declared.Build.{Build}
 use Rattle.fault_keys.specs.KeyLaws.{least-bound}
 use Rattle.fault_keys.specs.Keys.{noKey, placeLimit, keyAt, leastKey, notedKey, Placed}
-use Rattle.journal_run_laws.specs.Findings.{isEarly, findingsKey}
-use Rattle.journal_run_laws.specs.Passes.{foreignsBelow}
+use Rattle.journal_run_laws.specs.Findings.{isEarly, findingsKey, FindingsPlaced}
 use Rattle.journal_spec.specs.Builder.{Open, Building}
-use Rattle.journal_spec.specs.Lexer.{Mode, misspeltAt}
+use Rattle.journal_spec.specs.Lexer.{misspeltAt}
+use Rattle.journal_spec.specs.Reading.{Machine}
 use Rattle.journal_state.specs.Places.{noPlace, tagAt, foreignAt}
 use Rattle.reader_state.specs.Reading.{foreignKey, ForeignCell}
 use Rattle.schema_spec.specs.Schemas.{Schema}
@@ -60,17 +60,28 @@ misspelt-noted : (t : Bool) (x key : ℕ) → key ≤ noKey → min (leastKey (a
 misspelt-noted true x key h = omega arith
 misspelt-noted false x key h = omega arith
 
-pub found-key-is : {s : Schema} {levels : List ℕ} {y : Build} {c : Building} (text p : List ℕ) (mode : ℕ) (m : Mode) → Built s levels y c
-    → ForeignCell (foreignAt p) (length text) (foreignsBelow text (length text)) → misspeltAt m ≡ cond (ltb 4 mode) (tagAt p ∷ []) []
-    → foundKey p mode y (length text) ≡ findingsKey text m c
-found-key-is {y = y} {c = c} text p mode m w f g =
-    let early = notedKey (endsBefore y) 12 (length text) (y .fault) in
+pub found-key-is : {s : Schema} {levels : List ℕ} {y : Build} {c : Building} (p : List ℕ) (mode : ℕ) (m : Machine) → Built s levels y c
+    → ForeignCell (foreignAt p) (m .place) (m .foreign) → misspeltAt (m .mode) ≡ cond (ltb 4 mode) (tagAt p ∷ []) []
+    → foundKey p mode y (m .place) ≡ findingsKey m c
+found-key-is {y = y} {c = c} p mode m w f g =
+    let early = notedKey (endsBefore y) 12 (m .place) (y .fault) in
     let low : y .fault ≤ noKey = subst (λ (k : ℕ). k ≤ noKey) (sym (w .fault)) (least-bound (listOf (c .broken) ++ c .faults)) in
-    let low-early : early ≤ noKey = noted-bound (endsBefore y) 12 (length text) (y .fault) low in
+    let low-early : early ≤ noKey = noted-bound (endsBefore y) 12 (m .place) (y .fault) low in
     let low-tags : notedKey (ltb 4 mode) 11 (tagAt p) early ≤ noKey = noted-bound (ltb 4 mode) 11 (tagAt p) early low-early in
     sym
     (ap₂ min (f .key)
     (ap₂ min (ap (λ (ks : List ℕ). leastKey (allAt misspelt ks)) g)
-    (ap₂ (λ (t : Bool) (k : ℕ). notedKey t 12 (length text) k) (sym (early-test w)) (sym (w .fault))))
+    (ap₂ (λ (t : Bool) (k : ℕ). notedKey t 12 (m .place) k) (sym (early-test w)) (sym (w .fault))))
     ∙ ap (min (foreignKey (foreignAt p))) (misspelt-noted (ltb 4 mode) (tagAt p) early low-early)
     ∙ foreign-noted (eqb (foreignAt p) noPlace) (foreignAt p) (notedKey (ltb 4 mode) 11 (tagAt p) early) low-tags)
+
+-- every place of the findings is one of a text
+pub found-placed : {s : Schema} {levels : List ℕ} {y : Build} {c : Building} (p : List ℕ) (mode : ℕ) (m : Machine) → Built s levels y c
+    → ForeignCell (foreignAt p) (m .place) (m .foreign) → misspeltAt (m .mode) ≡ cond (ltb 4 mode) (tagAt p ∷ []) [] → m .place < placeLimit → tagAt p < placeLimit
+    → FindingsPlaced m c
+found-placed p mode m w f g l k =
+    record { foreign = f .placed; tags = subst (λ (ks : List ℕ). Placed (allAt misspelt ks)) (sym g) (pick (ltb 4 mode)); end = l; built = w .placed }
+  where
+    pick : (t : Bool) → Placed (allAt misspelt (cond t (tagAt p ∷ []) []))
+    pick true = (k, tt)
+    pick false = tt

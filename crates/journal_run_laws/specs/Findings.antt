@@ -2,28 +2,25 @@
 use mathlib.Core.Bool.{Bool, true, false, cond, not, _&&_, _||_}
 use mathlib.Core.List.{List, [], _∷_, _++_, reverse}
 use mathlib.Core.Option.{Option, none, some}
-use mathlib.Core.Path.{_≡_, refl, sym, ap, subst, _∙_}
+use mathlib.Core.Path.{_≡_, refl, sym, ap, _∙_}
 use Prim.Native.Nat.{ℕ, zero, suc, min, _/_, _%_, _≤_, _<_}
 use native.Mathlib.Omega.{arith}
 use borrow.Author.Tests.{le-ltb}
 use lib.Dec.{ltb}
-use lib.ListN.{length, getD}
-use Rattle.fault_keys.specs.KeyLaws.{least-append, least-bound, least-given, placed-append, placed-given, FirstBy, no-refusal, refusal, first-by-key}
+use lib.ListN.{length, getD, take}
+use Rattle.fault_keys.specs.KeyLaws.{least-append, least-bound, placed-append, placed-given, FirstBy, no-refusal, refusal, first-by-key}
 use Rattle.fault_keys.specs.Keys.{noKey, placeLimit, leastKey, notedKey, Placed}
 use Rattle.journal_laws.specs.Judging.{journal-judged}
-use Rattle.journal_run_laws.specs.Passes.{foreignsBelow, machineAt}
 use Rattle.journal_spec.specs.Builder.{Building, onEvent}
 use Rattle.journal_spec.specs.Conditions as conditions
 use Rattle.journal_spec.specs.Conditions.{JournalApplies, JournalGives}
-use Rattle.journal_spec.specs.Lexer.{Mode, lastEvent, misspeltAt}
-use Rattle.journal_spec.specs.Reading.{Machine, initial, run, ended, endsEarly, machineRefusals, readJournal}
+use Rattle.journal_spec.specs.Lexer.{misspeltAt}
+use Rattle.journal_spec.specs.Reading.{Machine, initial, step, run, ended, endsEarly, machineRefusals, readJournal}
 use Rattle.schema_spec.specs.Schemas.{Schema}
 use Rattle.table_spec.specs.Rows.{Row}
 use Rattle.text_laws.specs.Texts.{over-length}
-use Rattle.text_spec.specs.Bytes.{isForeign}
 use Rattle.text_spec.specs.Lists.{isEmpty, isNone, listOf}
-use Rattle.text_spec.specs.Refusals.{Refusal, Outcome, accepted, refused, byFirst, firstOf, at, allAt, given, numberOf, badLength, badByte, misspelt, badNesting}
-use Rattle.text_spec.specs.Texts.{lengthRefusals}
+use Rattle.text_spec.specs.Refusals.{Refusal, Outcome, accepted, refused, byFirst, firstOf, at, allAt, given, numberOf, badLength, misspelt, badNesting}
 
 -- ---- 2 comes first
 pub read-empty : (limit : ℕ) (s : Schema) → readJournal limit s [] ≡ refused (at badLength 0)
@@ -33,18 +30,6 @@ read-empty limit s = refl
 pub read-over : (limit : ℕ) (s : Schema) (text : List ℕ) → limit < length text → readJournal limit s text ≡ refused (at badLength 0)
 read-over limit s text l =
     over-length (JournalApplies limit s text) (JournalGives s text) limit text (λ k x. elim x [ ]) (λ k x. conditions.length-2 x) l (journal-judged limit s text)
-
--- ---- 3: the first foreign byte
-pub foreigns-next : (text : List ℕ) (j : ℕ)
-    → leastKey (foreignsBelow text (suc j)) ≡ notedKey (isForeign (getD text j 0)) 3 j (leastKey (foreignsBelow text j))
-unfolding foreignsBelow
-foreigns-next text j = least-given (isForeign (getD text j 0)) badByte j (foreignsBelow text j)
-
-pub foreigns-placed : (text : List ℕ) (k : ℕ) → k ≤ placeLimit → Placed (foreignsBelow text k)
-unfolding foreignsBelow
-foreigns-placed text zero h = tt
-foreigns-placed text (suc j) h =
-    placed-given (isForeign (getD text j 0)) badByte j (foreignsBelow text j) (omega arith) (foreigns-placed text j (omega arith))
 
 -- ---- the outcome by a key
 -- accepted, or refused by the refusal that the key tells
@@ -60,69 +45,77 @@ told-by key a (some f) (refusal n p l) = refuses n p l
 abbrev pub isEarly : Building → Bool
 isEarly b = isNone (b .broken) && (not (isEmpty (b .opens)) || not (b .rooted))
 
--- what is built at the end
-abbrev pub builtAt : Schema → List ℕ → Mode → Building → Building
-builtAt s text m b = onEvent s (lastEvent m (length text)) b
+-- the least key of all findings of a machine and of what is built at the end: 3, 11, 12 at the end, and what the builder found
+abbrev pub findingsKey : Machine → Building → ℕ
+findingsKey m c =
+    min (leastKey (m .foreign))
+    (min (leastKey (allAt misspelt (misspeltAt (m .mode)))) (notedKey (isEarly c) 12 (m .place) (leastKey (listOf (c .broken) ++ c .faults))))
 
--- the least key of all findings: 3, 11, 12 at the end, and what the builder found
-abbrev pub findingsKey : List ℕ → Mode → Building → ℕ
-findingsKey text m c =
-    min (leastKey (foreignsBelow text (length text)))
-    (min (leastKey (allAt misspelt (misspeltAt m)))
-    (notedKey (isEarly c) 12 (length text) (leastKey (listOf (c .broken) ++ c .faults))))
+-- every place of them is one of a text
+pub record FindingsPlaced (m : Machine) (c : Building) : Type 0 where
+  pub foreign : Placed (m .foreign)
+  pub tags : Placed (allAt misspelt (misspeltAt (m .mode)))
+  pub end : m .place < placeLimit
+  pub built : Placed (listOf (c .broken) ++ c .faults)
 
-module _ (text : List ℕ) (m : Mode) (b c : Building) where
-  early-key : leastKey (listOf (c .broken) ++ (endsEarly c (length text) ++ c .faults))
-      ≡ notedKey (isEarly c) 12 (length text) (leastKey (listOf (c .broken) ++ c .faults))
+module _ (m : Machine) (c : Building) where
+  early-key : leastKey (listOf (c .broken) ++ (endsEarly c (m .place) ++ c .faults))
+      ≡ notedKey (isEarly c) 12 (m .place) (leastKey (listOf (c .broken) ++ c .faults))
   early-key = pick (isEarly c)
     where
-      pick : (t : Bool) → leastKey (listOf (c .broken) ++ (given t (at badNesting (length text)) ++ c .faults))
-          ≡ notedKey t 12 (length text) (leastKey (listOf (c .broken) ++ c .faults))
+      pick : (t : Bool) → leastKey (listOf (c .broken) ++ (given t (at badNesting (m .place)) ++ c .faults))
+          ≡ notedKey t 12 (m .place) (leastKey (listOf (c .broken) ++ c .faults))
       pick true =
           omega (
             arith,
-            least-append (listOf (c .broken)) (at badNesting (length text) ∷ c .faults),
+            least-append (listOf (c .broken)) (at badNesting (m .place) ∷ c .faults),
             least-append (listOf (c .broken)) (c .faults),
             least-bound (listOf (c .broken)),
             least-bound (c .faults),
           )
       pick false = refl
 
-  key-is : leastKey (machineRefusals (machineAt text (length text) m b) c) ≡ findingsKey text m c
+  key-is : leastKey (machineRefusals m c) ≡ findingsKey m c
   key-is =
-      let rest = listOf (c .broken) ++ (endsEarly c (length text) ++ c .faults) in
-      least-append (foreignsBelow text (length text)) (allAt misspelt (misspeltAt m) ++ rest)
-      ∙ ap (min (leastKey (foreignsBelow text (length text))))
-      (least-append (allAt misspelt (misspeltAt m)) rest ∙ ap (min (leastKey (allAt misspelt (misspeltAt m)))) early-key)
+      let rest = listOf (c .broken) ++ (endsEarly c (m .place) ++ c .faults) in
+      least-append (m .foreign) (allAt misspelt (misspeltAt (m .mode)) ++ rest)
+      ∙ ap (min (leastKey (m .foreign)))
+      (least-append (allAt misspelt (misspeltAt (m .mode))) rest ∙ ap (min (leastKey (allAt misspelt (misspeltAt (m .mode))))) early-key)
 
-  placed-all : length text < placeLimit → Placed (allAt misspelt (misspeltAt m)) → Placed (listOf (c .broken)) → Placed (c .faults)
-      → Placed (machineRefusals (machineAt text (length text) m b) c)
-  placed-all short misspelt-placed broken-placed faults-placed =
-      placed-append (foreignsBelow text (length text)) (allAt misspelt (misspeltAt m) ++ (listOf (c .broken) ++ (endsEarly c (length text) ++ c .faults)))
-      (foreigns-placed text (length text) (omega arith))
-      (placed-append (allAt misspelt (misspeltAt m)) (listOf (c .broken) ++ (endsEarly c (length text) ++ c .faults)) misspelt-placed
-      (placed-append (listOf (c .broken)) (endsEarly c (length text) ++ c .faults) broken-placed
-      (placed-given (isEarly c) badNesting (length text) (c .faults) short faults-placed)))
+  placed-all : FindingsPlaced m c → Placed (machineRefusals m c)
+  placed-all p =
+      placed-append (m .foreign) (allAt misspelt (misspeltAt (m .mode)) ++ (listOf (c .broken) ++ (endsEarly c (m .place) ++ c .faults))) (p .foreign)
+      (placed-append (allAt misspelt (misspeltAt (m .mode))) (listOf (c .broken) ++ (endsEarly c (m .place) ++ c .faults)) (p .tags)
+      (placed-append (listOf (c .broken)) (endsEarly c (m .place) ++ c .faults) (placed-left (listOf (c .broken)) (c .faults) (p .built))
+      (placed-given (isEarly c) badNesting (m .place) (c .faults) (p .end) (placed-right (listOf (c .broken)) (c .faults) (p .built)))))
+    where
+      placed-left : (fs gs : List Refusal) → Placed (fs ++ gs) → Placed fs
+      placed-left [] gs q = tt
+      placed-left (f ∷ fs) gs q = (q .0, placed-left fs gs (q .1))
+
+      placed-right : (fs gs : List Refusal) → Placed (fs ++ gs) → Placed gs
+      placed-right [] gs q = q
+      placed-right (f ∷ fs) gs q = placed-right fs gs (q .1)
 
 -- A journal within its limit: the outcome is what the least key tells.
-pub read-told : (limit : ℕ) (s : Schema) (text : List ℕ) (m : Mode) (b : Building) (key : ℕ) → run s initial text ≡ machineAt text (length text) m b
-    → 1 ≤ length text → length text ≤ limit → length text < placeLimit
-    → Placed (allAt misspelt (misspeltAt m)) → Placed (listOf (builtAt s text m b .broken)) → Placed (builtAt s text m b .faults)
-    → key ≡ findingsKey text m (builtAt s text m b) → KeyTells key (reverse (builtAt s text m b .rows)) (readJournal limit s text)
+pub read-told : (limit : ℕ) (s : Schema) (text : List ℕ) (key : ℕ) → 1 ≤ length text → length text ≤ limit
+    → FindingsPlaced (run s initial text) (ended s (run s initial text)) → key ≡ findingsKey (run s initial text) (ended s (run s initial text))
+    → KeyTells key (reverse (ended s (run s initial text) .rows)) (readJournal limit s text)
 unfolding readJournal
-read-told limit s text m b key e filled within short x y z k =
-    let c = builtAt s text m b in
-    subst (λ (w : Machine). KeyTells key (reverse (c .rows)) (whole w)) (sym e)
-    (rw not-over
-    (told-by key (reverse (c .rows)) (firstOf (machineRefusals (machineAt text (length text) m b) c))
-    (first-by-key (machineRefusals (machineAt text (length text) m b) c) key (placed-all text m b c short x y z) (k ∙ sym (key-is text m b c)))))
+read-told limit s text key filled within placed k =
+    let m = run s initial text in
+    let c = ended s m in
+    rw (not-over text filled within)
+    (told-by key (reverse (c .rows)) (firstOf (machineRefusals m c))
+    (first-by-key (machineRefusals m c) key (placed-all m c placed) (k ∙ sym (key-is m c))))
   where
-    pick : (t : List ℕ) → 1 ≤ length t → length t ≤ limit → (isEmpty t || ltb limit (length t)) ≡ false
-    pick [] h l = absurd (omega arith)
-    pick (y ∷ t) h l = le-ltb limit (length (y ∷ t)) l
+    not-over : (t : List ℕ) → 1 ≤ length t → length t ≤ limit → (isEmpty t || ltb limit (length t)) ≡ false
+    not-over [] h l = absurd (omega arith)
+    not-over (y ∷ t) h l = le-ltb limit (length (y ∷ t)) l
 
-    not-over : (isEmpty text || ltb limit (length text)) ≡ false
-    not-over = pick text filled within
-
-    whole : Machine → Outcome (List Row)
-    whole w = byFirst (firstOf (lengthRefusals limit text ++ machineRefusals w (ended s w))) (reverse (ended s w .rows))
+-- ---- one byte more of a run from the start
+pub run-next : (s : Schema) (m : Machine) (text : List ℕ) (k : ℕ) → k < length text → run s m (take (suc k) text) ≡ step s (run s m (take k text)) (getD text k 0)
+unfolding run
+run-next s m [] k h = absurd (omega arith)
+run-next s m (y ∷ t) zero h = refl
+run-next s m (y ∷ t) (suc k) h = run-next s (step s m y) t k (omega arith)

@@ -103,10 +103,11 @@ module _ {s : Schema} {levels after : List ℕ} {m : Build} {b : Building} {x : 
   rows-next z r h f = r .holds z (b .rows) (onEvent s e b .rows) (w .count ∙ w .listed) (l .rows f) (h (faultless-before f))
 
 -- ---- one byte more: the definition's step
-pub read-next : {s : Schema} {z : Sizes} {levels after places q : List ℕ} {c d : Columns} {x : ReaderState} {m : Machine} {l : Lex} {y : BuildStep} (b : ℕ)
+pub read-next : {s : Schema} {z : Sizes} {levels after places q : List ℕ} {c d : Columns} {x : ReaderState} {m : Machine} {l : Lex} {y : Build} (b : ℕ)
     → ReadAs s z levels places c x m → x .lex .place < noPlace → Meant (x .lex) places b l q (lex (m .mode) (x .lex .place) b)
-    → Leaves s after (x .build) (m .built) y (onEvent s (lex (m .mode) (x .lex .place) b .event) (m .built)) → RowAdded c (x .build .count) y d
-    → ReadAs s z after q d (record { lex = l; build = y .build }) (step s m b)
+    → Built s after y (onEvent s (lex (m .mode) (x .lex .place) b .event) (m .built))
+    → (y .fault ≡ noKey → d ≡ columnsOf z (reverse (onEvent s (lex (m .mode) (x .lex .place) b .event) (m .built) .rows)))
+    → ReadAs s z after q d (record { lex = l; build = y }) (step s m b)
 unfolding step
 read-next {s} {z} {levels} {after} {places} {q} {c} {d} {x} {m} {l} {y} b r room g v a =
     let e : lex (m .mode) (m .place) b ≡ lex (m .mode) (x .lex .place) b = ap (λ (k : ℕ). lex (m .mode) k b) (sym (r .place)) in
@@ -120,6 +121,6 @@ read-next {s} {z} {levels} {after} {places} {q} {c} {d} {x} {m} {l} {y} b r room
           subst (λ (t : ℕ). ForeignCell t (suc (m .place)) (given (isForeign b) (at badByte (m .place)) ++ m .foreign))
           (sym (g .foreign ∙ ap (firstForeign (foreignAt places) b) (r .place)))
           (foreign-next b (subst (λ (k : ℕ). k < noPlace) (r .place) room) (r .foreign));
-      built = subst (λ (t : Building). Built s after (y .build) t) u (v .built);
-      rows = λ f. rows-next (lex (m .mode) (x .lex .place) b .event) (r .built) v z a (r .rows) f ∙ ap (λ (t : Building). columnsOf z (reverse (t .rows))) u;
+      built = subst (λ (t : Building). Built s after y t) u v;
+      rows = λ f. a f ∙ ap (λ (t : Building). columnsOf z (reverse (t .rows))) u;
     }

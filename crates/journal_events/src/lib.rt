@@ -1,0 +1,78 @@
+// What the lexer's last event makes of what is built.
+ghost use mathlib.Core.Path.{_≡_};
+ghost use Prim.Native.Nat.{_-_, _≤_, _<_};
+ghost use lib.ListN.{length};
+ghost use Rattle.build_state.specs.State.{Safe, SafeStep};
+ghost use Rattle.content_fit.specs.Fillings.{Sized};
+ghost use Rattle.fault_keys.specs.Keys.{placeLimit};
+ghost use Rattle.journal_events.specs.Events.{SchemaCells, schemaCells, EventLeaves};
+ghost use Rattle.text_spec.specs.Limits.{maxDeclarations};
+use build_state::Build;
+use build_state::BuildStep;
+use element_names::HASHES;
+use element_names::WORDS;
+use journal_state::AT;
+use journal_state::Lex;
+use journal_state::QUIET;
+use journal_state::RUNS;
+use journal_state::SOLID_AT;
+use journal_state::START;
+use name_words::Name;
+use names::MAX_ELEMENTS;
+use open_levels::LEVELS;
+use schema_entries::MAX_CELLS;
+
+// How many bytes a run has that starts at `start` and ends before `end`.
+fn run_size(start: u32, end: u32) -> u32
+    ensures { λ r. ⌜ r ≡ end - start ⌝ }
+{
+    if start <= end { end - start } else { 0 }
+}
+
+pub fn on_event(
+    words: &[u64; WORDS],
+    hints: &[u8; HASHES],
+    count: usize,
+    kinds: &[u8; MAX_ELEMENTS],
+    firsts: &[u64; MAX_ELEMENTS],
+    lasts: &[u64; MAX_ELEMENTS],
+    nullables: &[bool; MAX_ELEMENTS],
+    elements: &[u8; MAX_CELLS],
+    predecessors: &[u64; MAX_CELLS],
+    sizes: &[usize; MAX_ELEMENTS],
+    levels: &mut [u64; LEVELS],
+    places: &[u32; 4],
+    l: Lex,
+    m: Build,
+) -> BuildStep
+    requires { ⌜ Safe (now levels) m × Sized (now sizes) × (m .count < placeLimit) × (count ≤ maxDeclarations) × (length (now places) ≡ 4) ⌝ }
+    ensures { λ r. ⌜ EventLeaves (schemaCells (now (words .entry)) count (now (kinds .entry)) (now (firsts .entry)) (now (lasts .entry)) (now (nullables .entry)) (now (elements .entry)) (now (predecessors .entry)) (now (sizes .entry))) (now (levels .entry)) (now (places .entry)) l m (now (levels .exit)) r ⌝ }
+{
+    let event = l.event;
+    if event == QUIET {
+        return build_state::without_row(m);
+    }
+    if event == RUNS {
+        let start = places[START];
+        let size = run_size(start, places[AT]);
+        return journal_builder::on_run(levels, m, start, places[SOLID_AT], size);
+    }
+    let name: Name = l.name;
+    journal_builder::on_tag(
+        words,
+        hints,
+        count,
+        kinds,
+        firsts,
+        lasts,
+        nullables,
+        elements,
+        predecessors,
+        sizes,
+        levels,
+        m,
+        event,
+        name,
+        places[AT],
+    )
+}
