@@ -25,7 +25,7 @@ use Rattle.text_spec.specs.Limits.{maxTextBytes}
 use Rattle.text_spec.specs.Lists.{anyOf, allOf}
 
 -- "an element .. carries text 0, 0; a text row has length 1 to 4,096"
-cells-mean : (n : Name) (r : Row) → r .name ≡ n → T (textFits n r) → TextCells r
+pub cells-mean : (n : Name) (r : Row) → r .name ≡ n → T (textFits n r) → TextCells r
 cells-mean (element e) r q t =
     let c = and-cases (eqb (r .start) 0) (eqb (r .size) 0) t in
     of-element q (eqb→eq _ _ (c .0)) (eqb→eq _ _ (c .1))
@@ -33,7 +33,7 @@ cells-mean (text e) r q t =
     let c = and-cases (leb 1 (r .size)) (leb (r .size) maxTextBytes) t in
     of-text q (leb→le _ _ (c .0)) (leb→le _ _ (c .1))
 
-mean-cells : (r : Row) → TextCells r → T (textFits (r .name) r)
+pub mean-cells : (r : Row) → TextCells r → T (textFits (r .name) r)
 mean-cells r (of-element q a b) = rw (q, a, b) tt
 mean-cells r (of-text q a b) = rw q (and-intro (leb 1 (r .size)) (leb (r .size) maxTextBytes) (le→leb _ _ a) (le→leb _ _ b))
 

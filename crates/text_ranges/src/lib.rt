@@ -1,0 +1,45 @@
+// The texts of a table beside a lent text: each range lies inside it, and each of its bytes passes refusal 3.
+ghost use mathlib.Core.Path.{_≡_};
+ghost use Prim.Native.Nat.{_≤_};
+ghost use lib.ListN.{length};
+ghost use Rattle.table_passes.specs.Texts.{rangePasses, textPasses, textsPass};
+use row_tests::is_text;
+
+// Whether a range lies inside the text, with bytes that pass.
+fn range_passes(lent: &[u8], start: usize, size: usize) -> bool
+    ensures { λ r. ⌜ r ≡ rangePasses (now (lent .entry)) start size ⌝ }
+{
+    if lent.len() < start {
+        return false;
+    }
+    if lent.len() - start < size {
+        return false;
+    }
+    let end = start + size;
+    text::first_foreign(&lent[start..end]) == size
+}
+
+// Whether a row is no text, or one with such a range.
+fn text_passes(lent: &[u8], code: u8, start: u32, size: u16) -> bool
+    ensures { λ r. ⌜ r ≡ textPasses (now (lent .entry)) code start size ⌝ }
+{
+    if is_text(code) {
+        return range_passes(lent, start as usize, size as usize);
+    }
+    true
+}
+
+// Whether each of the first `count` rows that is a text has such a range.
+pub fn texts_pass(lent: &[u8], codes: &[u8], starts: &[u32], lengths: &[u16], count: usize) -> bool
+    requires { ⌜ (count ≤ length (now codes)) × (count ≤ length (now starts)) × (count ≤ length (now lengths)) ⌝ }
+    ensures { λ r. ⌜ r ≡ textsPass (now (lent .entry)) (now (codes .entry)) (now (starts .entry)) (now (lengths .entry)) 0 count ⌝ }
+{
+    let mut i = 0;
+    while i < count {
+        if !text_passes(lent, codes[i], starts[i], lengths[i]) {
+            return false;
+        }
+        i += 1;
+    }
+    true
+}
