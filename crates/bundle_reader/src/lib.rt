@@ -61,7 +61,7 @@ fn recorded(text: &[u8]) -> Bundle
 }
 
 // Judges a bundle text under the schema in a text, one with no element where that text is refused.
-fn judge_under(schema: &[u8], text: &[u8]) -> Judged
+pub fn judge_under(schema: &[u8], text: &[u8]) -> Judged
     ensures { λ r. ⌜ JudgedAs (schemaIn (now (schema .entry))) (now (text .entry)) r ⌝ }
 {
     let mut names = [0usize; MAX_ELEMENTS];

@@ -3,6 +3,7 @@
 ghost use Prim.Native.Nat.{_<_};
 ghost use lib.ListN.{length};
 ghost use Rattle.needed_cases.specs.Cases.{Within};
+use bundle::Kind;
 use bundle_reader::Answer;
 use bundle_reader::Bundle;
 use needed_records::Needed;
@@ -16,6 +17,10 @@ fn show_refusal(number: u64, place: u64) {
     io::print_decimal(1, number);
     io::write_all(1, b" at ");
     io::print_decimal(1, place);
+}
+
+fn show_kind(kind: Kind, place: usize) {
+    show_refusal(kind.number() as u64, place as u64);
 }
 
 fn show_needed(schema: Schema, bundle: Bundle) {
@@ -36,7 +41,7 @@ fn show(schema: Schema, text: &[u8]) {
             show_needed(schema, bundle);
         }
         Answer::BadRecord => show_refusal(1, 0),
-        Answer::Refused(kind, place) => show_refusal(kind.number() as u64, place as u64),
+        Answer::Refused(kind, place) => show_kind(kind, place),
     }
     io::write_all(1, b"\n");
 }

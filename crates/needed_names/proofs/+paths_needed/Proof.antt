@@ -26,115 +26,41 @@ paths-needed-at t = and 6 paths-needed-kinds.ps (is 6 paths-needed-kinds.ps μ-p
 abbrev paths-needed-below : ℕ → In 6 paths-needed-kinds.ps
 paths-needed-below t = and 6 paths-needed-kinds.ps (falls 6 paths-needed-kinds.ps _<_ μ-paths-needed t) paths-needed.Pre
 
-paths-needed-byte-start-requires : (t : ℕ) → paths-needed-lts.Need-byte-start-requires (
-  empty-reads.Asked,
-  empty-reads.Learnt,
-  byte-start-reads.Asked,
-  byte-start-reads.Learnt,
-  byte-size-reads.Asked,
-  byte-size-reads.Learnt,
-  path-needed-reads.Asked,
-  path-needed-reads.Learnt,
-  paths-needed-below t,
-  paths-needed.Post,
-  together-reads.Asked,
-  together-reads.Learnt,
-) (paths-needed-at t) paths-needed.Post
+-- what the functions that are called ask and ensure
+abbrev claims : ℕ → paths-needed-lts.Claims
+claims t = (empty-reads.Asked, empty-reads.Learnt, byte-start-reads.Asked, byte-start-reads.Learnt, byte-size-reads.Asked, byte-size-reads.Learnt, path-needed-reads.Asked, path-needed-reads.Learnt, paths-needed-below t, paths-needed.Post, together-reads.Asked, together-reads.Learnt)
+
+paths-needed-byte-start-requires : (t : ℕ) → paths-needed-lts.Need-byte-start-requires (claims t) (paths-needed-at t) paths-needed.Post
 paths-needed-byte-start-requires t c κs =
     let start = c .before .before .before .before .before .before .before in
     let l = start .pre .1 .room in
     omega arith
 
-paths-needed-byte-size-requires : (t : ℕ) → paths-needed-lts.Need-byte-size-requires (
-  empty-reads.Asked,
-  empty-reads.Learnt,
-  byte-start-reads.Asked,
-  byte-start-reads.Learnt,
-  byte-size-reads.Asked,
-  byte-size-reads.Learnt,
-  path-needed-reads.Asked,
-  path-needed-reads.Learnt,
-  paths-needed-below t,
-  paths-needed.Post,
-  together-reads.Asked,
-  together-reads.Learnt,
-) (paths-needed-at t) paths-needed.Post
+paths-needed-byte-size-requires : (t : ℕ) → paths-needed-lts.Need-byte-size-requires (claims t) (paths-needed-at t) paths-needed.Post
 paths-needed-byte-size-requires t c κs =
     let start = c .before .before .before .before .before .before .before .before in
     let l = start .pre .1 .room in
     omega arith
 
-paths-needed-path-needed-requires : (t : ℕ) → paths-needed-lts.Need-path-needed-requires (
-  empty-reads.Asked,
-  empty-reads.Learnt,
-  byte-start-reads.Asked,
-  byte-start-reads.Learnt,
-  byte-size-reads.Asked,
-  byte-size-reads.Learnt,
-  path-needed-reads.Asked,
-  path-needed-reads.Learnt,
-  paths-needed-below t,
-  paths-needed.Post,
-  together-reads.Asked,
-  together-reads.Learnt,
-) (paths-needed-at t) paths-needed.Post
+paths-needed-path-needed-requires : (t : ℕ) → paths-needed-lts.Need-path-needed-requires (claims t) (paths-needed-at t) paths-needed.Post
 paths-needed-path-needed-requires t c κs =
     let start = c .before .before .before .before .before .before .before .before .before in
     path-steps (start .args .axes .now) (start .args .lows .now) (start .args .highs .now) (start .args .ways .now) (start .args .conditions .now) (start .args .paths .now) (start .args .i) (start .args .n) (c .before .byte-start .result) (c .byte-size .result) (start .pre .1) (c .before .byte-start .ensures) (c .byte-size .ensures)
 
-paths-needed-paths-needed-requires : (t : ℕ) → paths-needed-lts.Need-paths-needed-requires (
-  empty-reads.Asked,
-  empty-reads.Learnt,
-  byte-start-reads.Asked,
-  byte-start-reads.Learnt,
-  byte-size-reads.Asked,
-  byte-size-reads.Learnt,
-  path-needed-reads.Asked,
-  path-needed-reads.Learnt,
-  paths-needed-below t,
-  paths-needed.Post,
-  together-reads.Asked,
-  together-reads.Learnt,
-) (paths-needed-at t) paths-needed.Post
+paths-needed-paths-needed-requires : (t : ℕ) → paths-needed-lts.Need-paths-needed-requires (claims t) (paths-needed-at t) paths-needed.Post
 paths-needed-paths-needed-requires t c κs =
     let start = c .before .before .before .before .before .before .before .before .before .before in
     let d = c .before .before .before .if1 .left in
     let e = start .pre .0 in
     (omega arith, later-paths (start .args .axes .now) (start .args .lows .now) (start .args .highs .now) (start .args .ways .now) (start .args .conditions .now) (start .args .paths .now) (start .args .i) (start .args .n) d (start .pre .1))
 
-paths-needed-returns : (t : ℕ) → paths-needed-lts.Need-returns (
-  empty-reads.Asked,
-  empty-reads.Learnt,
-  byte-start-reads.Asked,
-  byte-start-reads.Learnt,
-  byte-size-reads.Asked,
-  byte-size-reads.Learnt,
-  path-needed-reads.Asked,
-  path-needed-reads.Learnt,
-  paths-needed-below t,
-  paths-needed.Post,
-  together-reads.Asked,
-  together-reads.Learnt,
-) (paths-needed-at t) paths-needed.Post
+paths-needed-returns : (t : ℕ) → paths-needed-lts.Need-returns (claims t) (paths-needed-at t) paths-needed.Post
 paths-needed-returns t c =
     λ s k named.
     let start = c .before .before .before .before .before .before .before .before .args in
     needed-none (start .axes .now) (start .lows .now) (start .highs .now) (start .ways .now) (start .conditions .now) (start .paths .now) s (start .i) (start .n) (c .empty .result) (c .before .if1 .taken) (empty-setIn s (c .empty .result) (c .empty .ensures))
 
-paths-needed-returns-2 : (t : ℕ) → paths-needed-lts.Need-returns-2 (
-  empty-reads.Asked,
-  empty-reads.Learnt,
-  byte-start-reads.Asked,
-  byte-start-reads.Learnt,
-  byte-size-reads.Asked,
-  byte-size-reads.Learnt,
-  path-needed-reads.Asked,
-  path-needed-reads.Learnt,
-  paths-needed-below t,
-  paths-needed.Post,
-  together-reads.Asked,
-  together-reads.Learnt,
-) (paths-needed-at t) paths-needed.Post
+paths-needed-returns-2 : (t : ℕ) → paths-needed-lts.Need-returns-2 (claims t) (paths-needed-at t) paths-needed.Post
 paths-needed-returns-2 t c =
     λ s k named.
     let start = c .before .before .before .before .before .before .before .before .before .before .before .before .args in
@@ -146,20 +72,7 @@ paths-needed-returns-2 t c =
     (one .ensures s k named) (rest .ensures s k named) (c .together .ensures s)
 
 pub +paths-needed-spec : {M : Type 1} → statement M
-+paths-needed-spec = close μ-paths-needed λ t. paths-needed-lts.spec (
-  empty-reads.Asked,
-  empty-reads.Learnt,
-  byte-start-reads.Asked,
-  byte-start-reads.Learnt,
-  byte-size-reads.Asked,
-  byte-size-reads.Learnt,
-  path-needed-reads.Asked,
-  path-needed-reads.Learnt,
-  paths-needed-below t,
-  paths-needed.Post,
-  together-reads.Asked,
-  together-reads.Learnt,
-)
++paths-needed-spec = close μ-paths-needed λ t. paths-needed-lts.spec (claims t)
     (paths-needed-at t)
     paths-needed.Post
     (λ c κs. search needs)

@@ -7,9 +7,13 @@ use Rattle.needed_names.specs.Words.{shaped-paths}
 use Rattle.needed_names.proofs.bundle_needed.Statement.{statement}
 use Rattle.needed_names.proofs.bundle_needed.Tie as tie
 
+-- the states that answers go back to
+abbrev start-before : tie.After-paths2 → tie.Start
+start-before c = c .before .before .before .before .before .before .before .before .before .before .before .before
+
 paths-needed-requires : tie.Need-paths-needed-requires
 paths-needed-requires c κs =
-    let start = c .before .before .before .before .before .before .before .before .before .before .before .before in
+    let start = (start-before c) in
     let axes : length (start .args .bundle .axes) ≡ 640 = search needs in
     let lows : length (start .args .bundle .lows) ≡ 640 = search needs in
     let highs : length (start .args .bundle .highs) ≡ 640 = search needs in

@@ -32,60 +32,28 @@ need-steps-at t = and 5 need-steps-kinds.ps (is 5 need-steps-kinds.ps μ-need-st
 abbrev need-steps-below : ℕ → In 5 need-steps-kinds.ps
 need-steps-below t = and 5 need-steps-kinds.ps (falls 5 need-steps-kinds.ps _<_ μ-need-steps t) need-steps.Pre
 
-need-steps-infer-step-requires : (t : ℕ) → need-steps-lts.Need-infer-step-requires (
-  infer-step-reads.Asked,
-  infer-step-reads.Learnt,
-  need-steps-below t,
-  need-steps.Post,
-  wanted-at-reads.Asked,
-  wanted-at-reads.Learnt,
-  with-step-reads.Asked,
-  with-step-reads.Learnt,
-) (need-steps-at t) need-steps.Post
+-- what the functions that are called ask and ensure
+abbrev claims : ℕ → need-steps-lts.Claims
+claims t = (infer-step-reads.Asked, infer-step-reads.Learnt, need-steps-below t, need-steps.Post, wanted-at-reads.Asked, wanted-at-reads.Learnt, with-step-reads.Asked, with-step-reads.Learnt)
+
+need-steps-infer-step-requires : (t : ℕ) → need-steps-lts.Need-infer-step-requires (claims t) (need-steps-at t) need-steps.Post
 need-steps-infer-step-requires t c κs =
     let start = c .before .before .before .before .before .before .before .before in
     first-step (start .args .axes .now) (start .args .lows .now) (start .args .highs .now) (start .args .ways .now) (start .args .conditions .now) (start .args .k) (start .args .n) (c .before .if1 .left) (start .pre .1)
 
-need-steps-need-steps-requires : (t : ℕ) → need-steps-lts.Need-need-steps-requires (
-  infer-step-reads.Asked,
-  infer-step-reads.Learnt,
-  need-steps-below t,
-  need-steps.Post,
-  wanted-at-reads.Asked,
-  wanted-at-reads.Learnt,
-  with-step-reads.Asked,
-  with-step-reads.Learnt,
-) (need-steps-at t) need-steps.Post
+need-steps-need-steps-requires : (t : ℕ) → need-steps-lts.Need-need-steps-requires (claims t) (need-steps-at t) need-steps.Post
 need-steps-need-steps-requires t c κs =
     let start = c .before .before .before .before .before .before .before .before .before in
     let d = c .before .before .if1 .left in
     let e = start .pre .0 in
     (omega arith, later-steps (start .args .axes .now) (start .args .lows .now) (start .args .highs .now) (start .args .ways .now) (start .args .conditions .now) (start .args .k) (start .args .n) d (start .pre .1))
 
-need-steps-wanted-at-requires : (t : ℕ) → need-steps-lts.Need-wanted-at-requires (
-  infer-step-reads.Asked,
-  infer-step-reads.Learnt,
-  need-steps-below t,
-  need-steps.Post,
-  wanted-at-reads.Asked,
-  wanted-at-reads.Learnt,
-  with-step-reads.Asked,
-  with-step-reads.Learnt,
-) (need-steps-at t) need-steps.Post
+need-steps-wanted-at-requires : (t : ℕ) → need-steps-lts.Need-wanted-at-requires (claims t) (need-steps-at t) need-steps.Post
 need-steps-wanted-at-requires t c κs =
     let start = c .before .before .before .before .before .before .before .before .before .before in
     first-step (start .args .axes .now) (start .args .lows .now) (start .args .highs .now) (start .args .ways .now) (start .args .conditions .now) (start .args .k) (start .args .n) (c .before .before .before .if1 .left) (start .pre .1)
 
-need-steps-returns : (t : ℕ) → need-steps-lts.Need-returns (
-  infer-step-reads.Asked,
-  infer-step-reads.Learnt,
-  need-steps-below t,
-  need-steps.Post,
-  wanted-at-reads.Asked,
-  wanted-at-reads.Learnt,
-  with-step-reads.Asked,
-  with-step-reads.Learnt,
-) (need-steps-at t) need-steps.Post
+need-steps-returns : (t : ℕ) → need-steps-lts.Need-returns (claims t) (need-steps-at t) need-steps.Post
 need-steps-returns t c =
     λ s k named i.
     let start = c .before .before .before .before .before .before .before .args in
@@ -93,16 +61,7 @@ need-steps-returns t c =
     (sym (steps-none (start .axes .now) (start .lows .now) (start .highs .now) (start .ways .now) (start .conditions .now) (start .n) (start .k) (c .if1 .taken)))
     (needs-last s (keepsName (typesOf s)) (wantsNames (typesOf s)) (envIn s (start .e)) (start .e .types) refl)
 
-need-steps-returns-2 : (t : ℕ) → need-steps-lts.Need-returns-2 (
-  infer-step-reads.Asked,
-  infer-step-reads.Learnt,
-  need-steps-below t,
-  need-steps.Post,
-  wanted-at-reads.Asked,
-  wanted-at-reads.Learnt,
-  with-step-reads.Asked,
-  with-step-reads.Learnt,
-) (need-steps-at t) need-steps.Post
+need-steps-returns-2 : (t : ℕ) → need-steps-lts.Need-returns-2 (claims t) (need-steps-at t) need-steps.Post
 need-steps-returns-2 t c =
     λ s k named i.
     let start = c .before .before .before .before .before .before .before .before .before .before .before .before .args in
@@ -113,16 +72,7 @@ need-steps-returns-2 t c =
     (f .ensures s k named i) refl (later .ensures s k named (suc i)) (want .ensures s k named) (c .with-step .ensures s k)
 
 pub +need-steps-spec : {M : Type 1} → statement M
-+need-steps-spec = close μ-need-steps λ t. need-steps-lts.spec (
-  infer-step-reads.Asked,
-  infer-step-reads.Learnt,
-  need-steps-below t,
-  need-steps.Post,
-  wanted-at-reads.Asked,
-  wanted-at-reads.Learnt,
-  with-step-reads.Asked,
-  with-step-reads.Learnt,
-)
++need-steps-spec = close μ-need-steps λ t. need-steps-lts.spec (claims t)
     (need-steps-at t)
     need-steps.Post
     (λ c. search needs)

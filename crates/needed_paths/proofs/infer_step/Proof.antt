@@ -8,6 +8,10 @@ use Rattle.type_steps.specs.Relations.{envIn}
 use Rattle.needed_paths.proofs.infer_step.Statement.{statement}
 use Rattle.needed_paths.proofs.infer_step.Tie as tie
 
+-- the states that answers go back to
+abbrev start-before : tie.After-start → tie.Start
+start-before c = c .before .before .before .before .before .before
+
 start-requires : tie.Need-start-requires
 start-requires c κs =
     let l = c .before .before .before .before .before .pre .counted in
@@ -15,21 +19,26 @@ start-requires c κs =
 
 size-requires : tie.Need-size-requires
 size-requires c κs =
-    let l = c .before .before .before .before .before .before .pre .counted in
+    let l = (start-before c) .pre .counted in
     omega arith
 
 conditioned-requires : tie.Need-conditioned-requires
 conditioned-requires c κs =
-    let start = c .before .before .before .before .before .before .before .before .before .before .before in
-    let first = c .before .before .before .before .before .start in
-    let count = c .before .before .before .before .size in
+    let after-size = c .before .before .before .before in
+    let after-start = after-size .before in
+    let start = start-before after-start in
+    let first = after-start .start in
+    let count = after-size .size in
     condition-alternatives (start .args .axes .now) (start .args .lows .now) (start .args .highs .now) (start .args .ways .now) (start .args .conditions .now) (start .args .k) 1 (first .result) (count .result) (start .pre) (first .ensures) (count .ensures)
 
 returns : tie.Need-returns
-returns c = λ s k named i.
-    let start = c .before .before .before .before .before .before .before .before .before .before .before .before .args in
-    let first = c .before .before .before .before .before .before .start in
-    let count = c .before .before .before .before .before .size in
+returns c =
+    let after-size = c .before .before .before .before .before in
+    let after-start = after-size .before in
+    λ s k named i.
+    let start = (start-before after-start) .args in
+    let first = after-start .start in
+    let count = after-size .size in
     let gone = c .before .step in
     infer-written-step (start .axes .now) (start .lows .now) (start .highs .now) (start .ways .now) (start .conditions .now) s i (start .k) (conditionIn (start .axes .now) (start .lows .now) (start .highs .now) (start .ways .now) (count .result) (first .result))
     (envIn s (start .e)) (envIn s (gone .result)) (envIn s (c .conditioned .result)) (gone .result .context)

@@ -10,10 +10,14 @@ use Rattle.type_steps.specs.Relations.{setIn}
 use Rattle.needed_paths.proofs.path_needed.Statement.{statement}
 use Rattle.needed_paths.proofs.path_needed.Tie as tie
 
+-- the states that answers go back to
+abbrev start-before : tie.After-from-root → tie.Start
+start-before c = c .before .before .before .before .before .before .before .before
+
 returns : tie.Need-returns
 unfolding neededByPath neededBeforeFilter typesOf
 returns c = λ s k named.
-    let start = c .before .before .before .before .before .before .before .before .args in
+    let start = (start-before c) .args in
     let root = c .before .before .root in
     let ps = expand unconditional (stepsIn (start .axes .now) (start .lows .now) (start .highs .now) (start .ways .now) (start .conditions .now) (start .n) (start .k)) in
     let e = root .ensures s (k .full) in

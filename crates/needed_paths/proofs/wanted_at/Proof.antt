@@ -11,6 +11,16 @@ use Rattle.type_steps.specs.Relations.{setIn}
 use Rattle.needed_paths.proofs.wanted_at.Statement.{statement}
 use Rattle.needed_paths.proofs.wanted_at.Tie as tie
 
+-- the states that answers go back to
+abbrev start-before : tie.After-start → tie.Start
+start-before c = c .before .before .before .before .before .before
+
+abbrev start-before-2 : tie.After-size → tie.Start
+start-before-2 c = start-before (c .before)
+
+abbrev start-before-3 : tie.After-wanted → tie.Start
+start-before-3 c = start-before-2 (c .before)
+
 start-requires : tie.Need-start-requires
 start-requires c κs =
     let l = c .before .before .before .before .before .pre .counted in
@@ -18,17 +28,17 @@ start-requires c κs =
 
 size-requires : tie.Need-size-requires
 size-requires c κs =
-    let l = c .before .before .before .before .before .before .pre .counted in
+    let l = (start-before c) .pre .counted in
     omega arith
 
 wanted-requires : tie.Need-wanted-requires
 wanted-requires c κs =
-    let start = c .before .before .before .before .before .before .before in
+    let start = (start-before-2 c) in
     condition-alternatives (start .args .axes .now) (start .args .lows .now) (start .args .highs .now) (start .args .ways .now) (start .args .conditions .now) (start .args .k) 1 (c .before .start .result) (c .size .result) (start .pre) (c .before .start .ensures) (c .size .ensures)
 
 returns : tie.Need-returns
 returns c = λ s k named.
-    let start = c .before .before .before .before .before .before .before .before .args in
+    let start = (start-before-3 c) .args in
     let first = c .before .before .start in
     let count = c .before .size in
     c .wanted .ensures s k named

@@ -28,24 +28,18 @@ infer-plain-at t = and 3 infer-plain-kinds.ps (is 3 infer-plain-kinds.ps μ-infe
 abbrev infer-plain-below : ℕ → In 3 infer-plain-kinds.ps
 infer-plain-below t = and 3 infer-plain-kinds.ps (falls 3 infer-plain-kinds.ps _<_ μ-infer-plain t) infer-plain.Pre
 
-infer-plain-returns : (t : ℕ) → infer-plain-lts.Need-returns (
-  step-reads.Asked,
-  step-reads.Learnt,
-  infer-plain-below t,
-  infer-plain.Post,
-) (infer-plain-at t) infer-plain.Post
+-- what the functions that are called ask and ensure
+abbrev claims : ℕ → infer-plain-lts.Claims
+claims t = (step-reads.Asked, step-reads.Learnt, infer-plain-below t, infer-plain.Post)
+
+infer-plain-returns : (t : ℕ) → infer-plain-lts.Need-returns (claims t) (infer-plain-at t) infer-plain.Post
 infer-plain-returns t c =
     λ s k i.
     let start = c .before .before .before .before .args in
     sym (ap (λ (ps : List (PlainStep ℕ)). inferAll (typesOf s) keepsAll (expandFrom tt i ps) (envIn s (start .e)))
     (plain-none (start .axes .now) (start .lows .now) (start .highs .now) (start .n) (start .k) (c .if1 .taken)))
 
-infer-plain-returns-2 : (t : ℕ) → infer-plain-lts.Need-returns-2 (
-  step-reads.Asked,
-  step-reads.Learnt,
-  infer-plain-below t,
-  infer-plain.Post,
-) (infer-plain-at t) infer-plain.Post
+infer-plain-returns-2 : (t : ℕ) → infer-plain-lts.Need-returns-2 (claims t) (infer-plain-at t) infer-plain.Post
 infer-plain-returns-2 t c =
     λ s k i.
     let start = c .before .before .before .before .before .before .before .before .before .args in
@@ -53,12 +47,7 @@ infer-plain-returns-2 t c =
     (envIn s (start .e)) (envIn s (c .before .step .result)) (envIn s (c .infer-plain .result)) (c .before .step .ensures s k) (c .infer-plain .ensures s k (suc i))
 
 pub +infer-plain-spec : {M : Type 1} → statement M
-+infer-plain-spec = close μ-infer-plain λ t. infer-plain-lts.spec (
-  step-reads.Asked,
-  step-reads.Learnt,
-  infer-plain-below t,
-  infer-plain.Post,
-)
++infer-plain-spec = close μ-infer-plain λ t. infer-plain-lts.spec (claims t)
     (infer-plain-at t)
     infer-plain.Post
     (λ c. search needs)

@@ -30,16 +30,11 @@ need-plain-at t = and 3 need-plain-kinds.ps (is 3 need-plain-kinds.ps μ-need-pl
 abbrev need-plain-below : ℕ → In 3 need-plain-kinds.ps
 need-plain-below t = and 3 need-plain-kinds.ps (falls 3 need-plain-kinds.ps _<_ μ-need-plain t) need-plain.Pre
 
-need-plain-returns : (t : ℕ) → need-plain-lts.Need-returns (
-  step-reads.Asked,
-  step-reads.Learnt,
-  need-plain-below t,
-  need-plain.Post,
-  empty-reads.Asked,
-  empty-reads.Learnt,
-  with-step-reads.Asked,
-  with-step-reads.Learnt,
-) (need-plain-at t) need-plain.Post
+-- what the functions that are called ask and ensure
+abbrev claims : ℕ → need-plain-lts.Claims
+claims t = (step-reads.Asked, step-reads.Learnt, need-plain-below t, need-plain.Post, empty-reads.Asked, empty-reads.Learnt, with-step-reads.Asked, with-step-reads.Learnt)
+
+need-plain-returns : (t : ℕ) → need-plain-lts.Need-returns (claims t) (need-plain-at t) need-plain.Post
 need-plain-returns t c =
     λ s k i.
     let start = c .before .before .before .before .before .args in
@@ -47,16 +42,7 @@ need-plain-returns t c =
     (sym (plain-none (start .axes .now) (start .lows .now) (start .highs .now) (start .n) (start .k) (c .if1 .taken)))
     (needs-last s keepsAll wantsNothing (envIn s (start .e)) (start .e .types) refl)
 
-need-plain-returns-2 : (t : ℕ) → need-plain-lts.Need-returns-2 (
-  step-reads.Asked,
-  step-reads.Learnt,
-  need-plain-below t,
-  need-plain.Post,
-  empty-reads.Asked,
-  empty-reads.Learnt,
-  with-step-reads.Asked,
-  with-step-reads.Learnt,
-) (need-plain-at t) need-plain.Post
+need-plain-returns-2 : (t : ℕ) → need-plain-lts.Need-returns-2 (claims t) (need-plain-at t) need-plain.Post
 need-plain-returns-2 t c =
     λ s k i.
     let later = c .before .before .need-plain in
@@ -68,16 +54,7 @@ need-plain-returns-2 t c =
     (later .ensures s k (suc i)) (c .with-step .ensures s k)
 
 pub +need-plain-spec : {M : Type 1} → statement M
-+need-plain-spec = close μ-need-plain λ t. need-plain-lts.spec (
-  step-reads.Asked,
-  step-reads.Learnt,
-  need-plain-below t,
-  need-plain.Post,
-  empty-reads.Asked,
-  empty-reads.Learnt,
-  with-step-reads.Asked,
-  with-step-reads.Learnt,
-)
++need-plain-spec = close μ-need-plain λ t. need-plain-lts.spec (claims t)
     (need-plain-at t)
     need-plain.Post
     (λ c. search needs)

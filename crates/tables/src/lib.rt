@@ -1,0 +1,92 @@
+// Tables that are handed in as lent columns: the test of refusal 1, without a text beside them and with one.
+ghost use mathlib.Core.Bool.{_&&_};
+ghost use mathlib.Core.Path.{_≡_};
+ghost use lib.Dec.{leb};
+ghost use Rattle.schema_spec.specs.Schemas.{Schema};
+ghost use Rattle.schema_spec.specs.Types.{typesOf};
+ghost use Rattle.table_passes.specs.Codes.{HeldWords};
+ghost use Rattle.table_spec.specs.Columns.{equalSizes};
+ghost use Rattle.tables.specs.Handed.{lentTable, isHeld, isBeside};
+use names::MAX_ELEMENTS;
+use table_rows::rows_fit;
+use text_ranges::texts_pass;
+
+// Whether columns of these lengths are of one length, and have so many rows.
+fn sizes_fit(
+    numbers: usize,
+    codes: usize,
+    parents: usize,
+    starts: usize,
+    lengths: usize,
+    count: usize,
+) -> bool
+    ensures { λ r. ⌜ r ≡ (equalSizes (record { numbers = numbers; names = codes; parents = parents; starts = starts; lengths = lengths }) && leb count numbers) ⌝ }
+{
+    if codes != numbers {
+        return false;
+    }
+    if parents != numbers {
+        return false;
+    }
+    if starts != numbers {
+        return false;
+    }
+    if lengths != numbers {
+        return false;
+    }
+    count <= numbers
+}
+
+// Whether the columns are a well-formed table of `count` rows. `words` has for each element of the schema the names that it holds.
+pub fn is_table(
+    numbers: &[u16],
+    codes: &[u8],
+    parents: &[u16],
+    starts: &[u32],
+    lengths: &[u16],
+    count: usize,
+    words: &[u64; MAX_ELEMENTS],
+) -> bool
+    ensures { λ r. ⌜ ((s : Schema) → HeldWords (typesOf s) (now (words .entry)) → r ≡ isHeld s (lentTable (now (numbers .entry)) (now (codes .entry)) (now (parents .entry)) (now (starts .entry)) (now (lengths .entry)) count)) ⌝ }
+{
+    if !sizes_fit(
+        numbers.len(),
+        codes.len(),
+        parents.len(),
+        starts.len(),
+        lengths.len(),
+        count,
+    ) {
+        return false;
+    }
+    rows_fit(numbers, codes, parents, starts, lengths, count, words)
+}
+
+// The same, and each text lies in the text that is lent beside the table, with bytes that pass 3.
+pub fn is_table_beside(
+    numbers: &[u16],
+    codes: &[u8],
+    parents: &[u16],
+    starts: &[u32],
+    lengths: &[u16],
+    count: usize,
+    words: &[u64; MAX_ELEMENTS],
+    lent: &[u8],
+) -> bool
+    ensures { λ r. ⌜ ((s : Schema) → HeldWords (typesOf s) (now (words .entry)) → r ≡ isBeside s (now (lent .entry)) (lentTable (now (numbers .entry)) (now (codes .entry)) (now (parents .entry)) (now (starts .entry)) (now (lengths .entry)) count)) ⌝ }
+{
+    if !sizes_fit(
+        numbers.len(),
+        codes.len(),
+        parents.len(),
+        starts.len(),
+        lengths.len(),
+        count,
+    ) {
+        return false;
+    }
+    if !rows_fit(numbers, codes, parents, starts, lengths, count, words) {
+        return false;
+    }
+    texts_pass(lent, codes, starts, lengths, count)
+}

@@ -1,0 +1,162 @@
+#!/usr/bin/env python3
+"""Writes crates/bundle_cases/stdin and stdout. With --check it compares instead.
+
+First the bundle cases of tests/vectors: each text after its length in two bytes, a schema's where 128 is added to the first byte, and the
+outcome that the case itself gives. Then each limit on both sides, undeclared names, and bundles made by a generator that always gives the
+same. What is compiled of an accepted one is worked out here from document 01 alone, by regular expressions: for each path its steps, for each
+step its condition's alternatives, for each alternative its steps, and of each step the axis and the codes that pass its test."""
+import itertools
+import json
+import os
+import random
+import re
+import sys
+
+HERE = os.path.dirname(os.path.abspath(__file__))
+CRATE = os.path.join(HERE, "..", "crates", "bundle_cases")
+AXES = ["self", "child", "descendant", "descendant-or-self", "parent", "ancestor", "ancestor-or-self"]
+# the cells before those of steps in brackets
+WRITTEN = 128
+SCHEMA = "<!ELEMENT a (b|c|%s)*><!ELEMENT b (#PCDATA)><!ELEMENT c EMPTY><!ELEMENT %s EMPTY>" % ("n" * 31, "n" * 31)
+
+
+def vectors():
+    with open(os.path.join(HERE, "vectors", "edge.jsonl"), encoding="utf-8") as f:
+        return [json.loads(line) for line in f]
+
+
+def declared(schema):
+    return re.findall(r"<!ELEMENT[ \t\n]+([A-Za-z_][A-Za-z0-9._-]*)", schema)
+
+
+def step(text, names):
+    """The axis of a step without brackets, and the codes that pass its test."""
+    axis, test = text.split("::")
+    low, high = {"node()": (0, 63), "text()": (32, 63)}.get(test) or (names.index(test),) * 2
+    return AXES.index(axis), low, high
+
+
+def columns(schema, bundle):
+    names = declared(schema)
+    paths, conditions, ends, outer, inner = [0], [0], [WRITTEN], [], []
+    for line in bundle.split("\n")[:-1]:
+        for written in re.findall(r"[^/\[\]]+(?:\[[^\]]*\])?", line):
+            bare, _, brackets = written.partition("[")
+            outer.append(step(bare, names))
+            for alternative in brackets[:-1].split(" or ") if brackets else []:
+                inner += [step(text, names) for text in alternative.split("/")]
+                ends.append(WRITTEN + len(inner))
+            conditions.append(len(ends) - 1)
+        paths.append(len(outer))
+    steps = outer + inner
+    lists = [paths, conditions, ends] + [[s[k] for s in steps] for k in range(3)]
+    return "".join("".join("%d " % n for n in numbers) + "\n" for numbers in lists)
+
+
+def accepted(schema, bundle):
+    return "ok %d\n" % bundle.count("\n") + columns(schema, bundle)
+
+
+def refused(number, place):
+    return "refused %d at %d\n" % (number, place)
+
+
+def limits():
+    """Each limit of 9 and of a text's length on both sides, and names of 31 and 32 bytes. A refused path comes after one that passes."""
+    first = "self::a\n"
+    for count in (8, 9):
+        yield first * count, None if count == 8 else refused(9, 8 * len(first))
+    for count in (16, 17):
+        yield first + "/".join(["child::b"] * count) + "\n", None if count == 16 else refused(9, len(first))
+    for count in (4, 5):
+        some = ["child::b"] * count
+        for joined in (" or ".join(some), "/".join(some)):
+            yield first + "self::a[%s]\n" % joined, None if count == 4 else refused(9, len(first))
+    # sixteen steps in brackets are not counted as the path's
+    yield first + "self::a[%s]/child::b\n" % " or ".join(["/".join(["child::b"] * 4)] * 4), None
+    for size in (512, 513):
+        yield first + path_of(size) + "\n", None if size == 512 else refused(9, len(first))
+    for size in (31, 32):
+        yield first + "child::%s\n" % ("n" * size), None if size == 31 else refused(8, len(first) + 7 + 31)
+    yield (path_of(512) + "\n") * 8, None
+    yield (path_of(512) + "\n") * 7 + path_of(513) + "\n", refused(2, 0)
+    # 9 before 10, 10 at the earliest name, in brackets or not
+    yield "self::z\n" + first * 8, refused(9, 8 * len(first))
+    yield first + "self::a[child::b/child::y]/child::z\n", refused(10, len(first) + len("self::a[child::b/child::"))
+    yield first + "self::z[child::y]\n", refused(10, len(first) + 6)
+    yield first + "self::a\n\tself::a\n", refused(8, 2 * len(first))
+    yield first + "self::a[child::b\tor child::c]\n", refused(8, len(first) + len("self::a[child::b"))
+    yield first + "self::a[child::b or\tchild::c]\n", refused(8, len(first) + len("self::a[child::b or"))
+    yield first + "chil::a\n", refused(8, len(first) + 4)
+
+
+def path_of(size):
+    """A path of so many bytes that passes no other limit: a step, nine with a condition, and four whose axes make up the length."""
+    text = "self::a" + "/self::a[child::b/child::b/child::b or child::c]" * 9
+    for four in itertools.combinations_with_replacement(AXES, 4):
+        tail = "".join("/%s::a" % axis for axis in four)
+        if len(text + tail) == size:
+            return text + tail
+    sys.exit("bundle_cases: no path of %d bytes" % size)
+
+
+def made():
+    choose = random.Random(1)
+    tests = ["a", "b", "c", "n" * 31, "node()", "text()"]
+
+    def plain():
+        return choose.choice(AXES) + "::" + choose.choice(tests)
+
+    def alternative():
+        return "/".join(plain() for _ in range(choose.randint(1, 4)))
+
+    for _ in range(60):
+        lines = []
+        for _ in range(choose.randint(1, 8)):
+            steps = [plain() for _ in range(choose.randint(1, 4))]
+            brackets = [" or ".join(alternative() for _ in range(choose.randint(1, 4))) if choose.random() < 0.3 else "" for _ in steps]
+            line = "/".join(s + ("[%s]" % c if c else "") for s, c in zip(steps, brackets))
+            if len(line) <= 512:
+                lines.append(line + "\n")
+        if lines:
+            yield "".join(lines)
+
+
+def text_case(text, schema):
+    return ((2 ** 15 if schema else 0) + len(text)).to_bytes(2, "big") + text.encode("latin-1")
+
+
+def main():
+    read, written, last = b"", "", None
+    for case in vectors():
+        if case["does"] == "bundle":
+            schema, bundle = case["texts"]
+            if schema != last:
+                read += text_case(schema, True)
+                last = schema
+            read += text_case(bundle, False)
+            written += accepted(schema, bundle) if case["gives"].startswith("ok") else case["gives"]
+            if case["gives"].startswith("ok") and case["gives"] != "ok %d\n" % bundle.count("\n"):
+                sys.exit("bundle_cases: a case of tests/vectors has another number of paths")
+    read += text_case(SCHEMA, True)
+    for bundle, outcome in limits():
+        read += text_case(bundle, False)
+        written += outcome or accepted(SCHEMA, bundle)
+    for bundle in made():
+        read += text_case(bundle, False)
+        written += accepted(SCHEMA, bundle)
+    # under a schema that is refused no bundle is read
+    read += text_case("<!ELEMENT a>", True) + text_case("self::a\n", False)
+    written += refused(1, 0)
+    for name, content in (("stdin", read), ("stdout", written.encode("ascii"))):
+        path = os.path.join(CRATE, name)
+        if "--check" in sys.argv[1:]:
+            with open(path, "rb") as f:
+                if f.read() != content:
+                    sys.exit("bundle_cases: %s is not what tests/bundle_cases.py says" % name)
+        else:
+            with open(path, "wb") as f:
+                f.write(content)
+
+
+main()
