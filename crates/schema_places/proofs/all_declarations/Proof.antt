@@ -33,7 +33,8 @@ abbrev past-of : tie.After-note Inv-loop μ-loop → tie.After-p Inv-loop μ-loo
 past-of c = c .before .before .before
 
 -- the columns have their lengths
-sizes : (c : tie.At-loop Inv-loop μ-loop) → (length (c .loop .names) ≡ length (start-of c .args .names .now)) × (length (c .loop .uses) ≡ length (start-of c .args .uses .now))
+sizes : (c : tie.At-loop Inv-loop μ-loop) → (length (c .loop .names) ≡ length (start-of c .args .names .now))
+    × (length (c .loop .uses) ≡ length (start-of c .args .uses .now))
 sizes c = (c .loop .inv .0 .room ∙ sym (start-of c .pre .0), c .loop .inv .0 .room-uses ∙ sym (start-of c .pre .1))
 
 -- ---- the answers
