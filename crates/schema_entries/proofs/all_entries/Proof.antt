@@ -1,6 +1,8 @@
 -- `all_entries` meets its contract: the entries of the declarations that were read are filled.
 use mathlib.Core.Path.{_≡_, refl, ap, _∙_}
-use Prim.Native.Nat.{_+_, _*_, _-_, _≤_}
+use Prim.Native.Nat.{ℕ, _+_, _*_, _-_, _≤_, _<_}
+use mir.Syntax.{w64}
+use mir.Val.{Fits}
 use Rattle.schema_entries.proofs.Filling.{Filled, filled-first, filled-next, filled-all}
 use Rattle.schema_entries.proofs.LentCells.{lent}
 use Rattle.schema_elements.specs.Reading.{AtDeclaration}
@@ -22,6 +24,41 @@ abbrev μ-loop : tie.MeasureT-loop
 μ-loop s uses count kinds₀ sizes₀ firsts₀ lasts₀ nullables₀ elements₀ predecessors₀ holds₀ at₀ n₀ d₀ kinds sizes firsts lasts nullables elements predecessors holds at n d =
     count - d
 
+-- ---- the element at hand is below the limit, so its cells have places
+small : (c : tie.In-loop Inv-loop μ-loop) → c .before .loop .d < maxDeclarations
+small c = let few = c .before .loop .inv .1 in omega arith
+
+-- places of its cells in the columns of positions, in cells and in bytes; of its word and of its set of names; and the element after it
+module _ {d : ℕ} (l : d < maxDeclarations) where
+  at-cells : Fits w64 (maxModelNames * d)
+  at-cells = search needs
+
+  past-cells : Fits w64 (maxModelNames * d + maxModelNames)
+  past-cells = search needs
+
+  at-cells-bytes : Fits w64 (maxModelNames * d * 8)
+  at-cells-bytes = search needs
+
+  at-word : Fits w64 (d * 8)
+  at-word = search needs
+
+  at-set : Fits w64 (d * 16)
+  at-set = search needs
+
+  at-next : Fits w64 (d + 1)
+  at-next = search needs
+
+further : (a : ℕ) → a ≤ a + maxModelNames
+further a = omega arith
+
+-- the same store into each column
+array-write : tie.Need-array-write-kinds Inv-loop μ-loop
+array-write c = small (c .before .before .before .before .before)
+
+mul-write : tie.Need-mul-sizes Inv-loop μ-loop
+mul-write c = at-word (small (c .before .before .before .before .before))
+
+-- ---- the answers
 loop-holds : tie.Need-loop-holds Inv-loop μ-loop
 loop-holds c =
     let start = c .before .before .before .before in
@@ -43,13 +80,6 @@ element-entry-requires c κs =
       lent (at .elements) (at .d) ∙ ap (λ x. x .elements) clear,
       lent (at .predecessors) (at .d) ∙ ap (λ x. x .predecessors) clear,
     )
-
--- the same at each column
-array-write : tie.Need-array-write-kinds Inv-loop μ-loop
-array-write c = search needs
-
-mul-write : tie.Need-mul-sizes Inv-loop μ-loop
-mul-write c = search needs
 
 add-n : tie.Need-add-n Inv-loop μ-loop
 add-n c =
@@ -94,13 +124,13 @@ all-entries-spec =
     (λ c κs. search needs)
     (λ c κs. search needs)
     loop-holds
+    (λ c. at-cells (small c))
+    (λ c. past-cells (small c))
+    (λ c. further (maxModelNames * c .before .loop .d))
     (λ c. search needs)
     (λ c. search needs)
-    (λ c. search needs)
-    (λ c. search needs)
-    (λ c. search needs)
-    (λ c. search needs)
-    (λ c. search needs)
+    (λ c. at-cells-bytes (small (c .before)))
+    (λ c. further (maxModelNames * c .before .before .loop .d))
     (λ c. search needs)
     (λ c. search needs)
     element-entry-requires
@@ -112,10 +142,10 @@ all-entries-spec =
     mul-write
     array-write
     array-write
-    (λ c. search needs)
-    (λ c. search needs)
+    (λ c. at-set (small (c .before .before .before .before .before .before)))
+    (λ c. small (c .before .before .before .before .before .before))
     add-n
-    (λ c. search needs)
+    (λ c. at-next (small (c .before .before .before .before .before .before .before)))
     (λ c. search needs)
     loop-again
     returns)

@@ -1,5 +1,5 @@
 -- `all_declarations` meets its contract: what was read up to i.
-use mathlib.Core.Path.{_≡_, refl}
+use mathlib.Core.Path.{_≡_, refl, sym, _∙_}
 use Prim.Native.Nat.{_-_}
 use lib.ListN.{length}
 use Rattle.schema_places.proofs.Limits.{all-start, all-none, all-spelt, all-fail, all-known, all-next}
@@ -32,6 +32,11 @@ declaration-of c = c .before .before .before .before .before
 abbrev past-of : tie.After-note Inv-loop μ-loop → tie.After-p Inv-loop μ-loop
 past-of c = c .before .before .before
 
+-- the columns have their lengths
+sizes : (c : tie.At-loop Inv-loop μ-loop) → (length (c .loop .names) ≡ length (start-of c .args .names .now))
+    × (length (c .loop .uses) ≡ length (start-of c .args .uses .now))
+sizes c = (c .loop .inv .0 .room ∙ sym (start-of c .pre .0), c .loop .inv .0 .room-uses ∙ sym (start-of c .pre .1))
+
 -- ---- the answers
 loop-holds : tie.Need-loop-holds Inv-loop μ-loop
 loop-holds c =
@@ -47,20 +52,10 @@ declaration-requires c κs =
     (test .loop-test .taken, test .before .loop .inv .0 .few-uses, test .before .loop .inv .0 .no-blank)
 
 same-length : tie.Need-same-length Inv-loop μ-loop
-same-length c =
-    let turn = test-of (c .before .before .before .before .before .before) .before in
-    let a = turn .loop .inv .0 .room in
-    let b = turn .loop .inv .0 .room-uses in
-    let e = start-of turn .pre in
-    search needs
+same-length c = let l = sizes (test-of (c .before .before .before .before .before .before) .before) .0 in search needs
 
 same-length-2 : tie.Need-same-length-2 Inv-loop μ-loop
-same-length-2 c =
-    let turn = test-of (c .before .before .before .before .before .before) .before in
-    let a = turn .loop .inv .0 .room in
-    let b = turn .loop .inv .0 .room-uses in
-    let e = start-of turn .pre in
-    search needs
+same-length-2 c = let l = sizes (test-of (c .before .before .before .before .before .before) .before) .1 in search needs
 
 returns : tie.Need-returns Inv-loop μ-loop
 returns c =
@@ -104,39 +99,19 @@ loop-again c =
     )
 
 same-length-3 : tie.Need-same-length-3 Inv-loop μ-loop
-same-length-3 c =
-    let turn = c .before .before in
-    let a = turn .loop .inv .0 .room in
-    let b = turn .loop .inv .0 .room-uses in
-    let e = start-of turn .pre in
-    search needs
+same-length-3 c = let l = sizes (c .before .before) .0 in search needs
 
 same-length-4 : tie.Need-same-length-4 Inv-loop μ-loop
-same-length-4 c =
-    let turn = c .before .before in
-    let a = turn .loop .inv .0 .room in
-    let b = turn .loop .inv .0 .room-uses in
-    let e = start-of turn .pre in
-    search needs
+same-length-4 c = let l = sizes (c .before .before) .1 in search needs
 
 returns-2 : tie.Need-returns-2 Inv-loop μ-loop
 returns-2 c = record { says = all-none (c .before .before .loop .inv .0) (c .before .loop-test .left) (c .if1 .taken) }
 
 same-length-5 : tie.Need-same-length-5 Inv-loop μ-loop
-same-length-5 c =
-    let turn = c .before .before in
-    let a = turn .loop .inv .0 .room in
-    let b = turn .loop .inv .0 .room-uses in
-    let e = start-of turn .pre in
-    search needs
+same-length-5 c = let l = sizes (c .before .before) .0 in search needs
 
 same-length-6 : tie.Need-same-length-6 Inv-loop μ-loop
-same-length-6 c =
-    let turn = c .before .before in
-    let a = turn .loop .inv .0 .room in
-    let b = turn .loop .inv .0 .room-uses in
-    let e = start-of turn .pre in
-    search needs
+same-length-6 c = let l = sizes (c .before .before) .1 in search needs
 
 returns-3 : tie.Need-returns-3 Inv-loop μ-loop
 returns-3 c = record { says = all-spelt (c .before .before .loop .inv .0) (c .before .loop-test .left) (c .if1 .left) }
