@@ -30,6 +30,10 @@ stored-length o k xs x e = ap length e ∙ length-sets o k xs
 pub set-length : (o : List ℕ) (k : ℕ) (xs x : List ℕ) (i b : ℕ) → x ≡ stored o k xs → length (set x i b) ≡ length o
 set-length o k xs x i b e = length-set x i b ∙ stored-length o k xs x e
 
+pub stored-nothing : (o : List ℕ) (k : ℕ) → stored o k [] ≡ o
+unfolding stored
+stored-nothing o k = refl
+
 -- one byte
 pub one-stored : (o : List ℕ) (k b : ℕ) → set o k b ≡ stored o k (b ∷ [])
 unfolding stored

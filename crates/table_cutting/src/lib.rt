@@ -12,7 +12,7 @@ use names::NameSet;
 use row_numbers::clear_from;
 
 // Clears the cells from `n` on.
-fn clear_bytes(out: &mut [u8], n: usize)
+pub fn clear_bytes(out: &mut [u8], n: usize)
     ensures { λ _. ⌜ Cleared (now (out .entry)) n (now (out .exit)) ⌝ }
 {
     let mut i = n;
