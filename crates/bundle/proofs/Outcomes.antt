@@ -6,16 +6,15 @@ use native.Mathlib.Omega.{arith}
 use lib.ListN.{length, take, replicate, length-map}
 use Rattle.bundle.specs.Judging.{reasonOf, outcomeOf, sized, JudgedAs, JudgedUnder, RefusedAs, Readable, Spelling}
 use Rattle.bundle.specs.declared.Judged.{Judged}
-use Rattle.bundle.specs.declared.Judgement.{Judgement}
-use Rattle.bundle.specs.declared.Judgement.the-variants.{Accepted, Refused}
+use Rattle.bundle.specs.declared.Judgement.the-variants.{Accepted}
 use Rattle.bundle.specs.declared.Kind.{Kind}
 use Rattle.bundle.specs.declared.Kind.the-variants.{BadLength, BadByte, BadGrammar, OverLimit, Undeclared}
-use Rattle.bundle_laws.specs.Filled.{Noted, noted-room, noted-shaped, noted-paths, read-noted, read-counts}
+use Rattle.bundle_laws.specs.Filled.{noted-room, noted-shaped, noted-paths, read-noted, read-counts}
 use Rattle.bundle_laws.specs.Limits.{over-first, over-none, limits-later}
 use Rattle.bundle_laws.specs.Names.{lostPlace, lost-none, lost-first}
 use Rattle.bundle_laws.specs.Order.{Later, later-none, later-all, later-append, Least, least-all, least-judged}
 use Rattle.bundle_laws.specs.Texts.{empty-refused, long-refused, length-right, foreign-refused, none-foreign}
-use Rattle.bundle_paths.specs.Readings.{LineCells, pathNoted, firstOver, BundleRead, BundleAs, ReadsBundle}
+use Rattle.bundle_paths.specs.Readings.{pathNoted, firstOver, BundleAs, ReadsBundle}
 use Rattle.bundle_paths.specs.declared.Bundled.{Bundled}
 use Rattle.bundle_paths.specs.declared.BundleOutcome.{BundleOutcome}
 use Rattle.bundle_paths.specs.declared.BundleOutcome.the-variants.{Past, Fail}
@@ -26,7 +25,7 @@ use Rattle.path_columns.specs.declared.Filled.{Filled}
 use Rattle.path_names.specs.Steps.{earliestOf, lostCell}
 use Rattle.path_spec.specs.Grammar.{PathRead}
 use Rattle.path_spec.specs.Machine.{parse}
-use Rattle.path_spec.specs.Paths.{LocationPath, resolvedPath}
+use Rattle.path_spec.specs.Paths.{resolvedPath}
 use Rattle.path_spec.specs.Reading.{limitRefusals, undeclaredPlaces, parsedRefusals, parsedPaths, bundleRefusals, readBundle}
 use Rattle.schema_spec.specs.Schemas.{Schema}
 use Rattle.text.specs.Places.{foreignPlace}
@@ -35,7 +34,7 @@ use Rattle.text_spec.specs.Bytes.{isForeign}
 use Rattle.text_spec.specs.Limits.{maxDeclarations, maxPaths, maxBundleBytes}
 use Rattle.text_spec.specs.Lists.{placesFrom}
 use Rattle.text_spec.specs.Machines.{Parsed, spells, departs}
-use Rattle.text_spec.specs.Refusals.{Reason, badLength, badByte, badPath, overPathLimit, undeclaredInPath, numberOf, Refusal, at, allAt, Outcome, accepted, refused, judged, resultOr}
+use Rattle.text_spec.specs.Refusals.{Reason, badLength, badByte, badPath, overPathLimit, undeclaredInPath, numberOf, Refusal, at, allAt, accepted, refused, judged, resultOr}
 use Rattle.text_spec.specs.Scans.{nameAt}
 use Rattle.text_spec.specs.Texts.{lengthRefusals, byteRefusals}
 

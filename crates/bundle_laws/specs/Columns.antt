@@ -1,9 +1,7 @@
 -- The columns of compiled paths that were filled from what was noted of a text stand for its paths, with their elements by index.
-use mathlib.Core.Bool.{Bool}
 use mathlib.Core.List.{List, [], _∷_, _++_, map, map-append, map-map, append-nil}
-use mathlib.Core.Option.{Option, none, some}
 use mathlib.Core.Path.{_≡_, refl, sym, ap, ap₂, subst, _∙_}
-use Prim.Native.Nat.{ℕ, zero, suc, _+_, _-_, _/_, _≤_, _<_}
+use Prim.Native.Nat.{ℕ, suc, _+_, _-_, _/_, _≤_, _<_}
 use native.Mathlib.Nat.{add-zero}
 use native.Mathlib.Numerals.{add-one}
 use native.Mathlib.Omega.{arith}
@@ -17,15 +15,14 @@ use Rattle.compiled_paths.specs.Columns.{axisOf, testOf, startAt, sizeAt, plain
 use Rattle.path_conditions.specs.Laws.{cells-append, ends-append, ends-length}
 use Rattle.path_conditions.specs.Readings.{cellsOf, endsFrom}
 use Rattle.path_lines.specs.Readings.{Written, stepNoted, conditionOf, outerCells, allPaths, conditionEnds}
-use Rattle.path_names.specs.Steps.{rangeOf, axisCell, lowCell, highCell}
+use Rattle.path_names.specs.Steps.{axisCell, lowCell, highCell}
 use Rattle.path_names.specs.declared.Range.{Range}
-use Rattle.path_spec.specs.Paths.{along, WrittenAxis, NodeTest, named, PlainStep, WrittenStep, Condition, unconditional, alternatives, LocationPath, fromRootElement, renameTest, renamePlain, renameCondition, renameStep, renamePath}
-use Rattle.path_steps.specs.Readings.{axisCount, stepAxis, stepTest, testNoted, plainNoted, useAt}
+use Rattle.path_spec.specs.Paths.{along, WrittenAxis, NodeTest, named, PlainStep, WrittenStep, Condition, alternatives, LocationPath, fromRootElement, renameTest, renamePlain, renameCondition, renameStep, renamePath}
+use Rattle.path_steps.specs.Readings.{axisCount, stepAxis, stepTest, plainNoted, useAt}
 use Rattle.schema_spec.specs.Declarations.{Use}
 use Rattle.schema_spec.specs.Schemas.{indexFrom}
 use Rattle.text_laws.specs.Tests.{cond-yes}
 use Rattle.text_spec.specs.Lists.{valueOr}
-use Rattle.text_spec.specs.Scans.{nameAt}
 
 -- ---- a list stands along a column
 abbrev pub Along : (ℕ → ℕ → Type 0) → ℕ → List ℕ → Type 0

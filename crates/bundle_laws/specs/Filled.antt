@@ -1,9 +1,9 @@
 -- What was noted of a bundle text within the limits has room in the columns of compiled paths, and the columns filled from it stand for its
 -- paths.
-use mathlib.Core.List.{List, [], _∷_, _++_, map, map-map}
+use mathlib.Core.List.{List, [], _∷_, map, map-map}
 use mathlib.Core.Option.{some}
 use mathlib.Core.Path.{_≡_, refl, sym, ap, ap₂, subst, _∙_}
-use Prim.Native.Nat.{ℕ, zero, suc, _+_, _%_, _/_, _≤_, _<_}
+use Prim.Native.Nat.{ℕ, zero, suc, _+_, _/_, _≤_, _<_}
 use native.Mathlib.Omega.{arith}
 use lib.ListN.{length, take, drop, getD, set, replicate, length-append, length-map, length-replicate}
 use lib.Seq.{sets, sets-eq, length-sets, length-take-le, take-at}
@@ -24,7 +24,7 @@ use Rattle.path_lines.specs.Readings.{Written, outerCells, allPaths, conditionE
 use Rattle.path_names.specs.Steps.{axisCell, lowCell, highCell}
 use Rattle.path_names.specs.declared.Range.{Range}
 use Rattle.path_spec.specs.Grammar.{PathRead}
-use Rattle.path_spec.specs.Paths.{NodeTest, LocationPath, resolvedPath, renamePath}
+use Rattle.path_spec.specs.Paths.{NodeTest, resolvedPath}
 use Rattle.path_steps.specs.Readings.{axisCount}
 use Rattle.schema_spec.specs.Declarations.{Use}
 use Rattle.schema_spec.specs.Schemas.{Schema, indexFrom, elementNamed}

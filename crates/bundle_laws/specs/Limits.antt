@@ -1,7 +1,7 @@
 -- The first path that passes a limit (9), against the refusals that the definition lists, and what holds where none does.
-use mathlib.Core.Bool.{Bool, true, false, cond, _||_}
+use mathlib.Core.Bool.{Bool, true, false, cond}
 use mathlib.Core.List.{List, [], _∷_, _++_, map, append-assoc, List·Memᴰ as In, List·Memᴰ·head as here, List·Memᴰ·tail as there}
-use mathlib.Core.Path.{_≡_, refl, sym, ap, subst, _∙_}
+use mathlib.Core.Path.{_≡_, refl, sym, ap, _∙_}
 use Prim.Native.Nat.{ℕ, suc, _+_, _*_, _≤_, _<_}
 use native.Mathlib.Omega.{arith}
 use borrow.Author.Tests.{leb-false, ltb-false}
@@ -20,7 +20,7 @@ use Rattle.path_spec.specs.Paths.{WrittenStep, Condition, conditionPaths}
 use Rattle.path_spec.specs.Reading.{passesConditionLimit, passesLimit, limitRefusals}
 use Rattle.path_steps.specs.Readings.{plainNoted}
 use Rattle.schema_spec.specs.Declarations.{Use}
-use Rattle.text_laws.specs.Tests.{or-false, never}
+use Rattle.text_laws.specs.Tests.{or-false}
 use Rattle.text_spec.specs.Limits.{maxSteps, maxAlternatives, maxPaths, maxPathBytes, maxBundleBytes}
 use Rattle.text_spec.specs.Lists.{anyOf, gather}
 use Rattle.text_spec.specs.Machines.{spells}

@@ -1,5 +1,5 @@
 -- The outcome where the refusals of one number come first: the least place of these.
-use mathlib.Core.List.{List, [], _∷_, _++_, List·Memᴰ as In, List·Memᴰ·append-cases as append-cases, Memᴰ·append-left as append-left}
+use mathlib.Core.List.{List, [], _++_, List·Memᴰ as In, List·Memᴰ·append-cases as append-cases, Memᴰ·append-left as append-left}
 use mathlib.Core.Logic.{⊎-elim}
 use mathlib.Core.Path.{_≡_, refl, sym, ap, subst, _∙_}
 use Prim.Native.Nat.{ℕ, _<_, _≤_}

@@ -1,7 +1,7 @@
 -- Laws of the record that is handed back, and of refusal 1 on it.
-use mathlib.Core.Bool.{Bool, true, false, cond, _&&_, _||_}
+use mathlib.Core.Bool.{Bool, true, false, _&&_, _||_}
 use mathlib.Core.List.{List, [], _++_}
-use mathlib.Core.Path.{_≡_, refl, sym, ap, ap₂, subst, _∙_}
+use mathlib.Core.Path.{_≡_, refl, sym, ap, ap₂, _∙_}
 use Prim.Native.Nat.{ℕ, _+_, _-_, _≤_, _<_}
 use native.Mathlib.Omega.{arith}
 use borrow.Author.Tests.{ltb-false, le-leb, lt-leb}
@@ -16,9 +16,8 @@ use Rattle.bundle.specs.declared.Judgement.the-variants.{Accepted as JudgedAcce
 use Rattle.bundle.specs.declared.Kind.{Kind}
 use Rattle.bundle_reader.specs.Records.{emptyBundle, Recorded, answerOf, handedBack, outcomeOf, readUnder, ReadAs, passesBundleRecord}
 use Rattle.bundle_reader.specs.declared.Answer.{Answer}
-use Rattle.bundle_reader.specs.declared.Answer.the-variants.{Accepted, BadRecord, Refused}
+use Rattle.bundle_reader.specs.declared.Answer.the-variants.{BadRecord}
 use Rattle.bundle_reader.specs.declared.Bundle.{Bundle}
-use Rattle.bundle_reader.specs.declared.BundleRead.{BundleRead}
 use Rattle.path_spec.specs.Paths.{LocationPath}
 use Rattle.path_spec.specs.Machine.{parse}
 use Rattle.path_spec.specs.Reading.{parsedRefusals, parsedPaths, bundleRefusals, readBundle, isBundleRecord}

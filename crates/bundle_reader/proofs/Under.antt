@@ -1,10 +1,9 @@
 -- Laws of judging under the schema in a text.
 use mathlib.Core.List.{List, [], _∷_, map}
-use mathlib.Core.Path.{_≡_, refl, sym, ap, subst, _∙_}
+use mathlib.Core.Path.{_≡_, refl, sym, ap, _∙_}
 use Prim.Native.Nat.{ℕ, zero, suc, _-_, _≤_}
 use native.Mathlib.Omega.{arith}
 use lib.ListN.{length, take}
-use lib.Seq.{length-take-le}
 use Rattle.schema.specs.Judging.{outcomeOf, sized, JudgedInto}
 use Rattle.schema.specs.declared.Judgement.{Judgement}
 use Rattle.schema.specs.declared.Judgement.the-variants.{Accepted, Refused}

@@ -1,13 +1,13 @@
 -- What the bundle reader's code answers and hands back is the library's outcome and record of a bundle, and its test of refusal 1 the
 -- library's test.
 use mathlib.Core.Bool.{Bool, true, false, cond, _&&_}
-use mathlib.Core.List.{List, []}
+use mathlib.Core.List.{List}
 use mathlib.Core.Option.{Option, none, some}
 use mathlib.Core.Path.{_≡_, refl, sym, ap, ap₂, _∙_}
 use Prim.Native.Nat.{ℕ}
 use lib.ListN.{take}
 use Rattle.bundle.specs.Judging.{sized}
-use Rattle.bundle_reader.specs.Records.{outcomeOf, readUnder, ReadAs, passesBundleRecord}
+use Rattle.bundle_reader.specs.Records.{outcomeOf, ReadAs, passesBundleRecord}
 use Rattle.bundle_reader.specs.declared.BundleRead.{BundleRead}
 use Rattle.path_spec.specs.Paths.{LocationPath}
 use Rattle.path_spec.specs.Reading.{readBundle}

@@ -1,11 +1,10 @@
 -- The columns of compiled paths, put together.
 use mathlib.Core.List.{List, map}
-use mathlib.Core.Path.{_≡_, refl, sym, ap, ap₂, _∙_}
+use mathlib.Core.Path.{_≡_, ap, ap₂, _∙_}
 use Prim.Native.Nat.{ℕ, _+_}
 use lib.ListN.{replicate}
 use lib.Seq.{sets}
 use Rattle.compiled_paths.specs.Sizes.{writtenSteps, allSteps}
-use Rattle.compiled_paths.specs.declared.CompiledPaths.{CompiledPaths}
 use Rattle.path_columns.specs.Filling.{stepColumn, filled}
 use Rattle.path_columns.specs.declared.Filled.{Filled}
 use Rattle.path_names.specs.Steps.{earliestOf, axisCell, lowCell, highCell, lostCell, Compiled}

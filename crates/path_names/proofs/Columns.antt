@@ -1,22 +1,17 @@
 -- Laws of steps compiled one after the other, and of tests.
-use mathlib.Core.Bool.{Bool, true, false, cond}
-use mathlib.Core.List.{List, [], _∷_, _++_, map, map-append}
-use mathlib.Core.Option.{Option, none, some}
+use mathlib.Core.List.{List, [], _∷_, _++_, map}
 use mathlib.Core.Path.{_≡_, refl, sym, ap, ap₂, subst, _∙_}
-use Prim.Native.Nat.{ℕ, suc, _+_, _-_, _/_, _≤_, _<_}
-use native.Mathlib.Numerals.{add-one}
+use Prim.Native.Nat.{ℕ, _+_, _-_, _/_, _≤_, _<_}
 use native.Mathlib.Omega.{arith}
 use borrow.Author.Tests.{eq-eqb, ne-eqb, lt-ltb, le-ltb}
-use lib.Dec.{eqb, ltb}
-use lib.ListN.{length, take, set, getD, length-map}
-use lib.Seq.{sets, take-suc, length-take-le, length-sets, take-length}
+use lib.ListN.{length, take, set, getD}
+use lib.Seq.{length-sets, take-length}
 use Rattle.path_names.specs.Columns.{map-next, column-next}
 use Rattle.path_names.specs.Steps.{lastCode, codes, nameRange, rangeOf, earliest, earliestOf, axisCell, lowCell, highCell, lostCell, Compiled}
 use Rattle.path_names.specs.declared.Range.{Range}
 use Rattle.path_steps.specs.Readings.{axisCount}
 use Rattle.schema_names.specs.NameLaws.{found-one, found-none}
 use Rattle.schema_spec.specs.Schemas.{indexFrom}
-use Rattle.text_laws.specs.Cells.{sets-append}
 use Rattle.text_laws.specs.Tests.{cond-yes, cond-no}
 use Rattle.text_spec.specs.Lists.{valueOr}
 use Rattle.text_spec.specs.Limits.{maxDeclarations}

@@ -1,5 +1,5 @@
 -- `copy` meets its contract: the first i bytes are copied.
-use mathlib.Core.List.{List, map, map-id}
+use mathlib.Core.List.{map, map-id}
 use mathlib.Core.Path.{_≡_, refl, ap, _∙_}
 use Prim.Native.Nat.{ℕ, _-_, _≤_}
 use native.Mathlib.Omega.{arith}

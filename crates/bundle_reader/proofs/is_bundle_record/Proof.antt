@@ -11,30 +11,17 @@ use native.Mathlib.Omega.{arith}
 use borrow.Author.Needs.{needs}
 use Rattle.bundle_reader.proofs.is_bundle_record.Statement.{statement}
 use Rattle.bundle_reader.proofs.is_bundle_record.Tie as tie
-use Rattle.bundle_reader.proofs.is_bundle_record.Reads as reads
-use Rattle.bundle_reader.proofs.is_bundle_record.Lts as lts
-use Rattle.bundle_reader.proofs.judge_under.Reads as judge-under-reads
-use Rattle.bundle_reader.proofs.recorded.Reads as recorded-reads
-use Rattle.schema_reader.proofs.is_schema_record.Reads as is-schema-record-reads
-use Rattle.schema_reader.proofs.same_cells.Reads as same-cells-reads
 
--- src/lib.rt:132:9
-is-schema-record-requires : tie.Need-is-schema-record-requires
-is-schema-record-requires c κs = search needs
-
--- src/lib.rt:133:9
 returns : tie.Need-returns
 returns c =
     let start = c .before .before in
     record-no-schema (passesRecord (start .args .schema .bytes) (start .args .schema .len)) (schemaIn (take (start .args .schema .len) (start .args .schema .bytes))) (start .args .bundle .bytes) (start .args .bundle .len) (sym (c .before .is-schema-record .ensures) ∙ not-true (c .before .is-schema-record .result) (c .if1 .taken))
 
--- src/lib.rt:137:9
 returns-2 : tie.Need-returns-2
 returns-2 c =
     let start = c .before .before .before in
     record-long (passesRecord (start .args .schema .bytes) (start .args .schema .len)) (schemaIn (take (start .args .schema .len) (start .args .schema .bytes))) (start .args .bundle .bytes) (start .args .bundle .len) (c .if2 .taken)
 
--- src/lib.rt:140:26
 array-share-prefix-cells : tie.Need-array-share-prefix-cells
 array-share-prefix-cells c =
     let start = c .before .before .before .before in
@@ -42,7 +29,6 @@ array-share-prefix-cells c =
     let room : length (start .args .bundle .bytes) ≡ maxBundleBytes = search needs in
     omega arith
 
--- src/lib.rt:140:26
 slice-aggregate-recorded : tie.Need-slice-aggregate-recorded
 slice-aggregate-recorded c =
     let start = c .before .before .before .before .before in
@@ -50,23 +36,6 @@ slice-aggregate-recorded c =
     let room : length (start .args .bundle .bytes) ≡ maxBundleBytes = search needs in
     sym (length-take-le (start .args .bundle .len) (start .args .bundle .bytes) (omega arith))
 
--- src/lib.rt:140:9
-recorded-requires : tie.Need-recorded-requires
-recorded-requires c κs = search needs
-
--- src/lib.rt:142:35
-slice-aggregate-same-cells : tie.Need-slice-aggregate-same-cells
-slice-aggregate-same-cells c = search needs
-
--- src/lib.rt:142:43
-slice-aggregate-same-cells-2 : tie.Need-slice-aggregate-same-cells-2
-slice-aggregate-same-cells-2 c = search needs
-
--- src/lib.rt:142:9
-same-cells-requires : tie.Need-same-cells-requires
-same-cells-requires c κs = search needs
-
--- src/lib.rt:143:9
 returns-3 : tie.Need-returns-3
 returns-3 c =
     let at-if3 = c in
@@ -75,7 +44,6 @@ returns-3 c =
     let room : length (start .args .bundle .bytes) ≡ maxBundleBytes = search needs in
     record-differs (passesRecord (start .args .schema .bytes) (start .args .schema .len)) (schemaIn (take (start .args .schema .len) (start .args .schema .bytes))) (start .args .bundle .bytes) (start .args .bundle .len) (at-if2 .if2 .left) room (at-if3 .before .before .before .before .before .recorded .ensures) (sym (at-if3 .before .same-cells .ensures) ∙ not-true (at-if3 .before .same-cells .result) (at-if3 .if3 .taken))
 
--- src/lib.rt:147:30
 array-share-prefix-bytes : tie.Need-array-share-prefix-bytes
 array-share-prefix-bytes c =
     let at-if3 = c .before in
@@ -86,7 +54,6 @@ array-share-prefix-bytes c =
     let wide : length (start .args .schema .bytes) ≡ maxSchemaBytes = search needs in
     omega arith
 
--- src/lib.rt:147:30
 slice-aggregate-judge-under : tie.Need-slice-aggregate-judge-under
 slice-aggregate-judge-under c =
     let at-if3 = c .before .before in
@@ -97,7 +64,6 @@ slice-aggregate-judge-under c =
     let wide : length (start .args .schema .bytes) ≡ maxSchemaBytes = search needs in
     sym (length-take-le (start .args .schema .len) (start .args .schema .bytes) (omega arith))
 
--- src/lib.rt:147:45
 array-share-prefix-cells-2 : tie.Need-array-share-prefix-cells-2
 array-share-prefix-cells-2 c =
     let at-if3 = c .before .before in
@@ -107,7 +73,6 @@ array-share-prefix-cells-2 c =
     let small = at-if2 .if2 .left in
     omega arith
 
--- src/lib.rt:147:45
 slice-aggregate-judge-under-2 : tie.Need-slice-aggregate-judge-under-2
 slice-aggregate-judge-under-2 c =
     let at-if3 = c .before .before .before in
@@ -117,19 +82,6 @@ slice-aggregate-judge-under-2 c =
     let small = at-if2 .if2 .left in
     sym (length-take-le (start .args .bundle .len) (start .args .bundle .bytes) (omega arith))
 
--- src/lib.rt:147:9
-judge-under-requires : tie.Need-judge-under-requires
-judge-under-requires c κs = search needs
-
--- src/lib.rt:150:35
-enum-told : tie.Need-enum-told
-enum-told c = search needs
-
--- src/lib.rt:151:37
-enum-told-2 : tie.Need-enum-told-2
-enum-told-2 c = search needs
-
--- src/lib.rt:129:1
 returns-4 : tie.Need-returns-4
 returns-4 c =
     let at-if3 = c .before .before .before .before .before .before in
@@ -138,7 +90,6 @@ returns-4 c =
     let room : length (start .args .bundle .bytes) ≡ maxBundleBytes = search needs in
     record-accepted (passesRecord (start .args .schema .bytes) (start .args .schema .len)) (schemaIn (take (start .args .schema .len) (start .args .schema .bytes))) (start .args .bundle .bytes) (start .args .bundle .len) (at-if2 .if2 .left) room (at-if3 .before .before .before .before .before .recorded .ensures) (sym (at-if2 .before .before .is-schema-record .ensures) ∙ not-false (at-if2 .before .before .is-schema-record .result) (at-if2 .before .if1 .left)) (sym (at-if3 .before .same-cells .ensures) ∙ not-false (at-if3 .before .same-cells .result) (at-if3 .if3 .left)) (c .before .before .judge-under .ensures) (c .enum-told .given .1)
 
--- src/lib.rt:129:1
 returns-5 : tie.Need-returns-5
 returns-5 c =
     let at-if3 = c .before .before .before .before .before .before in
@@ -151,22 +102,22 @@ pub is-bundle-record-spec : {M : Type 1} → statement M
 is-bundle-record-spec =
     tie.close
     (tie.spec
-    is-schema-record-requires
+    (λ c κs. search needs)
     returns
     returns-2
     array-share-prefix-cells
     slice-aggregate-recorded
-    recorded-requires
-    slice-aggregate-same-cells
-    slice-aggregate-same-cells-2
-    same-cells-requires
+    (λ c κs. search needs)
+    (λ c. search needs)
+    (λ c. search needs)
+    (λ c κs. search needs)
     returns-3
     array-share-prefix-bytes
     slice-aggregate-judge-under
     array-share-prefix-cells-2
     slice-aggregate-judge-under-2
-    judge-under-requires
-    enum-told
-    enum-told-2
+    (λ c κs. search needs)
+    (λ c. search needs)
+    (λ c. search needs)
     returns-4
     returns-5)

@@ -1,5 +1,4 @@
 -- `test_range` meets its contract: the two tests that are called, then the name.
-use native.Mathlib.Omega.{arith}
 use borrow.Author.Needs.{needs}
 use Rattle.path_names.proofs.Columns.{range-node, range-text, range-lost, range-named}
 use Rattle.path_names.proofs.test_range.Statement.{statement}
