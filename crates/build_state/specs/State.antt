@@ -86,6 +86,10 @@ endedWith fits depth k m = build depth (m .count) (notedKey (not fits) 15 k (m .
 abbrev pub texted : Build → ℕ → ℕ → Build
 texted m k size = build (m .depth) (m .count + 1) (notedKey (ltb maxTextBytes size || leb maxNodes (m .count)) 16 k (m .fault))
 
+-- the journal ends with an element open, or without a root, and nesting is not broken
+abbrev pub endsShort : Build → Bool
+endsShort m = leb judgedFrom (m .fault) && (not (eqb (m .depth) 0) || eqb (m .count) 0)
+
 abbrev pub step : Build → RowCells → BuildStep
 step m row = record { build = m; row = row }
 

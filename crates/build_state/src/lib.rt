@@ -3,10 +3,11 @@ ghost use mathlib.Core.Bool.{not, _&&_, _||_};
 ghost use mathlib.Core.Path.{_≡_};
 ghost use Prim.Native.Nat.{_+_, _-_, _%_, _≤_, _<_};
 ghost use lib.Dec.{eqb, leb};
-ghost use Rattle.build_state.specs.State.{judgedFrom, isSecondRoot, isWrongRoot, build, begun, brokenBy, endedWith, texted, elementCells, textCells, noRow, step};
-ghost use Rattle.fault_keys.specs.Keys.{noKey, placeLimit};
+ghost use Rattle.build_state.specs.State.{judgedFrom, isSecondRoot, isWrongRoot, build, begun, brokenBy, endedWith, texted, elementCells, textCells, noRow, step, endsShort};
+ghost use Rattle.fault_keys.specs.Keys.{noKey, placeLimit, notedKey};
 ghost use Rattle.text_spec.specs.Limits.{maxDepth};
 use fault_keys::BAD_CONTENT;
+use fault_keys::BAD_NESTING;
 use fault_keys::OVER_NODE_LIMIT;
 use fault_keys::PLACE_LIMIT;
 use fault_keys::UNDECLARED_ELEMENT;
@@ -140,6 +141,33 @@ pub fn with_text(m: Build, start: u32, size: u32) -> Build
         count: m.count + 1,
         fault,
     }
+}
+
+// Whether an element is open, or there is no root.
+fn is_unfinished(m: Build) -> bool
+    ensures { λ r. ⌜ r ≡ (not (eqb (m .depth) 0) || eqb (m .count) 0) ⌝ }
+{
+    if m.depth != 0 {
+        return true;
+    }
+    m.count == 0
+}
+
+fn ends_short(m: Build) -> bool
+    ensures { λ r. ⌜ r ≡ endsShort m ⌝ }
+{
+    if is_judged(m) {
+        is_unfinished(m)
+    } else {
+        false
+    }
+}
+
+// The first refusal at the end, which stands at a place: 12 if an element is open, or there was no root.
+pub fn fault_at_end(m: Build, at: u32) -> u64
+    ensures { λ r. ⌜ r ≡ notedKey (endsShort m) 12 at (m .fault) ⌝ }
+{
+    noted(m.fault, ends_short(m), BAD_NESTING, at)
 }
 
 // The row of the element e.

@@ -19,7 +19,7 @@ pub const WORDS: usize = 4 * MAX_ELEMENTS;
 pub const HASHES: usize = 256;
 
 // Where to look first for a name. Nothing is promised of it but its range: what stands there is verified.
-fn hash(name: Name) -> usize
+pub fn hash(name: Name) -> usize
     ensures { λ r. ⌜ r < 256 ⌝ }
 {
     let x = name.a ^ name.b ^ name.c ^ name.d;

@@ -3,6 +3,7 @@ ghost use mathlib.Core.Bool.{true};
 ghost use mathlib.Core.List.{List};
 ghost use mathlib.Core.Path.{_≡_};
 ghost use Prim.Native.Nat.{ℕ, _≤_, _<_};
+ghost use lib.Dec.{eqb};
 ghost use lib.ListN.{length};
 ghost use Rattle.build_state.specs.Starts.{isInnermost};
 ghost use Rattle.build_state.specs.State.{Safe, Built, Leaves, SafeStep, outsideBy};
@@ -12,6 +13,7 @@ ghost use Rattle.journal_spec.specs.Builder.{Building, onEnd, onRun};
 ghost use Rattle.journal_spec.specs.Lexer.{run};
 ghost use Rattle.journal_state.specs.Places.{placeOr};
 ghost use Rattle.name_words.specs.Words.{Spells};
+ghost use Rattle.schema_elements.specs.Entries.{pcdataKind};
 ghost use Rattle.schema_spec.specs.Schemas.{Schema};
 ghost use Rattle.text_spec.specs.Limits.{maxDeclarations, maxDepth};
 ghost use Rattle.text_spec.specs.Lists.{isNone};
@@ -85,6 +87,13 @@ fn outside(m: Build, solid: u32) -> Build
     build_state::broken(m, BAD_NESTING, solid)
 }
 
+// Whether a run in content of this kind makes a node, though it be only blanks.
+fn is_text(kind: u64) -> bool
+    ensures { λ r. ⌜ r ≡ eqb kind pcdataKind ⌝ }
+{
+    kind == PCDATA
+}
+
 // A run of character data: where it starts, its first byte that is not a blank or NONE, how many bytes it has.
 pub fn on_run(levels: &mut [u64; LEVELS], m: Build, start: u32, solid: u32, size: u32) -> BuildStep
     requires { ⌜ Safe (now levels) m × (m .count < placeLimit) ⌝ }
@@ -98,10 +107,10 @@ pub fn on_run(levels: &mut [u64; LEVELS], m: Build, start: u32, solid: u32, size
     let old = level.filling;
     let new = content_fit::with_run(old, solid == NONE);
     open_levels::refill(levels, d, new);
-    if old.kind != PCDATA {
-        return build_state::without_row(m);
+    if is_text(old.kind) {
+        let row: RowCells = build_state::text_row(old.element, level.row, start, size);
+        let build = build_state::with_text(m, start, size);
+        return BuildStep { build, row };
     }
-    let row: RowCells = build_state::text_row(old.element, level.row, start, size);
-    let build = build_state::with_text(m, start, size);
-    BuildStep { build, row }
+    build_state::without_row(m)
 }

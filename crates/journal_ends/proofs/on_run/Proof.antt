@@ -1,16 +1,15 @@
 use mathlib.Core.Path.{_≡_, refl, sym, ap, ap₂, _∙_}
 use native.Mathlib.Omega.{arith}
+use borrow.Author.Tests.{eqb-true, eqb-false}
 use denote.Ref.{now}
 use Rattle.build_state.specs.Runs.{outside-safe, outside-leaves, run-plain, run-text, text-safe}
 use Rattle.build_state.specs.State.{noRow, step}
 use Rattle.build_state.specs.StateLaws.{leaves-as, safe-as}
 use Rattle.build_state.specs.declared.Build.{Build}
+use Rattle.schema_elements.specs.Entries.{pcdataKind}
 use borrow.Author.Needs.{needs}
 use Rattle.journal_ends.proofs.on_run.Statement.{statement}
 use Rattle.journal_ends.proofs.on_run.Tie as tie
-
-with-text-requires : tie.Need-with-text-requires
-with-text-requires c κs = c .before .before .before .before .before .before .before .before .before .before .pre .1
 
 returns : tie.Need-returns
 returns c =
@@ -24,20 +23,6 @@ returns c =
 
 returns-2 : tie.Need-returns-2
 returns-2 c =
-    let stored = c .before .before .before in
-    let new = stored .before .before in
-    let loaded = new .before .before in
-    let start = loaded .before .before .before in
-    let g = start .args in (
-      safe-as (c .without-row2 .ensures) (record { safe = record { all = stored .refill .ensures .long; shallow = start .pre .0 .shallow }; counted = omega arith }),
-      λ s b few u w.
-          leaves-as (c .without-row2 .ensures) refl
-          (run-plain s b (now (g .levels)) _ (g .m) u w (g .start) (g .solid) (g .size) (loaded .load .result) (new .with-run .result) (loaded .before .before .if1 .left) (loaded .load .ensures)
-          (stored .refill .ensures) (new .with-run .ensures s) noRow (c .before .if2 .taken)),
-    )
-
-returns-3 : tie.Need-returns-3
-returns-3 c =
     let stored = c .before .before .before .before in
     let new = stored .before .before in
     let loaded = new .before .before in
@@ -48,10 +33,26 @@ returns-3 c =
       λ s b few u w.
           leaves-as same refl
           (run-text s b (now (g .levels)) _ (g .m) u w (g .start) (g .solid) (g .size) (loaded .load .result) (new .with-run .result) (loaded .before .before .if1 .left) (loaded .load .ensures)
-          (stored .refill .ensures) (new .with-run .ensures s) few (omega (arith, start .fits)) (c .before .before .if2 .left)),
+          (stored .refill .ensures) (new .with-run .ensures s) few (omega (arith, start .fits))
+          (eqb-true (loaded .load .result .filling .kind) pcdataKind (sym (c .before .before .before .is-text .ensures) ∙ c .before .before .if2 .taken))),
+    )
+
+returns-3 : tie.Need-returns-3
+returns-3 c =
+    let stored = c .before .before .before in
+    let new = stored .before .before in
+    let loaded = new .before .before in
+    let start = loaded .before .before .before in
+    let g = start .args in (
+      safe-as (c .without-row2 .ensures) (record { safe = record { all = stored .refill .ensures .long; shallow = start .pre .0 .shallow }; counted = omega arith }),
+      λ s b few u w.
+          leaves-as (c .without-row2 .ensures) refl
+          (run-plain s b (now (g .levels)) _ (g .m) u w (g .start) (g .solid) (g .size) (loaded .load .result) (new .with-run .result) (loaded .before .before .if1 .left) (loaded .load .ensures)
+          (stored .refill .ensures) (new .with-run .ensures s) noRow
+          (eqb-false (loaded .load .result .filling .kind) pcdataKind (sym (c .before .before .is-text .ensures) ∙ c .before .if2 .left))),
     )
 
 pub on-run-spec : {M : Type 1} → statement M
 on-run-spec =
     tie.close
-    (tie.spec (λ c κs. search needs) (λ c κs. search needs) returns (λ c κs. search needs) (λ c κs. search needs) (λ c κs. search needs) (λ c κs. search needs) returns-2 (λ c κs. search needs) with-text-requires returns-3)
+    (tie.spec (λ c κs. search needs) (λ c κs. search needs) returns (λ c κs. search needs) (λ c κs. search needs) (λ c κs. search needs) (λ c κs. search needs) (λ c κs. search needs) (λ c κs. search needs) returns-2 (λ c κs. search needs) returns-3)
