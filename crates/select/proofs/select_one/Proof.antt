@@ -35,7 +35,8 @@ append-requires c κs =
 returns-2 : tie.Need-returns-2
 returns-2 c =
     let after-select-path = select-path-before-2 c in
-    one-selected _ _ _ _ _ _ _ _ _ _ ((start-before-2 (else1-before after-select-path)) .pre) _ _ _ _ (after-select-path .select-path .ensures) (c .before .before .append .ensures)
+    one-selected _ _ _ _ _ _ _ _ _ _ ((start-before-2 (else1-before after-select-path)) .pre) _ _ _ _ (after-select-path .select-path .ensures)
+    (c .before .before .append .ensures)
 
 pub select-one-spec : {M : Type 1} → statement M
 select-one-spec =

@@ -38,7 +38,8 @@ select-one-requires : tie.Need-select-one-requires Inv-loop μ-loop
 select-one-requires c κs =
     let turn = c .before .before .before .before .before .before in
     let at = turn .loop in
-    paths-one _ _ _ _ _ _ _ _ (at .i) (at .n) (at .items) (at .counts) (at .marks) (at .held) (at .steps) (at .next) (at .inv) _ _ _ _ ((start-before-2 turn) .pre) (omega arith)
+    paths-one _ _ _ _ _ _ _ _ (at .i) (at .n) (at .items) (at .counts) (at .marks) (at .held) (at .steps) (at .next) (at .inv) _ _ _ _
+    ((start-before-2 turn) .pre) (omega arith)
 
 sub-put-count : tie.Need-sub-put-count Inv-loop μ-loop
 sub-put-count c = omega (arith, in-loop-before (select-one-before c) .before .loop .inv .low)

@@ -69,7 +69,8 @@ returns : tie.Need-returns
 returns c =
     let after-steps-from-root = steps-from-root-before c in
     let after-range-size = range-size-before-3 after-steps-from-root in
-    path-marked _ _ _ _ _ _ _ _ ((start-before-4 after-range-size) .pre) _ _ (after-range-size .range-size .ensures) (after-steps-from-root .steps-from-root .ensures)
+    path-marked _ _ _ _ _ _ _ _ ((start-before-4 after-range-size) .pre) _ _ (after-range-size .range-size .ensures)
+    (after-steps-from-root .steps-from-root .ensures)
 
 pub select-path-spec : {M : Type 1} → statement M
 select-path-spec =

@@ -39,7 +39,8 @@ loop-holds c = steps-begun _ _ _ _ _ _ _ _ _ _ _ _ _ ((start-before c) .pre)
 returns : tie.Need-returns Inv-loop μ-loop
 returns c =
     let at = c .before .before .before .before .loop in
-    steps-ended _ _ _ _ _ _ _ _ _ _ (at .k) (at .marks) (at .held) (at .steps) (at .next) (at .inv) (sym (c .before .any-marked .ensures) ∙ not-true _ (c .if1 .taken))
+    steps-ended _ _ _ _ _ _ _ _ _ _ (at .k) (at .marks) (at .held) (at .steps) (at .next) (at .inv)
+    (sym (c .before .any-marked .ensures) ∙ not-true _ (c .if1 .taken))
 
 step-requires : tie.Need-step-requires Inv-loop μ-loop
 step-requires c κs =
@@ -51,7 +52,8 @@ loop-again : tie.Need-loop-again Inv-loop μ-loop
 loop-again c =
     let after-step = step-before c in
     let at = (loop-before-2 after-step) .loop in
-    steps-next _ _ _ _ _ _ _ _ _ _ (at .k) (at .marks) (at .held) (at .steps) (at .next) (at .inv) _ _ _ _ (omega arith) (after-step .step .ensures) (omega arith) (omega arith) (omega arith)
+    steps-next _ _ _ _ _ _ _ _ _ _ (at .k) (at .marks) (at .held) (at .steps) (at .next) (at .inv) _ _ _ _ (omega arith) (after-step .step .ensures)
+    (omega arith) (omega arith) (omega arith)
 
 returns-2 : tie.Need-returns-2 Inv-loop μ-loop
 returns-2 c =

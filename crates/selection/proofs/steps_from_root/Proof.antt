@@ -29,7 +29,8 @@ returns : tie.Need-returns
 returns c =
     let then1 = c .before .before .before .before in
     let start = start-before then1 in
-    no-steps _ _ (start .args .axes .now) (start .args .lows .now) (start .args .highs .now) _ _ _ _ _ _ _ _ (start .pre) _ (then1 .if1 .taken) (c .before .before .mark-root .ensures)
+    no-steps _ _ (start .args .axes .now) (start .args .lows .now) (start .args .highs .now) _ _ _ _ _ _ _ _ (start .pre) _ (then1 .if1 .taken)
+    (c .before .before .mark-root .ensures)
 
 first-step-requires : tie.Need-first-step-requires
 first-step-requires c κs =
@@ -51,7 +52,8 @@ steps-from-requires c κs =
     let after-first-step = after-held .before .before .before in
     let else1 = else1-before after-first-step in
     let start = start-before-2 else1 in
-    later-pass _ _ (start .args .axes .now) (start .args .lows .now) (start .args .highs .now) _ _ _ _ _ _ _ _ (start .pre) _ (after-first-step .first-step .ensures) (else1 .if1 .left) _ _ _
+    later-pass _ _ (start .args .axes .now) (start .args .lows .now) (start .args .highs .now) _ _ _ _ _ _ _ _ (start .pre) _
+    (after-first-step .first-step .ensures) (else1 .if1 .left) _ _ _
     (omega (arith, after-held .held .given)) (omega (arith, after-steps .steps .given)) (omega (arith, after-next .next .given))
 
 returns-2 : tie.Need-returns-2
@@ -60,7 +62,8 @@ returns-2 c =
     let after-first-step = next-before after-steps-from .before .before .before .before .before .before .before in
     let else1 = else1-before after-first-step in
     let start = start-before-2 else1 in
-    later-marked _ _ (start .args .axes .now) (start .args .lows .now) (start .args .highs .now) _ _ _ _ _ _ _ _ (start .pre) _ (after-first-step .first-step .ensures) (else1 .if1 .left) _ (after-steps-from .steps-from .ensures)
+    later-marked _ _ (start .args .axes .now) (start .args .lows .now) (start .args .highs .now) _ _ _ _ _ _ _ _ (start .pre) _
+    (after-first-step .first-step .ensures) (else1 .if1 .left) _ (after-steps-from .steps-from .ensures)
 
 pub steps-from-root-spec : {M : Type 1} → statement M
 steps-from-root-spec =

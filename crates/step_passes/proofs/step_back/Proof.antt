@@ -26,7 +26,8 @@ returns c =
     let then1 = c .before .before .before .before in
     let after-any-marked = then1 .before in
     let after-filter-test = filter-test-before after-any-marked in
-    none-back _ _ _ _ ((start-before-2 after-filter-test) .pre) _ _ _ (after-filter-test .filter-test .ensures) _ _ (sym (after-any-marked .any-marked .ensures) ∙ not-true _ (then1 .if1 .taken))
+    none-back _ _ _ _ ((start-before-2 after-filter-test) .pre) _ _ _ (after-filter-test .filter-test .ensures) _ _
+    (sym (after-any-marked .any-marked .ensures) ∙ not-true _ (then1 .if1 .taken))
     (c .before .before .fill .ensures)
 
 axis-image-requires : tie.Need-axis-image-requires

@@ -23,14 +23,16 @@ keep-requires : tie.Need-keep-requires
 keep-requires c κs =
     let after-range-size = c .before .before .before .before in
     let start = start-before after-range-size in
-    at-keep _ _ (start .args .axes .now) (start .args .lows .now) (start .args .highs .now) _ _ _ _ _ _ _ (start .pre) _ (after-range-size .range-size .ensures)
+    at-keep _ _ (start .args .axes .now) (start .args .lows .now) (start .args .highs .now) _ _ _ _ _ _ _ (start .pre) _
+    (after-range-size .range-size .ensures)
 
 returns : tie.Need-returns
 returns c =
     let after-keep = keep-before c in
     let after-range-size = range-size-before after-keep in
     let start = start-before after-range-size in
-    at-kept _ _ (start .args .axes .now) (start .args .lows .now) (start .args .highs .now) _ _ _ _ _ _ _ (start .pre) _ _ (after-range-size .range-size .ensures) (after-keep .keep .ensures)
+    at-kept _ _ (start .args .axes .now) (start .args .lows .now) (start .args .highs .now) _ _ _ _ _ _ _ (start .pre) _ _
+    (after-range-size .range-size .ensures) (after-keep .keep .ensures)
 
 pub keep-at-spec : {M : Type 1} → statement M
 keep-at-spec =
