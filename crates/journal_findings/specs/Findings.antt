@@ -19,15 +19,19 @@ use Rattle.journal_state.specs.Places.{noPlace, tagAt, foreignAt}
 use Rattle.reader_state.specs.Reading.{foreignKey, ForeignCell}
 use Rattle.schema_spec.specs.Schemas.{Schema}
 use Rattle.text_spec.specs.Lists.{isEmpty, isNone, listOf}
-use Rattle.text_spec.specs.Refusals.{at, allAt, misspelt}
+use Rattle.text_spec.specs.Refusals.{allAt, misspelt}
 
 -- nesting is not broken, and an element is open or there was none
 abbrev pub endsBefore : Build → Bool
 endsBefore m = cond (leb judgedFrom (m .fault)) (cond (eqb (m .depth) 0) (eqb (m .count) 0) true) false
 
+-- the least key of 12 at the end, 11 at a place, 3 at a place, and what the builder found
+abbrev pub keyFrom : ℕ → Build → ℕ → ℕ → ℕ → ℕ
+keyFrom mode m n at foreign =
+    notedKey (not (eqb foreign noPlace)) 3 foreign (notedKey (ltb 4 mode) 11 at (notedKey (endsBefore m) 12 n (m .fault)))
+
 abbrev pub foundKey : List ℕ → ℕ → Build → ℕ → ℕ
-foundKey p mode m n =
-    notedKey (not (eqb (foreignAt p) noPlace)) 3 (foreignAt p) (notedKey (ltb 4 mode) 11 (tagAt p) (notedKey (endsBefore m) 12 n (m .fault)))
+foundKey p mode m n = keyFrom mode m n (tagAt p) (foreignAt p)
 
 early-test : {s : Schema} {levels : List ℕ} {m : Build} {c : Building} → Built s levels m c → endsBefore m ≡ isEarly c
 early-test {m = m} {c = c} w =

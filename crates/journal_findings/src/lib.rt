@@ -4,8 +4,8 @@ ghost use Prim.Native.Nat.{_<_};
 ghost use lib.ListN.{length};
 ghost use Rattle.fault_keys.specs.Keys.{placeLimit};
 ghost use Rattle.journal_findings.specs.Endings.{isDataMode, withEvent, Ended};
-ghost use Rattle.journal_findings.specs.Findings.{endsBefore, foundKey};
-ghost use Rattle.journal_state.specs.Places.{noPlace};
+ghost use Rattle.journal_findings.specs.Findings.{endsBefore, keyFrom, foundKey};
+ghost use Rattle.journal_state.specs.Places.{noPlace, tagAt, foreignAt};
 use build_state::Build;
 use fault_keys::BAD_BYTE;
 use fault_keys::BAD_NESTING;
@@ -70,17 +70,19 @@ fn ends_early(m: Build) -> bool
     false
 }
 
+fn key_of(mode: u8, m: Build, n: usize, at: u32, foreign: u32) -> u64
+    requires { ⌜ n < noPlace ⌝ }
+    ensures { λ r. ⌜ (r ≡ keyFrom mode m n at foreign) × (at < placeLimit) × (foreign < placeLimit) ⌝ }
+{
+    let early = noted(m.fault, ends_early(m), BAD_NESTING, n as u32);
+    let misspelt = noted(early, AFTER_BRACKETS < mode, MISSPELT, at);
+    noted(misspelt, foreign != NONE, BAD_BYTE, foreign)
+}
+
 // The key of the first refusal of a text of n bytes that stands within its limit.
 pub fn found_key(places: &[u32; 4], l: Lex, m: Build, n: usize) -> u64
     requires { ⌜ n < noPlace ⌝ }
-    ensures { λ r. ⌜ r ≡ foundKey (now (places .entry)) (l .mode) m n ⌝ }
+    ensures { λ r. ⌜ (r ≡ foundKey (now (places .entry)) (l .mode) m n) × (tagAt (now (places .entry)) < placeLimit) × (foreignAt (now (places .entry)) < placeLimit) ⌝ }
 {
-    let early = noted(m.fault, ends_early(m), BAD_NESTING, n as u32);
-    let misspelt = noted(early, AFTER_BRACKETS < l.mode, MISSPELT, places[AT]);
-    noted(
-        misspelt,
-        places[FOREIGN_AT] != NONE,
-        BAD_BYTE,
-        places[FOREIGN_AT],
-    )
+    key_of(l.mode, m, n, places[AT], places[FOREIGN_AT])
 }

@@ -1,0 +1,85 @@
+// A journal read into cleared columns, with the stack of open elements and the places as local cells.
+ghost use mathlib.Core.Path.{_≡_};
+ghost use Prim.Native.Nat.{_≤_, _<_};
+ghost use lib.ListN.{length};
+ghost use Rattle.content_fit.specs.Fillings.{Sized};
+ghost use Rattle.journal_events.specs.Events.{schemaCells};
+ghost use Rattle.journal_reader.specs.Journals.{JournalRead};
+ghost use Rattle.journal_state.specs.Places.{noPlace};
+ghost use Rattle.row_columns.specs.Columns.{columns, EqualColumns};
+ghost use Rattle.text_spec.specs.Limits.{maxDeclarations};
+use element_names::HASHES;
+use element_names::WORDS;
+use journal_reader_end::Found;
+use journal_state::NONE;
+use names::MAX_ELEMENTS;
+use open_levels::LEVELS;
+use reader_state::ReaderState;
+use schema_entries::MAX_CELLS;
+
+pub fn read_journal(
+    text: &[u8],
+    words: &[u64; WORDS],
+    hints: &[u8; HASHES],
+    count: usize,
+    kinds: &[u8; MAX_ELEMENTS],
+    firsts: &[u64; MAX_ELEMENTS],
+    lasts: &[u64; MAX_ELEMENTS],
+    nullables: &[bool; MAX_ELEMENTS],
+    elements: &[u8; MAX_CELLS],
+    predecessors: &[u64; MAX_CELLS],
+    sizes: &[usize; MAX_ELEMENTS],
+    numbers: &mut [u16],
+    names: &mut [u8],
+    parents: &mut [u16],
+    starts: &mut [u32],
+    lengths: &mut [u16],
+) -> Found
+    requires { ⌜ (length (now text) < noPlace) × Sized (now sizes) × (count ≤ maxDeclarations) × EqualColumns (columns (now numbers) (now names) (now parents) (now starts) (now lengths)) ⌝ }
+    ensures { λ r. ⌜ JournalRead (schemaCells (now (words .entry)) count (now (kinds .entry)) (now (firsts .entry)) (now (lasts .entry)) (now (nullables .entry)) (now (elements .entry)) (now (predecessors .entry)) (now (sizes .entry))) (now (text .entry)) (columns (now (numbers .entry)) (now (names .entry)) (now (parents .entry)) (now (starts .entry)) (now (lengths .entry))) (columns (now (numbers .exit)) (now (names .exit)) (now (parents .exit)) (now (starts .exit)) (now (lengths .exit))) r ⌝ }
+{
+    let table = journal_kinds::all_kinds();
+    let mut levels = [0u64; LEVELS];
+    let mut places = [0u32, 0u32, NONE, NONE];
+    let x: ReaderState = journal_reader_loop::read_all(
+        text,
+        &table,
+        words,
+        hints,
+        count,
+        kinds,
+        firsts,
+        lasts,
+        nullables,
+        elements,
+        predecessors,
+        sizes,
+        &mut levels,
+        numbers,
+        names,
+        parents,
+        starts,
+        lengths,
+        &mut places,
+    );
+    journal_reader_end::finish(
+        words,
+        hints,
+        count,
+        kinds,
+        firsts,
+        lasts,
+        nullables,
+        elements,
+        predecessors,
+        sizes,
+        &mut levels,
+        numbers,
+        names,
+        parents,
+        starts,
+        lengths,
+        &mut places,
+        x,
+    )
+}
