@@ -27,15 +27,15 @@ pub data Cut (bs : List ℕ) (fuel k : ℕ) : List Item → Type 0 where
       → Cut bs fuel k (itemAt bs k ∷ itemsFrom fuel (pastField bs k) (drop (pastField bs k) bs))
 
 module _ (bs : List ℕ) where
-  no-field : (k : ℕ) → length bs < k + 3 → hasField bs k ≡ false
+  pub no-field : (k : ℕ) → length bs < k + 3 → hasField bs k ≡ false
   unfolding hasField
   no-field k l = ap (λ (b : Bool). b && leb (pastField bs k) (length bs)) (lt-leb (k + 3) (length bs) l)
 
-  broken-field : (k : ℕ) → k + 3 ≤ length bs → length bs < pastField bs k → hasField bs k ≡ false
+  pub broken-field : (k : ℕ) → k + 3 ≤ length bs → length bs < pastField bs k → hasField bs k ≡ false
   unfolding hasField
   broken-field k l m = ap₂ _&&_ (le-leb (k + 3) (length bs) l) (lt-leb (pastField bs k) (length bs) m)
 
-  good-field : (k : ℕ) → k + 3 ≤ length bs → pastField bs k ≤ length bs → hasField bs k ≡ true
+  pub good-field : (k : ℕ) → k + 3 ≤ length bs → pastField bs k ≤ length bs → hasField bs k ≡ true
   unfolding hasField
   good-field k l m = ap₂ _&&_ (le-leb (k + 3) (length bs) l) (le-leb (pastField bs k) (length bs) m)
 
@@ -117,9 +117,13 @@ continued-same (onward r st) f g h = ap (consRow r) (h st)
 
 -- ---- the pass over places is that over items
 module _ (s : Types) (bs : List ℕ) where
-  step-wrong : (k : ℕ) (st : State) → hasField bs k ≡ false → stepAt s bs k st ≡ wrong
+  pub step-wrong : (k : ℕ) (st : State) → hasField bs k ≡ false → stepAt s bs k st ≡ wrong
   unfolding stepAt
   step-wrong k st e = cond-no (laterStep s bs st (isLast bs k) (itemAt bs k)) wrong e
+
+  pub step-right : (k : ℕ) (st : State) → hasField bs k ≡ true → stepAt s bs k st ≡ laterStep s bs st (isLast bs k) (itemAt bs k)
+  unfolding stepAt
+  step-right k st e = cond-yes (laterStep s bs st (isLast bs k) (itemAt bs k)) wrong e
 
   later-broken : (st : State) → none ≡ laterItems s bs st (noItem ∷ [])
   unfolding laterItems laterStep

@@ -1,0 +1,109 @@
+use Rattle.row_numbers.specs.Cells.{written-in, written-out}
+use native.Mathlib.Omega.{arith}
+use borrow.Author.Needs.{needs}
+use Rattle.field_rows.proofs.put_row.Statement.{statement}
+use Rattle.field_rows.proofs.put_row.Tie as tie
+use Rattle.field_rows.proofs.put_row.Reads as reads
+use Rattle.field_rows.proofs.put_row.Lts as lts
+
+-- src/lib.rt:25:9
+mul-numbers : tie.Need-mul-numbers
+mul-numbers c = search needs
+
+-- src/lib.rt:25:9
+slice-write-numbers : tie.Need-slice-write-numbers
+slice-write-numbers c = search needs
+
+-- src/lib.rt:26:9
+slice-write-names : tie.Need-slice-write-names
+slice-write-names c = search needs
+
+-- src/lib.rt:27:9
+mul-parents : tie.Need-mul-parents
+mul-parents c = search needs
+
+-- src/lib.rt:27:9
+slice-write-parents : tie.Need-slice-write-parents
+slice-write-parents c = search needs
+
+-- src/lib.rt:28:9
+mul-starts : tie.Need-mul-starts
+mul-starts c = search needs
+
+-- src/lib.rt:28:9
+slice-write-starts : tie.Need-slice-write-starts
+slice-write-starts c = search needs
+
+-- src/lib.rt:29:9
+mul-lengths : tie.Need-mul-lengths
+mul-lengths c = search needs
+
+-- src/lib.rt:29:9
+slice-write-lengths : tie.Need-slice-write-lengths
+slice-write-lengths c = search needs
+
+-- src/lib.rt:8:1
+same-length : tie.Need-same-length
+same-length c = search needs
+
+-- src/lib.rt:8:1
+same-length-2 : tie.Need-same-length-2
+same-length-2 c = search needs
+
+-- src/lib.rt:8:1
+same-length-3 : tie.Need-same-length-3
+same-length-3 c = search needs
+
+-- src/lib.rt:8:1
+same-length-4 : tie.Need-same-length-4
+same-length-4 c = search needs
+
+-- src/lib.rt:8:1
+same-length-5 : tie.Need-same-length-5
+same-length-5 c = search needs
+
+-- src/lib.rt:8:1
+returns : tie.Need-returns
+returns c =
+    let here = c .if1 .taken in
+    let start = c .before in
+    record {
+      to-numbers = written-in _ _ _ here;
+      to-names = written-in _ _ _ (omega arith);
+      to-parents = written-in _ _ _ (omega arith);
+      to-starts = written-in _ _ _ (omega arith);
+      to-lengths = written-in _ _ _ (omega arith);
+    }
+
+-- src/lib.rt:8:1
+returns-2 : tie.Need-returns-2
+returns-2 c =
+    let here = c .if1 .left in
+    record {
+      to-numbers = written-out _ _ _ here;
+      to-names = written-out _ _ _ (omega arith);
+      to-parents = written-out _ _ _ (omega arith);
+      to-starts = written-out _ _ _ (omega arith);
+      to-lengths = written-out _ _ _ (omega arith);
+    }
+
+pub put-row-spec : {M : Type 1} → statement M
+put-row-spec =
+    tie.close
+    (tie.spec
+    mul-numbers
+    slice-write-numbers
+    slice-write-names
+    mul-parents
+    slice-write-parents
+    mul-starts
+    slice-write-starts
+    mul-lengths
+    slice-write-lengths
+    same-length
+    same-length-2
+    same-length-3
+    same-length-4
+    same-length-5
+    returns
+    returns-2)

@@ -1,0 +1,5 @@
+pub mod Levels
+pub mod Bytes
+pub mod Tests
+pub mod Values
+pub mod Whole
