@@ -2,6 +2,7 @@
 ghost use Rattle.needed_texts.specs.Texts.{NeededBy};
 use names::MAX_ELEMENTS;
 use names::NameSet;
+use schema_entries::Entries;
 
 // As 64 bits. Of a schema text that is refused nothing is said.
 pub fn needed_by_texts(schema: &[u8], text: &[u8]) -> u64
@@ -10,7 +11,7 @@ pub fn needed_by_texts(schema: &[u8], text: &[u8]) -> u64
     let compiled = compiled_schema::compile(schema);
     let count = compiled.count;
     let names = compiled.names;
-    let entries = compiled.entries;
+    let entries: Entries = compiled.entries;
     let holds: [NameSet; MAX_ELEMENTS] = entries.holds;
     let below: [NameSet; MAX_ELEMENTS] = compiled.below;
     let judged = bundle::judge_bundle(schema, &names[..count], text);

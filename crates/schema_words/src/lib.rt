@@ -7,6 +7,7 @@ ghost use Rattle.table_passes.specs.Codes.{HeldWords};
 ghost use Rattle.text_spec.specs.Limits.{maxSchemaBytes};
 use names::MAX_ELEMENTS;
 use schema::Schema;
+use schema_entries::Entries;
 
 // For each element the names that it holds, as the bits of a word. The record is one that has passed its test.
 pub fn schema_words(schema: Schema) -> [u64; MAX_ELEMENTS]
@@ -16,7 +17,7 @@ pub fn schema_words(schema: Schema) -> [u64; MAX_ELEMENTS]
     let bytes = schema.bytes;
     let len = schema.len;
     let compiled = compiled_schema::compile(&bytes[..len]);
-    let entries = compiled.entries;
+    let entries: Entries = compiled.entries;
     let sets = entries.holds;
     held_words::held_words(sets)
 }
