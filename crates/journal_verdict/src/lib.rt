@@ -14,7 +14,8 @@ pub struct Verdict {
     pub rows: usize,
 }
 
-fn refused(number: u64, place: u64) -> Verdict
+// A refusal at a place.
+pub fn refused(number: u64, place: u64) -> Verdict
     ensures { λ r. ⌜ r ≡ refusedBy number place ⌝ }
 {
     Verdict {
