@@ -1,0 +1,94 @@
+#!/usr/bin/env python3
+"""Writes crates/table_cases/stdin and stdout. With --check it compares instead.
+
+First the table cases of tests/vectors, each with the outcome that the case itself gives; then tables at the limits of depth 64 and 65 and of a
+text of 4,096 and 4,097 bytes, columns of more cells than rows, and a count above the cells. A case is six numbers of two bytes (the lengths of
+the schema, of the table, of the columns and of the text, a row's position, how often the table is judged), then the schema, the columns' cells
+row by row, and the text. What is written after the outcome is the text of the row at that position: refused, an element, or where its text
+starts and its length; and the length of the part that is handed back."""
+import json
+import os
+import struct
+import sys
+
+HERE = os.path.dirname(os.path.abspath(__file__))
+CRATE = os.path.join(HERE, "..", "crates", "table_cases")
+TEXTS = 32
+
+
+def vectors():
+    for name in ("edge", "more"):
+        with open(os.path.join(HERE, "vectors", name + ".jsonl"), encoding="utf-8") as f:
+            for line in f:
+                case = json.loads(line)
+                if case["does"] == "table":
+                    schema, table, text = case["texts"]
+                    rows = [tuple(int(n) for n in row.split()) for row in table.split("\n") if row]
+                    yield schema, rows, len(rows), text, case["gives"].startswith("ok")
+
+
+def nested(depth):
+    """An element in itself, so many times."""
+    return "<!ELEMENT a (a?)>", [(i, 0, max(i - 1, 0), 0, 0) for i in range(depth)]
+
+
+def with_text(size):
+    return "<!ELEMENT a (#PCDATA)>", [(0, 0, 0, 0, 0), (1, TEXTS, 0, 1, size)]
+
+
+def limits():
+    for depth, passes in ((64, True), (65, False)):
+        schema, rows = nested(depth)
+        yield schema, rows, len(rows), "", passes
+    for size, passes in ((1, True), (4096, True), (4097, False)):
+        schema, rows = with_text(size)
+        yield schema, rows, 2, "<" + "x" * size, passes
+        yield schema, rows, 2, "x" * size, False
+        for place in (1, 1 + size // 2, size):
+            yield schema, rows, 2, "<" + "x" * (place - 1) + "\x7f" + "x" * (size - place), False
+    # a text below depth 64; a second text of an element; the same number again; a parent that is closed; fewer rows than cells, and more
+    schema = "<!ELEMENT a (a|b)*>\n<!ELEMENT b (#PCDATA)>"
+    deep = [(i, 0, max(i - 1, 0), 0, 0) for i in range(63)] + [(63, 1, 62, 0, 0), (64, TEXTS + 1, 63, 0, 1)]
+    yield schema, deep, len(deep), "x", True
+    yield schema, deep + [(65, TEXTS + 1, 63, 0, 1)], 66, "x", False
+    yield schema, [(0, 0, 0, 0, 0), (1, 0, 0, 0, 0), (1, 0, 0, 0, 0)], 3, "", False
+    closed = [(0, 0, 0, 0, 0), (1, 0, 0, 0, 0), (2, 0, 0, 0, 0), (3, 0, 1, 0, 0)]
+    yield schema, closed, 4, "", False
+    yield schema, closed, 3, "", True
+    yield schema, closed[:3], 4, "", False
+
+
+def case(schema, rows, count, text, position, times=1):
+    head = struct.pack(">6H", len(schema), count, len(rows), len(text), position, times)
+    cells = b"".join(struct.pack(">HBHIH", *row) for row in rows)
+    return head + schema.encode("latin-1") + cells + text.encode("latin-1")
+
+
+def answer(rows, count, position, passes):
+    if not passes or count <= position:
+        return "refused 0"
+    number, code, parent, start, size = rows[position]
+    return "text %d %d %d" % (start, size, size) if TEXTS <= code else "element 0"
+
+
+def main():
+    stdin, stdout = b"", ""
+    for schema, rows, count, text, passes in [*vectors(), *limits()]:
+        for position in sorted({0, count - 1 if count else 0, count}):
+            stdin += case(schema, rows, count, text, position)
+            outcome = "ok %d" % count if passes else "refused 1 at 0"
+            stdout += outcome + " " + answer(rows, count, position, passes) + "\n"
+    for name, made in (("stdin", stdin), ("stdout", stdout.encode())):
+        path = os.path.join(CRATE, name)
+        if "--check" in sys.argv:
+            with open(path, "rb") as f:
+                if f.read() != made:
+                    sys.exit("table_cases: %s is not what tests/table_cases.py makes" % path)
+        else:
+            with open(path, "wb") as f:
+                f.write(made)
+    print("table_cases: %d lines" % stdout.count("\n"))
+
+
+if __name__ == "__main__":
+    main()
