@@ -4,6 +4,7 @@ use names::MAX_ELEMENTS;
 use names::NameSet;
 use row_text::RowText;
 use schema::Schema;
+use schema_entries::Entries;
 
 // How many bytes are read.
 const MAX_INPUT: usize = 1048576;
@@ -151,7 +152,7 @@ fn judge(
     times: usize,
 ) -> bool {
     let compiled = compiled_schema::compile(schema);
-    let entries = compiled.entries;
+    let entries: Entries = compiled.entries;
     let sets: [NameSet; MAX_ELEMENTS] = entries.holds;
     let words = held_words::held_words(sets);
     let mut passed = true;
