@@ -139,7 +139,13 @@ fn show_row(answer: RowText) {
     }
 }
 
-// Judges the table so many times, and says whether it passed each time.
+// So many rows fewer.
+fn fewer(count: usize, by: usize) -> usize {
+    if by < count { count - by } else { 0 }
+}
+
+// Judges the table, and says whether it passes. To measure the time it is judged again with one row fewer each time, so many times in all: the
+// first rows of a table that passes do so, too.
 fn judge(
     schema: &[u8],
     numbers: &[u16],
@@ -158,13 +164,14 @@ fn judge(
     let mut passed = true;
     let mut i = 0;
     while i < times {
+        let rows = fewer(count, i);
         let again = tables::is_table_beside(
             numbers,
             codes,
             parents,
             starts,
             lengths,
-            count,
+            rows,
             &words,
             lent,
         );
