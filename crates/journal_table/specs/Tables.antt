@@ -13,8 +13,7 @@ use Rattle.journal_reader_end.specs.Ends.{Answered}
 use Rattle.journal_reader_end.specs.declared.Found.{Found}
 use Rattle.journal_run_laws.specs.Findings.{KeyTells, accepts, refuses, read-empty, read-over}
 use Rattle.journal_spec.specs.Reading.{readJournal}
-use Rattle.journal_verdict.specs.Verdicts.{refusedBy, verdict, VerdictOf}
-use Rattle.journal_verdict.specs.declared.Verdict.{Verdict}
+use Rattle.journal_verdict.specs.Verdicts.{VerdictOf}
 use Rattle.library_spec.specs.Calls.{inColumns, columnsAfter}
 use Rattle.row_columns.specs.Columns.{EqualColumns}
 use Rattle.schema_spec.specs.Schemas.{Schema}
@@ -23,6 +22,8 @@ use Rattle.table_spec.specs.Rows.{Row}
 use Rattle.text_laws.specs.Cells.{padded-length}
 use Rattle.text_laws.specs.Order.{number-from-2}
 use Rattle.text_spec.specs.Refusals.{Reason, Outcome, accepted, refused, andThen, at, badLength, tooFewCells, numberOf}
+use Rattle.verdicts.specs.Verdicts.{refusedBy, verdict}
+use Rattle.verdicts.specs.declared.Verdict.{Verdict}
 
 -- the library's outcome in columns of these sizes
 abbrev pub outcome : Schema → List ℕ → ℕ → Sizes → Outcome (List Row)

@@ -9,12 +9,10 @@ ghost use Rattle.row_columns.specs.Columns.{columns, EqualColumns};
 ghost use Rattle.text_spec.specs.Limits.{maxDeclarations};
 use element_names::HASHES;
 use element_names::WORDS;
-use journal_verdict::Verdict;
 use names::MAX_ELEMENTS;
 use schema_entries::MAX_CELLS;
-
-// A text is empty or over its length limit.
-const BAD_LENGTH: u64 = 2;
+use verdicts::BAD_LENGTH;
+use verdicts::Verdict;
 
 // The verdict, with the rows in the columns, which are clear at first.
 fn judge(
@@ -42,10 +40,10 @@ fn judge(
     let n = text.len();
     let size = numbers.len();
     if n == 0 {
-        return journal_verdict::refused(BAD_LENGTH, 0);
+        return verdicts::refused(BAD_LENGTH, 0);
     }
     if limit < n {
-        return journal_verdict::refused(BAD_LENGTH, 0);
+        return verdicts::refused(BAD_LENGTH, 0);
     }
     let found = journal_reader::read_journal(
         text,

@@ -1,0 +1,16 @@
+-- An outcome as three numbers: those of the refusal and its place, or 0 and 0, and how many cells are answered.
+use mathlib.Core.List.{List}
+use Prim.Native.Nat.{ℕ}
+use lib.ListN.{length}
+use Rattle.text_spec.specs.Refusals.{Outcome, accepted, refused, numberOf}
+use Rattle.verdicts.specs.declared.Verdict.{Verdict}
+
+abbrev pub refusedBy : ℕ → ℕ → Verdict
+refusedBy number place = record { number = number; place = place; size = 0 }
+
+abbrev pub answeredOf : ℕ → Verdict
+answeredOf size = record { number = 0; place = 0; size = size }
+
+abbrev pub verdict : {A : Type 0} → Outcome (List A) → Verdict
+verdict (accepted xs) = answeredOf (length xs)
+verdict (refused f) = refusedBy (numberOf (f .reason)) (f .place)
