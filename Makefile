@@ -7,6 +7,8 @@ CFLAGS ?= -O2 -g
 WARNINGS = -std=c11 -pedantic -Wall -Wextra -Wconversion -Werror
 
 PROVED = target/staticlib/liblibrary.a
+# the program of that name, installed where it was built (rt check listing)
+LISTING = target/bin/listing
 # another archive with the same two functions, for tests
 LOZHYMET_LIB ?= $(PROVED)
 BUILD ?= target/c
@@ -33,8 +35,11 @@ install: all
 	install -m 644 $(LOZHYMET_LIB) $(DESTDIR)$(PREFIX)/lib/liblozhymet.a
 	install -m 644 include/lozhymet.h $(DESTDIR)$(PREFIX)/include/lozhymet.h
 	install -m 644 $(BUILD)/lozhymet.pc $(DESTDIR)$(PREFIX)/lib/pkgconfig/lozhymet.pc
-	install -m 644 $(wildcard man/*.1) $(DESTDIR)$(PREFIX)/share/man/man1
-	install -m 644 $(wildcard man/*.3) $(DESTDIR)$(PREFIX)/share/man/man3
+	install -m 644 man/lozhymet.1 $(DESTDIR)$(PREFIX)/share/man/man1
+	install -m 644 man/lozhymet.3 man/host_make_extract.3 man/host_select.3 $(DESTDIR)$(PREFIX)/share/man/man3
+	if [ -e $(LISTING) ]; then \
+	    install -m 755 $(LISTING) $(DESTDIR)$(PREFIX)/bin/listing && install -m 644 man/listing.1 $(DESTDIR)$(PREFIX)/share/man/man1; \
+	fi
 
 check:
 	tests/run

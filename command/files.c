@@ -62,6 +62,12 @@ int read_text(struct text *text, const char *name, size_t limit) {
     return status;
 }
 
+int same_file(const char *one, const char *other) {
+    struct stat a, b;
+    if (strcmp(one, "-") == 0 || strcmp(other, "-") == 0 || stat(one, &a) || stat(other, &b)) return 0;
+    return a.st_dev == b.st_dev && a.st_ino == b.st_ino;
+}
+
 /* 0, or -1 with errno */
 static int put(int file, const uint8_t *bytes, size_t len) {
     while (len) {

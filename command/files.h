@@ -19,6 +19,9 @@ int read_text(struct text *text, const char *name, size_t limit);
    file (a pipe, a device, "-" for standard output) is written in place. Answers 0, or 2 after a message. */
 int write_whole(const char *name, const uint8_t *bytes, size_t len);
 
+/* Whether two names stand for one file; "-" is none. */
+int same_file(const char *one, const char *other);
+
 /* Memory for so many cells of a size, at least one; ends the program with 2 where there is none. */
 void *cells(size_t count, size_t size);
 

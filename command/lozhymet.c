@@ -87,6 +87,8 @@ static int read_words(struct options *o, int argc, char **argv) {
     if (!o->selects && o->place) return wrong_usage("extract has no -p");
     if (!o->selects && !o->output) return wrong_usage("extract needs -o FILE");
     if (!o->selects && o->json && strcmp(o->output, "-") == 0) return wrong_usage("standard output takes the extract or JSON, not both");
+    for (int k = 0; k < 3 && !o->selects; k++)
+        if (same_file(o->files[k], o->output)) return wrong_usage("the output is one of the files read");
     return DONE;
 }
 
@@ -147,21 +149,21 @@ static int refuse(const struct options *o, const struct call *c, struct lozhymet
     return REFUSED;
 }
 
-static int report_made(const struct options *o, const struct call *c, const uint8_t *extract, struct lozhymet_result r) {
+/* the nodes of each path are those selected from the extract, which are those of the whole journal */
+static void report_made(const struct options *o, const struct call *c, const uint8_t *extract, struct lozhymet_result r) {
     struct made made = { r.rows, (size_t)(extract[r.items - 2] << 8 | extract[r.items - 1]), r.items };
     struct answer found = find(c, extract, r.items);
-    int status = write_whole(o->output, extract, r.items);
-    if (!status && o->json) print_made_json(c, &made, &found);
-    else if (!status && !o->quiet) print_made(c, &made, &found);
+    if (o->json) print_made_json(c, &made, &found);
+    else print_made(c, &made, &found);
     free_answer(&found);
-    return status;
 }
 
 static int extract_action(const struct options *o, const struct call *c) {
     size_t size = LOZHYMET_EXTRACT_BYTES(c->third.len);
     uint8_t *extract = cells(size, 1);
     struct lozhymet_result r = make(c, extract, size);
-    int status = r.number ? refuse(o, c, r) : report_made(o, c, extract, r);
+    int status = r.number ? refuse(o, c, r) : write_whole(o->output, extract, r.items);
+    if (!status && (o->json || !o->quiet)) report_made(o, c, extract, r);
     free(extract);
     return status;
 }

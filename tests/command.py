@@ -68,6 +68,7 @@ WRONG_USAGE = [
     [], ["extract"], ["cut", "s", "p", "j"], ["extract", "s", "p", "j"], ["extract", "s", "p", "j", "k", "-o", "x"], ["extract", "-", "p", "-", "-o", "x"],
     ["extract", "s", "p", "j", "-o", "x", "-p", "1"], ["select", "s", "p", "e", "-o", "x"], ["select", "s", "p", "e", "-p", "0"],
     ["select", "s", "p", "e", "-p", "1x"], ["extract", "s", "p", "j", "-o", "-", "--json"], ["select", "s", "p", "e", "--unknown"],
+    ["extract", "schema", "paths", "journal", "-o", "./journal"],
 ]
 
 
