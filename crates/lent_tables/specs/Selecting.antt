@@ -15,9 +15,10 @@ use Rattle.schema_spec.specs.Names.{Name, element, text, codeOf, nameOfCode}
 use Rattle.schema_spec.specs.Schemas.{Schema}
 use Rattle.schema_spec.specs.Types.{typesOf}
 use Rattle.select.specs.Paths as select
-use Rattle.selected_rows.specs.Selected.{codesOf}
+use Rattle.selected_rows.specs.Selected.{codesOf, NamesCoded}
 use Rattle.selected_rows.specs.Tested.{cells-coded, tested-columns}
 use Rattle.table_laws.specs.Places.{none-some}
+use Rattle.table_rows.specs.Lent.{Lent}
 use Rattle.table_spec.specs.Columns.{Columns, cellsAt, cellsFrom}
 use Rattle.table_spec.specs.Rows.{Row, row, Cells, rowWith, rowOf, consOf, rowsOf}
 use Rattle.table_spec.specs.Tables.{wellFormed}
@@ -88,24 +89,32 @@ module _ (t : LentTable) (rows : List Row) (held : rowsLent t ≡ some rows) whe
   rows-held : rowsOf (cellsFrom (t .columns) 0 (t .count)) ≡ some rows
   rows-held = sym (ap (λ (b : Bool). cond b (rowsOf (cellsFrom (t .columns) 0 (t .count))) none) sizes-fit) ∙ held
 
+  -- each column has a cell for each row
+  pub lent-inside : Lent (t .columns) (t .count)
+  lent-inside = fit-lent t sizes-fit
+
+  -- each row's name is one that a code can stand for
+  pub lent-coded : NamesCoded rows
+  lent-coded = cells-coded (cellsFrom (t .columns) 0 (t .count)) rows rows-held
+
   pub lent-numbers : numbersOf rows ≡ take (t .count) (t .columns .numbers)
   lent-numbers =
-      let room = fit-lent t sizes-fit .numbered in
+      let room = lent-inside .numbered in
       column-from (t .columns) (λ r. r .number) (t .columns .numbers) (λ i r e. cells-of (cellsAt (t .columns) i) r e .number) (t .count) 0 rows (omega arith) rows-held
 
   pub lent-codes : codesOf rows ≡ take (t .count) (t .columns .names)
   lent-codes =
-      let room = fit-lent t sizes-fit .named in
+      let room = lent-inside .named in
       codes-map rows
       ∙ column-from (t .columns) (λ r. codeOf (r .name)) (t .columns .names) (λ i r e. cells-of (cellsAt (t .columns) i) r e .name) (t .count) 0 rows (omega arith) rows-held
 
   pub lent-parents : parentsOf rows ≡ take (t .count) (t .columns .parents)
   lent-parents =
-      let room = fit-lent t sizes-fit .parented in
+      let room = lent-inside .parented in
       column-from (t .columns) (λ r. r .parent) (t .columns .parents) (λ i r e. cells-of (cellsAt (t .columns) i) r e .parent) (t .count) 0 rows (omega arith) rows-held
 
   -- the columns up to the count are as selecting asks
   pub lent-columns : (s : Schema) → T (wellFormed (typesOf s) rows)
       → select.Columns (take (t .count) (t .columns .numbers)) (take (t .count) (t .columns .names)) (take (t .count) (t .columns .parents))
   lent-columns s ok =
-      rw (← lent-numbers, ← lent-codes, ← lent-parents) (tested-columns (typesOf s) rows ok (cells-coded (cellsFrom (t .columns) 0 (t .count)) rows rows-held))
+      rw (← lent-numbers, ← lent-codes, ← lent-parents) (tested-columns (typesOf s) rows ok lent-coded)
