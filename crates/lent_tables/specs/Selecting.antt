@@ -46,6 +46,8 @@ pub record CellsOf (c : Cells) (r : Row) : Type 0 where
   pub number : r .number ≡ c .number
   pub name : codeOf (r .name) ≡ c .name
   pub parent : r .parent ≡ c .parent
+  pub start : r .start ≡ c .start
+  pub size : r .size ≡ c .size
 
 cells-of : (c : Cells) (r : Row) → rowOf c ≡ some r → CellsOf c r
 cells-of c r e = by (nameOfCode (c .name)) refl e
@@ -54,7 +56,7 @@ cells-of c r e = by (nameOfCode (c .name)) refl e
     by none q d = none-some d
     by (some n) q d =
         let z : row (c .number) n (c .parent) (c .start) (c .size) ≡ r = cc in
-        subst (CellsOf c) z (record { number = refl; name = code-again (c .name) n q; parent = refl })
+        subst (CellsOf c) z (record { number = refl; name = code-again (c .name) n q; parent = refl; start = refl; size = refl })
 
 -- ---- a column by its rows
 column-from : (c : Columns) (f : Row → ℕ) (xs : List ℕ) → ((i : ℕ) (r : Row) → rowOf (cellsAt c i) ≡ some r → f r ≡ getD xs i 0)
@@ -74,7 +76,7 @@ column-from c f xs h (suc n) i rows l e =
         subst (λ (x : List Row). map f x ≡ take (suc n) (drop i xs)) z
         (ap₂ (λ (x : ℕ) (l : List ℕ). x ∷ l) (h i r p) (g rs q) ∙ sym (ap (take (suc n)) (drop-cons xs i 0 (omega arith))))
 
-codes-map : (rows : List Row) → codesOf rows ≡ map (λ r. codeOf (r .name)) rows
+pub codes-map : (rows : List Row) → codesOf rows ≡ map (λ r. codeOf (r .name)) rows
 codes-map [] = refl
 codes-map (r ∷ rows) = ap (λ (l : List ℕ). codeOf (r .name) ∷ l) (codes-map rows)
 
@@ -89,29 +91,38 @@ module _ (t : LentTable) (rows : List Row) (held : rowsLent t ≡ some rows) whe
   rows-held : rowsOf (cellsFrom (t .columns) 0 (t .count)) ≡ some rows
   rows-held = sym (ap (λ (b : Bool). cond b (rowsOf (cellsFrom (t .columns) 0 (t .count))) none) sizes-fit) ∙ held
 
-  -- each column has a cell for each row
-  pub lent-inside : Lent (t .columns) (t .count)
-  lent-inside = fit-lent t sizes-fit
-
-  -- each row's name is one that a code can stand for
-  pub lent-coded : NamesCoded rows
-  lent-coded = cells-coded (cellsFrom (t .columns) 0 (t .count)) rows rows-held
-
   pub lent-numbers : numbersOf rows ≡ take (t .count) (t .columns .numbers)
   lent-numbers =
-      let room = lent-inside .numbered in
+      let room = fit-lent t sizes-fit .numbered in
       column-from (t .columns) (λ r. r .number) (t .columns .numbers) (λ i r e. cells-of (cellsAt (t .columns) i) r e .number) (t .count) 0 rows (omega arith) rows-held
 
   pub lent-codes : codesOf rows ≡ take (t .count) (t .columns .names)
   lent-codes =
-      let room = lent-inside .named in
+      let room = fit-lent t sizes-fit .named in
       codes-map rows
       ∙ column-from (t .columns) (λ r. codeOf (r .name)) (t .columns .names) (λ i r e. cells-of (cellsAt (t .columns) i) r e .name) (t .count) 0 rows (omega arith) rows-held
 
   pub lent-parents : parentsOf rows ≡ take (t .count) (t .columns .parents)
   lent-parents =
-      let room = lent-inside .parented in
+      let room = fit-lent t sizes-fit .parented in
       column-from (t .columns) (λ r. r .parent) (t .columns .parents) (λ i r e. cells-of (cellsAt (t .columns) i) r e .parent) (t .count) 0 rows (omega arith) rows-held
+
+  pub lent-starts : map (λ r. r .start) rows ≡ take (t .count) (t .columns .starts)
+  lent-starts =
+      let room = fit-lent t sizes-fit .started in
+      column-from (t .columns) (λ r. r .start) (t .columns .starts) (λ i r e. cells-of (cellsAt (t .columns) i) r e .start) (t .count) 0 rows (omega arith) rows-held
+
+  pub lent-lengths : map (λ r. r .size) rows ≡ take (t .count) (t .columns .lengths)
+  lent-lengths =
+      let room = fit-lent t sizes-fit .sized in
+      column-from (t .columns) (λ r. r .size) (t .columns .lengths) (λ i r e. cells-of (cellsAt (t .columns) i) r e .size) (t .count) 0 rows (omega arith) rows-held
+
+  -- each row has a name that a code can stand for, and a cell in each column
+  pub lent-coded : NamesCoded rows
+  lent-coded = cells-coded (cellsFrom (t .columns) 0 (t .count)) rows rows-held
+
+  pub lent-cells : Lent (t .columns) (t .count)
+  lent-cells = fit-lent t sizes-fit
 
   -- the columns up to the count are as selecting asks
   pub lent-columns : (s : Schema) → T (wellFormed (typesOf s) rows)

@@ -10,7 +10,7 @@ use lib.Dec.{T, leb}
 use lib.ListN.{length, take}
 use Rattle.compiled_paths.specs.Paths.{pathsIn}
 use Rattle.compiled_paths.specs.declared.CompiledPaths.{CompiledPaths}
-use Rattle.lent_tables.specs.Selecting.{lent-inside, lent-coded, lent-numbers, lent-codes, lent-parents, lent-columns}
+use Rattle.lent_tables.specs.Selecting.{lent-cells, lent-coded, lent-numbers, lent-codes, lent-parents, lent-columns}
 use Rattle.library_spec.specs.Records.{LentTable, rowsLent, keptIf, tableBeside}
 use Rattle.library_spec.specs.Selections.{Selections}
 use Rattle.path_spec.specs.Paths.{LocationPath}
@@ -81,7 +81,7 @@ module _ (words lent : List ℕ) (t : LentTable) (b : Bool) (tests : TestsTable 
   beside = found-rows (some-schema .schema) lent t (sym (tests (some-schema .schema) (some-schema .held)) ∙ passes)
 
   pub beside-inside : Lent (t .columns) (t .count)
-  beside-inside = let f = beside in lent-inside t (f .rows) (f .are)
+  beside-inside = let f = beside in lent-cells t (f .rows) (f .are)
 
   pub beside-columns : Columns (take (t .count) (t .columns .numbers)) (take (t .count) (t .columns .names)) (take (t .count) (t .columns .parents))
   beside-columns = let f = beside in lent-columns t (f .rows) (f .are) (some-schema .schema) (f .passes)
