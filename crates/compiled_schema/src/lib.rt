@@ -41,7 +41,7 @@ pub fn compile(text: &[u8]) -> CompiledSchema
 {
     let mut names = [0usize; MAX_ELEMENTS];
     let mut uses = [0usize; MAX_USES];
-    match schema::judge_into(text, &mut names, &mut uses) {
+    match schema_judging::judge_into(text, &mut names, &mut uses) {
         Judgement::Accepted(count) => {
             let entries = schema_entries::all_entries(text, &uses, count);
             let holds = entries.holds;
