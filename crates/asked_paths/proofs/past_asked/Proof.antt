@@ -1,9 +1,9 @@
 -- `past_asked` meets its contract: all paths, or one.
-use Rattle.select_table.specs.Tables.{past-all, past-one}
+use Rattle.asked_paths.specs.Ranges.{past-all, past-one}
 use native.Mathlib.Omega.{arith}
 use borrow.Author.Needs.{needs}
-use Rattle.select_table.proofs.past_asked.Statement.{statement}
-use Rattle.select_table.proofs.past_asked.Tie as tie
+use Rattle.asked_paths.proofs.past_asked.Statement.{statement}
+use Rattle.asked_paths.proofs.past_asked.Tie as tie
 
 returns : tie.Need-returns
 returns c = past-all _ _ (c .if1 .taken)
