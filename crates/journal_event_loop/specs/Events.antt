@@ -72,8 +72,11 @@ module _ (l s : Lex) (e : s ≡ withEvent 0 l) where
   pub quiet-event : s .event ≡ 0
   quiet-event = ap (λ (y : Lex). y .event) e
 
-  pub quiet-place : s .place ≡ l .place
+  quiet-place : s .place ≡ l .place
   quiet-place = ap (λ (y : Lex). y .place) e
+
+  pub quiet-more : {n : ℕ} → l .place < n → s .place < n
+  quiet-more h = rw quiet-place h
 
   pub quiet-ready : {text kinds p : List ℕ} → Ready text kinds l p → Ready text kinds s p
   quiet-ready h =
