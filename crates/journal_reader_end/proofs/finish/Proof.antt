@@ -1,6 +1,6 @@
 -- `finish` meets its contract: the last event, its row, then the key.
 use Rattle.journal_reader_end.specs.Ends.{finished}
-use Rattle.journal_reader_step.specs.Steps.{event-read}
+use Rattle.journal_event_rows.specs.Events.{event-read}
 use Rattle.reader_state.specs.ReadingLaws.{few-nodes}
 use Rattle.journal_reader_end.proofs.finish.Statement.{statement}
 use Rattle.journal_reader_end.proofs.finish.Tie as tie

@@ -1,9 +1,9 @@
 -- `read_on` meets its contract: the lexer up to an event, then its event.
 use native.Mathlib.Nat.{le-of-lt, lt-trans}
-use Rattle.journal_event_loop.specs.Events.{read-on}
+use Rattle.journal_event_step.specs.Points.{read-on}
 use Rattle.reader_state.specs.ReadingLaws.{few-nodes}
-use Rattle.journal_event_loop.proofs.read_on.Statement.{statement}
-use Rattle.journal_event_loop.proofs.read_on.Tie as tie
+use Rattle.journal_event_step.proofs.read_on.Statement.{statement}
+use Rattle.journal_event_step.proofs.read_on.Tie as tie
 
 -- from the event back to the lexer, to the call
 abbrev lexed-of : tie.After-read-event → tie.After-to-event

@@ -1,7 +1,7 @@
 -- `read_event` meets its contract: the event, then its row.
-use Rattle.journal_reader_step.specs.Steps.{event-read}
-use Rattle.journal_reader_step.proofs.read_event.Statement.{statement}
-use Rattle.journal_reader_step.proofs.read_event.Tie as tie
+use Rattle.journal_event_rows.specs.Events.{event-read}
+use Rattle.journal_event_rows.proofs.read_event.Statement.{statement}
+use Rattle.journal_event_rows.proofs.read_event.Tie as tie
 
 on-event-requires : tie.Need-on-event-requires
 on-event-requires c κs =

@@ -1,8 +1,8 @@
 -- `to_event` meets its contract: the loops over character data, then those over tags.
-use Rattle.journal_event_loop.specs.Events.{further-all, further-event, quiet-event, quiet-more, quiet-ready, onward}
+use Rattle.journal_event_step.specs.Onward.{further-all, further-event, quiet-event, quiet-more, quiet-ready, onward}
 use Rattle.journal_loop_laws.specs.Laws.{ready-after, advance-then}
-use Rattle.journal_event_loop.proofs.to_event.Statement.{statement}
-use Rattle.journal_event_loop.proofs.to_event.Tie as tie
+use Rattle.journal_event_step.proofs.to_event.Statement.{statement}
+use Rattle.journal_event_step.proofs.to_event.Tie as tie
 
 data-part-requires : tie.Need-data-part-requires
 data-part-requires c κs =
