@@ -1,8 +1,9 @@
 -- `read_on` meets its contract: the lexer up to an event, then its event.
-use native.Mathlib.Omega.{arith}
-use Rattle.journal_event_loop.specs.Events.{read-on}
-use Rattle.journal_event_loop.proofs.read_on.Statement.{statement}
-use Rattle.journal_event_loop.proofs.read_on.Tie as tie
+use native.Mathlib.Nat.{le-of-lt, lt-trans}
+use Rattle.journal_event_step.specs.Points.{read-on}
+use Rattle.reader_state.specs.ReadingLaws.{few-nodes}
+use Rattle.journal_event_step.proofs.read_on.Statement.{statement}
+use Rattle.journal_event_step.proofs.read_on.Tie as tie
 
 -- from the event back to the lexer, to the call
 abbrev lexed-of : tie.After-read-event → tie.After-to-event
@@ -15,7 +16,7 @@ to-event-requires : tie.Need-to-event-requires
 to-event-requires c κs =
     let start = c .before .before .before .before .before .before .before .before .before in
     let usable = start .pre .0 in (
-      record { table = start .pre .1; short = start .pre .2; inside = omega (arith, start .pre .3); four = usable .four; valid = usable .valid },
+      record { table = start .pre .1; short = start .pre .2; inside = le-of-lt (start .pre .3); four = usable .four; valid = usable .valid },
       start .pre .3,
     )
 
@@ -26,7 +27,7 @@ read-event-requires c κs =
     let usable = start .pre .0 in (
       usable .safe,
       start .pre .4,
-      omega (arith, usable .counted, start .pre .2, start .pre .3),
+      few-nodes usable (lt-trans (start .pre .3) (start .pre .2)),
       start .pre .5,
       lexed .to-event .ensures .four,
       usable .equal,

@@ -1,13 +1,8 @@
 -- `to_event` meets its contract: the loops over character data, then those over tags.
-use mathlib.Core.Path.{_≡_}
-use Prim.Native.Nat.{_<_}
-use native.Mathlib.Omega.{arith}
-use denote.Ref.{now}
-use lib.ListN.{length}
-use Rattle.journal_event_loop.specs.Events.{further-all, further-event, quiet-event, quiet-place, quiet-ready, onward}
+use Rattle.journal_event_step.specs.Onward.{further-all, further-event, quiet-event, quiet-more, quiet-ready, onward}
 use Rattle.journal_loop_laws.specs.Laws.{ready-after, advance-then}
-use Rattle.journal_event_loop.proofs.to_event.Statement.{statement}
-use Rattle.journal_event_loop.proofs.to_event.Tie as tie
+use Rattle.journal_event_step.proofs.to_event.Statement.{statement}
+use Rattle.journal_event_step.proofs.to_event.Tie as tie
 
 data-part-requires : tie.Need-data-part-requires
 data-part-requires c κs =
@@ -45,8 +40,7 @@ returns-2 c =
     let s = quieted .with-event .result in
     let e = quieted .with-event .ensures in
     let both = advance-then (characters .data-part .ensures) (c .tag-part .ensures) in
-    let more : s .place < length (now (start .args .text)) = omega (arith, quiet-place l s e, start .pre .1) in
-    onward l s e both (further-all (both .progress) more)
+    onward l s e both (further-all (both .progress) (quiet-more l s e (start .pre .1)))
 
 pub to-event-spec : {M : Type 1} → statement M
 to-event-spec = tie.close (tie.spec (λ c κs. tt) data-part-requires returns tag-part-requires returns-2)
