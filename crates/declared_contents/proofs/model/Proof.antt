@@ -1,8 +1,8 @@
 -- `model` meets its contract: `#` or a group.
-use Rattle.declarations.proofs.Contents.{model-end, model-pcdata, model-fails, model-high, model-reads}
+use Rattle.declared_contents.proofs.Contents.{model-end, model-pcdata, model-fails, model-high, model-reads}
 use borrow.Author.Needs.{needs}
-use Rattle.declarations.proofs.model.Statement.{statement}
-use Rattle.declarations.proofs.model.Tie as tie
+use Rattle.declared_contents.proofs.model.Statement.{statement}
+use Rattle.declared_contents.proofs.model.Tie as tie
 
 returns : tie.Need-returns
 returns c = record { says = model-end (c .before .skip .ensures) (c .if1 .taken) }

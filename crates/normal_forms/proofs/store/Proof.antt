@@ -2,8 +2,8 @@
 use mathlib.Core.Path.{sym}
 use Rattle.text_laws.specs.Tests.{cond-yes, cond-no}
 use borrow.Author.Needs.{needs}
-use Rattle.schema_reader.proofs.store.Statement.{statement}
-use Rattle.schema_reader.proofs.store.Tie as tie
+use Rattle.normal_forms.proofs.store.Statement.{statement}
+use Rattle.normal_forms.proofs.store.Tie as tie
 
 returns : tie.Need-returns
 returns c = record { count = sym (cond-yes _ _ (c .if1 .taken)); wrote = sym (cond-yes _ _ (c .if1 .taken)) }

@@ -3,8 +3,8 @@ use mathlib.Core.List.{List, _∷_}
 use mathlib.Core.Path.{_≡_}
 use Prim.Native.Nat.{ℕ, _≤_, _<_}
 use lib.ListN.{length}
-use Rattle.declarations.specs.declared.ContentOutcome.{ContentOutcome}
-use Rattle.declarations.specs.declared.ContentOutcome.the-variants.{Past as ContentPast, Fail as ContentFail}
+use Rattle.declared_contents.specs.declared.ContentOutcome.{ContentOutcome}
+use Rattle.declared_contents.specs.declared.ContentOutcome.the-variants.{Past as ContentPast, Fail as ContentFail}
 use Rattle.models.specs.declared.Content.{Content as Contents}
 use Rattle.models.specs.declared.Content.the-variants.{Empty, Pcdata, Children}
 use Rattle.models.specs.declared.Ends.{Ends}

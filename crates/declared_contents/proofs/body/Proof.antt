@@ -1,8 +1,8 @@
 -- `body` meets its contract: a content and `>`.
-use Rattle.declarations.proofs.Contents.{content-high, body-fails, body-end, body-close, body-not}
+use Rattle.declared_contents.proofs.Contents.{content-high, body-fails, body-end, body-close, body-not}
 use borrow.Author.Needs.{needs}
-use Rattle.declarations.proofs.body.Statement.{statement}
-use Rattle.declarations.proofs.body.Tie as tie
+use Rattle.declared_contents.proofs.body.Statement.{statement}
+use Rattle.declared_contents.proofs.body.Tie as tie
 
 skip-requires : tie.Need-skip-requires
 skip-requires c κs =

@@ -1,10 +1,10 @@
 -- `nameless` meets its contract.
 use mathlib.Core.Path.{sym, ap}
-use Rattle.declarations.specs.Contents.{namelessOf}
+use Rattle.declared_contents.specs.Contents.{namelessOf}
 use Rattle.scanning.specs.declared.Read.{Read}
 use borrow.Author.Needs.{needs}
-use Rattle.declarations.proofs.nameless.Statement.{statement}
-use Rattle.declarations.proofs.nameless.Tie as tie
+use Rattle.declared_contents.proofs.nameless.Statement.{statement}
+use Rattle.declared_contents.proofs.nameless.Tie as tie
 
 returns : tie.Need-returns
 returns c = sym (ap (λ (r : Read). namelessOf r (c .before .before .before .args .n) (c .before .before .before .args .content)) (c .before .r .given .1))

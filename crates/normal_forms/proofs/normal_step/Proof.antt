@@ -1,9 +1,9 @@
 -- `normal_step` meets its contract: the tests in their order.
 use mathlib.Core.Path.{sym, _∙_}
 use borrow.Author.Needs.{needs}
-use Rattle.schema_reader.proofs.Writing.{blank-free, blank-run, blank-due, byte-due, byte-opens, byte-free}
-use Rattle.schema_reader.proofs.normal_step.Statement.{statement}
-use Rattle.schema_reader.proofs.normal_step.Tie as tie
+use Rattle.normal_forms.proofs.Writing.{blank-free, blank-run, blank-due, byte-due, byte-opens, byte-free}
+use Rattle.normal_forms.proofs.normal_step.Statement.{statement}
+use Rattle.normal_forms.proofs.normal_step.Tie as tie
 
 returns : tie.Need-returns
 returns c =

@@ -1,8 +1,8 @@
 -- `content` meets its contract: `(`, `EMPTY` or neither.
-use Rattle.declarations.proofs.Contents.{content-end, content-model, content-empty, content-not}
+use Rattle.declared_contents.proofs.Contents.{content-end, content-model, content-empty, content-not}
 use borrow.Author.Needs.{needs}
-use Rattle.declarations.proofs.content.Statement.{statement}
-use Rattle.declarations.proofs.content.Tie as tie
+use Rattle.declared_contents.proofs.content.Statement.{statement}
+use Rattle.declared_contents.proofs.content.Tie as tie
 
 returns : tie.Need-returns
 returns c =

@@ -4,7 +4,7 @@ use mathlib.Core.List.{List, _∷_, _++_}
 use mathlib.Core.Path.{_≡_}
 use Prim.Native.Nat.{ℕ, _+_, _≤_}
 use lib.ListN.{length, drop, set}
-use Rattle.schema_reader.specs.declared.NormalStep.{NormalStep}
+use Rattle.normal_forms.specs.declared.NormalStep.{NormalStep}
 use Rattle.schema_spec.specs.Records.{normalFrom, normal}
 
 -- the byte b gives a byte, or none, and goes on so

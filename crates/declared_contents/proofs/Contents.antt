@@ -7,10 +7,10 @@ use native.Mathlib.Omega.{arith}
 use borrow.Author.Tests.{ltb-true, ltb-false, ne-eqb}
 use lib.Dec.{ltb}
 use lib.ListN.{length}
-use Rattle.declarations.specs.Contents.{PassesAs, ReadsPcdata, ContentBuilt, built-empty, built-pcdata, built-children, ContentAs, ReadsContent, ended, namelessOf}
-use Rattle.declarations.specs.declared.ContentEnd.{ContentEnd}
-use Rattle.declarations.specs.declared.ContentOutcome.{ContentOutcome}
-use Rattle.declarations.specs.declared.ContentOutcome.the-variants.{Past as ContentPast, Fail as ContentFail}
+use Rattle.declared_contents.specs.Contents.{PassesAs, ReadsPcdata, ContentBuilt, built-empty, built-pcdata, built-children, ContentAs, ReadsContent, ended, namelessOf}
+use Rattle.declared_contents.specs.declared.ContentEnd.{ContentEnd}
+use Rattle.declared_contents.specs.declared.ContentOutcome.{ContentOutcome}
+use Rattle.declared_contents.specs.declared.ContentOutcome.the-variants.{Past as ContentPast, Fail as ContentFail}
 use Rattle.models.specs.declared.Content.{Content as Contents}
 use Rattle.models.specs.declared.Content.the-variants.{Empty, Pcdata, Children}
 use Rattle.particles.specs.Automata.{Built}

@@ -3,9 +3,9 @@ use borrow.Author.Needs.{needs}
 use native.Mathlib.Omega.{arith}
 use Prim.Native.Nat.{_-_}
 use lib.ListN.{length}
-use Rattle.schema_reader.proofs.Writing.{WrittenTo, written-start, written-end, written-next}
-use Rattle.schema_reader.proofs.write_normal.Statement.{statement}
-use Rattle.schema_reader.proofs.write_normal.Tie as tie
+use Rattle.normal_forms.proofs.Writing.{WrittenTo, written-start, written-end, written-next}
+use Rattle.normal_forms.proofs.write_normal.Statement.{statement}
+use Rattle.normal_forms.proofs.write_normal.Tie as tie
 
 abbrev Inv-loop : tie.InvT-loop
 Inv-loop s out₀ i₀ n₀ due₀ run₀ out i n due run = WrittenTo s out₀ out i n due run

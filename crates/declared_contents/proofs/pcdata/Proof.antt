@@ -1,9 +1,9 @@
 -- `pcdata` meets its contract: the keyword, blanks, and the byte after them.
-use Rattle.declarations.proofs.Contents.{pcdata-fails, pcdata-end, pcdata-close, pcdata-not}
+use Rattle.declared_contents.proofs.Contents.{pcdata-fails, pcdata-end, pcdata-close, pcdata-not}
 use Rattle.scanning.specs.OutcomeLaws.{spelt-end}
 use borrow.Author.Needs.{needs}
-use Rattle.declarations.proofs.pcdata.Statement.{statement}
-use Rattle.declarations.proofs.pcdata.Tie as tie
+use Rattle.declared_contents.proofs.pcdata.Statement.{statement}
+use Rattle.declared_contents.proofs.pcdata.Tie as tie
 
 skip-requires : tie.Need-skip-requires
 skip-requires c κs = spelt-end (c .before .before .before .spell .ensures) (c .before .j2 .given .1) .1
