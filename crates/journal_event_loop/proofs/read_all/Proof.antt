@@ -2,7 +2,8 @@
 use mathlib.Core.Path.{_≡_, refl, _∙_}
 use Prim.Native.Nat.{_-_}
 use lib.ListN.{length}
-use Rattle.journal_event_loop.specs.Events.{fewer-left, EventsRead, no-event-read, event-more, events-all}
+use Rattle.journal_event_loop.specs.Events.{EventsRead, no-event-read, event-more, events-all}
+use Rattle.journal_event_step.specs.Points.{fewer-left}
 use Rattle.journal_events.specs.Events.{schemaCells}
 use Rattle.row_columns.specs.Columns.{columns}
 use Rattle.journal_event_loop.proofs.read_all.Statement.{statement}

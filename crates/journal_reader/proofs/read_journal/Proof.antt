@@ -1,8 +1,9 @@
 -- `read_journal` meets its contract: all bytes, then the end.
-use mathlib.Core.Path.{_∙_}
-use native.Mathlib.Omega.{arith}
+use mathlib.Core.Path.{sym, subst, _∙_}
+use Prim.Native.Nat.{ℕ, _<_}
 use borrow.Author.Needs.{needs}
 use Rattle.journal_reader.specs.Journals.{usable-first, journal-read}
+use Rattle.journal_state.specs.Places.{noPlace}
 use Rattle.journal_reader.proofs.read_journal.Statement.{statement}
 use Rattle.journal_reader.proofs.read_journal.Tie as tie
 
@@ -26,7 +27,7 @@ finish-requires : tie.Need-finish-requires
 finish-requires c κs =
     let read = c .before .before .before .before .before .before .before .before .before .before .before .before .before .before .before .before .before in
     let all = read .read-all .ensures in
-    (all .usable, omega (arith, all .place, start-of (table-of read) .pre .0))
+    (all .usable, subst (λ (k : ℕ). k < noPlace) (sym (all .place)) (start-of (table-of read) .pre .0))
 
 returns : tie.Need-returns
 returns c =

@@ -1,7 +1,7 @@
 -- `finish` meets its contract: the last event, its row, then the key.
-use native.Mathlib.Omega.{arith}
 use Rattle.journal_reader_end.specs.Ends.{finished}
-use Rattle.journal_reader_step.specs.Steps.{event-read}
+use Rattle.journal_event_rows.specs.Events.{event-read}
+use Rattle.reader_state.specs.ReadingLaws.{few-nodes}
 use Rattle.journal_reader_end.proofs.finish.Statement.{statement}
 use Rattle.journal_reader_end.proofs.finish.Tie as tie
 
@@ -28,7 +28,7 @@ on-data-event-requires c κs =
     let end = c .before .before in
     let start = start-of end in
     let usable = start .pre .0 in
-    (usable .safe, omega (arith, usable .counted, start .pre .1), end .ending .ensures .four, end .ending .ensures .event)
+    (usable .safe, few-nodes usable (start .pre .1), end .ending .ensures .four, end .ending .ensures .event)
 
 add-row-requires : tie.Need-add-row-requires
 add-row-requires c κs = start-of (end-of (c .before .before .before .before .before)) .pre .0 .equal
