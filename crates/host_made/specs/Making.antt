@@ -1,7 +1,7 @@
 -- Making an extract under an accepted schema and bundle: what each stage leaves, and that together they are the library's outcome.
 use mathlib.Core.Bool.{Bool, true, false}
 use mathlib.Core.List.{List, [], map}
-use mathlib.Core.Path.{_≡_, refl, sym, ap, subst, _∙_}
+use mathlib.Core.Path.{_≡_, refl, sym, ap, ap₂, subst, _∙_}
 use Prim.Native.Nat.{ℕ, _<_, _≤_}
 use native.Mathlib.Omega.{arith}
 use borrow.Author.Tests.{le-ltb, ltb-true, ltb-false}
@@ -67,6 +67,20 @@ pub record NeededIn (t : CompiledSchema) (paths : CompiledPaths) (x : NameSet) :
 abbrev pub firstOf : Columns → ℕ → Columns
 firstOf c n = table (take n (c .numbers)) (take n (c .names)) (take n (c .parents)) (take n (c .starts)) (take n (c .lengths))
 
+-- each column has so many cells
+pub record Rooms (c : Columns) (n : ℕ) : Type 0 where
+  pub numbers : n ≤ length (c .numbers)
+  pub names : n ≤ length (c .names)
+  pub parents : n ≤ length (c .parents)
+  pub starts : n ≤ length (c .starts)
+  pub lengths : n ≤ length (c .lengths)
+
+-- and they are rows whose extract can be written
+pub record FirstAsked (journal : List ℕ) (c : Columns) (n : ℕ) : Type 0 where
+  pub rooms : Rooms c n
+  pub texts : TextColumns journal (firstOf c n) (length (firstOf c n .numbers))
+  pub kept : KeptColumns (firstOf c n .names) (firstOf c n .parents)
+
 -- the rows of an accepted journal, in columns that have room for them
 pub record RowsRead (s : Schema) (journal : List ℕ) (z : Sizes) (n : ℕ) (d : Columns) : Type 0 where
   pub rows : List Row
@@ -79,6 +93,21 @@ pub record RowsRead (s : Schema) (journal : List ℕ) (z : Sizes) (n : ℕ) (d :
 pub record AnswerAs (n m room : ℕ) (c d : Columns) (r : HostResult) : Type 0 where
   pub short : room < m → (r ≡ refusedBy 18 0) × (d ≡ columnsOf (sizesOf c) [])
   pub enough : m ≤ room → (r ≡ answeredOf n m 0) × (d ≡ c)
+
+-- the bytes of the first rows that the paths need, and the last test
+pub record WrittenUnder (t : CompiledSchema) (paths : CompiledPaths) (journal : List ℕ) (n : ℕ) (c d : Columns) (was out : List ℕ) (r : HostResult) : Type 0 where
+  pub set : NameSet
+  pub need : NeededIn t paths set
+  pub size : ℕ
+  pub bytes : AnsweredIn was (extractIn journal (firstOf c n) (keptMarks (inSet set) (firstOf c n .names) (firstOf c n .parents))) size out
+  pub last : AnswerAs n size (length out) c d r
+
+-- ---- the last test
+pub answer-short : (n m room : ℕ) (c d : Columns) (r : HostResult) → room < m → r ≡ refusedBy 18 0 → d ≡ columnsOf (sizesOf c) [] → AnswerAs n m room c d r
+answer-short n m room c d r l e f = record { short = λ k. (e, f); enough = λ k. absurd (omega arith) }
+
+pub answer-enough : (n m room : ℕ) (c : Columns) (r : HostResult) → m ≤ room → r ≡ answeredOf n m 0 → AnswerAs n m room c c r
+answer-enough n m room c r l e = record { short = λ k. absurd (omega arith); enough = λ k. (e, refl) }
 
 -- ---- the journal's outcome by its verdict
 number-some : (r : Reason) → numberOf r ≡ 0 → ⊥
@@ -156,15 +185,7 @@ module _ (schema : List ℕ) (s : Schema) (read : readSchema schema ≡ accepted
       (first-cells (λ r. r .start) rows (length (c .starts)) n (w .size) (omega (arith, w .room, equal .of-starts)))
       (first-cells (λ r. r .size) rows (length (c .lengths)) n (w .size) (omega (arith, w .room, equal .of-lengths)))
 
-  -- each column has so many cells
-  pub record Rooms : Type 0 where
-    pub numbers : n ≤ length (d .numbers)
-    pub names : n ≤ length (d .names)
-    pub parents : n ≤ length (d .parents)
-    pub starts : n ≤ length (d .starts)
-    pub lengths : n ≤ length (d .lengths)
-
-  pub rooms : Rooms
+  rooms : Rooms d n
   rooms =
       let z : sizesOf d ≡ sizesOf c = ap sizesOf (w .columns-are) ∙ sizes-after (sizesOf c) rows in
       let l = w .room in
@@ -177,54 +198,54 @@ module _ (schema : List ℕ) (s : Schema) (read : readSchema schema ≡ accepted
         lengths = omega (arith, ap (λ (x : Sizes). x .lengths) z, equal .of-lengths);
       }
 
-  long : length rows ≡ length (firstOf d n .numbers)
-  long = sym (length-map rows (λ r. r .number)) ∙ sym (ap (λ (x : Columns). length (x .numbers)) first-columns)
-
-  pub first-asked : TextColumns journal (firstOf d n) (length (firstOf d n .numbers)) × KeptColumns (firstOf d n .names) (firstOf d n .parents)
+  pub first-asked : FirstAsked journal d n
   first-asked =
-      (
-        rw (← long, first-columns) (text-columns (typesOf s) journal rows beside (rows-coded schema s read rows alone)),
-        rw first-columns (kept-columns (typesOf s) journal rows beside (rows-coded schema s read rows alone)),
-      )
+      let coded = rows-coded schema s read rows alone in
+      let text = subst (λ (k : ℕ). TextColumns journal (columnsIn rows) k) (sym (length-map rows (λ r. r .number))) (text-columns (typesOf s) journal rows beside coded) in
+      let kept = kept-columns (typesOf s) journal rows beside coded in
+      record {
+        rooms = rooms;
+        texts = subst (λ (y : Columns). TextColumns journal y (length (y .numbers))) (sym first-columns) text;
+        kept = subst (λ (y : Columns). KeptColumns (y .names) (y .parents)) (sym first-columns) kept;
+      }
 
   -- the bytes of the rows that the bundle needs
   module _ (t : CompiledSchema) (made : CompiledOf schema s t) (paths : CompiledPaths) (x : NameSet) (need : NeededIn t paths x) where
-    pub bytes-needed : extractIn journal (firstOf d n) (keptMarks (inSet x) (firstOf d n .names) (firstOf d n .parents)) ≡ extractOf s (pathsIn paths) journal rows
+    bytes-needed : extractIn journal (firstOf d n) (keptMarks (inSet x) (firstOf d n .names) (firstOf d n .parents)) ≡ extractOf s (pathsIn paths) journal rows
     unfolding extractOf
     bytes-needed =
         ap (λ (y : Columns). extractIn journal y (keptMarks (inSet x) (y .names) (y .parents))) first-columns
         ∙ cut-extract (typesOf s) journal rows alone (codes-named rows (rows-coded schema s read rows alone)) (inSet x) (needed (typesOf s) (pathsIn paths))
         (set-passes schema s read rows alone x (needed (typesOf s) (pathsIn paths)) (compiled-needed schema s read t made paths x (need .under) .0))
 
-    module _ (was out : List ℕ) (m : ℕ)
-        (b : AnsweredIn was (extractIn journal (firstOf d n) (keptMarks (inSet x) (firstOf d n .names) (firstOf d n .parents))) m out) (e : Columns) (r : HostResult)
-        (a : AnswerAs n m (length out) d e r) where
-      abbrev bytes : List ℕ
-      bytes = extractOf s (pathsIn paths) journal rows
+  module _ (t : CompiledSchema) (made : CompiledOf schema s t) (paths : CompiledPaths) (was out : List ℕ) (e : Columns) (r : HostResult)
+      (u : WrittenUnder t paths journal n d e was out r) where
+    abbrev bytes : List ℕ
+    bytes = extractOf s (pathsIn paths) journal rows
 
-      stored : AnsweredIn was bytes m out
-      stored = subst (λ (y : List ℕ). AnsweredIn was y m out) bytes-needed b
+    stored : AnsweredIn was bytes (u .size) out
+    stored = subst (λ (y : List ℕ). AnsweredIn was y (u .size) out) (bytes-needed t made paths (u .set) (u .need)) (u .bytes)
 
-      room-out : length out ≡ length was
-      unfolding inLentBytes
-      room-out = ap length (stored .cells) ∙ padded-length (length was) _
+    room-out : length out ≡ length was
+    unfolding inLentBytes
+    room-out = ap length (stored .cells) ∙ padded-length (length was) _
 
-      staged : madeUnder s (pathsIn paths) journal (sizesOf c) (length was) ≡ madeOf s (pathsIn paths) journal (length was) rows
-      staged =
-          ap (λ (o : Outcome (List Row)). andThen (andThen o (inColumns (sizesOf c))) (madeOf s (pathsIn paths) journal (length was))) (w .journal-read)
-          ∙ ap (λ (y : Bool). andThen (inRoom y rows) (madeOf s (pathsIn paths) journal (length was))) (le-ltb (length (c .numbers)) (length rows) (w .room))
+    staged : madeUnder s (pathsIn paths) journal (sizesOf c) (length was) ≡ madeOf s (pathsIn paths) journal (length was) rows
+    staged =
+        ap (λ (o : Outcome (List Row)). andThen (andThen o (inColumns (sizesOf c))) (madeOf s (pathsIn paths) journal (length was))) (w .journal-read)
+        ∙ ap (λ (y : Bool). andThen (inRoom y rows) (madeOf s (pathsIn paths) journal (length was))) (le-ltb (length (c .numbers)) (length rows) (w .room))
 
-      pub made-exit : Exits (madeUnder s (pathsIn paths) journal (sizesOf c) (length was)) (lentOf c was []) r e out []
-      unfolding inLentBytes
-      made-exit = same-exit staged (pick (tooSmall (length was) bytes) refl (stored .cells))
-        where
-          pick : (y : Bool) → tooSmall (length was) bytes ≡ y → out ≡ cellsAfter (length was) (λ l. l) (inRoom y bytes) → Exits (inRoom y (hostAnswer rows bytes [])) (lentOf c was []) r e out []
-          pick true q o =
-              let few = ltb-true (length was) (length bytes) q in
-              let h = a .short (omega (arith, room-out, stored .size)) in
-              refused-exit (at tooFewCells 0) refl refl
-              (record { result = h .0; columns-are = h .1 ∙ ap (λ (z : Sizes). columnsOf z []) (ap sizesOf (w .columns-are) ∙ sizes-after (sizesOf c) rows); items-are = o; counts-are = refl })
-          pick false q o =
-              let many = ltb-false (length was) (length bytes) q in
-              let h = a .enough (omega (arith, room-out, stored .size)) in
-              answered-exit (hostAnswer rows bytes []) (h .0 ∙ rw (w .size, stored .size)) (h .1 ∙ w .columns-are) o refl
+    pub made-exit : Exits (madeUnder s (pathsIn paths) journal (sizesOf c) (length was)) (lentOf c was []) r e out []
+    unfolding inLentBytes
+    made-exit = same-exit staged (pick (tooSmall (length was) bytes) refl (stored .cells))
+      where
+        pick : (y : Bool) → tooSmall (length was) bytes ≡ y → out ≡ cellsAfter (length was) (λ l. l) (inRoom y bytes) → Exits (inRoom y (hostAnswer rows bytes [])) (lentOf c was []) r e out []
+        pick true q o =
+            let few = ltb-true (length was) (length bytes) q in
+            let h = u .last .short (omega (arith, room-out, stored .size)) in
+            refused-exit (at tooFewCells 0) refl refl
+            (record { result = h .0; columns-are = h .1 ∙ ap (λ (z : Sizes). columnsOf z []) (ap sizesOf (w .columns-are) ∙ sizes-after (sizesOf c) rows); items-are = o; counts-are = refl })
+        pick false q o =
+            let many = ltb-false (length was) (length bytes) q in
+            let h = u .last .enough (omega (arith, room-out, stored .size)) in
+            answered-exit (hostAnswer rows bytes []) (h .0 ∙ ap₂ (λ (x y : ℕ). answeredOf x y 0) (w .size) (stored .size)) (h .1 ∙ w .columns-are) o refl

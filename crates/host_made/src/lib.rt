@@ -6,7 +6,7 @@ ghost use Prim.Native.Nat.{_≤_};
 ghost use lib.ListN.{length};
 ghost use Rattle.compiled_paths.specs.Paths.{pathsIn, Shaped};
 ghost use Rattle.host_laws.specs.Stages.{lentOf, madeUnder};
-ghost use Rattle.host_made.specs.Making.{NeededIn, AnswerAs, UnderTexts};
+ghost use Rattle.host_made.specs.Making.{NeededIn, AnswerAs, FirstAsked, WrittenUnder, UnderTexts};
 ghost use Rattle.host_results.specs.Exits.{Exits};
 ghost use Rattle.row_columns.specs.Columns.{columns};
 ghost use Rattle.schema_spec.specs.Records.{schemaIn};
@@ -59,6 +59,40 @@ fn answer(
     host_results::answered(rows, bytes, 0)
 }
 
+// Writes the extract of the first rows in the columns.
+fn write_under(
+    compiled: CompiledSchema,
+    paths: CompiledPaths,
+    journal: &[u8],
+    rows: usize,
+    numbers: &mut [u16],
+    names: &mut [u8],
+    parents: &mut [u16],
+    starts: &mut [u32],
+    lengths: &mut [u16],
+    out: &mut [u8],
+) -> HostResult
+    requires { ⌜ Shaped paths × (compiled .count ≤ maxDeclarations) × FirstAsked (now journal) (columns (now numbers) (now names) (now parents) (now starts) (now lengths)) rows ⌝ }
+    ensures { λ r. ⌜ WrittenUnder compiled paths (now (journal .entry)) rows (columns (now (numbers .entry)) (now (names .entry)) (now (parents .entry)) (now (starts .entry)) (now (lengths .entry))) (columns (now (numbers .exit)) (now (names .exit)) (now (parents .exit)) (now (starts .exit)) (now (lengths .exit))) (now (out .entry)) (now (out .exit)) r ⌝ }
+{
+    let set = needed_by(compiled, paths);
+    let bytes = write_kept(
+        set,
+        journal,
+        &numbers[..rows],
+        &names[..rows],
+        &parents[..rows],
+        &starts[..rows],
+        &lengths[..rows],
+        out,
+    );
+    let room = out.len();
+    answer(
+        rows, bytes, room, numbers, names, parents, starts, lengths,
+    )
+}
+
+// The journal's rows in the columns, and then the bytes; on refusal no cell is left.
 pub fn make_under(
     schema: &[u8],
     compiled: CompiledSchema,
@@ -89,26 +123,16 @@ pub fn make_under(
         clear_bytes(out, 0);
         return host_results::refused(verdict.number, verdict.place);
     }
-    let rows = verdict.size;
-    let set = needed_by(compiled, paths);
-    let bytes = write_kept(
-        set,
+    write_under(
+        compiled,
+        paths,
         journal,
-        &numbers[..rows],
-        &names[..rows],
-        &parents[..rows],
-        &starts[..rows],
-        &lengths[..rows],
-        out,
-    );
-    answer(
-        rows,
-        bytes,
-        out.len(),
+        verdict.size,
         numbers,
         names,
         parents,
         starts,
         lengths,
+        out,
     )
 }

@@ -102,3 +102,13 @@ module _ (schema bundle : List ℕ) (j : JudgedSchema) (J : JudgedAs schema j) (
         paths-are = w .compiled ∙ sym (ap (resultOr []) o);
         shaped = w .shaped;
       }
+
+-- what the number says of both texts
+module _ (schema bundle : List ℕ) (t : Texts) (J : TextsJudged schema bundle t) where
+  pub texts-accepted : t .told .number ≡ 0 → bundlePaths schema bundle ≡ accepted (pathsIn (t .paths))
+  texts-accepted n =
+      told-accepted (t .told) (bundlePaths schema bundle) (J .told-as) [] n
+      ∙ ap {B = Outcome (List (LocationPath ℕ))} (λ ps. accepted ps) (sym (J .paths-are))
+
+  pub texts-refused : (t .told .number ≡ 0 → ⊥) → (f : Refusal) × (bundlePaths schema bundle ≡ refused f) × (t .told .number ≡ numberOf (f .reason)) × (t .told .place ≡ f .place)
+  texts-refused n = told-refused (t .told) (bundlePaths schema bundle) (J .told-as) n

@@ -5,8 +5,8 @@ use Rattle.marks.specs.Forward.{Forward, forward-none, forward-all}
 use Rattle.marks.specs.Passes.{rangeMarks, filter-next, filter-length}
 use borrow.Author.Needs.{needs}
 use native.Mathlib.Omega.{arith}
-use Rattle.axis_passes.proofs.filter.Statement.{statement}
-use Rattle.axis_passes.proofs.filter.Tie as tie
+use Rattle.mark_sets.proofs.filter.Statement.{statement}
+use Rattle.mark_sets.proofs.filter.Tie as tie
 
 abbrev Inv-loop : tie.InvT-loop
 Inv-loop codes low high from out₀ r₀ out r = Forward (intersection from (rangeMarks low high codes)) out₀ r out

@@ -3,8 +3,8 @@ use mathlib.Core.Logic.{⊎-elim}
 use mathlib.Core.Path.{_∙_}
 use Rattle.marks.specs.Passes.{code-above, code-below, code-between}
 use native.Mathlib.Omega.{arith}
-use Rattle.axis_passes.proofs.in_range.Statement.{statement}
-use Rattle.axis_passes.proofs.in_range.Tie as tie
+use Rattle.mark_sets.proofs.in_range.Statement.{statement}
+use Rattle.mark_sets.proofs.in_range.Tie as tie
 
 returns : tie.Need-returns
 returns c = code-above _ _ _ (c .if2 .taken)

@@ -6,8 +6,8 @@ use Rattle.marks.specs.Passes.{some-none, some-next, some-all}
 use Rattle.text_spec.specs.Lists.{anyBelow}
 use borrow.Author.Needs.{needs}
 use native.Mathlib.Omega.{arith}
-use Rattle.axis_passes.proofs.any_marked.Statement.{statement}
-use Rattle.axis_passes.proofs.any_marked.Tie as tie
+use Rattle.mark_sets.proofs.any_marked.Statement.{statement}
+use Rattle.mark_sets.proofs.any_marked.Tie as tie
 
 abbrev Inv-loop : tie.InvT-loop
 Inv-loop marks x₀ r₀ x r = (r ≤ length marks) × (x ≡ mark (anyBelow r (isMarked marks)))
