@@ -31,7 +31,7 @@ begin-requires c κs = search needs
 
 -- src/lib.rt:72:5
 loop-holds : tie.Need-loop-holds Inv-loop μ-loop
-loop-holds c = 
+loop-holds c =
     let start = c .before .before .before .before .before .before .before in
     (stands-begun _ _ _ _ (start .pre .0) (start .pre .1) refl (search needs) _ (c .begin .ensures), refl, refl, refl, refl, refl)
 
@@ -45,7 +45,7 @@ loop-less c = fewer-left _ _ _ _ _ (c .before .before .before .before .before .b
 
 -- src/lib.rt:72:5
 loop-again : tie.Need-loop-again Inv-loop μ-loop
-loop-again c = 
+loop-again c =
     let at = c .before .before .before .before .before .before .before .before .before .before .before .before .before .before .before .before .before .before .loop in (
       c .before .before .before .before .before .before .before .before .before .before .read-row .ensures .stands,
       omega (arith, c .before .before .before .before .before .before .before .before .before .numbers .given, at .inv .1),
@@ -77,11 +77,11 @@ same-length-5 c = c .before .before .loop .inv .5
 
 -- src/lib.rt:58:1
 returns : tie.Need-returns Inv-loop μ-loop
-returns c = 
+returns c =
     let at = c .before .before .loop in
     let g = c .before .before .before .before .before .before .before .before .before .before .args in
     let sizes = same-sizes (columns (g .numbers .now) (g .names .now) (g .parents .now) (g .starts .now) (g .lengths .now)) (columns (at .numbers) (at .names) (at .parents) (at .starts) (at .lengths))
-        (at .inv .1) (at .inv .2) (at .inv .3) (at .inv .4) (at .inv .5) in
+    (at .inv .1) (at .inv .2) (at .inv .3) (at .inv .4) (at .inv .5) in
     rows-read _ _ _ _ _ (at .inv .0) (c .before .loop-test .left) _ sizes _ refl
 
 pub read-rows-spec : {M : Type 1} → statement M

@@ -67,13 +67,13 @@ same-length-5 c = search needs
 
 -- src/lib.rt:21:1
 returns : tie.Need-returns
-returns c = 
+returns c =
     let g = c .before .args in
     row-in (columns (now (g .numbers)) (now (g .names)) (now (g .parents)) (now (g .starts)) (now (g .lengths))) (g .n) (rowCells (g .row)) (c .before .pre) (c .if1 .taken)
 
 -- src/lib.rt:21:1
 returns-2 : tie.Need-returns-2
-returns-2 c = 
+returns-2 c =
     let g = c .before .args in
     row-out (columns (now (g .numbers)) (now (g .names)) (now (g .parents)) (now (g .starts)) (now (g .lengths))) (g .n) (rowCells (g .row)) (c .before .pre) (c .if1 .left)
 

@@ -51,7 +51,7 @@ add-t18 c = search needs
 
 -- src/lib.rt:36:1
 returns : tie.Need-returns
-returns c = 
+returns c =
     let g = c .before .before .before .before .before .before .before .args in
     (c .before .before .«open» .ensures, element-made (now (g .levels)) (g .carried) (g .number) (g .element) (g .depth) _ (c .before .before .before .before .before .row-of .ensures))
 

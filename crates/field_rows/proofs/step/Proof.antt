@@ -47,7 +47,7 @@ returns-2 c = step-ended _ _ _ _ (c .before .before .before .before .before .pre
 
 -- src/lib.rt:98:1
 returns-3 : tie.Need-returns-3
-returns-3 c = 
+returns-3 c =
     let start = c .before .before .before .before .before .before .before .before in
     element-step _ _ _ _ (start .pre) _ (c .before .before .before .before .before .read-field .ensures) _ _ _ (c .before .before .before .number .given .1) _ (c .element-row .ensures .0) _ (c .element-row .ensures .1)
 

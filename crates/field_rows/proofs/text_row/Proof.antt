@@ -63,7 +63,7 @@ add-t11 c = search needs
 
 -- src/lib.rt:67:1
 returns : tie.Need-returns
-returns c = 
+returns c =
     let g = c .before .before .before .before .before .args in
     text-made (now (g .levels)) (g .carried) (g .number) (g .depth) (g .size) _ _ (c .before .before .element-of .ensures) (c .before .row-of .ensures)
 
