@@ -100,6 +100,12 @@ class Runs:
             print("command: %s:\n  %r\n  is not\n  %r" % (what, got, wanted))
 
 
+def as_nobody():
+    """For what is allowed to the superuser alone."""
+    if os.geteuid() == 0:
+        os.setuid(65534)
+
+
 def words_for(changed):
     action = ["select", "schema", "paths", "extract"] if changed == "extract" else ["extract", "schema", "paths", "journal", "-o", "out"]
     return [word + ".changed" if word == changed and k else word for k, word in enumerate(action)]
@@ -155,6 +161,8 @@ def try_files(runs):
     runs.expect("a full device", runs.run(extract + ["/dev/full"]), (2, "", "lozhymet: /dev/full: No space left on device\n"))
     runs.expect("a folder as output", runs.run(extract + ["."]), (2, "", "lozhymet: .: Is a directory\n"))
     runs.expect("a missing folder", runs.run(extract + ["none/x"]), (2, "", "lozhymet: none/x: No such file or directory\n"))
+    os.mkdir(os.path.join(runs.folder, "locked"), 0o555)
+    runs.expect("a locked folder", runs.run(extract + ["locked/x"], preexec_fn=as_nobody), (2, "", "lozhymet: locked/x: Permission denied\n"))
     with open("/dev/full", "w") as full:
         status, _, err = runs.run(["select", "schema", "paths", "tray", "-q"], stdout=full)
     runs.expect("full standard output", (status, err), (2, "lozhymet: standard output: No space left on device\n"))
@@ -219,6 +227,7 @@ def try_manual(prefix):
 def main():
     archive = os.path.abspath(os.environ.get("LOZHYMET_LIB", os.path.join(ROOT, "target", "staticlib", "liblibrary.a")))
     with tempfile.TemporaryDirectory() as work:
+        os.chmod(work, 0o755)
         prefix, sanitized = os.path.join(work, "prefix"), os.path.join(work, "sanitized")
         make = ["make", "-s", "-C", ROOT, "LOZHYMET_LIB=" + archive]
         subprocess.run(make + ["BUILD=" + os.path.join(work, "build"), "PREFIX=" + prefix, "install"], check=True)
@@ -226,6 +235,7 @@ def main():
         faults = count = 0
         for program in (os.path.join(prefix, "bin", "lozhymet"), os.path.join(sanitized, "lozhymet")):
             with tempfile.TemporaryDirectory() as folder:
+                os.chmod(folder, 0o755)
                 runs = Runs(program, folder)
                 for tests in (try_refusals, try_success, try_files, try_large):
                     tests(runs)

@@ -10,12 +10,12 @@
 #include <time.h>
 
 enum { PEERS = 5, TASKS = 3, MAX_TRAYS = 8 };
-enum { READ, SELECT, ALL };
+enum { READ, SELECT, ALL, COLUMNS };
 enum { LOZHYMET, LIBXML2, XERCES, PUGIXML, EXPAT };
 static const struct peer *const peers[PEERS] = { &lozhymet_peer, &libxml2_peer, &xerces_peer, &pugixml_peer, &expat_peer };
 static const char *const tasks[TASKS] = { "read", "select", "all" };
 /* microseconds; 0 where nothing was measured */
-static double least[MAX_TRAYS][PEERS][TASKS];
+static double least[MAX_TRAYS][PEERS][TASKS + 1];
 static int elements[MAX_TRAYS];
 
 static double now(void) {
@@ -80,6 +80,13 @@ static void run_round(int tray, int peer, const struct tray *t) {
     elements[tray] = p->elements();
     if (!p->select) return;
     if (p->make) p->make();
+    if (p->columns) {
+        begin = now();
+        long nodes = p->columns();
+        note(tray, peer, COLUMNS, now() - begin);
+        must(nodes == p->select(), p, "selects other nodes on the whole journal");
+        p->make();
+    }
     begin = now();
     p->select();
     note(tray, peer, SELECT, now() - begin);
@@ -115,6 +122,9 @@ static void print_times(int tray) {
             if (k == READ || peers[p]->select) printf("   %s %.1f", tasks[k], least[tray][p][k] / least[tray][0][k]);
         printf("\n");
     }
+    double best = least[tray][LIBXML2][SELECT] < least[tray][PUGIXML][SELECT] ? least[tray][LIBXML2][SELECT] : least[tray][PUGIXML][SELECT];
+    printf("lozhymet's paths on the columns of the whole journal: %.0f us; the best peer's select takes %.1f times as long\n", least[tray][0][COLUMNS],
+        best / least[tray][0][COLUMNS]);
     /* Xerces-C with its grammar loaded before, which is in its favour */
     double both = least[tray][XERCES][READ] + least[tray][PUGIXML][ALL];
     printf("Xerces-C to validate and pugixml to select: all %.0f us, %.1f times as long\n", both, both / least[tray][0][ALL]);

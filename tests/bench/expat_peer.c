@@ -40,4 +40,4 @@ static int elements(void) {
 static void finish(void) {
 }
 
-const struct peer expat_peer = { "expat", "parse to events", start, read_journal, elements, NULL, NULL, NULL, finish };
+const struct peer expat_peer = { "expat", "parse to events", start, read_journal, elements, NULL, NULL, NULL, NULL, finish };

@@ -85,4 +85,4 @@ static void finish(void) {
     xmlFreeDtd(dtd);
 }
 
-const struct peer libxml2_peer = { "libxml2", "parse to a tree, validate", start, read_journal, elements, NULL, select_all, selected, finish };
+const struct peer libxml2_peer = { "libxml2", "parse to a tree, validate", start, read_journal, elements, NULL, select_all, NULL, selected, finish };

@@ -46,6 +46,17 @@ static long select_all(void) {
     return r.number ? -1 : (long)r.items;
 }
 
+/* crates/timing, on columns of exactly the journal's rows */
+size_t time_selection(const uint8_t *schema, size_t schema_len, const uint8_t *bundle, size_t bundle_len, const uint16_t *numbers, size_t numbers_len,
+    const uint8_t *codes, size_t codes_len, const uint16_t *parents, size_t parents_len, uint16_t *items, size_t items_len, uint32_t *counts,
+    size_t counts_len, uint8_t *marks, size_t marks_len, uint8_t *held, size_t held_len, uint8_t *steps, size_t steps_len, uint8_t *next, size_t next_len);
+
+static long select_columns(void) {
+    static uint8_t scratch[4][LOZHYMET_MAX_ROWS];
+    return (long)time_selection((const uint8_t *)tray->schema, tray->schema_len, (const uint8_t *)tray->bundle, tray->bundle_len, numbers, rows, names, rows,
+        parents, rows, items, LOZHYMET_MAX_PATHS * rows, counts, LOZHYMET_MAX_PATHS, scratch[0], rows, scratch[1], rows, scratch[2], rows, scratch[3], rows);
+}
+
 static size_t selected(size_t path, uint16_t *to) {
     size_t from = 0;
     for (size_t k = 0; k < path; k++) from += counts[k];
@@ -57,4 +68,4 @@ static void finish(void) {
     rows = 0;
 }
 
-const struct peer lozhymet_peer = { "lozhymet", "parse to columns, validate", start, read_journal, elements, make, select_all, selected, finish };
+const struct peer lozhymet_peer = { "lozhymet", "parse to columns, validate", start, read_journal, elements, make, select_all, select_columns, selected, finish };

@@ -22,6 +22,7 @@ struct peer {
     int (*elements)(void); /* of the journal read last */
     int (*make)(void);    /* this library alone: the extract for all paths, from the texts; 0 where it is refused */
     long (*select)(void); /* all paths, on what was read or made last: how many nodes; NULL where the library has no paths */
+    long (*columns)(void); /* this library alone: all paths on the columns of the whole journal, as read or made last */
     size_t (*numbers)(size_t path, uint16_t *numbers); /* the numbers of the nodes that a path selected */
     void (*finish)(void);
 };

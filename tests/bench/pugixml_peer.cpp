@@ -66,4 +66,4 @@ void finish() {
 }
 }
 
-extern "C" const peer pugixml_peer = { "pugixml", "parse to a tree", start, read_journal, elements, nullptr, select_all, selected, finish };
+extern "C" const peer pugixml_peer = { "pugixml", "parse to a tree", start, read_journal, elements, nullptr, select_all, nullptr, selected, finish };

@@ -24,4 +24,4 @@ void finish() {
 }
 }
 
-extern "C" const peer xerces_peer = { "Xerces-C", "parse to events, validate", start, read_journal, elements, nullptr, nullptr, nullptr, finish };
+extern "C" const peer xerces_peer = { "Xerces-C", "parse to events, validate", start, read_journal, elements, nullptr, nullptr, nullptr, nullptr, finish };

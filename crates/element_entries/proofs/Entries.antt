@@ -7,7 +7,7 @@ use Prim.Native.Nat.{ℕ, zero, suc, _+_, _-_, _≤_, _<_}
 use native.Mathlib.Omega.{arith}
 use lib.ListN.{length, take, drop, getD, replicate, length-map, length-replicate}
 use lib.Seq.{sets, sets-eq}
-use Rattle.declarations.specs.Contents.{ContentBuilt, built-empty, built-pcdata, built-children}
+use Rattle.declared_contents.specs.Contents.{ContentBuilt, built-empty, built-pcdata, built-children}
 use Rattle.declarations.specs.Declarations.{DeclarationRead, Declared}
 use Rattle.particles.specs.Readings.{useAt}
 use Rattle.scanning.specs.Outcomes.{Skipped}

@@ -101,7 +101,7 @@ module _ (s : Schema) (lent : List ℕ) (t : LentTable) (beside : isBeside s len
   rows-written : extractIn lent columns (marks (length (columns .numbers)) (λ r. true)) ≡ writeExtract lent rows
   rows-written =
       ap (λ (n : ℕ). extractIn lent columns (marks n (λ r. true))) (sym long) ∙ ap (λ (c : Columns). extractIn lent c (marks (length rows) (λ r. true))) (sym same)
-      ∙ table-extract (typesOf s) lent rows (well-formed-alone (typesOf s) lent rows (held .1) (held-coded t rows (held .0))) (codes-named rows (held-coded t rows (held .0)))
+      ∙ table-extract (typesOf s) lent rows (well-formed-alone (typesOf s) lent rows (held .1)) (codes-named rows (held-coded t rows (held .0)))
 
 -- ---- the outcome by the record and by the table
 abbrev afterTable : Option (List Row) → List ℕ → ℕ → Outcome (List ℕ)

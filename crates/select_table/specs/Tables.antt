@@ -7,6 +7,7 @@ use native.Mathlib.Omega.{arith}
 use lib.Dec.{T, eqb}
 use lib.ListN.{length, take, replicate, length-map, length-replicate}
 use lib.Seq.{length-take-le}
+use Rattle.asked_paths.specs.Ranges.{pastAsked, asked-order}
 use Rattle.compiled_paths.specs.Columns.{bundleIn}
 use Rattle.compiled_paths.specs.Paths.{Shaped, pathsIn}
 use Rattle.compiled_paths.specs.declared.CompiledPaths.{CompiledPaths}
@@ -30,11 +31,6 @@ use Rattle.text_spec.specs.Refusals.{Outcome}
 use Rattle.written_steps.specs.Steps.{Scratch}
 
 -- ---- definitions
--- the path past those asked for
-abbrev pub pastAsked : ℕ → ℕ → ℕ
-pastAsked zero count = count
-pastAsked (suc i) count = suc i
-
 -- rows that are well formed under types, in these columns
 pub record RowsIn (s : Types) (rows : List Row) (numbers codes parents : List ℕ) : Type 0 where
   pub well-formed : T (wellFormed s rows)
@@ -55,13 +51,6 @@ pub record AskedPass (c : CompiledPaths) (place : ℕ) (numbers codes ps m held 
   pub scratch : Scratch ps held steps next
 
 -- ---- laws
-pub past-all : (place count : ℕ) → place ≡ 0 → count ≡ pastAsked place count
-past-all place count e = rw e
-
-pub past-one : (place count : ℕ) → (place ≡ 0 → ⊥) → place ≡ pastAsked place count
-past-one zero count d = absurd (d refl)
-past-one (suc i) count d = refl
-
 paths-long : (c : CompiledPaths) (n i : ℕ) → length (pathsFrom c n i) ≡ n
 unfolding bundleIn
 paths-long c zero i = refl
@@ -94,10 +83,6 @@ asked-paths c (suc i) l =
 -- cells by their own length
 padded-again : (n : ℕ) (cells xs : List ℕ) → cells ≡ padded n xs → cells ≡ padded (length cells) xs
 padded-again n cells xs e = e ∙ ap (λ (k : ℕ). padded k xs) (sym (ap length e ∙ padded-length n xs))
-
-pub asked-order : (place count first end : ℕ) → place ≤ count → first ≡ place - 1 → end ≡ pastAsked place count → (first ≤ end) × (end ≤ count)
-asked-order zero count first end l d e = (omega arith, omega arith)
-asked-order (suc i) count first end l d e = (omega arith, omega arith)
 
 module _ (c : CompiledPaths) (place : ℕ) (numbers codes ps : List ℕ) where
   pub asked-pass : (m held steps next : List ℕ) → AskedPass c place numbers codes ps m held steps next → (first end : ℕ) → first ≡ place - 1 → end ≡ pastAsked place (c .count)

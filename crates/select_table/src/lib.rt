@@ -1,39 +1,20 @@
 // The numbers that the paths asked for select on a table in columns, with scratch of its own, in lent cells.
 ghost use mathlib.Core.List.{List};
-ghost use mathlib.Core.Path.{_≡_};
-ghost use Prim.Native.Nat.{ℕ, _-_, _≤_};
+ghost use Prim.Native.Nat.{ℕ, _≤_};
 ghost use lib.ListN.{length};
 ghost use Rattle.compiled_paths.specs.Paths.{Shaped, pathsIn};
 ghost use Rattle.schema_spec.specs.Types.{Types};
 ghost use Rattle.select.specs.Paths.{Columns};
-ghost use Rattle.select_table.specs.Tables.{pastAsked, AskedPass, RowsIn, rowsSelected};
+ghost use Rattle.select_table.specs.Tables.{AskedPass, RowsIn, rowsSelected};
 ghost use Rattle.selected_answers.specs.Answers.{AnsweredAs};
 ghost use Rattle.table_spec.specs.Rows.{Row};
+use asked_paths::first_asked;
+use asked_paths::past_asked;
 use compiled_paths::CompiledPaths;
 use kept_rows::MAX_ROWS;
 use select_paths::select_paths;
 use selected_answers::Selected;
 use selected_answers::in_room;
-
-// Where the paths asked for begin: a place is counted from 1, and 0 asks for all.
-fn first_asked(place: usize) -> usize
-    ensures { λ r. ⌜ r ≡ place - 1 ⌝ }
-{
-    if place == 0 {
-        return 0;
-    }
-    place - 1
-}
-
-// The path past those asked for.
-fn past_asked(place: usize, count: usize) -> usize
-    ensures { λ r. ⌜ r ≡ pastAsked place count ⌝ }
-{
-    if place == 0 {
-        return count;
-    }
-    place
-}
 
 // Selects with lent scratch, a byte for each row in each of `marks`, `held`, `steps` and `next`.
 fn select_into(

@@ -52,13 +52,16 @@ text-short : (r : Row) → TextCells r → T (isText (r .name)) → r .size ≤ 
 text-short r (of-element {e = e} q a b) t = absurd (subst (λ (n : Name). T (isText n)) q t)
 text-short r (of-text q a b) t = b
 
+pub well-formed-alone : (s : Types) (lent : List ℕ) (rows : List Row) → T (wellFormedWith s lent rows) → T (wellFormed s rows)
+unfolding wellFormedWith
+well-formed-alone s lent rows ok = and-cases (wellFormed s rows) (allOf (textInside lent) rows) ok .0
+
 module _ (s : Types) (lent : List ℕ) (rows : List Row) (ok : T (wellFormedWith s lent rows)) (coded : NamesCoded rows) where
-  pub well-formed-alone : T (wellFormed s rows)
-  unfolding wellFormedWith
-  well-formed-alone = and-cases (wellFormed s rows) (allOf (textInside lent) rows) ok .0
+  alone : T (wellFormed s rows)
+  alone = well-formed-alone s lent rows ok
 
   pub rows-few : length rows ≤ maxNodes
-  rows-few = omega (arith, tested-columns s rows well-formed-alone coded .few, length-map rows (λ r. r .parent))
+  rows-few = omega (arith, tested-columns s rows alone coded .few, length-map rows (λ r. r .parent))
 
   -- what holds of each text row holds of its cells
   at-texts : (P : ℕ → ℕ → Type 0) → ((r : Row) → In r rows → T (isText (r .name)) → P (r .start) (r .size)) → (k : ℕ) → k < length rows → maxDeclarations ≤ getD (columnsIn rows .names) k 0
@@ -82,16 +85,16 @@ module _ (s : Types) (lent : List ℕ) (rows : List Row) (ok : T (wellFormedWith
               lengths = length-map rows (λ r. r .size);
             };
         few = rows-few;
-        above = λ k l. let b = parents-first s rows well-formed-alone k l in omega arith;
+        above = λ k l. let b = parents-first s rows alone k l in omega arith;
         inside = at-texts (λ a n. a + n ≤ length lent) (well-formed-beside s lent rows .0 ok .inside);
-        short = at-texts (λ a n. n ≤ maxTextBytes) (λ r i t. text-short r (cells-mean (r .name) r refl (all-in cellsFit (all-cells s rows well-formed-alone) i)) t);
+        short = at-texts (λ a n. n ≤ maxTextBytes) (λ r i t. text-short r (cells-mean (r .name) r refl (all-in cellsFit (all-cells s rows alone) i)) t);
       }
 
   pub kept-columns : KeptColumns (columnsIn rows .names) (columnsIn rows .parents)
   kept-columns =
       record {
-        before = nodes-placed s [] rows well-formed-alone .before;
+        before = nodes-placed s [] rows alone .before;
         coded = codes-low rows coded;
         size = omega (arith, length-map rows (λ r. codeOf (r .name)), length-map rows (λ r. r .parent));
-        few = tested-columns s rows well-formed-alone coded .few;
+        few = tested-columns s rows alone coded .few;
       }

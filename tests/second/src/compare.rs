@@ -8,6 +8,7 @@ mod extract;
 mod faults;
 mod guided;
 mod host;
+mod inputs;
 mod journal;
 mod needed;
 mod random;
@@ -15,50 +16,19 @@ mod schema;
 mod table;
 mod text;
 
-use crate::bundle::{read_bundle, Axis, Path};
+use crate::bundle::{read_bundle, Path};
 use crate::host::{Left, Lent};
+use crate::inputs::{arguments, random_input, report, shown, wanted_steps, Input, Seen, MAX_JOURNAL};
 use crate::journal::read_journal;
 use crate::random::Random;
-use crate::schema::{read_schema, Schema};
+use crate::schema::read_schema;
 use crate::table::Row;
-use std::collections::BTreeMap;
-
-const MAX_JOURNAL: usize = 1_048_576;
-
-struct Input {
-    schema: Vec<u8>,
-    bundle: Vec<u8>,
-    journal: Vec<u8>,
-}
-
-/// How often each thing came; `wanted` has those that must.
-#[derive(Default)]
-struct Seen {
-    counts: BTreeMap<String, usize>,
-    calls: usize,
-}
-
-impl Seen {
-    fn note(&mut self, what: String) {
-        *self.counts.entry(what).or_insert(0) += 1;
-    }
-
-    fn path(&mut self, path: &Path, nodes: usize) {
-        self.note(if nodes > 0 { "a selection with nodes" } else { "a selection without" }.to_string());
-        for step in path {
-            let conditional = if step.condition.is_some() { " with a condition" } else { "" };
-            self.note(format!("{:?}{conditional}, {}", step.axis, if nodes > 0 { "nodes selected" } else { "none" }));
-        }
-    }
-}
 
 fn wanted() -> Vec<String> {
-    let axes = [Axis::SelfAxis, Axis::Child, Axis::Descendant, Axis::DescendantOrSelf, Axis::Parent, Axis::Ancestor, Axis::AncestorOrSelf];
     let making = (0..=18).filter(|n| *n != 17).map(|n| format!("making: {n}"));
     let selecting = (0..=18).filter(|n| !(11..=16).contains(n)).map(|n| format!("selecting: {n}"));
-    let steps = axes.iter().flat_map(|a| ["", " with a condition"].map(|c| [", nodes selected", ", none"].map(|n| format!("{a:?}{c}{n}")))).flatten();
-    let others = ["a selection with nodes", "a selection without", "an extract with fewer rows than its journal"].map(String::from);
-    making.chain(selecting).chain(steps).chain(others).collect()
+    let fewer = "an extract with fewer rows than its journal".to_string();
+    making.chain(selecting).chain(wanted_steps()).chain([fewer]).collect()
 }
 
 /// How many cells to lend for an answer of these sizes: just enough, more, too few of one, or columns of unequal length.
@@ -91,10 +61,6 @@ fn enough_to_select(extract: &[u8]) -> Lent {
     Lent { columns: [rows; 5], items: 8 * rows, counts: 8 }
 }
 
-fn shown(bytes: &[u8]) -> String {
-    bytes[..bytes.len().min(2000)].escape_ascii().to_string()
-}
-
 fn same(ours: &Left, theirs: &Left, call: &str, input: &Input, extract: &[u8]) {
     if ours != theirs {
         println!("schema {}\nbundle {}\njournal {}\nextract {}", shown(&input.schema), shown(&input.bundle), shown(&input.journal), shown(extract));
@@ -106,27 +72,6 @@ fn same(ours: &Left, theirs: &Left, call: &str, input: &Input, extract: &[u8]) {
         println!("compare: {call} differs");
         std::process::exit(1);
     }
-}
-
-fn random_input(r: &mut Random) -> Input {
-    let (valid, s): (Vec<u8>, Schema) = loop {
-        let text = random::schema(r).into_bytes();
-        if let Ok(s) = read_schema(&text) {
-            break (text, s);
-        }
-    };
-    let made = random::journal(r, &s);
-    let valid_bundle = match read_journal(&s, &made, MAX_JOURNAL) {
-        Ok(rows) if r.chance(60) => guided::bundle(r, &s, &rows),
-        _ => random::bundle(r, &s),
-    };
-    let journal = match r.below(10) {
-        0..=5 => made,
-        6 => random::damaged(r, &made),
-        7 => random::retagged(r, &made),
-        _ => faults::journal(r, made, &s),
-    };
-    Input { schema: faults::schema(r, &valid, &s), bundle: faults::bundle(r, &valid_bundle, &s), journal }
 }
 
 /// Making, and the extract made where nothing is refused.
@@ -203,21 +148,12 @@ fn compare_largest(seen: &mut Seen) {
 }
 
 fn main() {
-    let numbers: Vec<usize> = std::env::args().skip(1).map(|a| a.parse().expect("compare SEED COUNT")).collect();
-    let [seed, count] = numbers[..] else { panic!("compare SEED COUNT") };
-    let mut r = Random::new(seed as u64);
+    let (seed, count) = arguments();
+    let mut r = Random::new(seed);
     let mut seen = Seen::default();
     compare_largest(&mut seen);
     for _ in 0..count {
         compare_input(&mut r, &mut seen);
     }
-    for (what, times) in &seen.counts {
-        println!("{times:8} {what}");
-    }
-    let missing: Vec<String> = wanted().into_iter().filter(|w| !seen.counts.contains_key(w)).collect();
-    println!("compare: {} calls on {count} random inputs answer alike", seen.calls);
-    if !missing.is_empty() {
-        println!("compare: these never came: {}", missing.join("; "));
-        std::process::exit(1);
-    }
+    report("compare", &seen, count, wanted());
 }

@@ -83,9 +83,18 @@ pub fn extract(r: &mut Random, written: &[u8]) -> Vec<u8> {
         8 => one = counted(written.to_vec(), if r.chance(50) { 1 } else { -1 }),
         9 if field.len() > 7 => one[starts[k] + 3 + r.below(5)] = r.below(12) as u8,
         10 if r.chance(10) => one.clear(),
+        11..=12 if field.len() > 7 => one = counted([before, field, &numbered_next(field), after].concat(), 1),
         _ => {}
     }
     one
+}
+
+/// The same row with the next number: well formed where that is free, but for a second text.
+fn numbered_next(field: &[u8]) -> Vec<u8> {
+    let mut next = field.to_vec();
+    let number = u16::from_be_bytes([field[3], field[4]]).wrapping_add(1);
+    next[3..5].copy_from_slice(&number.to_be_bytes());
+    next
 }
 
 /// The count in the last field changed by so much.

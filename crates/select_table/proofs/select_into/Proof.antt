@@ -1,5 +1,7 @@
 -- `select_into` meets its contract: the range of the paths asked for, what they select, the room.
-use Rattle.select_table.specs.Tables.{asked-pass, asked-order, asked-answered}
+use Rattle.asked_paths.specs.Ranges.{asked-order}
+use Rattle.select_table.specs.Tables.{asked-pass, asked-answered}
+use mathlib.Core.Path.{_∙_}
 use native.Mathlib.Omega.{arith}
 use borrow.Author.Needs.{needs}
 use Rattle.select_table.proofs.select_into.Statement.{statement}
@@ -25,6 +27,28 @@ sub-in-room c =
     let asked = asked-before (joined-before c) in
     asked-order _ _ _ _ (start-before asked .pre .inside) (asked .before .first-asked .ensures) (asked .past-asked .ensures) .0
 
+-- the state of what was lent, once the paths have been selected
+abbrev lent-before : tie.After-slice-known14 → tie.After-slice-known12
+lent-before c = c .before .before .before .before .before .before .before
+
+same-length : tie.Need-same-length
+same-length c = c .before .before .before .items2 .given ∙ lent-before c .before .before .before .before .before .before .before .before .before .before .before .items .given
+
+same-length-2 : tie.Need-same-length-2
+same-length-2 c = c .before .counts2 .given ∙ lent-before c .before .before .before .before .before .before .before .before .before .counts .given
+
+same-length-3 : tie.Need-same-length-3
+same-length-3 c = lent-before c .before .before .before .before .before .before .before .marks .given
+
+same-length-4 : tie.Need-same-length-4
+same-length-4 c = lent-before c .before .before .before .before .before .held .given
+
+same-length-5 : tie.Need-same-length-5
+same-length-5 c = lent-before c .before .before .before .steps .given
+
+same-length-6 : tie.Need-same-length-6
+same-length-6 c = lent-before c .before .next .given
+
 returns : tie.Need-returns
 returns c s text rows w =
     let answered = c .before .before .before .before in
@@ -42,10 +66,10 @@ select-into-spec =
     select-paths-requires
     sub-in-room
     (λ c κs. search needs)
-    (λ c. search needs)
-    (λ c. search needs)
-    (λ c. search needs)
-    (λ c. search needs)
-    (λ c. search needs)
-    (λ c. search needs)
+    same-length
+    same-length-2
+    same-length-3
+    same-length-4
+    same-length-5
+    same-length-6
     returns)
