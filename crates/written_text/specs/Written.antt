@@ -97,3 +97,25 @@ copying-next text was at i out w l =
 
 pub copying-all : (text was : List ℕ) (at i : ℕ) (out : List ℕ) → Copying text was at i out → length text ≤ i → WrittenAt was at text (at + i) out
 copying-all text was at i out w l = record { after = omega (arith, w .within); cells = w .copied ∙ ap (sets was at) (take-all i text l) }
+
+-- ---- one text behind another
+pub written-then : {was mid out : List ℕ} {at n m : ℕ} {xs ys : List ℕ} → WrittenAt was at xs n mid → WrittenAt mid n ys m out → WrittenAt was at (xs ++ ys) m out
+written-then {was} {mid} {out} {at} {n} {m} {xs} {ys} v w =
+    record {
+      after = omega (arith, v .after, w .after, length-append xs ys);
+      cells = w .cells ∙ ap₂ (λ (o : List ℕ) (k : ℕ). sets o k ys) (v .cells) (v .after) ∙ sym (sets-append was at xs ys);
+    }
+
+pub written-length : {was out : List ℕ} {at n : ℕ} {xs : List ℕ} → WrittenAt was at xs n out → length out ≡ length was
+written-length {was} {out} {at} {n} {xs} w = ap length (w .cells) ∙ length-sets was at xs
+
+digits-short : (d n : ℕ) → length (decimalIn d n) ≤ d
+digits-short zero n = omega arith
+digits-short (suc d) n = by (ltb n 10) (digits-short d (n / 10))
+  where
+    by : (b : Bool) → length (decimalIn d (n / 10)) ≤ d → length (cond b ((48 + n) ∷ []) (decimalIn d (n / 10) ++ ((48 + (n % 10)) ∷ []))) ≤ suc d
+    by true h = omega arith
+    by false h = omega (arith, length-append (decimalIn d (n / 10)) ((48 + (n % 10)) ∷ []))
+
+pub decimal-short : (n : ℕ) → length (decimal n) ≤ 20
+decimal-short n = digits-short 20 n
