@@ -15,11 +15,12 @@ use Rattle.listing_lines.specs.Lines.{lineOf}
 use Rattle.marks.specs.Selection.{parentsOf, numbersOf}
 use Rattle.path_spec.specs.Paths.{LocationPath}
 use Rattle.path_spec.specs.Selection.{select}
+use Rattle.row_chain_laws.specs.Nodes.{cell-of}
 use Rattle.schema_spec.specs.Schemas.{Schema}
 use Rattle.schema_spec.specs.Types.{Types}
 use Rattle.selected_rows.specs.Selected.{codesOf, NamesCoded}
 use Rattle.table_laws.specs.Parents.{NodeAt, nodes-numbered}
-use Rattle.table_laws.specs.Places.{none-some, at-bound}
+use Rattle.table_laws.specs.Places.{at-bound}
 use Rattle.table_spec.specs.Nodes.{Node, nodeNumber, nodesOf}
 use Rattle.table_spec.specs.Rows.{Row}
 use Rattle.table_spec.specs.Tables.{wellFormed}
@@ -41,11 +42,6 @@ rowLines line zero r = []
 rowLines line (suc n) r = line r ++ rowLines line n (suc r)
 
 -- ---- nodes by their rows
-number-of : {A : Type 0} (f : A → ℕ) (xs : List A) (i : ℕ) (x : A) → getElem? xs i ≡ some x → getD (map f xs) i 0 ≡ f x
-number-of f [] i x e = none-some e
-number-of {A} f (a ∷ xs) zero x e = let h : a ≡ x = cc in ap f h
-number-of f (a ∷ xs) (suc i) x e = number-of f xs i x e
-
 module _ (schema : Schema) (s : Types) (journal : List ℕ) (rows : List Row) (ok : T (wellFormed s rows)) (coded : NamesCoded rows) (paths : List (LocationPath ℕ)) (kept : ℕ)
     (firsts : List ℕ) (noted : FirstPaths (parentsOf rows) (codesOf rows) paths firsts) where
   abbrev doc : List Node
@@ -59,7 +55,7 @@ module _ (schema : Schema) (s : Types) (journal : List ℕ) (rows : List Row) (o
 
   module _ (r : ℕ) (y : Node) (a : NodeAt doc r y) where
     number-is : getD (numbersOf rows) r 0 ≡ nodeNumber y
-    number-is = ap (λ (ks : List ℕ). getD ks r 0) (sym (nodes-numbered journal rows)) ∙ number-of nodeNumber doc r y a
+    number-is = ap (λ (ks : List ℕ). getD ks r 0) (sym (nodes-numbered journal rows)) ∙ cell-of nodeNumber doc r y a
 
     in-rows : r < length rows
     in-rows = omega (arith, at-bound doc r y a, length-map doc nodeNumber, ap length (nodes-numbered journal rows), length-map rows (λ x. x .number))

@@ -27,12 +27,12 @@ use Rattle.text_spec.specs.Refusals.{accepted}
 use Rattle.text_spec.specs.Scans.{nameAt}
 
 -- what stands at a place of a list that is mapped
-at-map : {A B : Type 0} (f : A → B) (xs : List A) (i : ℕ) (x : A) → getElem? xs i ≡ some x → getElem? (map f xs) i ≡ some (f x)
+pub at-map : {A B : Type 0} (f : A → B) (xs : List A) (i : ℕ) (x : A) → getElem? xs i ≡ some x → getElem? (map f xs) i ≡ some (f x)
 at-map f [] i x e = none-some e
 at-map {A} {B} f (a ∷ xs) zero x e = let h : a ≡ x = cc in ap (λ (z : A). some (f z)) h
 at-map f (a ∷ xs) (suc i) x e = at-map f xs i x e
 
-cell-of : {A : Type 0} (f : A → ℕ) (xs : List A) (i : ℕ) (x : A) → getElem? xs i ≡ some x → getD (map f xs) i 0 ≡ f x
+pub cell-of : {A : Type 0} (f : A → ℕ) (xs : List A) (i : ℕ) (x : A) → getElem? xs i ≡ some x → getD (map f xs) i 0 ≡ f x
 cell-of f [] i x e = none-some e
 cell-of {A} f (a ∷ xs) zero x e = let h : a ≡ x = cc in ap f h
 cell-of f (a ∷ xs) (suc i) x e = cell-of f xs i x e
