@@ -7,7 +7,8 @@ use native.Mathlib.Numerals.{add-one}
 use native.Mathlib.Omega.{arith}
 use borrow.Author.Tests.{eq-eqb, ne-eqb}
 use lib.Dec.{eqb, eqb→eq}
-use lib.ListN.{length, getD, set, replicate, length-set, length-replicate, getD-replicate}
+use lib.ListN.{length, getD, set, drop, replicate, length-set, length-replicate, getD-replicate}
+use lib.Seq.{drop-cons, drop-length}
 use Rattle.compiled_paths.specs.Columns.{bundleIn, bundle-next, bundle-none}
 use Rattle.compiled_paths.specs.Paths.{pathsIn, Shaped}
 use Rattle.compiled_paths.specs.declared.CompiledPaths.{CompiledPaths}
@@ -34,6 +35,11 @@ columnsFor ps codes paths = map (pathMarks ps (namesIn codes)) paths
 pub record FirstPaths (ps codes : List ℕ) (paths : List (LocationPath ℕ)) (firsts : List ℕ) : Type 0 where
   pub long : length firsts ≡ length ps
   pub each : (r : ℕ) → r < length ps → getD firsts r 0 ≡ firstMarked 1 r (columnsFor ps codes paths)
+
+-- how many rows some path selects
+unfoldable pub selectedCount : List ℕ → ℕ
+selectedCount [] = 0
+selectedCount (f ∷ fs) = cond (eqb f 0) (selectedCount fs) (suc (selectedCount fs))
 
 -- ---- one path more
 abbrev pub firstOf : ℕ → ℕ → ℕ → ℕ
@@ -171,3 +177,53 @@ module _ (c : CompiledPaths) (ps codes : List ℕ) where
         same : (f : ℕ) → cond (eqb f 0) 0 f ≡ f
         same zero = refl
         same (suc f) = ap (λ (t : Bool). cond t 0 (suc f)) (ne-eqb (suc f) 0 (λ e. omega arith))
+
+-- ---- counting the rows that some path selects
+unfoldable pub countOf : ℕ → ℕ
+countOf first = cond (eqb first 0) 0 1
+
+count-low : (first : ℕ) → countOf first ≤ 1
+unfolding countOf
+count-low first = by (eqb first 0)
+  where
+    by : (b : Bool) → cond b 0 1 ≤ 1
+    by true = omega arith
+    by false = omega arith
+
+pub counted-low : (first k : ℕ) → k ≡ countOf first → k ≤ 1
+counted-low first k e = omega (arith, count-low first)
+
+pub count-none : (first : ℕ) → first ≡ 0 → 0 ≡ countOf first
+unfolding countOf
+count-none first e = sym (ap (λ (b : Bool). cond b 0 1) (eq-eqb first 0 e))
+
+pub count-one : (first : ℕ) → (first ≡ 0 → ⊥) → 1 ≡ countOf first
+unfolding countOf
+count-one first d = sym (ap (λ (b : Bool). cond b 0 1) (ne-eqb first 0 d))
+
+pub record Counting (firsts : List ℕ) (r n : ℕ) : Type 0 where
+  pub within : r ≤ length firsts
+  pub low : n ≤ r
+  pub whole : selectedCount firsts ≡ n + selectedCount (drop r firsts)
+
+pub counting-first : (firsts : List ℕ) → Counting firsts 0 0
+counting-first firsts = record { within = omega arith; low = omega arith; whole = omega arith }
+
+module _ (firsts : List ℕ) (r n : ℕ) (w : Counting firsts r n) (l : r < length firsts) where
+  one-counted : selectedCount (drop r firsts) ≡ countOf (getD firsts r 0) + selectedCount (drop (r + 1) firsts)
+  unfolding selectedCount countOf
+  one-counted = ap selectedCount (drop-cons firsts r 0 l) ∙ by (eqb (getD firsts r 0) 0) ∙ ap (λ (k : ℕ). countOf (getD firsts r 0) + selectedCount (drop k firsts)) (sym (add-one r))
+    where
+      by : (b : Bool) → cond b (selectedCount (drop (suc r) firsts)) (suc (selectedCount (drop (suc r) firsts))) ≡ cond b 0 1 + selectedCount (drop (suc r) firsts)
+      by true = omega arith
+      by false = omega arith
+
+  pub counting-next : (k : ℕ) → k ≡ countOf (getD firsts r 0) → Counting firsts (r + 1) (n + k)
+  counting-next k e = record { within = omega arith; low = omega (arith, w .low, count-low (getD firsts r 0)); whole = omega (arith, w .whole, one-counted) }
+
+pub counting-all : (firsts : List ℕ) (r n : ℕ) → Counting firsts r n → length firsts ≤ r → n ≡ selectedCount firsts
+unfolding selectedCount
+counting-all firsts r n w l =
+    let e : r ≡ length firsts = omega (arith, w .within) in
+    let none : selectedCount (drop r firsts) ≡ 0 = ap (λ (k : ℕ). selectedCount (drop k firsts)) e ∙ ap selectedCount (drop-length firsts) in
+    omega (arith, w .whole)

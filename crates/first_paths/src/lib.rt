@@ -2,7 +2,7 @@
 ghost use mathlib.Core.Path.{_≡_};
 ghost use lib.ListN.{length};
 ghost use Rattle.compiled_paths.specs.Paths.{pathsIn};
-ghost use Rattle.first_paths.specs.Firsts.{firstOf, Noted, FirstsPass, FirstPaths};
+ghost use Rattle.first_paths.specs.Firsts.{firstOf, Noted, FirstsPass, FirstPaths, countOf, selectedCount};
 use axis_passes::MARKED;
 use axis_passes::UNMARKED;
 use axis_passes::fill;
@@ -59,4 +59,27 @@ pub fn first_paths(
         i += 1;
         note(&marks[..], i as u8, firsts);
     }
+}
+
+// One where some path selects the row.
+fn count_of(first: u8) -> usize
+    ensures { λ n. ⌜ n ≡ countOf first ⌝ }
+{
+    if first == NO_PATH {
+        return 0;
+    }
+    1
+}
+
+// How many rows some path selects.
+pub fn selected_count(firsts: &[u8]) -> usize
+    ensures { λ n. ⌜ n ≡ selectedCount (now (firsts .entry)) ⌝ }
+{
+    let mut n = 0;
+    let mut r = 0;
+    while r < firsts.len() {
+        n += count_of(firsts[r]);
+        r += 1;
+    }
+    n
 }

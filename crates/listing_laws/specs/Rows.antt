@@ -7,11 +7,11 @@ use Prim.Native.Nat.{ℕ, zero, suc, _+_, _<_}
 use native.Mathlib.Omega.{arith}
 use lib.Dec.{T, eqb}
 use lib.ListN.{length, getD, getElem?, length-map}
-use Rattle.first_paths.specs.Firsts.{firstMarked, columnsFor, FirstPaths}
+use Rattle.first_paths.specs.Firsts.{firstMarked, columnsFor, FirstPaths, selectedCount}
 use Rattle.library_spec.specs.Chains.{chain}
 use Rattle.library_spec.specs.Listing.{ListingData, isIn, selectedNodes, firstSelecting, listingLine, header, headerOf, listed}
 use Rattle.listing_laws.specs.Firsts.{some-selects, first-selects}
-use Rattle.listing_lines.specs.Lines.{lineOf}
+use Rattle.listing_lines.specs.Lines.{lineOf, rowLine}
 use Rattle.marks.specs.Selection.{parentsOf, numbersOf}
 use Rattle.path_spec.specs.Paths.{LocationPath}
 use Rattle.path_spec.specs.Selection.{select}
@@ -27,15 +27,6 @@ use Rattle.table_spec.specs.Tables.{wellFormed}
 use Rattle.text_spec.specs.Lists.{anyOf, filterBy, gather}
 
 -- ---- definitions
--- how many of the rows from i on some path selects, by their first paths
-unfoldable pub selectedCount : List ℕ → ℕ
-selectedCount [] = 0
-selectedCount (f ∷ fs) = cond (eqb f 0) (selectedCount fs) (suc (selectedCount fs))
-
--- the line of a row: nothing where no path selects it
-abbrev pub rowLine : List ℕ → List ℕ → (ℕ → List ℕ) → ℕ → List ℕ
-rowLine numbers firsts chainOf r = cond (eqb (getD firsts r 0) 0) [] (lineOf (getD numbers r 0) (getD firsts r 0) (chainOf r))
-
 -- the lines of n rows from r on
 unfoldable pub rowLines : (ℕ → List ℕ) → ℕ → ℕ → List ℕ
 rowLines line zero r = []
@@ -85,7 +76,7 @@ module _ (schema : Schema) (s : Types) (journal : List ℕ) (rows : List Row) (o
   module _ (chainOf : ℕ → List ℕ) (chains : (r : ℕ) (y : Node) → NodeAt doc r y → chainOf r ≡ chain schema y) where
     lines-from : (ys : List Node) (i : ℕ) → ((j : ℕ) (y : Node) → getElem? ys j ≡ some y → NodeAt doc (i + j) y)
         → gather (listingLine listing) (filterBy isSelected ys) ≡ rowLines (rowLine (numbersOf rows) firsts chainOf) (length ys) i
-    unfolding rowLines
+    unfolding rowLines rowLine
     lines-from [] i h = refl
     lines-from (y ∷ ys) i h =
         let z : i + 0 ≡ i = omega arith in

@@ -1,9 +1,12 @@
 -- The lines of a listing by numbers, and the room that they take.
+use mathlib.Core.Bool.{Bool, cond}
 use mathlib.Core.List.{List, [], _∷_, _++_, append-nil, append-assoc}
 use mathlib.Core.Path.{_≡_, refl, sym, ap, ap₂, subst, _∙_}
-use Prim.Native.Nat.{ℕ, _+_, _-_, _≤_}
+use Prim.Native.Nat.{ℕ, _+_, _-_, _≤_, _<_}
 use native.Mathlib.Omega.{arith}
-use lib.ListN.{length, take, drop, length-append, length-drop}
+use borrow.Author.Tests.{eq-eqb, ne-eqb}
+use lib.Dec.{eqb}
+use lib.ListN.{length, getD, take, drop, length-append, length-drop}
 use lib.Seq.{sets, sets-eq, take-all, drop-drop, drop-length, length-take-le}
 use Rattle.library_spec.specs.Listing.{decimal, lineFeed, header, refusedLine, nodeLine}
 use Rattle.row_chains.specs.Chains.{chainAt, chainSize, NamesAt, SizePass, ChainPass, Chained, chain-length}
@@ -22,6 +25,10 @@ refusal-line f = refl
 -- number, place in the bundle, chain
 abbrev pub lineOf : ℕ → ℕ → List ℕ → List ℕ
 lineOf number place chain = decimal number ++ (bytes " " ++ (decimal place ++ (bytes " " ++ (chain ++ lineFeed))))
+
+-- the line of a row: nothing where no path selects it
+unfoldable pub rowLine : List ℕ → List ℕ → (ℕ → List ℕ) → ℕ → List ℕ
+rowLine numbers firsts chainOf r = cond (eqb (getD firsts r 0) 0) [] (lineOf (getD numbers r 0) (getD firsts r 0) (chainOf r))
 
 -- ---- a word and a number behind it
 pub record NumberAt (was : List ℕ) (at : ℕ) (word : List ℕ) (n r : ℕ) (out : List ℕ) : Type 0 where
@@ -147,3 +154,22 @@ module _ (text starts sizes codes ps : List ℕ) (row : ℕ) (w₀ : List ℕ) (
               subst (λ (l : List ℕ). WrittenAt w₀ 0 (decimal number ++ l) e w₅)
               (append-assoc (bytes " ") (decimal place) (bytes " " ++ (chainAt text starts sizes codes ps row ++ lineFeed)))
               (written-then p (written-then (q .written) (written-then r (written-then t u))))
+
+-- ---- the line of a row
+pub record RowPass (text starts sizes codes ps numbers firsts : List ℕ) (row : ℕ) (out : List ℕ) : Type 0 where
+  pub line : LinePass text starts sizes codes ps row out
+  pub numbered : row < length numbers
+  pub noted : row < length firsts
+
+pub no-line : (numbers firsts : List ℕ) (chainOf : ℕ → List ℕ) (r : ℕ) (out : List ℕ) → getD firsts r 0 ≡ 0 → WrittenAt out 0 (rowLine numbers firsts chainOf r) 0 out
+unfolding rowLine
+no-line numbers firsts chainOf r out e =
+    subst (λ (l : List ℕ). WrittenAt out 0 l 0 out)
+    (sym (ap (λ (b : Bool). cond b [] (lineOf (getD numbers r 0) (getD firsts r 0) (chainOf r))) (eq-eqb (getD firsts r 0) 0 e))) (record { after = omega arith; cells = refl })
+
+pub some-line : (numbers firsts : List ℕ) (chainOf : ℕ → List ℕ) (r n : ℕ) (was out : List ℕ) → (getD firsts r 0 ≡ 0 → ⊥)
+    → WrittenAt was 0 (lineOf (getD numbers r 0) (getD firsts r 0) (chainOf r)) n out → WrittenAt was 0 (rowLine numbers firsts chainOf r) n out
+unfolding rowLine
+some-line numbers firsts chainOf r n was out d w =
+    subst (λ (l : List ℕ). WrittenAt was 0 l n out)
+    (sym (ap (λ (b : Bool). cond b [] (lineOf (getD numbers r 0) (getD firsts r 0) (chainOf r))) (ne-eqb (getD firsts r 0) 0 d))) w

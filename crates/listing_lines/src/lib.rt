@@ -2,7 +2,7 @@
 ghost use Prim.Native.Nat.{_+_, _≤_};
 ghost use lib.ListN.{length};
 ghost use Rattle.library_spec.specs.Listing.{header};
-ghost use Rattle.listing_lines.specs.Lines.{refusal, lineOf, NumberAt, TagsPass, LinePass};
+ghost use Rattle.listing_lines.specs.Lines.{refusal, lineOf, NumberAt, TagsPass, LinePass, rowLine, RowPass};
 ghost use Rattle.row_chains.specs.Chains.{chainAt};
 ghost use Rattle.written_text.specs.Written.{WrittenAt};
 use row_chains::write_chain;
@@ -77,4 +77,37 @@ pub fn put_line(
     let third = put_text(out, second, b" ");
     let fourth = put_tags(text, starts, sizes, codes, parents, row, out, third);
     put_text(out, fourth, b"\n")
+}
+
+// The line of a row: nothing where no path selects it.
+pub fn put_row(
+    text: &[u8],
+    starts: &[usize],
+    sizes: &[usize],
+    codes: &[u8],
+    parents: &[u16],
+    numbers: &[u16],
+    firsts: &[u8],
+    row: usize,
+    out: &mut [u8],
+) -> usize
+    requires { ⌜ RowPass (now text) (now starts) (now sizes) (now codes) (now parents) (now numbers) (now firsts) row (now out) ⌝ }
+    ensures { λ r. ⌜ WrittenAt (now (out .entry)) 0 (rowLine (now (numbers .entry)) (now (firsts .entry)) (chainAt (now (text .entry)) (now (starts .entry)) (now (sizes .entry)) (now (codes .entry)) (now (parents .entry))) row) r (now (out .exit)) ⌝ }
+{
+    let place = firsts[row];
+    if place == 0 {
+        return 0;
+    }
+    let number = numbers[row];
+    put_line(
+        text,
+        starts,
+        sizes,
+        codes,
+        parents,
+        row,
+        number as u64,
+        place as u64,
+        out,
+    )
 }
