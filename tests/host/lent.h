@@ -1,6 +1,6 @@
 /* Memory lent to the two functions, as tests lend it: each output in a block of its own, filled with what no answer leaves there, with guard cells
-   on both sides; each input copied into a block of just its size, and compared after the call. Without guard cells a block ends where the output
-   ends, so that valgrind sees what lies beyond. */
+   on both sides; each input copied so that it ends where memory ends, and compared after the call. Without guard cells every block is of just the size
+   lent, so that valgrind sees what lies beyond. */
 #ifndef LENT_H
 #define LENT_H
 

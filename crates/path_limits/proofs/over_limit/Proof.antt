@@ -1,8 +1,8 @@
 -- `over_limit` meets its contract: the tests in their order.
-use Rattle.bundle_paths.proofs.Bundles.{limit-known, limit-paths, limit-steps, limit-bytes, limit-condition, limit-kept}
+use Rattle.path_limits.proofs.Limits.{limit-known, limit-paths, limit-steps, limit-bytes, limit-condition, limit-kept}
 use borrow.Author.Needs.{needs}
-use Rattle.bundle_paths.proofs.over_limit.Statement.{statement}
-use Rattle.bundle_paths.proofs.over_limit.Tie as tie
+use Rattle.path_limits.proofs.over_limit.Statement.{statement}
+use Rattle.path_limits.proofs.over_limit.Tie as tie
 
 returns : tie.Need-returns
 returns c =

@@ -2,8 +2,8 @@
 use mathlib.Core.Path.{sym}
 use lib.ListN.{List·getD-eq-default}
 use borrow.Author.Needs.{needs}
-use Rattle.schema_places.proofs.cell.Statement.{statement}
-use Rattle.schema_places.proofs.cell.Tie as tie
+use Rattle.declaration_limits.proofs.cell.Statement.{statement}
+use Rattle.declaration_limits.proofs.cell.Tie as tie
 
 returns-2 : tie.Need-returns-2
 returns-2 c = sym (List·getD-eq-default (c .before .args .cells .now) 0 (c .if1 .left))

@@ -5,8 +5,8 @@ use borrow.Author.Tests.{lt-ltb, le-ltb, le-leb, lt-leb}
 use Rattle.text_laws.specs.Tests.{cond-yes as yes, cond-no as no}
 use Rattle.text_spec.specs.Limits.{maxDeclarations, maxModelNames}
 use borrow.Author.Needs.{needs}
-use Rattle.schema_places.proofs.over_limit.Statement.{statement}
-use Rattle.schema_places.proofs.over_limit.Tie as tie
+use Rattle.declaration_limits.proofs.over_limit.Statement.{statement}
+use Rattle.declaration_limits.proofs.over_limit.Tie as tie
 
 returns : tie.Need-returns
 returns c =

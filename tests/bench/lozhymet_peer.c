@@ -1,0 +1,49 @@
+/* This library. Reading is making an extract for all paths: parsing, validating, inferring, cutting and writing in one call. Selecting is one call on
+   the extract, which reads schema, bundle and extract anew. */
+#include "lozhymet.h"
+#include "peers.h"
+
+static const struct tray *tray;
+static uint16_t numbers[LOZHYMET_MAX_ROWS], parents[LOZHYMET_MAX_ROWS], lengths[LOZHYMET_MAX_ROWS], items[LOZHYMET_MAX_PATHS * LOZHYMET_MAX_ROWS];
+static uint8_t names[LOZHYMET_MAX_ROWS], extract[LOZHYMET_EXTRACT_BYTES(LOZHYMET_MAX_JOURNAL_BYTES)];
+static uint32_t starts[LOZHYMET_MAX_ROWS], counts[LOZHYMET_MAX_PATHS];
+static size_t extract_len, rows, kept;
+
+/* as many cells as there are rows: what is lent is cleared */
+#define COLUMNS(n) numbers, n, names, n, parents, n, starts, n, lengths, n
+
+static void start(const struct tray *t) {
+    tray = t;
+}
+
+static int read_journal(void) {
+    size_t most = rows ? rows : LOZHYMET_JOURNAL_ROWS(tray->journal_len);
+    struct lozhymet_result r = host_make_extract((const uint8_t *)tray->schema, tray->schema_len, (const uint8_t *)tray->bundle, tray->bundle_len,
+        (const uint8_t *)tray->journal, tray->journal_len, COLUMNS(most), extract, sizeof extract);
+    extract_len = r.items;
+    rows = r.rows;
+    int elements = 0;
+    for (size_t i = 0; i < r.rows; i++) elements += names[i] < 32;
+    return r.number ? -1 : elements;
+}
+
+static long select_all(void) {
+    size_t most = LOZHYMET_EXTRACT_ROWS(extract_len);
+    struct lozhymet_result r = host_select((const uint8_t *)tray->schema, tray->schema_len, (const uint8_t *)tray->bundle, tray->bundle_len, 0, extract,
+        extract_len, COLUMNS(most), items, LOZHYMET_ITEMS(LOZHYMET_MAX_PATHS, extract_len), counts, LOZHYMET_MAX_PATHS);
+    kept = r.rows;
+    return r.number ? -1 : (long)r.items;
+}
+
+static size_t selected(size_t path, uint16_t *to) {
+    size_t from = 0;
+    for (size_t k = 0; k < path; k++) from += counts[k];
+    for (size_t i = 0; i < counts[path]; i++) to[i] = items[from + i];
+    return counts[path];
+}
+
+static void finish(void) {
+    rows = 0;
+}
+
+const struct peer lozhymet_peer = { "lozhymet", "parse, validate, extract", start, read_journal, select_all, selected, finish };

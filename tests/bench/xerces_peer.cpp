@@ -1,0 +1,20 @@
+// Xerces-C: events, validated by its scanner for DTDs alone, with the grammar loaded once; no paths. The reader is that of tests/timing/xerces.cpp.
+#include "peers.h"
+
+extern "C" void peer_start(const char *schema, size_t schema_size, const char *journal, size_t size);
+extern "C" int peer_read(void);
+
+namespace {
+void start(const tray *t) {
+    peer_start(t->schema, t->schema_len, t->journal, t->journal_len);
+}
+
+int read_journal() {
+    return peer_read();
+}
+
+void finish() {
+}
+}
+
+extern "C" const peer xerces_peer = { "Xerces-C", "parse to events, validate", start, read_journal, nullptr, nullptr, finish };
