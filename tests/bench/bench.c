@@ -1,6 +1,6 @@
-/* The library against its peers on trays: bench ROUNDS FOLDER.. prints, for each tray, the least time of several rounds for reading the journal, for
-   selecting the eight paths, and for both from the texts on; the ratio to this library; and from the first tray to the last how times grow.
-   Ends with 1 where two libraries select different nodes. */
+/* The library against its peers on trays: bench ROUNDS FOLDER.. prints, for each tray, the least time of several rounds for reading the journal
+   (parsing and validating, where the library does), for selecting all paths, and for everything from the texts to the selections; how many times as
+   long as this library that is; and how times grow from the first tray to the last, against the elements: 1 is linear. Ends with 1 where two libraries select different nodes. */
 #define _POSIX_C_SOURCE 200809L
 #include "peers.h"
 
@@ -11,6 +11,7 @@
 
 enum { PEERS = 5, TASKS = 3, MAX_TRAYS = 8 };
 enum { READ, SELECT, ALL };
+enum { LOZHYMET, LIBXML2, XERCES, PUGIXML, EXPAT };
 static const struct peer *const peers[PEERS] = { &lozhymet_peer, &libxml2_peer, &xerces_peer, &pugixml_peer, &expat_peer };
 static const char *const tasks[TASKS] = { "read", "select", "all" };
 /* microseconds; 0 where nothing was measured */
@@ -58,27 +59,30 @@ static void note(int tray, int peer, int task, double taken) {
     if (*best == 0 || taken < *best) *best = taken;
 }
 
+static void must(int holds, const struct peer *p, const char *what) {
+    if (holds) return;
+    printf("bench: %s %s\n", p->name, what);
+    exit(1);
+}
+
 /* one round of one peer: from the texts on, then reading and selecting alone */
 static void run_round(int tray, int peer, const struct tray *t) {
     const struct peer *p = peers[peer];
-    double begin = now(), between;
+    double begin = now();
     p->start(t);
-    int read = p->read();
+    must(p->make ? p->make() : p->read(), p, "refuses the journal");
     if (p->select) p->select();
     note(tray, peer, ALL, now() - begin);
-    if (read < 0 || (elements[tray] && read != elements[tray])) {
-        printf("bench: %s reads %d elements, not %d\n", p->name, read, elements[tray]);
-        exit(1);
-    }
-    elements[tray] = read;
     begin = now();
-    p->read();
-    between = now();
-    note(tray, peer, READ, between - begin);
-    if (p->select) {
-        p->select();
-        note(tray, peer, SELECT, now() - between);
-    }
+    must(p->read(), p, "refuses the journal");
+    note(tray, peer, READ, now() - begin);
+    must(!elements[tray] || p->elements() == elements[tray], p, "reads another number of elements");
+    elements[tray] = p->elements();
+    if (!p->select) return;
+    if (p->make) p->make();
+    begin = now();
+    p->select();
+    note(tray, peer, SELECT, now() - begin);
 }
 
 static size_t compare_selections(const struct tray *t) {
@@ -98,6 +102,24 @@ static size_t compare_selections(const struct tray *t) {
     return all;
 }
 
+/* the times of a tray, and how many times as long as this library each takes */
+static void print_times(int tray) {
+    printf("%-10s %-28s %12s %12s %12s   times as long\n", "", "reading is", "read", "select", "all");
+    for (int p = 0; p < PEERS; p++) {
+        printf("%-10s %-28s", peers[p]->name, peers[p]->reads);
+        for (int k = 0; k < TASKS; k++) {
+            if (k == READ || peers[p]->select) printf(" %9.0f us", least[tray][p][k]);
+            else printf(" %12s", "-");
+        }
+        for (int k = 0; k < TASKS; k++)
+            if (k == READ || peers[p]->select) printf("   %s %.1f", tasks[k], least[tray][p][k] / least[tray][0][k]);
+        printf("\n");
+    }
+    /* Xerces-C with its grammar loaded before, which is in its favour */
+    double both = least[tray][XERCES][READ] + least[tray][PUGIXML][ALL];
+    printf("Xerces-C to validate and pugixml to select: all %.0f us, %.1f times as long\n", both, both / least[tray][0][ALL]);
+}
+
 static void run_tray(int tray, const char *folder, int rounds) {
     struct tray t = load_tray(folder);
     for (int round = 0; round < rounds; round++)
@@ -107,25 +129,19 @@ static void run_tray(int tray, const char *folder, int rounds) {
         }
     size_t nodes = compare_selections(&t);
     for (int p = 0; p < PEERS; p++) peers[p]->finish();
-    printf("\n%s: %d elements, %zu bytes, %zu paths that select %zu nodes, the same by every library that has paths\n", folder, elements[tray],
+    printf("\n%s tiles: %d elements, %zu bytes, %zu paths that select %zu nodes, the same by every library that has paths\n", folder, elements[tray],
         t.journal_len, t.paths, nodes);
-    printf("%-10s %-26s %12s %12s %12s   ratios to lozhymet\n", "", "reading is", "read", "select", "all");
-    for (int p = 0; p < PEERS; p++) {
-        printf("%-10s %-26s", peers[p]->name, peers[p]->reads);
-        for (int k = 0; k < TASKS; k++) k == SELECT && !peers[p]->select ? printf(" %12s", "-") : printf(" %9.0f us", least[tray][p][k]);
-        for (int k = 0; k < TASKS; k++)
-            if (k == READ || peers[p]->select) printf("   %s %.1f", tasks[k], least[tray][p][k] / least[tray][0][k]);
-        printf("\n");
-    }
+    print_times(tray);
     free_tray(&t);
 }
 
 static void print_growth(int last) {
-    printf("\nfrom the first tray to the last there are %.1f times as many elements, and the time grows\n", (double)elements[last] / elements[0]);
+    double larger = (double)elements[last] / elements[0];
+    printf("\nfrom the first tray to the last there are %.1f times as many elements; times grow, against that\n", larger);
     for (int p = 0; p < PEERS; p++) {
         printf("%-10s", peers[p]->name);
         for (int k = 0; k < TASKS; k++)
-            if (k == READ || peers[p]->select) printf("   %s %.1f", tasks[k], least[last][p][k] / least[0][p][k]);
+            if (k == READ || peers[p]->select) printf("   %s %.2f", tasks[k], least[last][p][k] / least[0][p][k] / larger);
         printf("\n");
     }
 }

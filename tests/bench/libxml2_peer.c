@@ -21,20 +21,24 @@ static void start(const struct tray *t) {
 }
 
 static int count(xmlNodePtr node) {
-    int elements = 0;
+    int found_here = 0;
     for (; node; node = node->next)
-        if (node->type == XML_ELEMENT_NODE) elements += 1 + count(node->children);
-    return elements;
+        if (node->type == XML_ELEMENT_NODE) found_here += 1 + count(node->children);
+    return found_here;
 }
 
 static int read_journal(void) {
     if (document) xmlFreeDoc(document);
     document = xmlReadMemory(tray->journal, (int)tray->journal_len, "journal.xml", NULL, XML_PARSE_NOENT | XML_PARSE_NOBLANKS | XML_PARSE_COMPACT);
-    if (!document) return -1;
+    if (!document) return 0;
     xmlValidCtxtPtr context = xmlNewValidCtxt();
     int valid = xmlValidateDtd(context, document, dtd);
     xmlFreeValidCtxt(context);
-    return valid ? count(xmlDocGetRootElement(document)) : -1;
+    return valid;
+}
+
+static int elements(void) {
+    return count(xmlDocGetRootElement(document));
 }
 
 static long select_all(void) {
@@ -81,4 +85,4 @@ static void finish(void) {
     xmlFreeDtd(dtd);
 }
 
-const struct peer libxml2_peer = { "libxml2", "parse to a tree, validate", start, read_journal, select_all, selected, finish };
+const struct peer libxml2_peer = { "libxml2", "parse to a tree, validate", start, read_journal, elements, NULL, select_all, selected, finish };

@@ -1,5 +1,5 @@
-/* This library. Reading is making an extract for all paths: parsing, validating, inferring, cutting and writing in one call. Selecting is one call on
-   the extract, which reads schema, bundle and extract anew. */
+/* This library. Reading is making an extract for one path that needs the root alone: parsing and validating, and little else. Selecting is one call
+   on the extract for all paths, which reads schema, bundle and extract anew. */
 #include "lozhymet.h"
 #include "peers.h"
 
@@ -7,7 +7,7 @@ static const struct tray *tray;
 static uint16_t numbers[LOZHYMET_MAX_ROWS], parents[LOZHYMET_MAX_ROWS], lengths[LOZHYMET_MAX_ROWS], items[LOZHYMET_MAX_PATHS * LOZHYMET_MAX_ROWS];
 static uint8_t names[LOZHYMET_MAX_ROWS], extract[LOZHYMET_EXTRACT_BYTES(LOZHYMET_MAX_JOURNAL_BYTES)];
 static uint32_t starts[LOZHYMET_MAX_ROWS], counts[LOZHYMET_MAX_PATHS];
-static size_t extract_len, rows, kept;
+static size_t extract_len, rows;
 
 /* as many cells as there are rows: what is lent is cleared */
 #define COLUMNS(n) numbers, n, names, n, parents, n, starts, n, lengths, n
@@ -16,22 +16,33 @@ static void start(const struct tray *t) {
     tray = t;
 }
 
-static int read_journal(void) {
+static int make_for(const char *bundle, size_t bundle_len) {
     size_t most = rows ? rows : LOZHYMET_JOURNAL_ROWS(tray->journal_len);
-    struct lozhymet_result r = host_make_extract((const uint8_t *)tray->schema, tray->schema_len, (const uint8_t *)tray->bundle, tray->bundle_len,
-        (const uint8_t *)tray->journal, tray->journal_len, COLUMNS(most), extract, sizeof extract);
+    struct lozhymet_result r = host_make_extract((const uint8_t *)tray->schema, tray->schema_len, (const uint8_t *)bundle, bundle_len,
+        (const uint8_t *)tray->journal, tray->journal_len, COLUMNS(most), extract, tray->journal_len + 4 * most + 5);
     extract_len = r.items;
     rows = r.rows;
-    int elements = 0;
-    for (size_t i = 0; i < r.rows; i++) elements += names[i] < 32;
-    return r.number ? -1 : elements;
+    return !r.number;
+}
+
+static int read_journal(void) {
+    return make_for("self::node()\n", 13);
+}
+
+static int elements(void) {
+    int count = 0;
+    for (size_t i = 0; i < rows; i++) count += names[i] < 32;
+    return count;
+}
+
+static int make(void) {
+    return make_for(tray->bundle, tray->bundle_len);
 }
 
 static long select_all(void) {
     size_t most = LOZHYMET_EXTRACT_ROWS(extract_len);
     struct lozhymet_result r = host_select((const uint8_t *)tray->schema, tray->schema_len, (const uint8_t *)tray->bundle, tray->bundle_len, 0, extract,
         extract_len, COLUMNS(most), items, LOZHYMET_ITEMS(LOZHYMET_MAX_PATHS, extract_len), counts, LOZHYMET_MAX_PATHS);
-    kept = r.rows;
     return r.number ? -1 : (long)r.items;
 }
 
@@ -46,4 +57,4 @@ static void finish(void) {
     rows = 0;
 }
 
-const struct peer lozhymet_peer = { "lozhymet", "parse, validate, extract", start, read_journal, select_all, selected, finish };
+const struct peer lozhymet_peer = { "lozhymet", "parse to columns, validate", start, read_journal, elements, make, select_all, selected, finish };

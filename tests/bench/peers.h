@@ -16,10 +16,12 @@ struct tray {
 
 struct peer {
     const char *name;
-    const char *reads;   /* what reading does: for the table's head */
+    const char *reads;    /* what reading does: for the table */
     void (*start)(const struct tray *tray); /* loads the schema and compiles the paths, where the library can do so ahead */
-    int (*read)(void);   /* the journal: how many elements it has, -1 where it is not accepted */
-    long (*select)(void); /* all paths on what was read last: how many nodes; NULL where the library has no paths */
+    int (*read)(void);    /* the journal; 0 where it is not accepted */
+    int (*elements)(void); /* of the journal read last */
+    int (*make)(void);    /* this library alone: the extract for all paths, from the texts; 0 where it is refused */
+    long (*select)(void); /* all paths, on what was read or made last: how many nodes; NULL where the library has no paths */
     size_t (*numbers)(size_t path, uint16_t *numbers); /* the numbers of the nodes that a path selected */
     void (*finish)(void);
 };

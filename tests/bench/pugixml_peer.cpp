@@ -18,14 +18,18 @@ void start(const tray *t) {
 }
 
 int count(pugi::xml_node node) {
-    int elements = 0;
+    int found_here = 0;
     for (pugi::xml_node child : node.children())
-        if (child.type() == pugi::node_element) elements += 1 + count(child);
-    return elements;
+        if (child.type() == pugi::node_element) found_here += 1 + count(child);
+    return found_here;
 }
 
 int read_journal() {
-    return document.load_buffer(given->journal, given->journal_len, pugi::parse_default, pugi::encoding_utf8) ? count(document) : -1;
+    return document.load_buffer(given->journal, given->journal_len, pugi::parse_default, pugi::encoding_utf8) ? 1 : 0;
+}
+
+int elements() {
+    return count(document);
 }
 
 long select_all() {
@@ -62,4 +66,4 @@ void finish() {
 }
 }
 
-extern "C" const peer pugixml_peer = { "pugixml", "parse to a tree", start, read_journal, select_all, selected, finish };
+extern "C" const peer pugixml_peer = { "pugixml", "parse to a tree", start, read_journal, elements, nullptr, select_all, selected, finish };

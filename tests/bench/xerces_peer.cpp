@@ -9,12 +9,19 @@ void start(const tray *t) {
     peer_start(t->schema, t->schema_len, t->journal, t->journal_len);
 }
 
+int begun;
+
 int read_journal() {
-    return peer_read();
+    begun = peer_read();
+    return begun >= 0;
+}
+
+int elements() {
+    return begun;
 }
 
 void finish() {
 }
 }
 
-extern "C" const peer xerces_peer = { "Xerces-C", "parse to events, validate", start, read_journal, nullptr, nullptr, finish };
+extern "C" const peer xerces_peer = { "Xerces-C", "parse to events, validate", start, read_journal, elements, nullptr, nullptr, nullptr, finish };
