@@ -47,7 +47,7 @@ pub fn judge_and_compile(text: &[u8]) -> JudgedSchema
 {
     let mut names = [0usize; MAX_ELEMENTS];
     let mut uses = [0usize; MAX_USES];
-    let judgement = schema::judge_into(text, &mut names, &mut uses);
+    let judgement = schema_judging::judge_into(text, &mut names, &mut uses);
     match judgement {
         Judgement::Accepted(count) => {
             let entries = schema_entries::all_entries(text, &uses, count);

@@ -125,7 +125,7 @@ pub struct SchemaRead {
 pub fn read_schema(text: &[u8]) -> SchemaRead
     ensures { λ r. ⌜ ReadAs (now (text .entry)) r ⌝ }
 {
-    let judgement = schema::judge_schema(text);
+    let judgement = schema_judging::judge_schema(text);
     let schema = handed_back(judgement, recorded(text));
     SchemaRead { judgement, schema }
 }
