@@ -15,9 +15,10 @@ use Rattle.schema_spec.specs.Names.{Name, element, text, codeOf, nameOfCode}
 use Rattle.schema_spec.specs.Schemas.{Schema}
 use Rattle.schema_spec.specs.Types.{typesOf}
 use Rattle.select.specs.Paths as select
-use Rattle.selected_rows.specs.Selected.{codesOf}
+use Rattle.selected_rows.specs.Selected.{codesOf, NamesCoded}
 use Rattle.selected_rows.specs.Tested.{cells-coded, tested-columns}
 use Rattle.table_laws.specs.Places.{none-some}
+use Rattle.table_rows.specs.Lent.{Lent}
 use Rattle.table_spec.specs.Columns.{Columns, cellsAt, cellsFrom}
 use Rattle.table_spec.specs.Rows.{Row, row, Cells, rowWith, rowOf, consOf, rowsOf}
 use Rattle.table_spec.specs.Tables.{wellFormed}
@@ -45,6 +46,8 @@ pub record CellsOf (c : Cells) (r : Row) : Type 0 where
   pub number : r .number ≡ c .number
   pub name : codeOf (r .name) ≡ c .name
   pub parent : r .parent ≡ c .parent
+  pub start : r .start ≡ c .start
+  pub size : r .size ≡ c .size
 
 cells-of : (c : Cells) (r : Row) → rowOf c ≡ some r → CellsOf c r
 cells-of c r e = by (nameOfCode (c .name)) refl e
@@ -53,7 +56,7 @@ cells-of c r e = by (nameOfCode (c .name)) refl e
     by none q d = none-some d
     by (some n) q d =
         let z : row (c .number) n (c .parent) (c .start) (c .size) ≡ r = cc in
-        subst (CellsOf c) z (record { number = refl; name = code-again (c .name) n q; parent = refl })
+        subst (CellsOf c) z (record { number = refl; name = code-again (c .name) n q; parent = refl; start = refl; size = refl })
 
 -- ---- a column by its rows
 column-from : (c : Columns) (f : Row → ℕ) (xs : List ℕ) → ((i : ℕ) (r : Row) → rowOf (cellsAt c i) ≡ some r → f r ≡ getD xs i 0)
@@ -73,7 +76,7 @@ column-from c f xs h (suc n) i rows l e =
         subst (λ (x : List Row). map f x ≡ take (suc n) (drop i xs)) z
         (ap₂ (λ (x : ℕ) (l : List ℕ). x ∷ l) (h i r p) (g rs q) ∙ sym (ap (take (suc n)) (drop-cons xs i 0 (omega arith))))
 
-codes-map : (rows : List Row) → codesOf rows ≡ map (λ r. codeOf (r .name)) rows
+pub codes-map : (rows : List Row) → codesOf rows ≡ map (λ r. codeOf (r .name)) rows
 codes-map [] = refl
 codes-map (r ∷ rows) = ap (λ (l : List ℕ). codeOf (r .name) ∷ l) (codes-map rows)
 
@@ -104,8 +107,25 @@ module _ (t : LentTable) (rows : List Row) (held : rowsLent t ≡ some rows) whe
       let room = fit-lent t sizes-fit .parented in
       column-from (t .columns) (λ r. r .parent) (t .columns .parents) (λ i r e. cells-of (cellsAt (t .columns) i) r e .parent) (t .count) 0 rows (omega arith) rows-held
 
+  pub lent-starts : map (λ r. r .start) rows ≡ take (t .count) (t .columns .starts)
+  lent-starts =
+      let room = fit-lent t sizes-fit .started in
+      column-from (t .columns) (λ r. r .start) (t .columns .starts) (λ i r e. cells-of (cellsAt (t .columns) i) r e .start) (t .count) 0 rows (omega arith) rows-held
+
+  pub lent-lengths : map (λ r. r .size) rows ≡ take (t .count) (t .columns .lengths)
+  lent-lengths =
+      let room = fit-lent t sizes-fit .sized in
+      column-from (t .columns) (λ r. r .size) (t .columns .lengths) (λ i r e. cells-of (cellsAt (t .columns) i) r e .size) (t .count) 0 rows (omega arith) rows-held
+
+  -- each row has a name that a code can stand for, and a cell in each column
+  pub lent-coded : NamesCoded rows
+  lent-coded = cells-coded (cellsFrom (t .columns) 0 (t .count)) rows rows-held
+
+  pub lent-cells : Lent (t .columns) (t .count)
+  lent-cells = fit-lent t sizes-fit
+
   -- the columns up to the count are as selecting asks
   pub lent-columns : (s : Schema) → T (wellFormed (typesOf s) rows)
       → select.Columns (take (t .count) (t .columns .numbers)) (take (t .count) (t .columns .names)) (take (t .count) (t .columns .parents))
   lent-columns s ok =
-      rw (← lent-numbers, ← lent-codes, ← lent-parents) (tested-columns (typesOf s) rows ok (cells-coded (cellsFrom (t .columns) 0 (t .count)) rows rows-held))
+      rw (← lent-numbers, ← lent-codes, ← lent-parents) (tested-columns (typesOf s) rows ok lent-coded)

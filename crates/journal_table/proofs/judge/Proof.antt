@@ -29,6 +29,15 @@ pub judge-spec : {M : Type 1} → statement M
 judge-spec =
     tie.close
     (tie.spec
-    (λ c κs. search needs) returns (λ c κs. search needs) returns-2 read-journal-requires (λ c κs. search needs)
-    (λ c. search needs) (λ c. search needs) (λ c. search needs) (λ c. search needs) (λ c. search needs)
+    (λ c κs. tt)
+    returns
+    (λ c κs. tt)
+    returns-2
+    read-journal-requires
+    (λ c κs. tt)
+    (λ c. c .before .before .before .before .before .before .before .before .before .before .numbers .given)
+    (λ c. c .before .before .before .before .before .before .before .before .names .given)
+    (λ c. c .before .before .before .before .before .before .parents .given)
+    (λ c. c .before .before .before .before .starts .given)
+    (λ c. c .before .before .lengths .given)
     returns-3)
