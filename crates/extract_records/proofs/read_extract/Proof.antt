@@ -1,3 +1,4 @@
+-- `read_extract` meets its contract: the record, the columns, the extract.
 use native.Mathlib.Omega.{arith}
 use borrow.Author.Needs.{needs}
 use borrow.Author.Tests.{not-true, not-false}
@@ -9,43 +10,28 @@ use Rattle.schema_records.specs.Records.{recordWith, passes-schema}
 use Rattle.text_laws.specs.Tests.{passed}
 use Rattle.extract_records.proofs.read_extract.Statement.{statement}
 use Rattle.extract_records.proofs.read_extract.Tie as tie
-use Rattle.extract_records.proofs.read_extract.Reads as reads
-use Rattle.extract_records.proofs.read_extract.Lts as lts
-use Rattle.column_sizes.proofs.equal_sizes.Reads as equal-sizes-reads
-use Rattle.extract_records.proofs.turn_back.Reads as turn-back-reads
-use Rattle.extract_table.proofs.read_extract_table.Reads as read-extract-table-reads
-use Rattle.schema_reader.proofs.is_schema_record.Reads as is-schema-record-reads
-use Rattle.schema_words.proofs.schema_words.Reads as schema-words-reads
 
--- src/lib.rt:44:9
 is-schema-record-requires : tie.Need-is-schema-record-requires
 is-schema-record-requires c κs = search needs
 
--- src/lib.rt:45:9
 turn-back-requires : tie.Need-turn-back-requires
 turn-back-requires c κs = search needs
 
--- src/lib.rt:45:9
 same-length : tie.Need-same-length
 same-length c = omega (arith, c .before .before .before .before .before .before .before .before .before .numbers .given)
 
--- src/lib.rt:45:9
 same-length-2 : tie.Need-same-length-2
 same-length-2 c = omega (arith, c .before .before .before .before .before .before .before .names .given)
 
--- src/lib.rt:45:9
 same-length-3 : tie.Need-same-length-3
 same-length-3 c = omega (arith, c .before .before .before .before .before .parents .given)
 
--- src/lib.rt:45:9
 same-length-4 : tie.Need-same-length-4
 same-length-4 c = omega (arith, c .before .before .before .starts .given)
 
--- src/lib.rt:45:9
 same-length-5 : tie.Need-same-length-5
 same-length-5 c = omega (arith, c .before .lengths .given)
 
--- src/lib.rt:45:9
 returns : tie.Need-returns
 returns c =
     let g = c .before .before .before .before .before .before .before .before .before .before .before .before .before .before .before .before .before .before .before .before .before .before .before .before .args in
@@ -53,35 +39,27 @@ returns c =
     let call = call-no-record (recordWith (g .schema .bytes) (g .schema .len)) (now (g .extract)) _ _ _ passes (c .before .before .before .before .before .before .before .before .before .before .turn-back .ensures) in
     (call .answer, call .cells)
 
--- src/lib.rt:47:9
 equal-sizes-requires : tie.Need-equal-sizes-requires
 equal-sizes-requires c κs = search needs
 
--- src/lib.rt:54:9
 turn-back-requires-2 : tie.Need-turn-back-requires-2
 turn-back-requires-2 c κs = search needs
 
--- src/lib.rt:54:9
 same-length-6 : tie.Need-same-length-6
 same-length-6 c = omega (arith, c .before .before .before .before .before .before .before .before .before .numbers2 .given)
 
--- src/lib.rt:54:9
 same-length-7 : tie.Need-same-length-7
 same-length-7 c = omega (arith, c .before .before .before .before .before .before .before .names2 .given)
 
--- src/lib.rt:54:9
 same-length-8 : tie.Need-same-length-8
 same-length-8 c = omega (arith, c .before .before .before .before .before .parents2 .given)
 
--- src/lib.rt:54:9
 same-length-9 : tie.Need-same-length-9
 same-length-9 c = omega (arith, c .before .before .before .starts2 .given)
 
--- src/lib.rt:54:9
 same-length-10 : tie.Need-same-length-10
 same-length-10 c = omega (arith, c .before .lengths2 .given)
 
--- src/lib.rt:54:9
 returns-2 : tie.Need-returns-2
 returns-2 c =
     let g = c .before .before .before .before .before .before .before .before .before .before .before .before .before .before .before .before .before .before .before .before .before .before .before .before .before .before .args in
@@ -89,37 +67,29 @@ returns-2 c =
     let call = call-no-columns (recordWith (g .schema .bytes) (g .schema .len)) (now (g .extract)) _ _ _ passes (sym (c .before .before .before .before .before .before .before .before .before .before .before .before .before .before .before .before .before .equal-sizes .ensures) ∙ not-true _ (c .before .before .before .before .before .before .before .before .before .before .before .before .before .before .before .before .if2 .taken)) (c .before .before .before .before .before .before .before .before .before .before .turn-back2 .ensures) in
     (call .answer, call .cells)
 
--- src/lib.rt:56:17
 schema-words-requires : tie.Need-schema-words-requires
 schema-words-requires c κs =
     let schema = c .before .before .before .before .before .before .before .before .before .before .args .schema in
     record-low (schema .bytes) (schema .len) (sym (c .before .before .before .is-schema-record .ensures) ∙ not-false _ (c .before .before .if1 .left))
 
--- src/lib.rt:57:5
 read-extract-table-requires : tie.Need-read-extract-table-requires
 read-extract-table-requires c κs = equal-columns _ (passed (sym (c .before .before .before .before .before .before .before .before .equal-sizes .ensures) ∙ not-false _ (c .before .before .before .before .before .before .before .if2 .left)))
 
--- src/lib.rt:32:1
 same-length-11 : tie.Need-same-length-11
 same-length-11 c = omega (arith, c .before .before .before .before .before .before .before .before .before .numbers3 .given)
 
--- src/lib.rt:32:1
 same-length-12 : tie.Need-same-length-12
 same-length-12 c = omega (arith, c .before .before .before .before .before .before .before .names3 .given)
 
--- src/lib.rt:32:1
 same-length-13 : tie.Need-same-length-13
 same-length-13 c = omega (arith, c .before .before .before .before .before .parents3 .given)
 
--- src/lib.rt:32:1
 same-length-14 : tie.Need-same-length-14
 same-length-14 c = omega (arith, c .before .before .before .starts3 .given)
 
--- src/lib.rt:32:1
 same-length-15 : tie.Need-same-length-15
 same-length-15 c = omega (arith, c .before .lengths3 .given)
 
--- src/lib.rt:32:1
 returns-3 : tie.Need-returns-3
 returns-3 c =
     let g = c .before .before .before .before .before .before .before .before .before .before .before .before .before .before .before .before .before .before .before .before .before .before .before .before .before .before .before .before .args in
