@@ -1,11 +1,9 @@
 -- `judge` meets its contract: 2, or what reading finds.
 use mathlib.Core.Path.{refl}
-use native.Mathlib.Omega.{arith}
-use borrow.Author.Needs.{needs}
 use Rattle.journal_run_laws.specs.Findings.{read-over}
-use Rattle.journal_table.specs.Tables.{judged-2, empty-2, judged-within}
-use Rattle.journal_table.proofs.judge.Statement.{statement}
-use Rattle.journal_table.proofs.judge.Tie as tie
+use Rattle.journal_judgement.specs.Judging.{judged-2, empty-2, judged-within, within-places, filled}
+use Rattle.journal_judgement.proofs.judge.Statement.{statement}
+use Rattle.journal_judgement.proofs.judge.Tie as tie
 
 returns : tie.Need-returns
 returns c = judged-2 _ (empty-2 _ _ (c .before .if1 .taken)) (c .refused .ensures)
@@ -17,13 +15,13 @@ read-journal-requires : tie.Need-read-journal-requires
 read-journal-requires c κs =
     let second = c .before .before .before .before .before in
     let start = second .before .before .before .before .before .before .before .before in
-    (omega (arith, second .if2 .left, start .pre .2), start .pre .0, start .pre .1, start .pre .3)
+    (within-places (second .if2 .left) (start .pre .2), start .pre .0, start .pre .1, start .pre .3)
 
 returns-3 : tie.Need-returns-3
 returns-3 c =
     let read = c .before .before .before .before .before .before .before .before .before .before .before in
     let second = read .before .before .before .before .before .before in
-    judged-within (read .read-journal .ensures) (c .verdict-of .ensures) refl (omega (arith, second .before .if1 .left)) (second .if2 .left)
+    judged-within (read .read-journal .ensures) (c .verdict-of .ensures) refl (filled (second .before .if1 .left)) (second .if2 .left)
 
 pub judge-spec : {M : Type 1} → statement M
 judge-spec =
