@@ -1,9 +1,8 @@
 -- What reading all paths of a text answers: what it spells, what was noted of it, and the first path that passes a limit.
-use mathlib.Core.Bool.{Bool, cond, _||_}
+use mathlib.Core.Bool.{cond}
 use mathlib.Core.List.{List, [], _∷_, map}
 use mathlib.Core.Path.{_≡_}
 use Prim.Native.Nat.{ℕ, suc, _+_}
-use lib.Dec.{eqb, leb, ltb}
 use lib.ListN.{length}
 use lib.Seq.{sets}
 use Rattle.bundle_paths.specs.declared.Bundled.{Bundled}
@@ -13,7 +12,6 @@ use Rattle.path_lines.specs.Readings.{Written, stepNoted, overCondition, Steps}
 use Rattle.path_spec.specs.Grammar.{PathRead, pathRead}
 use Rattle.path_spec.specs.Machine.{parse}
 use Rattle.path_spec.specs.Reading.{passesLimit}
-use Rattle.text_spec.specs.Limits.{maxSteps, maxPathBytes, maxPaths}
 use Rattle.text_spec.specs.Lists.{gather}
 use Rattle.text_spec.specs.Machines.{spells, departs}
 
@@ -38,10 +36,6 @@ pathEnds k (l ∷ ls) = (k + length (l .steps)) ∷ pathEnds (k + length (l .ste
 abbrev pub firstOver : ℕ → List PathRead → ℕ
 firstOver i [] = 0
 firstOver i (p ∷ ps) = cond (passesLimit i p) (p .place + 1) (firstOver (suc i) ps)
-
--- the same after one more path, which starts at `at`, has d before it, so many steps and bytes and this said of its conditions
-abbrev pub overLimit : ℕ → ℕ → ℕ → ℕ → ℕ → Bool → ℕ
-overLimit over d at steps size past = cond (eqb over 0) (cond (leb maxPaths d || (ltb maxSteps steps || (ltb maxPathBytes size || past))) (at + 1) 0) over
 
 pub record BundleRead (s outers outers′ conditions conditions′ paths paths′ cells cells′ ways ways′ : List ℕ) (c : Bundled) : Type 0 where
   pub lines : List LineCells

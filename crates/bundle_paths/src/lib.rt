@@ -1,16 +1,9 @@
 // All paths of a bundle text: where it departs from the grammar (8), or what it has and the first path that passes a limit (9).
-ghost use mathlib.Core.Path.{_≡_};
 ghost use Prim.Native.Nat.{_≤_, _<_};
 ghost use lib.ListN.{length};
-ghost use Rattle.bundle_paths.specs.Readings.{overLimit, ReadsBundle};
+ghost use Rattle.bundle_paths.specs.Readings.{ReadsBundle};
 ghost use Rattle.text_spec.specs.Limits.{maxBundleBytes};
 use path_lines::LineOutcome;
-
-pub const MAX_PATHS: usize = 8;
-
-pub const MAX_STEPS: usize = 16;
-
-pub const MAX_PATH_BYTES: usize = 512;
 
 // The numbers of paths, of steps outside brackets, of steps in brackets and of alternatives, and one more than the first byte of the
 // first path that passes a limit, or 0.
@@ -25,29 +18,6 @@ pub struct Bundled {
 pub enum BundleOutcome {
     Past(Bundled),
     Fail(usize),
-}
-
-// What is known of the limits after a path that starts at `at`, has d before it, so many steps and bytes and this said of its conditions.
-fn over_limit(over: usize, d: usize, at: usize, steps: usize, size: usize, past: bool) -> usize
-    requires { ⌜ at ≤ maxBundleBytes ⌝ }
-    ensures { λ r. ⌜ r ≡ overLimit over d at steps size past ⌝ }
-{
-    if over != 0 {
-        return over;
-    }
-    if MAX_PATHS <= d {
-        return at + 1;
-    }
-    if MAX_STEPS < steps {
-        return at + 1;
-    }
-    if MAX_PATH_BYTES < size {
-        return at + 1;
-    }
-    if past {
-        return at + 1;
-    }
-    0
 }
 
 // Reads all paths. The numbers of steps outside brackets go to `outers`, of those in brackets to `cells`; the ends of conditions, of paths
@@ -75,7 +45,7 @@ pub fn all_paths(
             LineOutcome::Past(p) => {
                 let end = p.at;
                 let steps = p.k;
-                over = over_limit(over, d, i, steps - k, end - 1 - i, p.over);
+                over = path_limits::over_limit(over, d, i, steps - k, end - 1 - i, p.over);
                 k = steps;
                 n = p.n;
                 m = p.m;

@@ -16,7 +16,7 @@ use Rattle.schema.specs.Judging.{outcomeOf, sized, declaredAt, JudgedInto}
 use Rattle.schema.specs.declared.Judgement.{Judgement}
 use Rattle.schema.specs.declared.Judgement.the-variants.{Accepted, Refused}
 use Rattle.schema.specs.declared.Kind.{Kind}
-use Rattle.schema_elements.specs.Reading.{AcceptedWith}
+use Rattle.element_entries.specs.Reading.{AcceptedWith}
 use Rattle.schema_entries.specs.Columns.{EntriesOf}
 use Rattle.schema_entries.specs.declared.Entries.{Entries}
 use Rattle.schema_laws.specs.Accepted.{Spelt, accepted-spelt, accepted-closed}

@@ -5,9 +5,12 @@ use Prim.Native.Nat.{ℕ}
 use lib.ListN.{length, take}
 use Rattle.closures.specs.Schemas.{RelationOf}
 use Rattle.compiled_schema.specs.declared.CompiledSchema.{CompiledSchema}
-use Rattle.schema.specs.Judging.{declaredAt}
+use Rattle.compiled_schema.specs.declared.JudgedSchema.{JudgedSchema}
+use Rattle.schema.specs.Judging.{declaredAt, outcomeOf, sized}
 use Rattle.schema_entries.specs.Columns.{EntriesOf}
 use Rattle.schema_spec.specs.Machine.{parse}
+use Rattle.schema_spec.specs.Reading.{readSchema}
+use Rattle.schema_spec.specs.Records.{schemaIn}
 use Rattle.schema_spec.specs.Schemas.{Schema}
 use Rattle.schema_spec.specs.Types.{typesOf, isBelow}
 use Rattle.text_spec.specs.Cells.{padded}
@@ -21,3 +24,8 @@ pub record CompiledOf (text : List ℕ) (s : Schema) (t : CompiledSchema) : Type
   pub named : map (nameAt text) (take (t .count) (t .names)) ≡ map (λ e. e .name) s
   pub entries : EntriesOf s (t .entries)
   pub beneath : RelationOf (isBelow (typesOf s)) (t .below)
+
+-- What judging and compiling a text in one reading answers: the outcome as a judgement, and the compiled form of the schema in it.
+pub record JudgedAs (text : List ℕ) (r : JudgedSchema) : Type 0 where
+  pub outcome : outcomeOf (r .judgement) ≡ sized (readSchema text)
+  pub compiled : CompiledOf text (schemaIn text) (r .schema)

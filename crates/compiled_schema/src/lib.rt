@@ -1,7 +1,7 @@
 // The compiled schema: the data that is derived from a schema's text. Its names, what is known of each element and what lies below it.
 ghost use mathlib.Core.List.{List, []};
 ghost use Prim.Native.Nat.{ℕ};
-ghost use Rattle.compiled_schema.specs.Compiled.{CompiledOf};
+ghost use Rattle.compiled_schema.specs.Compiled.{CompiledOf, JudgedAs};
 ghost use Rattle.schema_spec.specs.Records.{schemaIn};
 use names::MAX_ELEMENTS;
 use names::NameSet;
@@ -35,24 +35,45 @@ impl CompiledSchema {
     }
 }
 
-// The compiled form of the schema in a text: that of a schema with no element where the text is refused.
-pub fn compile(text: &[u8]) -> CompiledSchema
-    ensures { λ r. ⌜ CompiledOf (now (text .entry)) (schemaIn (now (text .entry))) r ⌝ }
+// The judgement of a schema text, and the compiled form of its schema: that of a schema with no element where the text is refused.
+pub struct JudgedSchema {
+    pub judgement: Judgement,
+    pub schema: CompiledSchema,
+}
+
+// Judges and compiles a text in one reading.
+pub fn judge_and_compile(text: &[u8]) -> JudgedSchema
+    ensures { λ r. ⌜ JudgedAs (now (text .entry)) r ⌝ }
 {
     let mut names = [0usize; MAX_ELEMENTS];
     let mut uses = [0usize; MAX_USES];
-    match schema::judge_into(text, &mut names, &mut uses) {
+    let judgement = schema_judging::judge_into(text, &mut names, &mut uses);
+    match judgement {
         Judgement::Accepted(count) => {
             let entries = schema_entries::all_entries(text, &uses, count);
             let holds = entries.holds;
             let below = closures::below(holds, count);
-            CompiledSchema {
-                count,
-                names,
-                entries,
-                below,
+            JudgedSchema {
+                judgement,
+                schema: CompiledSchema {
+                    count,
+                    names,
+                    entries,
+                    below,
+                },
             }
         }
-        Judgement::Refused(_, _) => CompiledSchema::empty(),
+        Judgement::Refused(kind, place) => JudgedSchema {
+            judgement: Judgement::Refused(kind, place),
+            schema: CompiledSchema::empty(),
+        },
     }
+}
+
+// The compiled form of the schema in a text alone.
+pub fn compile(text: &[u8]) -> CompiledSchema
+    ensures { λ r. ⌜ CompiledOf (now (text .entry)) (schemaIn (now (text .entry))) r ⌝ }
+{
+    let judged = judge_and_compile(text);
+    judged.schema
 }

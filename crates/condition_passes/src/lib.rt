@@ -9,12 +9,12 @@ ghost use Rattle.marks.specs.Selection.{noMarks, alternativeMarks, alternatives
 ghost use Rattle.step_passes.specs.Tests.{namesIn};
 use axis_passes::MARKED;
 use axis_passes::UNMARKED;
-use axis_passes::any_marked;
 use axis_passes::fill;
-use axis_passes::intersect;
-use axis_passes::unite;
 use compiled_paths::ALTERNATIVE_STARTS;
 use compiled_paths::STEPS;
+use mark_sets::any_marked;
+use mark_sets::intersect;
+use mark_sets::unite;
 use step_passes::step_back;
 
 // How many cells a range has.

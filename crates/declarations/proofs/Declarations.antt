@@ -6,11 +6,11 @@ use Prim.Native.Nat.{ℕ, _+_, _≤_, _<_}
 use native.Mathlib.Omega.{arith}
 use borrow.Author.Tests.{ne-eqb}
 use lib.ListN.{length}
-use Rattle.declarations.specs.Contents.{PassesAs, Passes, ReadsContent, ended}
+use Rattle.declared_contents.specs.Contents.{PassesAs, Passes, ReadsContent, ended}
 use Rattle.declarations.specs.Declarations.{ReadsKeyword, ReadsDeclaredName, RestAs, DeclaredRest, DeclarationAs, Declared}
-use Rattle.declarations.specs.declared.ContentEnd.{ContentEnd}
-use Rattle.declarations.specs.declared.ContentOutcome.{ContentOutcome}
-use Rattle.declarations.specs.declared.ContentOutcome.the-variants.{Past as ContentPast, Fail as ContentFail}
+use Rattle.declared_contents.specs.declared.ContentEnd.{ContentEnd}
+use Rattle.declared_contents.specs.declared.ContentOutcome.{ContentOutcome}
+use Rattle.declared_contents.specs.declared.ContentOutcome.the-variants.{Past as ContentPast, Fail as ContentFail}
 use Rattle.declarations.specs.declared.DeclarationOutcome.{DeclarationOutcome}
 use Rattle.declarations.specs.declared.DeclarationOutcome.the-variants.{Past as DeclPast, Fail as DeclFail}
 use Rattle.particles.specs.ReadingLaws.{noted-wider, noted-low}

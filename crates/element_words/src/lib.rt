@@ -52,7 +52,7 @@ fn store(words: &mut [u64; WORDS], e: usize, name: Name)
 
 // The words of the names at these places.
 pub fn all_words(text: &[u8], names: &[usize; MAX_ELEMENTS], count: usize) -> [u64; WORDS]
-    requires { ⌜ (length (now text) ≤ maxSchemaBytes) × (count ≤ maxDeclarations) ⌝ }
+    requires { ⌜ (0 < count → length (now text) ≤ maxSchemaBytes) × (count ≤ maxDeclarations) ⌝ }
     ensures { λ r. ⌜ ((a : ℕ) → a < count → wordsAt r a ≡ wordsOf (nameAt (now (text .entry)) (getD (now (names .entry)) a 0))) ⌝ }
 {
     let mut words = [0u64; WORDS];

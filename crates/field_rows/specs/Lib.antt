@@ -1,2 +1,2 @@
-pub mod Noted
-pub mod Reads
+pub mod Steps
+pub mod StepLaws

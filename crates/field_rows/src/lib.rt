@@ -1,230 +1,117 @@
-// The rows of an extract, noted in lent columns field by field; the open elements stand in cells of their own.
-ghost use mathlib.Core.Bool.{true, false};
+// The row that a field of an extract makes, and the element that it opens.
 ghost use mathlib.Core.Path.{_≡_};
-ghost use Prim.Native.Nat.{_+_, _-_, _<_};
-ghost use lib.ListN.{length, getD, set};
-ghost use Rattle.field_rows.specs.Noted.{RowPut};
-ghost use Rattle.field_rows.specs.Reads.{ColumnsFit, LevelPlace, TextPlace, progressOn, progressEnded, Reads, ReadOn};
-ghost use Rattle.text_spec.specs.Limits.{maxDeclarations};
-use field_tests::Carried;
-use field_tests::FieldRead;
-use field_tests::read_field;
+ghost use lib.ListN.{set};
+ghost use Rattle.extract_levels.specs.Levels.{levelWord};
+ghost use Rattle.field_rows.specs.Steps.{ElementPlace, TextPlace, elementStep, textStep, Ready, StepAs};
+use extract_levels::MAX_DEPTH;
+use extract_levels::element_of;
+use extract_levels::open;
+use extract_levels::row_of;
+use field_reader::read_field;
+use field_values::Carried;
+use field_values::FieldRead;
+use names::MAX_ELEMENTS;
 
-// Where reading stands: whether it goes on, whether the whole extract was read, and what is carried.
-pub struct Progress {
-    pub going: bool,
-    pub whole: bool,
-    pub carried: Carried,
+// The cells of a row: its number, the code of its name, its parent's row, the start and the length of its text.
+pub struct FieldRow {
+    pub number: u16,
+    pub name: u8,
+    pub parent: u16,
+    pub start: u32,
+    pub size: u16,
 }
 
-impl Progress {
-    // Reading goes on at a place.
-    pub fn after(at: usize, rows: usize, number: usize, text: bool, depth: usize) -> Progress
-        ensures { λ p. ⌜ p ≡ progressOn at rows number text depth ⌝ }
-    {
-        let carried = Carried {
-            at,
-            rows,
-            number,
-            text,
-            depth,
-        };
-        Progress {
-            going: true,
-            whole: false,
-            carried,
-        }
-    }
-
-    // Reading is over.
-    pub fn ended(whole: bool, carried: Carried) -> Progress
-        ensures { λ p. ⌜ p ≡ progressEnded whole carried ⌝ }
-    {
-        Progress {
-            going: false,
-            whole,
-            carried,
-        }
-    }
+// What a field does: nothing that may stand here, the end, or a row, with what is then carried on.
+pub enum FieldStep {
+    Wrong,
+    Ended,
+    Row { row: FieldRow, next: Carried },
 }
 
-// Writes a row into the columns, if there is a cell for it in each.
-pub fn put_row(
-    numbers: &mut [u16],
-    names: &mut [u8],
-    parents: &mut [u16],
-    starts: &mut [u32],
-    lengths: &mut [u16],
-    n: usize,
-    number: u16,
-    name: u8,
-    parent: u16,
-    start: u32,
-    size: u16,
-)
-    requires { ⌜ (length (now names) ≡ length (now numbers)) × (length (now parents) ≡ length (now numbers)) × (length (now starts) ≡ length (now numbers)) × (length (now lengths) ≡ length (now numbers)) ⌝ }
-    ensures { λ _. ⌜ RowPut (now (numbers .entry)) (now (names .entry)) (now (parents .entry)) (now (starts .entry)) (now (lengths .entry)) n number name parent start size (now (numbers .exit)) (now (names .exit)) (now (parents .exit)) (now (starts .exit)) (now (lengths .exit)) ⌝ }
-{
-    if n < numbers.len() {
-        numbers[n] = number;
-        names[n] = name;
-        parents[n] = parent;
-        starts[n] = start;
-        lengths[n] = size;
-    }
-}
-
-// Opens an element below the first d open ones.
-pub fn open_level(
-    rows: &mut [u16],
-    opens: &mut [u16],
-    elements: &mut [u8],
-    d: usize,
-    row: u16,
-    number: u16,
-    element: u8,
-)
-    requires { ⌜ (d < length (now rows)) × (d < length (now opens)) × (d < length (now elements)) ⌝ }
-    ensures { λ _. ⌜ (now (rows .exit) ≡ set (now (rows .entry)) d row) × (now (opens .exit) ≡ set (now (opens .entry)) d number) × (now (elements .exit) ≡ set (now (elements .entry)) d element) ⌝ }
-{
-    rows[d] = row;
-    opens[d] = number;
-    elements[d] = element;
-}
-
-// The row of an element under the last of the first `depth` open elements, noted and opened.
+// The row of an element under the last of the first `depth` open elements, which is opened.
 fn element_row(
-    rows: &mut [u16],
-    opens: &mut [u16],
-    elements: &mut [u8],
-    numbers: &mut [u16],
-    names: &mut [u8],
-    parents: &mut [u16],
-    starts: &mut [u32],
-    lengths: &mut [u16],
+    levels: &mut [u64; MAX_DEPTH],
     carried: Carried,
     number: usize,
     element: u8,
     depth: usize,
-) -> Progress
-    requires { ⌜ ColumnsFit (now numbers) (now names) (now parents) (now starts) (now lengths) × LevelPlace (now rows) (now opens) (now elements) carried number depth ⌝ }
-    ensures { λ p. ⌜ RowPut (now (numbers .entry)) (now (names .entry)) (now (parents .entry)) (now (starts .entry)) (now (lengths .entry)) (carried .rows) number element (getD (now (rows .entry)) (depth - 1) 0) 0 0 (now (numbers .exit)) (now (names .exit)) (now (parents .exit)) (now (starts .exit)) (now (lengths .exit)) ⌝ }
-    ensures { λ p. ⌜ (now (rows .exit) ≡ set (now (rows .entry)) depth (carried .rows)) × (now (opens .exit) ≡ set (now (opens .entry)) depth number) × (now (elements .exit) ≡ set (now (elements .entry)) depth element) ⌝ }
-    ensures { λ p. ⌜ p ≡ progressOn (carried .at + 8) (carried .rows + 1) number false (depth + 1) ⌝ }
+) -> FieldStep
+    requires { ⌜ ElementPlace carried number depth ⌝ }
+    ensures { λ r. ⌜ (now (levels .exit) ≡ set (now (levels .entry)) depth (levelWord (carried .rows) number element)) × (r ≡ elementStep (now (levels .entry)) carried number element depth) ⌝ }
 {
-    let row = carried.rows;
-    let parent = rows[depth - 1];
+    let parent = row_of(levels[depth - 1]);
     let short = number as u16;
-    put_row(
-        numbers,
-        names,
-        parents,
-        starts,
-        lengths,
-        row,
-        short,
-        element,
+    open(levels, depth, carried.rows as u16, short, element);
+    let row = FieldRow {
+        number: short,
+        name: element,
         parent,
-        0,
-        0,
-    );
-    open_level(rows, opens, elements, depth, row as u16, short, element);
-    Progress::after(carried.at + 8, row + 1, number, false, depth + 1)
+        start: 0,
+        size: 0,
+    };
+    let next = Carried {
+        at: carried.at + 8,
+        rows: carried.rows + 1,
+        number,
+        text: false,
+        depth: depth + 1,
+    };
+    FieldStep::Row { row, next }
 }
 
-// The row of a text under the last of the first `depth` open elements, noted.
+// The row of a text there.
 fn text_row(
-    rows: &[u16],
-    elements: &[u8],
-    numbers: &mut [u16],
-    names: &mut [u8],
-    parents: &mut [u16],
-    starts: &mut [u32],
-    lengths: &mut [u16],
+    levels: &[u64; MAX_DEPTH],
     carried: Carried,
     number: usize,
     depth: usize,
     size: usize,
-) -> Progress
-    requires { ⌜ ColumnsFit (now numbers) (now names) (now parents) (now starts) (now lengths) × TextPlace (now rows) (now elements) carried number depth size ⌝ }
-    ensures { λ p. ⌜ RowPut (now (numbers .entry)) (now (names .entry)) (now (parents .entry)) (now (starts .entry)) (now (lengths .entry)) (carried .rows) number (getD (now (elements .entry)) (depth - 1) 0 + maxDeclarations) (getD (now (rows .entry)) (depth - 1) 0) (carried .at + 7) size (now (numbers .exit)) (now (names .exit)) (now (parents .exit)) (now (starts .exit)) (now (lengths .exit)) ⌝ }
-    ensures { λ p. ⌜ p ≡ progressOn (carried .at + 7 + size) (carried .rows + 1) number true depth ⌝ }
+) -> FieldStep
+    requires { ⌜ TextPlace (now levels) carried number depth size ⌝ }
+    ensures { λ r. ⌜ r ≡ textStep (now (levels .entry)) carried number depth size ⌝ }
 {
-    let row = carried.rows;
+    let level = levels[depth - 1];
     let start = carried.at + 7;
-    let parent = rows[depth - 1];
-    let name = elements[depth - 1] + 32;
-    put_row(
-        numbers,
-        names,
-        parents,
-        starts,
-        lengths,
-        row,
-        number as u16,
-        name,
-        parent,
-        start as u32,
-        size as u16,
-    );
-    Progress::after(start + size, row + 1, number, true, depth)
+    let name = element_of(level) + MAX_ELEMENTS;
+    let row = FieldRow {
+        number: number as u16,
+        name: name as u8,
+        parent: row_of(level),
+        start: start as u32,
+        size: size as u16,
+    };
+    let next = Carried {
+        at: start + size,
+        rows: carried.rows + 1,
+        number,
+        text: true,
+        depth,
+    };
+    FieldStep::Row { row, next }
 }
 
-// The next field: its row is noted in the columns, and its element opened.
+// The next field.
 pub fn step(
     extract: &[u8],
-    held: &[u64],
-    texts: &[u64],
-    rows: &mut [u16],
-    opens: &mut [u16],
-    elements: &mut [u8],
-    numbers: &mut [u16],
-    names: &mut [u8],
-    parents: &mut [u16],
-    starts: &mut [u32],
-    lengths: &mut [u16],
+    words: &[u64; MAX_ELEMENTS],
+    levels: &mut [u64; MAX_DEPTH],
     carried: Carried,
-) -> Progress
-    requires { ⌜ Reads (now extract) (now held) (now texts) (now rows) (now opens) (now elements) (now numbers) (now names) (now parents) (now starts) (now lengths) carried ⌝ }
-    ensures { λ p. ⌜ ReadOn (now (extract .entry)) (now (held .entry)) (now (texts .entry)) (carried .at) (now (rows .exit)) (now (opens .exit)) (now (elements .exit)) (now (numbers .exit)) (now (names .exit)) (now (parents .exit)) (now (starts .exit)) (now (lengths .exit)) p ⌝ }
+) -> FieldStep
+    requires { ⌜ Ready (now extract) (now levels) carried ⌝ }
+    ensures { λ r. ⌜ StepAs (now (extract .entry)) (now (words .entry)) (now (levels .entry)) carried (now (levels .exit)) r ⌝ }
 {
-    match read_field(extract, held, texts, &opens[..], &elements[..], carried) {
-        FieldRead::Wrong => Progress::ended(false, carried),
-        FieldRead::Ended => Progress::ended(true, carried),
+    match read_field(extract, words, levels, carried) {
+        FieldRead::Wrong => FieldStep::Wrong,
+        FieldRead::Ended => FieldStep::Ended,
         FieldRead::Element {
             number,
             element,
             depth,
-        } => element_row(
-            rows,
-            opens,
-            elements,
-            numbers,
-            names,
-            parents,
-            starts,
-            lengths,
-            carried,
-            number,
-            element,
-            depth,
-        ),
+        } => element_row(levels, carried, number, element, depth),
         FieldRead::Text {
             number,
             depth,
             size,
-        } => text_row(
-            &rows[..],
-            &elements[..],
-            numbers,
-            names,
-            parents,
-            starts,
-            lengths,
-            carried,
-            number,
-            depth,
-            size,
-        ),
+        } => text_row(levels, carried, number, depth, size),
     }
 }

@@ -1,16 +1,14 @@
 // One byte of a journal's character data: a function for each mode, which is handed the byte and its kind.
-ghost use mathlib.Core.Bool.{cond};
 ghost use mathlib.Core.Option.{none};
 ghost use mathlib.Core.Path.{_≡_};
 ghost use Prim.Native.Nat.{_-_, _<_};
-ghost use lib.Dec.{eqb};
 ghost use lib.ListN.{set};
 ghost use Rattle.journal_data.specs.Runs.{Plain};
 ghost use Rattle.journal_kinds.specs.Kinds.{dataBy};
 ghost use Rattle.journal_spec.specs.Lexer.{run, goes};
-ghost use Rattle.journal_state.specs.Entities.{entityDead, firstLetter, secondLetter, nextState};
 ghost use Rattle.journal_state.specs.Places.{noPlace};
 ghost use Rattle.journal_state.specs.Relation.{stepped, named, Handed, Meant, Steps};
+use entity_states::ENTITY_ENDED;
 use journal_kinds::AMPERSAND;
 use journal_kinds::BLANK;
 use journal_kinds::BRACKET;
@@ -35,11 +33,6 @@ use journal_state::goes;
 use journal_state::note_foreign;
 use journal_state::stop;
 use journal_state::tells;
-
-// The states of an entity past its end, and where nothing can follow.
-const ENTITY_ENDED: u32 = 9;
-
-const ENTITY_DEAD: u32 = 10;
 
 // A `<`.
 fn tag_opens(places: &mut [u32; 4], l: Lex, event: u8) -> Lex
@@ -164,78 +157,6 @@ pub fn after_brackets_byte(places: &mut [u32; 4], l: Lex, b: u8, c: u8) -> Lex
     plain_byte(places, l, b, c)
 }
 
-fn first_letter(b: u8) -> u32
-    ensures { λ r. ⌜ r ≡ firstLetter b ⌝ }
-{
-    if b == b'l' {
-        return 1;
-    }
-    if b == b'g' {
-        return 1;
-    }
-    if b == b'a' {
-        return 3;
-    }
-    if b == b'q' {
-        return 7;
-    }
-    ENTITY_DEAD
-}
-
-// After `&a`.
-fn second_letter(b: u8) -> u32
-    ensures { λ r. ⌜ r ≡ secondLetter b ⌝ }
-{
-    if b == b'm' {
-        return 4;
-    }
-    if b == b'p' {
-        return 5;
-    }
-    ENTITY_DEAD
-}
-
-fn only(b: u8, expected: u8, next: u32) -> u32
-    ensures { λ r. ⌜ r ≡ cond (eqb b expected) next entityDead ⌝ }
-{
-    if b == expected {
-        return next;
-    }
-    ENTITY_DEAD
-}
-
-// The next state of an entity: an automaton of nine states for all five, a letter at a time.
-fn entity_next(s: u32, b: u8) -> u32
-    requires { ⌜ s < 9 ⌝ }
-    ensures { λ r. ⌜ r ≡ nextState s b ⌝ }
-{
-    if s == 0 {
-        return first_letter(b);
-    }
-    if s == 3 {
-        return second_letter(b);
-    }
-    if s == 1 {
-        return only(b, b't', 2);
-    }
-    if s == 2 {
-        return only(b, b';', ENTITY_ENDED);
-    }
-    if s == 4 {
-        return only(b, b'p', 2);
-    }
-    if s == 5 {
-        return only(b, b'o', 6);
-    }
-    if s == 6 {
-        return only(b, b's', 2);
-    }
-    if s == 7 {
-        return only(b, b'u', 8);
-    }
-    only(b, b'o', 1)
-}
-
 pub fn entity_byte(places: &mut [u32; 4], l: Lex, b: u8, c: u8) -> Lex
     requires { ⌜ Handed l (now places) b c ⌝ }
     ensures { λ r. ⌜ Steps 5 l (now (places .entry)) b r (now (places .exit)) ⌝ }
@@ -244,7 +165,7 @@ pub fn entity_byte(places: &mut [u32; 4], l: Lex, b: u8, c: u8) -> Lex
     if ENTITY_ENDED <= s {
         return stop(places, l, c);
     }
-    let next = entity_next(s, b);
+    let next = entity_states::entity_next(s, b);
     if next == ENTITY_ENDED {
         note_foreign(places, l.place, c);
         return goes(SOLID, l);

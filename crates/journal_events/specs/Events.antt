@@ -1,9 +1,12 @@
 -- What an event leaves, whatever it is: the builder's state and levels are those of the definition's `onEvent`.
-use mathlib.Core.Bool.{Bool, true, false, cond}
+use mathlib.Core.Bool.{Bool, true, false, cond, true≢false}
 use mathlib.Core.List.{List}
+use mathlib.Core.Logic.{_⊎_, inl, inr}
 use mathlib.Core.Path.{_≡_, refl, sym, ap, subst, _∙_}
 use Prim.Native.Nat.{ℕ, zero, suc, _-_, _≤_, _<_}
 use native.Mathlib.Omega.{arith}
+use borrow.Author.Tests.{eqb-true}
+use lib.Dec.{eqb}
 use lib.ListN.{length}
 use Rattle.build_state.specs.State.{Safe, Built, Leaves, SafeStep, noRow, step}
 use Rattle.build_state.specs.StateLaws.{leaves-as, leaves-kept}
@@ -62,6 +65,20 @@ pub record EventLeaves (t : SchemaCells) (levels places : List ℕ) (l : Lex) (m
   pub leaves : (s : Schema) (b : Building) (e : Event) → CellsOf s t → TellsEvent l places e → Built s levels m b → Leaves s after m b x (onEvent s e b)
 
 -- ---- by the event's number
+-- no event, or a run of character data
+abbrev pub isDataEvent : ℕ → Bool
+isDataEvent event = cond (eqb event 0) true (eqb event 4)
+
+pub data-event : (event : ℕ) → isDataEvent event ≡ true → (event ≡ 0) ⊎ (event ≡ 4)
+data-event event e = pick (eqb event 0) refl e
+  where
+    pick : (a : Bool) → eqb event 0 ≡ a → cond a true (eqb event 4) ≡ true → (event ≡ 0) ⊎ (event ≡ 4)
+    pick true x h = inl (eqb-true event 0 x)
+    pick false x h = inr (eqb-true event 4 h)
+
+pub tag-event : (event x : ℕ) → isDataEvent event ≡ false → isDataEvent x ≡ true → event ≡ x → ⊥
+tag-event event x f t e = true≢false (sym t ∙ ap isDataEvent (sym e) ∙ f)
+
 quiet-tells : (event : ℕ) (w : Name) (p : List ℕ) (e : Event) → event ≡ 0 → Tells (reportOf event) w p e → e ≡ quiet
 quiet-tells event w p e z t = subst (λ (x : ℕ). Tells (reportOf x) w p e) z t
 

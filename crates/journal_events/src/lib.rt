@@ -1,11 +1,12 @@
 // What the lexer's last event makes of what is built.
+ghost use mathlib.Core.Logic.{_⊎_};
 ghost use mathlib.Core.Path.{_≡_};
 ghost use Prim.Native.Nat.{_-_, _≤_, _<_};
 ghost use lib.ListN.{length};
 ghost use Rattle.build_state.specs.State.{Safe, SafeStep};
 ghost use Rattle.content_fit.specs.Fillings.{Sized};
 ghost use Rattle.fault_keys.specs.Keys.{placeLimit};
-ghost use Rattle.journal_events.specs.Events.{SchemaCells, schemaCells, EventLeaves};
+ghost use Rattle.journal_events.specs.Events.{SchemaCells, schemaCells, isDataEvent, EventLeaves};
 ghost use Rattle.text_spec.specs.Limits.{maxDeclarations};
 use build_state::Build;
 use build_state::BuildStep;
@@ -29,6 +30,28 @@ fn run_size(start: u32, end: u32) -> u32
     if start <= end { end - start } else { 0 }
 }
 
+// No event, or a run of character data. Nothing else is left at the end of a text.
+pub fn on_data_event(levels: &mut [u64; LEVELS], places: &[u32; 4], l: Lex, m: Build) -> BuildStep
+    requires { ⌜ Safe (now levels) m × (m .count < placeLimit) × (length (now places) ≡ 4) × ((l .event ≡ 0) ⊎ (l .event ≡ 4)) ⌝ }
+    ensures { λ r. ⌜ ((t : SchemaCells) → EventLeaves t (now (levels .entry)) (now (places .entry)) l m (now (levels .exit)) r) ⌝ }
+{
+    if l.event == QUIET {
+        return build_state::without_row(m);
+    }
+    let start = places[START];
+    let size = run_size(start, places[AT]);
+    journal_builder::on_run(levels, m, start, places[SOLID_AT], size)
+}
+
+fn is_data_event(event: u8) -> bool
+    ensures { λ r. ⌜ r ≡ isDataEvent event ⌝ }
+{
+    if event == QUIET {
+        return true;
+    }
+    event == RUNS
+}
+
 pub fn on_event(
     words: &[u64; WORDS],
     hints: &[u8; HASHES],
@@ -49,13 +72,8 @@ pub fn on_event(
     ensures { λ r. ⌜ EventLeaves (schemaCells (now (words .entry)) count (now (kinds .entry)) (now (firsts .entry)) (now (lasts .entry)) (now (nullables .entry)) (now (elements .entry)) (now (predecessors .entry)) (now (sizes .entry))) (now (levels .entry)) (now (places .entry)) l m (now (levels .exit)) r ⌝ }
 {
     let event = l.event;
-    if event == QUIET {
-        return build_state::without_row(m);
-    }
-    if event == RUNS {
-        let start = places[START];
-        let size = run_size(start, places[AT]);
-        return journal_builder::on_run(levels, m, start, places[SOLID_AT], size);
+    if is_data_event(event) {
+        return on_data_event(levels, places, l, m);
     }
     let name: Name = l.name;
     journal_builder::on_tag(

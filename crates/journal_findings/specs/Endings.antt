@@ -1,6 +1,7 @@
 -- What the end of a text does to the lexer's state: its event, and what is misspelt.
 use mathlib.Core.Bool.{Bool, true, false, cond, true≢false}
 use mathlib.Core.List.{List, [], _∷_}
+use mathlib.Core.Logic.{_⊎_, inl, inr}
 use mathlib.Core.Path.{_≡_, refl, sym, ap, subst, _∙_}
 use Prim.Native.Nat.{ℕ, zero, suc, _-_, _≤_, _<_}
 use native.Mathlib.Omega.{arith}
@@ -58,6 +59,7 @@ misspelt-at (suc (suc (suc (suc (suc (suc (suc (suc (suc (suc (suc (suc (suc (su
 -- the state r and the places q at the end of a text, where l and p stood
 pub record Ended (l : Lex) (p : List ℕ) (r : Lex) (q : List ℕ) : Type 0 where
   pub four : length q ≡ 4
+  pub event : (r .event ≡ 0) ⊎ (r .event ≡ 4)
   pub told : (m : Mode) → MeansMode l p m → TellsEvent r q (lastEvent m (l .place))
   pub misspelt : (m : Mode) → MeansMode l p m → misspeltAt m ≡ cond (ltb 4 (l .mode)) (tagAt q ∷ []) []
   pub foreign : foreignAt q ≡ foreignAt p
@@ -69,6 +71,7 @@ module _ {l r : Lex} {p : List ℕ} (four : length p ≡ 4) where
       rw e
       (record {
         four = simp length-set four;
+        event = inr refl;
         told = λ m w.
             last-event (l .mode) (l .name) (l .count) p (l .place) m w
             ∙ rw (d, tag-run p (l .place), tag-first p four (l .place), tag-other p (l .place) 1 (λ z. omega arith));
@@ -92,6 +95,7 @@ module _ {l r : Lex} {p : List ℕ} (four : length p ≡ 4) where
       rw e
       (record {
         four = four;
+        event = inl refl;
         told = λ m w. last-event (l .mode) (l .name) (l .count) p (l .place) m w ∙ rw d;
         misspelt = λ m w. misspelt-at (l .mode) (l .name) (l .count) p m w;
         foreign = refl;

@@ -21,7 +21,8 @@ use journal_state::QUIET;
 use journal_state::RUNS;
 use name_words::Name;
 
-fn with_event(l: Lex, event: u8) -> Lex
+// The state with another event.
+pub fn with_event(l: Lex, event: u8) -> Lex
     ensures { λ r. ⌜ r ≡ withEvent event l ⌝ }
 {
     let name: Name = l.name;

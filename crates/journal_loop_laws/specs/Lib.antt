@@ -1,2 +1,3 @@
 pub mod Advance
 pub mod Laws
+pub mod Turns

@@ -41,7 +41,7 @@ pub fn read_journal(
     let table = journal_kinds::all_kinds();
     let mut levels = [0u64; LEVELS];
     let mut places = [0u32, 0u32, NONE, NONE];
-    let x: ReaderState = journal_reader_loop::read_all(
+    let x: ReaderState = journal_event_loop::read_all(
         text,
         &table,
         words,
@@ -63,16 +63,6 @@ pub fn read_journal(
         &mut places,
     );
     journal_reader_end::finish(
-        words,
-        hints,
-        count,
-        kinds,
-        firsts,
-        lasts,
-        nullables,
-        elements,
-        predecessors,
-        sizes,
         &mut levels,
         numbers,
         names,

@@ -14,7 +14,7 @@ use Rattle.journal_events.specs.Events.{SchemaCells, CellsOf}
 use Rattle.journal_findings.specs.Endings.{Ended}
 use Rattle.journal_findings.specs.Findings.{endsBefore, foundKey, found-key-is, found-placed}
 use Rattle.journal_reader_end.specs.declared.Found.{Found}
-use Rattle.journal_reader_step.specs.Steps.{EventRead}
+use Rattle.journal_event_rows.specs.Events.{EventRead}
 use Rattle.journal_run_laws.specs.Findings.{KeyTells, read-told}
 use Rattle.journal_spec.specs.Builder.{Building, onEvent}
 use Rattle.journal_spec.specs.Lexer.{lastEvent}

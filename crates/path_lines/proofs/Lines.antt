@@ -9,12 +9,13 @@ use lib.Dec.{ltb}
 use lib.ListN.{length, set, length-append, length-map}
 use lib.Seq.{sets, length-sets}
 use Rattle.path_conditions.specs.Laws.{cells-append, ends-append, ends-length}
-use Rattle.path_conditions.specs.Readings.{Stands, cellsOf, endsFrom, tooMuch, conditionNoted, opened, ConditionAs, ReadsCondition}
+use Rattle.path_alternatives.specs.Readings.{Stands}
+use Rattle.path_conditions.specs.Readings.{cellsOf, endsFrom, tooMuch, conditionNoted, opened, ConditionAs, ReadsCondition}
 use Rattle.path_conditions.specs.declared.Alternatives.{Alternatives}
 use Rattle.path_conditions.specs.declared.ConditionOutcome.{ConditionOutcome}
 use Rattle.path_conditions.specs.declared.ConditionOutcome.the-variants.{Past as ConditionPast, Fail as ConditionFail}
-use Rattle.path_conditions.specs.declared.Follow.{Follow}
-use Rattle.path_conditions.specs.declared.Follow.the-variants.{Close, More, Fail as FollowFail}
+use Rattle.path_alternatives.specs.declared.Follow.{Follow}
+use Rattle.path_alternatives.specs.declared.Follow.the-variants.{Close, More, Fail as FollowFail}
 use Rattle.path_lines.specs.Readings.{conditionOf, stepped, BracketsRead, BracketsAs, ReadsBrackets, WrittenRead, WrittenAs, ReadsWritten, lineEnded, FollowedAs, Followed, Written, stepNoted, outerCells, allPaths, conditionEnds, overCondition, Steps, ReadsLine}
 use Rattle.path_lines.specs.declared.LineOutcome.the-variants.{Past, Fail}
 use Rattle.path_spec.specs.Grammar.{PathRead, pathRead}

@@ -10,8 +10,8 @@ use Rattle.path_conditions.specs.Readings.{cellsOf, endsFrom, tooMuch, conditio
 use Rattle.path_conditions.specs.declared.Alternatives.{Alternatives}
 use Rattle.path_conditions.specs.declared.ConditionOutcome.{ConditionOutcome}
 use Rattle.path_conditions.specs.declared.ConditionOutcome.the-variants.{Past as ConditionPast, Fail as ConditionFail}
-use Rattle.path_conditions.specs.declared.Follow.{Follow}
-use Rattle.path_conditions.specs.declared.Follow.the-variants.{Close, More, Fail as FollowFail}
+use Rattle.path_alternatives.specs.declared.Follow.{Follow}
+use Rattle.path_alternatives.specs.declared.Follow.the-variants.{Close, More, Fail as FollowFail}
 use Rattle.path_lines.specs.declared.Line.{Line}
 use Rattle.path_lines.specs.declared.LineOutcome.{LineOutcome}
 use Rattle.path_lines.specs.declared.LineOutcome.the-variants.{Past, Fail}

@@ -3,9 +3,9 @@ ghost use Prim.Native.Nat.{_≤_, _<_};
 ghost use lib.ListN.{length};
 ghost use Rattle.path_lines.specs.Readings.{ReadsBrackets, ReadsWritten, Followed, ReadsLine};
 ghost use Rattle.text_spec.specs.Limits.{maxBundleBytes};
+use path_alternatives::Follow;
 use path_conditions::Alternatives;
 use path_conditions::ConditionOutcome;
-use path_conditions::Follow;
 use path_steps::StepOutcome;
 
 // The place past a path's line feed, the numbers of steps outside brackets, of steps in brackets and of alternatives noted so far, and
@@ -35,7 +35,7 @@ fn brackets(
     requires { ⌜ (at ≤ length (now s)) × (length (now s) ≤ maxBundleBytes) × (n ≤ at) × (m ≤ at) ⌝ }
     ensures { λ r. ⌜ ReadsBrackets (now (s .entry)) at n m (now (cells .entry)) (now (cells .exit)) (now (ways .entry)) (now (ways .exit)) r ⌝ }
 {
-    if path_conditions::stands(s, at, b'[') {
+    if path_alternatives::stands(s, at, b'[') {
         return path_conditions::condition(s, at + 1, cells, n, ways, m);
     }
     ConditionOutcome::Past(Alternatives {

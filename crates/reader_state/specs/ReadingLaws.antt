@@ -25,7 +25,7 @@ use Rattle.journal_spec.specs.Reading.{Machine, step}
 use Rattle.journal_state.specs.Places.{noPlace, foreignAt}
 use Rattle.journal_state.specs.Relation.{firstForeign, MeansMode, Meant}
 use Rattle.journal_state.specs.declared.Lex.{Lex}
-use Rattle.reader_state.specs.Reading.{foreignKey, ForeignCell, ReadAs}
+use Rattle.reader_state.specs.Reading.{foreignKey, ForeignCell, Usable, ReadAs}
 use Rattle.reader_state.specs.declared.ReaderState.{ReaderState}
 use Rattle.schema_spec.specs.Schemas.{Schema}
 use Rattle.table_spec.specs.Columns.{Columns, Sizes, columnsOf}
@@ -71,6 +71,10 @@ pub foreign-below : (text : List ℕ) (k : ℕ) → k ≤ noPlace → ForeignCel
 unfolding foreignBelow foreignsBelow
 foreign-below text zero h = no-foreign
 foreign-below text (suc k) h = foreign-next (getD text k 0) (omega arith) (foreign-below text k (omega arith))
+
+-- ---- fewer nodes than places
+pub few-nodes : {levels places : List ℕ} {c : Columns} {x : ReaderState} → Usable levels places c x → x .lex .place < noPlace → x .build .count < placeLimit
+few-nodes u h = omega (arith, u .counted)
 
 -- ---- no refusal now, none before
 least-none : (fs : List Refusal) → Placed fs → leastKey fs ≡ noKey → fs ≡ []

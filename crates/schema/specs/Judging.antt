@@ -1,14 +1,13 @@
 -- What judging a schema text answers and leaves in lent cells, in the definition's terms.
 use mathlib.Core.List.{List, [], map}
 use mathlib.Core.Path.{_≡_}
-use Prim.Native.Nat.{ℕ, _≤_}
+use Prim.Native.Nat.{ℕ}
 use lib.ListN.{length, take, replicate}
 use Rattle.schema.specs.declared.Judgement.{Judgement}
 use Rattle.schema.specs.declared.Judgement.the-variants.{Accepted, Refused}
 use Rattle.schema.specs.declared.Kind.{Kind}
 use Rattle.schema.specs.declared.Kind.the-variants.{BadLength, BadByte, BadGrammar, OverLimit, DeclaredTwice, Undeclared}
 use Rattle.schema.specs.declared.Schema.{Schema as Record}
-use Rattle.schema_places.specs.Whole.{WithinLimits}
 use Rattle.schema_spec.specs.Declarations.{Declaration}
 use Rattle.schema_spec.specs.Machine.{parse}
 use Rattle.schema_spec.specs.Models.{usesIn}
@@ -20,7 +19,6 @@ use Rattle.text_spec.specs.Lists.{gather}
 use Rattle.text_spec.specs.Machines.{Parsed, spells, departs}
 use Rattle.text_spec.specs.Scans.{nameAt}
 use Rattle.text_spec.specs.Refusals.{Reason, badLength, badByte, badSchema, overSchemaLimit, declaredTwice, undeclaredInModel, at, Outcome, accepted, refused}
-use Rattle.text_spec.specs.Texts.{lengthRefusals, byteRefusals}
 
 -- the schema that is handed back on refusal
 abbrev pub emptySchema : Record
@@ -66,23 +64,3 @@ pub record Located (text : List ℕ) (s : Schema) (names uses : List ℕ) : Type
 pub record JudgedInto (text names uses : List ℕ) (r : Judgement) : Type 0 where
   pub outcome : outcomeOf r ≡ sized (readSchema text)
   pub located : (s : Schema) → readSchema text ≡ accepted s → Located text s names uses
-
--- the same of a text whose names are declared at `names`, and used at `uses` before it is judged
-pub record JudgedNames (text names uses uses′ : List ℕ) (r : Judgement) : Type 0 where
-  pub outcome : outcomeOf r ≡ sized (readSchema text)
-  pub long : length uses′ ≡ length uses
-  pub named : (s : Schema) → readSchema text ≡ accepted s → map (nameAt text) names ≡ map (λ e. e .name) s
-  pub elements : (s : Schema) → readSchema text ≡ accepted s → uses′ ≡ usedIn s
-
--- a text that passes 2 and 3
-pub record Readable (text : List ℕ) : Type 0 where
-  pub right-length : lengthRefusals maxSchemaBytes text ≡ []
-  pub right-bytes : byteRefusals text ≡ []
-  pub short : length text ≤ maxSchemaBytes
-
--- and 4 and 5, with the places of its declared and of its used names
-pub record Spelling (text names uses : List ℕ) : Type 0 where
-  pub readable : Readable text
-  pub declarations : List Declaration
-  pub spelt : parse text ≡ spells declarations
-  pub kept : WithinLimits text declarations (length names) (length uses) (length text) names uses

@@ -1,22 +1,16 @@
 -- Laws of what an element holds: the elements of its model, one by one, or its text name.
 use mathlib.Core.Bool.{Bool, true, false, _&&_, _||_, or-false, or-assoc, and-true, and-false}
-use mathlib.Core.List.{List, [], _∷_, List·Memᴰ as In, List·Memᴰ·head as here, List·Memᴰ·tail as there}
-use mathlib.Core.Path.{_≡_, refl, sym, ap, ap₂, _∙_}
+use mathlib.Core.List.{List}
+use mathlib.Core.Path.{_≡_, refl, sym, ap, _∙_}
 use Prim.Native.Nat.{ℕ, suc, _+_, _≤_, _<_}
 use native.Mathlib.Numerals.{add-one}
-use borrow.Author.Tests.{lt-ltb}
 use lib.Dec.{eqb, ltb}
 use lib.ListN.{length, drop, getD, drop-of-length-le}
 use lib.Seq.{drop-cons}
 use Rattle.names.specs.Sets.{member}
 use Rattle.names.specs.declared.NameSet.{NameSet}
-use Rattle.schema_spec.specs.Models.{Content, empty, pcdata, children}
 use Rattle.schema_spec.specs.Names.{Name, element, text, sameName}
-use Rattle.schema_spec.specs.Schemas.{Schema, contentAt, modelAt, isPcdata}
-use Rattle.schema_spec.specs.Types.{holds}
-use Rattle.schema_elements.specs.Entries.{kindOf, isOneOf, isHeld}
-use Rattle.text_laws.specs.Tests.{eqb-sym}
-use Rattle.text_spec.specs.Lists.{anyOf}
+use Rattle.schema_elements.specs.Entries.{isOneOf, isHeld}
 
 -- one element more
 module _ (elements : List ℕ) where
@@ -54,22 +48,3 @@ module _ (a kind : ℕ) (elements : List ℕ) (set : NameSet) (from : (n : Name)
   pub held-none : eqb kind 1 ≡ false → (n : Name) → member set n ≡ isHeld a kind elements n
   held-none e (element b) = from (element b)
   held-none e (text b) = from (text b) ∙ sym (ap (λ (c : Bool). (eqb b a && ltb a 64) && c) e ∙ and-false (eqb b a && ltb a 64))
-
-any-same : (f g : ℕ → Bool) (xs : List ℕ) → ((x : ℕ) → In x xs → f x ≡ g x) → anyOf f xs ≡ anyOf g xs
-any-same f g [] h = refl
-any-same f g (x ∷ xs) h = ap₂ _||_ (h x (here refl)) (any-same f g xs (λ y i. h y (there i)))
-
-kind-pcdata : (c : Content ℕ) → eqb (kindOf c) 1 ≡ isPcdata c
-kind-pcdata empty = refl
-kind-pcdata pcdata = refl
-kind-pcdata (children p) = refl
-
--- what is made from an element's kind and the elements of its model is what it holds
-pub isHeld-holds : (s : Schema) (a kind : ℕ) (elements : List ℕ) → a < 64 → kind ≡ kindOf (contentAt s a) → elements ≡ modelAt s a
-    → ((b : ℕ) → In b (modelAt s a) → b < 64) → (n : Name) → isHeld a kind elements n ≡ holds s (element a) n
-unfolding holds
-isHeld-holds s a kind elements l k e small (element b) =
-    ap (anyOf (λ x. eqb b x && ltb x 64)) e
-    ∙ any-same (λ x. eqb b x && ltb x 64) (eqb b) (modelAt s a) (λ x i. ap (λ (t : Bool). eqb b x && t) (lt-ltb x 64 (small x i)) ∙ and-true (eqb b x))
-isHeld-holds s a kind elements l k e small (text b) =
-    ap₂ _&&_ (ap₂ _&&_ (eqb-sym b a) (lt-ltb a 64 l) ∙ and-true (eqb a b)) (ap (λ (x : ℕ). eqb x 1) k ∙ kind-pcdata (contentAt s a))

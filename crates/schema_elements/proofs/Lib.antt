@@ -1,3 +1,1 @@
 pub mod Holding
-pub mod Reading
-pub mod Entries

@@ -1,20 +1,26 @@
 -- Laws of entries: that of EMPTY is zeros, and that of a children model is its position automaton.
-use mathlib.Core.Bool.{false}
-use mathlib.Core.List.{List}
+use mathlib.Core.Bool.{Bool, false, _&&_, _||_, and-true}
+use mathlib.Core.List.{List, [], _∷_, List·Memᴰ as In, List·Memᴰ·head as here, List·Memᴰ·tail as there}
 use mathlib.Core.Path.{_≡_, refl, sym, ap, ap₂, subst, _∙_}
 use Prim.Native.Nat.{ℕ, zero, suc, _≤_, _<_}
 use native.Mathlib.Omega.{arith}
+use borrow.Author.Tests.{lt-ltb}
+use lib.Dec.{eqb, ltb}
 use lib.ListN.{length, take, getD, replicate, length-replicate}
 use lib.Seq.{length-take-le, getD-take}
 use Rattle.models.specs.Automaton.{AutomatonOf}
 use Rattle.models.specs.PositionLaws.{size-uses}
 use Rattle.models.specs.Positions.{size}
-use Rattle.schema_elements.specs.Entries.{Entry, EntryOf}
-use Rattle.schema_spec.specs.Models.{Particle, Content, empty, children, uses, usesIn}
-use Rattle.schema_spec.specs.Names.{hasBit}
+use Rattle.schema_elements.specs.Entries.{kindOf, Entry, EntryOf, isHeld}
+use Rattle.schema_spec.specs.Models.{Particle, Content, empty, pcdata, children, uses, usesIn}
+use Rattle.schema_spec.specs.Names.{Name, element, text, hasBit}
+use Rattle.schema_spec.specs.Schemas.{Schema, contentAt, modelAt, isPcdata}
+use Rattle.schema_spec.specs.Types.{holds}
 use Rattle.text_laws.specs.Cells.{padded-length, padded-take, padded-zeros}
+use Rattle.text_laws.specs.Tests.{eqb-sym}
 use Rattle.text_spec.specs.Cells.{padded}
 use Rattle.text_spec.specs.Limits.{maxModelNames}
+use Rattle.text_spec.specs.Lists.{anyOf}
 use Rattle.words.specs.Bits.{bit-none}
 
 -- cells that are 0 have no bit
@@ -73,3 +79,23 @@ entry-automaton {x = x} E p e = made (subst (λ (d : Content ℕ). EntryOf d x) 
           next = λ i j l h. ap (λ (w : ℕ). hasBit w i) (getD-take (x .size) (x .predecessors) j 0 (omega arith)) ∙ F .next i j l;
           absent = F .nullable;
         }
+
+-- ---- what an element holds
+any-same : (f g : ℕ → Bool) (xs : List ℕ) → ((x : ℕ) → In x xs → f x ≡ g x) → anyOf f xs ≡ anyOf g xs
+any-same f g [] h = refl
+any-same f g (x ∷ xs) h = ap₂ _||_ (h x (here refl)) (any-same f g xs (λ y i. h y (there i)))
+
+kind-pcdata : (c : Content ℕ) → eqb (kindOf c) 1 ≡ isPcdata c
+kind-pcdata empty = refl
+kind-pcdata pcdata = refl
+kind-pcdata (children p) = refl
+
+-- what is made from an element's kind and the elements of its model is what it holds
+pub isHeld-holds : (s : Schema) (a kind : ℕ) (elements : List ℕ) → a < 64 → kind ≡ kindOf (contentAt s a) → elements ≡ modelAt s a
+    → ((b : ℕ) → In b (modelAt s a) → b < 64) → (n : Name) → isHeld a kind elements n ≡ holds s (element a) n
+unfolding holds
+isHeld-holds s a kind elements l k e small (element b) =
+    ap (anyOf (λ x. eqb b x && ltb x 64)) e
+    ∙ any-same (λ x. eqb b x && ltb x 64) (eqb b) (modelAt s a) (λ x i. ap (λ (t : Bool). eqb b x && t) (lt-ltb x 64 (small x i)) ∙ and-true (eqb b x))
+isHeld-holds s a kind elements l k e small (text b) =
+    ap₂ _&&_ (ap₂ _&&_ (eqb-sym b a) (lt-ltb a 64 l) ∙ and-true (eqb a b)) (ap (λ (x : ℕ). eqb x 1) k ∙ kind-pcdata (contentAt s a))

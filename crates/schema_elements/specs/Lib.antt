@@ -1,4 +1,2 @@
 pub mod Entries
 pub mod EntryLaws
-pub mod Reading
-pub mod ReadingLaws

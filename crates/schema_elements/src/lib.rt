@@ -1,15 +1,11 @@
-// The entry of one element in a compiled schema: its kind, its model's position automaton and the names that it holds, from its declaration.
+// What the entry of an element in a compiled schema is made of: its kind, its model's ends and cells, and the names that it holds.
 ghost use mathlib.Core.Path.{_≡_};
 ghost use Prim.Native.Nat.{ℕ, _≤_, _<_};
-ghost use lib.ListN.{length, getD, replicate};
+ghost use lib.ListN.{length, getD};
 ghost use lib.Seq.{sets};
 ghost use Rattle.names.specs.Sets.{member};
 ghost use Rattle.schema_elements.specs.Entries.{kindIn, endsIn, isOneOf, isHeld, entryWith};
-ghost use Rattle.schema_elements.specs.Reading.{AtDeclaration, EntryMade};
 ghost use Rattle.schema_spec.specs.Names.{Name};
-ghost use Rattle.schema_spec.specs.Records.{schemaIn};
-ghost use Rattle.text_spec.specs.Limits.{maxModelNames};
-use declarations::DeclarationOutcome;
 use models::Content;
 use models::Ends;
 use names::NameSet;
@@ -34,7 +30,7 @@ pub struct ElementEntry {
     pub holds: NameSet,
 }
 
-fn kind_of(content: Content) -> u8
+pub fn kind_of(content: Content) -> u8
     ensures { λ r. ⌜ r ≡ kindIn content ⌝ }
 {
     match content {
@@ -75,7 +71,7 @@ fn set_of(elements: &[usize]) -> NameSet
 }
 
 // The names that the element `a` holds: the elements of its model, or its text name.
-fn held(a: usize, kind: u8, model: &[usize]) -> NameSet
+pub fn held(a: usize, kind: u8, model: &[usize]) -> NameSet
     ensures { λ r. ⌜ ((n : Name) → member r n ≡ isHeld a kind (now (model .entry)) n) ⌝ }
 {
     let set = set_of(model);
@@ -87,7 +83,7 @@ fn held(a: usize, kind: u8, model: &[usize]) -> NameSet
 }
 
 // Copies the elements of a model into its cells.
-fn copy_elements(model: &[usize], elements: &mut [u8])
+pub fn copy_elements(model: &[usize], elements: &mut [u8])
     requires { ⌜ ((i : ℕ) → i < length (now model) → getD (now model) i 0 < 256) × (length (now model) ≤ length (now elements)) ⌝ }
     ensures { λ r. ⌜ now (elements .exit) ≡ sets (now (elements .entry)) 0 (now (model .entry)) ⌝ }
 {
@@ -99,7 +95,7 @@ fn copy_elements(model: &[usize], elements: &mut [u8])
 }
 
 // The entry of an element with this content, whose model has `size` positions and which holds these names.
-fn entry_of(next: usize, content: Content, size: usize, holds: NameSet) -> ElementEntry
+pub fn entry_of(next: usize, content: Content, size: usize, holds: NameSet) -> ElementEntry
     ensures { λ r. ⌜ r ≡ entryWith next content size holds ⌝ }
 {
     let ends = ends_of(content);
@@ -111,37 +107,5 @@ fn entry_of(next: usize, content: Content, size: usize, holds: NameSet) -> Eleme
         last: ends.last,
         nullable: ends.nullable,
         holds,
-    }
-}
-
-// The entry of the element d, whose declaration stands at `at`, with the cells of its positions. The models before it use n names, and
-// `uses` has the elements of all models.
-pub fn element_entry(
-    s: &[u8],
-    uses: &[usize],
-    d: usize,
-    n: usize,
-    at: usize,
-    elements: &mut [u8],
-    predecessors: &mut [u64],
-) -> ElementEntry
-    requires { ⌜ AtDeclaration (now s) (now uses) d n at × (d < length (schemaIn (now s))) × (now elements ≡ replicate maxModelNames 0) × (now predecessors ≡ replicate maxModelNames 0) ⌝ }
-    ensures { λ r. ⌜ EntryMade (now (s .entry)) (now (uses .entry)) d n (now (elements .exit)) (now (predecessors .exit)) r ⌝ }
-{
-    // the names that a model uses are resolved already, so a single cell is lent for their places
-    let mut unused = [0usize; 1];
-    match declarations::declaration(s, at, &mut unused, 0, predecessors) {
-        DeclarationOutcome::Past(p) => {
-            let end = p.at;
-            let size = p.n;
-            let content = p.content;
-            let m = n + size;
-            let model = &uses[n..m];
-            copy_elements(model, elements);
-            let holds = held(d, kind_of(content), model);
-            entry_of(scanning::skip(s, end), content, size, holds)
-        }
-        // an accepted text departs nowhere from the grammar
-        DeclarationOutcome::Fail(_) => entry_of(at, Content::Empty, 0, NameSet::empty()),
     }
 }

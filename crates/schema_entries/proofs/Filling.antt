@@ -17,7 +17,7 @@ use Rattle.names.specs.Sets.{member, nothing}
 use Rattle.names.specs.declared.NameSet.{NameSet}
 use Rattle.schema_elements.specs.Entries.{Entry, EntryOf, withCells}
 use Rattle.schema_elements.specs.EntryLaws.{emptyEntry, empty-entry}
-use Rattle.schema_elements.specs.Reading.{EntryMade}
+use Rattle.element_entries.specs.Reading.{EntryMade}
 use Rattle.schema_elements.specs.declared.ElementEntry.{ElementEntry}
 use Rattle.schema_laws.specs.Closure.{holder-in}
 use Rattle.schema_laws.specs.Names.{in-element}

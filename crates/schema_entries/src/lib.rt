@@ -2,7 +2,7 @@
 ghost use mathlib.Core.List.{[]};
 ghost use mathlib.Core.Path.{_≡_};
 ghost use lib.ListN.{length};
-ghost use Rattle.schema_elements.specs.Reading.{AcceptedWith};
+ghost use Rattle.element_entries.specs.Reading.{AcceptedWith};
 ghost use Rattle.schema_entries.specs.Columns.{EntriesOf};
 ghost use Rattle.schema_spec.specs.Records.{schemaIn};
 use models::MAX_POSITIONS;
@@ -69,7 +69,7 @@ pub fn all_entries(s: &[u8], uses: &[usize], count: usize) -> Entries
     while d < count {
         let a = MAX_POSITIONS * d;
         let b = a + MAX_POSITIONS;
-        let entry = schema_elements::element_entry(
+        let entry = element_entries::element_entry(
             s,
             uses,
             d,

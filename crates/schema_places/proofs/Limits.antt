@@ -10,6 +10,7 @@ use borrow.Author.Tests.{ltb-true, ltb-false, leb-true, leb-false, lt-ltb, le-lt
 use lib.Dec.{leb, ltb}
 use lib.ListN.{length, drop, take, getD, set, length-append, length-set, length-reverse, drop-of-length-le}
 use lib.Seq.{sets, sets-eq, length-sets, take-suc-set, take-at, drop-at, drop-cons, drop-nil, length-take-le, getD-set-same, getD-set-other, drop-set-lt, drop-drop}
+use Rattle.declaration_limits.specs.Limits.{overLimit}
 use Rattle.declarations.specs.DeclarationLaws.{between-skipped}
 use Rattle.declarations.specs.Declarations.{DeclarationRead, Declared}
 use Rattle.particles.specs.ReadingLaws.{between-low, between-from, between-to, between-join}
@@ -18,7 +19,7 @@ use Rattle.scanning.specs.Outcomes.{Skipped}
 use Rattle.text_laws.specs.Scans.{at-end}
 use Rattle.text_laws.specs.Tests.{cond-yes as yes, cond-no as no}
 use Rattle.schema_places.specs.PlaceLaws.{places-back, between-least, head-least}
-use Rattle.schema_places.specs.Whole.{overLimit, WithinLimits, Limits, within, passed, UpTo, AllSpelt}
+use Rattle.schema_places.specs.Whole.{WithinLimits, Limits, within, passed, UpTo, AllSpelt}
 use Rattle.declarations.specs.declared.DeclarationEnd.{DeclarationEnd}
 use Rattle.declarations.specs.declared.DeclarationOutcome.{DeclarationOutcome}
 use Rattle.declarations.specs.declared.DeclarationOutcome.the-variants.{Past as DeclPast, Fail as DeclFail}

@@ -1,11 +1,9 @@
 -- What reading all declarations of a text answers: what it spells, the places of its names in lent cells, and the first place that passes
 -- a limit.
-use mathlib.Core.Bool.{cond}
 use mathlib.Core.List.{List, [], map, reverse, List·Memᴰ as In}
 use mathlib.Core.Path.{_≡_}
-use Prim.Native.Nat.{ℕ, _+_, _*_, _-_, _≤_, _<_}
-use lib.Dec.{leb, ltb}
-use lib.ListN.{length, take, drop, getD}
+use Prim.Native.Nat.{ℕ, _+_, _*_, _≤_, _<_}
+use lib.ListN.{length, take, drop}
 use Rattle.particles.specs.Readings.{useAt, Between}
 use Rattle.scanning.specs.Outcomes.{NoBlank}
 use Rattle.schema_places.specs.declared.All.{All}
@@ -17,14 +15,6 @@ use Rattle.schema_spec.specs.Reading.{limitPlaces, usesOf}
 use Rattle.text_spec.specs.Limits.{maxDeclarations, maxModelNames}
 use Rattle.text_spec.specs.Lists.{gather}
 use Rattle.text_spec.specs.Machines.{spells, departs}
-
--- The first place that passes a limit, the text's length while none does: after a declaration that starts at i, is the one with index d and
--- takes the count of names from n to m.
-abbrev pub overLimit : ℕ → ℕ → ℕ → ℕ → ℕ → ℕ → List ℕ → ℕ
-overLimit size over d i n m uses =
-    cond (ltb over size) over
-    (cond (leb maxDeclarations d) i
-    (cond (ltb maxModelNames (m - n)) (getD uses (n + maxModelNames) 0) size))
 
 -- declarations within the limits, with the places of their names and of the names in their models, all before i
 pub record WithinLimits (s : List ℕ) (ds : List Declaration) (d n i : ℕ) (names uses : List ℕ) : Type 0 where

@@ -1,8 +1,8 @@
 // All declarations of a schema text: where it departs from the grammar (4), the places of its names, and the first place that passes a limit (5).
 ghost use mathlib.Core.Path.{_≡_};
-ghost use Prim.Native.Nat.{_+_, _*_, _≤_};
-ghost use lib.ListN.{length, getD};
-ghost use Rattle.schema_places.specs.Whole.{overLimit, AllRead};
+ghost use Prim.Native.Nat.{_+_, _*_};
+ghost use lib.ListN.{length};
+ghost use Rattle.schema_places.specs.Whole.{AllRead};
 ghost use Rattle.text_spec.specs.Limits.{maxDeclarations, maxModelNames};
 use declarations::DeclarationOutcome;
 use models::MAX_POSITIONS;
@@ -21,41 +21,6 @@ pub struct Counts {
 pub enum All {
     Past(Counts),
     Fail(usize),
-}
-
-// The cell k, or 0 where there is none.
-fn cell(cells: &[usize], k: usize) -> usize
-    ensures { λ r. ⌜ r ≡ getD (now (cells .entry)) k 0 ⌝ }
-{
-    if k < cells.len() {
-        return cells[k];
-    }
-    0
-}
-
-// The first place that passes a limit, after a declaration that starts at i, is the one with index d and takes the count of names from n to m.
-fn over_limit(
-    size: usize,
-    over: usize,
-    d: usize,
-    i: usize,
-    n: usize,
-    m: usize,
-    uses: &[usize],
-) -> usize
-    requires { ⌜ n ≤ m ⌝ }
-    ensures { λ r. ⌜ r ≡ overLimit size over d i n m (now (uses .entry)) ⌝ }
-{
-    if over < size {
-        return over;
-    }
-    if MAX_ELEMENTS <= d {
-        return i;
-    }
-    if MAX_POSITIONS < m - n {
-        return cell(uses, n + MAX_POSITIONS);
-    }
-    size
 }
 
 // Reads all declarations. The places of the declared names go to `names`, those of the names in models to `uses`.
@@ -77,7 +42,7 @@ pub fn all_declarations(s: &[u8], names: &mut [usize], uses: &mut [usize]) -> Al
                 let end = p.at;
                 let m = p.n;
                 scanning::note(names, d, p.name);
-                over = over_limit(size, over, d, i, n, m, uses);
+                over = declaration_limits::over_limit(size, over, d, i, n, m, uses);
                 d += 1;
                 n = m;
                 i = scanning::skip(s, end);

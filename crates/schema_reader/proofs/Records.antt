@@ -12,7 +12,7 @@ use Rattle.schema.specs.declared.Judgement.{Judgement}
 use Rattle.schema.specs.declared.Judgement.the-variants.{Accepted, Refused}
 use Rattle.schema.specs.declared.Schema.{Schema as Cells}
 use Rattle.schema_laws.specs.Accepted.{accepted-spelt}
-use Rattle.schema_reader.specs.Normal.{Normalized}
+use Rattle.normal_forms.specs.Normal.{Normalized}
 use Rattle.schema_reader.specs.Records.{Recorded, handedBack, ReadAs}
 use Rattle.schema_spec.specs.Reading.{readSchema}
 use Rattle.schema_spec.specs.Records.{normal, recordBy, schemaRecord}

@@ -9,16 +9,16 @@ ghost use Rattle.path_laws.specs.Inverses.{inverse};
 ghost use Rattle.step_passes.specs.Steps.{forwardMarks, backwardMarks, StepPass, TestPass};
 ghost use Rattle.step_passes.specs.Tests.{namesIn, InRange};
 use axis_passes::UNMARKED;
-use axis_passes::ancestors;
-use axis_passes::ancestors_or_self;
-use axis_passes::any_marked;
 use axis_passes::children;
 use axis_passes::copy;
 use axis_passes::descendants;
 use axis_passes::descendants_or_self;
 use axis_passes::fill;
-use axis_passes::filter;
-use axis_passes::parents_of;
+use mark_sets::any_marked;
+use mark_sets::filter;
+use upward_passes::ancestors;
+use upward_passes::ancestors_or_self;
+use upward_passes::parents_of;
 
 // Axes by their numbers, in the order of document 01.
 pub const SELF: u8 = 0;

@@ -1,5 +1,7 @@
 // A program: tables in lent columns, each with its schema and the text that is lent beside it, judged by refusal 1, and the text of one row.
-ghost use Prim.Native.Nat.{_<_};
+use case_input::byte_at;
+use case_input::four_at;
+use case_input::two_at;
 use names::MAX_ELEMENTS;
 use names::NameSet;
 use row_text::RowText;
@@ -30,34 +32,6 @@ fn cells16() -> [u16; MAX_CELLS] {
 
 fn cells32() -> [u32; MAX_CELLS] {
     [0u32; MAX_CELLS]
-}
-
-// The byte `k` after a place, 0 past the end.
-fn byte_at(input: &[u8], at: usize, k: usize) -> u8 {
-    if input.len() <= at {
-        return 0;
-    }
-    if input.len() - at <= k {
-        return 0;
-    }
-    input[at + k]
-}
-
-// The number in two bytes.
-fn two_at(input: &[u8], at: usize, k: usize) -> u16
-    requires { ⌜ k < 100 ⌝ }
-{
-    let high = byte_at(input, at, k);
-    let low = byte_at(input, at, k + 1);
-    (high as u16) * 256 + (low as u16)
-}
-
-fn four_at(input: &[u8], at: usize, k: usize) -> u32
-    requires { ⌜ k < 90 ⌝ }
-{
-    let high = two_at(input, at, k);
-    let low = two_at(input, at, k + 2);
-    (high as u32) * 65536 + (low as u32)
 }
 
 fn put8(out: &mut [u8], row: usize, v: u8) {

@@ -242,12 +242,22 @@ fn condition(r: &mut Random, s: &Schema) -> String {
     format!("[{}]", alternatives.join(" or "))
 }
 
+/// A step, one in four with brackets.
+pub fn conditional_step(r: &mut Random, s: &Schema) -> String {
+    let written = step(r, s);
+    if r.chance(25) {
+        written + &condition(r, s)
+    } else {
+        written
+    }
+}
+
 pub fn bundle(r: &mut Random, s: &Schema) -> String {
     let paths = if r.chance(4) { 9 } else { 3 };
     let mut text = String::new();
     for _ in 0..1 + r.below(paths) {
         let most = if r.chance(3) { 18 } else { 4 };
-        let path: Vec<String> = steps(r, s, most).into_iter().map(|t| if r.chance(25) { t + &condition(r, s) } else { t }).collect();
+        let path: Vec<String> = (0..1 + r.below(most)).map(|_| conditional_step(r, s)).collect();
         text += &path.join("/");
         text += "\n";
     }

@@ -21,7 +21,7 @@ loop-holds : tie.Need-loop-holds Inv-loop μ-loop
 loop-holds c = (omega arith, search needs, λ a l. absurd (omega arith))
 
 words-at-requires : tie.Need-words-at-requires Inv-loop μ-loop
-words-at-requires c κs = c .before .before .before .before .pre .0
+words-at-requires c κs = c .before .before .before .before .pre .0 (omega arith)
 
 store-requires : tie.Need-store-requires Inv-loop μ-loop
 store-requires c κs = let at = c .before .before .before .before in (omega (arith, at .before .before .pre .1), at .loop .inv .1)

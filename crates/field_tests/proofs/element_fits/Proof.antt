@@ -1,51 +1,32 @@
-use Prim.Native.Nat.{_-_}
-use Rattle.field_tests.proofs.Tests.{element-none, element-deep, element-held, level-known}
-use native.Mathlib.Omega.{arith}
+-- `element_fits` meets its contract: the tests of `elementUnder` in turn.
 use borrow.Author.Needs.{needs}
+use Rattle.field_tests.specs.TestLaws.{element-none, element-deep, element-held, level-known}
 use Rattle.field_tests.proofs.element_fits.Statement.{statement}
 use Rattle.field_tests.proofs.element_fits.Tie as tie
-use Rattle.field_tests.proofs.element_fits.Reads as reads
-use Rattle.field_tests.proofs.element_fits.Lts as lts
-use Rattle.words.proofs.has_bit.Reads as has-bit-reads
 
--- src/lib.rt:88:9
 returns : tie.Need-returns
 returns c = element-none _ _ _ _ (c .if1 .taken)
 
--- src/lib.rt:91:9
 returns-2 : tie.Need-returns-2
 returns-2 c = element-deep _ _ _ _ (c .if2 .taken)
 
--- src/lib.rt:93:27
-sub-parent : tie.Need-sub-parent
-sub-parent c = search needs
+sub-element-of : tie.Need-sub-element-of
+sub-element-of c = search needs
 
--- src/lib.rt:93:18
-shared-slice-read-parent : tie.Need-shared-slice-read-parent
-shared-slice-read-parent c = search needs
+mul-element-of : tie.Need-mul-element-of
+mul-element-of c = search needs
 
--- src/lib.rt:93:18
-cast-parent : tie.Need-cast-parent
-cast-parent c = omega (arith, c .shared-slice-known3 .given (c .before .before .before .before .before .args .depth - 1))
+element-copy-out-element-of : tie.Need-element-copy-out-element-of
+element-copy-out-element-of c = search needs
 
--- src/lib.rt:94:13
-mul-has-bit : tie.Need-mul-has-bit
-mul-has-bit c =
-    let known = level-known _ _ _ (c .before .before .before .before .before .pre) (c .before .before .if1 .left) in
-    let few = c .before .before .before .before .before .pre .words in
-    omega arith
+element-of-requires : tie.Need-element-of-requires
+element-of-requires c κs = search needs
 
--- src/lib.rt:94:13
-shared-slice-read-has-bit : tie.Need-shared-slice-read-has-bit
-shared-slice-read-has-bit c = level-known _ _ _ (c .before .before .before .before .before .before .pre) (c .before .before .before .if1 .left)
+holds-element-requires : tie.Need-holds-element-requires
+holds-element-requires c κs = level-known _ _ (c .before .before .before .before .pre) (c .before .before .before .if1 .left) _ (c .element-of .ensures)
 
--- src/lib.rt:94:5
-has-bit-requires : tie.Need-has-bit-requires
-has-bit-requires c κs = search needs
-
--- src/lib.rt:83:1
 returns-3 : tie.Need-returns-3
-returns-3 c = element-held _ _ _ _ (c .before .before .before .before .if1 .left) (c .before .before .before .if2 .left) (c .before .before .before .before .before .before .before .pre .shallow) _ (c .has-bit .ensures)
+returns-3 c = element-held _ _ _ _ (c .before .before .before .before .if1 .left) (c .before .before .before .if2 .left) (c .before .before .before .before .before .pre .shallow) _ _ (c .holds-element .ensures) (c .before .element-of .ensures)
 
 pub element-fits-spec : {M : Type 1} → statement M
 element-fits-spec =
@@ -53,10 +34,9 @@ element-fits-spec =
     (tie.spec
     returns
     returns-2
-    sub-parent
-    shared-slice-read-parent
-    cast-parent
-    mul-has-bit
-    shared-slice-read-has-bit
-    has-bit-requires
+    sub-element-of
+    mul-element-of
+    element-copy-out-element-of
+    element-of-requires
+    holds-element-requires
     returns-3)

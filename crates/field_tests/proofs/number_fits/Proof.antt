@@ -1,14 +1,11 @@
-use Rattle.field_tests.proofs.Tests.{number-low, number-high}
+-- `number_fits` meets its contract: above the number before, and below the limit.
+use Rattle.field_tests.specs.TestLaws.{number-low, number-high}
 use Rattle.field_tests.proofs.number_fits.Statement.{statement}
 use Rattle.field_tests.proofs.number_fits.Tie as tie
-use Rattle.field_tests.proofs.number_fits.Reads as reads
-use Rattle.field_tests.proofs.number_fits.Lts as lts
 
--- src/lib.rt:77:9
 returns : tie.Need-returns
 returns c = number-low _ _ (c .if1 .taken)
 
--- src/lib.rt:73:1
 returns-2 : tie.Need-returns-2
 returns-2 c = number-high _ _ (c .if1 .left)
 

@@ -1,51 +1,42 @@
-use Prim.Native.Nat.{_-_}
-use Rattle.field_tests.proofs.Tests.{text-none, text-after, text-held, level-known}
+-- `text_fits` meets its contract: the tests of `textUnder` in turn.
 use native.Mathlib.Omega.{arith}
 use borrow.Author.Needs.{needs}
+use Rattle.field_tests.specs.TestLaws.{text-none, text-after, text-held, level-known}
 use Rattle.field_tests.proofs.text_fits.Statement.{statement}
 use Rattle.field_tests.proofs.text_fits.Tie as tie
-use Rattle.field_tests.proofs.text_fits.Reads as reads
-use Rattle.field_tests.proofs.text_fits.Lts as lts
-use Rattle.words.proofs.has_bit.Reads as has-bit-reads
 
--- src/lib.rt:103:9
 returns : tie.Need-returns
 returns c = text-none _ _ _ _ (c .if1 .taken)
 
--- src/lib.rt:106:9
 returns-2 : tie.Need-returns-2
 returns-2 c = text-after _ _ _ _ (c .if2 .taken)
 
--- src/lib.rt:108:27
-sub-parent : tie.Need-sub-parent
-sub-parent c = search needs
+sub-element-of : tie.Need-sub-element-of
+sub-element-of c = search needs
 
--- src/lib.rt:108:18
-shared-slice-read-parent : tie.Need-shared-slice-read-parent
-shared-slice-read-parent c = search needs
+mul-element-of : tie.Need-mul-element-of
+mul-element-of c = search needs
 
--- src/lib.rt:108:18
-cast-parent : tie.Need-cast-parent
-cast-parent c = omega (arith, c .shared-slice-known3 .given (c .before .before .before .before .before .args .depth - 1))
+element-copy-out-element-of : tie.Need-element-copy-out-element-of
+element-copy-out-element-of c = search needs
 
--- src/lib.rt:109:13
+element-of-requires : tie.Need-element-of-requires
+element-of-requires c κs = search needs
+
 mul-has-bit : tie.Need-mul-has-bit
-mul-has-bit c =
-    let known = level-known _ _ _ (c .before .before .before .before .before .pre) (c .before .before .if1 .left) in
-    let few = c .before .before .before .before .before .pre .words in
-    omega arith
+mul-has-bit c = let l = level-known _ _ (c .before .before .before .before .pre) (c .before .before .before .if1 .left) _ (c .element-of .ensures) in omega arith
 
--- src/lib.rt:109:13
-shared-slice-read-has-bit : tie.Need-shared-slice-read-has-bit
-shared-slice-read-has-bit c = level-known _ _ _ (c .before .before .before .before .before .before .pre) (c .before .before .before .if1 .left)
+element-copy-out-has-bit : tie.Need-element-copy-out-has-bit
+element-copy-out-has-bit c = level-known _ _ (c .before .before .before .before .pre) (c .before .before .before .if1 .left) _ (c .element-of .ensures)
 
--- src/lib.rt:109:5
+add-has-bit : tie.Need-add-has-bit
+add-has-bit c = let l = level-known _ _ (c .before .before .before .before .before .pre) (c .before .before .before .before .if1 .left) _ (c .before .element-of .ensures) in omega arith
+
 has-bit-requires : tie.Need-has-bit-requires
 has-bit-requires c κs = search needs
 
--- src/lib.rt:98:1
 returns-3 : tie.Need-returns-3
-returns-3 c = text-held _ _ _ _ (c .before .before .before .before .if1 .left) (c .before .before .before .if2 .left) _ (c .has-bit .ensures)
+returns-3 c = text-held _ _ _ _ (c .before .before .before .before .before .if1 .left) (c .before .before .before .before .if2 .left) _ _ (c .has-bit .ensures) (c .before .before .element-of .ensures)
 
 pub text-fits-spec : {M : Type 1} → statement M
 text-fits-spec =
@@ -53,10 +44,12 @@ text-fits-spec =
     (tie.spec
     returns
     returns-2
-    sub-parent
-    shared-slice-read-parent
-    cast-parent
+    sub-element-of
+    mul-element-of
+    element-copy-out-element-of
+    element-of-requires
     mul-has-bit
-    shared-slice-read-has-bit
+    element-copy-out-has-bit
+    add-has-bit
     has-bit-requires
     returns-3)

@@ -1,11 +1,16 @@
 -- `read_all` meets its contract: after each turn one byte more is read.
-use mathlib.Core.Path.{_≡_, refl}
-use Prim.Native.Nat.{_-_, _≤_, _<_}
+use mathlib.Core.Path.{_≡_, refl, sym, subst, _∙_}
+use Prim.Native.Nat.{ℕ, _+_, _-_, _≤_, _<_}
+use native.Mathlib.Nat.{lt-trans}
 use native.Mathlib.Omega.{arith}
-use borrow.Author.Needs.{needs}
+use borrow.Author.Count.{falls}
 use lib.ListN.{length, getD}
+use mir.Facts.{fits-8-64}
+use mir.Syntax.{w64}
+use mir.Val.{Fits}
 use Rattle.journal_events.specs.Events.{schemaCells}
 use Rattle.journal_reader_loop.specs.Whole.{SomeRead, none-read, more-read, all-read}
+use Rattle.journal_state.specs.Places.{noPlace}
 use Rattle.row_columns.specs.Columns.{columns}
 use Rattle.journal_reader_loop.proofs.read_all.Statement.{statement}
 use Rattle.journal_reader_loop.proofs.read_all.Tie as tie
@@ -25,28 +30,34 @@ abbrev μ-loop : tie.MeasureT-loop
 μ-loop text table words hints count kinds firsts lasts nullables elements predecessors sizes levels₀ numbers₀ names₀ parents₀ starts₀ lengths₀ places₀ x₀ at₀ levels numbers names parents starts lengths places x at =
     length text - at
 
+-- from a turn to the call, and from the byte that is read to the turn
+abbrev start-of : tie.At-loop Inv-loop μ-loop → tie.Start Inv-loop μ-loop
+start-of c = c .before .before .before .before .before .before .before .before
+
+abbrev turn-of : tie.After-read-byte Inv-loop μ-loop → tie.In-loop Inv-loop μ-loop
+turn-of c = c .before .before .before .before .before .before .before .before .before .before
+
+next-fits : (k n : ℕ) → k < n → n < noPlace → Fits w64 (k + 1)
+next-fits k n h r = omega arith
+
+next-inside : (k n : ℕ) → k < n → k + 1 ≤ n
+next-inside k n h = omega arith
+
 loop-holds : tie.Need-loop-holds Inv-loop μ-loop
-loop-holds c =
-    let start = c .before .before .before .before .before .before .before in
-    (none-read (c .start .ensures) (start .pre .0), omega arith, refl, refl, refl, refl, refl)
-
-cast-c : tie.Need-cast-c Inv-loop μ-loop
-cast-c c = omega (arith, c .shared-slice-known2 .given (c .before .before .loop .at))
-
-element-copy-out-c : tie.Need-element-copy-out-c Inv-loop μ-loop
-element-copy-out-c c = omega (arith, c .shared-slice-known2 .given (c .before .before .loop .at))
+loop-holds c = (none-read (c .start .ensures) (c .before .before .before .before .before .before .before .pre .0), omega arith, refl, refl, refl, refl, refl)
 
 read-byte-requires : tie.Need-read-byte-requires Inv-loop μ-loop
 read-byte-requires c κs =
     let known = c .before .before .before .before .before .before .before .before in
-    let at = known .before .before .loop in
-    let start = known .before .before .before .before .before .before .before .before .before .before in
-    let byte : getD (start .args .text .now) (at .at) 0 < 256 = omega (arith, known .shared-slice-known2 .given (at .at)) in (
+    let test = known .before in
+    let at = test .before .loop in
+    let start = start-of (test .before) in
+    let byte = known .shared-slice-known2 .given (at .at) .fits in (
       at .inv .0 .usable,
       start .pre .3,
       start .pre .4,
       record {
-        room = omega (arith, at .inv .0 .place, known .before .loop-test .taken, start .pre .2);
+        room = subst (λ (k : ℕ). k < noPlace) (sym (at .inv .0 .place)) (lt-trans (test .loop-test .taken) (start .pre .2));
         four = at .inv .0 .usable .four;
         byte = byte;
         kind = start .pre .1 .kind (getD (start .args .text .now) (at .at) 0) byte;
@@ -55,23 +66,21 @@ read-byte-requires c κs =
 
 add-at : tie.Need-add-at Inv-loop μ-loop
 add-at c =
-    let read = c .before .before .before .before .before .before .before .before .before .before in
-    let test = read .before .before .before .before .before .before .before .before .before .before in
-    let start = test .before .before .before .before .before .before .before .before .before in
-    omega (arith, test .loop-test .taken, start .pre .2)
+    let test = turn-of (c .before .before .before .before .before .before .before .before .before .before) in
+    next-fits _ _ (test .loop-test .taken) (start-of (test .before) .pre .2)
 
 loop-again : tie.Need-loop-again Inv-loop μ-loop
 loop-again c =
     let read = c .before .before .before .before .before .before .before .before .before .before in
-    let test = read .before .before .before .before .before .before .before .before .before .before in
+    let test = turn-of read in
     let at = test .before .loop in (
       more-read (test .loop-test .taken) (at .inv .0) (read .read-byte .ensures),
-      omega (arith, test .loop-test .taken),
-      search needs,
-      search needs,
-      search needs,
-      search needs,
-      search needs,
+      next-inside _ _ (test .loop-test .taken),
+      c .before .before .before .before .before .before .before .before .before .numbers .given ∙ at .inv .2,
+      c .before .before .before .before .before .before .before .names .given ∙ at .inv .3,
+      c .before .before .before .before .before .parents .given ∙ at .inv .4,
+      c .before .before .before .starts .given ∙ at .inv .5,
+      c .before .lengths .given ∙ at .inv .6,
     )
 
 returns : tie.Need-returns Inv-loop μ-loop
@@ -83,14 +92,18 @@ pub read-all-spec : {M : Type 1} → statement M
 read-all-spec =
     tie.close
     (tie.spec Inv-loop μ-loop
-    (λ c κs. search needs)
+    (λ c κs. tt)
     loop-holds
-    (λ c. search needs)
-    cast-c
-    element-copy-out-c
+    (λ c. c .before .loop-test .taken)
+    (λ c. fits-8-64 (c .shared-slice-known2 .given _))
+    (λ c. c .shared-slice-known2 .given _ .fits)
     read-byte-requires
     add-at
-    (λ c. search needs)
+    (λ c. falls _ _ (turn-of (c .before .before .before .before .before .before .before .before .before .before) .loop-test .taken))
     loop-again
-    (λ c. search needs) (λ c. search needs) (λ c. search needs) (λ c. search needs) (λ c. search needs)
+    (λ c. c .before .loop .inv .2)
+    (λ c. c .before .loop .inv .3)
+    (λ c. c .before .loop .inv .4)
+    (λ c. c .before .loop .inv .5)
+    (λ c. c .before .loop .inv .6)
     returns)

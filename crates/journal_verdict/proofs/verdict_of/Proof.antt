@@ -1,6 +1,5 @@
 -- `verdict_of` meets its contract: by the key, then by the number of cells.
 use mathlib.Core.Bool.{true, false}
-use mathlib.Core.Path.{refl}
 use borrow.Author.Needs.{needs}
 use borrow.Author.Tests.{lt-ltb, le-ltb}
 use Rattle.journal_verdict.specs.Verdicts.{verdict-refused, verdict-kept}
@@ -19,9 +18,11 @@ returns-2 c =
     verdict-kept true (second .before .before .if1 .left) (lt-ltb _ _ (second .if2 .taken)) (c .refused2 .ensures)
 
 returns-3 : tie.Need-returns-3
-returns-3 c = verdict-kept false (c .before .before .if1 .left) (le-ltb _ _ (c .if2 .left)) refl
+returns-3 c =
+    let second = c .before in
+    verdict-kept false (second .before .before .if1 .left) (le-ltb _ _ (second .if2 .left)) (c .answered .ensures)
 
 pub verdict-of-spec : {M : Type 1} → statement M
 verdict-of-spec =
     tie.close
-    (tie.spec (λ c κs. search needs) (λ c κs. search needs) (λ c κs. search needs) returns (λ c κs. search needs) returns-2 returns-3)
+    (tie.spec (λ c κs. search needs) (λ c κs. search needs) (λ c κs. search needs) returns (λ c κs. search needs) returns-2 (λ c κs. search needs) returns-3)

@@ -5,8 +5,8 @@ use mir.Syntax.{w64}
 use mir.Val.{Fits}
 use Rattle.schema_entries.proofs.Filling.{Filled, filled-first, filled-next, filled-all}
 use Rattle.schema_entries.proofs.LentCells.{lent}
-use Rattle.schema_elements.specs.Reading.{AtDeclaration}
-use Rattle.schema_elements.specs.ReadingLaws.{at-first, elements-few, used-within}
+use Rattle.element_entries.specs.Reading.{AtDeclaration}
+use Rattle.element_entries.specs.ReadingLaws.{at-first, elements-few, used-within}
 use Rattle.schema_spec.specs.Records.{schemaIn}
 use Rattle.text_spec.specs.Limits.{maxDeclarations, maxModelNames}
 use borrow.Author.Needs.{needs}

@@ -1,0 +1,50 @@
+# The static library for C and the command `lozhymet`. `make` proves and builds the library (rt) and compiles the command (gcc); the first run takes
+# as long as the proofs. `make install PREFIX=/usr/local` puts them in place, `make check` runs the tests.
+PREFIX ?= /usr/local
+VERSION = 0.1.0
+CC = gcc
+CFLAGS ?= -O2 -g
+WARNINGS = -std=c11 -pedantic -Wall -Wextra -Wconversion -Werror
+
+PROVED = target/staticlib/liblibrary.a
+# the program of that name, installed where it was built (rt check listing)
+LISTING = target/bin/listing
+# another archive with the same two functions, for tests
+LOZHYMET_LIB ?= $(PROVED)
+BUILD ?= target/c
+SOURCES = $(wildcard command/*.c)
+HEADERS = $(wildcard command/*.h) include/lozhymet.h
+
+all: $(BUILD)/lozhymet $(BUILD)/lozhymet.pc
+
+$(PROVED): FORCE
+	rt staticlib library
+
+$(BUILD)/lozhymet: $(SOURCES) $(HEADERS) $(LOZHYMET_LIB)
+	mkdir -p $(BUILD)
+	$(CC) $(WARNINGS) $(CFLAGS) -Iinclude -o $@ $(SOURCES) $(LOZHYMET_LIB) $(LDFLAGS)
+
+$(BUILD)/lozhymet.pc: packaging/lozhymet.pc.in FORCE
+	mkdir -p $(BUILD)
+	sed -e 's|@PREFIX@|$(PREFIX)|' -e 's|@VERSION@|$(VERSION)|' $< >$@
+
+install: all
+	install -d $(DESTDIR)$(PREFIX)/bin $(DESTDIR)$(PREFIX)/include $(DESTDIR)$(PREFIX)/lib/pkgconfig
+	install -d $(DESTDIR)$(PREFIX)/share/man/man1 $(DESTDIR)$(PREFIX)/share/man/man3
+	install -m 755 $(BUILD)/lozhymet $(DESTDIR)$(PREFIX)/bin/lozhymet
+	install -m 644 $(LOZHYMET_LIB) $(DESTDIR)$(PREFIX)/lib/liblozhymet.a
+	install -m 644 include/lozhymet.h $(DESTDIR)$(PREFIX)/include/lozhymet.h
+	install -m 644 $(BUILD)/lozhymet.pc $(DESTDIR)$(PREFIX)/lib/pkgconfig/lozhymet.pc
+	install -m 644 man/lozhymet.1 $(DESTDIR)$(PREFIX)/share/man/man1
+	install -m 644 man/lozhymet.3 man/host_make_extract.3 man/host_select.3 $(DESTDIR)$(PREFIX)/share/man/man3
+	if [ -e $(LISTING) ]; then \
+	    install -m 755 $(LISTING) $(DESTDIR)$(PREFIX)/bin/listing && install -m 644 man/listing.1 $(DESTDIR)$(PREFIX)/share/man/man1; \
+	fi
+
+check:
+	tests/run
+
+clean:
+	rm -rf $(BUILD)
+
+.PHONY: all install check clean FORCE

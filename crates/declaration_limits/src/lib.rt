@@ -1,0 +1,42 @@
+// The limits of a schema's declarations (5): the first place that passes one, declaration by declaration.
+ghost use mathlib.Core.Path.{_≡_};
+ghost use Prim.Native.Nat.{_≤_};
+ghost use lib.ListN.{getD};
+ghost use Rattle.declaration_limits.specs.Limits.{overLimit};
+use models::MAX_POSITIONS;
+use names::MAX_ELEMENTS;
+
+// The cell k, or 0 where there is none.
+fn cell(cells: &[usize], k: usize) -> usize
+    ensures { λ r. ⌜ r ≡ getD (now (cells .entry)) k 0 ⌝ }
+{
+    if k < cells.len() {
+        return cells[k];
+    }
+    0
+}
+
+// The first place that passes a limit, after a declaration that starts at i, is the one with index d and takes the count of names from n to m.
+pub fn over_limit(
+    size: usize,
+    over: usize,
+    d: usize,
+    i: usize,
+    n: usize,
+    m: usize,
+    uses: &[usize],
+) -> usize
+    requires { ⌜ n ≤ m ⌝ }
+    ensures { λ r. ⌜ r ≡ overLimit size over d i n m (now (uses .entry)) ⌝ }
+{
+    if over < size {
+        return over;
+    }
+    if MAX_ELEMENTS <= d {
+        return i;
+    }
+    if MAX_POSITIONS < m - n {
+        return cell(uses, n + MAX_POSITIONS);
+    }
+    size
+}

@@ -1,0 +1,15 @@
+-- `row_of` meets its contract: the lowest part of the cell.
+use borrow.Author.Needs.{needs}
+use Rattle.extract_levels.specs.Levels.{rowIn}
+use Rattle.extract_levels.proofs.row_of.Statement.{statement}
+use Rattle.extract_levels.proofs.row_of.Tie as tie
+
+cast-result : tie.Need-cast-result
+cast-result c = search needs
+
+returns : tie.Need-returns
+unfolding rowIn
+returns c = search needs
+
+pub row-of-spec : {M : Type 1} → statement M
+row-of-spec = tie.close (tie.spec cast-result returns)

@@ -1,0 +1,89 @@
+-- `read_rows` meets its contract: after each turn one field more is read, so that fewer bytes are left.
+use borrow.Author.Needs.{needs}
+use mathlib.Core.Path.{_≡_, refl}
+use lib.ListN.{length}
+use Rattle.extract_reader.specs.Whole.{stands-begun, bytesLeft, going-reads, fewer-left, rows-read, same-sizes}
+use Rattle.extract_steps.specs.Reads.{Stands}
+use Rattle.row_columns.specs.Columns.{columns}
+use native.Mathlib.Omega.{arith}
+use Rattle.extract_reader.proofs.read_rows.Statement.{statement}
+use Rattle.extract_reader.proofs.read_rows.Tie as tie
+
+abbrev Inv-loop : tie.InvT-loop
+Inv-loop extract words numbers₀ names₀ parents₀ starts₀ lengths₀ levels₀ x₀ numbers names parents starts lengths levels x =
+    Stands extract words levels (columns numbers names parents starts lengths) x
+    × (length numbers ≡ length numbers₀)
+    × (length names ≡ length names₀)
+    × (length parents ≡ length parents₀)
+    × (length starts ≡ length starts₀)
+    × (length lengths ≡ length lengths₀)
+
+abbrev μ-loop : tie.MeasureT-loop
+μ-loop extract words numbers₀ names₀ parents₀ starts₀ lengths₀ levels₀ x₀ numbers names parents starts lengths levels x =
+    bytesLeft extract x
+
+begin-requires : tie.Need-begin-requires Inv-loop μ-loop
+begin-requires c κs = search needs
+
+loop-holds : tie.Need-loop-holds Inv-loop μ-loop
+loop-holds c =
+    let start = c .before .before .before .before .before .before .before in
+    (stands-begun _ _ _ _ (start .pre .0) (start .pre .1) refl (search needs) _ (c .begin .ensures), refl, refl, refl, refl, refl)
+
+read-row-requires : tie.Need-read-row-requires Inv-loop μ-loop
+read-row-requires c κs = going-reads _ _ _ _ _ (c .before .before .before .before .before .before .before .loop .inv .0) (c .before .before .before .before .before .before .loop-test .taken)
+
+loop-less : tie.Need-loop-less Inv-loop μ-loop
+loop-less c = fewer-left _ _ _ _ _ (c .before .before .before .before .before .before .before .before .before .before .before .before .before .before .before .before .before .before .loop .inv .0) (c .before .before .before .before .before .before .before .before .before .before .before .before .before .before .before .before .before .loop-test .taken) _ refl _ _ _ (c .before .before .before .before .before .before .before .before .before .before .read-row .ensures)
+
+loop-again : tie.Need-loop-again Inv-loop μ-loop
+loop-again c =
+    let at = c .before .before .before .before .before .before .before .before .before .before .before .before .before .before .before .before .before .before .loop in (
+      c .before .before .before .before .before .before .before .before .before .before .read-row .ensures .stands,
+      omega (arith, c .before .before .before .before .before .before .before .before .before .numbers .given, at .inv .1),
+      omega (arith, c .before .before .before .before .before .before .before .names .given, at .inv .2),
+      omega (arith, c .before .before .before .before .before .parents .given, at .inv .3),
+      omega (arith, c .before .before .before .starts .given, at .inv .4),
+      omega (arith, c .before .lengths .given, at .inv .5),
+    )
+
+same-length : tie.Need-same-length Inv-loop μ-loop
+same-length c = c .before .before .loop .inv .1
+
+same-length-2 : tie.Need-same-length-2 Inv-loop μ-loop
+same-length-2 c = c .before .before .loop .inv .2
+
+same-length-3 : tie.Need-same-length-3 Inv-loop μ-loop
+same-length-3 c = c .before .before .loop .inv .3
+
+same-length-4 : tie.Need-same-length-4 Inv-loop μ-loop
+same-length-4 c = c .before .before .loop .inv .4
+
+same-length-5 : tie.Need-same-length-5 Inv-loop μ-loop
+same-length-5 c = c .before .before .loop .inv .5
+
+returns : tie.Need-returns Inv-loop μ-loop
+returns c =
+    let at = c .before .before .loop in
+    let g = c .before .before .before .before .before .before .before .before .before .before .args in
+    let sizes = same-sizes (columns (g .numbers .now) (g .names .now) (g .parents .now) (g .starts .now) (g .lengths .now)) (columns (at .numbers) (at .names) (at .parents) (at .starts) (at .lengths))
+    (at .inv .1) (at .inv .2) (at .inv .3) (at .inv .4) (at .inv .5) in
+    rows-read _ _ _ _ _ (at .inv .0) (c .before .loop-test .left) _ sizes _ refl
+
+pub read-rows-spec : {M : Type 1} → statement M
+read-rows-spec =
+    tie.close
+    (tie.spec
+    Inv-loop
+    μ-loop
+    begin-requires
+    loop-holds
+    read-row-requires
+    loop-less
+    loop-again
+    same-length
+    same-length-2
+    same-length-3
+    same-length-4
+    same-length-5
+    returns)

@@ -1,0 +1,91 @@
+// All rows of an extract, read into clear columns, with the open elements in cells of their own.
+ghost use mathlib.Core.List.{[]};
+ghost use Rattle.extract_reader.specs.Whole.{Begun, RowsRead};
+ghost use Rattle.extract_steps.specs.Reads.{Hold};
+ghost use Rattle.row_columns.specs.Columns.{columns, EqualColumns};
+ghost use Rattle.table_spec.specs.Columns.{sizesOf};
+use extract_levels::MAX_DEPTH;
+use extract_steps::Progress;
+use extract_steps::read_row;
+use field_reader::First;
+use field_reader::first_field;
+use field_values::Carried;
+use names::MAX_ELEMENTS;
+
+// Whether the whole extract was read, and how many rows it has.
+pub struct RowsFound {
+    pub whole: bool,
+    pub rows: usize,
+}
+
+// Where reading stands after the first field. The root's row is all zeros, and clear columns hold it already; so is its level.
+fn begin(extract: &[u8]) -> Progress
+    ensures { λ p. ⌜ Begun (now (extract .entry)) p ⌝ }
+{
+    let none = Carried {
+        at: 0,
+        rows: 0,
+        number: 0,
+        text: false,
+        depth: 0,
+    };
+    let root = Carried {
+        at: 8,
+        rows: 1,
+        number: 0,
+        text: false,
+        depth: 1,
+    };
+    match first_field(extract) {
+        First::Wrong => Progress {
+            going: false,
+            whole: false,
+            carried: none,
+        },
+        First::Ended => Progress {
+            going: false,
+            whole: true,
+            carried: none,
+        },
+        First::Root => Progress {
+            going: true,
+            whole: false,
+            carried: root,
+        },
+    }
+}
+
+pub fn read_rows(
+    extract: &[u8],
+    words: &[u64; MAX_ELEMENTS],
+    numbers: &mut [u16],
+    names: &mut [u8],
+    parents: &mut [u16],
+    starts: &mut [u32],
+    lengths: &mut [u16],
+) -> RowsFound
+    requires { ⌜ EqualColumns (columns (now numbers) (now names) (now parents) (now starts) (now lengths)) × Hold (columns (now numbers) (now names) (now parents) (now starts) (now lengths)) [] ⌝ }
+    ensures { λ r. ⌜ RowsRead (now (extract .entry)) (now (words .entry)) (sizesOf (columns (now (numbers .entry)) (now (names .entry)) (now (parents .entry)) (now (starts .entry)) (now (lengths .entry)))) (columns (now (numbers .exit)) (now (names .exit)) (now (parents .exit)) (now (starts .exit)) (now (lengths .exit))) r ⌝ }
+{
+    let mut levels = [0u64; MAX_DEPTH];
+    let mut x: Progress = begin(extract);
+    while x.going {
+        let next = read_row(
+            extract,
+            words,
+            &mut levels,
+            numbers,
+            names,
+            parents,
+            starts,
+            lengths,
+            x.carried,
+        );
+        x = next;
+    }
+    let carried = x.carried;
+    RowsFound {
+        whole: x.whole,
+        rows: carried.rows,
+    }
+}

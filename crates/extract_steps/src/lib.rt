@@ -1,0 +1,77 @@
+// One field more of an extract, its row put into the columns.
+ghost use mathlib.Core.Path.{_≡_};
+ghost use Rattle.extract_steps.specs.Reads.{Reads, ReadOn};
+ghost use Rattle.field_rows.specs.Steps.{rowCells};
+ghost use Rattle.row_columns.specs.Columns.{columns, EqualColumns, withRow};
+use extract_levels::MAX_DEPTH;
+use field_rows::FieldRow;
+use field_rows::FieldStep;
+use field_rows::step;
+use field_values::Carried;
+use names::MAX_ELEMENTS;
+
+// Where reading stands: whether it goes on, whether the whole extract was read, and what is carried.
+pub struct Progress {
+    pub going: bool,
+    pub whole: bool,
+    pub carried: Carried,
+}
+
+// Puts the row n, if the columns have room for it.
+fn put_row(
+    numbers: &mut [u16],
+    names: &mut [u8],
+    parents: &mut [u16],
+    starts: &mut [u32],
+    lengths: &mut [u16],
+    n: usize,
+    row: FieldRow,
+)
+    requires { ⌜ EqualColumns (columns (now numbers) (now names) (now parents) (now starts) (now lengths)) ⌝ }
+    ensures { λ _. ⌜ columns (now (numbers .exit)) (now (names .exit)) (now (parents .exit)) (now (starts .exit)) (now (lengths .exit)) ≡ withRow (columns (now (numbers .entry)) (now (names .entry)) (now (parents .entry)) (now (starts .entry)) (now (lengths .entry))) n (rowCells row) ⌝ }
+{
+    if n < numbers.len() {
+        numbers[n] = row.number;
+        names[n] = row.name;
+        parents[n] = row.parent;
+        starts[n] = row.start;
+        lengths[n] = row.size;
+    }
+}
+
+// Reads the field at the carried place.
+pub fn read_row(
+    extract: &[u8],
+    words: &[u64; MAX_ELEMENTS],
+    levels: &mut [u64; MAX_DEPTH],
+    numbers: &mut [u16],
+    names: &mut [u8],
+    parents: &mut [u16],
+    starts: &mut [u32],
+    lengths: &mut [u16],
+    carried: Carried,
+) -> Progress
+    requires { ⌜ Reads (now extract) (now words) (now levels) (columns (now numbers) (now names) (now parents) (now starts) (now lengths)) carried ⌝ }
+    ensures { λ p. ⌜ ReadOn (now (extract .entry)) (now (words .entry)) (carried .at) (now (levels .exit)) (columns (now (numbers .exit)) (now (names .exit)) (now (parents .exit)) (now (starts .exit)) (now (lengths .exit))) p ⌝ }
+{
+    match step(extract, words, levels, carried) {
+        FieldStep::Wrong => Progress {
+            going: false,
+            whole: false,
+            carried,
+        },
+        FieldStep::Ended => Progress {
+            going: false,
+            whole: true,
+            carried,
+        },
+        FieldStep::Row { row, next } => {
+            put_row(numbers, names, parents, starts, lengths, carried.rows, row);
+            Progress {
+                going: true,
+                whole: false,
+                carried: next,
+            }
+        }
+    }
+}

@@ -1,0 +1,134 @@
+-- The library's outcome of writing an extract, stage by stage: the record, the table beside its text, the bytes.
+use mathlib.Core.Bool.{Bool, true, false, cond, not}
+use mathlib.Core.List.{List, []}
+use mathlib.Core.Option.{Option, none, some}
+use mathlib.Core.Path.{_≡_, refl, sym, ap, subst, _∙_}
+use Prim.Native.Nat.{ℕ, _<_, _≤_}
+use native.Mathlib.Omega.{arith}
+use borrow.Author.Tests.{lt-ltb, le-ltb}
+use lib.Dec.{T}
+use lib.ListN.{length, take, length-map}
+use Rattle.cut_rows.specs.Cells.{all-cleared}
+use Rattle.cut_rows.specs.Rows.{table}
+use Rattle.extract_rows.specs.Rows.{TextColumns}
+use Rattle.extract_spec.specs.Fields.{writeExtract}
+use Rattle.extract_writing.specs.Extract.{extractIn, inLentBytes, AnsweredIn}
+use Rattle.library_spec.specs.Calls.{extractWritten}
+use Rattle.library_spec.specs.Records.{TextRecord, LentTable, textIn, schemaHeld, rowsLent, tableBeside, passesSchema}
+use Rattle.marks.specs.Columns.{marks}
+use Rattle.row_numbers.specs.Cells.{Cleared}
+use Rattle.schema_spec.specs.Records.{schemaIn}
+use Rattle.schema_spec.specs.Schemas.{Schema}
+use Rattle.schema_spec.specs.Types.{typesOf}
+use Rattle.table_extracts.specs.Written.{table-extract}
+use Rattle.table_extracts.specs.Cut.{columnsIn}
+use Rattle.table_spec.specs.Columns.{Columns}
+use Rattle.table_spec.specs.Rows.{Row}
+use Rattle.table_spec.specs.Tables.{wellFormedWith}
+use Rattle.tables.specs.Handed.{isBeside}
+use Rattle.text_laws.specs.Tests.{never}
+use Rattle.text_spec.specs.Calls.{handed, inRoom, cellsAfter}
+use Rattle.text_spec.specs.Cells.{tooSmall}
+use Rattle.text_spec.specs.Lists.{isNone}
+use Rattle.text_spec.specs.Refusals.{Outcome, refused, at, badRecord}
+use Rattle.verdicts.specs.Verdicts.{refusedBy, answeredOf, verdict}
+use Rattle.verdicts.specs.declared.Verdict.{Verdict}
+use Rattle.written_tables.specs.Asked.{text-columns, codes-named, well-formed-alone}
+use Rattle.written_tables.specs.Lent.{held-coded, held-columns, beside-held}
+
+-- ---- definitions
+-- bytes answered in so many cells: 18 where they are too few
+abbrev pub inBytes : ℕ → List ℕ → Outcome (List ℕ)
+inBytes size xs = inRoom (tooSmall size xs) xs
+
+-- an outcome is answered so, in so many lent bytes
+pub record AnsweredAs (o : Outcome (List ℕ)) (size : ℕ) (r : Verdict) (out : List ℕ) : Type 0 where
+  pub answer : r ≡ verdict o
+  pub cells : out ≡ cellsAfter size (λ x. x) o
+
+-- ---- laws
+pub same-answer : {o p : Outcome (List ℕ)} (size : ℕ) (r : Verdict) (out : List ℕ) → o ≡ p → AnsweredAs o size r out → AnsweredAs p size r out
+same-answer size r out e h = subst (λ (x : Outcome (List ℕ)). AnsweredAs x size r out) e h
+
+pub refused-by-1 : (was out : List ℕ) (r : Verdict) → Cleared was 0 out → r ≡ refusedBy 1 0 → AnsweredAs (refused (at badRecord 0)) (length was) r out
+refused-by-1 was out r c e = record { answer = e; cells = all-cleared was out c }
+
+-- the bytes, or 18
+module _ (was xs : List ℕ) (n : ℕ) (out : List ℕ) (w : AnsweredIn was xs n out) (r : Verdict) where
+  pub too-few : length was < n → r ≡ refusedBy 18 0 → AnsweredAs (inBytes (length was) xs) (length was) r out
+  unfolding inLentBytes
+  too-few l e =
+      record { answer = e ∙ sym (ap (λ (b : Bool). verdict (inRoom b xs)) (lt-ltb (length was) (length xs) (omega (arith, w .size)))); cells = w .cells }
+
+  pub enough : n ≤ length was → r ≡ answeredOf n → AnsweredAs (inBytes (length was) xs) (length was) r out
+  unfolding inLentBytes
+  enough l e =
+      record {
+        answer = e ∙ ap answeredOf (w .size) ∙ sym (ap (λ (b : Bool). verdict (inRoom b xs)) (le-ltb (length was) (length xs) (omega (arith, w .size))));
+        cells = w .cells;
+      }
+
+-- ---- the rows of a table beside a text
+module _ (s : Schema) (lent : List ℕ) (t : LentTable) (beside : isBeside s lent t ≡ true) where
+  found : (rows : List Row) × (tableBeside s lent t ≡ some rows)
+  unfolding isBeside
+  found = pick (tableBeside s lent t) refl beside
+    where
+      pick : (o : Option (List Row)) → tableBeside s lent t ≡ o → not (isNone o) ≡ true → (rows : List Row) × (tableBeside s lent t ≡ some rows)
+      pick none q f = never (cc)
+      pick (some rows) q f = (rows, q)
+
+  abbrev rows : List Row
+  rows = found .0
+
+  held : (rowsLent t ≡ some rows) × T (wellFormedWith (typesOf s) lent rows)
+  held = beside-held s lent t rows (found .1)
+
+  -- the columns up to the count
+  abbrev columns : Columns
+  columns =
+      table (take (t .count) (t .columns .numbers)) (take (t .count) (t .columns .names)) (take (t .count) (t .columns .parents)) (take (t .count) (t .columns .starts)) (take (t .count) (t .columns .lengths))
+
+  same : columnsIn rows ≡ columns
+  same = held-columns t rows (held .0)
+
+  long : length rows ≡ length (columns .numbers)
+  long = sym (length-map rows (λ r. r .number)) ∙ ap (λ (c : Columns). length (c .numbers)) same
+
+  pub table-columns : TextColumns lent columns (length (columns .numbers))
+  table-columns = rw (← same, ← long) (text-columns (typesOf s) lent rows (held .1) (held-coded t rows (held .0)))
+
+  rows-written : extractIn lent columns (marks (length (columns .numbers)) (λ r. true)) ≡ writeExtract lent rows
+  rows-written =
+      ap (λ (n : ℕ). extractIn lent columns (marks n (λ r. true))) (sym long) ∙ ap (λ (c : Columns). extractIn lent c (marks (length rows) (λ r. true))) (sym same)
+      ∙ table-extract (typesOf s) lent rows (well-formed-alone (typesOf s) lent rows (held .1)) (codes-named rows (held-coded t rows (held .0)))
+
+-- ---- the outcome by the record and by the table
+abbrev afterTable : Option (List Row) → List ℕ → ℕ → Outcome (List ℕ)
+afterTable o lent size = handed o (λ rows. inBytes size (writeExtract lent rows))
+
+module _ (schema : TextRecord) (t : LentTable) (lent : List ℕ) (size : ℕ) where
+  abbrev s : Schema
+  s = schemaIn (textIn schema)
+
+  pub no-record : passesSchema schema ≡ false → refused (at badRecord 0) ≡ extractWritten schema t lent size
+  unfolding extractWritten schemaHeld
+  no-record e = sym (ap (λ (b : Bool). handed (cond b (some s) none) (λ z. afterTable (tableBeside z lent t) lent size)) e)
+
+  module _ (passes : passesSchema schema ≡ true) where
+    by-table : afterTable (tableBeside s lent t) lent size ≡ extractWritten schema t lent size
+    unfolding extractWritten schemaHeld
+    by-table = sym (ap (λ (b : Bool). handed (cond b (some s) none) (λ z. afterTable (tableBeside z lent t) lent size)) passes)
+
+    pub no-table : isBeside s lent t ≡ false → refused (at badRecord 0) ≡ extractWritten schema t lent size
+    unfolding isBeside
+    no-table e = pick (tableBeside s lent t) refl e ∙ by-table
+      where
+        pick : (o : Option (List Row)) → tableBeside s lent t ≡ o → not (isNone o) ≡ false → refused (at badRecord 0) ≡ afterTable (tableBeside s lent t) lent size
+        pick none q f = ap (λ (x : Option (List Row)). afterTable x lent size) (sym q)
+        pick (some rows) q f = never (cc)
+
+    pub table-written : (beside : isBeside s lent t ≡ true)
+        → inBytes size (extractIn lent (columns s lent t beside) (marks (length (columns s lent t beside .numbers)) (λ r. true))) ≡ extractWritten schema t lent size
+    table-written beside =
+        ap (inBytes size) (rows-written s lent t beside) ∙ ap (λ (o : Option (List Row)). afterTable o lent size) (sym (found s lent t beside .1)) ∙ by-table

@@ -1,0 +1,98 @@
+// A whole field of an extract: its tag, its length and its value. The first one is judged apart: it is the root's, or the count of an empty table.
+ghost use mathlib.Core.Path.{_≡_};
+ghost use Prim.Native.Nat.{_+_, _≤_};
+ghost use lib.ListN.{length};
+ghost use Rattle.extract_passes.specs.Steps.{hasField};
+ghost use Rattle.field_reader.specs.Fields.{CountPass, CountAs, FieldPass, FieldAs, FirstAs};
+use extract_levels::MAX_DEPTH;
+use field_tests::two_bytes;
+use field_values::Carried;
+use field_values::FieldRead;
+use field_values::element_field;
+use field_values::is_count;
+use field_values::is_root;
+use field_values::text_field;
+use names::MAX_ELEMENTS;
+
+// The tags of the three fields.
+const ELEMENT: u8 = 1;
+
+const TEXT: u8 = 2;
+
+const COUNT: u8 = 3;
+
+// What the first field says.
+pub enum First {
+    Wrong,
+    // the table is empty
+    Ended,
+    Root,
+}
+
+// Whether a whole field stands at a place.
+fn has_field(extract: &[u8], at: usize) -> bool
+    requires { ⌜ at ≤ length (now extract) ⌝ }
+    ensures { λ r. ⌜ r ≡ hasField (now (extract .entry)) at ⌝ }
+{
+    if extract.len() - at < 3 {
+        return false;
+    }
+    two_bytes(extract, at + 1) <= extract.len() - (at + 3)
+}
+
+// The field of a count.
+fn count_field(extract: &[u8], carried: Carried, size: usize) -> FieldRead
+    requires { ⌜ CountPass (now extract) carried size ⌝ }
+    ensures { λ r. ⌜ CountAs (now (extract .entry)) carried size r ⌝ }
+{
+    if is_count(extract, carried.at, carried.rows, size) {
+        return FieldRead::Ended;
+    }
+    FieldRead::Wrong
+}
+
+// The field at the carried place.
+pub fn read_field(
+    extract: &[u8],
+    words: &[u64; MAX_ELEMENTS],
+    levels: &[u64; MAX_DEPTH],
+    carried: Carried,
+) -> FieldRead
+    requires { ⌜ FieldPass (now extract) (now levels) carried ⌝ }
+    ensures { λ r. ⌜ FieldAs (now (extract .entry)) (now (words .entry)) (now (levels .entry)) carried r ⌝ }
+{
+    let at = carried.at;
+    if !has_field(extract, at) {
+        return FieldRead::Wrong;
+    }
+    let size = two_bytes(extract, at + 1);
+    match extract[at] {
+        ELEMENT => element_field(extract, words, levels, carried, size),
+        TEXT => text_field(extract, words, levels, carried, size),
+        COUNT => count_field(extract, carried, size),
+        _ => FieldRead::Wrong,
+    }
+}
+
+// The first field.
+pub fn first_field(extract: &[u8]) -> First
+    ensures { λ r. ⌜ FirstAs (now (extract .entry)) r ⌝ }
+{
+    if !has_field(extract, 0) {
+        return First::Wrong;
+    }
+    let size = two_bytes(extract, 1);
+    let tag = extract[0];
+    if tag == ELEMENT {
+        if is_root(extract, size) {
+            return First::Root;
+        }
+        return First::Wrong;
+    }
+    if tag == COUNT {
+        if is_count(extract, 0, 0, size) {
+            return First::Ended;
+        }
+    }
+    First::Wrong
+}

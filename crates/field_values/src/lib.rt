@@ -1,0 +1,145 @@
+// The value of a field of an extract, judged by what the fields before it left: an element's, a text's, a count's.
+ghost use mathlib.Core.Path.{_≡_};
+ghost use Prim.Native.Nat.{_+_, _≤_};
+ghost use lib.Dec.{eqb};
+ghost use lib.ListN.{length};
+ghost use Rattle.extract_spec.specs.Reading.{elementValue, countValue};
+ghost use Rattle.field_values.specs.Fields.{ValuePass, ElementAs, TextAs, isRoot, isCount};
+ghost use Rattle.text_spec.specs.Lists.{part};
+use extract_levels::MAX_DEPTH;
+use extract_levels::level_of;
+use field_tests::element_fits;
+use field_tests::number_fits;
+use field_tests::text_fits;
+use field_tests::two_bytes;
+use names::MAX_ELEMENTS;
+
+// How long a text may be.
+const MAX_TEXT_BYTES: usize = 4096;
+
+// What is carried from field to field: the place of the next one, how many rows stand before, the number of the row before, whether it is a text,
+// how many elements are open.
+pub struct Carried {
+    pub at: usize,
+    pub rows: usize,
+    pub number: usize,
+    pub text: bool,
+    pub depth: usize,
+}
+
+// What a field says: nothing that may stand here, the end, or a row under the last of the first `depth` open elements.
+pub enum FieldRead {
+    Wrong,
+    Ended,
+    Element {
+        number: usize,
+        element: u8,
+        depth: usize,
+    },
+    Text {
+        number: usize,
+        depth: usize,
+        size: usize,
+    },
+}
+
+// A field of an element, by its value of `size` bytes.
+pub fn element_field(
+    extract: &[u8],
+    words: &[u64; MAX_ELEMENTS],
+    levels: &[u64; MAX_DEPTH],
+    carried: Carried,
+    size: usize,
+) -> FieldRead
+    requires { ⌜ ValuePass (now extract) (now levels) carried size ⌝ }
+    ensures { λ r. ⌜ ElementAs (now (extract .entry)) (now (words .entry)) (now (levels .entry)) carried size r ⌝ }
+{
+    if size != 5 {
+        return FieldRead::Wrong;
+    }
+    let from = carried.at + 3;
+    let number = two_bytes(extract, from);
+    let depth = level_of(levels, carried.depth, two_bytes(extract, from + 2));
+    let element = extract[from + 4];
+    if !number_fits(carried.number, number) {
+        return FieldRead::Wrong;
+    }
+    if !element_fits(words, levels, depth, element) {
+        return FieldRead::Wrong;
+    }
+    FieldRead::Element {
+        number,
+        element,
+        depth,
+    }
+}
+
+// A field of a text, by its value of `size` bytes.
+pub fn text_field(
+    extract: &[u8],
+    words: &[u64; MAX_ELEMENTS],
+    levels: &[u64; MAX_DEPTH],
+    carried: Carried,
+    size: usize,
+) -> FieldRead
+    requires { ⌜ ValuePass (now extract) (now levels) carried size ⌝ }
+    ensures { λ r. ⌜ TextAs (now (extract .entry)) (now (words .entry)) (now (levels .entry)) carried size r ⌝ }
+{
+    if size < 5 {
+        return FieldRead::Wrong;
+    }
+    if MAX_TEXT_BYTES + 4 < size {
+        return FieldRead::Wrong;
+    }
+    let from = carried.at + 3;
+    let number = two_bytes(extract, from);
+    let depth = level_of(levels, carried.depth, two_bytes(extract, from + 2));
+    if !number_fits(carried.number, number) {
+        return FieldRead::Wrong;
+    }
+    if !text_fits(words, levels, depth, carried.text) {
+        return FieldRead::Wrong;
+    }
+    let start = from + 4;
+    let end = from + size;
+    if text::first_foreign(&extract[start..end]) < end - start {
+        return FieldRead::Wrong;
+    }
+    FieldRead::Text {
+        number,
+        depth,
+        size: size - 4,
+    }
+}
+
+// Whether a value of `size` bytes, of the field at a place, is the count of so many rows, and the extract ends with it.
+pub fn is_count(extract: &[u8], at: usize, rows: usize, size: usize) -> bool
+    requires { ⌜ at + 3 + size ≤ length (now extract) ⌝ }
+    ensures { λ r. ⌜ r ≡ isCount rows (eqb (at + 3 + size) (length (now (extract .entry)))) (countValue (part (at + 3) size (now (extract .entry)))) ⌝ }
+{
+    if size != 2 {
+        return false;
+    }
+    let from = at + 3;
+    if from + 2 != extract.len() {
+        return false;
+    }
+    two_bytes(extract, from) == rows
+}
+
+// Whether a field's value of `size` bytes is that of the root, in the first field.
+pub fn is_root(extract: &[u8], size: usize) -> bool
+    requires { ⌜ 3 + size ≤ length (now extract) ⌝ }
+    ensures { λ r. ⌜ r ≡ isRoot (elementValue (part 3 size (now (extract .entry)))) ⌝ }
+{
+    if size != 5 {
+        return false;
+    }
+    if two_bytes(extract, 3) != 0 {
+        return false;
+    }
+    if two_bytes(extract, 5) != 0 {
+        return false;
+    }
+    extract[7] == 0
+}

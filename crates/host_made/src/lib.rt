@@ -1,0 +1,136 @@
+// Making an extract under an accepted schema and bundle, both compiled: the journal's rows in the lent columns, and the bytes of those that the
+// bundle needs.
+ghost use mathlib.Core.List.{[]};
+ghost use mathlib.Core.Path.{_≡_};
+ghost use Prim.Native.Nat.{_≤_};
+ghost use lib.ListN.{length};
+ghost use Rattle.compiled_paths.specs.Paths.{pathsIn, Shaped};
+ghost use Rattle.host_laws.specs.Stages.{lentOf, madeUnder};
+ghost use Rattle.host_made.specs.Making.{NeededIn, AnswerAs, FirstAsked, WrittenUnder, UnderTexts};
+ghost use Rattle.host_results.specs.Exits.{Exits};
+ghost use Rattle.row_columns.specs.Columns.{columns};
+ghost use Rattle.schema_spec.specs.Records.{schemaIn};
+ghost use Rattle.table_spec.specs.Columns.{sizesOf};
+ghost use Rattle.text_spec.specs.Limits.{maxDeclarations};
+use compiled_paths::CompiledPaths;
+use compiled_schema::CompiledSchema;
+use extract_writing::write_kept;
+use host_results::HostResult;
+use journal_compiled::read_compiled;
+use names::MAX_ELEMENTS;
+use names::NameSet;
+use needed_names::needed_set;
+use schema_entries::Entries;
+use table_cutting::clear_bytes;
+use verdicts::TOO_FEW_CELLS;
+
+// The longest journal.
+const MAX_BYTES: usize = 1048576;
+
+// The names that the paths need.
+fn needed_by(compiled: CompiledSchema, paths: CompiledPaths) -> NameSet
+    requires { ⌜ Shaped paths × (compiled .count ≤ maxDeclarations) ⌝ }
+    ensures { λ r. ⌜ NeededIn compiled paths r ⌝ }
+{
+    let count = compiled.count;
+    let entries: Entries = compiled.entries;
+    let holds: [NameSet; MAX_ELEMENTS] = entries.holds;
+    let below: [NameSet; MAX_ELEMENTS] = compiled.below;
+    needed_set(count, holds, below, paths)
+}
+
+// The result for rows in the columns and bytes in `room` cells; 18 where these are too few, and then no row is left.
+fn answer(
+    rows: usize,
+    bytes: usize,
+    room: usize,
+    numbers: &mut [u16],
+    names: &mut [u8],
+    parents: &mut [u16],
+    starts: &mut [u32],
+    lengths: &mut [u16],
+) -> HostResult
+    ensures { λ r. ⌜ AnswerAs rows bytes room (columns (now (numbers .entry)) (now (names .entry)) (now (parents .entry)) (now (starts .entry)) (now (lengths .entry))) (columns (now (numbers .exit)) (now (names .exit)) (now (parents .exit)) (now (starts .exit)) (now (lengths .exit))) r ⌝ }
+{
+    if room < bytes {
+        row_columns::clear(numbers, names, parents, starts, lengths);
+        return host_results::refused(TOO_FEW_CELLS, 0);
+    }
+    host_results::answered(rows, bytes, 0)
+}
+
+// Writes the extract of the first rows in the columns.
+fn write_under(
+    compiled: CompiledSchema,
+    paths: CompiledPaths,
+    journal: &[u8],
+    rows: usize,
+    numbers: &mut [u16],
+    names: &mut [u8],
+    parents: &mut [u16],
+    starts: &mut [u32],
+    lengths: &mut [u16],
+    out: &mut [u8],
+) -> HostResult
+    requires { ⌜ Shaped paths × (compiled .count ≤ maxDeclarations) × FirstAsked (now journal) (columns (now numbers) (now names) (now parents) (now starts) (now lengths)) rows ⌝ }
+    ensures { λ r. ⌜ WrittenUnder compiled paths (now (journal .entry)) rows (columns (now (numbers .entry)) (now (names .entry)) (now (parents .entry)) (now (starts .entry)) (now (lengths .entry))) (columns (now (numbers .exit)) (now (names .exit)) (now (parents .exit)) (now (starts .exit)) (now (lengths .exit))) (now (out .entry)) (now (out .exit)) r ⌝ }
+{
+    let set = needed_by(compiled, paths);
+    let bytes = write_kept(
+        set,
+        journal,
+        &numbers[..rows],
+        &names[..rows],
+        &parents[..rows],
+        &starts[..rows],
+        &lengths[..rows],
+        out,
+    );
+    let room = out.len();
+    answer(rows, bytes, room, numbers, names, parents, starts, lengths)
+}
+
+// The journal's rows in the columns, and then the bytes; on refusal no cell is left.
+pub fn make_under(
+    schema: &[u8],
+    compiled: CompiledSchema,
+    paths: CompiledPaths,
+    journal: &[u8],
+    numbers: &mut [u16],
+    names: &mut [u8],
+    parents: &mut [u16],
+    starts: &mut [u32],
+    lengths: &mut [u16],
+    out: &mut [u8],
+) -> HostResult
+    requires { ⌜ UnderTexts (now schema) compiled paths (columns (now numbers) (now names) (now parents) (now starts) (now lengths)) ⌝ }
+    ensures { λ r. ⌜ Exits (madeUnder (schemaIn (now (schema .entry))) (pathsIn paths) (now (journal .entry)) (sizesOf (columns (now (numbers .entry)) (now (names .entry)) (now (parents .entry)) (now (starts .entry)) (now (lengths .entry)))) (length (now (out .entry)))) (lentOf (columns (now (numbers .entry)) (now (names .entry)) (now (parents .entry)) (now (starts .entry)) (now (lengths .entry))) (now (out .entry)) []) r (columns (now (numbers .exit)) (now (names .exit)) (now (parents .exit)) (now (starts .exit)) (now (lengths .exit))) (now (out .exit)) [] ⌝ }
+{
+    let verdict = read_compiled(
+        schema,
+        compiled,
+        journal,
+        MAX_BYTES,
+        numbers,
+        names,
+        parents,
+        starts,
+        lengths,
+    );
+    if verdict.number != 0 {
+        clear_bytes(out, 0);
+        return host_results::refused(verdict.number, verdict.place);
+    }
+    write_under(
+        compiled,
+        paths,
+        journal,
+        verdict.size,
+        numbers,
+        names,
+        parents,
+        starts,
+        lengths,
+        out,
+    )
+}

@@ -1,0 +1,49 @@
+-- The call that makes an extract, by its stages.
+use mathlib.Core.Bool.{Bool, true, false}
+use mathlib.Core.List.{List, []}
+use mathlib.Core.Path.{_≡_, refl, ap, _∙_}
+use Prim.Native.Nat.{ℕ}
+use lib.ListN.{length}
+use Rattle.compiled_paths.specs.Paths.{pathsIn}
+use Rattle.cut_rows.specs.Cells.{all-cleared}
+use Rattle.host_laws.specs.Stages.{lentOf, madeUnder, bundle-accepted, make-unequal, make-refused, make-accepted}
+use Rattle.host_made.specs.Making.{UnderTexts}
+use Rattle.host_results.specs.Exits.{refusedBy, Exits, RefusedExit, same-exit, refused-exit}
+use Rattle.host_results.specs.declared.HostResult.{HostResult}
+use Rattle.host_texts.specs.Texts.{TextsJudged, texts-accepted, texts-refused}
+use Rattle.host_texts.specs.declared.Texts.{Texts}
+use Rattle.library_spec.specs.Hosts.{makeExtract}
+use Rattle.row_columns.specs.ColumnLaws.{equal-columns}
+use Rattle.row_numbers.specs.Cells.{Cleared}
+use Rattle.schema_spec.specs.Records.{schemaIn}
+use Rattle.table_spec.specs.Columns.{Columns, sizesOf, equalSizes, columnsOf}
+use Rattle.text_laws.specs.Tests.{passed}
+use Rattle.text_spec.specs.Refusals.{at, badRecord}
+
+pub all-refused : (number place : ℕ) (c d : Columns) (was out : List ℕ) (r : HostResult) → d ≡ columnsOf (sizesOf c) [] → Cleared was 0 out → r ≡ refusedBy number place
+    → RefusedExit number place (lentOf c was []) r d out []
+all-refused number place c d was out r e w f = record { result = f; columns-are = e; items-are = all-cleared was out w; counts-are = refl }
+
+-- what the later stages ask for
+pub under-texts : (schema bundle : List ℕ) (c : Columns) → equalSizes (sizesOf c) ≡ true → (t : Texts) → TextsJudged schema bundle t → t .told .number ≡ 0 → UnderTexts schema (t .schema) (t .paths) c
+under-texts schema bundle c equal t J n =
+    record {
+      read = bundle-accepted schema bundle (pathsIn (t .paths)) (texts-accepted schema bundle t J n) .0;
+      made = J .compiled;
+      shaped = J .shaped;
+      equal = equal-columns c (passed equal);
+    }
+
+module _ (schema bundle journal : List ℕ) (c : Columns) (was : List ℕ) {r : HostResult} {d : Columns} {out : List ℕ} where
+  pub unequal-exit : equalSizes (sizesOf c) ≡ false → RefusedExit 1 0 (lentOf c was []) r d out [] → Exits (makeExtract schema bundle journal (lentOf c was [])) (lentOf c was []) r d out []
+  unequal-exit e h = same-exit (make-unequal schema bundle journal (lentOf c was []) e) (refused-exit (at badRecord 0) refl refl h)
+
+  module _ (equal : equalSizes (sizesOf c) ≡ true) (t : Texts) (J : TextsJudged schema bundle t) where
+    pub turned-back-exit : (t .told .number ≡ 0 → ⊥) → RefusedExit (t .told .number) (t .told .place) (lentOf c was []) r d out [] → Exits (makeExtract schema bundle journal (lentOf c was [])) (lentOf c was []) r d out []
+    turned-back-exit n h =
+        let f = texts-refused schema bundle t J n in
+        same-exit (make-refused schema bundle journal (lentOf c was []) equal (f .0) (f .1)) (refused-exit (f .0) (f .2) (f .3) h)
+
+    pub accepted-exit : t .told .number ≡ 0 → Exits (madeUnder (schemaIn schema) (pathsIn (t .paths)) journal (sizesOf c) (length was)) (lentOf c was []) r d out []
+        → Exits (makeExtract schema bundle journal (lentOf c was [])) (lentOf c was []) r d out []
+    accepted-exit n h = same-exit (make-accepted schema bundle journal (lentOf c was []) equal refl (pathsIn (t .paths)) (texts-accepted schema bundle t J n)) h

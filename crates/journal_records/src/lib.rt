@@ -1,0 +1,75 @@
+// Reading a journal under a schema's record into lent columns.
+ghost use mathlib.Core.Bool.{_&&_};
+ghost use mathlib.Core.Path.{_≡_};
+ghost use Rattle.library_spec.specs.Calls.{journalRead, columnsAfter};
+ghost use Rattle.row_columns.specs.Columns.{columns};
+ghost use Rattle.schema_reader.specs.Records.{passesRecord};
+ghost use Rattle.schema_records.specs.Records.{recordWith};
+ghost use Rattle.table_spec.specs.Columns.{equalSizes, sizesOf};
+ghost use Rattle.verdicts.specs.Verdicts.{verdict};
+use column_sizes::equal_sizes;
+use journal_compiled::read_compiled;
+use schema::Schema;
+use schema_reader::is_schema_record;
+use verdicts::BAD_RECORD;
+use verdicts::Verdict;
+
+// How many bytes a journal has at most.
+pub const MAX_BYTES: usize = 1048576;
+
+// Whether 1 is not found: the record is one that its reader hands back, and the columns are of one length.
+fn is_lent(
+    schema: Schema,
+    numbers: usize,
+    codes: usize,
+    parents: usize,
+    starts: usize,
+    lengths: usize,
+) -> bool
+    ensures { λ r. ⌜ r ≡ (passesRecord (schema .bytes) (schema .len) && equalSizes (record { numbers = numbers; names = codes; parents = parents; starts = starts; lengths = lengths })) ⌝ }
+{
+    if !is_schema_record(schema) {
+        return false;
+    }
+    equal_sizes(numbers, codes, parents, starts, lengths)
+}
+
+// The verdict on a journal text, with a row for each node in the columns and then zeros; on refusal every cell is 0.
+pub fn read_journal(
+    schema: Schema,
+    text: &[u8],
+    numbers: &mut [u16],
+    names: &mut [u8],
+    parents: &mut [u16],
+    starts: &mut [u32],
+    lengths: &mut [u16],
+) -> Verdict
+    ensures { λ r. ⌜ r ≡ verdict (journalRead (recordWith (schema .bytes) (schema .len)) (now (text .entry)) (sizesOf (columns (now (numbers .entry)) (now (names .entry)) (now (parents .entry)) (now (starts .entry)) (now (lengths .entry))))) ⌝ }
+    ensures { λ _. ⌜ columns (now (numbers .exit)) (now (names .exit)) (now (parents .exit)) (now (starts .exit)) (now (lengths .exit)) ≡ columnsAfter (sizesOf (columns (now (numbers .entry)) (now (names .entry)) (now (parents .entry)) (now (starts .entry)) (now (lengths .entry)))) (λ rows. rows) (journalRead (recordWith (schema .bytes) (schema .len)) (now (text .entry)) (sizesOf (columns (now (numbers .entry)) (now (names .entry)) (now (parents .entry)) (now (starts .entry)) (now (lengths .entry))))) ⌝ }
+{
+    if !is_lent(
+        schema,
+        numbers.len(),
+        names.len(),
+        parents.len(),
+        starts.len(),
+        lengths.len(),
+    ) {
+        row_columns::clear(numbers, names, parents, starts, lengths);
+        return verdicts::refused(BAD_RECORD, 0);
+    }
+    let bytes = schema.bytes;
+    let len = schema.len;
+    let compiled = compiled_schema::compile(&bytes[..len]);
+    read_compiled(
+        &bytes[..len],
+        compiled,
+        text,
+        MAX_BYTES,
+        numbers,
+        names,
+        parents,
+        starts,
+        lengths,
+    )
+}

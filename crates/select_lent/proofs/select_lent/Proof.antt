@@ -1,0 +1,70 @@
+-- `select_lent` meets its contract: the place, the table, what is selected.
+use mathlib.Core.Path.{sym}
+use borrow.Author.Tests.{not-true, not-false}
+use lib.Seq.{length-take-le}
+use Rattle.select_lent.specs.Lent.{beside-inside, beside-columns, no-place, no-table, table-selected}
+use native.Mathlib.Omega.{arith}
+use borrow.Author.Needs.{needs}
+use Rattle.select_lent.proofs.select_lent.Statement.{statement}
+use Rattle.select_lent.proofs.select_lent.Tie as tie
+
+-- the states that answers go back to
+abbrev start-before : tie.Else1 → tie.Start
+start-before c = c .before .before .before .before .before .before .before .before .before .before
+
+returns : tie.Need-returns
+returns c s held = no-place s _ _ _ _ _ _ _ _ _ (c .before .before .before .before .before .before .before .if1 .taken) (c .before .before .before .before .refused .ensures)
+
+returns-2 : tie.Need-returns-2
+returns-2 c s held =
+    let told = c .before .before .before .before .before .before .before in
+    no-table s _ _ _ _ _ _ _ _ _ (told .before .before .if1 .left) _ _ (told .before .is-table-beside .ensures) held (not-true _ (told .if2 .taken)) (c .before .before .before .before .refused2 .ensures)
+
+slice-aggregate-select-table : tie.Need-slice-aggregate-select-table
+slice-aggregate-select-table c =
+    let told = c .before in
+    sym (length-take-le _ _ (beside-inside _ _ _ _ (told .before .is-table-beside .ensures) (start-before (told .before .before) .pre .1) (not-false _ (told .if2 .left)) .numbered))
+
+slice-aggregate-select-table-2 : tie.Need-slice-aggregate-select-table-2
+slice-aggregate-select-table-2 c =
+    let told = c .before .before in
+    sym (length-take-le _ _ (beside-inside _ _ _ _ (told .before .is-table-beside .ensures) (start-before (told .before .before) .pre .1) (not-false _ (told .if2 .left)) .named))
+
+slice-aggregate-select-table-3 : tie.Need-slice-aggregate-select-table-3
+slice-aggregate-select-table-3 c =
+    let told = c .before .before .before in
+    sym (length-take-le _ _ (beside-inside _ _ _ _ (told .before .is-table-beside .ensures) (start-before (told .before .before) .pre .1) (not-false _ (told .if2 .left)) .parented))
+
+select-table-requires : tie.Need-select-table-requires
+select-table-requires c κs =
+    let told = c .before .before .before .before .before in
+    let else1 = told .before .before in
+    (start-before else1 .pre .0, else1 .if1 .left, beside-columns _ _ _ _ (told .before .is-table-beside .ensures) (start-before else1 .pre .1) (not-false _ (told .if2 .left)))
+
+returns-3 : tie.Need-returns-3
+returns-3 c s held =
+    let made = c .before .before .before .before in
+    let told = made .before .before .before .before .before .before in
+    table-selected s _ _ _ _ _ _ _ _ _ (told .before .before .if1 .left) _ _ (told .before .is-table-beside .ensures) held (not-false _ (told .if2 .left))
+    (λ rows w. made .select-table .ensures _ _ rows w)
+
+pub select-lent-spec : {M : Type 1} → statement M
+select-lent-spec =
+    tie.close
+    (tie.spec
+    (λ c κs. search needs)
+    (λ c. search needs)
+    (λ c. search needs)
+    returns
+    (λ c κs. search needs)
+    (λ c κs. search needs)
+    (λ c. search needs)
+    (λ c. search needs)
+    returns-2
+    slice-aggregate-select-table
+    slice-aggregate-select-table-2
+    slice-aggregate-select-table-3
+    select-table-requires
+    (λ c. search needs)
+    (λ c. search needs)
+    returns-3)

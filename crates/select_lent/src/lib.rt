@@ -1,0 +1,51 @@
+// The numbers that the paths asked for select on a table that is handed in, beside its text: refusal 1 of the place and of the table, 18 last.
+ghost use lib.ListN.{length};
+ghost use Rattle.compiled_paths.specs.Paths.{Shaped, pathsIn};
+ghost use Rattle.schema_spec.specs.Schemas.{Schema};
+ghost use Rattle.schema_spec.specs.Types.{typesOf};
+ghost use Rattle.select_lent.specs.Lent.{SomeSchema, lentSelected};
+ghost use Rattle.selected_answers.specs.Answers.{AnsweredAs};
+ghost use Rattle.table_passes.specs.Codes.{HeldWords};
+ghost use Rattle.tables.specs.Handed.{lentTable};
+use compiled_paths::CompiledPaths;
+use names::MAX_ELEMENTS;
+use select_table::select_table;
+use selected_answers::Selected;
+use selected_answers::refused;
+use tables::is_table_beside;
+use verdicts::BAD_RECORD;
+
+// Selects by compiled paths; `words` has for each element of the schema the names that it holds.
+pub fn select_lent(
+    paths: CompiledPaths,
+    words: &[u64; MAX_ELEMENTS],
+    place: usize,
+    numbers: &[u16],
+    codes: &[u8],
+    parents: &[u16],
+    starts: &[u32],
+    lengths: &[u16],
+    count: usize,
+    lent: &[u8],
+    items: &mut [u16],
+    counts: &mut [u32],
+) -> Selected
+    requires { ⌜ Shaped paths × SomeSchema (now words) ⌝ }
+    ensures { λ r. ⌜ ((s : Schema) → HeldWords (typesOf s) (now (words .entry)) → AnsweredAs (lentSelected s (pathsIn paths) place (lentTable (now (numbers .entry)) (now (codes .entry)) (now (parents .entry)) (now (starts .entry)) (now (lengths .entry)) count) (now (lent .entry)) (length (now (items .entry))) (length (now (counts .entry)))) (length (now (items .entry))) (length (now (counts .entry))) r (now (items .exit)) (now (counts .exit))) ⌝ }
+{
+    if paths.count < place {
+        return refused(BAD_RECORD, 0, items, counts);
+    }
+    if !is_table_beside(numbers, codes, parents, starts, lengths, count, words, lent) {
+        return refused(BAD_RECORD, 0, items, counts);
+    }
+    select_table(
+        paths,
+        place,
+        &numbers[..count],
+        &codes[..count],
+        &parents[..count],
+        items,
+        counts,
+    )
+}

@@ -1,0 +1,102 @@
+// Selecting on a table by a schema's and a bundle's record: refusal 1 of the records, the place and the table, 18 last.
+ghost use mathlib.Core.List.{[]};
+ghost use lib.ListN.{length};
+ghost use Rattle.library_spec.specs.Calls.{nodesSelected};
+ghost use Rattle.path_spec.specs.Reading.{readBundle};
+ghost use Rattle.schema_records.specs.Records.{recordWith};
+ghost use Rattle.schema_spec.specs.Records.{schemaIn};
+ghost use Rattle.select_lent.specs.Lent.{lentSelected};
+ghost use Rattle.selected_answers.specs.Answers.{AnsweredAs};
+ghost use Rattle.tables.specs.Handed.{lentTable};
+ghost use Rattle.text_spec.specs.Refusals.{resultOr};
+use bundle_reader::Bundle;
+use bundle_reader::is_bundle_record;
+use names::MAX_ELEMENTS;
+use names::NameSet;
+use schema::Schema;
+use schema_entries::Entries;
+use select_lent::select_lent;
+use selected_answers::Selected;
+use selected_answers::refused;
+use verdicts::BAD_RECORD;
+
+// Selects by the texts in the records, each compiled once.
+fn select_texts(
+    schema: &[u8],
+    text: &[u8],
+    place: usize,
+    numbers: &[u16],
+    codes: &[u8],
+    parents: &[u16],
+    starts: &[u32],
+    lengths: &[u16],
+    count: usize,
+    lent: &[u8],
+    items: &mut [u16],
+    counts: &mut [u32],
+) -> Selected
+    ensures { λ r. ⌜ AnsweredAs (lentSelected (schemaIn (now (schema .entry))) (resultOr [] (readBundle (schemaIn (now (schema .entry))) (now (text .entry)))) place (lentTable (now (numbers .entry)) (now (codes .entry)) (now (parents .entry)) (now (starts .entry)) (now (lengths .entry)) count) (now (lent .entry)) (length (now (items .entry))) (length (now (counts .entry)))) (length (now (items .entry))) (length (now (counts .entry))) r (now (items .exit)) (now (counts .exit)) ⌝ }
+{
+    let compiled = compiled_schema::compile(schema);
+    let elements = compiled.count;
+    let names = compiled.names;
+    let entries: Entries = compiled.entries;
+    let holds: [NameSet; MAX_ELEMENTS] = entries.holds;
+    let words = held_words::held_words(holds);
+    let judged = bundle::judge_bundle(schema, &names[..elements], text);
+    let paths = judged.paths;
+    select_lent(
+        paths,
+        &words,
+        place,
+        numbers,
+        codes,
+        parents,
+        starts,
+        lengths,
+        count,
+        lent,
+        items,
+        counts,
+    )
+}
+
+// The nodes that the path at a place of the bundle selects, counted from 1, or all paths for 0: their numbers path by path, and how many each selects.
+pub fn select_nodes(
+    schema: Schema,
+    bundle: Bundle,
+    place: usize,
+    numbers: &[u16],
+    codes: &[u8],
+    parents: &[u16],
+    starts: &[u32],
+    lengths: &[u16],
+    count: usize,
+    lent: &[u8],
+    items: &mut [u16],
+    counts: &mut [u32],
+) -> Selected
+    ensures { λ r. ⌜ AnsweredAs (nodesSelected (recordWith (schema .bytes) (schema .len)) (recordWith (bundle .bytes) (bundle .len)) place (lentTable (now (numbers .entry)) (now (codes .entry)) (now (parents .entry)) (now (starts .entry)) (now (lengths .entry)) count) (now (lent .entry)) (length (now (items .entry))) (length (now (counts .entry)))) (length (now (items .entry))) (length (now (counts .entry))) r (now (items .exit)) (now (counts .exit)) ⌝ }
+{
+    if !is_bundle_record(schema, bundle) {
+        return refused(BAD_RECORD, 0, items, counts);
+    }
+    let bytes = schema.bytes;
+    let len = schema.len;
+    let cells = bundle.bytes;
+    let size = bundle.len;
+    select_texts(
+        &bytes[..len],
+        &cells[..size],
+        place,
+        numbers,
+        codes,
+        parents,
+        starts,
+        lengths,
+        count,
+        lent,
+        items,
+        counts,
+    )
+}

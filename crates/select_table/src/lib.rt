@@ -1,0 +1,86 @@
+// The numbers that the paths asked for select on a table in columns, with scratch of its own, in lent cells.
+ghost use mathlib.Core.List.{List};
+ghost use Prim.Native.Nat.{ℕ, _≤_};
+ghost use lib.ListN.{length};
+ghost use Rattle.compiled_paths.specs.Paths.{Shaped, pathsIn};
+ghost use Rattle.schema_spec.specs.Types.{Types};
+ghost use Rattle.select.specs.Paths.{Columns};
+ghost use Rattle.select_table.specs.Tables.{AskedPass, RowsIn, rowsSelected};
+ghost use Rattle.selected_answers.specs.Answers.{AnsweredAs};
+ghost use Rattle.table_spec.specs.Rows.{Row};
+use asked_paths::first_asked;
+use asked_paths::past_asked;
+use compiled_paths::CompiledPaths;
+use kept_rows::MAX_ROWS;
+use select_paths::select_paths;
+use selected_answers::Selected;
+use selected_answers::in_room;
+
+// Selects with lent scratch, a byte for each row in each of `marks`, `held`, `steps` and `next`.
+fn select_into(
+    paths: CompiledPaths,
+    place: usize,
+    numbers: &[u16],
+    codes: &[u8],
+    parents: &[u16],
+    items: &mut [u16],
+    counts: &mut [u32],
+    marks: &mut [u8],
+    held: &mut [u8],
+    steps: &mut [u8],
+    next: &mut [u8],
+) -> Selected
+    requires { ⌜ AskedPass paths place (now numbers) (now codes) (now parents) (now marks) (now held) (now steps) (now next) ⌝ }
+    ensures { λ r. ⌜ ((s : Types) (text : List ℕ) (rows : List Row) → RowsIn s rows (now (numbers .entry)) (now (codes .entry)) (now (parents .entry)) → AnsweredAs (rowsSelected text rows place (pathsIn paths) (length (now (items .entry))) (length (now (counts .entry)))) (length (now (items .entry))) (length (now (counts .entry))) r (now (items .exit)) (now (counts .exit))) ⌝ }
+{
+    let first = first_asked(place);
+    let end = past_asked(place, paths.count);
+    let n = select_paths(
+        paths,
+        first,
+        end,
+        numbers,
+        codes,
+        parents,
+        items,
+        counts,
+        marks,
+        held,
+        steps,
+        next,
+    );
+    in_room(n, end - first, items, counts)
+}
+
+// The same with scratch of its own: four bytes for each row that there can be, 262,140 in all.
+pub fn select_table(
+    paths: CompiledPaths,
+    place: usize,
+    numbers: &[u16],
+    codes: &[u8],
+    parents: &[u16],
+    items: &mut [u16],
+    counts: &mut [u32],
+) -> Selected
+    requires { ⌜ Shaped paths × (place ≤ paths .count) × Columns (now numbers) (now codes) (now parents) ⌝ }
+    ensures { λ r. ⌜ ((s : Types) (text : List ℕ) (rows : List Row) → RowsIn s rows (now (numbers .entry)) (now (codes .entry)) (now (parents .entry)) → AnsweredAs (rowsSelected text rows place (pathsIn paths) (length (now (items .entry))) (length (now (counts .entry)))) (length (now (items .entry))) (length (now (counts .entry))) r (now (items .exit)) (now (counts .exit))) ⌝ }
+{
+    let mut marks = [0u8; MAX_ROWS];
+    let mut held = [0u8; MAX_ROWS];
+    let mut steps = [0u8; MAX_ROWS];
+    let mut next = [0u8; MAX_ROWS];
+    let rows = parents.len();
+    select_into(
+        paths,
+        place,
+        numbers,
+        codes,
+        parents,
+        items,
+        counts,
+        &mut marks[..rows],
+        &mut held[..rows],
+        &mut steps[..rows],
+        &mut next[..rows],
+    )
+}

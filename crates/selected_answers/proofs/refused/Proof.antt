@@ -1,0 +1,20 @@
+-- `refused` meets its contract: both outputs are cleared.
+use mathlib.Core.Path.{refl}
+use Rattle.selected_answers.specs.Answers.{cleared-cells}
+use native.Mathlib.Omega.{arith}
+use borrow.Author.Needs.{needs}
+use Rattle.selected_answers.proofs.refused.Statement.{statement}
+use Rattle.selected_answers.proofs.refused.Tie as tie
+
+returns : tie.Need-returns
+returns c =
+    record {
+      answer = refl;
+      items-are = cleared-cells _ _ (c .before .before .before .before .before .before .clear-from .ensures);
+      counts-are = cleared-cells _ _ (c .before .before .clear-counts-from .ensures);
+    }
+
+pub refused-spec : {M : Type 1} → statement M
+refused-spec =
+    tie.close
+    (tie.spec (λ c κs. search needs) (λ c κs. search needs) (λ c. search needs) (λ c. search needs) returns)

@@ -1,0 +1,100 @@
+//! Random inputs of the comparisons, and how often each thing came in them.
+use crate::bundle::{Axis, Path};
+use crate::faults;
+use crate::guided;
+use crate::journal::read_journal;
+use crate::random::{self, Random};
+use crate::schema::{read_schema, Schema};
+use std::collections::BTreeMap;
+
+pub const MAX_JOURNAL: usize = 1_048_576;
+
+pub struct Input {
+    pub schema: Vec<u8>,
+    pub bundle: Vec<u8>,
+    pub journal: Vec<u8>,
+}
+
+/// How often each thing came; `wanted` has those that must.
+#[derive(Default)]
+pub struct Seen {
+    pub counts: BTreeMap<String, usize>,
+    pub calls: usize,
+}
+
+impl Seen {
+    pub fn note(&mut self, what: String) {
+        *self.counts.entry(what).or_insert(0) += 1;
+    }
+
+    pub fn path(&mut self, path: &Path, nodes: usize) {
+        self.note(if nodes > 0 { "a selection with nodes" } else { "a selection without" }.to_string());
+        for step in path {
+            let conditional = if step.condition.is_some() { " with a condition" } else { "" };
+            self.note(format!("{:?}{conditional}, {}", step.axis, if nodes > 0 { "nodes selected" } else { "none" }));
+        }
+    }
+}
+
+/// What a comparison of selections must see: each axis with and without a condition, with nodes and without.
+pub fn wanted_steps() -> Vec<String> {
+    let axes = [Axis::SelfAxis, Axis::Child, Axis::Descendant, Axis::DescendantOrSelf, Axis::Parent, Axis::Ancestor, Axis::AncestorOrSelf];
+    let steps = axes.iter().flat_map(|a| ["", " with a condition"].map(|c| [", nodes selected", ", none"].map(|n| format!("{a:?}{c}{n}")))).flatten();
+    steps.chain(["a selection with nodes", "a selection without"].map(String::from)).collect()
+}
+
+/// Prints what came how often; ends the program with 1 where something wanted never came.
+pub fn report(name: &str, seen: &Seen, inputs: usize, wanted: Vec<String>) {
+    for (what, times) in &seen.counts {
+        println!("{times:8} {what}");
+    }
+    println!("{name}: {} calls on {inputs} random inputs answer alike", seen.calls);
+    let missing: Vec<String> = wanted.into_iter().filter(|w| !seen.counts.contains_key(w)).collect();
+    if !missing.is_empty() {
+        println!("{name}: these never came: {}", missing.join("; "));
+        std::process::exit(1);
+    }
+}
+
+/// SEED and COUNT, the program's arguments.
+pub fn arguments() -> (u64, usize) {
+    let numbers: Vec<usize> = std::env::args().skip(1).map(|a| a.parse().expect("SEED COUNT")).collect();
+    let [seed, count] = numbers[..] else { panic!("SEED COUNT") };
+    (seed as u64, count)
+}
+
+pub fn shown(bytes: &[u8]) -> String {
+    bytes[..bytes.len().min(2000)].escape_ascii().to_string()
+}
+
+/// A schema, and a journal that its models make, mostly valid under it.
+pub fn random_texts(r: &mut Random) -> (Vec<u8>, Schema, Vec<u8>) {
+    loop {
+        let text = random::schema(r).into_bytes();
+        if let Ok(s) = read_schema(&text) {
+            let made = random::journal(r, &s);
+            return (text, s, made);
+        }
+    }
+}
+
+/// A bundle: most often one that selects something on the journal.
+pub fn random_bundle(r: &mut Random, s: &Schema, journal: &[u8]) -> String {
+    match read_journal(s, journal, MAX_JOURNAL) {
+        Ok(rows) if r.chance(60) => guided::bundle(r, s, &rows),
+        _ => random::bundle(r, s),
+    }
+}
+
+/// Each text as made, or with a fault.
+pub fn random_input(r: &mut Random) -> Input {
+    let (valid, s, made) = random_texts(r);
+    let valid_bundle = random_bundle(r, &s, &made);
+    let journal = match r.below(10) {
+        0..=5 => made,
+        6 => random::damaged(r, &made),
+        7 => random::retagged(r, &made),
+        _ => faults::journal(r, made, &s),
+    };
+    Input { schema: faults::schema(r, &valid, &s), bundle: faults::bundle(r, &valid_bundle, &s), journal }
+}
