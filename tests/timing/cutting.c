@@ -115,8 +115,7 @@ int main(void) {
     wrong |= memcmp(&plain, &proved, sizeof plain) != 0;
     wrong |= compare("cut to all names", plain_cut, proved_cut, ~0ull);
     wrong |= memcmp(&plain, &proved, sizeof plain) != 0;
-    int deepest = ROWS - 1;
-    wrong |= compare("chain", plain_row, proved_row, deepest);
+    wrong |= compare("chain of the last row", plain_row, proved_row, ROWS - 1);
     wrong |= memcmp(plain_chain, proved_chain, CHAIN) != 0;
     if (wrong) puts("the two differ");
     return wrong;
