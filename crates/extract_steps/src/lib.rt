@@ -66,15 +66,7 @@ pub fn read_row(
             carried,
         },
         FieldStep::Row { row, next } => {
-            put_row(
-                numbers,
-                names,
-                parents,
-                starts,
-                lengths,
-                carried.rows,
-                row,
-            );
+            put_row(numbers, names, parents, starts, lengths, carried.rows, row);
             Progress {
                 going: true,
                 whole: false,

@@ -123,13 +123,15 @@ module _ (bs words : List ℕ) (c d : Columns) (r : Verdict) where
 -- ---- the columns at exit
 pub cleared-first : (c b : Columns) → EqualColumns c → b ≡ columnsOf (sizesOf c) [] → EqualColumns b × Hold b []
 cleared-first c b q e =
-    let z : sizesOf b ≡ sizesOf c = ap sizesOf e ∙ columns-sizes (sizesOf c) [] in
-    (record {
-      of-names = ap (λ (y : Sizes). y .names) z ∙ q .of-names ∙ sym (ap (λ (y : Sizes). y .numbers) z);
-      of-parents = ap (λ (y : Sizes). y .parents) z ∙ q .of-parents ∙ sym (ap (λ (y : Sizes). y .numbers) z);
-      of-starts = ap (λ (y : Sizes). y .starts) z ∙ q .of-starts ∙ sym (ap (λ (y : Sizes). y .numbers) z);
-      of-lengths = ap (λ (y : Sizes). y .lengths) z ∙ q .of-lengths ∙ sym (ap (λ (y : Sizes). y .numbers) z);
-    }, hold-by b (sizesOf c) [] e)
+    let z : sizesOf b ≡ sizesOf c = ap sizesOf e ∙ columns-sizes (sizesOf c) [] in (
+      record {
+        of-names = ap (λ (y : Sizes). y .names) z ∙ q .of-names ∙ sym (ap (λ (y : Sizes). y .numbers) z);
+        of-parents = ap (λ (y : Sizes). y .parents) z ∙ q .of-parents ∙ sym (ap (λ (y : Sizes). y .numbers) z);
+        of-starts = ap (λ (y : Sizes). y .starts) z ∙ q .of-starts ∙ sym (ap (λ (y : Sizes). y .numbers) z);
+        of-lengths = ap (λ (y : Sizes). y .lengths) z ∙ q .of-lengths ∙ sym (ap (λ (y : Sizes). y .numbers) z);
+      },
+      hold-by b (sizesOf c) [] e,
+    )
 
 none-kept : (z : Sizes) (o : Outcome (List Row)) (r : Verdict) → r ≡ verdict o → (r .number ≡ 0 → ⊥) → columnsOf z [] ≡ columnsAfter z (λ rows. rows) o
 unfolding columnsAfter

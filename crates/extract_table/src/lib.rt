@@ -42,7 +42,13 @@ fn judge(
         return verdicts::refused(BAD_LENGTH, 0);
     }
     let found: RowsFound = extract_reader::read_rows(
-        extract, words, numbers, names, parents, starts, lengths,
+        extract,
+        words,
+        numbers,
+        names,
+        parents,
+        starts,
+        lengths,
     );
     verdict_of(found, size)
 }
@@ -61,9 +67,7 @@ pub fn read_extract_table(
     ensures { λ r. ⌜ TableRead (now (extract .entry)) (now (words .entry)) (columns (now (numbers .entry)) (now (names .entry)) (now (parents .entry)) (now (starts .entry)) (now (lengths .entry))) (columns (now (numbers .exit)) (now (names .exit)) (now (parents .exit)) (now (starts .exit)) (now (lengths .exit))) r ⌝ }
 {
     row_columns::clear(numbers, names, parents, starts, lengths);
-    let verdict = judge(
-        extract, words, numbers, names, parents, starts, lengths,
-    );
+    let verdict = judge(extract, words, numbers, names, parents, starts, lengths);
     if verdict.number == 0 {
         return verdict;
     }

@@ -84,7 +84,7 @@ module _ (bs words levels : List ℕ) (c : Carried) (h : Ready bs levels c) (r :
             field-pass = record {
               shallow = omega (arith, b .1);
               known = subst (λ (l : List ℕ). Known l (d + 1)) (sym opened)
-                (known-opened levels d (c .rows) number e (omega (arith, b .1, h .long)) (w .row-short) (w .short) (λ i l. h .field-pass .known i (omega (arith, b .0 .high))) (b .2));
+                  (known-opened levels d (c .rows) number e (omega (arith, b .1, h .long)) (w .row-short) (w .short) (λ i l. h .field-pass .known i (omega (arith, b .0 .high))) (b .2));
               inside = inside;
             };
             bounds = record { small = b .0 .small; few = omega (arith, h .bounds .few, b .0 .rises); short = omega (arith, h .bounds .short) };

@@ -25,10 +25,7 @@ pub struct FieldRow {
 pub enum FieldStep {
     Wrong,
     Ended,
-    Row {
-        row: FieldRow,
-        next: Carried,
-    },
+    Row { row: FieldRow, next: Carried },
 }
 
 // The row of an element under the last of the first `depth` open elements, which is opened.

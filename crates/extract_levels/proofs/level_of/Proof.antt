@@ -1,12 +1,9 @@
+-- `level_of` meets its contract: the climb from the innermost open element up.
 use borrow.Author.Needs.{needs}
 use mathlib.Core.Path.{sym, _∙_}
 use Rattle.extract_levels.specs.LevelLaws.{Climbing, climbing-first, climbing-found, climbing-next, climbing-none}
-use native.Mathlib.Omega.{arith}
 use Rattle.extract_levels.proofs.level_of.Statement.{statement}
 use Rattle.extract_levels.proofs.level_of.Tie as tie
-use Rattle.extract_levels.proofs.level_of.Reads as reads
-use Rattle.extract_levels.proofs.level_of.Lts as lts
-use Rattle.extract_levels.proofs.number_of.Reads as number-of-reads
 
 abbrev Inv-loop : tie.InvT-loop
 Inv-loop levels depth number d₀ d = Climbing levels depth number d
@@ -14,47 +11,37 @@ Inv-loop levels depth number d₀ d = Climbing levels depth number d
 abbrev μ-loop : tie.MeasureT-loop
 μ-loop levels depth number d₀ d = d
 
--- src/lib.rt:45:5
 loop-holds : tie.Need-loop-holds Inv-loop μ-loop
 loop-holds c = climbing-first _ _ _
 
--- src/lib.rt:46:29
 sub-number-of : tie.Need-sub-number-of Inv-loop μ-loop
 sub-number-of c = search needs
 
--- src/lib.rt:46:22
 mul-number-of : tie.Need-mul-number-of Inv-loop μ-loop
 mul-number-of c = search needs
 
--- src/lib.rt:46:22
 element-copy-out-number-of : tie.Need-element-copy-out-number-of Inv-loop μ-loop
 element-copy-out-number-of c = search needs
 
--- src/lib.rt:46:12
 number-of-requires : tie.Need-number-of-requires Inv-loop μ-loop
 number-of-requires c κs = search needs
 
--- src/lib.rt:47:13
 returns : tie.Need-returns Inv-loop μ-loop
 returns c =
     let at = c .before .before .before .before .loop in
     climbing-found _ _ _ (at .d) (at .inv) (c .before .before .before .loop-test .taken) (sym (c .before .number-of .ensures) ∙ c .if1 .taken)
 
--- src/lib.rt:49:9
 sub-d : tie.Need-sub-d Inv-loop μ-loop
 sub-d c = search needs
 
--- src/lib.rt:45:5
 loop-less : tie.Need-loop-less Inv-loop μ-loop
 loop-less c = search needs
 
--- src/lib.rt:45:5
 loop-again : tie.Need-loop-again Inv-loop μ-loop
 loop-again c =
     let at = c .before .before .before .before .loop in
     climbing-next _ _ _ (at .d) (at .inv) (c .before .before .before .loop-test .taken) (λ e. c .if1 .left (c .before .number-of .ensures ∙ e))
 
--- src/lib.rt:40:1
 returns-2 : tie.Need-returns-2 Inv-loop μ-loop
 returns-2 c = climbing-none _ _ _ (c .before .loop .d) (c .before .loop .inv) (c .loop-test .left)
 

@@ -1,36 +1,27 @@
-use native.Mathlib.Omega.{arith}
+-- `open` meets its contract: one cell is set.
 use borrow.Author.Needs.{needs}
 use Rattle.extract_levels.specs.Levels.{levelWord}
 use Rattle.extract_levels.proofs.open.Statement.{statement}
 use Rattle.extract_levels.proofs.open.Tie as tie
-use Rattle.extract_levels.proofs.open.Reads as reads
-use Rattle.extract_levels.proofs.open.Lts as lts
 
--- src/lib.rt:36:18
 mul-levels : tie.Need-mul-levels
 mul-levels c = search needs
 
--- src/lib.rt:36:18
 add-levels : tie.Need-add-levels
 add-levels c = search needs
 
--- src/lib.rt:36:17
 mul-levels-2 : tie.Need-mul-levels-2
 mul-levels-2 c = search needs
 
--- src/lib.rt:36:17
 add-levels-2 : tie.Need-add-levels-2
 add-levels-2 c = search needs
 
--- src/lib.rt:36:5
 mul-levels-3 : tie.Need-mul-levels-3
 mul-levels-3 c = search needs
 
--- src/lib.rt:36:5
 element-write-levels : tie.Need-element-write-levels
 element-write-levels c = search needs
 
--- src/lib.rt:32:1
 returns : tie.Need-returns
 unfolding levelWord
 returns c = search needs

@@ -1,3 +1,4 @@
+-- `read_rows` meets its contract: after each turn one field more is read, so that fewer bytes are left.
 use borrow.Author.Needs.{needs}
 use mathlib.Core.Path.{_≡_, refl}
 use lib.ListN.{length}
@@ -7,10 +8,6 @@ use Rattle.row_columns.specs.Columns.{columns}
 use native.Mathlib.Omega.{arith}
 use Rattle.extract_reader.proofs.read_rows.Statement.{statement}
 use Rattle.extract_reader.proofs.read_rows.Tie as tie
-use Rattle.extract_reader.proofs.read_rows.Reads as reads
-use Rattle.extract_reader.proofs.read_rows.Lts as lts
-use Rattle.extract_reader.proofs.begin.Reads as begin-reads
-use Rattle.extract_steps.proofs.read_row.Reads as read-row-reads
 
 abbrev Inv-loop : tie.InvT-loop
 Inv-loop extract words numbers₀ names₀ parents₀ starts₀ lengths₀ levels₀ x₀ numbers names parents starts lengths levels x =
@@ -25,27 +22,22 @@ abbrev μ-loop : tie.MeasureT-loop
 μ-loop extract words numbers₀ names₀ parents₀ starts₀ lengths₀ levels₀ x₀ numbers names parents starts lengths levels x =
     bytesLeft extract x
 
--- src/lib.rt:71:9
 begin-requires : tie.Need-begin-requires Inv-loop μ-loop
 begin-requires c κs = search needs
 
--- src/lib.rt:72:5
 loop-holds : tie.Need-loop-holds Inv-loop μ-loop
-loop-holds c = 
+loop-holds c =
     let start = c .before .before .before .before .before .before .before in
     (stands-begun _ _ _ _ (start .pre .0) (start .pre .1) refl (search needs) _ (c .begin .ensures), refl, refl, refl, refl, refl)
 
--- src/lib.rt:73:13
 read-row-requires : tie.Need-read-row-requires Inv-loop μ-loop
 read-row-requires c κs = going-reads _ _ _ _ _ (c .before .before .before .before .before .before .before .loop .inv .0) (c .before .before .before .before .before .before .loop-test .taken)
 
--- src/lib.rt:72:5
 loop-less : tie.Need-loop-less Inv-loop μ-loop
 loop-less c = fewer-left _ _ _ _ _ (c .before .before .before .before .before .before .before .before .before .before .before .before .before .before .before .before .before .before .loop .inv .0) (c .before .before .before .before .before .before .before .before .before .before .before .before .before .before .before .before .before .loop-test .taken) _ refl _ _ _ (c .before .before .before .before .before .before .before .before .before .before .read-row .ensures)
 
--- src/lib.rt:72:5
 loop-again : tie.Need-loop-again Inv-loop μ-loop
-loop-again c = 
+loop-again c =
     let at = c .before .before .before .before .before .before .before .before .before .before .before .before .before .before .before .before .before .before .loop in (
       c .before .before .before .before .before .before .before .before .before .before .read-row .ensures .stands,
       omega (arith, c .before .before .before .before .before .before .before .before .before .numbers .given, at .inv .1),
@@ -55,33 +47,27 @@ loop-again c =
       omega (arith, c .before .lengths .given, at .inv .5),
     )
 
--- src/lib.rt:58:1
 same-length : tie.Need-same-length Inv-loop μ-loop
 same-length c = c .before .before .loop .inv .1
 
--- src/lib.rt:58:1
 same-length-2 : tie.Need-same-length-2 Inv-loop μ-loop
 same-length-2 c = c .before .before .loop .inv .2
 
--- src/lib.rt:58:1
 same-length-3 : tie.Need-same-length-3 Inv-loop μ-loop
 same-length-3 c = c .before .before .loop .inv .3
 
--- src/lib.rt:58:1
 same-length-4 : tie.Need-same-length-4 Inv-loop μ-loop
 same-length-4 c = c .before .before .loop .inv .4
 
--- src/lib.rt:58:1
 same-length-5 : tie.Need-same-length-5 Inv-loop μ-loop
 same-length-5 c = c .before .before .loop .inv .5
 
--- src/lib.rt:58:1
 returns : tie.Need-returns Inv-loop μ-loop
-returns c = 
+returns c =
     let at = c .before .before .loop in
     let g = c .before .before .before .before .before .before .before .before .before .before .args in
     let sizes = same-sizes (columns (g .numbers .now) (g .names .now) (g .parents .now) (g .starts .now) (g .lengths .now)) (columns (at .numbers) (at .names) (at .parents) (at .starts) (at .lengths))
-        (at .inv .1) (at .inv .2) (at .inv .3) (at .inv .4) (at .inv .5) in
+    (at .inv .1) (at .inv .2) (at .inv .3) (at .inv .4) (at .inv .5) in
     rows-read _ _ _ _ _ (at .inv .0) (c .before .loop-test .left) _ sizes _ refl
 
 pub read-rows-spec : {M : Type 1} → statement M

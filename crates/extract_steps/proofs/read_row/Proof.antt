@@ -1,63 +1,47 @@
+-- `read_row` meets its contract: one row more, or the end.
 use native.Mathlib.Omega.{arith}
 use borrow.Author.Needs.{needs}
 use mathlib.Core.Path.{refl}
 use Rattle.extract_steps.specs.ReadLaws.{wrong-on, ended-on, row-on}
 use Rattle.extract_steps.proofs.read_row.Statement.{statement}
 use Rattle.extract_steps.proofs.read_row.Tie as tie
-use Rattle.extract_steps.proofs.read_row.Reads as reads
-use Rattle.extract_steps.proofs.read_row.Lts as lts
-use Rattle.extract_steps.proofs.put_row.Reads as put-row-reads
-use Rattle.field_rows.proofs.step.Reads as step-reads
 
--- src/lib.rt:57:11
 step-requires : tie.Need-step-requires
 step-requires c κs = c .before .before .before .before .before .before .before .pre .ready
 
--- src/lib.rt:58:29
 enum-told : tie.Need-enum-told
 enum-told c = search needs
 
--- src/lib.rt:63:29
 enum-told-2 : tie.Need-enum-told-2
 enum-told-2 c = search needs
 
--- src/lib.rt:68:26
 enum-known-row : tie.Need-enum-known-row
 enum-known-row c = search needs
 
--- src/lib.rt:69:13
 put-row-requires : tie.Need-put-row-requires
 put-row-requires c κs = c .before .before .before .before .before .before .before .before .before .before .before .before .before .before .before .before .pre .equal
 
--- src/lib.rt:43:1
 returns : tie.Need-returns
 returns c = wrong-on _ _ _ _ _ (c .before .before .before .before .before .before .before .before .before .before .pre) _ _ (c .before .before .step .ensures) (c .enum-told .given .1) _ refl
 
--- src/lib.rt:43:1
 returns-2 : tie.Need-returns-2
 returns-2 c = ended-on _ _ _ _ _ (c .before .before .before .before .before .before .before .before .before .before .pre) _ _ (c .before .before .step .ensures) (c .enum-told2 .given .1) _ refl
 
--- src/lib.rt:43:1
 same-length : tie.Need-same-length
 same-length c = omega (arith, c .before .before .before .before .before .before .before .before .before .numbers .given)
 
--- src/lib.rt:43:1
 same-length-2 : tie.Need-same-length-2
 same-length-2 c = omega (arith, c .before .before .before .before .before .before .before .names .given)
 
--- src/lib.rt:43:1
 same-length-3 : tie.Need-same-length-3
 same-length-3 c = omega (arith, c .before .before .before .before .before .parents .given)
 
--- src/lib.rt:43:1
 same-length-4 : tie.Need-same-length-4
 same-length-4 c = omega (arith, c .before .before .before .starts .given)
 
--- src/lib.rt:43:1
 same-length-5 : tie.Need-same-length-5
 same-length-5 c = omega (arith, c .before .lengths .given)
 
--- src/lib.rt:43:1
 returns-3 : tie.Need-returns-3
 returns-3 c = row-on _ _ _ _ _ (c .before .before .before .before .before .before .before .before .before .before .before .before .before .before .before .before .before .before .before .before .before .before .before .before .before .before .before .pre) _ _ (c .before .before .before .before .before .before .before .before .before .before .before .before .before .before .before .before .before .before .before .step .ensures) _ _ (c .before .before .before .before .before .before .before .before .before .before .before .before .before .before .before .before .before .row .given .1) _ (c .before .before .before .before .before .before .before .before .before .before .put-row .ensures) _ refl
 

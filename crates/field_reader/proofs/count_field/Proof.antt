@@ -1,22 +1,16 @@
-use native.Mathlib.Omega.{arith}
+-- `count_field` meets its contract: the end, or nothing that may stand here.
 use borrow.Author.Needs.{needs}
 use mathlib.Core.Path.{sym, _∙_}
 use Rattle.field_reader.specs.FieldLaws.{count-ended, count-wrong}
 use Rattle.field_reader.proofs.count_field.Statement.{statement}
 use Rattle.field_reader.proofs.count_field.Tie as tie
-use Rattle.field_reader.proofs.count_field.Reads as reads
-use Rattle.field_reader.proofs.count_field.Lts as lts
-use Rattle.field_values.proofs.is_count.Reads as is-count-reads
 
--- src/lib.rt:48:8
 is-count-requires : tie.Need-is-count-requires
 is-count-requires c κs = search needs
 
--- src/lib.rt:49:9
 returns : tie.Need-returns
 returns c = count-ended _ _ _ (sym (c .before .is-count .ensures) ∙ c .if1 .taken)
 
--- src/lib.rt:44:1
 returns-2 : tie.Need-returns-2
 returns-2 c = count-wrong _ _ _ (sym (c .before .is-count .ensures) ∙ c .if1 .left)
 

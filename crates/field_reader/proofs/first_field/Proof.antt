@@ -1,3 +1,4 @@
+-- `first_field` meets its contract: the root's field, that of a count, or none.
 use native.Mathlib.Omega.{arith}
 use borrow.Author.Needs.{needs}
 use borrow.Author.Tests.{not-true, not-false}
@@ -5,54 +6,37 @@ use mathlib.Core.Path.{sym, _∙_}
 use Rattle.field_reader.specs.FieldLaws.{length-inside, value-inside, first-none, first-root, first-other, first-ended, first-uncounted, first-tagged}
 use Rattle.field_reader.proofs.first_field.Statement.{statement}
 use Rattle.field_reader.proofs.first_field.Tie as tie
-use Rattle.field_reader.proofs.first_field.Reads as reads
-use Rattle.field_reader.proofs.first_field.Lts as lts
-use Rattle.field_reader.proofs.has_field.Reads as has-field-reads
-use Rattle.field_tests.proofs.two_bytes.Reads as two-bytes-reads
-use Rattle.field_values.proofs.is_count.Reads as is-count-reads
-use Rattle.field_values.proofs.is_root.Reads as is-root-reads
 
--- src/lib.rt:81:9
 has-field-requires : tie.Need-has-field-requires
 has-field-requires c κs = search needs
 
--- src/lib.rt:82:9
 returns : tie.Need-returns
 returns c = first-none _ (sym (c .before .has-field .ensures) ∙ not-true _ (c .if1 .taken))
 
--- src/lib.rt:84:9
 two-bytes-requires : tie.Need-two-bytes-requires
 two-bytes-requires c κs = length-inside _ 0 (sym (c .before .has-field .ensures) ∙ not-false _ (c .if1 .left))
 
--- src/lib.rt:85:15
 shared-slice-read-tag : tie.Need-shared-slice-read-tag
 shared-slice-read-tag c = let l = length-inside _ 0 (sym (c .before .before .before .has-field .ensures) ∙ not-false _ (c .before .before .if1 .left)) in omega arith
 
--- src/lib.rt:87:12
 is-root-requires : tie.Need-is-root-requires
 is-root-requires c κs = value-inside _ 0 (sym (c .before .before .before .before .has-field .ensures) ∙ not-false _ (c .before .before .before .if1 .left)) _ (c .before .before .two-bytes .ensures)
 
--- src/lib.rt:88:13
 returns-2 : tie.Need-returns-2
 returns-2 c = first-root _ (sym (c .before .before .before .before .before .before .has-field .ensures) ∙ not-false _ (c .before .before .before .before .before .if1 .left)) _ (c .before .before .before .before .two-bytes .ensures) (c .before .before .if2 .taken) (sym (c .before .is-root .ensures) ∙ c .if3 .taken)
 
--- src/lib.rt:90:9
 returns-3 : tie.Need-returns-3
 returns-3 c = first-other _ (sym (c .before .before .before .before .before .before .has-field .ensures) ∙ not-false _ (c .before .before .before .before .before .if1 .left)) _ (c .before .before .before .before .two-bytes .ensures) (c .before .before .if2 .taken) (sym (c .before .is-root .ensures) ∙ c .if3 .left)
 
--- src/lib.rt:93:12
 is-count-requires : tie.Need-is-count-requires
 is-count-requires c κs = value-inside _ 0 (sym (c .before .before .before .before .before .has-field .ensures) ∙ not-false _ (c .before .before .before .before .if1 .left)) _ (c .before .before .before .two-bytes .ensures)
 
--- src/lib.rt:94:13
 returns-4 : tie.Need-returns-4
 returns-4 c = first-ended _ (sym (c .before .before .before .before .before .before .before .has-field .ensures) ∙ not-false _ (c .before .before .before .before .before .before .if1 .left)) _ (c .before .before .before .before .before .two-bytes .ensures) (c .before .before .if4 .taken) (sym (c .before .is-count .ensures) ∙ c .if5 .taken)
 
--- src/lib.rt:78:1
 returns-5 : tie.Need-returns-5
 returns-5 c = first-uncounted _ (sym (c .before .before .before .before .before .before .before .has-field .ensures) ∙ not-false _ (c .before .before .before .before .before .before .if1 .left)) _ (c .before .before .before .before .before .two-bytes .ensures) (c .before .before .if4 .taken) (sym (c .before .is-count .ensures) ∙ c .if5 .left)
 
--- src/lib.rt:78:1
 returns-6 : tie.Need-returns-6
 returns-6 c = first-tagged _ (sym (c .before .before .before .before .before .has-field .ensures) ∙ not-false _ (c .before .before .before .before .if1 .left)) _ (c .before .before .before .two-bytes .ensures) (c .before .if2 .left) (c .if4 .left)
 

@@ -1,57 +1,41 @@
-use native.Mathlib.Omega.{arith}
+-- `step` meets its contract: what the field says, as a step of the pass.
 use borrow.Author.Needs.{needs}
 use Rattle.field_rows.specs.StepLaws.{step-wrong, step-ended, element-place, element-step, text-place, text-step}
 use Rattle.field_rows.proofs.step.Statement.{statement}
 use Rattle.field_rows.proofs.step.Tie as tie
-use Rattle.field_rows.proofs.step.Reads as reads
-use Rattle.field_rows.proofs.step.Lts as lts
-use Rattle.field_reader.proofs.read_field.Reads as read-field-reads
-use Rattle.field_rows.proofs.element_row.Reads as element-row-reads
-use Rattle.field_rows.proofs.text_row.Reads as text-row-reads
 
--- src/lib.rt:107:11
 read-field-requires : tie.Need-read-field-requires
 read-field-requires c κs = c .before .before .pre .field-pass
 
--- src/lib.rt:108:29
 enum-told : tie.Need-enum-told
 enum-told c = search needs
 
--- src/lib.rt:109:29
 enum-told-2 : tie.Need-enum-told-2
 enum-told-2 c = search needs
 
--- src/lib.rt:111:13
 enum-known-number : tie.Need-enum-known-number
 enum-known-number c = search needs
 
--- src/lib.rt:114:14
 element-row-requires : tie.Need-element-row-requires
 element-row-requires c κs = element-place _ _ _ _ (c .before .before .before .before .before .before .before .pre) _ (c .before .before .before .before .read-field .ensures) _ _ _ (c .before .before .number .given .1)
 
--- src/lib.rt:116:13
 enum-known-number-2 : tie.Need-enum-known-number-2
 enum-known-number-2 c = search needs
 
--- src/lib.rt:119:14
 text-row-requires : tie.Need-text-row-requires
 text-row-requires c κs = text-place _ _ _ _ (c .before .before .before .before .before .before .before .pre) _ (c .before .before .before .before .read-field .ensures) _ _ _ (c .before .before .number2 .given .1)
 
--- src/lib.rt:98:1
 returns : tie.Need-returns
 returns c = step-wrong _ _ _ _ (c .before .before .before .before .before .pre) _ (c .before .before .read-field .ensures) (c .enum-told .given .1)
 
--- src/lib.rt:98:1
 returns-2 : tie.Need-returns-2
 returns-2 c = step-ended _ _ _ _ (c .before .before .before .before .before .pre) _ (c .before .before .read-field .ensures) (c .enum-told2 .given .1)
 
--- src/lib.rt:98:1
 returns-3 : tie.Need-returns-3
-returns-3 c = 
+returns-3 c =
     let start = c .before .before .before .before .before .before .before .before in
     element-step _ _ _ _ (start .pre) _ (c .before .before .before .before .before .read-field .ensures) _ _ _ (c .before .before .before .number .given .1) _ (c .element-row .ensures .0) _ (c .element-row .ensures .1)
 
--- src/lib.rt:98:1
 returns-4 : tie.Need-returns-4
 returns-4 c = text-step _ _ _ _ (c .before .before .before .before .before .before .before .before .pre) _ (c .before .before .before .before .before .read-field .ensures) _ _ _ (c .before .before .before .number2 .given .1) _ (c .text-row .ensures)
 

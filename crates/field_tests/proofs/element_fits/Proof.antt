@@ -1,42 +1,30 @@
-use native.Mathlib.Omega.{arith}
+-- `element_fits` meets its contract: the tests of `elementUnder` in turn.
 use borrow.Author.Needs.{needs}
 use Rattle.field_tests.specs.TestLaws.{element-none, element-deep, element-held, level-known}
 use Rattle.field_tests.proofs.element_fits.Statement.{statement}
 use Rattle.field_tests.proofs.element_fits.Tie as tie
-use Rattle.field_tests.proofs.element_fits.Reads as reads
-use Rattle.field_tests.proofs.element_fits.Lts as lts
-use Rattle.extract_levels.proofs.element_of.Reads as element-of-reads
-use Rattle.field_tests.proofs.holds_element.Reads as holds-element-reads
 
--- src/lib.rt:59:9
 returns : tie.Need-returns
 returns c = element-none _ _ _ _ (c .if1 .taken)
 
--- src/lib.rt:62:9
 returns-2 : tie.Need-returns-2
 returns-2 c = element-deep _ _ _ _ (c .if2 .taken)
 
--- src/lib.rt:64:44
 sub-element-of : tie.Need-sub-element-of
 sub-element-of c = search needs
 
--- src/lib.rt:64:37
 mul-element-of : tie.Need-mul-element-of
 mul-element-of c = search needs
 
--- src/lib.rt:64:37
 element-copy-out-element-of : tie.Need-element-copy-out-element-of
 element-copy-out-element-of c = search needs
 
--- src/lib.rt:64:26
 element-of-requires : tie.Need-element-of-requires
 element-of-requires c κs = search needs
 
--- src/lib.rt:64:5
 holds-element-requires : tie.Need-holds-element-requires
 holds-element-requires c κs = level-known _ _ (c .before .before .before .before .pre) (c .before .before .before .if1 .left) _ (c .element-of .ensures)
 
--- src/lib.rt:49:1
 returns-3 : tie.Need-returns-3
 returns-3 c = element-held _ _ _ _ (c .before .before .before .before .if1 .left) (c .before .before .before .if2 .left) (c .before .before .before .before .before .pre .shallow) _ _ (c .holds-element .ensures) (c .before .element-of .ensures)
 

@@ -1,3 +1,4 @@
+-- `number_fits` meets its contract: above the number before, and below the limit.
 use Rattle.field_tests.specs.TestLaws.{number-low, number-high}
 use Rattle.field_tests.proofs.number_fits.Statement.{statement}
 use Rattle.field_tests.proofs.number_fits.Tie as tie

@@ -1,54 +1,40 @@
+-- `text_fits` meets its contract: the tests of `textUnder` in turn.
 use native.Mathlib.Omega.{arith}
 use borrow.Author.Needs.{needs}
 use Rattle.field_tests.specs.TestLaws.{text-none, text-after, text-held, level-known}
 use Rattle.field_tests.proofs.text_fits.Statement.{statement}
 use Rattle.field_tests.proofs.text_fits.Tie as tie
-use Rattle.field_tests.proofs.text_fits.Reads as reads
-use Rattle.field_tests.proofs.text_fits.Lts as lts
-use Rattle.extract_levels.proofs.element_of.Reads as element-of-reads
-use Rattle.words.proofs.has_bit.Reads as has-bit-reads
 
--- src/lib.rt:78:9
 returns : tie.Need-returns
 returns c = text-none _ _ _ _ (c .if1 .taken)
 
--- src/lib.rt:81:9
 returns-2 : tie.Need-returns-2
 returns-2 c = text-after _ _ _ _ (c .if2 .taken)
 
--- src/lib.rt:83:36
 sub-element-of : tie.Need-sub-element-of
 sub-element-of c = search needs
 
--- src/lib.rt:83:29
 mul-element-of : tie.Need-mul-element-of
 mul-element-of c = search needs
 
--- src/lib.rt:83:29
 element-copy-out-element-of : tie.Need-element-copy-out-element-of
 element-copy-out-element-of c = search needs
 
--- src/lib.rt:83:9
 element-of-requires : tie.Need-element-of-requires
 element-of-requires c κs = search needs
 
--- src/lib.rt:84:13
 mul-has-bit : tie.Need-mul-has-bit
 mul-has-bit c = let l = level-known _ _ (c .before .before .before .before .pre) (c .before .before .before .if1 .left) _ (c .element-of .ensures) in omega arith
 
--- src/lib.rt:84:13
 element-copy-out-has-bit : tie.Need-element-copy-out-has-bit
 element-copy-out-has-bit c = level-known _ _ (c .before .before .before .before .pre) (c .before .before .before .if1 .left) _ (c .element-of .ensures)
 
--- src/lib.rt:84:28
 add-has-bit : tie.Need-add-has-bit
 add-has-bit c = let l = level-known _ _ (c .before .before .before .before .before .pre) (c .before .before .before .before .if1 .left) _ (c .before .element-of .ensures) in omega arith
 
--- src/lib.rt:84:5
 has-bit-requires : tie.Need-has-bit-requires
 has-bit-requires c κs = search needs
 
--- src/lib.rt:68:1
 returns-3 : tie.Need-returns-3
 returns-3 c = text-held _ _ _ _ (c .before .before .before .before .before .if1 .left) (c .before .before .before .before .if2 .left) _ _ (c .has-bit .ensures) (c .before .before .element-of .ensures)
 

@@ -1,40 +1,31 @@
+-- `two_bytes` meets its contract: each byte is below 256.
 use Prim.Native.Nat.{_+_}
 use native.Mathlib.Omega.{arith}
 use borrow.Author.Needs.{needs}
 use Rattle.field_tests.proofs.two_bytes.Statement.{statement}
 use Rattle.field_tests.proofs.two_bytes.Tie as tie
-use Rattle.field_tests.proofs.two_bytes.Reads as reads
-use Rattle.field_tests.proofs.two_bytes.Lts as lts
 
--- src/lib.rt:51:5
 shared-slice-read-result : tie.Need-shared-slice-read-result
 shared-slice-read-result c = search needs
 
--- src/lib.rt:51:5
 cast-result : tie.Need-cast-result
 cast-result c = omega (arith, c .shared-slice-known .given (c .before .args .k))
 
--- src/lib.rt:51:5
 mul-result : tie.Need-mul-result
 mul-result c = omega (arith, c .shared-slice-known .given (c .before .args .k))
 
--- src/lib.rt:51:41
 add-result : tie.Need-add-result
 add-result c = search needs
 
--- src/lib.rt:51:33
 shared-slice-read-result-2 : tie.Need-shared-slice-read-result-2
 shared-slice-read-result-2 c = search needs
 
--- src/lib.rt:51:33
 cast-result-2 : tie.Need-cast-result-2
 cast-result-2 c = omega (arith, c .before .shared-slice-known .given (c .before .before .args .k), c .shared-slice-known2 .given (c .before .before .args .k + 1))
 
--- src/lib.rt:51:5
 add-result-2 : tie.Need-add-result-2
 add-result-2 c = omega (arith, c .before .shared-slice-known .given (c .before .before .args .k), c .shared-slice-known2 .given (c .before .before .args .k + 1))
 
--- src/lib.rt:47:1
 returns : tie.Need-returns
 returns c = search needs
 
