@@ -36,7 +36,7 @@ extern "C" {
 #define LOZHYMET_MAX_PATHS 8    /* of a bundle */
 #define LOZHYMET_MAX_ROWS 65535 /* of a journal or an extract */
 
-/* Bytes of stack that suffice for a call; tests/host/run measures what calls on the largest texts take. */
+/* Bytes of stack to have free for a call: a bound to which tests/host/run holds what it measures on the largest texts. */
 #define LOZHYMET_STACK_BYTES 1048576
 
 /* ---- how many cells to lend, so that 18 cannot come

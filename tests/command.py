@@ -243,8 +243,8 @@ def main():
         try_example(prefix, work)
         try_manual(prefix)
     if faults:
-        sys.exit("command: %d of %d runs are not as expected" % (faults, count))
-    print("command: %d runs are as expected, half of them under sanitizers; the example host is built with pkg-config and prints its nodes" % count)
+        sys.exit("command: %d of %d comparisons fail" % (faults, count))
+    print("command: %d comparisons hold, half of them under sanitizers; the example host is built with pkg-config and prints its nodes" % count)
 
 
 main()

@@ -154,7 +154,7 @@ module _ (s : Schema) (t : LentTable) (position size : ℕ) where
           let y = at-some doc position (omega (arith, row-count)) in
           let same : w ≡ chain s (y .0) =
           e ∙ ap₂ (λ (a b : List ℕ). chainAt text (c .names) (sizesAt text (c .names)) a b position) (sym (sym (codes-map (found .0)) ∙ lent-codes t (found .0) (found .1 .lent))) (sym (lent-parents t (found .0) (found .1 .lent)))
-          ∙ node-chain text s read c made (sizesAt text (c .names)) refl (found .0) (found .1 .passes) position (y .0) (y .1) in
+          ∙ node-chain text s read c made (sizesAt text (c .names)) refl [] (found .0) (found .1 .passes) position (y .0) (y .1) in
           rw (by-node (some (y .0)) (y .1)) (subst (λ (x : List ℕ). AnsweredBytes (inRoom (tooSmall size x) x) size r out) same h)
 
 -- ---- and a schema's record

@@ -8,7 +8,9 @@ use lib.ListN.{length, getD, set, take, drop, List·getD-append, List·getD-eq-d
 use lib.Seq.{ext-getD, sets, sets-eq, length-sets}
 use Rattle.kept_rows.specs.Joined.{joined, rank, joined-none, joined-marked, joined-unmarked, joined-length}
 use Rattle.marks.specs.Columns.{isMarked}
-use Rattle.row_numbers.specs.Cells.{Cleared, appended-cleared}
+pub use Rattle.lent_cells.specs.Cells.{all-cleared}
+use Rattle.lent_cells.specs.Cells.{Cleared}
+use Rattle.row_numbers.specs.Cells.{appended-cleared}
 use Rattle.text_laws.specs.Cells.{sets-append}
 use Rattle.text_spec.specs.Cells.{padded}
 
@@ -33,10 +35,6 @@ sets-cleared o xs out n e l w =
   where
     front : sets o 0 xs ≡ xs ++ drop (0 + length xs) o
     front = sets-eq xs o 0 (omega (arith, e))
-
--- all cells cleared
-pub all-cleared : (o out : List ℕ) → Cleared o 0 out → out ≡ padded (length o) []
-all-cleared o out w = sets-cleared o [] out 0 refl (omega arith) w
 
 -- ---- a column, with the rows before r behind
 module _ (f : ℕ → ℕ) (m o : List ℕ) where

@@ -87,9 +87,7 @@ fn write_under(
         out,
     );
     let room = out.len();
-    answer(
-        rows, bytes, room, numbers, names, parents, starts, lengths,
-    )
+    answer(rows, bytes, room, numbers, names, parents, starts, lengths)
 }
 
 // The journal's rows in the columns, and then the bytes; on refusal no cell is left.

@@ -12,7 +12,7 @@ use Rattle.host_results.specs.Exits.{refusedBy, Exits, RefusedExit, same-exit, 
 use Rattle.host_results.specs.declared.HostResult.{HostResult}
 use Rattle.host_texts.specs.Texts.{TextsJudged, texts-accepted, texts-refused}
 use Rattle.host_texts.specs.declared.Texts.{Texts}
-use Rattle.library_spec.specs.Hosts.{Lent, makeExtract}
+use Rattle.library_spec.specs.Hosts.{makeExtract}
 use Rattle.row_columns.specs.ColumnLaws.{equal-columns}
 use Rattle.row_numbers.specs.Cells.{Cleared}
 use Rattle.schema_spec.specs.Records.{schemaIn}
@@ -35,18 +35,15 @@ under-texts schema bundle c equal t J n =
     }
 
 module _ (schema bundle journal : List ℕ) (c : Columns) (was : List ℕ) {r : HostResult} {d : Columns} {out : List ℕ} where
-  abbrev l : Lent
-  l = lentOf c was []
-
-  pub unequal-exit : equalSizes (sizesOf c) ≡ false → RefusedExit 1 0 l r d out [] → Exits (makeExtract schema bundle journal l) l r d out []
-  unequal-exit e h = same-exit (make-unequal schema bundle journal l e) (refused-exit (at badRecord 0) refl refl h)
+  pub unequal-exit : equalSizes (sizesOf c) ≡ false → RefusedExit 1 0 (lentOf c was []) r d out [] → Exits (makeExtract schema bundle journal (lentOf c was [])) (lentOf c was []) r d out []
+  unequal-exit e h = same-exit (make-unequal schema bundle journal (lentOf c was []) e) (refused-exit (at badRecord 0) refl refl h)
 
   module _ (equal : equalSizes (sizesOf c) ≡ true) (t : Texts) (J : TextsJudged schema bundle t) where
-    pub turned-back-exit : (t .told .number ≡ 0 → ⊥) → RefusedExit (t .told .number) (t .told .place) l r d out [] → Exits (makeExtract schema bundle journal l) l r d out []
+    pub turned-back-exit : (t .told .number ≡ 0 → ⊥) → RefusedExit (t .told .number) (t .told .place) (lentOf c was []) r d out [] → Exits (makeExtract schema bundle journal (lentOf c was [])) (lentOf c was []) r d out []
     turned-back-exit n h =
         let f = texts-refused schema bundle t J n in
-        same-exit (make-refused schema bundle journal l equal (f .0) (f .1)) (refused-exit (f .0) (f .2) (f .3) h)
+        same-exit (make-refused schema bundle journal (lentOf c was []) equal (f .0) (f .1)) (refused-exit (f .0) (f .2) (f .3) h)
 
-    pub accepted-exit : t .told .number ≡ 0 → Exits (madeUnder (schemaIn schema) (pathsIn (t .paths)) journal (sizesOf c) (length was)) l r d out []
-        → Exits (makeExtract schema bundle journal l) l r d out []
-    accepted-exit n h = same-exit (make-accepted schema bundle journal l equal refl (pathsIn (t .paths)) (texts-accepted schema bundle t J n)) h
+    pub accepted-exit : t .told .number ≡ 0 → Exits (madeUnder (schemaIn schema) (pathsIn (t .paths)) journal (sizesOf c) (length was)) (lentOf c was []) r d out []
+        → Exits (makeExtract schema bundle journal (lentOf c was [])) (lentOf c was []) r d out []
+    accepted-exit n h = same-exit (make-accepted schema bundle journal (lentOf c was []) equal refl (pathsIn (t .paths)) (texts-accepted schema bundle t J n)) h

@@ -53,9 +53,7 @@ pub fn make_extract(
         starts.len(),
         lengths.len(),
     ) {
-        return refuse(
-            BAD_RECORD, 0, numbers, names, parents, starts, lengths, out,
-        );
+        return refuse(BAD_RECORD, 0, numbers, names, parents, starts, lengths, out);
     }
     let texts = judge_texts(schema, bundle);
     let told = texts.told;
@@ -74,6 +72,15 @@ pub fn make_extract(
     let compiled: CompiledSchema = texts.schema;
     let paths: CompiledPaths = texts.paths;
     make_under(
-        schema, compiled, paths, journal, numbers, names, parents, starts, lengths, out,
+        schema,
+        compiled,
+        paths,
+        journal,
+        numbers,
+        names,
+        parents,
+        starts,
+        lengths,
+        out,
     )
 }

@@ -1,4 +1,4 @@
--- What reading some bytes of a text, all of them, and its end leave.
+-- What reading some bytes of a text, and all of them, leaves.
 use mathlib.Core.List.{List, reverse}
 use mathlib.Core.Path.{_≡_, refl, sym, ap, subst, _∙_}
 use Prim.Native.Nat.{ℕ, suc, _+_, _-_, _≤_, _<_}

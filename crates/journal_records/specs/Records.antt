@@ -8,7 +8,7 @@ use lib.Dec.{T, eqb, leb, eqb→eq, leb→le}
 use lib.ListN.{length, take}
 use lib.Seq.{length-take-le}
 use Rattle.journal_compiled.specs.Compiled.{CompiledRead}
-use Rattle.journal_table.specs.Tables.{outcome}
+use Rattle.journal_judgement.specs.Judging.{outcome}
 use Rattle.library_spec.specs.Calls.{columnsAfter, journalRead}
 use Rattle.library_spec.specs.Records.{schemaHeld, passesSchema}
 use Rattle.row_columns.specs.Columns.{EqualColumns}

@@ -27,12 +27,12 @@ use Rattle.text_spec.specs.Refusals.{accepted}
 use Rattle.text_spec.specs.Scans.{nameAt}
 
 -- what stands at a place of a list that is mapped
-at-map : {A B : Type 0} (f : A → B) (xs : List A) (i : ℕ) (x : A) → getElem? xs i ≡ some x → getElem? (map f xs) i ≡ some (f x)
+pub at-map : {A B : Type 0} (f : A → B) (xs : List A) (i : ℕ) (x : A) → getElem? xs i ≡ some x → getElem? (map f xs) i ≡ some (f x)
 at-map f [] i x e = none-some e
 at-map {A} {B} f (a ∷ xs) zero x e = let h : a ≡ x = cc in ap (λ (z : A). some (f z)) h
 at-map f (a ∷ xs) (suc i) x e = at-map f xs i x e
 
-cell-of : {A : Type 0} (f : A → ℕ) (xs : List A) (i : ℕ) (x : A) → getElem? xs i ≡ some x → getD (map f xs) i 0 ≡ f x
+pub cell-of : {A : Type 0} (f : A → ℕ) (xs : List A) (i : ℕ) (x : A) → getElem? xs i ≡ some x → getD (map f xs) i 0 ≡ f x
 cell-of f [] i x e = none-some e
 cell-of {A} f (a ∷ xs) zero x e = let h : a ≡ x = cc in ap f h
 cell-of f (a ∷ xs) (suc i) x e = cell-of f xs i x e
@@ -45,12 +45,12 @@ abbrev pub codesOf : List Row → List ℕ
 codesOf rows = map (λ r. codeOf (r .name)) rows
 
 module _ (text : List ℕ) (s : Schema) (read : readSchema text ≡ accepted s) (t : CompiledSchema) (made : CompiledOf text s t) (sizes : List ℕ)
-    (sized : sizes ≡ map (λ p. length (nameAt text p)) (t .names)) (rows : List Row) (ok : T (wellFormed (typesOf s) rows)) where
+    (sized : sizes ≡ map (λ p. length (nameAt text p)) (t .names)) (lent : List ℕ) (rows : List Row) (ok : T (wellFormed (typesOf s) rows)) where
   abbrev doc : List Node
-  doc = nodesOf [] rows
+  doc = nodesOf lent rows
 
   placed : Placed (parentsOf rows) doc
-  placed = nodes-placed (typesOf s) [] rows ok
+  placed = nodes-placed (typesOf s) lent rows ok
 
   abbrev chainOf : ℕ → List ℕ
   chainOf r = chainAt text (t .names) sizes (codesOf rows) (parentsOf rows) r
@@ -60,7 +60,7 @@ module _ (text : List ℕ) (s : Schema) (read : readSchema text ≡ accepted s) 
       let q = at-some rows r (omega (arith, at-bound doc r y a, placed .size, length-map rows (λ x. x .parent))) in
       let here : getElem? (map nameOf doc) r ≡ some (nameOf y) = at-map nameOf doc r y a in
       let there : getElem? (map (λ x. x .name) rows) r ≡ some (q .0 .name) = at-map (λ x. x .name) rows r (q .0) (q .1) in
-      let same = nodes-named [] rows in
+      let same = nodes-named lent rows in
       let name : nameOf y ≡ q .0 .name = cc in
       ap (linkAt text (t .names) sizes) (cell-of (λ x. codeOf (x .name)) rows r (q .0) (q .1))
       ∙ link-tag text s read t made sizes sized (q .0 .name) (row-held (typesOf s) rows ok (at-in rows r (q .0) (q .1)))

@@ -10,7 +10,8 @@ use lib.Seq.{sets, length-sets, sets-eq}
 use Rattle.row_chains.specs.Chains.{chainAt, chainSize, NamesAt, Chained, chain-length}
 use Rattle.row_chains.specs.declared.ChainAnswer.{ChainAnswer}
 use Rattle.row_chains.specs.declared.ChainAnswer.the-variants.{Written, TooFewCells}
-use Rattle.row_numbers.specs.Cells.{Appended, Cleared, appended-cleared}
+use Rattle.lent_cells.specs.Cells.{Cleared}
+use Rattle.row_numbers.specs.Cells.{Appended, appended-cleared}
 use Rattle.text_spec.specs.Calls.{inRoom, cellsAfter}
 use Rattle.text_spec.specs.Cells.{tooSmall}
 use Rattle.text_spec.specs.Refusals.{Outcome, accepted, refused, at, andThen, tooFewCells}

@@ -7,8 +7,8 @@ ghost use lib.ListN.{length};
 ghost use lib.Seq.{sets};
 ghost use Rattle.row_chains.specs.Answers.{Answered};
 ghost use Rattle.row_chains.specs.Chains.{linkAt, linkSize, chainAt, chainSize, SizesFit, NamesAt, LinkPass, SizePass, ChainPass, Chained};
-ghost use Rattle.row_numbers.specs.Cells.{Cleared};
 ghost use Rattle.text_spec.specs.Scans.{nameAt};
+use lent_cells::clear_bytes;
 use names::MAX_ELEMENTS;
 
 // How many bytes each of the names at the places `names` of a text has.
@@ -105,17 +105,6 @@ pub fn write_chain(
     put_link(text, starts, sizes, codes[row], out, at)
 }
 
-// Clears the cells from `n` on.
-fn clear_from(out: &mut [u8], n: usize)
-    ensures { λ _. ⌜ Cleared (now (out .entry)) n (now (out .exit)) ⌝ }
-{
-    let mut i = n;
-    while i < out.len() {
-        out[i] = 0;
-        i += 1;
-    }
-}
-
 // The number of bytes that a chain takes, or refusal 18.
 pub enum ChainAnswer {
     Written(usize),
@@ -137,10 +126,10 @@ pub fn put_chain(
 {
     let size = chain_size(sizes, codes, parents, row);
     if out.len() < size {
-        clear_from(out, 0);
+        clear_bytes(out, 0);
         return ChainAnswer::TooFewCells;
     }
     let end = write_chain(text, starts, sizes, codes, parents, row, out);
-    clear_from(out, end);
+    clear_bytes(out, end);
     ChainAnswer::Written(end)
 }

@@ -1,10 +1,8 @@
 // Rows in five lent columns: put one after the other, as far as the columns have room, and past them zeros.
 ghost use mathlib.Core.List.{[]};
 ghost use mathlib.Core.Path.{_≡_};
-ghost use lib.ListN.{length};
 ghost use Rattle.row_columns.specs.Columns.{columns, EqualColumns, cells, withRow};
 ghost use Rattle.table_spec.specs.Columns.{sizesOf, columnsOf};
-ghost use Rattle.text_spec.specs.Cells.{padded};
 
 // A row, but for its number, as the columns' cells hold it: the code of its name, its parent's row, the start and the length of its text.
 pub struct RowCells {
@@ -39,36 +37,6 @@ pub fn put_row(
     }
 }
 
-fn clear_bytes(column: &mut [u8])
-    ensures { λ _. ⌜ now (column .exit) ≡ padded (length (now (column .entry))) [] ⌝ }
-{
-    let mut i = 0;
-    while i < column.len() {
-        column[i] = 0;
-        i += 1;
-    }
-}
-
-fn clear_numbers(column: &mut [u16])
-    ensures { λ _. ⌜ now (column .exit) ≡ padded (length (now (column .entry))) [] ⌝ }
-{
-    let mut i = 0;
-    while i < column.len() {
-        column[i] = 0;
-        i += 1;
-    }
-}
-
-fn clear_places(column: &mut [u32])
-    ensures { λ _. ⌜ now (column .exit) ≡ padded (length (now (column .entry))) [] ⌝ }
-{
-    let mut i = 0;
-    while i < column.len() {
-        column[i] = 0;
-        i += 1;
-    }
-}
-
 // No row is left in the columns.
 pub fn clear(
     numbers: &mut [u16],
@@ -79,9 +47,5 @@ pub fn clear(
 )
     ensures { λ _. ⌜ columns (now (numbers .exit)) (now (names .exit)) (now (parents .exit)) (now (starts .exit)) (now (lengths .exit)) ≡ columnsOf (sizesOf (columns (now (numbers .entry)) (now (names .entry)) (now (parents .entry)) (now (starts .entry)) (now (lengths .entry)))) [] ⌝ }
 {
-    clear_numbers(numbers);
-    clear_bytes(names);
-    clear_numbers(parents);
-    clear_places(starts);
-    clear_numbers(lengths);
+    lent_cells::clear_columns(numbers, names, parents, starts, lengths, 0);
 }

@@ -7,11 +7,12 @@ use Prim.Native.Nat.{ℕ, zero, suc, _+_, _*_, _-_, _<_, _≤_}
 use native.Mathlib.Nat.{eq-or-lt-of-le}
 use native.Mathlib.Numerals.{add-one}
 use native.Mathlib.Omega.{arith}
-use borrow.Author.Count.{below-more}
 use borrow.Author.Tests.{lt-ltb, le-ltb}
 use lib.Dec.{eqb, ltb}
 use lib.ListN.{length, getD, set, take, length-set, length-append, List·getD-append, List·getD-eq-default}
 use lib.Seq.{ext-getD, getD-set-same, getD-set-other, getD-append-seam, getD-append-add, take-all}
+pub use Rattle.lent_cells.specs.Cells.{Cleared}
+use Rattle.lent_cells.specs.Cells.{padded-at}
 use Rattle.marks.specs.Columns.{mark, isMarked, OnlyMarks, picked, mark-at}
 use Rattle.text_laws.specs.Cells.{padded-length}
 use Rattle.text_laws.specs.Searches.{below-or-past}
@@ -211,42 +212,6 @@ appended-appended was mid out xs ys n p u v =
         let y : length xs + (k - length xs) ≡ k = omega arith in
         ap (λ (i : ℕ). getD out i 0) z ∙ v .cells (k - length xs) (omega (arith, length-append xs ys)) (omega (arith, u .long))
         ∙ sym (getD-append-add xs ys (k - length xs) 0) ∙ ap (λ (i : ℕ). getD (xs ++ ys) i 0) y
-
--- cells from n on are cleared
-pub record Cleared (was : List ℕ) (n : ℕ) (out : List ℕ) : Type 0 where
-  pub long : length out ≡ length was
-  pub kept : (k : ℕ) → k < n → getD out k 0 ≡ getD was k 0
-  pub clear : (k : ℕ) → n ≤ k → k < length was → getD out k 0 ≡ 0
-
--- with the cells from n to i cleared
-pub record Clearing (was : List ℕ) (n i : ℕ) (out : List ℕ) : Type 0 where
-  pub low : n ≤ i
-  pub long : length out ≡ length was
-  pub kept : (k : ℕ) → k < n → getD out k 0 ≡ getD was k 0
-  pub clear : (k : ℕ) → k < i → n ≤ k → k < length was → getD out k 0 ≡ 0
-
-pub clearing-none : (was : List ℕ) (n : ℕ) → Clearing was n n was
-clearing-none was n = record { low = omega arith; long = refl; kept = λ k l. refl; clear = λ k a b c. absurd (omega arith) }
-
-pub clearing-more : (was : List ℕ) (n i : ℕ) (out : List ℕ) → Clearing was n i out → i < length out → Clearing was n (i + 1) (set out i 0)
-clearing-more was n i out w l =
-    record {
-      low = omega (arith, w .low);
-      long = length-set out i 0 ∙ w .long;
-      kept = λ k a. getD-set-other out i k 0 0 (λ e. omega (arith, w .low)) ∙ w .kept k a;
-      clear = below-more (λ k. n ≤ k → k < length was → getD (set out i 0) k 0 ≡ 0) i (λ k a b c. getD-set-other out i k 0 0 (λ e. omega arith) ∙ w .clear k a b c)
-          (λ b c. getD-set-same out i 0 0 l);
-    }
-
-pub clearing-all : (was : List ℕ) (n i : ℕ) (out : List ℕ) → Clearing was n i out → length out ≤ i → Cleared was n out
-clearing-all was n i out w l = record { long = w .long; kept = w .kept; clear = λ k a b. w .clear k (omega (arith, w .long)) a b }
-
-padded-at : (n : ℕ) (xs : List ℕ) (k : ℕ) → k < n → getD (padded n xs) k 0 ≡ getD xs k 0
-padded-at zero xs k l = absurd (omega arith)
-padded-at (suc n) [] zero l = refl
-padded-at (suc n) [] (suc k) l = padded-at n [] k (omega arith)
-padded-at (suc n) (x ∷ xs) zero l = refl
-padded-at (suc n) (x ∷ xs) (suc k) l = padded-at n xs k (omega arith)
 
 -- numbers from the first cell on, and the rest cleared
 pub appended-cleared : (was mid out xs : List ℕ) (n : ℕ) → Appended was 0 xs n mid → Cleared mid n out → out ≡ padded (length was) xs

@@ -32,11 +32,7 @@ pub fn append(numbers: &[u16], marks: &[u8], out: &mut [u16], at: usize) -> usiz
 pub fn clear_from(out: &mut [u16], n: usize)
     ensures { λ _. ⌜ Cleared (now (out .entry)) n (now (out .exit)) ⌝ }
 {
-    let mut i = n;
-    while i < out.len() {
-        out[i] = 0;
-        i += 1;
-    }
+    lent_cells::clear_numbers(out, n);
 }
 
 // Writes a count, if its cell is there.
@@ -52,9 +48,5 @@ pub fn put_count(counts: &mut [u32], n: usize, count: u32)
 pub fn clear_counts_from(counts: &mut [u32], n: usize)
     ensures { λ _. ⌜ Cleared (now (counts .entry)) n (now (counts .exit)) ⌝ }
 {
-    let mut i = n;
-    while i < counts.len() {
-        counts[i] = 0;
-        i += 1;
-    }
+    lent_cells::clear_places(counts, n);
 }

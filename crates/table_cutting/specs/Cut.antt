@@ -14,8 +14,9 @@ use Rattle.kept_rows.specs.Joined.{rank}
 use Rattle.kept_rows.specs.Kept.{isKept, keptMarks, KeptColumns, kept-later}
 use Rattle.kept_rows.specs.Positions.{Numbered as Counted, nonzero-position, positions, positions-length, positions-at}
 use Rattle.marks.specs.Columns.{isMarked, marks, marks-length, marks-marked, marks-cong}
-use Rattle.row_numbers.specs.Cells.{Cleared}
-use Rattle.cut_rows.specs.Cells.{noted-cleared, all-cleared}
+use Rattle.lent_cells.specs.Cells.{all-cleared}
+use Rattle.lent_cells.specs.Columns.{ClearedFrom}
+use Rattle.cut_rows.specs.Cells.{noted-cleared}
 use Rattle.table_spec.specs.Columns.{Columns, Sizes, sizesOf}
 use Rattle.text_laws.specs.Tests.{passed, true-of, and-cases}
 use Rattle.text_spec.specs.Cells.{padded}
@@ -38,13 +39,6 @@ unfoldable pub answered : Sizes → ℕ → Columns → Columns
 answered z n c = paddedColumns z (cond (ltb (z .numbers) n) (table [] [] [] [] []) c)
 
 -- ---- the cells past n rows are cleared
-pub record ClearedFrom (x : Columns) (n : ℕ) (y : Columns) : Type 0 where
-  pub numbers : Cleared (x .numbers) n (y .numbers)
-  pub names : Cleared (x .names) n (y .names)
-  pub parents : Cleared (x .parents) n (y .parents)
-  pub starts : Cleared (x .starts) n (y .starts)
-  pub lengths : Cleared (x .lengths) n (y .lengths)
-
 pub short-answered : (o : Columns) (n : ℕ) (c y : Columns) → length (o .numbers) < n → ClearedFrom o 0 y → y ≡ answered (sizesOf o) n c
 unfolding answered paddedColumns
 short-answered o n c y l w =

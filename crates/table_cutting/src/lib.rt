@@ -1,52 +1,21 @@
 // Cutting a table in columns to a set of names, into other lent columns.
 ghost use lib.ListN.{length};
 ghost use Rattle.kept_rows.specs.Kept.{inSet};
-ghost use Rattle.row_numbers.specs.Cells.{Cleared};
+ghost use Rattle.lent_cells.specs.Cells.{Cleared};
 ghost use Rattle.cut_rows.specs.Rows.{table, OfLength};
-ghost use Rattle.table_cutting.specs.Cut.{ClearedFrom, Cutting, CutAs, TableColumns};
+ghost use Rattle.table_cutting.specs.Cut.{Cutting, CutAs, TableColumns};
 use cut_rows::write_rows;
 use kept_rows::MAX_ROWS;
 use kept_rows::NOT_KEPT;
 use kept_rows::number_kept;
+use lent_cells::clear_columns;
 use names::NameSet;
-use row_numbers::clear_from;
 
-// Clears the cells from `n` on.
+// `lent_cells::clear_bytes`, which extracts call by this name.
 pub fn clear_bytes(out: &mut [u8], n: usize)
     ensures { λ _. ⌜ Cleared (now (out .entry)) n (now (out .exit)) ⌝ }
 {
-    let mut i = n;
-    while i < out.len() {
-        out[i] = 0;
-        i += 1;
-    }
-}
-
-fn clear_words(out: &mut [u32], n: usize)
-    ensures { λ _. ⌜ Cleared (now (out .entry)) n (now (out .exit)) ⌝ }
-{
-    let mut i = n;
-    while i < out.len() {
-        out[i] = 0;
-        i += 1;
-    }
-}
-
-fn clear_columns(
-    out_numbers: &mut [u16],
-    out_names: &mut [u8],
-    out_parents: &mut [u16],
-    out_starts: &mut [u32],
-    out_lengths: &mut [u16],
-    n: usize,
-)
-    ensures { λ _. ⌜ ClearedFrom (table (now («out_numbers» .entry)) (now («out_names» .entry)) (now («out_parents» .entry)) (now («out_starts» .entry)) (now («out_lengths» .entry))) n (table (now («out_numbers» .exit)) (now («out_names» .exit)) (now («out_parents» .exit)) (now («out_starts» .exit)) (now («out_lengths» .exit))) ⌝ }
-{
-    clear_from(out_numbers, n);
-    clear_bytes(out_names, n);
-    clear_from(out_parents, n);
-    clear_words(out_starts, n);
-    clear_from(out_lengths, n);
+    lent_cells::clear_bytes(out, n);
 }
 
 // Cuts a table to a set of names: the rows kept, and then zeros, or zeros alone where there is too little room. Gives how many rows are

@@ -81,8 +81,11 @@ fn compare_input(r: &mut Random, seen: &mut Seen) {
     let counts: Vec<usize> = (0..8).map(|k| mine.get(k).map_or(0, Vec::len)).collect();
     let kept = cut(&rows, &larger(r, &needed));
     for (what, table) in [("a selection on the whole journal", &rows), ("a selection on a larger cut", &kept)] {
-        // with no row there are no columns to lend, and nothing is selected
-        if !table.is_empty() && selections(&schema, &bundle, table) != (mine.concat(), counts.clone()) {
+        // with no row there are no columns to lend
+        if table.is_empty() {
+            continue;
+        }
+        if selections(&schema, &bundle, table) != (mine.concat(), counts.clone()) {
             differs(what, &schema, &bundle, &journal);
         }
         seen.calls += 1;

@@ -1,4 +1,4 @@
-use Rattle.cut_rows.specs.Cells.{all-cleared}
+use Rattle.lent_cells.specs.Cells.{all-cleared}
 use native.Mathlib.Omega.{arith}
 use borrow.Author.Needs.{needs}
 use Rattle.chain_records.proofs.refuse.Statement.{statement}

@@ -1,7 +1,7 @@
 -- `cut_lent` meets its contract: the table, the lent columns, the rows kept.
 use mathlib.Core.Path.{sym, _∙_}
 use borrow.Author.Tests.{not-true, not-false}
-use Rattle.cut_records.specs.Answers.{refused-1, no-table, no-sizes, cut-asked, cut-found}
+use Rattle.cut_laws.specs.Answers.{refused-1, no-table, no-sizes, cut-asked, cut-found}
 use native.Mathlib.Omega.{arith}
 use borrow.Author.Needs.{needs}
 use Rattle.cut_records.proofs.cut_lent.Statement.{statement}
@@ -44,25 +44,25 @@ cut-lent-spec =
     (tie.spec
     (λ c κs. search needs)
     (λ c κs. search needs)
-    (λ c. search needs)
-    (λ c. search needs)
-    (λ c. search needs)
-    (λ c. search needs)
-    (λ c. search needs)
+    (λ c. c .before .before .before .before .before .before .before .before .before .out-numbers .given)
+    (λ c. c .before .before .before .before .before .before .before .out-names .given)
+    (λ c. c .before .before .before .before .before .out-parents .given)
+    (λ c. c .before .before .before .out-starts .given)
+    (λ c. c .before .out-lengths .given)
     returns
     (λ c κs. search needs)
     (λ c κs. search needs)
-    (λ c. search needs)
-    (λ c. search needs)
-    (λ c. search needs)
-    (λ c. search needs)
-    (λ c. search needs)
+    (λ c. c .before .before .before .before .before .before .before .before .before .out-numbers2 .given)
+    (λ c. c .before .before .before .before .before .before .before .out-names2 .given)
+    (λ c. c .before .before .before .before .before .out-parents2 .given)
+    (λ c. c .before .before .before .out-starts2 .given)
+    (λ c. c .before .out-lengths2 .given)
     returns-2
     (λ c κs. search needs)
     cut-first-requires
-    (λ c. search needs)
-    (λ c. search needs)
-    (λ c. search needs)
-    (λ c. search needs)
-    (λ c. search needs)
+    (λ c. c .before .before .before .before .before .before .before .before .before .out-numbers3 .given)
+    (λ c. c .before .before .before .before .before .before .before .out-names3 .given)
+    (λ c. c .before .before .before .before .before .out-parents3 .given)
+    (λ c. c .before .before .before .out-starts3 .given)
+    (λ c. c .before .out-lengths3 .given)
     returns-3)

@@ -1,7 +1,7 @@
 -- `cut_table` meets its contract: the record, then the rest.
 use mathlib.Core.Path.{sym, _∙_}
 use borrow.Author.Tests.{not-true, not-false}
-use Rattle.cut_records.specs.Answers.{refused-1, no-record, by-record}
+use Rattle.cut_laws.specs.Answers.{refused-1, no-record, by-record}
 use Rattle.row_text.specs.Answers.{record-low}
 use Rattle.schema_records.specs.Records.{passes-schema}
 use native.Mathlib.Omega.{arith}
@@ -36,17 +36,17 @@ cut-table-spec =
     (tie.spec
     (λ c κs. search needs)
     (λ c κs. search needs)
-    (λ c. search needs)
-    (λ c. search needs)
-    (λ c. search needs)
-    (λ c. search needs)
-    (λ c. search needs)
+    (λ c. c .before .before .before .before .before .before .before .before .before .out-numbers .given)
+    (λ c. c .before .before .before .before .before .before .before .out-names .given)
+    (λ c. c .before .before .before .before .before .out-parents .given)
+    (λ c. c .before .before .before .out-starts .given)
+    (λ c. c .before .out-lengths .given)
     returns
     schema-sets-requires
     cut-lent-requires
-    (λ c. search needs)
-    (λ c. search needs)
-    (λ c. search needs)
-    (λ c. search needs)
-    (λ c. search needs)
+    (λ c. c .before .before .before .before .before .before .before .before .before .out-numbers2 .given)
+    (λ c. c .before .before .before .before .before .before .before .out-names2 .given)
+    (λ c. c .before .before .before .before .before .out-parents2 .given)
+    (λ c. c .before .before .before .out-starts2 .given)
+    (λ c. c .before .out-lengths2 .given)
     returns-2)

@@ -1,3 +1,4 @@
+-- `cut` meets its contract: scratch for the rows that there are.
 use Rattle.table_cutting.specs.Cut.{scratch-room}
 use mathlib.Core.Path.{sym}
 use borrow.Author.Needs.{needs}
@@ -19,9 +20,9 @@ cut-spec =
     (λ c. search needs)
     slice-aggregate-cut-into
     cut-into-requires
-    (λ c. search needs)
-    (λ c. search needs)
-    (λ c. search needs)
-    (λ c. search needs)
-    (λ c. search needs)
-    (λ c. search needs))
+    (λ c. c .before .before .before .before .before .before .before .before .before .out-numbers .given)
+    (λ c. c .before .before .before .before .before .before .before .out-names .given)
+    (λ c. c .before .before .before .before .before .out-parents .given)
+    (λ c. c .before .before .before .out-starts .given)
+    (λ c. c .before .out-lengths .given)
+    (λ c. c .before .before .before .before .before .before .before .before .before .before .before .cut-into .ensures))

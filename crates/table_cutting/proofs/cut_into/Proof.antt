@@ -1,3 +1,5 @@
+-- `cut_into` meets its contract: rows numbered, too little room or the rows written, the rest cleared.
+use mathlib.Core.Path.{_∙_}
 use Rattle.table_cutting.specs.Cut.{cut-pass, cut-short, cut-done}
 use borrow.Author.Needs.{needs}
 use Rattle.table_cutting.proofs.cut_into.Statement.{statement}
@@ -32,19 +34,19 @@ cut-into-spec =
     (λ c κs. search needs)
     (λ c. search needs)
     (λ c κs. search needs)
-    (λ c. search needs)
-    (λ c. search needs)
-    (λ c. search needs)
-    (λ c. search needs)
-    (λ c. search needs)
-    (λ c. search needs)
+    (λ c. c .before .before .before .before .before .before .before .before .before .before .before .before .before .before .before .before .before .before .positions .given)
+    (λ c. c .before .before .before .before .before .before .before .before .before .out-numbers .given)
+    (λ c. c .before .before .before .before .before .before .before .out-names .given)
+    (λ c. c .before .before .before .before .before .out-parents .given)
+    (λ c. c .before .before .before .out-starts .given)
+    (λ c. c .before .out-lengths .given)
     returns
     write-rows-requires
     (λ c κs. search needs)
-    (λ c. search needs)
-    (λ c. search needs)
-    (λ c. search needs)
-    (λ c. search needs)
-    (λ c. search needs)
-    (λ c. search needs)
+    (λ c. c .before .before .before .before .before .before .before .before .before .before .before .before .before .before .before .before .before .before .before .before .before .before .before .before .before .before .before .before .before .before .before .before .before .before .before .positions .given)
+    (λ c. c .before .before .before .before .before .before .before .before .before .out-numbers3 .given ∙ c .before .before .before .before .before .before .before .before .before .before .before .before .before .before .before .before .before .before .before .before .before .before .before .before .before .out-numbers2 .given)
+    (λ c. c .before .before .before .before .before .before .before .out-names3 .given ∙ c .before .before .before .before .before .before .before .before .before .before .before .before .before .before .before .before .before .before .before .before .before .before .before .out-names2 .given)
+    (λ c. c .before .before .before .before .before .out-parents3 .given ∙ c .before .before .before .before .before .before .before .before .before .before .before .before .before .before .before .before .before .before .before .before .before .out-parents2 .given)
+    (λ c. c .before .before .before .out-starts3 .given ∙ c .before .before .before .before .before .before .before .before .before .before .before .before .before .before .before .before .before .before .before .out-starts2 .given)
+    (λ c. c .before .out-lengths3 .given ∙ c .before .before .before .before .before .before .before .before .before .before .before .before .before .before .before .before .before .out-lengths2 .given)
     returns-2)

@@ -1,4 +1,4 @@
--- `range_passes` meets its contract: the range ends inside the text, and the first foreign byte is past it.
+-- `range_passes` meets its contract: the range ends inside the text, and no byte in it is foreign.
 use borrow.Author.Needs.{needs}
 use Rattle.text_ranges.proofs.Ranges.{range-past, range-short, range-whole}
 use Rattle.text_ranges.proofs.range_passes.Statement.{statement}
@@ -11,7 +11,7 @@ returns-2 : tie.Need-returns-2
 returns-2 c = range-short _ _ _ (c .before .if1 .left) (c .if2 .taken)
 
 returns-3 : tie.Need-returns-3
-returns-3 c = range-whole _ _ _ (c .before .before .before .if1 .left) (c .before .before .if2 .left) _ (c .first-foreign .ensures)
+returns-3 c = range-whole _ _ _ (c .before .before .before .if1 .left) (c .before .before .if2 .left) _ (c .any-foreign .ensures)
 
 pub range-passes-spec : {M : Type 1} → statement M
 range-passes-spec =

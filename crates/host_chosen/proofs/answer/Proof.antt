@@ -1,0 +1,26 @@
+-- `answer` meets its contract: selecting refused, or the result.
+use borrow.Author.Needs.{needs}
+use Rattle.host_chosen.specs.Choosing.{last-short, last-enough}
+use Rattle.host_chosen.proofs.answer.Statement.{statement}
+use Rattle.host_chosen.proofs.answer.Tie as tie
+
+returns : tie.Need-returns
+returns c = last-short _ _ _ _ _ (c .before .before .before .before .before .before .before .before .before .before .before .before .before .before .before .before .before .if1 .taken) (c .refused .ensures) (c .before .before .before .before .before .before .before .before .before .before .before .clear .ensures)
+
+returns-2 : tie.Need-returns-2
+returns-2 c = last-enough _ _ _ _ (c .before .if1 .left) (c .answered .ensures)
+
+pub answer-spec : {M : Type 1} → statement M
+answer-spec =
+    tie.close
+    (tie.spec
+    (λ c κs. search needs)
+    (λ c κs. search needs)
+    (λ c. search needs)
+    (λ c. search needs)
+    (λ c. search needs)
+    (λ c. search needs)
+    (λ c. search needs)
+    returns
+    (λ c κs. search needs)
+    returns-2)

@@ -1,0 +1,120 @@
+// Selecting from an extract under an accepted schema and bundle, both compiled: the extract's rows in the lent columns, and the numbers that the
+// paths asked for select on them.
+ghost use mathlib.Core.List.{List};
+ghost use mathlib.Core.Path.{_≡_};
+ghost use Prim.Native.Nat.{ℕ, _≤_};
+ghost use Rattle.compiled_paths.specs.Paths.{pathsIn, Shaped};
+ghost use Rattle.compiled_schema.specs.Compiled.{CompiledOf};
+ghost use Rattle.host_chosen.specs.Choosing.{SelectedUnder, RowsAsked, UnderSchema, WordsIn, LastAs};
+ghost use Rattle.host_laws.specs.Stages.{lentOf, chosenUnder};
+ghost use Rattle.host_results.specs.Exits.{Exits};
+ghost use Rattle.row_columns.specs.Columns.{columns};
+ghost use Rattle.schema_spec.specs.Reading.{readSchema};
+ghost use Rattle.schema_spec.specs.Records.{schemaIn};
+ghost use Rattle.text_spec.specs.Refusals.{accepted};
+use compiled_paths::CompiledPaths;
+use compiled_schema::CompiledSchema;
+use extract_table::read_extract_table;
+use held_words::held_words;
+use host_results::HostResult;
+use names::MAX_ELEMENTS;
+use names::NameSet;
+use row_numbers::clear_counts_from;
+use row_numbers::clear_from;
+use schema_entries::Entries;
+use select_table::select_table;
+use selected_answers::Selected;
+
+// For each element the names that it holds, as the bits of a word.
+fn words_of(compiled: CompiledSchema) -> [u64; MAX_ELEMENTS]
+    ensures { λ r. ⌜ WordsIn compiled r ⌝ }
+{
+    let entries: Entries = compiled.entries;
+    let sets: [NameSet; MAX_ELEMENTS] = entries.holds;
+    held_words(sets)
+}
+
+// The result for rows in the columns and what is selected on them; no row is left where selecting is refused.
+fn answer(
+    rows: usize,
+    selected: Selected,
+    numbers: &mut [u16],
+    names: &mut [u8],
+    parents: &mut [u16],
+    starts: &mut [u32],
+    lengths: &mut [u16],
+) -> HostResult
+    ensures { λ r. ⌜ LastAs rows selected (columns (now (numbers .entry)) (now (names .entry)) (now (parents .entry)) (now (starts .entry)) (now (lengths .entry))) (columns (now (numbers .exit)) (now (names .exit)) (now (parents .exit)) (now (starts .exit)) (now (lengths .exit))) r ⌝ }
+{
+    if selected.number != 0 {
+        row_columns::clear(numbers, names, parents, starts, lengths);
+        return host_results::refused(selected.number, selected.place);
+    }
+    host_results::answered(rows, selected.items, selected.counts)
+}
+
+// Selects on the first rows in the columns.
+fn select_under(
+    paths: CompiledPaths,
+    place: usize,
+    rows: usize,
+    numbers: &mut [u16],
+    names: &mut [u8],
+    parents: &mut [u16],
+    starts: &mut [u32],
+    lengths: &mut [u16],
+    items: &mut [u16],
+    counts: &mut [u32],
+) -> HostResult
+    requires { ⌜ Shaped paths × (place ≤ paths .count) × RowsAsked (columns (now numbers) (now names) (now parents) (now starts) (now lengths)) rows ⌝ }
+    ensures { λ r. ⌜ SelectedUnder paths place rows (columns (now (numbers .entry)) (now (names .entry)) (now (parents .entry)) (now (starts .entry)) (now (lengths .entry))) (columns (now (numbers .exit)) (now (names .exit)) (now (parents .exit)) (now (starts .exit)) (now (lengths .exit))) (now (items .entry)) (now (counts .entry)) (now (items .exit)) (now (counts .exit)) r ⌝ }
+{
+    let selected = select_table(
+        paths,
+        place,
+        &numbers[..rows],
+        &names[..rows],
+        &parents[..rows],
+        items,
+        counts,
+    );
+    answer(rows, selected, numbers, names, parents, starts, lengths)
+}
+
+// The extract's rows in the columns, and then what is selected; on refusal no cell is left.
+pub fn choose_under(
+    compiled: CompiledSchema,
+    paths: CompiledPaths,
+    place: usize,
+    extract: &[u8],
+    numbers: &mut [u16],
+    names: &mut [u8],
+    parents: &mut [u16],
+    starts: &mut [u32],
+    lengths: &mut [u16],
+    items: &mut [u16],
+    counts: &mut [u32],
+) -> HostResult
+    requires { ⌜ UnderSchema compiled paths place (columns (now numbers) (now names) (now parents) (now starts) (now lengths)) ⌝ }
+    ensures { λ r. ⌜ ((schema : List ℕ) → readSchema schema ≡ accepted (schemaIn schema) → CompiledOf schema (schemaIn schema) compiled → Exits (chosenUnder (schemaIn schema) (pathsIn paths) place (now (extract .entry)) (lentOf (columns (now (numbers .entry)) (now (names .entry)) (now (parents .entry)) (now (starts .entry)) (now (lengths .entry))) (now (items .entry)) (now (counts .entry)))) (lentOf (columns (now (numbers .entry)) (now (names .entry)) (now (parents .entry)) (now (starts .entry)) (now (lengths .entry))) (now (items .entry)) (now (counts .entry))) r (columns (now (numbers .exit)) (now (names .exit)) (now (parents .exit)) (now (starts .exit)) (now (lengths .exit))) (now (items .exit)) (now (counts .exit))) ⌝ }
+{
+    let words = words_of(compiled);
+    let verdict = read_extract_table(extract, &words, numbers, names, parents, starts, lengths);
+    if verdict.number != 0 {
+        clear_from(items, 0);
+        clear_counts_from(counts, 0);
+        return host_results::refused(verdict.number, verdict.place);
+    }
+    select_under(
+        paths,
+        place,
+        verdict.size,
+        numbers,
+        names,
+        parents,
+        starts,
+        lengths,
+        items,
+        counts,
+    )
+}

@@ -1,0 +1,29 @@
+-- `refuse` meets its contract: every cell cleared.
+use borrow.Author.Needs.{needs}
+use Rattle.host_selecting.specs.Calls.{all-refused}
+use Rattle.row_columns.specs.Columns.{columns}
+use Rattle.host_selecting.proofs.refuse.Statement.{statement}
+use Rattle.host_selecting.proofs.refuse.Tie as tie
+
+returns : tie.Need-returns
+returns c =
+    let at = c .before .before .before .before .before .before .before .before .before .before .before .before .before .before .before .before .before .before .before .before .before .before .before .before .before .before .before .before .before .before .before .before .args in
+    let lent = columns (at .numbers .now) (at .names .now) (at .parents .now) (at .starts .now) (at .lengths .now) in
+    all-refused _ _ lent _ _ _ _ _ _ (c .before .before .before .before .before .before .before .before .before .before .before .before .before .before .before .before .before .before .before .clear .ensures) (c .before .before .before .before .before .before .before .clear-from .ensures) (c .before .before .before .clear-counts-from .ensures) (c .refused .ensures)
+
+pub refuse-spec : {M : Type 1} → statement M
+refuse-spec =
+    tie.close
+    (tie.spec
+    (λ c κs. search needs)
+    (λ c κs. search needs)
+    (λ c κs. search needs)
+    (λ c κs. search needs)
+    (λ c. search needs)
+    (λ c. search needs)
+    (λ c. search needs)
+    (λ c. search needs)
+    (λ c. search needs)
+    (λ c. search needs)
+    (λ c. search needs)
+    returns)

@@ -1,0 +1,99 @@
+-- The call that selects from an extract, by its stages.
+use mathlib.Core.Bool.{Bool, true, false, cond}
+use mathlib.Core.List.{List, []}
+use mathlib.Core.Path.{_≡_, refl, sym, ap, _∙_}
+use Prim.Native.Nat.{ℕ, zero, suc}
+use borrow.Author.Tests.{eq-eqb, ne-eqb, eqb-true, eqb-false}
+use lib.Dec.{leb, leb→le, eqb}
+use lib.ListN.{length}
+use Rattle.compiled_paths.specs.Columns.{bundleIn}
+use Rattle.compiled_paths.specs.Paths.{pathsIn}
+use Rattle.compiled_paths.specs.declared.CompiledPaths.{CompiledPaths}
+use Rattle.compiled_schema.specs.Compiled.{CompiledOf}
+use Rattle.cut_rows.specs.Cells.{all-cleared}
+use Rattle.host_chosen.specs.Choosing.{UnderSchema}
+use Rattle.host_laws.specs.Stages.{lentOf, chosenUnder, bundle-accepted, select-unequal, select-out, select-refused, select-accepted}
+use Rattle.host_results.specs.Exits.{refusedBy, Exits, RefusedExit, same-exit, refused-exit}
+use Rattle.host_results.specs.declared.HostResult.{HostResult}
+use Rattle.host_texts.specs.Texts.{TextsJudged, texts-accepted, texts-refused}
+use Rattle.host_texts.specs.declared.Texts.{Texts}
+use Rattle.library_spec.specs.Hosts.{bundlePaths, inRange, selectFrom}
+use Rattle.row_columns.specs.ColumnLaws.{equal-columns}
+use Rattle.row_numbers.specs.Cells.{Cleared}
+use Rattle.schema_spec.specs.Reading.{readSchema}
+use Rattle.schema_spec.specs.Records.{schemaIn}
+use Rattle.table_spec.specs.Columns.{Columns, sizesOf, equalSizes, columnsOf}
+use Rattle.text_laws.specs.Tests.{passed}
+use Rattle.text_spec.specs.Limits.{maxPaths}
+use Rattle.text_spec.specs.Refusals.{accepted, at, badRecord}
+
+-- whether a place is in range, by the number of the texts' refusal and the number of paths
+abbrev pub rangeOf : ℕ → ℕ → ℕ → Bool
+rangeOf place number count = cond (eqb number 0) (leb place count) (leb place maxPaths)
+
+pub range-refused : (place number count : ℕ) → (number ≡ 0 → ⊥) → leb place maxPaths ≡ rangeOf place number count
+range-refused place number count n = sym (ap (λ (b : Bool). cond b (leb place count) (leb place maxPaths)) (ne-eqb number 0 n))
+
+pub range-accepted : (place number count : ℕ) → number ≡ 0 → leb place count ≡ rangeOf place number count
+range-accepted place number count e = sym (ap (λ (b : Bool). cond b (leb place count) (leb place maxPaths)) (eq-eqb number 0 e))
+
+-- as many paths as are counted
+paths-long : (axes lows highs ways conditions paths : List ℕ) (n i : ℕ) → length (bundleIn axes lows highs ways conditions paths n i) ≡ n
+unfolding bundleIn
+paths-long axes lows highs ways conditions paths zero i = refl
+paths-long axes lows highs ways conditions paths (suc n) i = ap suc (paths-long axes lows highs ways conditions paths n (suc i))
+
+paths-count : (c : CompiledPaths) → length (pathsIn c) ≡ c .count
+unfolding pathsIn
+paths-count c = paths-long (c .axes) (c .lows) (c .highs) (c .alternatives) (c .conditions) (c .paths) (c .count) 0
+
+pub all-refused : (number place : ℕ) (c d : Columns) (items counts items′ counts′ : List ℕ) (r : HostResult) → d ≡ columnsOf (sizesOf c) [] → Cleared items 0 items′ → Cleared counts 0 counts′
+    → r ≡ refusedBy number place → RefusedExit number place (lentOf c items counts) r d items′ counts′
+all-refused number place c d items counts items′ counts′ r e i m f =
+    record { result = f; columns-are = e; items-are = all-cleared items items′ i; counts-are = all-cleared counts counts′ m }
+
+module _ (schema bundle : List ℕ) (place : ℕ) (t : Texts) (J : TextsJudged schema bundle t) where
+  -- the test of the place is the definition's
+  range-is : rangeOf place (t .told .number) (t .paths .count) ≡ inRange place (bundlePaths schema bundle)
+  range-is = pick (eqb (t .told .number) 0) refl
+    where
+      pick : (b : Bool) → eqb (t .told .number) 0 ≡ b → cond b (leb place (t .paths .count)) (leb place maxPaths) ≡ inRange place (bundlePaths schema bundle)
+      pick true q =
+          ap (leb place) (sym (paths-count (t .paths)))
+          ∙ sym (ap (inRange place) (texts-accepted schema bundle t J (eqb-true (t .told .number) 0 q)))
+      pick false q = sym (ap (inRange place) (texts-refused schema bundle t J (eqb-false (t .told .number) 0 q) .1))
+
+  -- what the later stages ask for
+  pub under-schema : (c : Columns) → equalSizes (sizesOf c) ≡ true → rangeOf place (t .told .number) (t .paths .count) ≡ true → t .told .number ≡ 0 → UnderSchema (t .schema) (t .paths) place c
+  under-schema c equal inside n =
+      record {
+        schema = schema;
+        read = bundle-accepted schema bundle (pathsIn (t .paths)) (texts-accepted schema bundle t J n) .0;
+        made = J .compiled;
+        shaped = J .shaped;
+        inside = leb→le place (t .paths .count) (passed (range-accepted place (t .told .number) (t .paths .count) n ∙ inside));
+        equal = equal-columns c (passed equal);
+      }
+
+module _ (schema bundle : List ℕ) (place : ℕ) (extract : List ℕ) (c : Columns) (items counts : List ℕ) {r : HostResult} {d : Columns} {items′ counts′ : List ℕ} where
+  pub unequal-exit : equalSizes (sizesOf c) ≡ false → RefusedExit 1 0 (lentOf c items counts) r d items′ counts′ → Exits (selectFrom schema bundle place extract (lentOf c items counts)) (lentOf c items counts) r d items′ counts′
+  unequal-exit e h = same-exit (select-unequal schema bundle place extract (lentOf c items counts) e) (refused-exit (at badRecord 0) refl refl h)
+
+  module _ (equal : equalSizes (sizesOf c) ≡ true) (t : Texts) (J : TextsJudged schema bundle t) where
+    pub out-exit : rangeOf place (t .told .number) (t .paths .count) ≡ false → RefusedExit 1 0 (lentOf c items counts) r d items′ counts′ → Exits (selectFrom schema bundle place extract (lentOf c items counts)) (lentOf c items counts) r d items′ counts′
+    out-exit e h = same-exit (select-out schema bundle place extract (lentOf c items counts) equal (sym (range-is schema bundle place t J) ∙ e)) (refused-exit (at badRecord 0) refl refl h)
+
+    module _ (inside : rangeOf place (t .told .number) (t .paths .count) ≡ true) where
+      pub turned-back-exit : (t .told .number ≡ 0 → ⊥) → RefusedExit (t .told .number) (t .told .place) (lentOf c items counts) r d items′ counts′ → Exits (selectFrom schema bundle place extract (lentOf c items counts)) (lentOf c items counts) r d items′ counts′
+      turned-back-exit n h =
+          let f = texts-refused schema bundle t J n in
+          same-exit (select-refused schema bundle place extract (lentOf c items counts) equal (sym (range-is schema bundle place t J) ∙ inside) (f .0) (f .1)) (refused-exit (f .0) (f .2) (f .3) h)
+
+      pub accepted-exit : t .told .number ≡ 0
+          → ((z : List ℕ) → readSchema z ≡ accepted (schemaIn z) → CompiledOf z (schemaIn z) (t .schema)
+          → Exits (chosenUnder (schemaIn z) (pathsIn (t .paths)) place extract (lentOf c items counts)) (lentOf c items counts) r d items′ counts′)
+          → Exits (selectFrom schema bundle place extract (lentOf c items counts)) (lentOf c items counts) r d items′ counts′
+      accepted-exit n h =
+          let both = texts-accepted schema bundle t J n in
+          same-exit (select-accepted schema bundle place extract (lentOf c items counts) equal (sym (range-is schema bundle place t J) ∙ inside) (pathsIn (t .paths)) both)
+          (h schema (bundle-accepted schema bundle (pathsIn (t .paths)) both .0) (J .compiled))

@@ -1,0 +1,131 @@
+// Selecting from an extract by two texts: 1 first (columns of unequal length, a place that the bundle does not have), then the texts in turn, 18
+// last. On refusal every lent cell is 0.
+ghost use mathlib.Core.Path.{_≡_};
+ghost use Rattle.host_laws.specs.Stages.{lentOf};
+ghost use Rattle.host_results.specs.Exits.{Exits, RefusedExit};
+ghost use Rattle.host_selecting.specs.Calls.{rangeOf};
+ghost use Rattle.library_spec.specs.Hosts.{selectFrom};
+ghost use Rattle.row_columns.specs.Columns.{columns};
+use column_sizes::equal_sizes;
+use compiled_paths::CompiledPaths;
+use compiled_schema::CompiledSchema;
+use host_chosen::choose_under;
+use host_results::HostResult;
+use host_texts::judge_texts;
+use names::NameSet;
+use row_numbers::clear_counts_from;
+use row_numbers::clear_from;
+use schema_entries::Entries;
+use verdicts::BAD_RECORD;
+
+// How many paths a bundle can have.
+const MAX_PATHS: usize = 8;
+
+fn refuse(
+    number: u64,
+    place: u64,
+    numbers: &mut [u16],
+    names: &mut [u8],
+    parents: &mut [u16],
+    starts: &mut [u32],
+    lengths: &mut [u16],
+    items: &mut [u16],
+    counts: &mut [u32],
+) -> HostResult
+    ensures { λ r. ⌜ RefusedExit number place (lentOf (columns (now (numbers .entry)) (now (names .entry)) (now (parents .entry)) (now (starts .entry)) (now (lengths .entry))) (now (items .entry)) (now (counts .entry))) r (columns (now (numbers .exit)) (now (names .exit)) (now (parents .exit)) (now (starts .exit)) (now (lengths .exit))) (now (items .exit)) (now (counts .exit)) ⌝ }
+{
+    row_columns::clear(numbers, names, parents, starts, lengths);
+    clear_from(items, 0);
+    clear_counts_from(counts, 0);
+    host_results::refused(number, place)
+}
+
+// Whether the bundle has the place; of a bundle that is refused, whether some bundle has it.
+fn in_range(place: usize, number: u64, count: usize) -> bool
+    ensures { λ r. ⌜ r ≡ rangeOf place number count ⌝ }
+{
+    if number != 0 {
+        return place <= MAX_PATHS;
+    }
+    place <= count
+}
+
+// The texts are compiled once, and the extract is read once for all paths that are asked for.
+pub fn select_from(
+    schema: &[u8],
+    bundle: &[u8],
+    place: usize,
+    extract: &[u8],
+    numbers: &mut [u16],
+    names: &mut [u8],
+    parents: &mut [u16],
+    starts: &mut [u32],
+    lengths: &mut [u16],
+    items: &mut [u16],
+    counts: &mut [u32],
+) -> HostResult
+    ensures { λ r. ⌜ Exits (selectFrom (now (schema .entry)) (now (bundle .entry)) place (now (extract .entry)) (lentOf (columns (now (numbers .entry)) (now (names .entry)) (now (parents .entry)) (now (starts .entry)) (now (lengths .entry))) (now (items .entry)) (now (counts .entry)))) (lentOf (columns (now (numbers .entry)) (now (names .entry)) (now (parents .entry)) (now (starts .entry)) (now (lengths .entry))) (now (items .entry)) (now (counts .entry))) r (columns (now (numbers .exit)) (now (names .exit)) (now (parents .exit)) (now (starts .exit)) (now (lengths .exit))) (now (items .exit)) (now (counts .exit)) ⌝ }
+{
+    if !equal_sizes(
+        numbers.len(),
+        names.len(),
+        parents.len(),
+        starts.len(),
+        lengths.len(),
+    ) {
+        return refuse(
+            BAD_RECORD,
+            0,
+            numbers,
+            names,
+            parents,
+            starts,
+            lengths,
+            items,
+            counts,
+        );
+    }
+    let texts = judge_texts(schema, bundle);
+    let told = texts.told;
+    let compiled: CompiledSchema = texts.schema;
+    let paths: CompiledPaths = texts.paths;
+    if !in_range(place, told.number, paths.count) {
+        return refuse(
+            BAD_RECORD,
+            0,
+            numbers,
+            names,
+            parents,
+            starts,
+            lengths,
+            items,
+            counts,
+        );
+    }
+    if told.number != 0 {
+        return refuse(
+            told.number,
+            told.place,
+            numbers,
+            names,
+            parents,
+            starts,
+            lengths,
+            items,
+            counts,
+        );
+    }
+    choose_under(
+        compiled,
+        paths,
+        place,
+        extract,
+        numbers,
+        names,
+        parents,
+        starts,
+        lengths,
+        items,
+        counts,
+    )
+}

@@ -1,0 +1,4 @@
+pub mod Numbers
+pub mod Firsts
+pub mod Rows
+pub mod Sizes

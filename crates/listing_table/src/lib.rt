@@ -1,0 +1,52 @@
+// What `listing` takes from the columns of a journal's table, of 4,096 rows at most: how many rows the needed names keep, and the first path
+// that selects each row. Scratch is local: a byte or two for each row.
+ghost use mathlib.Core.Path.{_≡_};
+ghost use lib.ListN.{length};
+ghost use Rattle.compiled_paths.specs.Paths.{pathsIn};
+ghost use Rattle.first_paths.specs.Firsts.{FirstPaths};
+ghost use Rattle.kept_rows.specs.Kept.{inSet, keptMarks};
+ghost use Rattle.kept_rows.specs.Joined.{rank};
+ghost use Rattle.listing_table.specs.Tables.{KeptAsked, PathsAsked};
+use compiled_paths::CompiledPaths;
+use first_paths::first_paths;
+use kept_rows::NOT_KEPT;
+use kept_rows::number_kept;
+use names::NameSet;
+
+// How many rows are lent for a journal.
+pub const LISTED_ROWS: usize = 4096;
+
+// How many rows the set keeps.
+pub fn kept_count(set: NameSet, codes: &[u8], parents: &[u16]) -> usize
+    requires { ⌜ KeptAsked (now codes) (now parents) ⌝ }
+    ensures { λ n. ⌜ n ≡ rank (keptMarks (inSet set) (now (codes .entry)) (now (parents .entry))) (length (keptMarks (inSet set) (now (codes .entry)) (now (parents .entry)))) ⌝ }
+{
+    let mut positions = [NOT_KEPT; LISTED_ROWS];
+    let count = parents.len();
+    number_kept(set, codes, parents, &mut positions[..count]) as usize
+}
+
+// The first path that selects each row.
+pub fn note_paths(paths: CompiledPaths, codes: &[u8], parents: &[u16], firsts: &mut [u8])
+    requires { ⌜ PathsAsked paths (now codes) (now parents) (now firsts) ⌝ }
+    ensures { λ _. ⌜ FirstPaths (now (parents .entry)) (now (codes .entry)) (pathsIn paths) (now (firsts .exit)) ⌝ }
+{
+    let count = parents.len();
+    if count == 0 {
+        return;
+    }
+    let mut marks = [0u8; LISTED_ROWS];
+    let mut held = [0u8; LISTED_ROWS];
+    let mut steps = [0u8; LISTED_ROWS];
+    let mut next = [0u8; LISTED_ROWS];
+    first_paths(
+        paths,
+        parents,
+        codes,
+        firsts,
+        &mut marks[..count],
+        &mut held[..count],
+        &mut steps[..count],
+        &mut next[..count],
+    );
+}
