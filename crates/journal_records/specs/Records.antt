@@ -4,13 +4,14 @@ use mathlib.Core.List.{List, []}
 use mathlib.Core.Option.{none, some}
 use mathlib.Core.Path.{_≡_, refl, sym, ap, subst, _∙_}
 use Prim.Native.Nat.{ℕ, _≤_}
-use lib.Dec.{T, eqb, leb, eqb→eq, leb→le}
+use lib.Dec.{T, leb, leb→le}
 use lib.ListN.{length, take}
 use lib.Seq.{length-take-le}
 use Rattle.journal_compiled.specs.Compiled.{CompiledRead}
 use Rattle.journal_judgement.specs.Judging.{outcome}
 use Rattle.library_spec.specs.Calls.{columnsAfter, journalRead}
 use Rattle.library_spec.specs.Records.{schemaHeld, passesSchema}
+use Rattle.row_columns.specs.ColumnLaws.{equal-columns}
 use Rattle.row_columns.specs.Columns.{EqualColumns}
 use Rattle.schema_laws.specs.Records.{record-accepted}
 use Rattle.schema_reader.specs.Records.{passesRecord}
@@ -29,20 +30,6 @@ use Rattle.text_spec.specs.Lists.{sameBytes}
 use Rattle.text_spec.specs.Refusals.{Outcome, accepted, refused, at, badRecord}
 use Rattle.verdicts.specs.Verdicts.{refusedBy, verdict}
 use Rattle.verdicts.specs.declared.Verdict.{Verdict}
-
--- columns of one length
-pub equal-columns : (c : Columns) → T (equalSizes (sizesOf c)) → EqualColumns c
-equal-columns c t =
-    let n = length (c .numbers) in
-    let first = and-cases (eqb (length (c .names)) n) (eqb (length (c .parents)) n && (eqb (length (c .starts)) n && eqb (length (c .lengths)) n)) t in
-    let second = and-cases (eqb (length (c .parents)) n) (eqb (length (c .starts)) n && eqb (length (c .lengths)) n) (first .1) in
-    let third = and-cases (eqb (length (c .starts)) n) (eqb (length (c .lengths)) n) (second .1) in
-    record {
-      of-names = eqb→eq (length (c .names)) n (first .0);
-      of-parents = eqb→eq (length (c .parents)) n (second .0);
-      of-starts = eqb→eq (length (c .starts)) n (third .0);
-      of-lengths = eqb→eq (length (c .lengths)) n (third .1);
-    }
 
 -- the test of two that is decided by the first, or by the second
 pub first-fails : (p q : Bool) → p ≡ false → false ≡ (p && q)

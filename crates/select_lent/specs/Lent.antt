@@ -28,7 +28,7 @@ use Rattle.tables.specs.Handed.{isBeside}
 use Rattle.text_laws.specs.Tests.{never, passed, and-cases}
 use Rattle.text_spec.specs.Calls.{tested, handed}
 use Rattle.text_spec.specs.Lists.{isNone, allOf}
-use Rattle.text_spec.specs.Refusals.{Outcome, refused, at, badRecord}
+use Rattle.text_spec.specs.Refusals.{Outcome, at, badRecord}
 
 -- ---- definitions
 -- refusal 1 of the place and of the table beside its text, and what the paths asked for select

@@ -1,10 +1,9 @@
 -- What the paths asked for select on a well-formed table, from its columns.
-use mathlib.Core.Bool.{cond}
 use mathlib.Core.List.{List}
-use mathlib.Core.Path.{_≡_, refl, sym, ap, subst, _∙_}
+use mathlib.Core.Path.{_≡_, refl, sym, ap, _∙_}
 use Prim.Native.Nat.{ℕ, zero, suc, _-_, _≤_}
 use native.Mathlib.Omega.{arith}
-use lib.Dec.{T, eqb}
+use lib.Dec.{T}
 use lib.ListN.{length, take, replicate, length-map, length-replicate}
 use lib.Seq.{length-take-le}
 use Rattle.asked_paths.specs.Ranges.{pastAsked, asked-order}

@@ -1,14 +1,12 @@
 -- The outcome of selecting as numbers and as what stands in lent cells.
-use mathlib.Core.Bool.{Bool, true, false, cond, _||_}
+use mathlib.Core.Bool.{_||_}
 use mathlib.Core.List.{List, []}
-use mathlib.Core.Path.{_≡_, refl, sym, ap, subst, _∙_}
+use mathlib.Core.Path.{_≡_, _∙_}
 use Prim.Native.Nat.{ℕ, _<_, _≤_}
 use native.Mathlib.Omega.{arith}
 use borrow.Author.Tests.{lt-ltb, le-ltb}
-use lib.Dec.{ltb}
 use lib.ListN.{length}
 use Rattle.library_spec.specs.Selections.{Selections}
-use Rattle.row_numbers.specs.Cells.{Cleared, appended-cleared}
 use Rattle.selected_answers.specs.declared.Selected.{Selected}
 use Rattle.text_spec.specs.Calls.{inRoom, cellsAfter}
 use Rattle.text_spec.specs.Cells.{padded, tooSmall}
@@ -44,10 +42,6 @@ pub record Written (a : Selections) (n m : ℕ) (items counts : List ℕ) : Type
   pub counts-are : counts ≡ padded (length counts) (a .counts)
 
 -- ---- laws
-pub cleared-cells : (was out : List ℕ) → Cleared was 0 out → out ≡ padded (length was) []
-cleared-cells was out c =
-    appended-cleared was was out [] 0 (record { long = refl; count = omega arith; kept = λ k l. refl; cells = λ k l b. absurd (omega arith) }) c
-
 pub refused-as : (f : Refusal) (i n : ℕ) (r : Selected) (items counts : List ℕ) → RefusedBy (numberOf (f .reason)) (f .place) i n r items counts → AnsweredAs (refused f) i n r items counts
 refused-as f i n r items counts h = record { answer = h .answer; items-are = h .items-are; counts-are = h .counts-are }
 

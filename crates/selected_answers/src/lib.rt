@@ -2,8 +2,8 @@
 ghost use lib.ListN.{length};
 ghost use Rattle.library_spec.specs.Selections.{Selections};
 ghost use Rattle.selected_answers.specs.Answers.{RefusedBy, Written, inCells, AnsweredAs};
-use row_numbers::clear_counts_from;
-use row_numbers::clear_from;
+use lent_cells::clear_numbers;
+use lent_cells::clear_places;
 use verdicts::TOO_FEW_CELLS;
 
 // The number of the refusal and its place, or 0 and 0, and how many items and counts are answered.
@@ -18,8 +18,8 @@ pub struct Selected {
 pub fn refused(number: u64, place: u64, items: &mut [u16], counts: &mut [u32]) -> Selected
     ensures { λ r. ⌜ RefusedBy number place (length (now (items .entry))) (length (now (counts .entry))) r (now (items .exit)) (now (counts .exit)) ⌝ }
 {
-    clear_from(items, 0);
-    clear_counts_from(counts, 0);
+    clear_numbers(items, 0);
+    clear_places(counts, 0);
     Selected {
         number,
         place,

@@ -1,7 +1,5 @@
 -- `past_asked` meets its contract: all paths, or one.
 use Rattle.asked_paths.specs.Ranges.{past-all, past-one}
-use native.Mathlib.Omega.{arith}
-use borrow.Author.Needs.{needs}
 use Rattle.asked_paths.proofs.past_asked.Statement.{statement}
 use Rattle.asked_paths.proofs.past_asked.Tie as tie
 

@@ -1,7 +1,7 @@
 -- `read_within` is safe and ends.
 use mathlib.Core.Path.{sym, _∙_}
 use borrow.Author.Tests.{not-false}
-use Rattle.journal_records.specs.Records.{equal-columns}
+use Rattle.row_columns.specs.ColumnLaws.{equal-columns}
 use Rattle.text_laws.specs.Tests.{passed}
 use borrow.Author.Needs.{needs}
 use Rattle.journal_cases.proofs.read_within.Statement.{statement}

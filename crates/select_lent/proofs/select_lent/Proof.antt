@@ -3,7 +3,6 @@ use mathlib.Core.Path.{sym}
 use borrow.Author.Tests.{not-true, not-false}
 use lib.Seq.{length-take-le}
 use Rattle.select_lent.specs.Lent.{beside-inside, beside-columns, no-place, no-table, table-selected}
-use native.Mathlib.Omega.{arith}
 use borrow.Author.Needs.{needs}
 use Rattle.select_lent.proofs.select_lent.Statement.{statement}
 use Rattle.select_lent.proofs.select_lent.Tie as tie

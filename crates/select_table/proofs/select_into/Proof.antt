@@ -2,7 +2,6 @@
 use Rattle.asked_paths.specs.Ranges.{asked-order}
 use Rattle.select_table.specs.Tables.{asked-pass, asked-answered}
 use mathlib.Core.Path.{_∙_}
-use native.Mathlib.Omega.{arith}
 use borrow.Author.Needs.{needs}
 use Rattle.select_table.proofs.select_into.Statement.{statement}
 use Rattle.select_table.proofs.select_into.Tie as tie

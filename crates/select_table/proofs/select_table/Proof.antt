@@ -1,6 +1,5 @@
 -- `select_table` meets its contract: scratch of as many cells as the table has rows.
 use Rattle.select_table.specs.Tables.{scratch-long, with-scratch}
-use native.Mathlib.Omega.{arith}
 use borrow.Author.Needs.{needs}
 use Rattle.select_table.proofs.select_table.Statement.{statement}
 use Rattle.select_table.proofs.select_table.Tie as tie

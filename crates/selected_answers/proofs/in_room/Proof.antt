@@ -1,7 +1,6 @@
 -- `in_room` meets its contract: 18 by the items, by the counts, or the answer.
 use mathlib.Core.Path.{refl}
 use Rattle.selected_answers.specs.Answers.{short-items, short-counts, all-answered}
-use native.Mathlib.Omega.{arith}
 use borrow.Author.Needs.{needs}
 use Rattle.selected_answers.proofs.in_room.Statement.{statement}
 use Rattle.selected_answers.proofs.in_room.Tie as tie

@@ -1,7 +1,6 @@
 -- `refused` meets its contract: both outputs are cleared.
 use mathlib.Core.Path.{refl}
-use Rattle.selected_answers.specs.Answers.{cleared-cells}
-use native.Mathlib.Omega.{arith}
+use Rattle.lent_cells.specs.Cells.{all-cleared}
 use borrow.Author.Needs.{needs}
 use Rattle.selected_answers.proofs.refused.Statement.{statement}
 use Rattle.selected_answers.proofs.refused.Tie as tie
@@ -10,8 +9,8 @@ returns : tie.Need-returns
 returns c =
     record {
       answer = refl;
-      items-are = cleared-cells _ _ (c .before .before .before .before .before .before .clear-from .ensures);
-      counts-are = cleared-cells _ _ (c .before .before .clear-counts-from .ensures);
+      items-are = all-cleared _ _ (c .before .before .before .before .before .before .clear-numbers .ensures);
+      counts-are = all-cleared _ _ (c .before .before .clear-places .ensures);
     }
 
 pub refused-spec : {M : Type 1} → statement M
