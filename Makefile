@@ -41,10 +41,15 @@ install: all
 	    install -m 755 $(LISTING) $(DESTDIR)$(PREFIX)/bin/listing && install -m 644 man/listing.1 $(DESTDIR)$(PREFIX)/share/man/man1; \
 	fi
 
+# the main job on the example tray
+example: all
+	$(BUILD)/lozhymet extract examples/tray/schema.dtd examples/tray/paths.txt examples/tray/journal.xml -o $(BUILD)/tray.extract
+	$(BUILD)/lozhymet select examples/tray/schema.dtd examples/tray/paths.txt $(BUILD)/tray.extract
+
 check:
 	tests/run
 
 clean:
 	rm -rf $(BUILD)
 
-.PHONY: all install check clean FORCE
+.PHONY: all install example check clean FORCE
