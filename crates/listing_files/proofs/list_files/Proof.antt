@@ -1,0 +1,141 @@
+-- `list_files` meets its contract: the two texts, the journal, its rows.
+use mathlib.Core.Path.{sym, _∙_}
+use lib.Seq.{take-at}
+use Rattle.listing_files.specs.FileLaws.{texts-refused-lists, journal-refused-lists, rows-rooms, firsts-room, rows-asked, rows-list, taken-size}
+use borrow.Author.Needs.{needs}
+use native.Mathlib.Omega.{arith}
+use Rattle.listing_files.proofs.list_files.Statement.{statement}
+use Rattle.listing_files.proofs.list_files.Tie as tie
+
+-- the states that answers go back to
+abbrev start-before : tie.After-judge-texts → tie.Start
+start-before c = c .before .before .before .before .before .before .before .before .before .before
+
+abbrev texts-before : tie.Else1 → tie.After-judge-texts
+texts-before c = c .before .before .before
+
+abbrev accepted-before : tie.After-read-compiled → tie.Else1
+accepted-before c = c .before .before .before .before .before .before .before
+
+abbrev read-before : tie.Then2 → tie.After-read-compiled
+read-before c = c .before .before .before .before .before .before .before .before .before .before .before .before
+
+abbrev read-before-2 : tie.Else2 → tie.After-read-compiled
+read-before-2 c = c .before .before .before .before .before .before .before .before .before .before .before .before
+
+returns : tie.Need-returns
+returns c =
+    let judge = c .before .before .before .before in
+    texts-refused-lists _ _ _ _ (judge .judge-texts .ensures) _ _ _ _ _ (c .before .if1 .taken) (c .refused .ensures)
+
+read-compiled-requires : tie.Need-read-compiled-requires
+read-compiled-requires c κs =
+    let judge = texts-before (c .before .before .before .before .before .before) in
+    (judge .judge-texts .ensures .compiled, omega arith, (start-before judge) .pre .equal)
+
+returns-2 : tie.Need-returns-2
+returns-2 c =
+    let read = read-before (c .before) in
+    let accepted = accepted-before read in
+    let judge = texts-before accepted in
+    journal-refused-lists _ _ _ _ (judge .judge-texts .ensures) (accepted .if1 .left) _ _ _ ((start-before judge) .pre) _ (read .read-compiled .ensures) _ (c .before .if2 .taken) (c .refused2 .ensures)
+
+slice-reshare-prefix-list-rows : tie.Need-slice-reshare-prefix-list-rows
+slice-reshare-prefix-list-rows c =
+    let else2 = c .before in
+    let read = read-before-2 else2 in
+    let accepted = accepted-before read in
+    let judge = texts-before accepted in
+    rows-rooms _ _ _ _ (judge .judge-texts .ensures) (accepted .if1 .left) _ _ _ ((start-before judge) .pre) _ (read .read-compiled .ensures) (else2 .if2 .left) .names
+
+slice-aggregate-list-rows : tie.Need-slice-aggregate-list-rows
+slice-aggregate-list-rows c =
+    let else2 = c .before .before in
+    let read = read-before-2 else2 in
+    let accepted = accepted-before read in
+    let judge = texts-before accepted in
+    taken-size _ _ (rows-rooms _ _ _ _ (judge .judge-texts .ensures) (accepted .if1 .left) _ _ _ ((start-before judge) .pre) _ (read .read-compiled .ensures) (else2 .if2 .left) .names)
+
+slice-reshare-prefix-list-rows-2 : tie.Need-slice-reshare-prefix-list-rows-2
+slice-reshare-prefix-list-rows-2 c =
+    let else2 = c .before .before in
+    let read = read-before-2 else2 in
+    let accepted = accepted-before read in
+    let judge = texts-before accepted in
+    rows-rooms _ _ _ _ (judge .judge-texts .ensures) (accepted .if1 .left) _ _ _ ((start-before judge) .pre) _ (read .read-compiled .ensures) (else2 .if2 .left) .parents
+
+slice-aggregate-list-rows-2 : tie.Need-slice-aggregate-list-rows-2
+slice-aggregate-list-rows-2 c =
+    let else2 = c .before .before .before in
+    let read = read-before-2 else2 in
+    let accepted = accepted-before read in
+    let judge = texts-before accepted in
+    taken-size _ _ (rows-rooms _ _ _ _ (judge .judge-texts .ensures) (accepted .if1 .left) _ _ _ ((start-before judge) .pre) _ (read .read-compiled .ensures) (else2 .if2 .left) .parents)
+
+slice-relend-prefix-list-rows : tie.Need-slice-relend-prefix-list-rows
+slice-relend-prefix-list-rows c =
+    let else2 = c .before .before .before in
+    let read = read-before-2 else2 in
+    let accepted = accepted-before read in
+    let judge = texts-before accepted in
+    firsts-room _ _ _ _ (judge .judge-texts .ensures) (accepted .if1 .left) _ _ _ ((start-before judge) .pre) _ (read .read-compiled .ensures) (else2 .if2 .left)
+
+slice-aggregate-list-rows-3 : tie.Need-slice-aggregate-list-rows-3
+slice-aggregate-list-rows-3 c =
+    let else2 = c .before .before .before .before in
+    let read = read-before-2 else2 in
+    let accepted = accepted-before read in
+    let judge = texts-before accepted in
+    taken-size _ _ (firsts-room _ _ _ _ (judge .judge-texts .ensures) (accepted .if1 .left) _ _ _ ((start-before judge) .pre) _ (read .read-compiled .ensures) (else2 .if2 .left))
+
+list-rows-requires : tie.Need-list-rows-requires
+list-rows-requires c κs =
+    let else2 = c .before .before .before .before in
+    let read = read-before-2 else2 in
+    let accepted = accepted-before read in
+    let judge = texts-before accepted in
+    let lent = (start-before judge) .pre in
+    let room = firsts-room _ _ _ _ (judge .judge-texts .ensures) (accepted .if1 .left) _ _ _ lent _ (read .read-compiled .ensures) (else2 .if2 .left) in
+    rows-asked _ _ _ _ (judge .judge-texts .ensures) (accepted .if1 .left) _ _ _ lent _ (read .read-compiled .ensures) (else2 .if2 .left) _ (sym (taken-size _ _ room))
+
+returns-3 : tie.Need-returns-3
+returns-3 c =
+    let rows = c .before .before in
+    let else2 = rows .before .before .before .before .before in
+    let read = read-before-2 else2 in
+    let accepted = accepted-before read in
+    let judge = texts-before accepted in
+    let lent = (start-before judge) .pre in
+    let room = rows-rooms _ _ _ _ (judge .judge-texts .ensures) (accepted .if1 .left) _ _ _ lent _ (read .read-compiled .ensures) (else2 .if2 .left) .parents in
+    rows-list _ _ _ _ (judge .judge-texts .ensures) (accepted .if1 .left) _ _ _ lent _ (read .read-compiled .ensures) (else2 .if2 .left) _ _ (rows .list-rows .ensures) _
+    (take-at _ _ _ (rows .list-rows .ensures .noted .long ∙ sym (taken-size _ _ room)))
+
+pub list-files-spec : {M : Type 1} → statement M
+list-files-spec =
+    tie.close
+    (tie.spec
+    (λ c κs. search needs)
+    (λ c κs. search needs)
+    returns
+    read-compiled-requires
+    (λ c κs. search needs)
+    (λ c. search needs)
+    (λ c. search needs)
+    (λ c. search needs)
+    (λ c. search needs)
+    (λ c. search needs)
+    returns-2
+    slice-reshare-prefix-list-rows
+    slice-aggregate-list-rows
+    slice-reshare-prefix-list-rows-2
+    slice-aggregate-list-rows-2
+    slice-relend-prefix-list-rows
+    slice-aggregate-list-rows-3
+    list-rows-requires
+    (λ c. search needs)
+    (λ c. search needs)
+    (λ c. search needs)
+    (λ c. search needs)
+    (λ c. search needs)
+    (λ c. search needs)
+    returns-3)

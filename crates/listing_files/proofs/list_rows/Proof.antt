@@ -1,0 +1,61 @@
+-- `list_rows` meets its contract: the needed names, the rows kept, the first paths, the names.
+use mathlib.Core.Path.{refl, sym, _∙_}
+use Rattle.listing_files.specs.Files.{names-all}
+use Rattle.schema_relations.specs.Compiled.{compiled-few}
+use borrow.Author.Needs.{needs}
+use native.Mathlib.Omega.{arith}
+use Rattle.listing_files.proofs.list_rows.Statement.{statement}
+use Rattle.listing_files.proofs.list_rows.Tie as tie
+
+needed-set-requires : tie.Need-needed-set-requires
+needed-set-requires c κs =
+    let start = c .before .before .before .before .before .before .before .before in
+    (start .pre .shaped, compiled-few _ _ (start .pre .compiled))
+
+kept-count-requires : tie.Need-kept-count-requires
+kept-count-requires c κs =
+    let start = c .before .before .before .before .before .before .before .before .before in
+    record { columns = start .pre .kept; listed = start .pre .listed }
+
+note-paths-requires : tie.Need-note-paths-requires
+note-paths-requires c κs =
+    let start = c .before .before .before .before .before .before .before .before .before .before .before in
+    record { shaped = start .pre .shaped; columns = start .pre .columns; cells = start .pre .cells; listed = start .pre .listed }
+
+slice-aggregate-name-sizes : tie.Need-slice-aggregate-name-sizes
+slice-aggregate-name-sizes c = sym (names-all _ _ (c .before .before .before .before .before .before .before .before .before .before .before .before .before .before .before .before .before .pre .compiled))
+
+name-sizes-requires : tie.Need-name-sizes-requires
+name-sizes-requires c κs = names-all _ _ (c .before .before .before .before .before .before .before .before .before .before .before .before .before .before .before .before .before .before .pre .compiled)
+
+returns : tie.Need-returns
+returns c =
+    let counted = c .before .before .before .before in
+    let noted = counted .before .before .before .before in
+    let kept = noted .before .before in
+    let found = kept .before in
+    record {
+      accepted = refl;
+      rows-are = refl;
+      selected-is = counted .selected-count .ensures;
+      set = found .needed-set .result;
+      set-needed = found .needed-set .ensures;
+      kept-is = kept .kept-count .ensures;
+      noted = noted .note-paths .ensures;
+      names-are = refl;
+      sizes-are = c .before .name-sizes .ensures;
+    }
+
+pub list-rows-spec : {M : Type 1} → statement M
+list-rows-spec =
+    tie.close
+    (tie.spec
+    needed-set-requires
+    kept-count-requires
+    note-paths-requires
+    (λ c κs. search needs)
+    slice-aggregate-name-sizes
+    (λ c. search needs)
+    name-sizes-requires
+    (λ c. search needs)
+    returns)

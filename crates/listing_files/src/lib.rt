@@ -1,0 +1,126 @@
+// The three files of a listing, read once: what is refused, or what the header and the lines are made of.
+ghost use mathlib.Core.Path.{_≡_};
+ghost use Rattle.listing_files.specs.Files.{refusedBy, RowsAsked, ListedRows, FilesLent, ListsAs};
+ghost use Rattle.row_columns.specs.Columns.{columns};
+use compiled_paths::CompiledPaths;
+use compiled_schema::CompiledSchema;
+use first_paths::selected_count;
+use host_texts::judge_texts;
+use journal_compiled::read_compiled;
+use listing_table::kept_count;
+use listing_table::note_paths;
+use names::MAX_ELEMENTS;
+use names::NameSet;
+use needed_names::needed_set;
+use row_chains::name_sizes;
+use schema_entries::Entries;
+
+// How many bytes of a journal are read.
+pub const LISTED_BYTES: usize = 32768;
+
+pub struct Listed {
+    // the refusal's number and place, 0 and 0 for none
+    pub number: u64,
+    pub place: u64,
+    pub selected: usize,
+    pub kept: usize,
+    pub rows: usize,
+    // where the elements' names stand in the schema, and how long they are
+    pub names: [usize; MAX_ELEMENTS],
+    pub sizes: [usize; MAX_ELEMENTS],
+}
+
+fn refused(number: u64, place: u64) -> Listed
+    ensures { λ r. ⌜ r ≡ refusedBy number place ⌝ }
+{
+    Listed {
+        number,
+        place,
+        selected: 0,
+        kept: 0,
+        rows: 0,
+        names: [0; MAX_ELEMENTS],
+        sizes: [0; MAX_ELEMENTS],
+    }
+}
+
+// What is listed of the rows of a journal.
+fn list_rows(
+    schema: &[u8],
+    compiled: CompiledSchema,
+    paths: CompiledPaths,
+    codes: &[u8],
+    parents: &[u16],
+    firsts: &mut [u8],
+) -> Listed
+    requires { ⌜ RowsAsked (now schema) compiled paths (now codes) (now parents) (now firsts) ⌝ }
+    ensures { λ r. ⌜ ListedRows (now (schema .entry)) compiled paths (now (codes .entry)) (now (parents .entry)) (now (firsts .exit)) r ⌝ }
+{
+    let entries: Entries = compiled.entries;
+    let holds: [NameSet; MAX_ELEMENTS] = entries.holds;
+    let below: [NameSet; MAX_ELEMENTS] = compiled.below;
+    let names = compiled.names;
+    let set = needed_set(compiled.count, holds, below, paths);
+    let kept = kept_count(set, codes, parents);
+    note_paths(paths, codes, parents, firsts);
+    let selected = selected_count(&firsts[..]);
+    let mut sizes = [0usize; MAX_ELEMENTS];
+    name_sizes(schema, &names, &mut sizes);
+    Listed {
+        number: 0,
+        place: 0,
+        selected,
+        kept,
+        rows: parents.len(),
+        names,
+        sizes,
+    }
+}
+
+// Judges the files in turn, the first that is refused alone; the rows of the journal go to the columns, and the first path that selects each
+// row to `firsts`.
+pub fn list_files(
+    schema: &[u8],
+    bundle: &[u8],
+    journal: &[u8],
+    numbers: &mut [u16],
+    codes: &mut [u8],
+    parents: &mut [u16],
+    starts: &mut [u32],
+    lengths: &mut [u16],
+    firsts: &mut [u8],
+) -> Listed
+    requires { ⌜ FilesLent (columns (now numbers) (now codes) (now parents) (now starts) (now lengths)) (now firsts) ⌝ }
+    ensures { λ r. ⌜ ListsAs (now (schema .entry)) (now (bundle .entry)) (now (journal .entry)) (now (numbers .exit)) (now (codes .exit)) (now (parents .exit)) (now (firsts .exit)) r ⌝ }
+{
+    let texts = judge_texts(schema, bundle);
+    let told = texts.told;
+    if told.number != 0 {
+        return refused(told.number, told.place);
+    }
+    let compiled = texts.schema;
+    let verdict = read_compiled(
+        schema,
+        compiled,
+        journal,
+        LISTED_BYTES,
+        numbers,
+        codes,
+        parents,
+        starts,
+        lengths,
+    );
+    if verdict.number != 0 {
+        return refused(verdict.number, verdict.place);
+    }
+    let rows = verdict.size;
+    let paths = texts.paths;
+    list_rows(
+        schema,
+        compiled,
+        paths,
+        &codes[..rows],
+        &parents[..rows],
+        &mut firsts[..rows],
+    )
+}
