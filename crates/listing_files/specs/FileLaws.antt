@@ -1,11 +1,11 @@
 -- That what is made of three files, printed, is the definition's listing: by the texts, by the journal, by its rows.
-use mathlib.Core.Bool.{Bool, cond}
+use mathlib.Core.Bool.{Bool, false, cond}
 use mathlib.Core.List.{List, [], _++_, map}
 use mathlib.Core.Path.{_≡_, refl, sym, ap, ap₂, subst, _∙_}
 use Prim.Native.Nat.{ℕ, _≤_, _<_}
 use native.Mathlib.Omega.{arith}
 use borrow.Author.Tests.{eq-eqb, ne-eqb, le-ltb}
-use lib.Dec.{T}
+use lib.Dec.{T, eqb}
 use lib.ListN.{length, take, length-map}
 use lib.Seq.{length-take-le}
 use Rattle.compiled_paths.specs.Paths.{pathsIn}
@@ -62,6 +62,10 @@ use Rattle.verdicts.specs.declared.Verdict.{Verdict}
 use Rattle.written_tables.specs.Asked.{well-formed-alone, kept-columns}
 use Rattle.written_tables.specs.Known.{rows-coded, set-passes}
 
+-- what a test that fails gives
+by-failure : {A : Type 0} (b : Bool) (x y : A) → b ≡ false → y ≡ cond b x y
+by-failure b x y e = sym (ap (λ (t : Bool). cond t x y) e)
+
 module _ (schema bundle journal : List ℕ) where
   -- ---- a refusal is the only line
   refused-lists : (numbers codes ps firsts : List ℕ) (number place : ℕ) (r : Listed) → (number ≡ 0 → ⊥) → listing schema bundle journal ≡ refusal number place → r ≡ refusedBy number place
@@ -70,7 +74,7 @@ module _ (schema bundle journal : List ℕ) where
   refused-lists numbers codes ps firsts number place r d e q =
       subst (ListsAs schema bundle journal numbers codes ps firsts) (sym q)
       (record {
-        whole = e ∙ sym (ap (λ (b : Bool). cond b (header 0 0 0 ++ rowLines (rowLine [] [] (λ k. chainAt schema (refusedBy number place .names) (refusedBy number place .sizes) [] [] k)) 0 0) (refusal number place)) (ne-eqb number 0 d));
+        whole = e ∙ by-failure (eqb number 0) _ (refusal number place) (ne-eqb number 0 d);
         fits = λ n. absurd (d n);
       })
 
