@@ -1,5 +1,5 @@
-# The static library for C and the command `lozhymet`. `make` proves and builds the library (rt) and compiles the command (gcc); the first run takes
-# as long as the proofs. `make install PREFIX=/usr/local` puts them in place, `make check` runs the tests.
+# The static library for C, the command `lozhymet` and the program `listing`. `make` proves and builds the library and the program (rt) and compiles the
+# command (gcc); the first run takes as long as the proofs. `make install PREFIX=/usr/local` puts them in place, `make check` runs the tests.
 PREFIX ?= /usr/local
 VERSION = 0.1.0
 CC = gcc
@@ -7,7 +7,7 @@ CFLAGS ?= -O2 -g
 WARNINGS = -std=c11 -pedantic -Wall -Wextra -Wconversion -Werror
 
 PROVED = target/staticlib/liblibrary.a
-# the program of that name, installed where it was built (rt check listing)
+# the program of that name
 LISTING = target/bin/listing
 # another archive with the same two functions, for tests
 LOZHYMET_LIB ?= $(PROVED)
@@ -15,10 +15,13 @@ BUILD ?= target/c
 SOURCES = $(wildcard command/*.c)
 HEADERS = $(wildcard command/*.h) include/lozhymet.h
 
-all: $(BUILD)/lozhymet $(BUILD)/lozhymet.pc
+all: $(BUILD)/lozhymet $(BUILD)/lozhymet.pc $(LISTING)
 
 $(PROVED): FORCE
 	rt staticlib library
+
+$(LISTING): FORCE
+	rt check listing
 
 $(BUILD)/lozhymet: $(SOURCES) $(HEADERS) $(LOZHYMET_LIB)
 	mkdir -p $(BUILD)
@@ -35,11 +38,9 @@ install: all
 	install -m 644 $(LOZHYMET_LIB) $(DESTDIR)$(PREFIX)/lib/liblozhymet.a
 	install -m 644 include/lozhymet.h $(DESTDIR)$(PREFIX)/include/lozhymet.h
 	install -m 644 $(BUILD)/lozhymet.pc $(DESTDIR)$(PREFIX)/lib/pkgconfig/lozhymet.pc
-	install -m 644 man/lozhymet.1 $(DESTDIR)$(PREFIX)/share/man/man1
+	install -m 644 man/lozhymet.1 man/listing.1 $(DESTDIR)$(PREFIX)/share/man/man1
 	install -m 644 man/lozhymet.3 man/host_make_extract.3 man/host_select.3 $(DESTDIR)$(PREFIX)/share/man/man3
-	if [ -e $(LISTING) ]; then \
-	    install -m 755 $(LISTING) $(DESTDIR)$(PREFIX)/bin/listing && install -m 644 man/listing.1 $(DESTDIR)$(PREFIX)/share/man/man1; \
-	fi
+	install -m 755 $(LISTING) $(DESTDIR)$(PREFIX)/bin/listing
 
 # the main job on the example tray
 example: all
