@@ -12,14 +12,13 @@ use fault_keys::OVER_NODE_LIMIT;
 use fault_keys::PLACE_LIMIT;
 use fault_keys::UNDECLARED_ELEMENT;
 use fault_keys::noted;
+use limits::MAX_NODES;
 use names::MAX_ELEMENTS;
 use row_columns::ROW_LIMIT;
 use row_columns::RowCells;
 
-// The most nodes that a journal may have, and the most bytes of a text.
-pub const MAX_NODES: usize = 65535;
-
-pub const MAX_TEXT_BYTES: u32 = 4096;
+// A text's length is counted in 32 bits.
+pub const MAX_TEXT_BYTES: u32 = limits::MAX_TEXT_BYTES as u32;
 
 // Keys from here on are those of 14 to 16. Below it nesting is broken, and nothing more is judged.
 const JUDGED_FROM: u64 = UNDECLARED_ELEMENT * PLACE_LIMIT;

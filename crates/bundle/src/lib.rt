@@ -16,7 +16,7 @@ use compiled_paths::PATH_STARTS;
 use compiled_paths::STEPS;
 use compiled_paths::WRITTEN_STEPS;
 
-pub const MAX_BYTES: usize = 4104;
+pub const MAX_BYTES: usize = limits::MAX_BUNDLE_BYTES;
 
 // The steps in brackets.
 const INNER_STEPS: usize = STEPS - WRITTEN_STEPS;

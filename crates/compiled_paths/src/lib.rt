@@ -2,18 +2,39 @@
 ghost use mathlib.Core.List.{[]};
 ghost use mathlib.Core.Path.{_≡_};
 ghost use Rattle.compiled_paths.specs.Paths.{pathsIn, Shaped};
+use limits::MAX_PATH_BYTES;
+use limits::MAX_PATHS;
+use limits::MAX_STEPS;
 
-// The steps outside brackets, and all steps.
-pub const WRITTEN_STEPS: usize = 128;
+// The axes by their numbers, in the order of document 01.
+pub const SELF: u8 = 0;
 
-pub const STEPS: usize = 640;
+pub const CHILD: u8 = 1;
+
+pub const DESCENDANT: u8 = 2;
+
+pub const DESCENDANT_OR_SELF: u8 = 3;
+
+pub const PARENT: u8 = 4;
+
+pub const ANCESTOR: u8 = 5;
+
+pub const ANCESTOR_OR_SELF: u8 = 6;
+
+// The fewest bytes that a step in brackets takes, with the byte before it.
+pub const STEP_BYTES: usize = 8;
+
+// The steps outside brackets, and all steps: one in brackets takes at least eight bytes of its path.
+pub const WRITTEN_STEPS: usize = MAX_PATHS * MAX_STEPS;
+
+pub const STEPS: usize = WRITTEN_STEPS + MAX_PATHS * MAX_PATH_BYTES / STEP_BYTES;
 
 // A start for each path, condition or alternative, and one past the last.
-pub const PATH_STARTS: usize = 9;
+pub const PATH_STARTS: usize = MAX_PATHS + 1;
 
-pub const CONDITION_STARTS: usize = 129;
+pub const CONDITION_STARTS: usize = WRITTEN_STEPS + 1;
 
-pub const ALTERNATIVE_STARTS: usize = 513;
+pub const ALTERNATIVE_STARTS: usize = STEPS - WRITTEN_STEPS + 1;
 
 // Each range starts at its cell and ends where the next one starts.
 pub struct CompiledPaths {

@@ -4,9 +4,8 @@ ghost use Prim.Native.Nat.{_<_, _≤_};
 ghost use lib.ListN.{set};
 ghost use Rattle.extract_levels.specs.Levels.{levelWord, rowIn, numberIn, elementIn, LevelOf};
 ghost use Rattle.text_spec.specs.Limits.{maxDepth};
+use limits::MAX_DEPTH;
 
-// How deep elements may be nested.
-pub const MAX_DEPTH: usize = 64;
 // Rows and numbers are below it.
 const SPAN: u64 = 65536;
 

@@ -4,12 +4,12 @@ ghost use Rattle.extract_reader.specs.Whole.{Begun, RowsRead};
 ghost use Rattle.extract_steps.specs.Reads.{Hold};
 ghost use Rattle.row_columns.specs.Columns.{columns, EqualColumns};
 ghost use Rattle.table_spec.specs.Columns.{sizesOf};
-use extract_levels::MAX_DEPTH;
 use extract_steps::Progress;
 use extract_steps::read_row;
 use field_reader::First;
 use field_reader::first_field;
 use field_values::Carried;
+use limits::MAX_DEPTH;
 use names::MAX_ELEMENTS;
 
 // Whether the whole extract was read, and how many rows it has.

@@ -3,11 +3,11 @@ ghost use mathlib.Core.Path.{_≡_};
 ghost use Rattle.extract_steps.specs.Reads.{Reads, ReadOn};
 ghost use Rattle.field_rows.specs.Steps.{rowCells};
 ghost use Rattle.row_columns.specs.Columns.{columns, EqualColumns, withRow};
-use extract_levels::MAX_DEPTH;
 use field_rows::FieldRow;
 use field_rows::FieldStep;
 use field_rows::step;
 use field_values::Carried;
+use limits::MAX_DEPTH;
 use names::MAX_ELEMENTS;
 
 // Where reading stands: whether it goes on, whether the whole extract was read, and what is carried.

@@ -13,8 +13,8 @@ use extract_fields::COUNT_BYTES;
 use extract_fields::put_count;
 use extract_rows::measure;
 use extract_rows::write_fields;
-use kept_rows::MAX_ROWS;
 use kept_rows::mark_kept;
+use limits::MAX_NODES;
 use names::NameSet;
 use table_cutting::clear_bytes;
 
@@ -57,7 +57,7 @@ pub fn write_table(
     requires { ⌜ TextColumns (now text) (table (now numbers) (now names) (now parents) (now starts) (now lengths)) (length (now numbers)) ⌝ }
     ensures { λ n. ⌜ AnsweredIn (now (out .entry)) (extractIn (now (text .entry)) (table (now (numbers .entry)) (now (names .entry)) (now (parents .entry)) (now (starts .entry)) (now (lengths .entry))) (marks (length (now (numbers .entry))) (λ r. true))) n (now (out .exit)) ⌝ }
 {
-    let every = [MARKED; MAX_ROWS];
+    let every = [MARKED; MAX_NODES];
     let count = numbers.len();
     write_marked(
         text,
@@ -113,7 +113,7 @@ pub fn write_kept(
     requires { ⌜ TextColumns (now text) (table (now numbers) (now names) (now parents) (now starts) (now lengths)) (length (now numbers)) × KeptColumns (now names) (now parents) ⌝ }
     ensures { λ n. ⌜ AnsweredIn (now (out .entry)) (extractIn (now (text .entry)) (table (now (numbers .entry)) (now (names .entry)) (now (parents .entry)) (now (starts .entry)) (now (lengths .entry))) (keptMarks (inSet set) (now (names .entry)) (now (parents .entry)))) n (now (out .exit)) ⌝ }
 {
-    let mut kept = [UNMARKED; MAX_ROWS];
+    let mut kept = [UNMARKED; MAX_NODES];
     let count = numbers.len();
     write_kept_into(
         set,

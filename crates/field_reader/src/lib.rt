@@ -4,7 +4,9 @@ ghost use Prim.Native.Nat.{_+_, _≤_};
 ghost use lib.ListN.{length};
 ghost use Rattle.extract_passes.specs.Steps.{hasField};
 ghost use Rattle.field_reader.specs.Fields.{CountPass, CountAs, FieldPass, FieldAs, FirstAs};
-use extract_levels::MAX_DEPTH;
+use extract_fields::COUNT_TAG;
+use extract_fields::ELEMENT_TAG;
+use extract_fields::TEXT_TAG;
 use field_tests::two_bytes;
 use field_values::Carried;
 use field_values::FieldRead;
@@ -12,14 +14,8 @@ use field_values::element_field;
 use field_values::is_count;
 use field_values::is_root;
 use field_values::text_field;
+use limits::MAX_DEPTH;
 use names::MAX_ELEMENTS;
-
-// The tags of the three fields.
-const ELEMENT: u8 = 1;
-
-const TEXT: u8 = 2;
-
-const COUNT: u8 = 3;
 
 // What the first field says.
 pub enum First {
@@ -67,9 +63,9 @@ pub fn read_field(
     }
     let size = two_bytes(extract, at + 1);
     match extract[at] {
-        ELEMENT => element_field(extract, words, levels, carried, size),
-        TEXT => text_field(extract, words, levels, carried, size),
-        COUNT => count_field(extract, carried, size),
+        ELEMENT_TAG => element_field(extract, words, levels, carried, size),
+        TEXT_TAG => text_field(extract, words, levels, carried, size),
+        COUNT_TAG => count_field(extract, carried, size),
         _ => FieldRead::Wrong,
     }
 }
@@ -83,13 +79,13 @@ pub fn first_field(extract: &[u8]) -> First
     }
     let size = two_bytes(extract, 1);
     let tag = extract[0];
-    if tag == ELEMENT {
+    if tag == ELEMENT_TAG {
         if is_root(extract, size) {
             return First::Root;
         }
         return First::Wrong;
     }
-    if tag == COUNT {
+    if tag == COUNT_TAG {
         if is_count(extract, 0, 0, size) {
             return First::Ended;
         }

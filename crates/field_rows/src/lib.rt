@@ -3,13 +3,13 @@ ghost use mathlib.Core.Path.{_≡_};
 ghost use lib.ListN.{set};
 ghost use Rattle.extract_levels.specs.Levels.{levelWord};
 ghost use Rattle.field_rows.specs.Steps.{ElementPlace, TextPlace, elementStep, textStep, Ready, StepAs};
-use extract_levels::MAX_DEPTH;
 use extract_levels::element_of;
 use extract_levels::open;
 use extract_levels::row_of;
 use field_reader::read_field;
 use field_values::Carried;
 use field_values::FieldRead;
+use limits::MAX_DEPTH;
 use names::MAX_ELEMENTS;
 
 // The cells of a row: its number, the code of its name, its parent's row, the start and the length of its text.

@@ -8,13 +8,11 @@ ghost use Rattle.extract_spec.specs.Reading.{inTwo};
 ghost use Rattle.field_tests.specs.Tests.{heldBy, LevelPass, elementUnder, textUnder};
 ghost use Rattle.schema_spec.specs.Names.{element};
 ghost use Rattle.text_spec.specs.Limits.{maxDeclarations, maxNodes};
-use extract_levels::MAX_DEPTH;
 use extract_levels::element_of;
+use limits::MAX_DEPTH;
+use limits::MAX_NODES;
 use names::MAX_ELEMENTS;
 use words::has_bit;
-
-// One more than the highest number of a row.
-const MAX_NODES: usize = 65535;
 
 // The number in the two bytes at a place, the high one first.
 pub fn two_bytes(extract: &[u8], k: usize) -> usize

@@ -6,16 +6,14 @@ ghost use lib.ListN.{length};
 ghost use Rattle.extract_spec.specs.Reading.{elementValue, countValue};
 ghost use Rattle.field_values.specs.Fields.{ValuePass, ElementAs, TextAs, isRoot, isCount};
 ghost use Rattle.text_spec.specs.Lists.{part};
-use extract_levels::MAX_DEPTH;
 use extract_levels::level_of;
 use field_tests::element_fits;
 use field_tests::number_fits;
 use field_tests::text_fits;
 use field_tests::two_bytes;
+use limits::MAX_DEPTH;
+use limits::MAX_TEXT_BYTES;
 use names::MAX_ELEMENTS;
-
-// How long a text may be.
-const MAX_TEXT_BYTES: usize = 4096;
 
 // What is carried from field to field: the place of the next one, how many rows stand before, the number of the row before, whether it is a text,
 // how many elements are open.

@@ -17,15 +17,13 @@ use compiled_schema::CompiledSchema;
 use extract_writing::write_kept;
 use host_results::HostResult;
 use journal_compiled::read_compiled;
+use limits::MAX_JOURNAL_BYTES;
 use names::MAX_ELEMENTS;
 use names::NameSet;
 use needed_names::needed_set;
 use schema_entries::Entries;
 use table_cutting::clear_bytes;
 use verdicts::TOO_FEW_CELLS;
-
-// The longest journal.
-const MAX_BYTES: usize = 1048576;
 
 // The names that the paths need.
 fn needed_by(compiled: CompiledSchema, paths: CompiledPaths) -> NameSet
@@ -110,7 +108,7 @@ pub fn make_under(
         schema,
         compiled,
         journal,
-        MAX_BYTES,
+        MAX_JOURNAL_BYTES,
         numbers,
         names,
         parents,

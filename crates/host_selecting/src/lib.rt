@@ -12,14 +12,12 @@ use compiled_schema::CompiledSchema;
 use host_chosen::choose_under;
 use host_results::HostResult;
 use host_texts::judge_texts;
+use limits::MAX_PATHS;
 use names::NameSet;
 use row_numbers::clear_counts_from;
 use row_numbers::clear_from;
 use schema_entries::Entries;
 use verdicts::BAD_RECORD;
-
-// How many paths a bundle can have.
-const MAX_PATHS: usize = 8;
 
 fn refuse(
     number: u64,

@@ -9,13 +9,11 @@ ghost use Rattle.table_spec.specs.Columns.{equalSizes, sizesOf};
 ghost use Rattle.verdicts.specs.Verdicts.{verdict};
 use column_sizes::equal_sizes;
 use journal_compiled::read_compiled;
+use limits::MAX_JOURNAL_BYTES;
 use schema::Schema;
 use schema_reader::is_schema_record;
 use verdicts::BAD_RECORD;
 use verdicts::Verdict;
-
-// How many bytes a journal has at most.
-pub const MAX_BYTES: usize = 1048576;
 
 // Whether 1 is not found: the record is one that its reader hands back, and the columns are of one length.
 fn is_lent(
@@ -65,7 +63,7 @@ pub fn read_journal(
         &bytes[..len],
         compiled,
         text,
-        MAX_BYTES,
+        MAX_JOURNAL_BYTES,
         numbers,
         names,
         parents,

@@ -19,11 +19,11 @@ use build_state::Build;
 use build_state::BuildStep;
 use fault_keys::BAD_NESTING;
 use fault_keys::OVER_DEPTH;
+use limits::MAX_DEPTH;
 use name_words::Name;
 use names::MAX_ELEMENTS;
 use open_levels::LEVELS;
 use open_levels::Level;
-use open_levels::MAX_DEPTH;
 use row_columns::RowCells;
 use schema_entries::MAX_CELLS;
 

@@ -30,7 +30,7 @@ use journal_state::tells;
 use name_words::Name;
 
 // The longest name.
-const MAX_NAME_BYTES: u32 = 31;
+const MAX_NAME_BYTES: u32 = limits::MAX_NAME_BYTES as u32;
 
 // The first byte of a name.
 fn begun(mode: u8, l: Lex, b: u8) -> Lex

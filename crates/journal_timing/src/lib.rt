@@ -1,10 +1,8 @@
 // A function for C that tests/timing takes the time of: a journal read under a schema text. The caller meets what it requires.
 ghost use Rattle.row_columns.specs.Columns.{columns, EqualColumns};
 use journal_compiled::read_compiled;
+use limits::MAX_JOURNAL_BYTES;
 use verdicts::Verdict;
-
-// How many bytes a journal has at most.
-const MAX_BYTES: usize = 1048576;
 
 // The number of the refusal or 0, its place, and how many rows there are. The schema text is compiled anew.
 #[no_mangle]
@@ -26,7 +24,7 @@ pub extern "C" fn time_journal(
         schema,
         compiled,
         text,
-        MAX_BYTES,
+        MAX_JOURNAL_BYTES,
         numbers,
         names,
         parents,

@@ -11,9 +11,6 @@ use name_codes::CODES;
 use name_codes::has;
 use names::NameSet;
 
-// How many rows a table may have.
-pub const MAX_ROWS: usize = 65535;
-
 // The position of a row that is not kept; kept rows are counted from 1.
 pub const NOT_KEPT: u16 = 0;
 

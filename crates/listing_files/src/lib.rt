@@ -7,6 +7,7 @@ use compiled_schema::CompiledSchema;
 use first_paths::selected_count;
 use host_texts::judge_texts;
 use journal_compiled::read_compiled;
+use limits::LISTED_BYTES;
 use listing_table::kept_count;
 use listing_table::note_paths;
 use names::MAX_ELEMENTS;
@@ -14,9 +15,6 @@ use names::NameSet;
 use needed_names::needed_set;
 use row_chains::name_sizes;
 use schema_entries::Entries;
-
-// How many bytes of a journal are read.
-pub const LISTED_BYTES: usize = 32768;
 
 pub struct Listed {
     // the refusal's number and place, 0 and 0 for none

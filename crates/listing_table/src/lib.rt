@@ -11,10 +11,8 @@ use compiled_paths::CompiledPaths;
 use first_paths::first_paths;
 use kept_rows::NOT_KEPT;
 use kept_rows::number_kept;
+use limits::LISTED_ROWS;
 use names::NameSet;
-
-// How many rows are lent for a journal.
-pub const LISTED_ROWS: usize = 4096;
 
 // How many rows the set keeps.
 pub fn kept_count(set: NameSet, codes: &[u8], parents: &[u16]) -> usize

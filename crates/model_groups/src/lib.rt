@@ -4,14 +4,12 @@ ghost use Prim.Native.Nat.{_≤_, _<_};
 ghost use lib.ListN.{length};
 ghost use Rattle.particles.specs.Readings.{ReadsParticle, ReadsGroup};
 ghost use Rattle.text_spec.specs.Limits.{maxGroups};
+use limits::MAX_GROUPS;
 use models::Ends;
 use particles::Follow;
 use particles::Part;
 use particles::PartOutcome;
 use particles::UNPARTED;
-
-// The groups of a model that may be open at once.
-pub const MAX_GROUPS: usize = 8;
 
 // The groups around the innermost one that may be open.
 const DEEPEST: usize = MAX_GROUPS - 1;

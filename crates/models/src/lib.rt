@@ -10,7 +10,7 @@ ghost use Rattle.models.specs.Positions.{size};
 ghost use Rattle.text_spec.specs.Limits.{maxModelNames};
 
 // How many positions a model may have: the bits of a word.
-pub const MAX_POSITIONS: usize = 64;
+pub const MAX_POSITIONS: usize = limits::MAX_MODEL_NAMES;
 
 // Where a model may begin and end: first and last positions, and whether it may have no child.
 pub struct Ends {

@@ -7,7 +7,7 @@ ghost use Rattle.schema_spec.specs.Names.{Name, element, text, sameName, has, s
 ghost use Rattle.names.specs.Sets.{member, setOf, everyName, overlap};
 
 // How many elements a schema may have.
-pub const MAX_ELEMENTS: usize = 32;
+pub const MAX_ELEMENTS: usize = limits::MAX_DECLARATIONS;
 
 pub struct NameSet {
     pub elements: u64,

@@ -4,10 +4,8 @@ ghost use Prim.Native.Nat.{_≤_};
 ghost use Rattle.open_levels.specs.Levels.{levelAt, withFilling, Stored, AllLevels};
 ghost use Rattle.text_spec.specs.Limits.{maxDepth};
 use content_fit::FillingState;
+use limits::MAX_DEPTH;
 use name_words::Name;
-
-// The most elements that may be open.
-pub const MAX_DEPTH: usize = 64;
 
 // The cells of a level, and of all levels.
 const LEVEL: usize = 9;

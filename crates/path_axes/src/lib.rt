@@ -4,18 +4,12 @@ ghost use Prim.Native.Nat.{_≤_, _<_};
 ghost use lib.ListN.{length};
 ghost use Rattle.path_axes.specs.Readings.{maxAxis, single, double, ReadsAxis};
 ghost use Rattle.path_spec.specs.Machine.{beginStep};
+use compiled_paths::ANCESTOR;
+use compiled_paths::CHILD;
+use compiled_paths::DESCENDANT;
+use compiled_paths::PARENT;
+use compiled_paths::SELF;
 use scanning::Read;
-
-// The numbers of axes, in document 01's order. An axis that adds the node itself follows the one without it.
-pub const SELF: u8 = 0;
-
-pub const CHILD: u8 = 1;
-
-pub const DESCENDANT: u8 = 2;
-
-pub const PARENT: u8 = 4;
-
-pub const ANCESTOR: u8 = 5;
 
 // The axis and the place past its `::`, or where the text departs from all axes.
 pub enum AxisOutcome {

@@ -5,12 +5,10 @@ ghost use Prim.Native.Nat.{_≤_};
 ghost use lib.ListN.{length};
 ghost use Rattle.path_conditions.specs.Readings.{ReadsCondition};
 ghost use Rattle.text_spec.specs.Limits.{maxBundleBytes};
+use limits::MAX_ALTERNATIVE_STEPS;
+use limits::MAX_ALTERNATIVES;
 use path_alternatives::AlternativeOutcome;
 use path_alternatives::Follow;
-
-pub const MAX_ALTERNATIVES: usize = 4;
-
-pub const MAX_ALTERNATIVE_STEPS: usize = 4;
 
 // The place past a condition, the numbers of steps and of alternatives noted so far, and whether it passes a limit.
 pub struct Alternatives {

@@ -3,12 +3,9 @@ ghost use mathlib.Core.Path.{_≡_};
 ghost use Prim.Native.Nat.{_≤_};
 ghost use Rattle.path_limits.specs.Limits.{overLimit};
 ghost use Rattle.text_spec.specs.Limits.{maxBundleBytes};
-
-pub const MAX_PATHS: usize = 8;
-
-pub const MAX_STEPS: usize = 16;
-
-pub const MAX_PATH_BYTES: usize = 512;
+use limits::MAX_PATH_BYTES;
+use limits::MAX_PATHS;
+use limits::MAX_STEPS;
 
 // What is known of the limits after a path that starts at `at`, has d before it, so many steps and bytes and this said of its conditions.
 pub fn over_limit(over: usize, d: usize, at: usize, steps: usize, size: usize, past: bool) -> usize

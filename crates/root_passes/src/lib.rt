@@ -15,11 +15,11 @@ ghost use Rattle.step_passes.specs.Steps.{forwardMarks};
 use axis_passes::MARKED;
 use axis_passes::UNMARKED;
 use axis_passes::fill;
-use step_passes::ANCESTOR;
-use step_passes::CHILD;
-use step_passes::DESCENDANT;
-use step_passes::DESCENDANT_OR_SELF;
-use step_passes::PARENT;
+use compiled_paths::ANCESTOR;
+use compiled_paths::CHILD;
+use compiled_paths::DESCENDANT;
+use compiled_paths::DESCENDANT_OR_SELF;
+use compiled_paths::PARENT;
 use step_passes::filter_test;
 
 // The root alone.

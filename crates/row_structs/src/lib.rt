@@ -4,7 +4,7 @@ ghost use Rattle.row_structs.specs.Structs.{cellOf};
 use verdicts::Verdict;
 
 // How many rows a table has at most.
-pub const MAX_ROWS: usize = 65535;
+pub const MAX_ROWS: usize = limits::MAX_NODES;
 // How many cells a column has: one for each row, and one for the rows past those, of which no table has any.
 pub const CELLS: usize = 65536;
 

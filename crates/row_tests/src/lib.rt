@@ -5,14 +5,13 @@ ghost use Prim.Native.Nat.{suc, _≤_};
 ghost use lib.Dec.{eqb, leb};
 ghost use Rattle.table_passes.specs.Passes.{isTextCode, rootFits, laterFits};
 ghost use Rattle.text_spec.specs.Limits.{maxDepth, maxTextBytes};
+use limits::MAX_DEPTH;
 use names::MAX_ELEMENTS;
 
 // One more than the highest number of a row.
-pub const MAX_NODES: u16 = 65535;
-// How deep elements may be nested.
-pub const MAX_DEPTH: usize = 64;
+pub const MAX_NODES: u16 = limits::MAX_NODES as u16;
 // How long a text may be.
-pub const MAX_TEXT_BYTES: u16 = 4096;
+pub const MAX_TEXT_BYTES: u16 = limits::MAX_TEXT_BYTES as u16;
 
 // Whether the code is that of a text name.
 pub fn is_text(code: u8) -> bool

@@ -6,8 +6,7 @@ ghost use lib.ListN.{length, set};
 ghost use Rattle.scanning.specs.Outcomes.{Skipped, Spaced, Spelt, Named};
 ghost use Rattle.text_spec.specs.Bytes.{startsName};
 ghost use Rattle.text_spec.specs.Scans.{byteAt};
-
-pub const MAX_NAME_BYTES: usize = 31;
+use limits::MAX_NAME_BYTES;
 
 // A part of a text: the place past it, or where the text departs from it.
 pub enum Read {

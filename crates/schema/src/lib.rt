@@ -10,15 +10,15 @@ pub struct Schema {
 }
 
 impl Schema {
-    pub const MAX_DECLARATIONS: usize = names::MAX_ELEMENTS;
+    pub const MAX_DECLARATIONS: usize = limits::MAX_DECLARATIONS;
 
-    pub const MAX_MODEL_NAMES: usize = models::MAX_POSITIONS;
+    pub const MAX_MODEL_NAMES: usize = limits::MAX_MODEL_NAMES;
 
-    pub const MAX_BYTES: usize = 8192;
+    pub const MAX_BYTES: usize = limits::MAX_SCHEMA_BYTES;
 
-    pub const MAX_GROUPS: usize = model_groups::MAX_GROUPS;
+    pub const MAX_GROUPS: usize = limits::MAX_GROUPS;
 
-    pub const MAX_NAME_BYTES: usize = scanning::MAX_NAME_BYTES;
+    pub const MAX_NAME_BYTES: usize = limits::MAX_NAME_BYTES;
 
     // The schema that the reader hands back on refusal.
     pub fn empty() -> Self

@@ -11,7 +11,7 @@ ghost use Rattle.table_spec.specs.Rows.{Row};
 use asked_paths::first_asked;
 use asked_paths::past_asked;
 use compiled_paths::CompiledPaths;
-use kept_rows::MAX_ROWS;
+use limits::MAX_NODES;
 use select_paths::select_paths;
 use selected_answers::Selected;
 use selected_answers::in_room;
@@ -65,10 +65,10 @@ pub fn select_table(
     requires { ⌜ Shaped paths × (place ≤ paths .count) × Columns (now numbers) (now codes) (now parents) ⌝ }
     ensures { λ r. ⌜ ((s : Types) (text : List ℕ) (rows : List Row) → RowsIn s rows (now (numbers .entry)) (now (codes .entry)) (now (parents .entry)) → AnsweredAs (rowsSelected text rows place (pathsIn paths) (length (now (items .entry))) (length (now (counts .entry)))) (length (now (items .entry))) (length (now (counts .entry))) r (now (items .exit)) (now (counts .exit))) ⌝ }
 {
-    let mut marks = [0u8; MAX_ROWS];
-    let mut held = [0u8; MAX_ROWS];
-    let mut steps = [0u8; MAX_ROWS];
-    let mut next = [0u8; MAX_ROWS];
+    let mut marks = [0u8; MAX_NODES];
+    let mut held = [0u8; MAX_NODES];
+    let mut steps = [0u8; MAX_NODES];
+    let mut next = [0u8; MAX_NODES];
     let rows = parents.len();
     select_into(
         paths,

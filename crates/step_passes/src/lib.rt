@@ -14,26 +14,18 @@ use axis_passes::copy;
 use axis_passes::descendants;
 use axis_passes::descendants_or_self;
 use axis_passes::fill;
+use compiled_paths::ANCESTOR;
+use compiled_paths::ANCESTOR_OR_SELF;
+use compiled_paths::CHILD;
+use compiled_paths::DESCENDANT;
+use compiled_paths::DESCENDANT_OR_SELF;
+use compiled_paths::PARENT;
+use compiled_paths::SELF;
 use mark_sets::any_marked;
 use mark_sets::filter;
 use upward_passes::ancestors;
 use upward_passes::ancestors_or_self;
 use upward_passes::parents_of;
-
-// Axes by their numbers, in the order of document 01.
-pub const SELF: u8 = 0;
-
-pub const CHILD: u8 = 1;
-
-pub const DESCENDANT: u8 = 2;
-
-pub const DESCENDANT_OR_SELF: u8 = 3;
-
-pub const PARENT: u8 = 4;
-
-pub const ANCESTOR: u8 = 5;
-
-pub const ANCESTOR_OR_SELF: u8 = 6;
 
 // The first code of a text name, and the last code that a name can have.
 const TEXT_NAMES: u8 = 32;

@@ -5,10 +5,10 @@ ghost use Rattle.lent_cells.specs.Cells.{Cleared};
 ghost use Rattle.cut_rows.specs.Rows.{table, OfLength};
 ghost use Rattle.table_cutting.specs.Cut.{Cutting, CutAs, TableColumns};
 use cut_rows::write_rows;
-use kept_rows::MAX_ROWS;
 use kept_rows::NOT_KEPT;
 use kept_rows::number_kept;
 use lent_cells::clear_columns;
+use limits::MAX_NODES;
 use names::NameSet;
 
 // `lent_cells::clear_bytes`, which extracts call by this name.
@@ -90,7 +90,7 @@ pub fn cut(
     requires { ⌜ TableColumns (table (now numbers) (now names) (now parents) (now starts) (now lengths)) × OfLength (table (now «out_numbers») (now «out_names») (now «out_parents») (now «out_starts») (now «out_lengths»)) (length (now «out_numbers»)) ⌝ }
     ensures { λ n. ⌜ CutAs (inSet set) (table (now (numbers .entry)) (now (names .entry)) (now (parents .entry)) (now (starts .entry)) (now (lengths .entry))) (table (now («out_numbers» .entry)) (now («out_names» .entry)) (now («out_parents» .entry)) (now («out_starts» .entry)) (now («out_lengths» .entry))) n (table (now («out_numbers» .exit)) (now («out_names» .exit)) (now («out_parents» .exit)) (now («out_starts» .exit)) (now («out_lengths» .exit))) ⌝ }
 {
-    let mut positions = [NOT_KEPT; MAX_ROWS];
+    let mut positions = [NOT_KEPT; MAX_NODES];
     let count = parents.len();
     cut_into(
         set,
