@@ -1,8 +1,8 @@
 #!/usr/bin/env python3
-"""Does tests/compare notice a mistake? Each edit puts one into a copy of the second implementation, which is then built as the archive to compare with;
-the comparison must fail, and where an edit says so the C host of tests/host must, too. Takes some minutes; not part of the gate. Needs gcc and rustc.
-The words after the program's name choose edits by a part of their names. A needed name that the root does not reach is no edit here: cutting drops its
-rows all the same, so it shows in needed names alone."""
+"""Do tests/compare and tests/compare_inner notice a mistake? Each edit puts one into a copy of the second implementation. For tests/compare that is then
+built as the archive to compare with; the comparison must fail, and where an edit says so the C host of tests/host must, too. For tests/compare_inner it
+is compared with the archives of the proved crates (rt staticlib). Takes some minutes; not part of the gate. Needs gcc and rustc. The words after the
+program's name choose edits by a part of their names."""
 import os
 import shutil
 import subprocess
@@ -41,24 +41,49 @@ EDITS = [
     ("a wrong root is 14", "journal.rs", "return Err(refused(15, e.place));", "return Err(refused(if wrong_root { 14 } else { 15 }, e.place));", False),
 ]
 
+# for tests/compare_inner: name, file, what stands there, what is put in its place
+INNER_EDITS = [
+    ("a needed name that the root does not reach", "needed.rs", "reached(s, &needs(s, path, &root, &root))", "[reached(s, &root), needs(s, path, &root, &root)][1].clone()"),
+    ("names between the ends of a descendant step dropped", "needed.rs", "all.extend(s.below(a).into_iter().filter(|&c| s.is_below(b, c)));", "let _ = (a, b);"),
+    ("parent rows of a cut not renumbered", "table.rs", "parent: place(rows[i].parent),", "parent: rows[i].parent.max(place(rows[i].parent)),"),
+    ("a name kept under one that is cut", "table.rs", "above(rows, i).iter().all(|&k| set.contains(&rows[k].name))",
+     "above(rows, i).last().is_none_or(|&k| set.contains(&rows[k].name))"),
+    ("a node among its own descendants", "table.rs", "Axis::Descendant => is_above(x, y),", "Axis::Descendant => x == y || is_above(x, y),"),
+    ("a condition that every alternative must meet", "table.rs", "alternatives.iter().any(|a| !walked(", "alternatives.iter().all(|a| !walked("),
+    ("a chain that ends in the text's element", "table.rs", "Name::Text(_) => b\"/text()\".to_vec(),", "Name::Text(_) => Vec::new(),"),
+    ("a blank in a schema's record", "records.rs", "joined(ps, \",\")", "joined(ps, \", \")"),
+    ("a record with bytes past its text", "records.rs", ".all(|&b| b == 0)", ".all(|&b| b < 4)"),
+    ("the text beside a table not judged", "records.rs", "is_ok_and(|rows| texts_inside(rows, text))", "is_ok_and(|rows| texts_inside(rows, text) || !text.is_empty())"),
+    ("columns of unequal length accepted", "records.rs", "lent.iter().any(|&n| n != lent[0])", "lent[..4].iter().any(|&n| n != lent[0])"),
+    ("a row written on refusal", "records.rs", "lent.iter().map(|&n| vec![0; n]).collect()", "lent.iter().map(|&n| vec![(r.number == 18) as u32; n]).collect()"),
+    ("a bundle's record under another schema", "records.rs", "read_bundle(s, text).map_err(|_| NO_RECORD)", "read_bundle(s, text)"),
+]
+
 
 def notices(command, archive):
     done = subprocess.run(command, env=dict(os.environ, LOZHYMET_LIB=archive), stdout=subprocess.DEVNULL, stderr=subprocess.DEVNULL)
     return done.returncode != 0
 
 
-def attempt(folder, edit):
-    name, file, old, new, by_host = edit
-    copy, archive = os.path.join(folder, "second"), os.path.join(folder, "second.a")
+def edited(folder, name, file, old, new):
+    """A copy of the second implementation with the edit, and what is wrong with that."""
+    copy = os.path.join(folder, "second")
     shutil.rmtree(copy, ignore_errors=True)
     shutil.copytree(HERE, copy)
     path = os.path.join(copy, "src", file)
     with open(path) as f:
         text = f.read()
-    if text.count(old) != 1:
-        return "%s: its text stands %d times in %s" % (name, text.count(old), file)
     with open(path, "w") as f:
         f.write(text.replace(old, new))
+    return copy, None if text.count(old) == 1 else "%s: its text stands %d times in %s" % (name, text.count(old), file)
+
+
+def attempt(folder, edit):
+    name, file, old, new, by_host = edit
+    archive = os.path.join(folder, "second.a")
+    copy, fault = edited(folder, name, file, old, new)
+    if fault:
+        return fault
     if subprocess.run([os.path.join(copy, "library"), archive]).returncode:
         return "%s: it cannot be built" % name
     if not notices([os.path.join(TESTS, "compare"), "1", "4000"], archive):
@@ -68,13 +93,25 @@ def attempt(folder, edit):
     return None
 
 
+def attempt_inner(folder, edit):
+    copy, fault = edited(folder, *edit)
+    if fault:
+        return fault
+    done = subprocess.run([os.path.join(TESTS, "compare_inner"), "1", "4000"], env=dict(os.environ, SECOND=copy), stdout=subprocess.PIPE, stderr=subprocess.STDOUT)
+    if done.returncode == 0 or not (b"differs" in done.stdout or b"panicked" in done.stdout):
+        return "%s: the inner comparison says %r" % (edit[0], done.stdout[-200:])
+    return None
+
+
 def main():
+    def chosen(edits):
+        return [edit for edit in edits if not sys.argv[1:] or any(word in edit[0] for word in sys.argv[1:])]
     with tempfile.TemporaryDirectory() as folder:
-        chosen = [edit for edit in EDITS if not sys.argv[1:] or any(word in edit[0] for word in sys.argv[1:])]
-        faults = [fault for fault in (attempt(folder, edit) for edit in chosen) if fault]
+        tried = [attempt(folder, edit) for edit in chosen(EDITS)] + [attempt_inner(folder, edit) for edit in chosen(INNER_EDITS)]
+    faults = [fault for fault in tried if fault]
     if faults:
         sys.exit("mistakes: " + "\n          ".join(faults))
-    print("mistakes: each of %d is noticed" % len(chosen))
+    print("mistakes: each of %d is noticed" % len(tried))
 
 
 main()

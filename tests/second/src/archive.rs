@@ -1,4 +1,5 @@
 //! The two functions of the static library that is compared, called on lent cells with guard cells on both sides.
+use crate::cells::{Columns, Output};
 use crate::host::{Left, Lent};
 
 #[repr(C)]
@@ -24,63 +25,9 @@ extern "C" {
     ) -> Outcome;
 }
 
-const GUARDS: usize = 4;
-const GUARD: u8 = 0xA5;
-const UNWRITTEN: u8 = 0x5A;
-
-/// An output: guard cells, the cells that are lent, guard cells.
-struct Output<T> {
-    block: Vec<T>,
-    guard: T,
-}
-
-impl<T: Copy + PartialEq + From<u8> + Into<u32>> Output<T> {
-    fn new(size: usize) -> Self {
-        let guard = T::from(GUARD);
-        let mut block = vec![guard; size + 2 * GUARDS];
-        block[GUARDS..GUARDS + size].fill(T::from(UNWRITTEN));
-        Output { block, guard }
-    }
-
-    fn first(&mut self) -> *mut T {
-        self.block[GUARDS..].as_mut_ptr()
-    }
-
-    fn size(&self) -> usize {
-        self.block.len() - 2 * GUARDS
-    }
-
-    fn cells(&self) -> Vec<u32> {
-        let (before, rest) = self.block.split_at(GUARDS);
-        let (cells, after) = rest.split_at(self.size());
-        assert!(before.iter().chain(after).all(|&g| g == self.guard), "a guard cell has changed");
-        cells.iter().map(|&c| c.into()).collect()
-    }
-}
-
-struct Columns {
-    numbers: Output<u16>,
-    names: Output<u8>,
-    parents: Output<u16>,
-    starts: Output<u32>,
-    lengths: Output<u16>,
-}
-
-impl Columns {
-    fn new(sizes: [usize; 5]) -> Self {
-        Columns {
-            numbers: Output::new(sizes[0]),
-            names: Output::new(sizes[1]),
-            parents: Output::new(sizes[2]),
-            starts: Output::new(sizes[3]),
-            lengths: Output::new(sizes[4]),
-        }
-    }
-
-    fn left(&self, o: Outcome, items: Vec<u32>, counts: Vec<u32>) -> Left {
-        let cells = [self.numbers.cells(), self.names.cells(), self.parents.cells(), self.starts.cells(), self.lengths.cells(), items, counts];
-        Left { result: [o.number, o.place, o.rows, o.items, o.counts], cells }
-    }
+fn left(c: &Columns, o: Outcome, items: Vec<u32>, counts: Vec<u32>) -> Left {
+    let [numbers, names, parents, starts, lengths] = c.cells();
+    Left { result: [o.number, o.place, o.rows, o.items, o.counts], cells: [numbers, names, parents, starts, lengths, items, counts] }
 }
 
 pub fn make_extract(schema: &[u8], bundle: &[u8], journal: &[u8], lent: &Lent) -> Left {
@@ -94,7 +41,7 @@ pub fn make_extract(schema: &[u8], bundle: &[u8], journal: &[u8], lent: &Lent) -
             c.starts.first(), c.starts.size(), c.lengths.first(), c.lengths.size(), out.first(), out.size(),
         )
     };
-    c.left(outcome, out.cells(), Vec::new())
+    left(&c, outcome, out.cells(), Vec::new())
 }
 
 pub fn select(schema: &[u8], bundle: &[u8], place: usize, extract: &[u8], lent: &Lent) -> Left {
@@ -109,5 +56,5 @@ pub fn select(schema: &[u8], bundle: &[u8], place: usize, extract: &[u8], lent: 
             items.first(), items.size(), counts.first(), counts.size(),
         )
     };
-    c.left(outcome, items.cells(), counts.cells())
+    left(&c, outcome, items.cells(), counts.cells())
 }

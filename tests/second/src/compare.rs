@@ -4,6 +4,7 @@
 #![allow(dead_code)]
 mod archive;
 mod bundle;
+mod cells;
 mod extract;
 mod faults;
 mod guided;
@@ -18,7 +19,7 @@ mod text;
 
 use crate::bundle::{read_bundle, Path};
 use crate::host::{Left, Lent};
-use crate::inputs::{arguments, random_input, report, shown, wanted_steps, Input, Seen, MAX_JOURNAL};
+use crate::inputs::{arguments, differs, random_input, report, shown, wanted_steps, Input, Seen, MAX_JOURNAL};
 use crate::journal::read_journal;
 use crate::random::Random;
 use crate::schema::read_schema;
@@ -63,14 +64,7 @@ fn enough_to_select(extract: &[u8]) -> Lent {
 
 fn same(ours: &Left, theirs: &Left, call: &str, input: &Input, extract: &[u8]) {
     if ours != theirs {
-        println!("schema {}\nbundle {}\njournal {}\nextract {}", shown(&input.schema), shown(&input.bundle), shown(&input.journal), shown(extract));
-        println!("second implementation: {:?}\nlibrary: {:?}", ours.result, theirs.result);
-        for (k, (a, b)) in ours.cells.iter().zip(&theirs.cells).enumerate().filter(|(_, (a, b))| a != b) {
-            let place = a.iter().zip(b).position(|(x, y)| x != y);
-            println!("output {k} of {} and {} cells differs, first at cell {place:?}", a.len(), b.len());
-        }
-        println!("compare: {call} differs");
-        std::process::exit(1);
+        differs("compare", call, input, extract, (&ours.result, &ours.cells), (&theirs.result, &theirs.cells));
     }
 }
 

@@ -1,108 +1,351 @@
-//! Compares what the two functions for C do not show with the second implementation, through the functions of crates/timing: `inner SEED COUNT`.
-//! Needed names; and selections on the whole journal, and on its rows cut to a set of names that contains the needed ones.
+//! Compares the public functions that take or hand back a record with the second implementation, through the functions for C of the crates
+//! test_reading, test_extracts, test_tables and test_selecting: `inner SEED COUNT` on COUNT random inputs. An input is a schema, a bundle and a journal,
+//! each valid, nearly valid or damaged. All three are read and needed names taken; the table is cut to them, to larger sets and to others; extracts are
+//! written, damaged and read; every path selects on the whole journal, on the cut to a larger set and on the extract. Some records and tables are none
+//! that a reader hands back, and some outputs have too few cells. Results and every lent cell must be the same. What came how often is printed, and what
+//! never came fails.
 #![allow(dead_code)]
 mod bundle;
+mod cells;
 mod extract;
 mod faults;
+mod functions;
 mod guided;
 mod inputs;
 mod journal;
 mod needed;
 mod random;
+mod records;
 mod schema;
 mod table;
 mod text;
 
-use crate::bundle::{read_bundle, Path};
-use crate::inputs::{arguments, random_bundle, random_texts, report, shown, wanted_steps, Seen, MAX_JOURNAL};
-use crate::journal::read_journal;
-use crate::needed::{bits, bundle_needs};
+use crate::inputs::{arguments, differs, random_input, report, shown, wanted_steps, Input, Seen, MAX_JOURNAL};
 use crate::random::Random;
-use crate::schema::{Name, Names};
-use crate::table::{cut, selected, Row};
+use crate::records::{in_bytes, in_columns, in_items, Left, Lent, Record, Records, Table, BUNDLE_CELLS, SCHEMA_CELLS};
+use crate::table::Row;
+use crate::text::Refused;
 
-extern "C" {
-    fn time_needed(schema: *const u8, schema_len: usize, bundle: *const u8, bundle_len: usize) -> u64;
-    fn time_selection(
-        schema: *const u8, schema_len: usize, bundle: *const u8, bundle_len: usize,
-        numbers: *const u16, numbers_len: usize, codes: *const u8, codes_len: usize, parents: *const u16, parents_len: usize,
-        items: *mut u16, items_len: usize, counts: *mut u32, counts_len: usize, marks: *mut u8, marks_len: usize,
-        held: *mut u8, held_len: usize, steps: *mut u8, steps_len: usize, next: *mut u8, next_len: usize,
-    ) -> usize;
+type Numbers = Result<Vec<Vec<u32>>, Refused>;
+
+/// What is compared on one input.
+struct Comparison<'a> {
+    r: &'a mut Random,
+    seen: &'a mut Seen,
+    input: Input,
 }
 
-fn names_needed(schema: &[u8], bundle: &[u8]) -> u64 {
-    // both pointers are those of slices
-    unsafe { time_needed(schema.as_ptr(), schema.len(), bundle.as_ptr(), bundle.len()) }
+fn wanted() -> Vec<String> {
+    let calls: [(&str, &[usize]); 10] = [
+        ("reading a schema", &[0, 2, 3, 4, 5, 6, 7]),
+        ("reading a bundle", &[0, 1, 2, 3, 8, 9, 10]),
+        ("reading a journal", &[0, 1, 2, 3, 11, 12, 13, 14, 15, 16, 18]),
+        ("needed names", &[0, 1]),
+        ("cutting", &[0, 1, 18]),
+        ("writing an extract", &[0, 1, 18]),
+        ("reading an extract", &[0, 1, 2, 17, 18]),
+        ("selecting", &[0, 1, 18]),
+        ("the text of a row", &[0, 1]),
+        ("the chain of a row", &[0, 1, 18]),
+    ];
+    let numbers = calls.into_iter().flat_map(|(call, numbers)| numbers.iter().map(move |n| format!("{call}: {n}")));
+    let others = [
+        "no name needed",
+        "names needed",
+        "records refused",
+        "a table refused",
+        "columns of unequal length",
+        "a place past the last path",
+        "a position past the last row",
+        "a text handed back",
+        "a larger cut with fewer rows than its journal",
+    ];
+    numbers.chain(wanted_steps()).chain(others.map(String::from)).collect()
 }
 
-/// The selections of all paths, joined, and their counts.
-fn selections(schema: &[u8], bundle: &[u8], rows: &[Row]) -> (Vec<usize>, Vec<usize>) {
-    let numbers: Vec<u16> = rows.iter().map(|r| r.number as u16).collect();
-    let codes: Vec<u8> = rows.iter().map(|r| r.name.code() as u8).collect();
-    let parents: Vec<u16> = rows.iter().map(|r| r.parent as u16).collect();
-    let (mut items, mut counts) = (vec![0u16; 8 * rows.len()], vec![0u32; 8]);
-    let mut scratch = [(); 4].map(|_| vec![0u8; rows.len()]);
-    let [marks, held, steps, next] = &mut scratch;
-    // each pointer is that of a slice, the columns and the scratch have a cell for each row, and no two outputs overlap
-    let found = unsafe {
-        time_selection(
-            schema.as_ptr(), schema.len(), bundle.as_ptr(), bundle.len(), numbers.as_ptr(), numbers.len(), codes.as_ptr(), codes.len(),
-            parents.as_ptr(), parents.len(), items.as_mut_ptr(), items.len(), counts.as_mut_ptr(), counts.len(), marks.as_mut_ptr(), marks.len(),
-            held.as_mut_ptr(), held.len(), steps.as_mut_ptr(), steps.len(), next.as_mut_ptr(), next.len(),
-        )
-    };
-    (items[..found].iter().map(|&n| n as usize).collect(), counts.into_iter().map(|n| n as usize).collect())
-}
-
-fn differs(what: &str, schema: &[u8], bundle: &[u8], journal: &[u8]) -> ! {
-    println!("schema {}\nbundle {}\njournal {}\ninner: {what} differs", shown(schema), shown(bundle), shown(journal));
-    std::process::exit(1)
-}
-
-/// The needed names and some others.
-fn larger(r: &mut Random, needed: &Names) -> Names {
-    let percent = 10 + r.below(80);
-    (0..64).filter_map(Name::of_code).filter(|n| needed.contains(n) || r.chance(percent)).collect()
-}
-
-fn compare_input(r: &mut Random, seen: &mut Seen) {
-    let (schema, s, journal) = random_texts(r);
-    let bundle = random_bundle(r, &s, &journal).into_bytes();
-    let Ok(paths): Result<Vec<Path>, _> = read_bundle(&s, &bundle) else { return };
-    let needed = bundle_needs(&s, &paths);
-    if names_needed(&schema, &bundle) != bits(&needed) {
-        differs("the set of needed names", &schema, &bundle, &journal);
+/// So many cells to lend for an answer of this size: just enough, more, or too few.
+fn cells_lent(r: &mut Random, size: usize) -> usize {
+    match r.below(12) {
+        0 => size.saturating_sub(1 + r.below(3)),
+        1..=5 => size,
+        _ => size + r.below(4),
     }
-    seen.calls += 1;
-    seen.note(if needed.is_empty() { "no name needed" } else { "names needed" }.to_string());
-    let Ok(rows) = read_journal(&s, &journal, MAX_JOURNAL) else { return };
-    let mine: Vec<Vec<usize>> = paths.iter().map(|p| selected(&rows, p).into_iter().map(|i| rows[i].number).collect()).collect();
-    let counts: Vec<usize> = (0..8).map(|k| mine.get(k).map_or(0, Vec::len)).collect();
-    let kept = cut(&rows, &larger(r, &needed));
-    for (what, table) in [("a selection on the whole journal", &rows), ("a selection on a larger cut", &kept)] {
-        // with no row there are no columns to lend
-        if table.is_empty() {
-            continue;
+}
+
+/// A set of names as 64 bits, each in it so often in a hundred times.
+fn random_set(r: &mut Random, percent: usize) -> u64 {
+    (0..64).fold(0, |word, code| word | (r.chance(percent) as u64) << code)
+}
+
+/// The record that a reader left: the empty one on refusal.
+fn record_left(left: &Left) -> Record {
+    let len = left.result[2] as usize;
+    Record { bytes: left.cells[0][..len].iter().map(|&b| b as u8).collect(), len }
+}
+
+/// A record with a byte or its length changed.
+fn damaged_record(r: &mut Random, record: &Record, cells: usize) -> Record {
+    let Record { mut bytes, mut len } = record.clone();
+    match r.below(4) {
+        0 => len = r.below(len + 2),
+        1 => len = cells + r.below(2),
+        2 => bytes.push(1 + r.below(3) as u8),
+        _ => {
+            bytes = random::damaged(r, &bytes);
+            len = bytes.len();
         }
-        if selections(&schema, &bundle, table) != (mine.concat(), counts.clone()) {
-            differs(what, &schema, &bundle, &journal);
+    }
+    bytes.truncate(cells);
+    Record { bytes, len }
+}
+
+/// Rows in columns with some cells more, which are not judged.
+fn table_of(r: &mut Random, rows: &[Row]) -> Table {
+    let mut table = Table::of(rows);
+    for _ in 0..r.below(3) {
+        table.columns.iter_mut().for_each(|c| c.push(r.below(70) as u32));
+    }
+    table
+}
+
+/// A table with a cell, the count or the length of a column changed.
+fn damaged_table(r: &mut Random, mut table: Table) -> Table {
+    let (column, size) = (r.below(5), table.columns[0].len());
+    match r.below(6) {
+        0 => table.count = r.below(size + 3),
+        1 => table.columns[column].push(0),
+        2..=4 if size > 0 => table.columns[column][r.below(size)] = r.below(200) as u32,
+        _ if size > 0 => table.columns[column][r.below(size)] ^= 1,
+        _ => {}
+    }
+    table
+}
+
+impl Comparison<'_> {
+    fn same(&mut self, call: &str, ours: &Left, theirs: &Left) {
+        if ours != theirs {
+            differs("inner", call, &self.input, &[], (&ours.result, &ours.cells), (&theirs.result, &theirs.cells));
         }
-        seen.calls += 1;
+        self.seen.calls += 1;
+        self.seen.note(format!("{call}: {}", ours.result[0]));
     }
-    if kept.len() < rows.len() {
-        seen.note("a larger cut with fewer rows than its journal".to_string());
+
+    fn note(&mut self, what: &str) {
+        self.seen.note(what.to_string());
     }
-    paths.iter().zip(&mine).for_each(|(p, found)| seen.path(p, found.len()));
+
+    /// So many cells to lend for each of five columns; now and then one has a cell more.
+    fn columns_lent(&mut self, rows: &Result<Vec<Row>, Refused>) -> [usize; 5] {
+        let mut all = [cells_lent(self.r, rows.as_ref().map_or(0, Vec::len)); 5];
+        if self.r.chance(4) {
+            all[self.r.below(5)] += 1;
+            self.note("columns of unequal length");
+        }
+        all
+    }
+
+    fn schema(&mut self) -> Record {
+        let ours = in_bytes(records::schema_record(&self.input.schema), SCHEMA_CELLS);
+        self.same("reading a schema", &ours, &functions::read_schema(&self.input.schema));
+        record_left(&ours)
+    }
+
+    fn bundle(&mut self, schema: &Record) -> Record {
+        let ours = in_bytes(records::bundle_record(schema, &self.input.bundle), BUNDLE_CELLS);
+        self.same("reading a bundle", &ours, &functions::read_bundle(schema, &self.input.bundle));
+        record_left(&ours)
+    }
+
+    fn needed(&mut self, records: &Records) -> u64 {
+        let ours = records::needed_names(records);
+        self.same("needed names", &ours, &functions::needed_names(records));
+        match ours.result {
+            [0, _, _, 0] => self.note("no name needed"),
+            [0, ..] => self.note("names needed"),
+            _ => self.note("records refused"),
+        }
+        ours.result[3]
+    }
+
+    fn journal(&mut self, records: &Records) -> Vec<Row> {
+        let rows = records::journal_rows(records, &self.input.journal);
+        let lent = self.columns_lent(&rows);
+        self.same("reading a journal", &in_columns(&rows, lent), &functions::read_journal(records, &self.input.journal, lent));
+        rows.unwrap_or_default()
+    }
+
+    fn cut(&mut self, records: &Records, whole: &Lent, word: u64) -> Vec<Row> {
+        let rows = records::cut_rows(records, whole, word);
+        let lent = self.columns_lent(&rows);
+        self.same("cutting", &in_columns(&rows, lent), &functions::cut_table(records, &whole.table, word, lent));
+        rows.unwrap_or_default()
+    }
+
+    fn written(&mut self, records: &Records, lent: &Lent) -> Vec<u8> {
+        let bytes = records::extract_bytes(lent);
+        let size = cells_lent(self.r, bytes.as_ref().map_or(5, |b| b.0.len()));
+        self.same("writing an extract", &in_bytes(bytes.clone(), size), &functions::write_extract(records, lent, size));
+        bytes.map_or(vec![3, 0, 2, 0, 0], |b| b.0)
+    }
+
+    fn read(&mut self, records: &Records, extract: &[u8]) -> Vec<Row> {
+        let rows = records::extract_rows(records, extract);
+        let lent = self.columns_lent(&rows);
+        self.same("reading an extract", &in_columns(&rows, lent), &functions::read_extract(records, extract, lent));
+        rows.unwrap_or_default()
+    }
+
+    fn select_at(&mut self, records: &Records, lent: &Lent, found: &Numbers, place: usize) {
+        let asked = records::at_place(found, place);
+        let (items, counts) = asked.as_ref().map_or((1, 1), |f| (f.iter().map(Vec::len).sum(), f.len()));
+        let (items, counts) = (cells_lent(self.r, items), cells_lent(self.r, counts));
+        self.same("selecting", &in_items(asked, items, counts), &functions::select_nodes(records, place, lent, items, counts));
+    }
+
+    /// All paths at once, and each alone; a place too many now and then.
+    fn select(&mut self, records: &Records, lent: &Lent, found: &Numbers) {
+        let places = found.as_ref().map_or(0, Vec::len);
+        (0..=places).for_each(|place| self.select_at(records, lent, found, place));
+        if self.r.chance(5) {
+            self.note("a place past the last path");
+            self.select_at(records, lent, found, places + 1);
+        }
+    }
+
+    /// A row, one with a text now and then, or the position past the last one.
+    fn position(&mut self, table: &Table) -> usize {
+        let texts: Vec<usize> = (0..table.count).filter(|&i| table.columns[1].get(i).is_some_and(|&code| code >= 32)).collect();
+        let position = match self.r.below(10) {
+            0..=4 if !texts.is_empty() => texts[self.r.below(texts.len())],
+            _ => self.r.below(table.count + 1),
+        };
+        if position == table.count {
+            self.note("a position past the last row");
+        }
+        position
+    }
+
+    /// One row of a table, seldom where it has none.
+    fn row(&mut self, records: &Records, lent: &Lent) {
+        if lent.table.count == 0 && self.r.chance(90) {
+            return;
+        }
+        let position = self.position(&lent.table);
+        let text = records::row_text(lent, position);
+        let size = text.as_ref().map_or(2, |t| t.0.len()) + self.r.below(3);
+        if text.as_ref().is_ok_and(|t| !t.0.is_empty()) {
+            self.note("a text handed back");
+        }
+        self.same("the text of a row", &in_bytes(text, size), &functions::row_text(records, lent, position, size));
+        let chain = records::row_chain(records, lent, position);
+        let size = cells_lent(self.r, chain.as_ref().map_or(2, |c| c.0.len()));
+        self.same("the chain of a row", &in_bytes(chain, size), &functions::row_chain(records, lent, position, size));
+    }
+
+    /// An extract of the table, read with a fault and as it was written.
+    fn extract(&mut self, records: &Records, lent: &Lent) -> Lent {
+        let bytes = self.written(records, lent);
+        let faulty = faults::extract(self.r, &bytes);
+        self.read(records, &faulty);
+        let rows = self.read(records, &bytes);
+        Lent::new(records, table_of(self.r, &rows), &bytes)
+    }
+
+    fn lent(&mut self, records: &Records, rows: &[Row]) -> Lent {
+        Lent::new(records, table_of(self.r, rows), &self.input.journal)
+    }
+
+    /// What is handed in is what readers hand back: each path selects the same nodes on the whole journal, on a cut to a larger set and on the extract.
+    fn whole(&mut self, records: &Records) -> Lent {
+        let needed = self.needed(records);
+        let rows = self.journal(records);
+        let whole = self.lent(records, &rows);
+        let found = records::selections(records, &whole);
+        self.select(records, &whole, &found);
+        let percent = 10 + self.r.below(80);
+        let (more, other) = (needed | random_set(self.r, percent), random_set(self.r, percent));
+        let [kept, larger, _] = [needed, more, other].map(|word| self.cut(records, &whole, word));
+        if !larger.is_empty() && larger.len() < rows.len() {
+            self.note("a larger cut with fewer rows than its journal");
+        }
+        let (kept, larger) = (self.lent(records, &kept), self.lent(records, &larger));
+        let read = self.extract(records, &kept);
+        for lent in [&larger, &read] {
+            assert!(records::selections(records, lent) == found, "{}", shown(&self.input.journal));
+            self.select(records, lent, &found);
+            self.row(records, lent);
+        }
+        self.row(records, &whole);
+        if let (Ok(paths), Ok(numbers)) = (&records.paths, &found) {
+            paths.iter().zip(numbers).for_each(|(p, n)| self.seen.path(p, n.len()));
+        }
+        whole
+    }
+
+    /// Each function once, on records or a table that no reader may hand back.
+    fn once(&mut self, records: &Records, lent: &Lent) {
+        self.bundle(&records.schema);
+        self.journal(records);
+        let word = self.needed(records);
+        self.cut(records, lent, word);
+        self.extract(records, lent);
+        self.select(records, lent, &records::selections(records, lent));
+        self.row(records, lent);
+    }
+
+    fn run(&mut self) {
+        let schema = self.schema();
+        let bundle = self.bundle(&schema);
+        let records = Records::new(schema, bundle);
+        let whole = self.whole(&records);
+        if self.r.chance(8) {
+            let schema = damaged_record(self.r, &records.schema, SCHEMA_CELLS);
+            let damaged = Records::new(schema, records.bundle.clone());
+            self.once(&damaged, &Lent::new(&damaged, whole.table.clone(), &whole.text));
+        }
+        if self.r.chance(8) {
+            let bundle = damaged_record(self.r, &records.bundle, BUNDLE_CELLS);
+            self.once(&Records::new(records.schema.clone(), bundle), &whole);
+        }
+        if self.r.chance(20) {
+            let lent = Lent::new(&records, damaged_table(self.r, whole.table), &whole.text);
+            if records.elements.is_ok() && lent.rows.is_err() {
+                self.note("a table refused");
+            }
+            self.once(&records, &lent);
+        }
+    }
+}
+
+/// Both sides of two limits: the most nodes, and the longest journal.
+fn compare_largest(r: &mut Random, seen: &mut Seen) {
+    let (schema, bundle) = (b"<!ELEMENT a (b*)><!ELEMENT b EMPTY>".to_vec(), b"self::a\n".to_vec());
+    let with_nodes = |count| format!("<a>{}</a>", "<b/>".repeat(count)).into_bytes();
+    let with_bytes = |count| [b"<a></a>".to_vec(), vec![b' '; count - 7]].concat();
+    for journal in [with_nodes(65_534), with_nodes(65_535), with_bytes(MAX_JOURNAL), with_bytes(MAX_JOURNAL + 1)] {
+        let input = Input { schema: schema.clone(), bundle: bundle.clone(), journal };
+        let mut c = Comparison { r: &mut *r, seen: &mut *seen, input };
+        let records = Records::new(c.schema(), Record::default());
+        c.journal(&records);
+    }
+}
+
+/// A bundle with a name on a complete walk that the root does not reach inside the needed names (z), which random inputs hardly have.
+fn unreached() -> Input {
+    let schema = b"<!ELEMENT r (x|m)*><!ELEMENT m (z)*><!ELEMENT z (y|q)*><!ELEMENT y (a)*><!ELEMENT x (a|q)*><!ELEMENT a EMPTY><!ELEMENT q EMPTY>";
+    let journal = b"<r><x><a/><q/></x><m><z><q/><y><a/></y></z></m></r>";
+    Input { schema: schema.to_vec(), bundle: b"descendant::node()[child::q]/child::a/ancestor::z\n".to_vec(), journal: journal.to_vec() }
 }
 
 fn main() {
     let (seed, count) = arguments();
     let mut r = Random::new(seed);
     let mut seen = Seen::default();
+    compare_largest(&mut r, &mut seen);
+    Comparison { r: &mut r, seen: &mut seen, input: unreached() }.run();
     for _ in 0..count {
-        compare_input(&mut r, &mut seen);
+        let input = random_input(&mut r);
+        Comparison { r: &mut r, seen: &mut seen, input }.run();
     }
-    let others = ["no name needed", "names needed", "a larger cut with fewer rows than its journal"].map(String::from);
-    report("inner", &seen, count, wanted_steps().into_iter().chain(others).collect());
+    report("inner", &seen, count, wanted());
 }

@@ -56,6 +56,21 @@ pub fn report(name: &str, seen: &Seen, inputs: usize, wanted: Vec<String>) {
     }
 }
 
+/// What a call gave: numbers, and each lent output whole.
+pub type Given<'a> = (&'a [u64], &'a [Vec<u32>]);
+
+/// Shows an input on which a call of the library gave something else, and ends the program with 1.
+pub fn differs(name: &str, call: &str, input: &Input, extract: &[u8], ours: Given, theirs: Given) -> ! {
+    println!("schema {}\nbundle {}\njournal {}\nextract {}", shown(&input.schema), shown(&input.bundle), shown(&input.journal), shown(extract));
+    println!("second implementation: {:?}\nlibrary: {:?}", ours.0, theirs.0);
+    for (k, (a, b)) in ours.1.iter().zip(theirs.1).enumerate().filter(|(_, (a, b))| a != b) {
+        let place = a.iter().zip(b).position(|(x, y)| x != y);
+        println!("output {k} of {} and {} cells differs, first at cell {place:?}", a.len(), b.len());
+    }
+    println!("{name}: {call} differs");
+    std::process::exit(1)
+}
+
 /// SEED and COUNT, the program's arguments.
 pub fn arguments() -> (u64, usize) {
     let numbers: Vec<usize> = std::env::args().skip(1).map(|a| a.parse().expect("SEED COUNT")).collect();
