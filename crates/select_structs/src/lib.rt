@@ -1,0 +1,37 @@
+// Selecting on a table that is handed in as row structs, by the records of a schema and a bundle.
+ghost use mathlib.Core.List.{map};
+ghost use lib.ListN.{length};
+ghost use Rattle.library_spec.specs.Calls.{nodesSelectedRows};
+ghost use Rattle.row_structs.specs.Structs.{cellsIn};
+ghost use Rattle.schema_records.specs.Records.{recordWith};
+ghost use Rattle.selected_answers.specs.Answers.{AnsweredAs};
+use bundle_reader::Bundle;
+use row_structs::Row;
+use schema::Schema;
+use select_columns::select_columns;
+use selected_answers::Selected;
+use structs_to_columns::columns_of;
+
+// Selects on the rows, which are laid in columns first.
+pub fn select_nodes_rows(
+    schema: Schema,
+    bundle: Bundle,
+    place: usize,
+    rows: &[Row],
+    lent: &[u8],
+    items: &mut [u16],
+    counts: &mut [u32],
+) -> Selected
+    ensures { λ r. ⌜ AnsweredAs (nodesSelectedRows (recordWith (schema .bytes) (schema .len)) (recordWith (bundle .bytes) (bundle .len)) place (map cellsIn (now (rows .entry))) (now (lent .entry)) (length (now (items .entry))) (length (now (counts .entry)))) (length (now (items .entry))) (length (now (counts .entry))) r (now (items .exit)) (now (counts .exit)) ⌝ }
+{
+    select_columns(
+        schema,
+        bundle,
+        place,
+        columns_of(rows),
+        rows.len(),
+        lent,
+        items,
+        counts,
+    )
+}
