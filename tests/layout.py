@@ -2,7 +2,8 @@
 """Holds the crates to their layout.
 
 - crates.txt lists for each crate just the libraries that its files name.
-- proofs/ is private: no file imports the proofs of another crate. (`Reads` is made by Rattle: what a contract says to its callers.)
+- proofs/ is private: no file imports a file of another crate's proofs/. What Rattle makes of a crate's contracts and types stands under the same
+  name (a function's contract and its theorem, a struct's laws), and a proof by hand cites it.
 - The crates *_spec hold definitions and worked cases: no theorem but the cases'.
 """
 import os
@@ -48,8 +49,9 @@ def named(crate, libraries):
 
 def private_imports(crate):
     for path, text in files(crate):
-        for other in re.findall(r"Rattle·([a-z0-9_]+)(?:·proofs)?\.proofs\b(?!(?:\.\w+)+\.Reads\b)", text):
-            if other != crate:
+        for other, module in re.findall(r"Rattle·([a-z0-9_]+)(?:·proofs)?\.proofs((?:\.[^\s.{}()]+)*)", text):
+            own = os.path.join(CRATES, other, "proofs", *module.split(".")[1:]) + ".antt"
+            if other != crate and os.path.exists(own):
                 yield "%s imports the proofs of %s" % (path, other)
 
 
