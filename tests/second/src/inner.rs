@@ -54,6 +54,7 @@ fn wanted() -> Vec<String> {
         "names needed",
         "records refused",
         "a table refused",
+        "a text beside a table refused",
         "columns of unequal length",
         "a place past the last path",
         "a position past the last row",
@@ -119,6 +120,16 @@ fn damaged_table(r: &mut Random, mut table: Table) -> Table {
         _ => {}
     }
     table
+}
+
+/// The text beside a table with a byte that fails 3 in one of the table's texts.
+fn damaged_text(r: &mut Random, lent: &Lent) -> Vec<u8> {
+    let mut text = lent.text.clone();
+    let places: Vec<usize> = lent.rows.iter().flatten().filter(|row| row.size > 0).map(|row| row.start + r.below(row.size)).collect();
+    if !places.is_empty() {
+        text[places[r.below(places.len())]] = 0x7F;
+    }
+    text
 }
 
 impl Comparison<'_> {
@@ -293,26 +304,46 @@ impl Comparison<'_> {
         self.row(records, lent);
     }
 
+    /// A record with a fault, the schema's or the bundle's.
+    fn with_damaged_record(&mut self, records: &Records, whole: &Lent) {
+        let (mut schema, mut bundle) = (records.schema.clone(), records.bundle.clone());
+        if self.r.chance(50) {
+            schema = damaged_record(self.r, &schema, SCHEMA_CELLS);
+        } else {
+            bundle = damaged_record(self.r, &bundle, BUNDLE_CELLS);
+        }
+        let damaged = Records::new(schema, bundle);
+        self.once(&damaged, &Lent::new(&damaged, whole.table.clone(), &whole.text));
+    }
+
+    /// A table with a fault, or the text beside it.
+    fn with_damaged_table(&mut self, records: &Records, whole: &Lent) {
+        let (mut table, mut text) = (whole.table.clone(), whole.text.clone());
+        if self.r.chance(60) {
+            table = damaged_table(self.r, table);
+        } else {
+            text = damaged_text(self.r, whole);
+        }
+        let lent = Lent::new(records, table, &text);
+        if records.elements.is_ok() && lent.rows.is_err() {
+            self.note("a table refused");
+        }
+        if lent.rows.is_ok() && !lent.inside {
+            self.note("a text beside a table refused");
+        }
+        self.once(records, &lent);
+    }
+
     fn run(&mut self) {
         let schema = self.schema();
         let bundle = self.bundle(&schema);
         let records = Records::new(schema, bundle);
         let whole = self.whole(&records);
-        if self.r.chance(8) {
-            let schema = damaged_record(self.r, &records.schema, SCHEMA_CELLS);
-            let damaged = Records::new(schema, records.bundle.clone());
-            self.once(&damaged, &Lent::new(&damaged, whole.table.clone(), &whole.text));
+        if self.r.chance(15) {
+            self.with_damaged_record(&records, &whole);
         }
-        if self.r.chance(8) {
-            let bundle = damaged_record(self.r, &records.bundle, BUNDLE_CELLS);
-            self.once(&Records::new(records.schema.clone(), bundle), &whole);
-        }
-        if self.r.chance(20) {
-            let lent = Lent::new(&records, damaged_table(self.r, whole.table), &whole.text);
-            if records.elements.is_ok() && lent.rows.is_err() {
-                self.note("a table refused");
-            }
-            self.once(&records, &lent);
+        if self.r.chance(30) {
+            self.with_damaged_table(&records, &whole);
         }
     }
 }

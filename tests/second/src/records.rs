@@ -119,7 +119,8 @@ pub struct Lent {
     pub table: Table,
     pub text: Vec<u8>,
     pub rows: Result<Vec<Row>, Refused>,
-    inside: bool,
+    /// Whether its texts lie inside, in bytes that pass 3.
+    pub inside: bool,
 }
 
 impl Lent {
