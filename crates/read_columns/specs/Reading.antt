@@ -77,10 +77,9 @@ module _ (schema : TextRecord) (text : List ℕ) where
     for-structs : journalRead schema text parts ≡ journalReadRows schema text n
     for-structs = ap (journalRead schema text) (sizes ∙ ap allOfSize size) ∙ same n
 
-    pub read-for : v ≡ verdict (journalRead schema text parts)
-        → columns numbers names parents starts lengths ≡ columnsAfter parts (λ rows. rows) (journalRead schema text parts)
+    pub read-for : (v ≡ verdict (journalRead schema text parts)) × (columns numbers names parents starts lengths ≡ columnsAfter parts (λ rows. rows) (journalRead schema text parts))
         → AnsweredFor (journalReadRows schema text n) n
         (record { verdict = v; columns = record { numbers = front k numbers; names = front k names; parents = front k parents; starts = front k starts; lengths = front k lengths } })
-    read-for answer cells =
+    read-for (answer, cells) =
         in-front (journalReadRows schema text n) n (fitting n) v (answer ∙ ap verdict for-structs) k size numbers names parents starts lengths
         (cells ∙ ap₂ (λ (z : Sizes) (o : Outcome (List Row)). columnsAfter z (λ rows. rows) o) sizes for-structs)

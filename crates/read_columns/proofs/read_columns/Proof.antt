@@ -55,7 +55,7 @@ returns c =
     let start = made .before .before in
     let schema = start .args .schema in
     read-for (recordWith (schema .bytes) (schema .len)) (now (start .args .text)) (start .args .room) (made .cell-of .result) (made .cell-of .ensures) (read .read-journal .result)
-    (cells .0) (cells .1 .0) (cells .1 .1 .0) (cells .1 .1 .1 .0) (cells .1 .1 .1 .1 .0) (read .read-journal .ensures .0) (read .read-journal .ensures .1)
+    (cells .0) (cells .1 .0) (cells .1 .1 .0) (cells .1 .1 .1 .0) (cells .1 .1 .1 .1 .0) (read .read-journal .ensures)
 
 pub read-columns-spec : {M : Type 1} → statement M
 read-columns-spec =
