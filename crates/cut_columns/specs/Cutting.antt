@@ -12,7 +12,7 @@ use Rattle.laid_tables.specs.Tables.{same-held, none-held, held-few}
 use Rattle.library_spec.specs.Calls.{inColumns, columnsAfter, tableCut, tableCutRows, tableOfCells}
 use Rattle.library_spec.specs.Records.{TextRecord, LentTable, schemaHeld, tableHeld}
 use Rattle.row_columns.specs.Columns.{columns}
-use Rattle.row_struct_laws.specs.Answers.{Fitting, cellCount, zerosIn, front, cell-low, equal-sizes, room-fitting, room-same, zeros-sizes, in-front}
+use Rattle.row_struct_laws.specs.Answers.{Fitting, cellCount, partSizes, front, equal-sizes, room-fitting, room-same, part-sizes, in-front}
 use Rattle.row_structs.specs.Structs.{cellOf, Laid, AnsweredFor}
 use Rattle.row_structs.specs.declared.TableAnswer.{TableAnswer}
 use Rattle.schema_spec.specs.Names.{Names, setOfWord}
@@ -122,25 +122,19 @@ module _ (schema : TextRecord) (word : ℕ) where
       abbrev given : LentTable
       given = record { columns = c; count = count }
 
-      abbrev parts : Sizes
-      parts = sizesOf (columns (zerosIn cellCount k) (zerosIn cellCount k) (zerosIn cellCount k) (zerosIn cellCount k) (zerosIn cellCount k))
-
-      part-sizes : parts ≡ allOfSize k
-      part-sizes = zeros-sizes cellCount k (omega (arith, cell-low n))
-
-      for-structs : tableCut schema given word parts ≡ tableCutRows schema rows word n
+      for-structs : tableCut schema given word (partSizes k) ≡ tableCutRows schema rows word n
       unfolding tableCutRows
       for-structs =
-          ap (tableCut schema given word) (part-sizes ∙ ap allOfSize size) ∙ same given n ∙ called n given
+          ap (tableCut schema given word) (part-sizes k n size ∙ ap allOfSize size) ∙ same given n ∙ called n given
           ∙ same-by n (schemaHeld schema) (λ s. tableHeld s given) (λ s. tableHeld s (tableOfCells rows)) (λ s. same-held c count sizes rows long laid few s) ∙ sym (called n (tableOfCells rows))
 
       fitting-structs : Fitting (tableCutRows schema rows word n) n
       unfolding tableCutRows
       fitting-structs = fitting (tableOfCells rows) n
 
-      pub cut-for : AnsweredIn (tableCut schema given word parts) parts v (columns numbers names parents starts lengths)
+      pub cut-for : AnsweredIn (tableCut schema given word (partSizes k)) (partSizes k) v (columns numbers names parents starts lengths)
           → AnsweredFor (tableCutRows schema rows word n) n
           (record { verdict = v; columns = record { numbers = front k numbers; names = front k names; parents = front k parents; starts = front k starts; lengths = front k lengths } })
       cut-for w =
           in-front (tableCutRows schema rows word n) n fitting-structs v (w .answer ∙ ap verdict for-structs) k size numbers names parents starts lengths
-          (w .cells ∙ ap₂ (λ (z : Sizes) (o : Outcome (List Row)). columnsAfter z (λ rs. rs) o) part-sizes for-structs)
+          (w .cells ∙ ap₂ (λ (z : Sizes) (o : Outcome (List Row)). columnsAfter z (λ rs. rs) o) (part-sizes k n size) for-structs)

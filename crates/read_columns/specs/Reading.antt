@@ -10,10 +10,10 @@ use Rattle.library_spec.specs.Calls.{inColumns, columnsAfter, journalRead, jour
 use Rattle.library_spec.specs.Records.{TextRecord, schemaHeld}
 use Rattle.projection_laws.specs.Limits.{accepted-within}
 use Rattle.row_columns.specs.Columns.{columns}
-use Rattle.row_struct_laws.specs.Answers.{Fitting, cellCount, zerosIn, front, cell-low, equal-sizes, room-fitting, room-same, zeros-sizes, in-front}
+use Rattle.row_struct_laws.specs.Answers.{Fitting, partSizes, front, equal-sizes, room-fitting, room-same, part-sizes, in-front}
 use Rattle.row_structs.specs.Structs.{cellOf, AnsweredFor}
 use Rattle.schema_spec.specs.Schemas.{Schema}
-use Rattle.table_spec.specs.Columns.{Columns, Sizes, allOfSize, equalSizes, sizesOf}
+use Rattle.table_spec.specs.Columns.{Sizes, allOfSize, equalSizes}
 use Rattle.table_spec.specs.Rows.{Row}
 use Rattle.text_spec.specs.Calls.{handed, tested}
 use Rattle.text_spec.specs.Limits.{maxJournalBytes}
@@ -68,18 +68,12 @@ module _ (schema : TextRecord) (text : List ℕ) where
 
   -- what reading into the first cells of columns of zeros answers
   module _ (n k : ℕ) (size : k ≡ cellOf n) (v : Verdict) (numbers names parents starts lengths : List ℕ) where
-    abbrev parts : Sizes
-    parts = sizesOf (columns (zerosIn cellCount k) (zerosIn cellCount k) (zerosIn cellCount k) (zerosIn cellCount k) (zerosIn cellCount k))
+    for-structs : journalRead schema text (partSizes k) ≡ journalReadRows schema text n
+    for-structs = ap (journalRead schema text) (part-sizes k n size ∙ ap allOfSize size) ∙ same n
 
-    sizes : parts ≡ allOfSize k
-    sizes = zeros-sizes cellCount k (omega (arith, cell-low n))
-
-    for-structs : journalRead schema text parts ≡ journalReadRows schema text n
-    for-structs = ap (journalRead schema text) (sizes ∙ ap allOfSize size) ∙ same n
-
-    pub read-for : (v ≡ verdict (journalRead schema text parts)) × (columns numbers names parents starts lengths ≡ columnsAfter parts (λ rows. rows) (journalRead schema text parts))
+    pub read-for : (v ≡ verdict (journalRead schema text (partSizes k))) × (columns numbers names parents starts lengths ≡ columnsAfter (partSizes k) (λ rows. rows) (journalRead schema text (partSizes k)))
         → AnsweredFor (journalReadRows schema text n) n
         (record { verdict = v; columns = record { numbers = front k numbers; names = front k names; parents = front k parents; starts = front k starts; lengths = front k lengths } })
     read-for (answer, cells) =
         in-front (journalReadRows schema text n) n (fitting n) v (answer ∙ ap verdict for-structs) k size numbers names parents starts lengths
-        (cells ∙ ap₂ (λ (z : Sizes) (o : Outcome (List Row)). columnsAfter z (λ rows. rows) o) sizes for-structs)
+        (cells ∙ ap₂ (λ (z : Sizes) (o : Outcome (List Row)). columnsAfter z (λ rows. rows) o) (part-sizes k n size) for-structs)

@@ -14,7 +14,7 @@ use Rattle.row_columns.specs.Columns.{columns}
 use Rattle.row_structs.specs.Structs.{emptyCells, columnsIn, cellOf, AnsweredFor}
 use Rattle.row_structs.specs.declared.RowColumns.{RowColumns}
 use Rattle.schema_spec.specs.Names.{codeOf}
-use Rattle.table_spec.specs.Columns.{Columns, allOfSize, equalSizes, sizesOf, columnsOf, cellsAt, cellsFrom}
+use Rattle.table_spec.specs.Columns.{Columns, Sizes, allOfSize, equalSizes, sizesOf, columnsOf, cellsAt, cellsFrom}
 use Rattle.table_spec.specs.Rows.{Row, Cells}
 use Rattle.text_laws.specs.Cells.{padded-zeros}
 use Rattle.text_spec.specs.Calls.{inRoom}
@@ -45,12 +45,16 @@ zerosIn n k = take k (zeros n)
 abbrev pub cellCount : ℕ
 cellCount = 65536
 
+-- the sizes of the first cells of columns of zeros
+abbrev pub partSizes : ℕ → Sizes
+partSizes k = sizesOf (columns (zerosIn cellCount k) (zerosIn cellCount k) (zerosIn cellCount k) (zerosIn cellCount k) (zerosIn cellCount k))
+
 -- the first cells of columns of zeros written
 abbrev pub front : ℕ → List ℕ → List ℕ
 front k xs = xs ++ drop k (zeros cellCount)
 
 -- ---- the cell of a row
-pub cell-low : (n : ℕ) → cellOf n ≤ maxNodes
+cell-low : (n : ℕ) → cellOf n ≤ maxNodes
 cell-low n = by (ltb n maxNodes) refl
   where
     by : (b : Bool) → ltb n maxNodes ≡ b → cond b n maxNodes ≤ maxNodes
@@ -107,19 +111,18 @@ padded-front (suc k) zero xs h l = absurd (omega arith)
 padded-front (suc k) (suc n) [] h l = ap (λ (r : List ℕ). 0 ∷ r) (padded-front k n [] (omega arith) (omega arith))
 padded-front (suc k) (suc n) (x ∷ xs) h l = ap (λ (r : List ℕ). x ∷ r) (padded-front k n xs (omega arith) (omega arith))
 
--- the first cells of zeros are so many
-pub zeros-length : (n k : ℕ) → k ≤ n → k ≡ length (zerosIn n k)
-zeros-length n k l = sym (length-take-le k (zeros n) (omega (arith, length-replicate {A = ℕ} n 0)))
-
-pub zeros-sizes : (n k : ℕ) → k ≤ n → sizesOf (columns (zerosIn n k) (zerosIn n k) (zerosIn n k) (zerosIn n k) (zerosIn n k)) ≡ allOfSize k
-zeros-sizes n k l = ap allOfSize (sym (zeros-length n k l))
-
 -- the cells up to a row's are within a column of zeros, and so many
 pub cell-inside : (k n : ℕ) → k ≡ cellOf n → k ≤ cellCount
 cell-inside k n e = omega (arith, cell-low n)
 
+zeros-length : (n k : ℕ) → k ≤ n → k ≡ length (zerosIn n k)
+zeros-length n k l = sym (length-take-le k (zeros n) (omega (arith, length-replicate {A = ℕ} n 0)))
+
 pub cell-part : (k n : ℕ) → k ≡ cellOf n → k ≡ length (zerosIn cellCount k)
 cell-part k n e = zeros-length cellCount k (cell-inside k n e)
+
+pub part-sizes : (k n : ℕ) → k ≡ cellOf n → partSizes k ≡ allOfSize k
+part-sizes k n e = ap allOfSize (sym (cell-part k n e))
 
 -- ---- rows in columns
 module _ (rows : List Row) where
