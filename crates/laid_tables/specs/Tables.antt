@@ -1,9 +1,9 @@
 -- A table that is handed in as row structs holds what the columns hold in which they are laid, and nothing where it has more rows than a table can have.
-use mathlib.Core.Bool.{Bool, true, cond, not, _&&_}
-use mathlib.Core.List.{List, [], _∷_, map}
+use mathlib.Core.Bool.{Bool, cond, not, _&&_}
+use mathlib.Core.List.{List, [], _∷_}
 use mathlib.Core.Option.{Option, none, some}
 use mathlib.Core.Path.{_≡_, refl, sym, ap, ap₂, subst, _∙_}
-use Prim.Native.Nat.{ℕ, zero, suc, _+_, _<_, _≤_}
+use Prim.Native.Nat.{ℕ, suc, _+_, _<_, _≤_}
 use native.Mathlib.Omega.{arith}
 use lib.Dec.{T, leb, le→leb}
 use lib.ListN.{length, getD, length-map, List·getD-map}
@@ -24,7 +24,7 @@ use Rattle.text_laws.specs.Tests.{true-of}
 use Rattle.text_spec.specs.Limits.{maxNodes}
 use Rattle.text_spec.specs.Lists.{isNone}
 use Rattle.written_tables.specs.Asked.{well-formed-alone}
-use Rattle.written_tables.specs.Lent.{beside-held}
+use Rattle.written_tables.specs.Lent.{beside-held, held-size}
 
 -- ---- the rows in columns of one size
 rows-lent : (t : LentTable) (n : ℕ) → sizesOf (t .columns) ≡ allOfSize n → t .count ≤ n → rowsLent t ≡ rowsOf (cellsFrom (t .columns) 0 (t .count))
@@ -103,6 +103,15 @@ module _ (s : Schema) (t : LentTable) where
   rows-few : (rows : List Row) → rowsLent t ≡ some rows → T (wellFormed (typesOf s) rows) → t .count ≤ maxNodes
   rows-few rows e ok =
       omega (arith, lent-columns t rows e s ok .few, length-take-le (t .count) (t .columns .parents) (lent-cells t rows e .parented))
+
+  -- the rows that it holds are no more than a table can have
+  pub held-few : (rows : List Row) → tableHeld s t ≡ some rows → length rows ≤ maxNodes
+  unfolding isHeld
+  held-few rows e =
+      let h = table-holds s t (ap (λ (o : Option (List Row)). not (isNone o)) e) in
+      let same : some (h .0) ≡ some rows = sym (h .1 .held) ∙ e in
+      let size : h .0 ≡ rows = cc in
+      omega (arith, rows-few (h .0) (h .1 .lent) (h .1 .passes), held-size t (h .0) (h .1 .lent), ap (λ (l : List Row). length l) size)
 
   module _ (many : maxNodes < t .count) where
     pub none-held : tableHeld s t ≡ none

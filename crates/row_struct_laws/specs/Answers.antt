@@ -20,8 +20,8 @@ use Rattle.text_laws.specs.Cells.{padded-zeros}
 use Rattle.text_spec.specs.Calls.{inRoom}
 use Rattle.text_spec.specs.Cells.{padded}
 use Rattle.text_spec.specs.Limits.{maxNodes}
-use Rattle.text_spec.specs.Refusals.{Outcome}
-use Rattle.verdicts.specs.Verdicts.{verdict}
+use Rattle.text_spec.specs.Refusals.{Outcome, refused, at, badRecord}
+use Rattle.verdicts.specs.Verdicts.{refusedBy, verdict}
 use Rattle.verdicts.specs.declared.Verdict.{Verdict}
 
 -- ---- definitions
@@ -180,3 +180,11 @@ module _ (o : Outcome (List Row)) (n : ℕ) (f : Fitting o n) (v : Verdict) (ans
       in-cells cellCount (omega arith) _
       (ap (λ (x : Columns). columns (front k (x .numbers)) (front k (x .names)) (front k (x .parents)) (front k (x .starts)) (front k (x .lengths))) e
       ∙ same-columns (at (λ r. r .number)) (at (λ r. codeOf (r .name))) (at (λ r. r .parent)) (at (λ r. r .start)) (at (λ r. r .size)))
+
+-- refusal 1: zeros alone
+pub in-zeros : (n : ℕ) (v : Verdict) → v ≡ refusedBy 1 0
+    → AnsweredFor (refused (at badRecord 0)) n
+    (record { verdict = v; columns = record { numbers = zeros cellCount; names = zeros cellCount; parents = zeros cellCount; starts = zeros cellCount; lengths = zeros cellCount } })
+in-zeros n v e =
+    let clear = sym (padded-zeros cellCount) in
+    in-cells (refused (at badRecord 0)) n (record { room = omega arith; few = omega arith }) v e cellCount (omega arith) _ (same-columns clear clear clear clear clear)

@@ -1,10 +1,12 @@
 -- `read_columns` meets its contract: what the reader answers in the first cells of columns of zeros.
+use denote.Ref.{now}
 use mathlib.Core.Path.{_≡_}
 use Prim.Native.Nat.{_≤_}
 use lib.ListN.{length}
 use borrow.Author.Needs.{needs}
 use Rattle.read_columns.specs.Reading.{read-for}
 use Rattle.row_struct_laws.specs.Answers.{cellCount, zerosIn, cell-inside, cell-part}
+use Rattle.schema_records.specs.Records.{recordWith}
 use Rattle.read_columns.proofs.read_columns.Statement.{statement}
 use Rattle.read_columns.proofs.read_columns.Tie as tie
 
@@ -49,7 +51,11 @@ returns : tie.Need-returns
 returns c =
     let read = c .before .before .before .before .before in
     let made = read .before .before .before .before .before .before in
-    read-for _ _ _ _ (made .cell-of .ensures) _ _ _ _ _ _ (read .read-journal .ensures .0) (read .read-journal .ensures .1)
+    let cells = read .read-journal .last .1 .1 in
+    let start = made .before .before in
+    let schema = start .args .schema in
+    read-for (recordWith (schema .bytes) (schema .len)) (now (start .args .text)) (start .args .room) (made .cell-of .result) (made .cell-of .ensures) (read .read-journal .result)
+    (cells .0) (cells .1 .0) (cells .1 .1 .0) (cells .1 .1 .1 .0) (cells .1 .1 .1 .1 .0) (read .read-journal .ensures .0) (read .read-journal .ensures .1)
 
 pub read-columns-spec : {M : Type 1} → statement M
 read-columns-spec =

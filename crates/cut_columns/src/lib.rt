@@ -1,0 +1,92 @@
+// Cutting a table of row structs that are laid in columns, into the columns of so many others.
+ghost use mathlib.Core.List.{List};
+ghost use mathlib.Core.Path.{_≡_};
+ghost use Prim.Native.Nat.{ℕ, _≤_};
+ghost use lib.ListN.{length};
+ghost use Rattle.library_spec.specs.Calls.{tableCutRows};
+ghost use Rattle.row_structs.specs.Structs.{AnsweredFor, Laid, columnsIn};
+ghost use Rattle.schema_records.specs.Records.{recordWith};
+ghost use Rattle.table_spec.specs.Rows.{Cells};
+ghost use Rattle.text_spec.specs.Limits.{maxNodes};
+ghost use Rattle.text_spec.specs.Refusals.{refused, at, badRecord};
+use cut_records::cut_table;
+use row_structs::CELLS;
+use row_structs::MAX_ROWS;
+use row_structs::RowColumns;
+use row_structs::TableAnswer;
+use row_structs::cell_of;
+use schema::Schema;
+use verdicts::BAD_RECORD;
+use verdicts::Verdict;
+
+// Refusal 1 for any number of structs: every cell is 0.
+fn refuse() -> TableAnswer
+    ensures { λ r. ⌜ ((n : ℕ) → AnsweredFor (refused (at badRecord 0)) n r) ⌝ }
+{
+    let verdict: Verdict = verdicts::refused(BAD_RECORD, 0);
+    let columns = RowColumns {
+        numbers: [0u16; CELLS],
+        names: [0u8; CELLS],
+        parents: [0u16; CELLS],
+        starts: [0u32; CELLS],
+        lengths: [0u16; CELLS],
+    };
+    TableAnswer { verdict, columns }
+}
+
+// Cuts a table of no more rows than a table can have.
+fn cut_laid(schema: Schema, laid: RowColumns, count: usize, word: u64, room: usize) -> TableAnswer
+    requires { ⌜ count ≤ maxNodes ⌝ }
+    ensures { λ r. ⌜ ((rows : List Cells) → length rows ≡ count → Laid rows (columnsIn laid) → AnsweredFor (tableCutRows (recordWith (schema .bytes) (schema .len)) rows word room) room r) ⌝ }
+{
+    let held = laid.numbers;
+    let codes = laid.names;
+    let above = laid.parents;
+    let places = laid.starts;
+    let sizes = laid.lengths;
+    let mut numbers = [0u16; CELLS];
+    let mut names = [0u8; CELLS];
+    let mut parents = [0u16; CELLS];
+    let mut starts = [0u32; CELLS];
+    let mut lengths = [0u16; CELLS];
+    let size = cell_of(room);
+    let verdict: Verdict = cut_table(
+        schema,
+        &held,
+        &codes,
+        &above,
+        &places,
+        &sizes,
+        count,
+        word,
+        &mut numbers[..size],
+        &mut names[..size],
+        &mut parents[..size],
+        &mut starts[..size],
+        &mut lengths[..size],
+    );
+    let columns = RowColumns {
+        numbers,
+        names,
+        parents,
+        starts,
+        lengths,
+    };
+    TableAnswer { verdict, columns }
+}
+
+// Cuts a table of so many row structs, of which no more are laid in the columns than a table can have, for so many others.
+pub fn cut_columns(
+    schema: Schema,
+    columns: RowColumns,
+    count: usize,
+    word: u64,
+    room: usize,
+) -> TableAnswer
+    ensures { λ r. ⌜ ((rows : List Cells) → length rows ≡ count → Laid rows (columnsIn columns) → AnsweredFor (tableCutRows (recordWith (schema .bytes) (schema .len)) rows word room) room r) ⌝ }
+{
+    if count > MAX_ROWS {
+        return refuse();
+    }
+    cut_laid(schema, columns, count, word, room)
+}
