@@ -1,5 +1,5 @@
-/* Cutting a table of 60,000 rows, and the chain of one of its rows: the proved entries against plain C loops, each with the schema read and the
-   table judged. Both must give the same cells. */
+/* Cutting a table of 60,000 rows, and the chain of one of its rows: the proved entries, through crates/test_tables, against plain C loops, each with
+   the schema read (the proved ones compile its record) and the table judged. Both must give the same cells. */
 #include <stdint.h>
 #include <stdio.h>
 #include <time.h>
@@ -7,10 +7,15 @@
 
 enum { ROWS = 60000, CHAIN = 4096, TIMES = 40 };
 
-size_t time_cut(const uint8_t *, size_t, const uint16_t *, size_t, const uint8_t *, size_t, const uint16_t *, size_t, const uint32_t *, size_t,
-                const uint16_t *, size_t, size_t, uint64_t, uint16_t *, size_t, uint8_t *, size_t, uint16_t *, size_t, uint32_t *, size_t, uint16_t *, size_t);
-size_t time_chain(const uint8_t *, size_t, const uint16_t *, size_t, const uint8_t *, size_t, const uint16_t *, size_t, const uint32_t *, size_t,
-                  const uint16_t *, size_t, size_t, size_t, uint8_t *, size_t);
+/* what the functions of crates/test_tables answer */
+struct outcome {
+    uint64_t number, place, size, other;
+};
+struct outcome test_cut_table(const uint8_t *, size_t, size_t, const uint16_t *, size_t, const uint8_t *, size_t, const uint16_t *, size_t,
+                              const uint32_t *, size_t, const uint16_t *, size_t, size_t, uint64_t, uint16_t *, size_t, uint8_t *, size_t, uint16_t *, size_t,
+                              uint32_t *, size_t, uint16_t *, size_t);
+struct outcome test_row_chain(const uint8_t *, size_t, size_t, const uint16_t *, size_t, const uint8_t *, size_t, const uint16_t *, size_t,
+                              const uint32_t *, size_t, const uint16_t *, size_t, size_t, size_t, uint8_t *, size_t);
 
 static const char schema[] = "<!ELEMENT a (a|b)*><!ELEMENT b (#PCDATA)>";
 static const char *const names[] = {"a", "b"};
@@ -63,8 +68,10 @@ static size_t plain_cut(uint64_t word) {
 }
 
 static size_t proved_cut(uint64_t word) {
-    return time_cut((const uint8_t *)schema, sizeof schema - 1, numbers, ROWS, codes, ROWS, parents, ROWS, starts, ROWS, lengths, ROWS, ROWS, word,
-                    proved.numbers, ROWS, proved.codes, ROWS, proved.parents, ROWS, proved.starts, ROWS, proved.lengths, ROWS);
+    return test_cut_table((const uint8_t *)schema, sizeof schema - 1, sizeof schema - 1, numbers, ROWS, codes, ROWS, parents, ROWS, starts, ROWS,
+                          lengths, ROWS, ROWS, word, proved.numbers, ROWS, proved.codes, ROWS, proved.parents, ROWS, proved.starts, ROWS, proved.lengths,
+                          ROWS)
+        .size;
 }
 
 static size_t put_chain(int row) {
@@ -85,8 +92,9 @@ static size_t plain_row(uint64_t row) {
 }
 
 static size_t proved_row(uint64_t row) {
-    return time_chain((const uint8_t *)schema, sizeof schema - 1, numbers, ROWS, codes, ROWS, parents, ROWS, starts, ROWS, lengths, ROWS, ROWS, row,
-                      proved_chain, CHAIN);
+    return test_row_chain((const uint8_t *)schema, sizeof schema - 1, sizeof schema - 1, numbers, ROWS, codes, ROWS, parents, ROWS, starts, ROWS,
+                          lengths, ROWS, ROWS, row, proved_chain, CHAIN)
+        .size;
 }
 
 static double microseconds(size_t (*work)(uint64_t), uint64_t argument, size_t *answer) {
