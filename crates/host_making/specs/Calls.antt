@@ -1,7 +1,7 @@
 -- The call that makes an extract, by its stages.
 use mathlib.Core.Bool.{Bool, true, false}
 use mathlib.Core.List.{List, []}
-use mathlib.Core.Path.{_≡_, refl, ap, _∙_}
+use mathlib.Core.Path.{_≡_, refl, sym, ap, subst, _∙_}
 use Prim.Native.Nat.{ℕ}
 use lib.ListN.{length}
 use Rattle.compiled_paths.specs.Paths.{pathsIn}
@@ -12,38 +12,71 @@ use Rattle.host_results.specs.Exits.{refusedBy, Exits, RefusedExit, same-exit, 
 use Rattle.host_results.specs.declared.HostResult.{HostResult}
 use Rattle.host_texts.specs.Texts.{TextsJudged, texts-accepted, texts-refused}
 use Rattle.host_texts.specs.declared.Texts.{Texts}
+use Rattle.host_texts.specs.declared.Told.{Told}
 use Rattle.library_spec.specs.Hosts.{makeExtract}
 use Rattle.row_columns.specs.ColumnLaws.{equal-columns}
 use Rattle.row_numbers.specs.Cells.{Cleared}
 use Rattle.schema_spec.specs.Records.{schemaIn}
 use Rattle.table_spec.specs.Columns.{Columns, sizesOf, equalSizes, columnsOf}
-use Rattle.text_laws.specs.Tests.{passed}
+use Rattle.text_laws.specs.Tests.{never, passed}
 use Rattle.text_spec.specs.Refusals.{at, badRecord}
+
+-- the refusal of a call by its columns, then by its texts
+abbrev pub refusalOf : Bool → Told → Told
+refusalOf true told = told
+refusalOf false told = record { number = 1; place = 0 }
+
+pub refusal-by : (equal : Bool) (told : Told) {a : Bool} → equal ≡ a → refusalOf a told ≡ refusalOf equal told
+refusal-by equal told e = sym (ap (λ (x : Bool). refusalOf x told) e)
+
+-- a call that is not refused is refused by neither
+none-refused : (equal : Bool) (told u : Told) → u ≡ refusalOf equal told → u .number ≡ 0 → (equal ≡ true) × (told .number ≡ 0)
+none-refused true told u e n = (refl, sym (ap (λ (x : Told). x .number) e) ∙ n)
+none-refused false told u e n = never (sym n ∙ ap (λ (x : Told). x .number) e)
 
 pub all-refused : (number place : ℕ) (c d : Columns) (was out : List ℕ) (r : HostResult) → d ≡ columnsOf (sizesOf c) [] → Cleared was 0 out → r ≡ refusedBy number place
     → RefusedExit number place (lentOf c was []) r d out []
 all-refused number place c d was out r e w f = record { result = f; columns-are = e; items-are = all-cleared was out w; counts-are = refl }
 
 -- what the later stages ask for
-pub under-texts : (schema bundle : List ℕ) (c : Columns) → equalSizes (sizesOf c) ≡ true → (t : Texts) → TextsJudged schema bundle t → t .told .number ≡ 0 → UnderTexts schema (t .schema) (t .paths) c
-under-texts schema bundle c equal t J n =
+pub under-texts : (schema bundle : List ℕ) (c : Columns) (t : Texts) → TextsJudged schema bundle t → (equal : Bool) → equal ≡ equalSizes (sizesOf c) → (u : Told) → u ≡ refusalOf equal (t .told) → u .number ≡ 0
+    → UnderTexts schema (t .schema) (t .paths) c
+under-texts schema bundle c t J equal sizes u e m =
+    let f = none-refused equal (t .told) u e m in
     record {
-      read = bundle-accepted schema bundle (pathsIn (t .paths)) (texts-accepted schema bundle t J n) .0;
+      read = bundle-accepted schema bundle (pathsIn (t .paths)) (texts-accepted schema bundle t J (f .1)) .0;
       made = J .compiled;
       shaped = J .shaped;
-      equal = equal-columns c (passed equal);
+      equal = equal-columns c (passed (sym sizes ∙ f .0));
     }
 
 module _ (schema bundle journal : List ℕ) (c : Columns) (was : List ℕ) {r : HostResult} {d : Columns} {out : List ℕ} where
-  pub unequal-exit : equalSizes (sizesOf c) ≡ false → RefusedExit 1 0 (lentOf c was []) r d out [] → Exits (makeExtract schema bundle journal (lentOf c was [])) (lentOf c was []) r d out []
+  unequal-exit : equalSizes (sizesOf c) ≡ false → RefusedExit 1 0 (lentOf c was []) r d out [] → Exits (makeExtract schema bundle journal (lentOf c was [])) (lentOf c was []) r d out []
   unequal-exit e h = same-exit (make-unequal schema bundle journal (lentOf c was []) e) (refused-exit (at badRecord 0) refl refl h)
 
   module _ (equal : equalSizes (sizesOf c) ≡ true) (t : Texts) (J : TextsJudged schema bundle t) where
-    pub turned-back-exit : (t .told .number ≡ 0 → ⊥) → RefusedExit (t .told .number) (t .told .place) (lentOf c was []) r d out [] → Exits (makeExtract schema bundle journal (lentOf c was [])) (lentOf c was []) r d out []
+    turned-back-exit : (t .told .number ≡ 0 → ⊥) → RefusedExit (t .told .number) (t .told .place) (lentOf c was []) r d out [] → Exits (makeExtract schema bundle journal (lentOf c was [])) (lentOf c was []) r d out []
     turned-back-exit n h =
         let f = texts-refused schema bundle t J n in
         same-exit (make-refused schema bundle journal (lentOf c was []) equal (f .0) (f .1)) (refused-exit (f .0) (f .2) (f .3) h)
 
-    pub accepted-exit : t .told .number ≡ 0 → Exits (madeUnder (schemaIn schema) (pathsIn (t .paths)) journal (sizesOf c) (length was)) (lentOf c was []) r d out []
+    accepted-exit : t .told .number ≡ 0 → Exits (madeUnder (schemaIn schema) (pathsIn (t .paths)) journal (sizesOf c) (length was)) (lentOf c was []) r d out []
         → Exits (makeExtract schema bundle journal (lentOf c was [])) (lentOf c was []) r d out []
     accepted-exit n h = same-exit (make-accepted schema bundle journal (lentOf c was []) equal refl (pathsIn (t .paths)) (texts-accepted schema bundle t J n)) h
+
+  module _ (t : Texts) (J : TextsJudged schema bundle t) (equal : Bool) (sizes : equal ≡ equalSizes (sizesOf c)) (u : Told) (e : u ≡ refusalOf equal (t .told)) where
+    pub refused-call : (u .number ≡ 0 → ⊥) → RefusedExit (u .number) (u .place) (lentOf c was []) r d out [] → Exits (makeExtract schema bundle journal (lentOf c was [])) (lentOf c was []) r d out []
+    refused-call n h = pick equal (sym sizes) e
+      where
+        same : {v : Told} → u ≡ v → RefusedExit (v .number) (v .place) (lentOf c was []) r d out []
+        same f = subst (λ (x : Told). RefusedExit (x .number) (x .place) (lentOf c was []) r d out []) f h
+
+        pick : (a : Bool) → equalSizes (sizesOf c) ≡ a → u ≡ refusalOf a (t .told) → Exits (makeExtract schema bundle journal (lentOf c was [])) (lentOf c was []) r d out []
+        pick true p f = turned-back-exit p t J (λ z. n (ap (λ (x : Told). x .number) f ∙ z)) (same f)
+        pick false p f = unequal-exit p (same f)
+
+    pub accepted-call : u .number ≡ 0 → Exits (madeUnder (schemaIn schema) (pathsIn (t .paths)) journal (sizesOf c) (length was)) (lentOf c was []) r d out []
+        → Exits (makeExtract schema bundle journal (lentOf c was [])) (lentOf c was []) r d out []
+    accepted-call m h =
+        let f = none-refused equal (t .told) u e m in
+        accepted-exit (sym sizes ∙ f .0) t J (f .1) h

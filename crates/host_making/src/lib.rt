@@ -1,6 +1,8 @@
 // Making an extract of three texts: columns of one length first (1), then the texts in turn, 18 last. On refusal every lent cell is 0.
 ghost use mathlib.Core.List.{[]};
+ghost use mathlib.Core.Path.{_≡_};
 ghost use Rattle.host_laws.specs.Stages.{lentOf};
+ghost use Rattle.host_making.specs.Calls.{refusalOf};
 ghost use Rattle.host_results.specs.Exits.{Exits, RefusedExit};
 ghost use Rattle.library_spec.specs.Hosts.{makeExtract};
 ghost use Rattle.row_columns.specs.Columns.{columns};
@@ -9,6 +11,7 @@ use compiled_paths::CompiledPaths;
 use compiled_schema::CompiledSchema;
 use host_made::make_under;
 use host_results::HostResult;
+use host_texts::Told;
 use host_texts::judge_texts;
 use names::NameSet;
 use schema_entries::Entries;
@@ -32,6 +35,19 @@ fn refuse(
     host_results::refused(number, place)
 }
 
+// The refusal before the journal is read: the call's own, then the texts'.
+fn refusal(equal: bool, told: Told) -> Told
+    ensures { λ r. ⌜ r ≡ refusalOf equal told ⌝ }
+{
+    if !equal {
+        return Told {
+            number: BAD_RECORD,
+            place: 0,
+        };
+    }
+    told
+}
+
 // The texts are compiled once, and the journal is read once.
 pub fn make_extract(
     schema: &[u8],
@@ -46,17 +62,15 @@ pub fn make_extract(
 ) -> HostResult
     ensures { λ r. ⌜ Exits (makeExtract (now (schema .entry)) (now (bundle .entry)) (now (journal .entry)) (lentOf (columns (now (numbers .entry)) (now (names .entry)) (now (parents .entry)) (now (starts .entry)) (now (lengths .entry))) (now (out .entry)) [])) (lentOf (columns (now (numbers .entry)) (now (names .entry)) (now (parents .entry)) (now (starts .entry)) (now (lengths .entry))) (now (out .entry)) []) r (columns (now (numbers .exit)) (now (names .exit)) (now (parents .exit)) (now (starts .exit)) (now (lengths .exit))) (now (out .exit)) [] ⌝ }
 {
-    if !equal_sizes(
+    let equal = equal_sizes(
         numbers.len(),
         names.len(),
         parents.len(),
         starts.len(),
         lengths.len(),
-    ) {
-        return refuse(BAD_RECORD, 0, numbers, names, parents, starts, lengths, out);
-    }
+    );
     let texts = judge_texts(schema, bundle);
-    let told = texts.told;
+    let told = refusal(equal, texts.told);
     if told.number != 0 {
         return refuse(
             told.number,
@@ -69,12 +83,10 @@ pub fn make_extract(
             out,
         );
     }
-    let compiled: CompiledSchema = texts.schema;
-    let paths: CompiledPaths = texts.paths;
     make_under(
         schema,
-        compiled,
-        paths,
+        texts.schema,
+        texts.paths,
         journal,
         numbers,
         names,

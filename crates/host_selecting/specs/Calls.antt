@@ -1,7 +1,7 @@
 -- The call that selects from an extract, by its stages.
 use mathlib.Core.Bool.{Bool, true, false, cond}
 use mathlib.Core.List.{List, []}
-use mathlib.Core.Path.{_≡_, refl, sym, ap, _∙_}
+use mathlib.Core.Path.{_≡_, refl, sym, ap, subst, _∙_}
 use Prim.Native.Nat.{ℕ, zero, suc}
 use borrow.Author.Tests.{eq-eqb, ne-eqb, eqb-true, eqb-false}
 use lib.Dec.{leb, leb→le, eqb}
@@ -17,13 +17,14 @@ use Rattle.host_results.specs.Exits.{refusedBy, Exits, RefusedExit, same-exit, 
 use Rattle.host_results.specs.declared.HostResult.{HostResult}
 use Rattle.host_texts.specs.Texts.{TextsJudged, texts-accepted, texts-refused}
 use Rattle.host_texts.specs.declared.Texts.{Texts}
+use Rattle.host_texts.specs.declared.Told.{Told}
 use Rattle.library_spec.specs.Hosts.{bundlePaths, inRange, selectFrom}
 use Rattle.row_columns.specs.ColumnLaws.{equal-columns}
 use Rattle.row_numbers.specs.Cells.{Cleared}
 use Rattle.schema_spec.specs.Reading.{readSchema}
 use Rattle.schema_spec.specs.Records.{schemaIn}
 use Rattle.table_spec.specs.Columns.{Columns, sizesOf, equalSizes, columnsOf}
-use Rattle.text_laws.specs.Tests.{passed}
+use Rattle.text_laws.specs.Tests.{never, passed}
 use Rattle.text_spec.specs.Limits.{maxPaths}
 use Rattle.text_spec.specs.Refusals.{accepted, at, badRecord}
 
@@ -36,6 +37,15 @@ range-refused place number count n = sym (ap (λ (b : Bool). cond b (leb place c
 
 pub range-accepted : (place number count : ℕ) → number ≡ 0 → leb place count ≡ rangeOf place number count
 range-accepted place number count e = sym (ap (λ (b : Bool). cond b (leb place count) (leb place maxPaths)) (eq-eqb number 0 e))
+
+-- the refusal of a call by its columns and its place, then by its texts
+abbrev pub refusalOf : Bool → Bool → Told → Told
+refusalOf true true told = told
+refusalOf true false told = record { number = 1; place = 0 }
+refusalOf false inside told = record { number = 1; place = 0 }
+
+pub refusal-by : (equal inside : Bool) (told : Told) {a b : Bool} → equal ≡ a → inside ≡ b → refusalOf a b told ≡ refusalOf equal inside told
+refusal-by equal inside told {a} e f = sym (ap (λ (x : Bool). refusalOf x inside told) e ∙ ap (λ (x : Bool). refusalOf a x told) f)
 
 -- as many paths as are counted
 paths-long : (axes lows highs ways conditions paths : List ℕ) (n i : ℕ) → length (bundleIn axes lows highs ways conditions paths n i) ≡ n
@@ -52,6 +62,12 @@ pub all-refused : (number place : ℕ) (c d : Columns) (items counts items′ co
 all-refused number place c d items counts items′ counts′ r e i m f =
     record { result = f; columns-are = e; items-are = all-cleared items items′ i; counts-are = all-cleared counts counts′ m }
 
+-- a call that is not refused is refused by none of them
+none-refused : (equal inside : Bool) (told u : Told) → u ≡ refusalOf equal inside told → u .number ≡ 0 → (equal ≡ true) × (inside ≡ true) × (told .number ≡ 0)
+none-refused true true told u e n = (refl, refl, sym (ap (λ (x : Told). x .number) e) ∙ n)
+none-refused true false told u e n = never (sym n ∙ ap (λ (x : Told). x .number) e)
+none-refused false inside told u e n = never (sym n ∙ ap (λ (x : Told). x .number) e)
+
 module _ (schema bundle : List ℕ) (place : ℕ) (t : Texts) (J : TextsJudged schema bundle t) where
   -- the test of the place is the definition's
   range-is : rangeOf place (t .told .number) (t .paths .count) ≡ inRange place (bundlePaths schema bundle)
@@ -64,32 +80,34 @@ module _ (schema bundle : List ℕ) (place : ℕ) (t : Texts) (J : TextsJudged s
       pick false q = sym (ap (inRange place) (texts-refused schema bundle t J (eqb-false (t .told .number) 0 q) .1))
 
   -- what the later stages ask for
-  pub under-schema : (c : Columns) → equalSizes (sizesOf c) ≡ true → rangeOf place (t .told .number) (t .paths .count) ≡ true → t .told .number ≡ 0 → UnderSchema (t .schema) (t .paths) place c
-  under-schema c equal inside n =
+  pub under-schema : (c : Columns) (equal : Bool) → equal ≡ equalSizes (sizesOf c) → (u : Told) → u ≡ refusalOf equal (rangeOf place (t .told .number) (t .paths .count)) (t .told)
+      → u .number ≡ 0 → UnderSchema (t .schema) (t .paths) place c
+  under-schema c equal sizes u e m =
+      let f = none-refused equal (rangeOf place (t .told .number) (t .paths .count)) (t .told) u e m in
       record {
         schema = schema;
-        read = bundle-accepted schema bundle (pathsIn (t .paths)) (texts-accepted schema bundle t J n) .0;
+        read = bundle-accepted schema bundle (pathsIn (t .paths)) (texts-accepted schema bundle t J (f .2)) .0;
         made = J .compiled;
         shaped = J .shaped;
-        inside = leb→le place (t .paths .count) (passed (range-accepted place (t .told .number) (t .paths .count) n ∙ inside));
-        equal = equal-columns c (passed equal);
+        inside = leb→le place (t .paths .count) (passed (range-accepted place (t .told .number) (t .paths .count) (f .2) ∙ f .1));
+        equal = equal-columns c (passed (sym sizes ∙ f .0));
       }
 
 module _ (schema bundle : List ℕ) (place : ℕ) (extract : List ℕ) (c : Columns) (items counts : List ℕ) {r : HostResult} {d : Columns} {items′ counts′ : List ℕ} where
-  pub unequal-exit : equalSizes (sizesOf c) ≡ false → RefusedExit 1 0 (lentOf c items counts) r d items′ counts′ → Exits (selectFrom schema bundle place extract (lentOf c items counts)) (lentOf c items counts) r d items′ counts′
+  unequal-exit : equalSizes (sizesOf c) ≡ false → RefusedExit 1 0 (lentOf c items counts) r d items′ counts′ → Exits (selectFrom schema bundle place extract (lentOf c items counts)) (lentOf c items counts) r d items′ counts′
   unequal-exit e h = same-exit (select-unequal schema bundle place extract (lentOf c items counts) e) (refused-exit (at badRecord 0) refl refl h)
 
   module _ (equal : equalSizes (sizesOf c) ≡ true) (t : Texts) (J : TextsJudged schema bundle t) where
-    pub out-exit : rangeOf place (t .told .number) (t .paths .count) ≡ false → RefusedExit 1 0 (lentOf c items counts) r d items′ counts′ → Exits (selectFrom schema bundle place extract (lentOf c items counts)) (lentOf c items counts) r d items′ counts′
+    out-exit : rangeOf place (t .told .number) (t .paths .count) ≡ false → RefusedExit 1 0 (lentOf c items counts) r d items′ counts′ → Exits (selectFrom schema bundle place extract (lentOf c items counts)) (lentOf c items counts) r d items′ counts′
     out-exit e h = same-exit (select-out schema bundle place extract (lentOf c items counts) equal (sym (range-is schema bundle place t J) ∙ e)) (refused-exit (at badRecord 0) refl refl h)
 
     module _ (inside : rangeOf place (t .told .number) (t .paths .count) ≡ true) where
-      pub turned-back-exit : (t .told .number ≡ 0 → ⊥) → RefusedExit (t .told .number) (t .told .place) (lentOf c items counts) r d items′ counts′ → Exits (selectFrom schema bundle place extract (lentOf c items counts)) (lentOf c items counts) r d items′ counts′
+      turned-back-exit : (t .told .number ≡ 0 → ⊥) → RefusedExit (t .told .number) (t .told .place) (lentOf c items counts) r d items′ counts′ → Exits (selectFrom schema bundle place extract (lentOf c items counts)) (lentOf c items counts) r d items′ counts′
       turned-back-exit n h =
           let f = texts-refused schema bundle t J n in
           same-exit (select-refused schema bundle place extract (lentOf c items counts) equal (sym (range-is schema bundle place t J) ∙ inside) (f .0) (f .1)) (refused-exit (f .0) (f .2) (f .3) h)
 
-      pub accepted-exit : t .told .number ≡ 0
+      accepted-exit : t .told .number ≡ 0
           → ((z : List ℕ) → readSchema z ≡ accepted (schemaIn z) → CompiledOf z (schemaIn z) (t .schema)
           → Exits (chosenUnder (schemaIn z) (pathsIn (t .paths)) place extract (lentOf c items counts)) (lentOf c items counts) r d items′ counts′)
           → Exits (selectFrom schema bundle place extract (lentOf c items counts)) (lentOf c items counts) r d items′ counts′
@@ -97,3 +115,24 @@ module _ (schema bundle : List ℕ) (place : ℕ) (extract : List ℕ) (c : Colu
           let both = texts-accepted schema bundle t J n in
           same-exit (select-accepted schema bundle place extract (lentOf c items counts) equal (sym (range-is schema bundle place t J) ∙ inside) (pathsIn (t .paths)) both)
           (h schema (bundle-accepted schema bundle (pathsIn (t .paths)) both .0) (J .compiled))
+
+  module _ (t : Texts) (J : TextsJudged schema bundle t) (equal : Bool) (sizes : equal ≡ equalSizes (sizesOf c)) (u : Told) (e : u ≡ refusalOf equal (rangeOf place (t .told .number) (t .paths .count)) (t .told)) where
+    pub refused-call : (u .number ≡ 0 → ⊥) → RefusedExit (u .number) (u .place) (lentOf c items counts) r d items′ counts′ → Exits (selectFrom schema bundle place extract (lentOf c items counts)) (lentOf c items counts) r d items′ counts′
+    refused-call n h = pick equal (rangeOf place (t .told .number) (t .paths .count)) (sym sizes) refl e
+      where
+        same : {v : Told} → u ≡ v → RefusedExit (v .number) (v .place) (lentOf c items counts) r d items′ counts′
+        same f = subst (λ (x : Told). RefusedExit (x .number) (x .place) (lentOf c items counts) r d items′ counts′) f h
+
+        pick : (a b : Bool) → equalSizes (sizesOf c) ≡ a → rangeOf place (t .told .number) (t .paths .count) ≡ b → u ≡ refusalOf a b (t .told)
+            → Exits (selectFrom schema bundle place extract (lentOf c items counts)) (lentOf c items counts) r d items′ counts′
+        pick true true p q f = turned-back-exit p t J q (λ z. n (ap (λ (x : Told). x .number) f ∙ z)) (same f)
+        pick true false p q f = out-exit p t J q (same f)
+        pick false b p q f = unequal-exit p (same f)
+
+    pub accepted-call : u .number ≡ 0
+        → ((z : List ℕ) → readSchema z ≡ accepted (schemaIn z) → CompiledOf z (schemaIn z) (t .schema)
+        → Exits (chosenUnder (schemaIn z) (pathsIn (t .paths)) place extract (lentOf c items counts)) (lentOf c items counts) r d items′ counts′)
+        → Exits (selectFrom schema bundle place extract (lentOf c items counts)) (lentOf c items counts) r d items′ counts′
+    accepted-call m h =
+        let f = none-refused equal (rangeOf place (t .told .number) (t .paths .count)) (t .told) u e m in
+        accepted-exit (sym sizes ∙ f .0) t J (f .1) (f .2) h

@@ -3,7 +3,7 @@
 ghost use mathlib.Core.Path.{_≡_};
 ghost use Rattle.host_laws.specs.Stages.{lentOf};
 ghost use Rattle.host_results.specs.Exits.{Exits, RefusedExit};
-ghost use Rattle.host_selecting.specs.Calls.{rangeOf};
+ghost use Rattle.host_selecting.specs.Calls.{rangeOf, refusalOf};
 ghost use Rattle.library_spec.specs.Hosts.{selectFrom};
 ghost use Rattle.row_columns.specs.Columns.{columns};
 use column_sizes::equal_sizes;
@@ -11,6 +11,7 @@ use compiled_paths::CompiledPaths;
 use compiled_schema::CompiledSchema;
 use host_chosen::choose_under;
 use host_results::HostResult;
+use host_texts::Told;
 use host_texts::judge_texts;
 use limits::MAX_PATHS;
 use names::NameSet;
@@ -48,6 +49,25 @@ fn in_range(place: usize, number: u64, count: usize) -> bool
     place <= count
 }
 
+// The refusal before the extract is read: the call's own, then the texts'.
+fn refusal(equal: bool, place: usize, told: Told, count: usize) -> Told
+    ensures { λ r. ⌜ r ≡ refusalOf equal (rangeOf place (told .number) count) told ⌝ }
+{
+    if !equal {
+        return Told {
+            number: BAD_RECORD,
+            place: 0,
+        };
+    }
+    if !in_range(place, told.number, count) {
+        return Told {
+            number: BAD_RECORD,
+            place: 0,
+        };
+    }
+    told
+}
+
 // The texts are compiled once, and the extract is read once for all paths that are asked for.
 pub fn select_from(
     schema: &[u8],
@@ -64,42 +84,15 @@ pub fn select_from(
 ) -> HostResult
     ensures { λ r. ⌜ Exits (selectFrom (now (schema .entry)) (now (bundle .entry)) place (now (extract .entry)) (lentOf (columns (now (numbers .entry)) (now (names .entry)) (now (parents .entry)) (now (starts .entry)) (now (lengths .entry))) (now (items .entry)) (now (counts .entry)))) (lentOf (columns (now (numbers .entry)) (now (names .entry)) (now (parents .entry)) (now (starts .entry)) (now (lengths .entry))) (now (items .entry)) (now (counts .entry))) r (columns (now (numbers .exit)) (now (names .exit)) (now (parents .exit)) (now (starts .exit)) (now (lengths .exit))) (now (items .exit)) (now (counts .exit)) ⌝ }
 {
-    if !equal_sizes(
+    let equal = equal_sizes(
         numbers.len(),
         names.len(),
         parents.len(),
         starts.len(),
         lengths.len(),
-    ) {
-        return refuse(
-            BAD_RECORD,
-            0,
-            numbers,
-            names,
-            parents,
-            starts,
-            lengths,
-            items,
-            counts,
-        );
-    }
+    );
     let texts = judge_texts(schema, bundle);
-    let told = texts.told;
-    let compiled: CompiledSchema = texts.schema;
-    let paths: CompiledPaths = texts.paths;
-    if !in_range(place, told.number, paths.count) {
-        return refuse(
-            BAD_RECORD,
-            0,
-            numbers,
-            names,
-            parents,
-            starts,
-            lengths,
-            items,
-            counts,
-        );
-    }
+    let told = refusal(equal, place, texts.told, texts.paths.count);
     if told.number != 0 {
         return refuse(
             told.number,
@@ -114,8 +107,8 @@ pub fn select_from(
         );
     }
     choose_under(
-        compiled,
-        paths,
+        texts.schema,
+        texts.paths,
         place,
         extract,
         numbers,

@@ -7,9 +7,11 @@ use Rattle.host_making.proofs.refuse.Tie as tie
 
 returns : tie.Need-returns
 returns c =
-    let at = c .before .before .before .before .before .before .before .before .before .before .before .before .before .before .before .before .before .before .before .before .before .before .before .before .before .before .before .args in
+    let written = c .before .before .before in
+    let cleared = written .before .before .before .before .before .before .before .before .before .before .before .before in
+    let at = cleared .before .before .before .before .before .before .before .before .before .before .before .before .args in
     let lent = columns (at .numbers .now) (at .names .now) (at .parents .now) (at .starts .now) (at .lengths .now) in
-    all-refused _ _ lent _ _ _ _ (c .before .before .before .before .before .before .before .before .before .before .before .before .before .before .before .clear .ensures) (c .before .before .before .clear-bytes .ensures) (c .refused .ensures)
+    all-refused _ _ lent _ _ _ _ (cleared .clear .ensures) (written .clear-bytes .ensures) (c .refused .ensures)
 
 pub refuse-spec : {M : Type 1} → statement M
 refuse-spec =
@@ -18,10 +20,10 @@ refuse-spec =
     (λ c κs. search needs)
     (λ c κs. search needs)
     (λ c κs. search needs)
-    (λ c. search needs)
-    (λ c. search needs)
-    (λ c. search needs)
-    (λ c. search needs)
-    (λ c. search needs)
-    (λ c. search needs)
+    (λ c. c .before .before .before .before .before .before .before .before .before .before .before .before .before .before .before .clear .kept .0)
+    (λ c. c .before .before .before .before .before .before .before .before .before .before .before .before .before .before .before .clear .kept .1 .0)
+    (λ c. c .before .before .before .before .before .before .before .before .before .before .before .before .before .before .before .clear .kept .1 .1 .0)
+    (λ c. c .before .before .before .before .before .before .before .before .before .before .before .before .before .before .before .clear .kept .1 .1 .1 .0)
+    (λ c. c .before .before .before .before .before .before .before .before .before .before .before .before .before .before .before .clear .kept .1 .1 .1 .1 .0)
+    (λ c. c .before .before .before .clear-bytes .kept .0)
     returns)

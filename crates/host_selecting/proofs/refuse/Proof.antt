@@ -7,9 +7,12 @@ use Rattle.host_selecting.proofs.refuse.Tie as tie
 
 returns : tie.Need-returns
 returns c =
-    let at = c .before .before .before .before .before .before .before .before .before .before .before .before .before .before .before .before .before .before .before .before .before .before .before .before .before .before .before .before .before .before .before .before .args in
+    let counted = c .before .before .before in
+    let listed = counted .before .before .before .before in
+    let cleared = listed .before .before .before .before .before .before .before .before .before .before .before .before in
+    let at = cleared .before .before .before .before .before .before .before .before .before .before .before .before .before .args in
     let lent = columns (at .numbers .now) (at .names .now) (at .parents .now) (at .starts .now) (at .lengths .now) in
-    all-refused _ _ lent _ _ _ _ _ _ (c .before .before .before .before .before .before .before .before .before .before .before .before .before .before .before .before .before .before .before .clear .ensures) (c .before .before .before .before .before .before .before .clear-from .ensures) (c .before .before .before .clear-counts-from .ensures) (c .refused .ensures)
+    all-refused _ _ lent _ _ _ _ _ _ (cleared .clear .ensures) (listed .clear-from .ensures) (counted .clear-counts-from .ensures) (c .refused .ensures)
 
 pub refuse-spec : {M : Type 1} → statement M
 refuse-spec =
@@ -19,11 +22,11 @@ refuse-spec =
     (λ c κs. search needs)
     (λ c κs. search needs)
     (λ c κs. search needs)
-    (λ c. search needs)
-    (λ c. search needs)
-    (λ c. search needs)
-    (λ c. search needs)
-    (λ c. search needs)
-    (λ c. search needs)
-    (λ c. search needs)
+    (λ c. c .before .before .before .before .before .before .before .before .before .before .before .before .before .before .before .before .before .before .before .clear .kept .0)
+    (λ c. c .before .before .before .before .before .before .before .before .before .before .before .before .before .before .before .before .before .before .before .clear .kept .1 .0)
+    (λ c. c .before .before .before .before .before .before .before .before .before .before .before .before .before .before .before .before .before .before .before .clear .kept .1 .1 .0)
+    (λ c. c .before .before .before .before .before .before .before .before .before .before .before .before .before .before .before .before .before .before .before .clear .kept .1 .1 .1 .0)
+    (λ c. c .before .before .before .before .before .before .before .before .before .before .before .before .before .before .before .before .before .before .before .clear .kept .1 .1 .1 .1 .0)
+    (λ c. c .before .before .before .before .before .before .before .clear-from .kept .0)
+    (λ c. c .before .before .before .clear-counts-from .kept .0)
     returns)
