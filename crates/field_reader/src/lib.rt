@@ -5,12 +5,12 @@ ghost use lib.ListN.{length};
 ghost use Rattle.extract_passes.specs.Steps.{hasField};
 ghost use Rattle.field_reader.specs.Fields.{CountPass, CountAs, FieldPass, FieldAs, FirstAs};
 use extract_levels::MAX_DEPTH;
+use field_ends::is_count;
+use field_ends::is_root;
 use field_tests::two_bytes;
 use field_values::Carried;
 use field_values::FieldRead;
 use field_values::element_field;
-use field_values::is_count;
-use field_values::is_root;
 use field_values::text_field;
 use names::MAX_ELEMENTS;
 
