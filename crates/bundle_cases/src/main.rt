@@ -133,7 +133,7 @@ fn show(schema: Schema, text: &[u8]) {
     match answer {
         Answer::Accepted(n) => {
             let record = read.bundle;
-            if !bundle_reader::is_bundle_record(schema, record) {
+            if !bundle_tests::is_bundle_record(schema, record) {
                 io::write_all(1, b"no record: ");
             }
             io::write_all(1, b"ok ");

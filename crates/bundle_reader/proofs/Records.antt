@@ -1,37 +1,36 @@
--- Laws of the record that is handed back, and of refusal 1 on it.
-use mathlib.Core.Bool.{Bool, true, false, _&&_, _||_}
+-- Laws of the record that is handed back.
+use mathlib.Core.Bool.{Bool, true, false, _||_}
 use mathlib.Core.List.{List, [], _++_}
-use mathlib.Core.Path.{_≡_, refl, sym, ap, ap₂, _∙_}
-use Prim.Native.Nat.{ℕ, _+_, _-_, _≤_, _<_}
+use mathlib.Core.Path.{_≡_, refl, sym, ap, _∙_}
+use Prim.Native.Nat.{ℕ, _+_, _-_, _≤_}
 use native.Mathlib.Omega.{arith}
-use borrow.Author.Tests.{ltb-false, le-leb, lt-leb}
-use lib.Dec.{T, leb, ltb, leb→le}
+use borrow.Author.Tests.{ltb-false}
+use lib.Dec.{T, ltb}
 use lib.ListN.{length, take, drop, replicate, length-replicate}
-use lib.Seq.{sets, sets-eq, length-take-le}
+use lib.Seq.{sets, sets-eq}
 use Rattle.bundle.specs.Judging.{sized, JudgedAs}
 use Rattle.bundle.specs.Judging as judging
 use Rattle.bundle.specs.declared.Judged.{Judged}
 use Rattle.bundle.specs.declared.Judgement.{Judgement}
 use Rattle.bundle.specs.declared.Judgement.the-variants.{Accepted as JudgedAccepted, Refused as JudgedRefused}
-use Rattle.bundle.specs.declared.Kind.{Kind}
-use Rattle.bundle_reader.specs.Records.{emptyBundle, Recorded, answerOf, handedBack, outcomeOf, readUnder, ReadAs, passesBundleRecord}
+use Rattle.bundle_reader.specs.Records.{emptyBundle, Recorded, answerOf, handedBack, outcomeOf, readUnder, ReadAs}
 use Rattle.bundle_reader.specs.declared.Answer.{Answer}
 use Rattle.bundle_reader.specs.declared.Answer.the-variants.{BadRecord}
 use Rattle.bundle_reader.specs.declared.Bundle.{Bundle}
 use Rattle.path_spec.specs.Paths.{LocationPath}
 use Rattle.path_spec.specs.Machine.{parse}
-use Rattle.path_spec.specs.Reading.{parsedRefusals, parsedPaths, bundleRefusals, readBundle, isBundleRecord}
+use Rattle.path_spec.specs.Reading.{parsedRefusals, parsedPaths, bundleRefusals, readBundle}
 use Rattle.schema_reader.specs.Records.{passesRecord}
-use Rattle.schema_spec.specs.Records.{schemaIn, recordBy, isSchemaRecord}
+use Rattle.schema_spec.specs.Records.{schemaIn, recordBy}
 use Rattle.schema_spec.specs.Schemas.{Schema}
 use Rattle.text_laws.specs.Cells.{drop-replicate, padded-zeros, padded-content}
 use Rattle.text_laws.specs.Lists.{append-empty}
 use Rattle.text_laws.specs.Refusals.{judged-accepted, given-free}
-use Rattle.text_laws.specs.Tests.{passed, and-cases, or-right, never}
+use Rattle.text_laws.specs.Tests.{passed, or-right, never}
 use Rattle.text_spec.specs.Calls.{tested}
 use Rattle.text_spec.specs.Cells.{padded}
-use Rattle.text_spec.specs.Limits.{maxSchemaBytes, maxBundleBytes}
-use Rattle.text_spec.specs.Lists.{isEmpty, sameBytes}
+use Rattle.text_spec.specs.Limits.{maxBundleBytes}
+use Rattle.text_spec.specs.Lists.{isEmpty}
 use Rattle.text_spec.specs.Refusals.{Outcome, accepted, refused, isAccepted, at, badLength}
 use Rattle.text_spec.specs.Texts.{lengthRefusals, byteRefusals}
 
@@ -43,13 +42,6 @@ copied text cells h e =
     e ∙ sets-eq text (replicate maxBundleBytes 0) 0 z
     ∙ ap (λ (l : List ℕ). text ++ l) (ap (λ (n : ℕ). drop n (replicate maxBundleBytes 0)) y ∙ drop-replicate (length text) maxBundleBytes 0)
     ∙ sym (padded-content maxBundleBytes text h)
-
--- ---- a schema's record that passes is not too long
-pub schema-size : (cells : List ℕ) (size : ℕ) → passesRecord cells size ≡ true → size ≤ maxSchemaBytes
-schema-size cells size e =
-    let a = leb size maxSchemaBytes in
-    let b = sameBytes cells (padded maxSchemaBytes (take size cells)) in
-    leb→le size maxSchemaBytes (and-cases a b (and-cases (a && b) (isSchemaRecord (take size cells)) (passed e) .0) .0)
 
 -- ---- an accepted text is not too long
 accepted-short : (s : Schema) (text : List ℕ) → T (isAccepted (readBundle s text)) → length text ≤ maxBundleBytes
@@ -101,48 +93,3 @@ module _ (cells : List ℕ) (size : ℕ) (text : List ℕ) where
               bytes = ap (λ (x : Bundle). x .bytes) g ∙ sym (padded-zeros maxBundleBytes) ∙ ap (λ (o : Outcome (List (LocationPath ℕ))). padded maxBundleBytes (recordBy o text)) (sym y);
               size = ap (λ (x : Bundle). x .len) g ∙ ap (λ (o : Outcome (List (LocationPath ℕ))). length (recordBy o text)) (sym y);
             }
-
--- ---- refusal 1
-and-false : (a : Bool) {b : Bool} → b ≡ false → (a && b) ≡ false
-and-false true e = e
-and-false false e = refl
-
-module _ (passes : Bool) (s : Schema) (cells : List ℕ) (size : ℕ) where
-  pub record-no-schema : passes ≡ false → false ≡ (passes && passesBundleRecord s cells size)
-  record-no-schema e = ap (λ (b : Bool). b && passesBundleRecord s cells size) (sym e)
-
-  pub record-long : maxBundleBytes < size → false ≡ (passes && passesBundleRecord s cells size)
-  record-long h =
-      sym (and-false passes
-      (ap (λ (b : Bool). (b && sameBytes cells (padded maxBundleBytes (take size cells))) && isBundleRecord s (take size cells)) (lt-leb size maxBundleBytes h)))
-
-  module _ (h : size ≤ maxBundleBytes) (room : length cells ≡ maxBundleBytes) {again : Bundle} (R : Recorded (take size cells) again) where
-    compared : sameBytes cells (again .bytes) ≡ sameBytes cells (padded maxBundleBytes (take size cells))
-    compared = ap (sameBytes cells) (R .bytes (omega (arith, length-take-le size cells (omega arith))))
-
-    pub record-differs : sameBytes cells (again .bytes) ≡ false → false ≡ (passes && passesBundleRecord s cells size)
-    record-differs e =
-        sym (and-false passes
-        (ap (λ (b : Bool). b && isBundleRecord s (take size cells)) (and-false (leb size maxBundleBytes) (sym compared ∙ e))))
-
-    module _ (t : passes ≡ true) (e : sameBytes cells (again .bytes) ≡ true) {j : Judged} (J : JudgedAs s (take size cells) j) where
-      rest : (passes && passesBundleRecord s cells size) ≡ isBundleRecord s (take size cells)
-      rest =
-          ap (λ (b : Bool). b && passesBundleRecord s cells size) t
-          ∙ ap₂ (λ (a b : Bool). (a && b) && isBundleRecord s (take size cells)) (le-leb size maxBundleBytes h) (sym compared ∙ e)
-
-      pub record-accepted : {n : ℕ} → j .judgement ≡ JudgedAccepted n → true ≡ (passes && passesBundleRecord s cells size)
-      unfolding isBundleRecord
-      record-accepted {n} u = sym (rest ∙ go (readBundle s (take size cells)) (sym (ap judging.outcomeOf u) ∙ J .outcome))
-        where
-          go : (o : Outcome (List (LocationPath ℕ))) → judging.outcomeOf (JudgedAccepted n) ≡ sized o → isAccepted o ≡ true
-          go (accepted ps) q = refl
-          go (refused f) q = never (cc)
-
-      pub record-refused : {k : Kind} {p : ℕ} → j .judgement ≡ JudgedRefused k p → false ≡ (passes && passesBundleRecord s cells size)
-      unfolding isBundleRecord
-      record-refused {k} {p} u = sym (rest ∙ go (readBundle s (take size cells)) (sym (ap judging.outcomeOf u) ∙ J .outcome))
-        where
-          go : (o : Outcome (List (LocationPath ℕ))) → judging.outcomeOf (JudgedRefused k p) ≡ sized o → isAccepted o ≡ false
-          go (accepted ps) q = never (cc)
-          go (refused f) q = refl

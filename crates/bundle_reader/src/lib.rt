@@ -1,12 +1,10 @@
 // Reading bundle texts: the answer, and the bundle in its record, which is the accepted text itself.
-ghost use mathlib.Core.Bool.{_&&_};
 ghost use mathlib.Core.Path.{_≡_};
 ghost use Prim.Native.Nat.{_≤_};
-ghost use lib.ListN.{length, take};
+ghost use lib.ListN.{length};
 ghost use lib.Seq.{sets};
 ghost use Rattle.bundle.specs.Judging.{JudgedAs};
-ghost use Rattle.bundle_reader.specs.Records.{emptyBundle, Recorded, answerOf, handedBack, ReadAs, passesBundleRecord};
-ghost use Rattle.schema_reader.specs.Records.{passesRecord};
+ghost use Rattle.bundle_reader.specs.Records.{emptyBundle, Recorded, answerOf, handedBack, ReadAs};
 ghost use Rattle.schema_spec.specs.Records.{schemaIn};
 use bundle::Judged;
 use bundle::Judgement;
@@ -46,7 +44,7 @@ fn copy(text: &[u8], out: &mut [u8])
 }
 
 // A text that is not too long, in a bundle's cells.
-fn recorded(text: &[u8]) -> Bundle
+pub fn recorded(text: &[u8]) -> Bundle
     ensures { λ r. ⌜ Recorded (now (text .entry)) r ⌝ }
 {
     if bundle::MAX_BYTES < text.len() {
@@ -123,31 +121,4 @@ pub fn read_bundle(schema: Schema, text: &[u8]) -> BundleRead
     let bundle = handed_back(judgement, recorded(text));
     let answer = answer_of(judgement);
     BundleRead { answer, bundle }
-}
-
-// Whether the record is one that `read_bundle` can hand back under this schema's record: its text is accepted, and its cells are that text's.
-pub fn is_bundle_record(schema: Schema, bundle: Bundle) -> bool
-    ensures { λ r. ⌜ r ≡ (passesRecord (schema .bytes) (schema .len) && passesBundleRecord (schemaIn (take (schema .len) (schema .bytes))) (bundle .bytes) (bundle .len)) ⌝ }
-{
-    if !schema_reader::is_schema_record(schema) {
-        return false;
-    }
-    let size = bundle.len;
-    if bundle::MAX_BYTES < size {
-        return false;
-    }
-    let cells = bundle.bytes;
-    let again = recorded(&cells[..size]);
-    let same = again.bytes;
-    if !schema_reader::same_cells(&cells, &same) {
-        return false;
-    }
-    let bytes = schema.bytes;
-    let len = schema.len;
-    let judged = judge_under(&bytes[..len], &cells[..size]);
-    let judgement = judged.judgement;
-    match judgement {
-        Judgement::Accepted(_) => true,
-        Judgement::Refused(_, _) => false,
-    }
 }

@@ -1,21 +1,11 @@
-// What an open element has got of its content, by value, and what one child more, one run of character data more and its end make of it.
-ghost use mathlib.Core.Bool.{Bool, true, _&&_};
-ghost use mathlib.Core.List.{List};
+// What an open element has got of its content, by value, and what one run of character data more makes of it.
 ghost use mathlib.Core.Option.{Option};
 ghost use mathlib.Core.Path.{_≡_};
-ghost use Prim.Native.Nat.{ℕ, _≤_, _<_};
-ghost use lib.Dec.{ltb};
-ghost use Rattle.schema_entries.specs.Columns.{cellsAt, endsAt};
-ghost use Rattle.content_fit.specs.Fillings.{filling, misfitKind, stateIn, isChildren, StateOf, Found, KindsOf, ModelsOf, Sized, advancedTo};
-ghost use Rattle.fitting.specs.Steps.{Stepped};
-ghost use Rattle.journal_spec.specs.Builder.{Filling, fillingFor, withChild, withRun, fitsAtEnd};
+ghost use Prim.Native.Nat.{ℕ};
+ghost use Rattle.content_fit.specs.Fillings.{filling, misfitKind, isChildren, StateOf, Found, KindsOf};
+ghost use Rattle.journal_spec.specs.Builder.{Filling, fillingFor, withRun};
 ghost use Rattle.schema_spec.specs.Schemas.{Schema};
-ghost use Rattle.text_spec.specs.Limits.{maxDeclarations, maxModelNames};
-use fitting::State;
-use models::Ends;
-use models::MAX_POSITIONS;
 use names::MAX_ELEMENTS;
-use schema_entries::MAX_CELLS;
 
 // The kinds of content, as words: those of schema_elements, of which CHILDREN has no child yet, and three more.
 pub const EMPTY: u64 = 0;
@@ -33,8 +23,6 @@ pub const UNJUDGED: u64 = 4;
 // content that does not fit
 pub const MISFIT: u64 = 5;
 
-const ELEMENTS: u64 = MAX_ELEMENTS as u64;
-
 pub struct FillingState {
     pub kind: u64,
     // the element whose content it is, unless that is undeclared or does not fit
@@ -49,7 +37,7 @@ fn wide(x: u8) -> u64
     x as u64
 }
 
-fn misfit() -> FillingState
+pub fn misfit() -> FillingState
     ensures { λ r. ⌜ r ≡ filling misfitKind 0 0 ⌝ }
 {
     FillingState {
@@ -77,156 +65,10 @@ pub fn filling_for(kinds: &[u8; MAX_ELEMENTS], e: usize) -> FillingState
     }
 }
 
-fn is_children(kind: u64) -> bool
+pub fn is_children(kind: u64) -> bool
     ensures { λ r. ⌜ r ≡ isChildren kind ⌝ }
 {
     if kind == CHILDREN { true } else { kind == AMID }
-}
-
-fn state_of(f: FillingState) -> State
-    ensures { λ r. ⌜ r ≡ stateIn f ⌝ }
-{
-    if f.kind == CHILDREN {
-        State::Start
-    } else {
-        State::Amid(f.positions)
-    }
-}
-
-fn ends_of(
-    firsts: &[u64; MAX_ELEMENTS],
-    lasts: &[u64; MAX_ELEMENTS],
-    nullables: &[bool; MAX_ELEMENTS],
-    p: usize,
-) -> Ends
-    requires { ⌜ p < maxDeclarations ⌝ }
-    ensures { λ r. ⌜ r ≡ endsAt (now (firsts .entry)) (now (lasts .entry)) (now (nullables .entry)) p ⌝ }
-{
-    Ends {
-        first: firsts[p],
-        last: lasts[p],
-        nullable: nullables[p],
-    }
-}
-
-// One child more in the model of the element p, which has n positions.
-fn next_state(
-    firsts: &[u64; MAX_ELEMENTS],
-    lasts: &[u64; MAX_ELEMENTS],
-    nullables: &[bool; MAX_ELEMENTS],
-    elements: &[u8; MAX_CELLS],
-    predecessors: &[u64; MAX_CELLS],
-    p: usize,
-    n: usize,
-    state: State,
-    child: u8,
-) -> State
-    requires { ⌜ (p < maxDeclarations) × (n ≤ maxModelNames) ⌝ }
-    ensures { λ r. ⌜ Stepped (endsAt (now (firsts .entry)) (now (lasts .entry)) (now (nullables .entry)) p) (cellsAt p n (now (elements .entry))) (cellsAt p n (now (predecessors .entry))) state child r ⌝ }
-{
-    let a = MAX_POSITIONS * p;
-    let b = a + n;
-    let ends = ends_of(firsts, lasts, nullables, p);
-    let all_elements = &elements[..];
-    let all_predecessors = &predecessors[..];
-    fitting::step(
-        ends,
-        &all_elements[a..b],
-        &all_predecessors[a..b],
-        state,
-        child,
-    )
-}
-
-// The content with these children.
-fn reached(element: u64, state: State) -> FillingState
-    ensures { λ r. ⌜ r ≡ advancedTo element state ⌝ }
-{
-    match state {
-        State::Start => FillingState {
-            kind: CHILDREN,
-            element,
-            positions: 0,
-        },
-        State::Amid(positions) => FillingState {
-            kind: AMID,
-            element,
-            positions,
-        },
-    }
-}
-
-// One child more, the element e.
-fn advanced(
-    firsts: &[u64; MAX_ELEMENTS],
-    lasts: &[u64; MAX_ELEMENTS],
-    nullables: &[bool; MAX_ELEMENTS],
-    elements: &[u8; MAX_CELLS],
-    predecessors: &[u64; MAX_CELLS],
-    sizes: &[usize; MAX_ELEMENTS],
-    f: FillingState,
-    e: usize,
-) -> FillingState
-    requires { ⌜ (e < maxDeclarations) × Sized (now sizes) ⌝ }
-    ensures { λ r. ⌜ ((s : Schema) (o : Option ℕ) (x : Filling) → isChildren (f .kind) ≡ true → ModelsOf s (now (firsts .entry)) (now (lasts .entry)) (now (nullables .entry)) (now (elements .entry)) (now (predecessors .entry)) (now (sizes .entry)) → Found s o e → StateOf s f x → StateOf s r (withChild o x)) ⌝ }
-{
-    let p = (f.element % ELEMENTS) as usize;
-    let n = sizes[p];
-    let next = next_state(
-        firsts,
-        lasts,
-        nullables,
-        elements,
-        predecessors,
-        p,
-        n,
-        state_of(f),
-        e as u8,
-    );
-    reached(f.element, next)
-}
-
-// Whether content of this kind takes a child, which is declared.
-fn takes(kind: u64, e: usize) -> bool
-    ensures { λ r. ⌜ r ≡ (ltb e maxDeclarations && isChildren kind) ⌝ }
-{
-    if e < MAX_ELEMENTS {
-        is_children(kind)
-    } else {
-        false
-    }
-}
-
-// One child more: the element e, or one that is undeclared.
-pub fn with_child(
-    firsts: &[u64; MAX_ELEMENTS],
-    lasts: &[u64; MAX_ELEMENTS],
-    nullables: &[bool; MAX_ELEMENTS],
-    elements: &[u8; MAX_CELLS],
-    predecessors: &[u64; MAX_CELLS],
-    sizes: &[usize; MAX_ELEMENTS],
-    f: FillingState,
-    e: usize,
-) -> FillingState
-    requires { ⌜ Sized (now sizes) ⌝ }
-    ensures { λ r. ⌜ ((s : Schema) (o : Option ℕ) (x : Filling) → ModelsOf s (now (firsts .entry)) (now (lasts .entry)) (now (nullables .entry)) (now (elements .entry)) (now (predecessors .entry)) (now (sizes .entry)) → Found s o e → StateOf s f x → StateOf s r (withChild o x)) ⌝ }
-{
-    if f.kind == UNJUDGED {
-        return f;
-    }
-    if takes(f.kind, e) {
-        return advanced(
-            firsts,
-            lasts,
-            nullables,
-            elements,
-            predecessors,
-            sizes,
-            f,
-            e,
-        );
-    }
-    misfit()
 }
 
 // One run of character data more, which may be only blanks.
@@ -244,22 +86,4 @@ pub fn with_run(f: FillingState, blanks: bool) -> FillingState
         return misfit();
     }
     f
-}
-
-// Whether the content may end here.
-pub fn fits_at_end(
-    firsts: &[u64; MAX_ELEMENTS],
-    lasts: &[u64; MAX_ELEMENTS],
-    nullables: &[bool; MAX_ELEMENTS],
-    f: FillingState,
-) -> bool
-    ensures { λ r. ⌜ ((s : Schema) (x : Filling) (elements predecessors sizes : List ℕ) → ModelsOf s (now (firsts .entry)) (now (lasts .entry)) (now (nullables .entry)) elements predecessors sizes → StateOf s f x → r ≡ fitsAtEnd x) ⌝ }
-{
-    let kind = f.kind;
-    if is_children(kind) {
-        let p = (f.element % ELEMENTS) as usize;
-        let ends = ends_of(firsts, lasts, nullables, p);
-        return fitting::may_end(ends, state_of(f));
-    }
-    kind != MISFIT
 }

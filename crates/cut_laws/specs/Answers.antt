@@ -2,7 +2,7 @@
 use mathlib.Core.Bool.{Bool, true, false, cond}
 use mathlib.Core.List.{List, [], _∷_, map}
 use mathlib.Core.Path.{_≡_, refl, sym, ap, ap₂, subst, _∙_}
-use Prim.Native.Nat.{ℕ, _+_, _-_, _<_, _≤_}
+use Prim.Native.Nat.{ℕ, _+_, _-_, _≤_}
 use native.Mathlib.Omega.{arith}
 use borrow.Author.Tests.{lt-ltb, le-ltb}
 use lib.Dec.{T, ltb}
@@ -62,12 +62,6 @@ pub record CutFirst (f : ℕ → Bool) (c o : Columns) (r : Verdict) (x : Column
   pub count : ℕ
   pub answer : r ≡ cond (ltb (length (o .numbers)) count) (refusedBy 18 0) (answeredOf count)
   pub cells : CutAs f c o count x
-
-pub cut-short : {f : ℕ → Bool} {c o : Columns} {r : Verdict} {x : Columns} (n : ℕ) → CutAs f c o n x → length (o .numbers) < n → r ≡ refusedBy 18 0 → CutFirst f c o r x
-cut-short {o = o} n w l e = record { count = n; answer = e ∙ rw (lt-ltb (length (o .numbers)) n l); cells = w }
-
-pub cut-whole : {f : ℕ → Bool} {c o : Columns} {r : Verdict} {x : Columns} (n : ℕ) → CutAs f c o n x → n ≤ length (o .numbers) → r ≡ answeredOf n → CutFirst f c o r x
-cut-whole {o = o} n w l e = record { count = n; answer = e ∙ rw (le-ltb (length (o .numbers)) n l); cells = w }
 
 -- ---- the columns of a table that is handed in
 module _ (s : Schema) (t : LentTable) (rows : List Row) (h : Holds s t rows) where

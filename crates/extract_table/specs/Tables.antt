@@ -3,9 +3,8 @@ use mathlib.Core.Bool.{Bool, true, false, cond}
 use mathlib.Core.List.{List, [], _∷_}
 use mathlib.Core.Option.{Option, none, some}
 use mathlib.Core.Path.{_≡_, refl, sym, ap, _∙_}
-use Prim.Native.Nat.{ℕ, _≤_, _<_}
+use Prim.Native.Nat.{ℕ, _<_}
 use native.Mathlib.Omega.{arith}
-use borrow.Author.Tests.{lt-ltb, le-ltb}
 use lib.Dec.{ltb}
 use lib.ListN.{length}
 use Rattle.extract_passes.specs.Reading.{rowsOutcome, read-in-one-pass}
@@ -16,6 +15,7 @@ use Rattle.extract_spec.specs.Reading.{readExtract}
 use Rattle.extract_steps.specs.ReadLaws.{columns-sizes, hold-by}
 use Rattle.extract_steps.specs.Reads.{Hold}
 use Rattle.extract_table.specs.Words.{ReadWords, words-rows}
+use Rattle.extract_verdicts.specs.Verdicts.{verdictOf}
 use Rattle.field_tests.specs.Tests.{wordTypes}
 use Rattle.library_spec.specs.Calls.{inColumns, columnsAfter}
 use Rattle.row_columns.specs.Columns.{EqualColumns}
@@ -32,10 +32,6 @@ use Rattle.verdicts.specs.declared.Verdict.{Verdict}
 abbrev pub outcome : Schema → List ℕ → Sizes → Outcome (List Row)
 outcome s bs z = andThen (readExtract (typesOf s) bs) (inColumns z)
 
--- 17 where the pass gives no rows, 18 where there are more of them than cells
-unfoldable pub verdictOf : RowsFound → ℕ → Verdict
-verdictOf f size = cond (f .whole) (cond (ltb size (f .rows)) (refusedBy 18 0) (answeredOf (f .rows))) (refusedBy 17 0)
-
 -- from clear columns c: the verdict, and the columns where nothing is refused
 pub record Judged (bs words : List ℕ) (c d : Columns) (r : Verdict) : Type 0 where
   pub judged : (s : Schema) → ReadWords s words → r ≡ verdict (outcome s bs (sizesOf c))
@@ -45,24 +41,6 @@ pub record Judged (bs words : List ℕ) (c d : Columns) (r : Verdict) : Type 0 w
 pub record TableRead (bs words : List ℕ) (c d : Columns) (r : Verdict) : Type 0 where
   pub answer : (s : Schema) → ReadWords s words → r ≡ verdict (outcome s bs (sizesOf c))
   pub cells : (s : Schema) → ReadWords s words → d ≡ columnsAfter (sizesOf c) (λ rows. rows) (outcome s bs (sizesOf c))
-
--- ---- the verdict on what was found
-module _ (f : RowsFound) (size : ℕ) where
-  pub verdict-17 : f .whole ≡ false → refusedBy 17 0 ≡ verdictOf f size
-  unfolding verdictOf
-  verdict-17 e = sym (ap (λ (b : Bool). cond b (cond (ltb size (f .rows)) (refusedBy 18 0) (answeredOf (f .rows))) (refusedBy 17 0)) e)
-
-  room-verdict : f .whole ≡ true → (b : Bool) → ltb size (f .rows) ≡ b → cond b (refusedBy 18 0) (answeredOf (f .rows)) ≡ verdictOf f size
-  unfolding verdictOf
-  room-verdict e b q =
-      sym (ap (λ (x : Bool). cond x (cond (ltb size (f .rows)) (refusedBy 18 0) (answeredOf (f .rows))) (refusedBy 17 0)) e
-      ∙ ap (λ (x : Bool). cond x (refusedBy 18 0) (answeredOf (f .rows))) q)
-
-  pub verdict-18 : f .whole ≡ true → size < f .rows → refusedBy 18 0 ≡ verdictOf f size
-  verdict-18 e l = room-verdict e true (lt-ltb size (f .rows) l)
-
-  pub verdict-rows : f .whole ≡ true → f .rows ≤ size → answeredOf (f .rows) ≡ verdictOf f size
-  verdict-rows e l = room-verdict e false (le-ltb size (f .rows) l)
 
 -- ---- by what the pass gives
 filled : (bs : List ℕ) → (length bs ≡ 0 → ⊥) → isEmpty bs ≡ false

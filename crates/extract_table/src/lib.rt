@@ -1,28 +1,13 @@
 // An extract read into lent columns under a schema: 2 first, then 17, 18 last, every lent cell at exit.
 ghost use mathlib.Core.List.{[]};
-ghost use mathlib.Core.Path.{_≡_};
 ghost use Rattle.extract_steps.specs.Reads.{Hold};
-ghost use Rattle.extract_table.specs.Tables.{verdictOf, Judged, TableRead};
+ghost use Rattle.extract_table.specs.Tables.{Judged, TableRead};
 ghost use Rattle.row_columns.specs.Columns.{columns, EqualColumns};
 use extract_reader::RowsFound;
+use extract_verdicts::verdict_of;
 use names::MAX_ELEMENTS;
-use verdicts::BAD_EXTRACT;
 use verdicts::BAD_LENGTH;
-use verdicts::TOO_FEW_CELLS;
 use verdicts::Verdict;
-
-// The verdict on what was found, in columns of so many cells.
-fn verdict_of(found: RowsFound, size: usize) -> Verdict
-    ensures { λ r. ⌜ r ≡ verdictOf found size ⌝ }
-{
-    if !found.whole {
-        return verdicts::refused(BAD_EXTRACT, 0);
-    }
-    if size < found.rows {
-        return verdicts::refused(TOO_FEW_CELLS, 0);
-    }
-    verdicts::answered(found.rows)
-}
 
 // The verdict, with the rows in the columns, which are clear at first.
 fn judge(

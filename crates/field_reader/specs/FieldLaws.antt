@@ -16,7 +16,8 @@ use Rattle.field_reader.specs.Fields.{CountAs, FieldPass, FieldAs, first
 use Rattle.field_reader.specs.declared.First.{First}
 use Rattle.field_reader.specs.declared.First.the-variants as first
 use Rattle.field_tests.specs.Tests.{wordTypes}
-use Rattle.field_values.specs.Fields.{stateIn, Bounds, ValuePass, ElementAs, TextAs, isRoot, isCount}
+use Rattle.field_ends.specs.Ends.{isRoot, isCount}
+use Rattle.field_values.specs.Fields.{stateIn, Bounds, ValuePass, ElementAs, TextAs}
 use Rattle.field_values.specs.declared.Carried.{Carried}
 use Rattle.field_values.specs.declared.FieldRead.{FieldRead}
 use Rattle.field_values.specs.declared.FieldRead.the-variants.{Wrong, Ended}

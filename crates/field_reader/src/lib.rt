@@ -7,12 +7,12 @@ ghost use Rattle.field_reader.specs.Fields.{CountPass, CountAs, FieldPas
 use extract_fields::COUNT_TAG;
 use extract_fields::ELEMENT_TAG;
 use extract_fields::TEXT_TAG;
+use field_ends::is_count;
+use field_ends::is_root;
 use field_tests::two_bytes;
 use field_values::Carried;
 use field_values::FieldRead;
 use field_values::element_field;
-use field_values::is_count;
-use field_values::is_root;
 use field_values::text_field;
 use limits::MAX_DEPTH;
 use names::MAX_ELEMENTS;

@@ -1,24 +1,24 @@
--- The values of fields: an element's, a text's, a count's.
+-- The values of fields: an element's and a text's.
 use mathlib.Core.Bool.{Bool, true, false, cond, not, _&&_}
-use mathlib.Core.List.{List, [], _∷_}
+use mathlib.Core.List.{List, _∷_}
 use mathlib.Core.Logic.{_⊎_, inl, inr, ⊎-elim}
 use mathlib.Core.Path.{_≡_, refl, sym, ap, ap₂, _∙_}
 use Prim.Native.Nat.{ℕ, zero, suc, _+_, _-_, _<_, _≤_}
 use native.Mathlib.Omega.{arith}
-use borrow.Author.Tests.{le-leb, lt-leb, eq-eqb, ne-eqb}
+use borrow.Author.Tests.{le-leb, lt-leb}
 use lib.Dec.{T, eqb, leb, ltb, ltb→lt, leb→le}
 use lib.ListN.{length, getD, take, drop, length-take, length-drop}
-use lib.Seq.{getD-take, getD-drop}
+use Rattle.field_ends.specs.Values.{no-element, five, no-text, four, value-long, value-at, in-two, numberIn, parentIn}
 use Rattle.field_values.proofs.Bytes.{foreign-found, foreign-absent}
 use Rattle.field_tests.specs.TestLaws.{and-nothing, element-test, text-test}
 use Rattle.field_tests.specs.Tests.{heldBy, wordTypes, LevelPass, elementUnder, textUnder}
 use Rattle.extract_levels.specs.Levels.{levelsIn, lastElement, LevelOf}
-use Rattle.field_values.specs.Fields.{stateIn, fieldStep, ValuePass, ElementAs, TextAs, isRoot, isCount}
+use Rattle.field_values.specs.Fields.{stateIn, fieldStep, ValuePass, ElementAs, TextAs}
 use Rattle.field_values.specs.declared.Carried.{Carried}
 use Rattle.field_values.specs.declared.FieldRead.the-variants.{Wrong, Ended, Element, Text}
 use Rattle.extract_passes.specs.Steps.{wrong, onward, state, elementFits, textFits, laterStep}
 use Rattle.projection_laws.specs.Opens.{placed}
-use Rattle.extract_spec.specs.Reading.{elementItem, textItem, countItem, noItem, inTwo, elementValue, textValue, countValue, Placed, openFrom, topRow, topElement}
+use Rattle.extract_spec.specs.Reading.{elementItem, textItem, noItem, inTwo, elementValue, textValue, Placed, openFrom, topRow, topElement}
 use Rattle.schema_spec.specs.Names.{element, text}
 use Rattle.table_spec.specs.Rows.{elementRow, textRow}
 use Rattle.text.specs.Places.{foreignPlace}
@@ -28,73 +28,9 @@ use Rattle.text_spec.specs.Bytes.{isForeign}
 use Rattle.text_spec.specs.Limits.{maxDeclarations, maxNodes, maxDepth, maxTextBytes}
 use Rattle.text_spec.specs.Lists.{allOf, isEmpty, part}
 
--- ---- lists of some lengths
-no-element : (v : List ℕ) → (length v ≡ 5 → ⊥) → elementValue v ≡ noItem
-no-element [] n = refl
-no-element (a ∷ []) n = refl
-no-element (a ∷ b ∷ []) n = refl
-no-element (a ∷ b ∷ c ∷ []) n = refl
-no-element (a ∷ b ∷ c ∷ d ∷ []) n = refl
-no-element (a ∷ b ∷ c ∷ d ∷ e ∷ []) n = absurd (n refl)
-no-element (a ∷ b ∷ c ∷ d ∷ e ∷ f ∷ w) n = refl
-
-five : (v : List ℕ) → length v ≡ 5 → elementValue v ≡ elementItem (inTwo (getD v 0 0) (getD v 1 0)) (inTwo (getD v 2 0) (getD v 3 0)) (getD v 4 0)
-five [] l = absurd (omega arith)
-five (a ∷ []) l = absurd (omega arith)
-five (a ∷ b ∷ []) l = absurd (omega arith)
-five (a ∷ b ∷ c ∷ []) l = absurd (omega arith)
-five (a ∷ b ∷ c ∷ d ∷ []) l = absurd (omega arith)
-five (a ∷ b ∷ c ∷ d ∷ e ∷ []) l = refl
-five (a ∷ b ∷ c ∷ d ∷ e ∷ f ∷ w) l = absurd (omega arith)
-
-no-text : (place : ℕ) (v : List ℕ) → length v < 4 → textValue place v ≡ noItem
-no-text place [] n = refl
-no-text place (a ∷ []) n = refl
-no-text place (a ∷ b ∷ []) n = refl
-no-text place (a ∷ b ∷ c ∷ []) n = refl
-no-text place (a ∷ b ∷ c ∷ d ∷ w) n = absurd (omega arith)
-
-four : (place n : ℕ) (v : List ℕ) → length v ≡ n + 4
-    → textValue place v ≡ textItem (inTwo (getD v 0 0) (getD v 1 0)) (inTwo (getD v 2 0) (getD v 3 0)) (place + 4) n
-four place n [] l = absurd (omega arith)
-four place n (a ∷ []) l = absurd (omega arith)
-four place n (a ∷ b ∷ []) l = absurd (omega arith)
-four place n (a ∷ b ∷ c ∷ []) l = absurd (omega arith)
-four place n (a ∷ b ∷ c ∷ d ∷ w) l = let z : length w ≡ n = omega arith in ap (textItem (inTwo a b) (inTwo c d) (place + 4)) z
-
-no-count : (v : List ℕ) → (length v ≡ 2 → ⊥) → countValue v ≡ noItem
-no-count [] n = refl
-no-count (a ∷ []) n = refl
-no-count (a ∷ b ∷ []) n = absurd (n refl)
-no-count (a ∷ b ∷ c ∷ w) n = refl
-
-two : (v : List ℕ) → length v ≡ 2 → countValue v ≡ countItem (inTwo (getD v 0 0) (getD v 1 0))
-two [] l = absurd (omega arith)
-two (a ∷ []) l = absurd (omega arith)
-two (a ∷ b ∷ []) l = refl
-two (a ∷ b ∷ c ∷ w) l = absurd (omega arith)
-
 positive : (d : ℕ) → T (not (eqb d 0)) → 0 < d
 positive zero v = absurd v
 positive (suc d) v = omega arith
-
--- ---- the bytes of a value
-module _ (bs : List ℕ) (k size : ℕ) (inside : k + size ≤ length bs) where
-  value-long : length (part k size bs) ≡ size
-  value-long = omega (arith, length-take size (drop k bs), length-drop k bs)
-
-  value-at : (i j : ℕ) → i < size → k + i ≡ j → getD (part k size bs) i 0 ≡ getD bs j 0
-  value-at i j l e = getD-take size (drop k bs) i 0 l ∙ getD-drop k bs i 0 ∙ ap (λ (n : ℕ). getD bs n 0) e
-
-  in-two : (i j j′ : ℕ) → suc i < size → k + i ≡ j → k + suc i ≡ j′ → inTwo (getD (part k size bs) i 0) (getD (part k size bs) (suc i) 0) ≡ inTwo (getD bs j 0) (getD bs j′ 0)
-  in-two i j j′ l e f = ap₂ inTwo (value-at i j (omega arith) e) (value-at (suc i) j′ l f)
-
--- the two numbers of a row's value that starts at k
-abbrev numberIn : List ℕ → ℕ → ℕ
-numberIn bs k = inTwo (getD bs k 0) (getD bs (k + 1) 0)
-
-abbrev parentIn : List ℕ → ℕ → ℕ
-parentIn bs k = inTwo (getD bs (k + 2) 0) (getD bs (k + 2 + 1) 0)
 
 -- ---- an element
 module _ (bs words levels : List ℕ) (c : Carried) (size : ℕ) (h : ValuePass bs levels c size) where
@@ -271,28 +207,6 @@ module _ (bs words levels : List ℕ) (c : Carried) (size : ℕ) (h : ValuePass 
         bounds = tt;
       }
 
--- ---- a count
-module _ (bs : List ℕ) (at rows size : ℕ) (inside : at + 3 + size ≤ length bs) where
-  abbrev counted : Bool
-  counted = isCount rows (eqb (at + 3 + size) (length bs)) (countValue (part (at + 3) size bs))
-
-  pub count-misfit : (size ≡ 2 → ⊥) → false ≡ counted
-  count-misfit n = sym (ap (isCount rows (eqb (at + 3 + size) (length bs))) (no-count (part (at + 3) size bs) (λ l. n (sym (value-long bs (at + 3) size inside) ∙ l))))
-
-  module _ (z : size ≡ 2) where
-    count-tested : counted ≡ (eqb (at + 3 + 2) (length bs) && eqb (numberIn bs (at + 3)) rows)
-    count-tested =
-        ap (isCount rows (eqb (at + 3 + size) (length bs)))
-        (two (part (at + 3) size bs) (value-long bs (at + 3) size inside ∙ z)
-        ∙ ap countItem (in-two bs (at + 3) size inside 0 (at + 3) (at + 3 + 1) (omega arith) (omega arith) (omega arith)))
-        ∙ ap (λ (k : ℕ). eqb (at + 3 + k) (length bs) && eqb (numberIn bs (at + 3)) rows) z
-
-    pub count-not-last : (at + 3 + 2 ≡ length bs → ⊥) → false ≡ counted
-    count-not-last n = sym (count-tested ∙ ap (λ (b : Bool). b && eqb (numberIn bs (at + 3)) rows) (ne-eqb (at + 3 + 2) (length bs) n))
-
-    pub count-last : at + 3 + 2 ≡ length bs → (n : ℕ) → n ≡ numberIn bs (at + 3) → eqb n rows ≡ counted
-    count-last l n q = ap (λ (k : ℕ). eqb k rows) q ∙ sym (count-tested ∙ ap (λ (b : Bool). b && eqb (numberIn bs (at + 3)) rows) (eq-eqb (at + 3 + 2) (length bs) l))
-
 -- ---- the levels that stay open
 pub value-level : (bs levels : List ℕ) (c : Carried) (size : ℕ) → ValuePass bs levels c size → (parent d : ℕ) → LevelOf levels (c .depth) parent d → LevelPass levels d
 value-level bs levels c size h parent d level =
@@ -306,34 +220,3 @@ module _ (bs words levels : List ℕ) (c : Carried) (size : ℕ) (h : ValuePass 
 
   pub text-over : maxTextBytes + 4 < size → TextAs bs words levels c size Wrong
   text-over l = text-sized bs words levels c size h (size - 4) (omega arith) (numberIn bs (c .at + 3)) (parentIn bs (c .at + 3)) 0 refl refl (inr (omega arith))
-
--- ---- the root
-module _ (bs : List ℕ) (size : ℕ) (inside : 3 + size ≤ length bs) where
-  pub root-misfit : (size ≡ 5 → ⊥) → false ≡ isRoot (elementValue (part 3 size bs))
-  root-misfit n = sym (ap isRoot (no-element (part 3 size bs) (λ l. n (sym (value-long bs 3 size inside) ∙ l))))
-
-  module _ (z : size ≡ 5) where
-    abbrev tested : ℕ → ℕ → ℕ → Bool
-    tested number parent e = eqb parent 0 && (eqb number 0 && eqb e 0)
-
-    root-tested : isRoot (elementValue (part 3 size bs)) ≡ tested (numberIn bs 3) (inTwo (getD bs 5 0) (getD bs 6 0)) (getD bs 7 0)
-    root-tested =
-        ap isRoot (five (part 3 size bs) (value-long bs 3 size inside ∙ z))
-        ∙ ap₂ (λ (a b : ℕ). tested a b (getD (part 3 size bs) 4 0)) (in-two bs 3 size inside 0 3 4 (omega arith) (omega arith) (omega arith))
-        (in-two bs 3 size inside 2 5 6 (omega arith) (omega arith) (omega arith))
-        ∙ ap (tested (numberIn bs 3) (inTwo (getD bs 5 0) (getD bs 6 0))) (value-at bs 3 size inside 4 7 (omega arith) (omega arith))
-
-    module _ (number parent : ℕ) (n : number ≡ numberIn bs 3) (p : parent ≡ inTwo (getD bs 5 0) (getD bs 6 0)) where
-      root-by : tested number parent (getD bs 7 0) ≡ isRoot (elementValue (part 3 size bs))
-      root-by = ap₂ (λ (a b : ℕ). tested a b (getD bs 7 0)) n p ∙ sym root-tested
-
-      pub root-accepted : number ≡ 0 → parent ≡ 0 → (r : Bool) → r ≡ eqb (getD bs 7 0) 0 → r ≡ isRoot (elementValue (part 3 size bs))
-      root-accepted a b r q = q ∙ sym (ap₂ (λ (x y : Bool). x && (y && eqb (getD bs 7 0) 0)) (eq-eqb parent 0 b) (eq-eqb number 0 a)) ∙ root-by
-
-    pub root-numbered : (number : ℕ) → number ≡ numberIn bs 3 → (number ≡ 0 → ⊥) → false ≡ isRoot (elementValue (part 3 size bs))
-    root-numbered number n x =
-        let parent = inTwo (getD bs 5 0) (getD bs 6 0) in
-        sym (ap (λ (b : Bool). eqb parent 0 && (b && eqb (getD bs 7 0) 0)) (ne-eqb number 0 x) ∙ and-nothing (eqb parent 0)) ∙ root-by number parent n refl
-
-    pub root-under : (parent : ℕ) → parent ≡ inTwo (getD bs 5 0) (getD bs 6 0) → (parent ≡ 0 → ⊥) → false ≡ isRoot (elementValue (part 3 size bs))
-    root-under parent p x = sym (ap (λ (b : Bool). b && (eqb (numberIn bs 3) 0 && eqb (getD bs 7 0) 0)) (ne-eqb parent 0 x)) ∙ root-by (numberIn bs 3) parent refl p

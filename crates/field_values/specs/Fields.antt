@@ -1,13 +1,12 @@
 -- What the value of a field says, as a step of the pass.
-use mathlib.Core.Bool.{Bool, true, false, _&&_}
+use mathlib.Core.Bool.{Bool, true, false}
 use mathlib.Core.List.{List, _∷_}
 use mathlib.Core.Path.{_≡_}
 use Prim.Native.Nat.{ℕ, suc, _+_, _<_, _≤_}
-use lib.Dec.{eqb}
 use lib.ListN.{length}
 use Rattle.extract_levels.specs.Levels.{levelsIn, Known}
 use Rattle.extract_passes.specs.Steps.{State, state, Step, wrong, ended, onward, laterStep}
-use Rattle.extract_spec.specs.Reading.{Item, elementItem, textItem, countItem, noItem, elementValue, textValue, topRow, topElement}
+use Rattle.extract_spec.specs.Reading.{elementValue, textValue, topRow, topElement}
 use Rattle.field_tests.specs.Tests.{wordTypes}
 use Rattle.field_values.specs.declared.Carried.{Carried}
 use Rattle.field_values.specs.declared.FieldRead.{FieldRead}
@@ -28,20 +27,6 @@ fieldStep levels next start (Element number e d) =
     onward (elementRow number e (topRow (levelsIn levels d))) (state (suc next) number false (placed next number e ∷ levelsIn levels d))
 fieldStep levels next start (Text number d size) =
     onward (textRow number (topElement (levelsIn levels d)) (topRow (levelsIn levels d)) start size) (state (suc next) number true (levelsIn levels d))
-
--- ---- "row 0 is the root element with number 0 and parent row 0": what the root's field says
-abbrev pub isRoot : Item → Bool
-isRoot (elementItem number parent e) = eqb parent 0 && (eqb number 0 && eqb e 0)
-isRoot (textItem number parent start size) = false
-isRoot (countItem n) = false
-isRoot noItem = false
-
--- the count of so many rows, and nothing after it
-abbrev pub isCount : ℕ → Bool → Item → Bool
-isCount rows last (elementItem number parent e) = false
-isCount rows last (textItem number parent start size) = false
-isCount rows last (countItem n) = last && eqb n rows
-isCount rows last noItem = false
 
 -- ---- what the functions ask and answer
 -- a value of so many bytes after the tag and the length of the field at the carried place

@@ -40,7 +40,7 @@ pub fn close(
 {
     let level = open_levels::load(levels, m.depth);
     let filling = level.filling;
-    let fits = content_fit::fits_at_end(firsts, lasts, nullables, filling);
+    let fits = children_fit::fits_at_end(firsts, lasts, nullables, filling);
     build_state::without_element(m, fits, level.place)
 }
 

@@ -56,7 +56,7 @@ fn fit_child(
 {
     let level = open_levels::load(levels, d);
     let old = level.filling;
-    let new = content_fit::with_child(
+    let new = children_fit::with_child(
         firsts,
         lasts,
         nullables,

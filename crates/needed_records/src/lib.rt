@@ -4,7 +4,7 @@ ghost use Rattle.needed_records.specs.Records.{outcomeOf};
 ghost use Rattle.library_spec.specs.Calls.{neededNames};
 ghost use Rattle.schema_records.specs.Records.{recordWith};
 use bundle_reader::Bundle;
-use bundle_reader::is_bundle_record;
+use bundle_tests::is_bundle_record;
 use needed_texts::needed_by_texts;
 use schema::Schema;
 

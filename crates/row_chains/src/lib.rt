@@ -5,10 +5,8 @@ ghost use mathlib.Core.Path.{_≡_};
 ghost use Prim.Native.Nat.{_+_, _≤_};
 ghost use lib.ListN.{length};
 ghost use lib.Seq.{sets};
-ghost use Rattle.row_chains.specs.Answers.{Answered};
-ghost use Rattle.row_chains.specs.Chains.{linkAt, linkSize, chainAt, chainSize, SizesFit, NamesAt, LinkPass, SizePass, ChainPass, Chained};
+ghost use Rattle.row_chains.specs.Chains.{linkAt, linkSize, chainSize, SizesFit, LinkPass, SizePass, ChainPass, Chained};
 ghost use Rattle.text_spec.specs.Scans.{nameAt};
-use lent_cells::clear_bytes;
 use names::MAX_ELEMENTS;
 
 // How many bytes each of the names at the places `names` of a text has.
@@ -103,33 +101,4 @@ pub fn write_chain(
     let up = parents[row] as usize;
     let at = write_chain(text, starts, sizes, codes, parents, up, out);
     put_link(text, starts, sizes, codes[row], out, at)
-}
-
-// The number of bytes that a chain takes, or refusal 18.
-pub enum ChainAnswer {
-    Written(usize),
-    TooFewCells,
-}
-
-// Writes the chain of a row into lent cells, and zeros past it. Where they do not suffice nothing is written but zeros.
-pub fn put_chain(
-    text: &[u8],
-    starts: &[usize],
-    sizes: &[usize],
-    codes: &[u8],
-    parents: &[u16],
-    row: usize,
-    out: &mut [u8],
-) -> ChainAnswer
-    requires { ⌜ NamesAt (now text) (now starts) (now sizes) × SizePass (now sizes) (now codes) (now parents) row ⌝ }
-    ensures { λ r. ⌜ Answered (chainAt (now (text .entry)) (now (starts .entry)) (now (sizes .entry)) (now (codes .entry)) (now (parents .entry)) row) (length (now (out .entry))) r (now (out .exit)) ⌝ }
-{
-    let size = chain_size(sizes, codes, parents, row);
-    if out.len() < size {
-        clear_bytes(out, 0);
-        return ChainAnswer::TooFewCells;
-    }
-    let end = write_chain(text, starts, sizes, codes, parents, row, out);
-    clear_bytes(out, end);
-    ChainAnswer::Written(end)
 }

@@ -10,7 +10,7 @@ ghost use Rattle.selected_answers.specs.Answers.{AnsweredAs};
 ghost use Rattle.tables.specs.Handed.{lentTable};
 ghost use Rattle.text_spec.specs.Refusals.{resultOr};
 use bundle_reader::Bundle;
-use bundle_reader::is_bundle_record;
+use bundle_tests::is_bundle_record;
 use names::MAX_ELEMENTS;
 use names::NameSet;
 use schema::Schema;

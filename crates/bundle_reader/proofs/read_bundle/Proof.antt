@@ -3,7 +3,8 @@ use mathlib.Core.Path.{_≡_, sym, _∙_}
 use lib.ListN.{length}
 use borrow.Author.Tests.{not-true, not-false}
 use lib.Seq.{length-take-le}
-use Rattle.bundle_reader.proofs.Records.{schema-size, read-no-schema, read-judged}
+use Rattle.bundle_reader.proofs.Records.{read-no-schema, read-judged}
+use Rattle.bundle_reader.specs.Sizes.{schema-size}
 use Rattle.text_spec.specs.Limits.{maxSchemaBytes}
 use native.Mathlib.Omega.{arith}
 use borrow.Author.Needs.{needs}

@@ -2,7 +2,8 @@ use mathlib.Core.Path.{_≡_, sym, _∙_}
 use borrow.Author.Tests.{not-true, not-false}
 use lib.ListN.{length}
 use lib.Seq.{length-take-le}
-use Rattle.chain_records.specs.Answers.{refused-1, no-record, by-record, record-read}
+use Rattle.chain_records.specs.Answers.{no-record, by-record, record-read}
+use Rattle.handed_chains.specs.Answers.{refused-1}
 use Rattle.row_text.specs.Answers.{record-low}
 use Rattle.schema_records.specs.Records.{passes-schema}
 use Rattle.text_spec.specs.Limits.{maxSchemaBytes}
@@ -42,10 +43,10 @@ row-chain-spec =
     (tie.spec
     (λ c κs. search needs)
     (λ c κs. search needs)
-    (λ c. search needs)
+    (λ c. c .before .out .given)
     returns
     array-share-prefix-bytes
     slice-aggregate-chain-lent
     chain-lent-requires
-    (λ c. search needs)
+    (λ c. c .before .out2 .given)
     returns-2)

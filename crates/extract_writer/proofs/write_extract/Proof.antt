@@ -3,7 +3,8 @@ use borrow.Author.Needs.{needs}
 use borrow.Author.Tests.{not-true, not-false}
 use lib.Seq.{length-take-le}
 use mathlib.Core.Path.{sym, _∙_}
-use Rattle.extract_writer.specs.Outcomes.{same-answer, no-record, no-table, table-columns, table-written}
+use Rattle.extract_writer.specs.Outcomes.{no-record, no-table, table-columns, table-written}
+use Rattle.lent_extracts.specs.Answers.{same-answer}
 use Rattle.row_text.specs.Answers.{beside-lent, record-low}
 use Rattle.schema_records.specs.Records.{passes-schema}
 use Rattle.tables.specs.Handed.{lentTable}
@@ -80,12 +81,12 @@ write-extract-spec =
     (tie.spec
     (λ c κs. search needs)
     (λ c κs. search needs)
-    (λ c. search needs)
+    (λ c. c .before .out .given)
     returns
     schema-words-requires
     (λ c κs. search needs)
     (λ c κs. search needs)
-    (λ c. search needs)
+    (λ c. c .before .out2 .given)
     returns-2
     slice-aggregate-write-in-room
     slice-aggregate-write-in-room-2
@@ -93,5 +94,5 @@ write-extract-spec =
     slice-aggregate-write-in-room-4
     slice-aggregate-write-in-room-5
     write-in-room-requires
-    (λ c. search needs)
+    (λ c. c .before .out3 .given)
     returns-3)

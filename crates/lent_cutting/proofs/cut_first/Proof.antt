@@ -1,7 +1,6 @@
 -- `cut_first` meets its contract: the first cells of each column are cut, and the answer says whether there was room.
 use mathlib.Core.Path.{sym}
 use lib.Seq.{length-take-le}
-use Rattle.cut_laws.specs.Answers.{cut-short, cut-whole}
 use native.Mathlib.Omega.{arith}
 use borrow.Author.Needs.{needs}
 use Rattle.lent_cutting.proofs.cut_first.Statement.{statement}
@@ -26,10 +25,7 @@ cut-requires : tie.Need-cut-requires
 cut-requires c κs = let asked = c .before .before .before .before .before .before .before .before .before .before .before .before .before .before .before .before .before .before .before .before .pre in (asked .rows, asked .room)
 
 returns : tie.Need-returns
-returns c = cut-short _ (c .before .before .before .before .before .before .before .before .before .before .before .before .cut .ensures) (c .before .if1 .taken) (c .refused .ensures)
-
-returns-2 : tie.Need-returns-2
-returns-2 c = cut-whole _ (c .before .before .before .before .before .before .before .before .before .before .before .before .cut .ensures) (c .before .if1 .left) (c .answered .ensures)
+returns c = record { count = _; answer = c .answer-in .ensures; cells = c .before .before .before .before .before .before .before .before .before .before .before .cut .ensures }
 
 pub cut-first-spec : {M : Type 1} → statement M
 cut-first-spec =
@@ -42,16 +38,9 @@ cut-first-spec =
     slice-aggregate-cut-5
     cut-requires
     (λ c κs. search needs)
-    (λ c. c .before .before .before .before .before .before .before .before .before .before .before .out-numbers .given)
-    (λ c. c .before .before .before .before .before .before .before .before .before .out-names .given)
-    (λ c. c .before .before .before .before .before .before .before .out-parents .given)
-    (λ c. c .before .before .before .before .before .out-starts .given)
-    (λ c. c .before .before .before .out-lengths .given)
-    returns
-    (λ c κs. search needs)
-    (λ c. c .before .before .before .before .before .before .before .before .before .before .before .out-numbers .given)
-    (λ c. c .before .before .before .before .before .before .before .before .before .out-names .given)
-    (λ c. c .before .before .before .before .before .before .before .out-parents .given)
-    (λ c. c .before .before .before .before .before .out-starts .given)
-    (λ c. c .before .before .before .out-lengths .given)
-    returns-2)
+    (λ c. c .before .before .before .before .before .before .before .before .before .before .out-numbers .given)
+    (λ c. c .before .before .before .before .before .before .before .before .out-names .given)
+    (λ c. c .before .before .before .before .before .before .out-parents .given)
+    (λ c. c .before .before .before .before .out-starts .given)
+    (λ c. c .before .before .out-lengths .given)
+    returns)

@@ -1,0 +1,64 @@
+// Cutting a table that is handed in, under the schema of some sets.
+ghost use Rattle.cut_laws.specs.Answers.{AnsweredIn, cutHeld};
+ghost use Rattle.cut_rows.specs.Rows.{table};
+ghost use Rattle.schema_sets.specs.Sets.{SetsOf, OfSchema};
+ghost use Rattle.schema_spec.specs.Schemas.{Schema as Elements};
+ghost use Rattle.table_spec.specs.Columns.{sizesOf};
+ghost use Rattle.tables.specs.Handed.{lentTable};
+use cut_answers::may_cut;
+use cut_answers::refuse;
+use known_names::handed_in;
+use lent_cutting::cut_first;
+use names::NameSet;
+use schema_sets::SchemaSets;
+use tables::is_table;
+use verdicts::Verdict;
+
+// Cuts a table that is handed in, under the schema of these sets: the table's test first, and then that of the lent columns.
+pub fn cut_lent(
+    sets: SchemaSets,
+    numbers: &[u16],
+    codes: &[u8],
+    parents: &[u16],
+    starts: &[u32],
+    lengths: &[u16],
+    count: usize,
+    word: u64,
+    out_numbers: &mut [u16],
+    out_names: &mut [u8],
+    out_parents: &mut [u16],
+    out_starts: &mut [u32],
+    out_lengths: &mut [u16],
+) -> Verdict
+    requires { ⌜ OfSchema sets ⌝ }
+    ensures { λ r. ⌜ ((s : Elements) → SetsOf s sets → AnsweredIn (cutHeld s (lentTable (now (numbers .entry)) (now (codes .entry)) (now (parents .entry)) (now (starts .entry)) (now (lengths .entry)) count) word (sizesOf (table (now («out_numbers» .entry)) (now («out_names» .entry)) (now («out_parents» .entry)) (now («out_starts» .entry)) (now («out_lengths» .entry))))) (sizesOf (table (now («out_numbers» .entry)) (now («out_names» .entry)) (now («out_parents» .entry)) (now («out_starts» .entry)) (now («out_lengths» .entry)))) r (table (now («out_numbers» .exit)) (now («out_names» .exit)) (now («out_parents» .exit)) (now («out_starts» .exit)) (now («out_lengths» .exit)))) ⌝ }
+{
+    let words = sets.words;
+    let all: NameSet = sets.all;
+    let held = is_table(numbers, codes, parents, starts, lengths, count, &words);
+    if !may_cut(
+        held,
+        out_numbers.len(),
+        out_names.len(),
+        out_parents.len(),
+        out_starts.len(),
+        out_lengths.len(),
+    ) {
+        return refuse(out_numbers, out_names, out_parents, out_starts, out_lengths);
+    }
+    let set = handed_in(word, all);
+    cut_first(
+        set,
+        numbers,
+        codes,
+        parents,
+        starts,
+        lengths,
+        count,
+        out_numbers,
+        out_names,
+        out_parents,
+        out_starts,
+        out_lengths,
+    )
+}
