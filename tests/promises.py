@@ -3,6 +3,7 @@
 
 - In the tables of docs/PROMISES.md each name of the column 'Met by' is declared in a file of the column 'File', and each such file exists.
 - Each `pub fn` that another crate calls stands in such a table, beside its crate's source.
+- The functions of the table 'Public functions' are those that the crate lozhymet passes on, and none of them has a `requires`.
 - Every crate folder is listed in crates.txt and described in docs/ARCHITECTURE.md, and each module that is named there exists.
 """
 import os
@@ -69,6 +70,28 @@ def omissions(promised):
                 yield "docs/PROMISES.md does not name %s::%s" % (crate, name)
 
 
+def contract(text, name):
+    """The head of a function that stands for itself, up to its body, if the text declares it."""
+    found = re.search(r'^pub (?:extern "C" )?fn %s\b.*?^\{' % re.escape(name), text, re.M | re.S)
+    return found and found.group()
+
+
+def public_functions(promises):
+    """Faults of the table 'Public functions' against what lozhymet passes on."""
+    table = promises.split("## Public functions")[1].split("\n\n")[1]
+    heads = {}
+    for _, met, file in rows(table):
+        for name in QUOTED.findall(met):
+            found = [contract(read(f), name) for f in QUOTED.findall(file) if f.endswith(".rt")]
+            heads.update((name, head) for head in found if head)
+    passed = set(re.findall(r"^pub use \w+::([a-z]\w*);", sources("lozhymet"), re.M))
+    for name in sorted(set(heads) ^ passed):
+        yield "%s stands in one of lozhymet and the table of public functions, and not in the other" % name
+    for name, head in heads.items():
+        if re.search(r"^    requires \{", head, re.M):
+            yield "the public function %s has a requires" % name
+
+
 def missing_modules(architecture, crates):
     """Modules that docs/ARCHITECTURE.md names and that do not exist: in the row of a crate, or behind a crate's name."""
     def exists(crate, module):
@@ -106,6 +129,7 @@ def main():
             faults.append("crate %s is not described in docs/ARCHITECTURE.md" % crate)
     faults += missing_modules(architecture, listed)
     faults += omissions(promised)
+    faults += public_functions(read("docs/PROMISES.md"))
     if seen == 0:
         faults.append("docs/PROMISES.md names nothing")
     if faults:
