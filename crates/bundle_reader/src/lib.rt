@@ -65,10 +65,14 @@ pub fn judge_under(schema: &[u8], text: &[u8]) -> Judged
     let mut names = [0usize; MAX_ELEMENTS];
     let mut uses = [0usize; MAX_USES];
     match schema_judging::judge_into(schema, &mut names, &mut uses) {
-        schema::Judgement::Accepted(count) => bundle::judge_bundle(schema, &names[..count], text),
+        schema::Judgement::Accepted(count) => bundle_judging::judge_bundle(
+            schema,
+            &names[..count],
+            text,
+        ),
         schema::Judgement::Refused(_, _) => {
             let none = 0;
-            bundle::judge_bundle(schema, &names[..none], text)
+            bundle_judging::judge_bundle(schema, &names[..none], text)
         }
     }
 }

@@ -1,21 +1,19 @@
-// A condition of a compiled path judged for all rows at once: each alternative from its last step back.
+// A condition of a compiled path judged for all rows at once.
 ghost use mathlib.Core.Path.{_≡_};
 ghost use Prim.Native.Nat.{_-_};
 ghost use lib.ListN.{length};
-ghost use Rattle.compiled_paths.specs.Columns.{plainIn, alternativesIn, conditionIn};
-ghost use Rattle.condition_passes.specs.Conditions.{AlternativePass, ConditionPass, KeepPass};
-ghost use Rattle.marks.specs.Columns.{union, intersection};
-ghost use Rattle.marks.specs.Selection.{noMarks, alternativeMarks, alternativesMarks, conditionMarks};
+ghost use Rattle.compiled_paths.specs.Columns.{alternativesIn, conditionIn};
+ghost use Rattle.condition_passes.specs.Conditions.{ConditionPass, KeepPass};
+ghost use Rattle.marks.specs.Columns.{intersection};
+ghost use Rattle.marks.specs.Selection.{noMarks, alternativesMarks, conditionMarks};
 ghost use Rattle.step_passes.specs.Tests.{namesIn};
-use axis_passes::MARKED;
+use alternative_passes::alternative;
 use axis_passes::UNMARKED;
 use axis_passes::fill;
 use compiled_paths::ALTERNATIVE_STARTS;
 use compiled_paths::STEPS;
 use mark_sets::any_marked;
 use mark_sets::intersect;
-use mark_sets::unite;
-use step_passes::step_back;
 
 // How many cells a range has.
 pub fn range_size(start: u16, end: u16) -> usize
@@ -26,31 +24,6 @@ pub fn range_size(start: u16, end: u16) -> usize
     } else {
         0
     }
-}
-
-// Adds the rows from which `size` steps, the first of them at `first`, lead to some row; `steps` and `next` are scratch.
-fn alternative<'a>(
-    parents: &[u16],
-    codes: &[u8],
-    axes: &'a [u8; STEPS],
-    lows: &'a [u8; STEPS],
-    highs: &'a [u8; STEPS],
-    first: usize,
-    size: usize,
-    held: &mut [u8],
-    steps: &mut [u8],
-    next: &mut [u8],
-)
-    requires { ⌜ AlternativePass (now parents) (now codes) first size (now held) (now steps) (now next) ⌝ }
-    ensures { λ _. ⌜ now (held .exit) ≡ union (now (held .entry)) (alternativeMarks (now (parents .entry)) (namesIn (now (codes .entry))) (plainIn (now (axes .entry)) (now (lows .entry)) (now (highs .entry)) size first)) ⌝ }
-{
-    fill(steps, MARKED);
-    let mut k = first + size;
-    while first < k {
-        k -= 1;
-        step_back(parents, codes, axes[k], lows[k], highs[k], steps, next);
-    }
-    unite(&steps[..], held);
 }
 
 // The rows from which one of `count` alternatives, the first of them at `first`, leads to some row; `steps` and `next` are scratch.

@@ -68,7 +68,7 @@ pub fn judge_texts(schema: &[u8], bundle: &[u8]) -> Texts
     }
     let count = compiled.count;
     let names = compiled.names;
-    let second = bundle::judge_bundle(schema, &names[..count], bundle);
+    let second = bundle_judging::judge_bundle(schema, &names[..count], bundle);
     let judgement = second.judgement;
     let paths = second.paths;
     let told = bundle_told(judgement);

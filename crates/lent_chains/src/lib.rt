@@ -8,9 +8,9 @@ ghost use Rattle.lent_chains.specs.Answers.{Answered};
 ghost use Rattle.row_chains.specs.Chains.{chainAt, NamesAt, SizePass};
 ghost use Rattle.text_spec.specs.Cells.{padded};
 ghost use Rattle.verdicts.specs.Verdicts.{refusedBy};
+use chain_writing::write_chain;
 use lent_cells::clear_bytes;
 use row_chains::chain_size;
-use row_chains::write_chain;
 use verdicts::BAD_RECORD;
 use verdicts::Verdict;
 

@@ -5,7 +5,7 @@ ghost use Rattle.library_spec.specs.Listing.{header};
 ghost use Rattle.listing_lines.specs.Lines.{refusal, lineOf, NumberAt, TagsPass, LinePass, rowLine, RowPass};
 ghost use Rattle.row_chains.specs.Chains.{chainAt};
 ghost use Rattle.written_text.specs.Written.{WrittenAt};
-use row_chains::write_chain;
+use chain_writing::write_chain;
 use written_text::put_decimal;
 use written_text::put_text;
 

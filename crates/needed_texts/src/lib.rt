@@ -14,7 +14,7 @@ pub fn needed_by_texts(schema: &[u8], text: &[u8]) -> u64
     let entries: Entries = compiled.entries;
     let holds: [NameSet; MAX_ELEMENTS] = entries.holds;
     let below: [NameSet; MAX_ELEMENTS] = compiled.below;
-    let judged = bundle::judge_bundle(schema, &names[..count], text);
+    let judged = bundle_judging::judge_bundle(schema, &names[..count], text);
     let paths = judged.paths;
     needed_names::needed_word(count, holds, below, paths)
 }

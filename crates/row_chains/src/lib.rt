@@ -5,7 +5,7 @@ ghost use mathlib.Core.Path.{_≡_};
 ghost use Prim.Native.Nat.{_+_, _≤_};
 ghost use lib.ListN.{length};
 ghost use lib.Seq.{sets};
-ghost use Rattle.row_chains.specs.Chains.{linkAt, linkSize, chainSize, SizesFit, LinkPass, SizePass, ChainPass, Chained};
+ghost use Rattle.row_chains.specs.Chains.{linkAt, linkSize, chainSize, SizesFit, LinkPass, SizePass};
 ghost use Rattle.text_spec.specs.Scans.{nameAt};
 use names::MAX_ELEMENTS;
 
@@ -44,7 +44,7 @@ fn link_size(sizes: &[usize], code: u8) -> usize
 }
 
 // Writes `/` and the tag of a name from `at` on, and gives the cell past it.
-fn put_link(
+pub fn put_link(
     text: &[u8],
     starts: &[usize],
     sizes: &[usize],
@@ -80,25 +80,4 @@ pub fn chain_size(sizes: &[usize], codes: &[u8], parents: &[u16], row: usize) ->
         r = parents[r] as usize;
     }
     n + link_size(sizes, codes[0])
-}
-
-// Writes the chain of a row into the first cells, which suffice, its parent's chain first, and gives the cell past it.
-pub fn write_chain(
-    text: &[u8],
-    starts: &[usize],
-    sizes: &[usize],
-    codes: &[u8],
-    parents: &[u16],
-    row: usize,
-    out: &mut [u8],
-) -> usize
-    requires { ⌜ ChainPass (now text) (now starts) (now sizes) (now codes) (now parents) row (now out) ⌝ }
-    ensures { λ n. ⌜ Chained (now (text .entry)) (now (starts .entry)) (now (sizes .entry)) (now (codes .entry)) (now (parents .entry)) row (now (out .entry)) n (now (out .exit)) ⌝ }
-{
-    if row == 0 {
-        return put_link(text, starts, sizes, codes[0], out, 0);
-    }
-    let up = parents[row] as usize;
-    let at = write_chain(text, starts, sizes, codes, parents, up, out);
-    put_link(text, starts, sizes, codes[row], out, at)
 }

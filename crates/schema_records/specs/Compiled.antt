@@ -30,7 +30,7 @@ use Rattle.text_spec.specs.Refusals.{accepted}
 use Rattle.text_spec.specs.Scans.{nameAt}
 
 module _ (text : List ℕ) (s : Schema) (read : readSchema text ≡ accepted s) (t : CompiledSchema) (made : CompiledOf text s t) where
-  -- `closures::related_from` and `related_to` on a set x
+  -- `related_names::related_from` and `related_to` on a set x
   module _ (x r : NameSet) where
     pub held-means-heldBy : ((b : Name) → member r b ≡ relatedFrom (t .entries .«holds») x b) → setOf (namesOf s) r ≡ heldBy (typesOf s) (setOf (namesOf s) x)
     unfolding typesOf

@@ -43,7 +43,7 @@ fn select_texts(
     let entries: Entries = compiled.entries;
     let holds: [NameSet; MAX_ELEMENTS] = entries.holds;
     let words = held_words::held_words(holds);
-    let judged = bundle::judge_bundle(schema, &names[..elements], text);
+    let judged = bundle_judging::judge_bundle(schema, &names[..elements], text);
     let paths = judged.paths;
     select_lent(
         paths,

@@ -29,7 +29,7 @@ pub extern "C" fn time_selection(
     let compiled = compiled_schema::compile(schema);
     let count = compiled.count;
     let names = compiled.names;
-    let judged = bundle::judge_bundle(schema, &names[..count], bundle);
+    let judged = bundle_judging::judge_bundle(schema, &names[..count], bundle);
     let paths = judged.paths;
     select_paths(
         paths,

@@ -33,7 +33,7 @@ pub fn held_by(
 ) -> NameSet
     ensures { λ r. ⌜ ((s : Schema) → RelationsOf s holds below → setIn s r ≡ heldBy (typesOf s) (setIn s t)) ⌝ }
 {
-    closures::related_from(holds, t)
+    related_names::related_from(holds, t)
 }
 
 // Those that hold a name of a set.
@@ -44,7 +44,7 @@ pub fn holding(
 ) -> NameSet
     ensures { λ r. ⌜ ((s : Schema) → RelationsOf s holds below → setIn s r ≡ holding (typesOf s) (setIn s t)) ⌝ }
 {
-    closures::related_to(holds, t)
+    related_names::related_to(holds, t)
 }
 
 // All below a set.
@@ -55,7 +55,7 @@ pub fn all_below(
 ) -> NameSet
     ensures { λ r. ⌜ ((s : Schema) → RelationsOf s holds below → setIn s r ≡ allBelow (typesOf s) (setIn s t)) ⌝ }
 {
-    closures::related_from(below, t)
+    related_names::related_from(below, t)
 }
 
 // All above a set.
@@ -66,7 +66,7 @@ pub fn all_above(
 ) -> NameSet
     ensures { λ r. ⌜ ((s : Schema) → RelationsOf s holds below → setIn s r ≡ allAbove (typesOf s) (setIn s t)) ⌝ }
 {
-    closures::related_to(below, t)
+    related_names::related_to(below, t)
 }
 
 // The names of both sets.

@@ -1,7 +1,7 @@
 -- `judge_names` meets its contract: 10, then acceptance.
 use mathlib.Core.List.{map}
 use Rattle.text_spec.specs.Scans.{nameAt}
-use Rattle.bundle.proofs.Outcomes.{judge-room, judge-lost, judge-known, few-names}
+use Rattle.bundle.specs.Outcomes.{judge-room, judge-lost, judge-known, few-names}
 use borrow.Author.Needs.{needs}
 use Rattle.bundle.proofs.judge_names.Statement.{statement}
 use Rattle.bundle.proofs.judge_names.Tie as tie

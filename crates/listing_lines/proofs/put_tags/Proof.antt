@@ -5,7 +5,7 @@ use Rattle.listing_lines.proofs.put_tags.Statement.{statement}
 use Rattle.listing_lines.proofs.put_tags.Tie as tie
 use Rattle.listing_lines.proofs.put_tags.Reads as reads
 use Rattle.listing_lines.proofs.put_tags.Lts as lts
-use Rattle.row_chains.proofs.write_chain.Reads as write-chain-reads
+use Rattle.chain_writing.proofs.write_chain.Reads as write-chain-reads
 
 -- src/lib.rt:56:70
 sub-write-chain : tie.Need-sub-write-chain

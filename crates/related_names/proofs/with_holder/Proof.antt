@@ -1,4 +1,4 @@
--- `closures::with_holder` meets its contract.
+-- `with_holder` meets its contract.
 use mathlib.Core.Bool.{Bool, true, _&&_, _||_, or-false, and-false}
 use mathlib.Core.Path.{_≡_, sym, ap, _∙_}
 use native.Mathlib.Omega.{arith}
@@ -7,8 +7,8 @@ use Rattle.names.specs.Sets.{member, overlap}
 use Rattle.schema_spec.specs.Names.{element, sameName}
 use native.Mathlib.Omega.{arith}
 use borrow.Author.Needs.{needs}
-use Rattle.closures.proofs.with_holder.Statement.{statement}
-use Rattle.closures.proofs.with_holder.Tie as tie
+use Rattle.related_names.proofs.with_holder.Statement.{statement}
+use Rattle.related_names.proofs.with_holder.Tie as tie
 
 returns : tie.Need-returns
 returns c n =

@@ -1,9 +1,9 @@
-use Rattle.condition_passes.specs.Conditions.{StepsBack, steps-begun, steps-column, steps-pass, steps-next, steps-all}
+use Rattle.alternative_passes.specs.Alternatives.{StepsBack, steps-begun, steps-column, steps-pass, steps-next, steps-all}
 use Rattle.step_passes.specs.Steps.{columns-same-length}
 use borrow.Author.Needs.{needs}
 use native.Mathlib.Omega.{arith}
-use Rattle.condition_passes.proofs.alternative.Statement.{statement}
-use Rattle.condition_passes.proofs.alternative.Tie as tie
+use Rattle.alternative_passes.proofs.alternative.Statement.{statement}
+use Rattle.alternative_passes.proofs.alternative.Tie as tie
 
 abbrev Inv-loop : tie.InvT-loop
 Inv-loop parents codes axes lows highs first size held steps₀ next₀ k₀ steps next k = StepsBack parents codes axes lows highs first size k steps next

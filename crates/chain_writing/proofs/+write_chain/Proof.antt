@@ -1,16 +1,16 @@
 use mathlib.Core.Path.{_∙_}
 use Rattle.row_chains.specs.Chains.{chained-root, chained-later, pass-up, pass-falls, pass-link, pass-root}
 use borrow.Author.Needs.{needs}
 use native.Mathlib.Omega.{arith}
 use Prim.Native.Nat.{ℕ, _<_}
 use borrow.Fn.Kinds.{In}
 use borrow.Fn.PlainCycle.{Measures, is, falls, and}
-use Rattle.row_chains.proofs.write_chain.Reads as write-chain
-use Rattle.row_chains.proofs.write_chain.Kinds as write-chain-kinds
-use Rattle.row_chains.proofs.+write_chain.Lts-write_chain as write-chain-lts
+use Rattle.chain_writing.proofs.write_chain.Reads as write-chain
+use Rattle.chain_writing.proofs.write_chain.Kinds as write-chain-kinds
+use Rattle.chain_writing.proofs.+write_chain.Lts-write_chain as write-chain-lts
 use Rattle.row_chains.proofs.put_link.Reads as put-link-reads
-use Rattle.row_chains.proofs.+write_chain.{statement}
-use Rattle.row_chains.proofs.+write_chain.Tie.{close}
+use Rattle.chain_writing.proofs.+write_chain.{statement}
+use Rattle.chain_writing.proofs.+write_chain.Tie.{close}
 
 abbrev μ-write-chain : Measures 6 write-chain-kinds.ps ℕ
 μ-write-chain κs a = a .1 .1 .1 .1 .1 .0

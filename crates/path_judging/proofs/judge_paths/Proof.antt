@@ -1,10 +1,10 @@
 -- `judge_paths` meets its contract: 8, then 9, then the names.
 use mathlib.Core.List.{map}
 use Rattle.text_spec.specs.Scans.{nameAt}
-use Rattle.bundle.proofs.Outcomes.{judge-departs, judge-over, judge-counts, judge-spelling}
+use Rattle.bundle.specs.Outcomes.{judge-departs, judge-over, judge-counts, judge-spelling}
 use borrow.Author.Needs.{needs}
-use Rattle.bundle.proofs.judge_paths.Statement.{statement}
-use Rattle.bundle.proofs.judge_paths.Tie as tie
+use Rattle.path_judging.proofs.judge_paths.Statement.{statement}
+use Rattle.path_judging.proofs.judge_paths.Tie as tie
 
 returns : tie.Need-returns
 returns c =

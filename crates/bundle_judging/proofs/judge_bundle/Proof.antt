@@ -1,10 +1,10 @@
 -- `judge_bundle` meets its contract: 2, then 3, then the others.
 use mathlib.Core.List.{map}
 use Rattle.text_spec.specs.Scans.{nameAt}
-use Rattle.bundle.proofs.Outcomes.{judge-empty, judge-long, judge-foreign, readable}
+use Rattle.bundle.specs.Outcomes.{judge-empty, judge-long, judge-foreign, readable}
 use borrow.Author.Needs.{needs}
-use Rattle.bundle.proofs.judge_bundle.Statement.{statement}
-use Rattle.bundle.proofs.judge_bundle.Tie as tie
+use Rattle.bundle_judging.proofs.judge_bundle.Statement.{statement}
+use Rattle.bundle_judging.proofs.judge_bundle.Tie as tie
 
 returns : tie.Need-returns
 returns c =

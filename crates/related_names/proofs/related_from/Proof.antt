@@ -1,17 +1,17 @@
--- `closures::related_from` meets its contract.
+-- `related_from` meets its contract.
 use mathlib.Core.Bool.{Bool, _&&_, _||_}
 use mathlib.Core.Path.{_≡_, ap, _∙_}
 use Prim.Native.Nat.{ℕ, _≤_, _-_}
 use native.Mathlib.Numerals.{add-one}
 use Rattle.closures.specs.Relations.{relates}
 use Rattle.names.specs.Sets.{member}
 use Rattle.schema_spec.specs.Names.{Name, element}
 use Rattle.text_spec.specs.Lists.{anyBelow}
 use Rattle.text_spec.specs.Limits.{maxDeclarations}
 use borrow.Author.Needs.{needs}
 use native.Mathlib.Omega.{arith}
-use Rattle.closures.proofs.related_from.Statement.{statement}
-use Rattle.closures.proofs.related_from.Tie as tie
+use Rattle.related_names.proofs.related_from.Statement.{statement}
+use Rattle.related_names.proofs.related_from.Tie as tie
 
 abbrev Inv-loop : tie.InvT-loop
 Inv-loop s images out₀ i₀ out i = (i ≤ maxDeclarations) × ((b : Name) → member out b ≡ anyBelow i (λ a. member s (element a) && relates images a b))

@@ -1,0 +1,37 @@
+// An alternative of a condition of a compiled path judged for all rows at once, from its last step back.
+ghost use mathlib.Core.Path.{_≡_};
+ghost use Rattle.alternative_passes.specs.Alternatives.{AlternativePass};
+ghost use Rattle.compiled_paths.specs.Columns.{plainIn};
+ghost use Rattle.marks.specs.Columns.{union};
+ghost use Rattle.marks.specs.Selection.{alternativeMarks};
+ghost use Rattle.step_passes.specs.Tests.{namesIn};
+use axis_passes::MARKED;
+use axis_passes::fill;
+use compiled_paths::STEPS;
+use mark_sets::unite;
+use step_passes::step_back;
+
+// Adds the rows from which `size` steps, the first of them at `first`, lead to some row; `steps` and `next` are scratch.
+pub fn alternative<'a>(
+    parents: &[u16],
+    codes: &[u8],
+    axes: &'a [u8; STEPS],
+    lows: &'a [u8; STEPS],
+    highs: &'a [u8; STEPS],
+    first: usize,
+    size: usize,
+    held: &mut [u8],
+    steps: &mut [u8],
+    next: &mut [u8],
+)
+    requires { ⌜ AlternativePass (now parents) (now codes) first size (now held) (now steps) (now next) ⌝ }
+    ensures { λ _. ⌜ now (held .exit) ≡ union (now (held .entry)) (alternativeMarks (now (parents .entry)) (namesIn (now (codes .entry))) (plainIn (now (axes .entry)) (now (lows .entry)) (now (highs .entry)) size first)) ⌝ }
+{
+    fill(steps, MARKED);
+    let mut k = first + size;
+    while first < k {
+        k -= 1;
+        step_back(parents, codes, axes[k], lows[k], highs[k], steps, next);
+    }
+    unite(&steps[..], held);
+}
