@@ -54,7 +54,7 @@ abbrev pub front : ℕ → List ℕ → List ℕ
 front k xs = xs ++ drop k (zeros cellCount)
 
 -- ---- the cell of a row
-cell-low : (n : ℕ) → cellOf n ≤ maxNodes
+pub cell-low : (n : ℕ) → cellOf n ≤ maxNodes
 cell-low n = by (ltb n maxNodes) refl
   where
     by : (b : Bool) → ltb n maxNodes ≡ b → cond b n maxNodes ≤ maxNodes
