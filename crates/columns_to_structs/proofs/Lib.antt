@@ -1,3 +1,1 @@
 pub mod Filled
-pub mod Locals
-pub mod Slots

@@ -15,10 +15,10 @@ use prog.Routine.{Routine}
 use prog.Wp.{Heap, Env, Calls, Loops, Wp, atReturn, WpFn, Tables}
 use ghost.Atoms.{Atoms}
 use contract.Lifetimes.{Lfts}
-use contract.Monad.{Fun, fact, factI}
+use contract.Monad.{Fun, factI}
 use contract.Running.{givenOf, tables, tablesOf}
 use sound.WpLaws.{FmC, fmOf, WpFn-mono}
-use types.Kit.{Go, Given, Item, Seq, params′, runs, frees, prop, ‵, raw, some, later, _⊛_, ⋆, atRet, _$_, _∵_, !, qed, by, move, keep, drop, use1, split, join, pick, rewrite, fsplit, fjoin, feqL, suffices, frame, await, done}
+use types.Kit.{Go, Given, Item, Seq, params′, runs, frees, prop, ‵, raw, _⊛_, ⋆, atRet, _$_, _∵_, !, qed, by, move, keep, drop, use1, split, join, rewrite, fsplit, fjoin, feqL, suffices, frame, done}
 use types.Part.{agg, whole, sub, look-in}
 use types.Run.{look, init, forget, stop, hop, fld, from, load, addr, of-opd, and-then, no-more, assigns, land, returns, enter, alloc1, alloc0, params1, pass1, pass0, exec}
 use denote.Builtin.{usize, u64}
@@ -30,10 +30,10 @@ use denote.RattleType.{owns}
 use denote.Ref.{RefT}
 use denote.Signature.{plain, shrSliceOf}
 use denote.Slice.{sliceTy, sliceVal, ShrSlice, MutSlice, Room, finally, slice-vals, shr-slice-tells, mut-slice-tells}
-use denote.Steps.{only, facts, heard, nothing, owned}
+use denote.Steps.{only, facts, nothing, owned}
 use denote.Struct.Laws as LL
 use denote.Triple.Call.{calls-at}
-use denote.Triple.Clauses.{Lasts, ensured, lasts}
+use denote.Triple.Clauses.{lasts}
 use denote.Triple.Entry.{Args, Vals, onEntry}
 use denote.Triple.Spec.{Meets, tripleOf}
 use denote.Triple.Statement.{Contract, Triple}
@@ -70,7 +70,6 @@ use Rattle.structs_to_columns.proofs.columns_of as e₁
 use Rattle.structs_to_columns.proofs.columns_of.Met as e₁-thm
 use Rattle.structs_to_columns.proofs.columns_of.Symbol as e₁-def
 use Rattle.structs_to_columns.proofs.columns_of.Symbol.{name as #columns-of}
-use Rattle.structs_to_columns.specs.Locals.{allocated, rooms, dies, free-all}
 use Rattle.table_spec.specs.Columns.{cellsAt, cellsFrom}
 use Rattle.table_spec.specs.Rows.{Cells, Row as TableRow}
 use Rattle.text_spec.specs.Limits.{maxNodes}
@@ -79,28 +78,13 @@ use Rattle.verdicts.proofs.Verdict as Verdict
 use Rattle.verdicts.proofs.Verdict.Laws as Verdict′
 use Rattle.verdicts.specs.Verdicts.{verdict}
 use Rattle.verdicts.specs.declared.Verdict.{Verdict as VerdictRecord}
+use Rattle.walk_laws.specs.Answers.{Parts, parts}
+use Rattle.walk_laws.specs.Calls.{answered}
+use Rattle.walk_laws.specs.Locals.{allocated, rooms, dies, free-all}
 
 abbrev stayed : Stays (f.ended .signature .params) (f.ended .kept)
 stayed =
     (stay-dropped (plain (λ _. Schema.the-row)) yes, (stay-dropped (shrSliceOf (0 ∷ []) tt (plain (λ _. T.the-row))) yes, (stay-dropped (plain (λ _. u64)) yes, (gave-slice (1 ∷ []) tt (plain (λ _. T.the-row)), tt))))
-
--- the machine values of an answer's two fields
-pub record Parts (t : TableAnswer) (v : Val) : Type 0 where
-  pub verdict-val : Val
-  pub columns-val : Val
-  pub whole-is : v ≡ vstruct (ofList (verdict-val ∷ columns-val ∷ []))
-  pub verdict-is : Is Verdict.the-row (t .verdict) (verdict-val ∷ [])
-  pub columns-are : Is Columns.the-row (t .columns) (columns-val ∷ [])
-
-parts : (t : TableAnswer) (v : Val) → Is Table.the-row t (v ∷ []) → Parts t v
-parts t v is =
-    record {
-      verdict-val = Verdict′.lowered (t .verdict);
-      columns-val = Columns′.lowered (t .columns);
-      whole-is = ap only (Table′.lowers .val-is t (v ∷ []) is);
-      verdict-is = subst (Is Verdict.the-row (t .verdict)) (Verdict′.lowers .val-is (t .verdict) (is .0 .0) (is .1 .1 .0)) (is .1 .1 .0);
-      columns-are = subst (Is Columns.the-row (t .columns)) (Columns′.lowers .val-is (t .columns) (is .0 .1 .0) (is .1 .1 .1 .0)) (is .1 .1 .1 .0);
-    }
 
 module _ {M : Type 1} (𝓤 : URA M) (H : Heap 𝓤) (A : Atoms 𝓤) (mem : Memory → SProp 𝓤) (run : Routine → Fun 𝓤) where
   -- the contracts that the proof cites
@@ -260,14 +244,11 @@ module _ {M : Type 1} (𝓤 : URA M) (H : Heap 𝓤) (A : Atoms 𝓤) (W : Given
         owned ! Columns.the-row (Is Columns.the-row) (LL.makes Columns.the-type Columns′.the-plain 𝓤 H A) (t .columns) (v .columns-val ∷ []) (v .columns-are) $ fjoin ! $ nothing ! $ move ! (2 ∷ 0 ∷ []) $
         join ! $ join ! $ use1 W (raw (PutRows 𝓤 H A mem run .pre (to₃ t v))) (goes₃ t v (found .past)) $
         calls-at ! fm (PutRows 𝓤 H A mem run) known₃ (to₃ t v) (and-then ! (load ! (from ! (stop !)) (look ! 3 refl)) (and-then ! (load ! (from ! (stop !)) (look ! 6 refl)) (no-more !))) (λ u.
-        use1 W (later (some (λ (r : Unit {0}). ((‵ (flft κ₁ q₁) ⊛ ‵ ftrue) ⊛ ‵ (Nothing .own r (u ∷ []))) ⊛ raw (ensured 𝓤 H A e₃.ended (e₃.clauses 𝓤 H A mem run) (κ₁, tt) (args₃ t) tt r)))) (id⊢ 𝓤 _) $ await ! tt $ pick ! (λ r. split ! $
-        move ! (1 ∷ []) $
-        use1 W (some (λ (e : Lasts e₃.ended (κ₁, tt) (args₃ t)). ‵ (lasts e₃.ended (κ₁, tt) (args₃ t) e) ⊛ raw (fact 𝓤 (map cellsIn (e .1 .0) ≡ cellsFrom (columnsIn (t .columns)) 0 m)))) (id⊢ 𝓤 _) $ pick ! (λ e. split ! $
-        move ! (1 ∷ []) $ heard ! (map cellsIn (e .1 .0) ≡ cellsFrom (columnsIn (t .columns)) 0 m) (λ put. fsplit ! $ drop ! $ fsplit ! $ fsplit ! $ move ! (1 ∷ []) $ feqL ! (λ same. move ! (1 ∷ []) $
+        answered ! tt (λ (r : Unit {0}). (‵ (flft κ₁ q₁) ⊛ ‵ ftrue) ⊛ ‵ (Nothing .own r (u ∷ []))) (lasts e₃.ended (κ₁, tt) (args₃ t)) (λ _ e. map cellsIn (e .1 .0) ≡ cellsFrom (columnsIn (t .columns)) 0 m) (id⊢ 𝓤 _) (λ r e put. fsplit ! $ drop ! $ fsplit ! $ fsplit ! $ move ! (1 ∷ []) $ feqL ! (λ same. move ! (1 ∷ []) $
         drop ! $ move ! (1 ∷ []) $ split ! $ move ! (1 ∷ []) $ feqL ! (λ is-u. land ! (from ! (stop !)) (init ! 5 refl (subst (λ (x : Val). Holds (hasTy tyUnit x) × WT x) (sym (ap only is-u)) (tt, tt))) $
         assigns ! (of-opd ! (load ! (from ! (fld ! refl (stop !))) (look-in ! 3 (sub ! 0 refl (whole !))))) (from ! (stop !)) (init ! 8 refl (LL.lawful Verdict.the-type Verdict′.the-laws 𝓤 H A W .typed (t .verdict) (v .verdict-val ∷ []) (v .verdict-is) .0)) $
         returns ! (look ! 8 refl) $ forget ! 8 refl $ forget ! 2 refl $ forget ! 3 refl $ forget ! 4 refl $ forget ! 5 refl $ forget ! 6 refl $ forget ! 7 refl $
-        keep ! (0 ∷ 1 ∷ 8 ∷ 2 ∷ 3 ∷ 4 ∷ 5 ∷ 6 ∷ 7 ∷ 9 ∷ []) $ by ! (freed t v (e .1 .0) (found .answer, put ∙ found .cells) same .prf)))))))
+        keep ! (0 ∷ 1 ∷ 8 ∷ 2 ∷ 3 ∷ 4 ∷ 5 ∷ 6 ∷ 7 ∷ 9 ∷ []) $ by ! (freed t v (e .1 .0) (found .answer, put ∙ found .cells) same .prf)))))
 
     -- the second call
     second : (c : RowColumns) (w : Val) → Is Columns.the-row c (w ∷ []) → Laid (map cellsIn ys) (columnsIn c)
@@ -282,12 +263,10 @@ module _ {M : Type 1} (𝓤 : URA M) (H : Heap 𝓤) (A : Atoms 𝓤) (W : Given
         owned ! Schema.the-row (Is Schema.the-row) (LL.makes Schema.the-type Schema′.the-plain 𝓤 H A) sc (vs ∷ []) is-s $ fjoin ! $
         nothing ! $ join ! $ use1 W (raw (CutColumns 𝓤 H A mem run .pre (to₂ c w))) (goes₂ c w) $
         calls-at ! fm (CutColumns 𝓤 H A mem run) known₂ (to₂ c w) (and-then ! (load ! (from ! (stop !)) (look ! 6 refl)) (and-then ! (load ! (from ! (stop !)) (look ! 3 refl)) (and-then ! (load ! (from ! (stop !)) (look ! 12 refl)) (and-then ! (load ! (from ! (stop !)) (look ! 7 refl)) (and-then ! (load ! (from ! (stop !)) (look ! 13 refl)) (no-more !)))))) (λ u.
-        use1 W (later (some (λ (t : TableAnswer). (‵ ftrue ⊛ ‵ (Table.the-row .own t (u ∷ []))) ⊛ raw (ensured 𝓤 H A e₂.ended (e₂.clauses 𝓤 H A mem run) tt (args₂ c) tt t)))) (id⊢ 𝓤 _) $ await ! tt $ pick ! (λ t. split ! $
-        move ! (1 ∷ []) $ use1 W (some (λ (e : Lasts e₂.ended tt (args₂ c)). ‵ (lasts e₂.ended tt (args₂ c) e) ⊛ raw (fact 𝓤 (Cut c t)))) (id⊢ 𝓤 _) $ pick ! (λ _. split ! $ drop ! $
-        heard ! (Cut c t) (λ found. split ! $ drop ! $ facts ! Table.the-row (Is Table.the-row) (shows 𝓤 H A Table.the-row) t (u ∷ []) (λ is-t.
+        answered ! tt (λ (t : TableAnswer). ‵ ftrue ⊛ ‵ (Table.the-row .own t (u ∷ []))) (lasts e₂.ended tt (args₂ c)) (λ t _. Cut c t) (id⊢ 𝓤 _) (λ t _ found. drop ! $ split ! $ drop ! $ facts ! Table.the-row (Is Table.the-row) (shows 𝓤 H A Table.the-row) t (u ∷ []) (λ is-t.
         land ! (from ! (stop !)) (init ! 9 refl (LL.lawful Table.the-type Table′.the-laws 𝓤 H A W .typed t (u ∷ []) is-t .0)) $
         rewrite ! 9 (λ (v : Val). ‵ (fat fullShare Table′.mir l₅ 0 v)) (parts t u is-t .whole-is) refl $ forget ! 5 refl $ forget ! 1 refl $ forget ! 6 refl $ forget ! 2 refl $ forget ! 11 refl $
-        forget ! 12 refl $ keep ! (3 ∷ 4 ∷ 7 ∷ 9 ∷ 10 ∷ 13 ∷ 14 ∷ 15 ∷ 8 ∷ 0 ∷ 5 ∷ 1 ∷ 6 ∷ 2 ∷ 11 ∷ 12 ∷ 16 ∷ []) $ by ! (third t (parts t u is-t) (found (map cellsIn ys) (length-map ys cellsIn) laid)))))))
+        forget ! 12 refl $ keep ! (3 ∷ 4 ∷ 7 ∷ 9 ∷ 10 ∷ 13 ∷ 14 ∷ 15 ∷ 8 ∷ 0 ∷ 5 ∷ 1 ∷ 6 ∷ 2 ∷ 11 ∷ 12 ∷ 16 ∷ []) $ by ! (third t (parts t u is-t) (found (map cellsIn ys) (length-map ys cellsIn) laid)))))
 
     -- the first call
     first : ent 𝓤 (⋆ 𝓤 H A (‵ (flft κ₀ q₀) ∷ ‵ Rows ∷ ‵ (fat fullShare sliceR l₂ 0 vr) ∷ ‵ (froom Columns′.mir l₇ 0) ∷ Others)) (Wp 𝓤 H C Λ En body.t-1 (atReturn 𝓤 H En Post))
@@ -295,11 +274,8 @@ module _ {M : Type 1} (𝓤 : URA M) (H : Heap 𝓤) (A : Atoms 𝓤) (W : Given
         qed W (‵ (flft κ₀ q₀) ∷ ‵ Rows ∷ ‵ (fat fullShare sliceR l₂ 0 vr) ∷ ‵ (froom Columns′.mir l₇ 0) ∷ raw (⋆ 𝓤 H A Others) ∷ []) ∵ exec ! C Λ En body.t-1 (atRet En Post) $
         nothing ! $ move ! (1 ∷ 0 ∷ []) $ join ! $ nothing ! $ move ! (2 ∷ 0 ∷ []) $ fjoin ! $ move ! (1 ∷ 0 ∷ []) $ join ! $ use1 W (raw (ColumnsOf 𝓤 H A mem run .pre to₁)) goes₁ $
         calls-at ! fm (ColumnsOf 𝓤 H A mem run) known₁ to₁ (and-then ! (load ! (from ! (stop !)) (look ! 1 refl)) (no-more !)) (λ w.
-        use1 W (later (some (λ (c : RowColumns). ((‵ (flft κ₀ q₀) ⊛ ‵ ftrue) ⊛ ‵ (Columns.the-row .own c (w ∷ []))) ⊛ raw (ensured 𝓤 H A e₁.ended (e₁.clauses 𝓤 H A mem run) (κ₀, tt) (x₀, tt) tt c)))) (id⊢ 𝓤 _) $ await ! tt $ pick ! (λ c. split ! $
-        move ! (1 ∷ []) $
-        use1 W (some (λ (e : Lasts e₁.ended (κ₀, tt) (x₀, tt)). ‵ (lasts e₁.ended (κ₀, tt) (x₀, tt) e) ⊛ raw (fact 𝓤 (Laid (map cellsIn ys) (columnsIn c))))) (id⊢ 𝓤 _) $ pick ! (λ _. split ! $ drop ! $
-        heard ! (Laid (map cellsIn ys) (columnsIn c)) (λ laid. split ! $ move ! (1 ∷ []) $ facts ! Columns.the-row (Is Columns.the-row) (shows 𝓤 H A Columns.the-row) c (w ∷ []) (λ is.
-        land ! (from ! (stop !)) (init ! 2 refl (typed-columns c w is)) $ split ! $ move ! (1 ∷ []) $ drop ! $ by ! (second c w is laid))))))
+        answered ! tt (λ (c : RowColumns). (‵ (flft κ₀ q₀) ⊛ ‵ ftrue) ⊛ ‵ (Columns.the-row .own c (w ∷ []))) (lasts e₁.ended (κ₀, tt) (x₀, tt)) (λ c _. Laid (map cellsIn ys) (columnsIn c)) (id⊢ 𝓤 _) (λ c _ laid. drop ! $ split ! $ move ! (1 ∷ []) $ facts ! Columns.the-row (Is Columns.the-row) (shows 𝓤 H A Columns.the-row) c (w ∷ []) (λ is.
+        land ! (from ! (stop !)) (init ! 2 refl (typed-columns c w is)) $ split ! $ move ! (1 ∷ []) $ drop ! $ by ! (second c w is laid))))
 
     -- the parameters are stored
     begun : Seq (Go {0}) W (allocated En Entry) (params′ En (vs ∷ vr ∷ vint w64 word ∷ vo ∷ []) (runs C Λ En body.t-1 (atRet En Post)))

@@ -15,10 +15,10 @@ use prog.Routine.{Routine}
 use prog.Wp.{Heap, Env, Calls, Loops, Wp, atReturn, WpFn, Tables}
 use ghost.Atoms.{Atoms}
 use contract.Lifetimes.{Lfts}
-use contract.Monad.{Fun, fact}
+use contract.Monad.{Fun}
 use contract.Running.{givenOf, tables, tablesOf}
 use sound.WpLaws.{FmC, fmOf, WpFn-mono}
-use types.Kit.{Go, Given, Item, Seq, params′, runs, frees, prop, ‵, raw, some, later, _⊛_, ⋆, atRet, _$_, _∵_, !, qed, by, move, keep, drop, use1, split, join, pick, fsplit, fjoin, feqL, suffices, frame, await, done}
+use types.Kit.{Go, Given, Item, Seq, params′, runs, frees, prop, ‵, raw, _⊛_, ⋆, atRet, _$_, _∵_, !, qed, by, move, keep, drop, use1, split, join, fsplit, fjoin, feqL, suffices, frame, done}
 use types.Part.{agg, whole, sub, look-in}
 use types.Run.{look, init, forget, stop, hop, fld, from, load, addr, of-opd, and-then, no-more, assigns, land, returns, enter, alloc1, alloc0, params1, pass1, pass0, exec}
 use denote.Builtin.{u8, u16, u32, usize}
@@ -30,10 +30,10 @@ use denote.RattleType.{owns}
 use denote.Ref.{RefT}
 use denote.Signature.{plain, shrSliceOf}
 use denote.Slice.{sliceTy, sliceVal, ShrSlice, MutSlice, Room, finally, slice-vals, shr-slice-tells, mut-slice-tells}
-use denote.Steps.{facts, heard, nothing, owned, peeks}
+use denote.Steps.{facts, nothing, owned, peeks}
 use denote.Struct.Laws as LL
 use denote.Triple.Call.{calls-at}
-use denote.Triple.Clauses.{Lasts, ensured, lasts}
+use denote.Triple.Clauses.{lasts}
 use denote.Triple.Entry.{Args, Vals, onEntry}
 use denote.Triple.Spec.{Meets, tripleOf}
 use denote.Triple.Statement.{Contract, Triple}
@@ -65,13 +65,14 @@ use Rattle.structs_to_columns.proofs.columns_of as e₁
 use Rattle.structs_to_columns.proofs.columns_of.Met as e₁-thm
 use Rattle.structs_to_columns.proofs.columns_of.Symbol as e₁-def
 use Rattle.structs_to_columns.proofs.columns_of.Symbol.{name as #columns-of}
-use Rattle.structs_to_columns.specs.Locals.{allocated, rooms, dies, free-all}
 use Rattle.select_structs.proofs.select_nodes_rows as f
 use Rattle.select_structs.proofs.select_nodes_rows.Code as code
 use Rattle.select_structs.proofs.select_nodes_rows.Code.Mir as body
 use Rattle.select_structs.proofs.select_nodes_rows.Key.{name as #select-nodes-rows}
 use Rattle.select_structs.proofs.select_nodes_rows.Statement as stated
 use Rattle.table_spec.specs.Rows.{Cells}
+use Rattle.walk_laws.specs.Calls.{answered}
+use Rattle.walk_laws.specs.Locals.{allocated, rooms, dies, free-all}
 
 abbrev stayed : Stays (f.ended .signature .params) (f.ended .kept)
 stayed = (
@@ -250,16 +251,13 @@ module _ {M : Type 1} (𝓤 : URA M) (H : Heap 𝓤) (A : Atoms 𝓤) (W : Given
         owned ! Schema.the-row (Is Schema.the-row) (LL.makes Schema.the-type Schema′.the-plain 𝓤 H A) sc (vs ∷ []) is-s $ fjoin ! $ nothing ! $ move ! (7 ∷ 0 ∷ []) $ join ! $ move ! (6 ∷ 0 ∷ []) $ join ! $
         move ! (5 ∷ 0 ∷ []) $ join ! $ join ! $ use1 W (raw (SelectColumns 𝓤 H A mem run .pre (to₂ c w))) (goes₂ c w) $
         calls-at ! fm (SelectColumns 𝓤 H A mem run) known₂ (to₂ c w) (and-then ! (load ! (from ! (stop !)) (look ! 4 refl)) (and-then ! (load ! (from ! (stop !)) (look ! 5 refl)) (and-then ! (load ! (from ! (stop !)) (look ! 6 refl)) (and-then ! (load ! (from ! (stop !)) (look ! 3 refl)) (and-then ! (load ! (from ! (stop !)) (look ! 11 refl)) (and-then ! (load ! (from ! (stop !)) (look ! 7 refl)) (and-then ! (load ! (from ! (stop !)) (look ! 13 refl)) (and-then ! (load ! (from ! (stop !)) (look ! 15 refl)) (no-more !))))))))) (λ v.
-        use1 W (later (some (λ (r : Selected). ((‵ (flft κ₁ q₁) ⊛ ‵ (flft κ₂ q₂) ⊛ ‵ (flft κ₃ q₃) ⊛ ‵ ftrue) ⊛ ‵ (Answer.the-row .own r (v ∷ []))) ⊛ raw (ensured 𝓤 H A e₂.ended (e₂.clauses 𝓤 H A mem run) κs₂ (args₂ c) tt r)))) (id⊢ 𝓤 _) $ await ! tt $ pick ! (λ r. split ! $
-        move ! (1 ∷ []) $
-        use1 W (some (λ (e : Lasts e₂.ended κs₂ (args₂ c)). ‵ (lasts e₂.ended κs₂ (args₂ c) e) ⊛ raw (fact 𝓤 (Found c r (e .1 .1 .1 .1 .1 .1 .0) (e .1 .1 .1 .1 .1 .1 .1 .0))))) (id⊢ 𝓤 _) $ pick ! (λ e. split ! $
-        move ! (1 ∷ []) $ heard ! (Found c r (e .1 .1 .1 .1 .1 .1 .0) (e .1 .1 .1 .1 .1 .1 .1 .0)) (λ found. fsplit ! $ drop ! $ fsplit ! $ drop ! $ fsplit ! $ drop ! $ fsplit ! $ drop ! $ fsplit ! $ drop ! $
+        answered ! tt (λ (r : Selected). (‵ (flft κ₁ q₁) ⊛ ‵ (flft κ₂ q₂) ⊛ ‵ (flft κ₃ q₃) ⊛ ‵ ftrue) ⊛ ‵ (Answer.the-row .own r (v ∷ []))) (lasts e₂.ended κs₂ (args₂ c)) (λ r e. Found c r (e .1 .1 .1 .1 .1 .1 .0) (e .1 .1 .1 .1 .1 .1 .1 .0)) (id⊢ 𝓤 _) (λ r e found. fsplit ! $ drop ! $ fsplit ! $ drop ! $ fsplit ! $ drop ! $ fsplit ! $ drop ! $ fsplit ! $ drop ! $
         fsplit ! $ drop ! $ fsplit ! $ fsplit ! $ move ! (1 ∷ []) $ feqL ! (λ same₂. move ! (1 ∷ []) $ fsplit ! $ fsplit ! $ move ! (1 ∷ []) $ feqL ! (λ same₃. move ! (1 ∷ []) $ drop ! $ move ! (2 ∷ []) $
         split ! $ move ! (1 ∷ []) $ peeks ! Answer.the-row (Is Answer.the-row) (shows 𝓤 H A Answer.the-row) r (v ∷ []) (λ is-r.
         land ! (from ! (stop !)) (init ! 13 refl (LL.lawful Answer.the-type Answer′.the-laws 𝓤 H A W .typed r (v ∷ []) is-r .0)) $ returns ! (look ! 13 refl) $ forget ! 13 refl $ forget ! 7 refl $
         forget ! 8 refl $ forget ! 9 refl $ forget ! 5 refl $ forget ! 10 refl $ forget ! 11 refl $ forget ! 12 refl $ forget ! 6 refl $ forget ! 14 refl $ forget ! 15 refl $ forget ! 16 refl $
         forget ! 17 refl $ forget ! 18 refl $ keep ! (13 ∷ 7 ∷ 8 ∷ 9 ∷ 5 ∷ 10 ∷ 11 ∷ 12 ∷ 6 ∷ 14 ∷ 15 ∷ 16 ∷ 17 ∷ 18 ∷ 4 ∷ 1 ∷ 3 ∷ 2 ∷ 0 ∷ 19 ∷ []) $
-        by ! (freed r v (e .1 .1 .1 .1 .1 .1 .0) (e .1 .1 .1 .1 .1 .1 .1 .0) (found (map cellsIn ys) (length-map ys cellsIn) laid) same₂ same₃ .prf))))))))
+        by ! (freed r v (e .1 .1 .1 .1 .1 .1 .0) (e .1 .1 .1 .1 .1 .1 .1 .0) (found (map cellsIn ys) (length-map ys cellsIn) laid) same₂ same₃ .prf))))))
 
     -- the first call
     first : ent 𝓤 (⋆ 𝓤 H A (‵ (flft κ₀ q₀) ∷ ‵ Rows ∷ ‵ (fat fullShare sliceR l₄ 0 vr) ∷ ‵ (froom Columns′.mir l₈ 0) ∷ Others)) (Wp 𝓤 H C Λ En body.t-1 (atReturn 𝓤 H En Post))
@@ -267,11 +265,8 @@ module _ {M : Type 1} (𝓤 : URA M) (H : Heap 𝓤) (A : Atoms 𝓤) (W : Given
         qed W (‵ (flft κ₀ q₀) ∷ ‵ Rows ∷ ‵ (fat fullShare sliceR l₄ 0 vr) ∷ ‵ (froom Columns′.mir l₈ 0) ∷ raw (⋆ 𝓤 H A Others) ∷ []) ∵ exec ! C Λ En body.t-1 (atRet En Post) $
         nothing ! $ move ! (1 ∷ 0 ∷ []) $ join ! $ nothing ! $ move ! (2 ∷ 0 ∷ []) $ fjoin ! $ move ! (1 ∷ 0 ∷ []) $ join ! $ use1 W (raw (ColumnsOf 𝓤 H A mem run .pre to₁)) goes₁ $
         calls-at ! fm (ColumnsOf 𝓤 H A mem run) known₁ to₁ (and-then ! (load ! (from ! (stop !)) (look ! 1 refl)) (no-more !)) (λ w.
-        use1 W (later (some (λ (c : RowColumns). ((‵ (flft κ₀ q₀) ⊛ ‵ ftrue) ⊛ ‵ (Columns.the-row .own c (w ∷ []))) ⊛ raw (ensured 𝓤 H A e₁.ended (e₁.clauses 𝓤 H A mem run) (κ₀, tt) (x₀, tt) tt c)))) (id⊢ 𝓤 _) $ await ! tt $ pick ! (λ c. split ! $
-        move ! (1 ∷ []) $
-        use1 W (some (λ (e : Lasts e₁.ended (κ₀, tt) (x₀, tt)). ‵ (lasts e₁.ended (κ₀, tt) (x₀, tt) e) ⊛ raw (fact 𝓤 (Laid (map cellsIn ys) (columnsIn c))))) (id⊢ 𝓤 _) $ pick ! (λ _. split ! $ drop ! $
-        heard ! (Laid (map cellsIn ys) (columnsIn c)) (λ laid. split ! $ move ! (1 ∷ []) $ facts ! Columns.the-row (Is Columns.the-row) (shows 𝓤 H A Columns.the-row) c (w ∷ []) (λ is.
-        land ! (from ! (stop !)) (init ! 2 refl (LL.lawful Columns.the-type Columns′.the-laws 𝓤 H A W .typed c (w ∷ []) is .0)) $ split ! $ move ! (1 ∷ []) $ drop ! $ by ! (second c w is laid))))))
+        answered ! tt (λ (c : RowColumns). (‵ (flft κ₀ q₀) ⊛ ‵ ftrue) ⊛ ‵ (Columns.the-row .own c (w ∷ []))) (lasts e₁.ended (κ₀, tt) (x₀, tt)) (λ c _. Laid (map cellsIn ys) (columnsIn c)) (id⊢ 𝓤 _) (λ c _ laid. drop ! $ split ! $ move ! (1 ∷ []) $ facts ! Columns.the-row (Is Columns.the-row) (shows 𝓤 H A Columns.the-row) c (w ∷ []) (λ is.
+        land ! (from ! (stop !)) (init ! 2 refl (LL.lawful Columns.the-type Columns′.the-laws 𝓤 H A W .typed c (w ∷ []) is .0)) $ split ! $ move ! (1 ∷ []) $ drop ! $ by ! (second c w is laid))))
 
     -- the parameters are stored
     begun : Seq (Go {0}) W (allocated En Entry) (params′ En (vs ∷ vb ∷ vint w64 p ∷ vr ∷ vl ∷ vi ∷ vc ∷ []) (runs C Λ En body.t-1 (atRet En Post)))

@@ -1,0 +1,4 @@
+pub mod Locals
+pub mod Slots
+pub mod Calls
+pub mod Answers
