@@ -96,10 +96,9 @@ pub fn list_files(
     if told.number != 0 {
         return refused(told.number, told.place);
     }
-    let compiled = texts.schema;
     let verdict = read_compiled(
         schema,
-        compiled,
+        texts.schema,
         journal,
         LISTED_BYTES,
         numbers,
@@ -112,11 +111,10 @@ pub fn list_files(
         return refused(verdict.number, verdict.place);
     }
     let rows = verdict.size;
-    let paths = texts.paths;
     list_rows(
         schema,
-        compiled,
-        paths,
+        texts.schema,
+        texts.paths,
         &codes[..rows],
         &parents[..rows],
         &mut firsts[..rows],

@@ -1,5 +1,4 @@
 -- `select_under` meets its contract: what is selected, and the last test.
-use borrow.Author.Needs.{needs}
 use lib.Seq.{length-take-le}
 use mathlib.Core.Path.{sym}
 use Rattle.host_chosen.proofs.select_under.Statement.{statement}
@@ -44,12 +43,12 @@ select-under-spec =
     slice-reshare-prefix-select-table-3
     slice-aggregate-select-table-3
     select-table-requires
-    (λ c κs. search needs)
-    (λ c. search needs)
-    (λ c. search needs)
-    (λ c. search needs)
-    (λ c. search needs)
-    (λ c. search needs)
-    (λ c. search needs)
-    (λ c. search needs)
+    (λ c κs. tt)
+    (λ c. c .before .before .before .before .before .before .before .before .before .before .answer .kept .1 .1 .0)
+    (λ c. c .before .before .before .before .before .before .before .before .before .before .answer .kept .1 .1 .1 .0)
+    (λ c. c .before .before .before .before .before .before .before .before .before .before .answer .kept .1 .1 .1 .1 .0)
+    (λ c. c .before .before .before .before .before .before .before .before .before .before .answer .kept .1 .1 .1 .1 .1 .0)
+    (λ c. c .before .before .before .before .before .before .before .before .before .before .answer .kept .1 .1 .1 .1 .1 .1 .0)
+    (λ c. c .before .before .before .before .before .before .before .before .before .before .before .before .before .before .before .before .before .before .before .before .select-table .kept .1 .1 .1 .1 .1 .0)
+    (λ c. c .before .before .before .before .before .before .before .before .before .before .before .before .before .before .before .before .before .before .before .before .select-table .kept .1 .1 .1 .1 .1 .1 .0)
     returns)

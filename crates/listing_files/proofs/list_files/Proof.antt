@@ -15,7 +15,7 @@ abbrev texts-before : tie.Else1 → tie.After-judge-texts
 texts-before c = c .before .before .before
 
 abbrev accepted-before : tie.After-read-compiled → tie.Else1
-accepted-before c = c .before .before .before .before .before .before .before
+accepted-before c = c .before .before .before .before .before .before
 
 abbrev read-before : tie.Then2 → tie.After-read-compiled
 read-before c = c .before .before .before .before .before .before .before .before .before .before .before .before
@@ -30,7 +30,7 @@ returns c =
 
 read-compiled-requires : tie.Need-read-compiled-requires
 read-compiled-requires c κs =
-    let judge = texts-before (c .before .before .before .before .before .before) in
+    let judge = texts-before (c .before .before .before .before .before) in
     (judge .judge-texts .ensures .compiled, omega arith, (start-before judge) .pre .equal)
 
 returns-2 : tie.Need-returns-2
@@ -42,15 +42,14 @@ returns-2 c =
 
 slice-reshare-prefix-list-rows : tie.Need-slice-reshare-prefix-list-rows
 slice-reshare-prefix-list-rows c =
-    let else2 = c .before in
-    let read = read-before-2 else2 in
+    let read = read-before-2 c in
     let accepted = accepted-before read in
     let judge = texts-before accepted in
-    rows-rooms _ _ _ _ (judge .judge-texts .ensures) (accepted .if1 .left) _ _ _ ((start-before judge) .pre) _ (read .read-compiled .ensures) (else2 .if2 .left) .names
+    rows-rooms _ _ _ _ (judge .judge-texts .ensures) (accepted .if1 .left) _ _ _ ((start-before judge) .pre) _ (read .read-compiled .ensures) (c .if2 .left) .names
 
 slice-aggregate-list-rows : tie.Need-slice-aggregate-list-rows
 slice-aggregate-list-rows c =
-    let else2 = c .before .before in
+    let else2 = c .before in
     let read = read-before-2 else2 in
     let accepted = accepted-before read in
     let judge = texts-before accepted in
@@ -58,7 +57,7 @@ slice-aggregate-list-rows c =
 
 slice-reshare-prefix-list-rows-2 : tie.Need-slice-reshare-prefix-list-rows-2
 slice-reshare-prefix-list-rows-2 c =
-    let else2 = c .before .before in
+    let else2 = c .before in
     let read = read-before-2 else2 in
     let accepted = accepted-before read in
     let judge = texts-before accepted in
@@ -66,7 +65,7 @@ slice-reshare-prefix-list-rows-2 c =
 
 slice-aggregate-list-rows-2 : tie.Need-slice-aggregate-list-rows-2
 slice-aggregate-list-rows-2 c =
-    let else2 = c .before .before .before in
+    let else2 = c .before .before in
     let read = read-before-2 else2 in
     let accepted = accepted-before read in
     let judge = texts-before accepted in
@@ -74,7 +73,7 @@ slice-aggregate-list-rows-2 c =
 
 slice-relend-prefix-list-rows : tie.Need-slice-relend-prefix-list-rows
 slice-relend-prefix-list-rows c =
-    let else2 = c .before .before .before in
+    let else2 = c .before .before in
     let read = read-before-2 else2 in
     let accepted = accepted-before read in
     let judge = texts-before accepted in
@@ -82,7 +81,7 @@ slice-relend-prefix-list-rows c =
 
 slice-aggregate-list-rows-3 : tie.Need-slice-aggregate-list-rows-3
 slice-aggregate-list-rows-3 c =
-    let else2 = c .before .before .before .before in
+    let else2 = c .before .before .before in
     let read = read-before-2 else2 in
     let accepted = accepted-before read in
     let judge = texts-before accepted in
@@ -90,7 +89,7 @@ slice-aggregate-list-rows-3 c =
 
 list-rows-requires : tie.Need-list-rows-requires
 list-rows-requires c κs =
-    let else2 = c .before .before .before .before in
+    let else2 = c .before .before .before in
     let read = read-before-2 else2 in
     let accepted = accepted-before read in
     let judge = texts-before accepted in
@@ -101,7 +100,7 @@ list-rows-requires c κs =
 returns-3 : tie.Need-returns-3
 returns-3 c =
     let rows = c .before .before in
-    let else2 = rows .before .before .before .before .before in
+    let else2 = rows .before .before .before .before in
     let read = read-before-2 else2 in
     let accepted = accepted-before read in
     let judge = texts-before accepted in
@@ -119,11 +118,11 @@ list-files-spec =
     returns
     read-compiled-requires
     (λ c κs. search needs)
-    (λ c. search needs)
-    (λ c. search needs)
-    (λ c. search needs)
-    (λ c. search needs)
-    (λ c. search needs)
+    (λ c. (read-before (c .before)) .read-compiled .kept .1 .1 .1 .1 .0)
+    (λ c. (read-before (c .before)) .read-compiled .kept .1 .1 .1 .1 .1 .0)
+    (λ c. (read-before (c .before)) .read-compiled .kept .1 .1 .1 .1 .1 .1 .0)
+    (λ c. (read-before (c .before)) .read-compiled .kept .1 .1 .1 .1 .1 .1 .1 .0)
+    (λ c. (read-before (c .before)) .read-compiled .kept .1 .1 .1 .1 .1 .1 .1 .1 .0)
     returns-2
     slice-reshare-prefix-list-rows
     slice-aggregate-list-rows
@@ -132,10 +131,10 @@ list-files-spec =
     slice-relend-prefix-list-rows
     slice-aggregate-list-rows-3
     list-rows-requires
-    (λ c. search needs)
-    (λ c. search needs)
-    (λ c. search needs)
-    (λ c. search needs)
-    (λ c. search needs)
+    (λ c. (read-before-2 (c .before .before .before .before .before .before)) .read-compiled .kept .1 .1 .1 .1 .0)
+    (λ c. (read-before-2 (c .before .before .before .before .before .before)) .read-compiled .kept .1 .1 .1 .1 .1 .0)
+    (λ c. (read-before-2 (c .before .before .before .before .before .before)) .read-compiled .kept .1 .1 .1 .1 .1 .1 .0)
+    (λ c. (read-before-2 (c .before .before .before .before .before .before)) .read-compiled .kept .1 .1 .1 .1 .1 .1 .1 .0)
+    (λ c. (read-before-2 (c .before .before .before .before .before .before)) .read-compiled .kept .1 .1 .1 .1 .1 .1 .1 .1 .0)
     (λ c. search needs)
     returns-3)

@@ -1,0 +1,16 @@
+-- `host_make_extract` meets its contract, that of the function it calls.
+use Rattle.library.proofs.host_make_extract.Statement.{statement}
+use Rattle.library.proofs.host_make_extract.Tie as tie
+
+pub host-make-extract-spec : {M : Type 1} → statement M
+host-make-extract-spec =
+    tie.close
+    (tie.spec
+    (λ c κs. tt)
+    (λ c. c .before .before .before .before .before .before .before .before .before .before .before .before .make-extract .kept .1 .1 .1 .0)
+    (λ c. c .before .before .before .before .before .before .before .before .before .before .before .before .make-extract .kept .1 .1 .1 .1 .0)
+    (λ c. c .before .before .before .before .before .before .before .before .before .before .before .before .make-extract .kept .1 .1 .1 .1 .1 .0)
+    (λ c. c .before .before .before .before .before .before .before .before .before .before .before .before .make-extract .kept .1 .1 .1 .1 .1 .1 .0)
+    (λ c. c .before .before .before .before .before .before .before .before .before .before .before .before .make-extract .kept .1 .1 .1 .1 .1 .1 .1 .0)
+    (λ c. c .before .before .before .before .before .before .before .before .before .before .before .before .make-extract .kept .1 .1 .1 .1 .1 .1 .1 .1 .0)
+    (λ c. c .before .before .before .before .before .before .before .before .before .before .before .before .make-extract .ensures))
