@@ -1,45 +1,33 @@
-// The public library in one crate: every function that another project calls, with the types that it takes and hands back. Each is proved in the
-// crate that it comes from, and none has a `requires`; docs/PROMISES.md lists what each is equal to. A C host links the crate `library`, whose two
-// functions stand here, too.
+// The public library in one crate: every function that another project calls. Each is proved in the crate that it comes from, and none has a
+// `requires`; docs/PROMISES.md lists what each is equal to. A caller names the types by the crates that declare them. A C host links the crate
+// `library`, whose two functions stand here, too.
 
 // Schemas and bundles: texts read into records, and refusal 1 for a record.
-pub use bundle_reader::Answer;
-pub use bundle_reader::Bundle;
-pub use bundle_reader::BundleRead;
 pub use bundle_reader::read_bundle;
 pub use bundle_tests::is_bundle_record;
-pub use schema::Judgement;
-pub use schema::Kind;
-pub use schema::Schema;
-pub use schema_reader::SchemaRead;
 pub use schema_reader::is_schema_record;
 pub use schema_reader::read_schema;
 
 // The needed names of a bundle, as 64 bits.
-pub use needed_records::Needed;
 pub use needed_records::needed_names;
 
-// Tables in lent columns: a journal read into them, refusal 1 for them, the text and the chain of a row, a cut.
+// Tables in lent columns: a journal read into them, a cut, the text and the chain of a row.
 pub use chain_records::row_chain;
 pub use cut_records::cut_table;
 pub use journal_records::read_journal;
-pub use row_text::RowText;
 pub use row_text::row_text;
 pub use row_text::row_text_place;
-pub use verdicts::Verdict;
 
-// Extracts.
+// Extracts written and read.
 pub use extract_records::read_extract;
 pub use extract_writer::write_extract;
 
-// Selecting.
+// Selecting on a table.
 pub use select_records::select_nodes;
-pub use selected_answers::Selected;
 
 // The same over lent row structs.
 pub use cut_structs::cut_table_rows;
 pub use journal_structs::read_journal_rows;
-pub use row_structs::Row;
 pub use select_structs::select_nodes_rows;
 
 // For a C host.
