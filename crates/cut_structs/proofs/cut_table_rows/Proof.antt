@@ -15,7 +15,7 @@ use prog.Routine.{Routine}
 use prog.Wp.{Heap, Env, Calls, Loops, Wp, atReturn, WpFn, Tables}
 use ghost.Atoms.{Atoms}
 use contract.Lifetimes.{Lfts}
-use contract.Monad.{Fun, factI}
+use contract.Monad.{Fun}
 use contract.Running.{givenOf, tables, tablesOf}
 use sound.WpLaws.{FmC, fmOf, WpFn-mono}
 use types.Kit.{Go, Given, Item, Seq, params′, runs, frees, prop, ‵, raw, _⊛_, ⋆, atRet, _$_, _∵_, !, qed, by, move, keep, drop, use1, split, join, rewrite, fsplit, fjoin, feqL, suffices, frame, done}
@@ -38,7 +38,7 @@ use denote.Triple.Entry.{Args, Vals, onEntry}
 use denote.Triple.Spec.{Meets, tripleOf}
 use denote.Triple.Statement.{Contract, Triple}
 use denote.Triple.Table.{entered, cited}
-use denote.Triple.Walked.{says, Stays, stay-dropped, gave-slice, walkOf, Walks, ends-at, walked, goes-dropped, goes-gave-slice, walk-meets}
+use denote.Triple.Walked.{says, Stays, stay-dropped, gave-slice, onExit, walkOf, Walks, ends-at, walked, goes-dropped, goes-gave-slice, walk-meets}
 use Rattle.columns_to_structs.proofs.put_rows as e₃
 use Rattle.columns_to_structs.proofs.put_rows.Met as e₃-thm
 use Rattle.columns_to_structs.proofs.put_rows.Symbol as e₃-def
@@ -79,7 +79,7 @@ use Rattle.verdicts.proofs.Verdict.Laws as Verdict′
 use Rattle.verdicts.specs.Verdicts.{verdict}
 use Rattle.verdicts.specs.declared.Verdict.{Verdict as VerdictRecord}
 use Rattle.walk_laws.specs.Answers.{Parts, parts}
-use Rattle.walk_laws.specs.Calls.{answered}
+use Rattle.walk_laws.specs.Calls.{answered, both-said}
 use Rattle.walk_laws.specs.Locals.{allocated, rooms, dies, free-all}
 
 abbrev stayed : Stays (f.ended .signature .params) (f.ended .kept)
@@ -189,12 +189,12 @@ module _ {M : Type 1} (𝓤 : URA M) (H : Heap 𝓤) (A : Atoms 𝓤) (W : Given
   Had rows = ‵ (flft κ₀ q₀) ∷ (‵ (flft κ₁ q₁) ⊛ ‵ ftrue) ∷ ‵ (finally T.the-row (x₁ .name) rows) ∷ []
 
   exits : (t : TableAnswer) {u : Val} (v : Parts t u) (rows : List Row) → Answered (t .verdict) rows → length rows ≡ m → ent 𝓤 (⋆ 𝓤 H A (Had rows)) (Post (v .verdict-val))
-  exits t v rows answered same =
+  exits t v rows said same =
       qed W (Had rows) ∵
       suffices ! _ (ends-at 𝓤 H A f.ended stayed (f.clauses 𝓤 H A mem run) W ((κs, (q₀, (q₁, tt)), tt, a, at), tt) (v .verdict-val) (t .verdict) (tt, (tt, (tt, (rows, tt)))) (tt, (tt, (tt, (same, tt))))) $
-      join ! $ move ! (1 ∷ []) $ nothing ! $ move ! (1 ∷ 0 ∷ []) $ fjoin ! $ nothing ! $ fjoin ! $ nothing ! $ fjoin ! $ nothing ! $ fjoin ! $
-      owned ! Verdict.the-row (Is Verdict.the-row) (LL.makes Verdict.the-type Verdict′.the-plain 𝓤 H A) (t .verdict) (v .verdict-val ∷ []) (v .verdict-is) $ move ! (1 ∷ 0 ∷ []) $ join ! $ move ! (1 ∷ 0 ∷ []) $ join ! $ frame ! $
-      says ! (answered .1) $ by ! (factI 𝓤 (t .verdict ≡ verdict (outcome (map cellsIn ys))) (emp 𝓤) (answered .0))
+      suffices ! _ (both-said 𝓤 _ _ (onExit 𝓤 H A f.ended stayed κs (q₀, (q₁, tt)) at (v .verdict-val) (t .verdict) a (tt, (tt, (tt, (rows, tt)))))) $
+      says ! said $ join ! $ frame ! $ nothing ! $ move ! (1 ∷ 0 ∷ []) $ fjoin ! $ nothing ! $ fjoin ! $ nothing ! $ fjoin ! $ nothing ! $ fjoin ! $ frame ! $
+      owned ! Verdict.the-row (Is Verdict.the-row) (LL.makes Verdict.the-type Verdict′.the-plain 𝓤 H A) (t .verdict) (v .verdict-val ∷ []) (v .verdict-is) $ done !
 
   module _ (C : Calls 𝓤 H) (Λ : Loops 𝓤 H) (fm : FmC 𝓤 H (W .laws) C) (known₁ : Triple 𝓤 (C #columns-of) (ColumnsOf 𝓤 H A mem run)) (known₂ : Triple 𝓤 (C #cut-columns) (CutColumns 𝓤 H A mem run)) (known₃ : Triple 𝓤 (C #put-rows) (PutRows 𝓤 H A mem run)) (l₀ l₁ l₂ l₃ l₄ l₅ l₆ l₇ l₈ l₉ l₁₀ l₁₁ l₁₂ : ℕ) where
     abbrev sliceR : Ty
@@ -228,9 +228,9 @@ module _ {M : Type 1} (𝓤 : URA M) (H : Heap 𝓤) (A : Atoms 𝓤) (W : Given
     -- the locals are freed
     freed : (t : TableAnswer) {u : Val} (v : Parts t u) (rows : List Row) → Answered (t .verdict) rows → length rows ≡ m
         → Seq (Go {0}) W ((‵ (flft κ₁ q₁) ⊛ ‵ ftrue) ∷ ‵ (finally T.the-row (x₁ .name) rows) ∷ rooms ((Verdict′.mir, l₀) ∷ (sliceO, l₄) ∷ (Table′.mir, l₅) ∷ (Columns′.mir, l₆) ∷ (tyUnit, l₁₀) ∷ (ref, l₁₁) ∷ (sliceTy ref, l₁₂) ∷ []) ++ Tail) (frees En (prop (Post (v .verdict-val))))
-    freed t v rows answered same =
+    freed t v rows said same =
         keep ! (2 ∷ 16 ∷ 10 ∷ 17 ∷ 11 ∷ 18 ∷ 12 ∷ 19 ∷ 3 ∷ 20 ∷ 4 ∷ 21 ∷ 5 ∷ 22 ∷ 13 ∷ 23 ∷ 14 ∷ 24 ∷ 15 ∷ 25 ∷ 6 ∷ 26 ∷ 7 ∷ 27 ∷ 8 ∷ 28 ∷ 9 ∷ 0 ∷ 1 ∷ []) $
-        free-all ! En $ by ! (exits t v rows answered same)
+        free-all ! En $ by ! (exits t v rows said same)
 
     -- the third call, and the return
     third : (t : TableAnswer) {u : Val} (v : Parts t u) → AnsweredFor (outcome (map cellsIn ys)) m t

@@ -194,10 +194,10 @@ module _ {M : Type 1} (𝓤 : URA M) (H : Heap 𝓤) (A : Atoms 𝓤) (W : Given
       ‵ (flft κ₀ q₀) ∷ (‵ (flft κ₁ q₁) ⊛ ‵ (flft κ₂ q₂) ⊛ ‵ (flft κ₃ q₃) ⊛ ‵ ftrue) ∷ ‵ (finally u16 (x₂ .name) items) ∷ ‵ (finally u32 (x₃ .name) counts) ∷ ‵ (Answer.the-row .own r (v ∷ [])) ∷ []
 
   exits : (r : Selected) (v : Val) (items counts : List ℕ) → Answered (map cellsIn ys) r items counts → length items ≡ length (x₂ .now) → length counts ≡ length (x₃ .now) → ent 𝓤 (⋆ 𝓤 H A (Had r v items counts)) (Post v)
-  exits r v items counts answered same₂ same₃ =
+  exits r v items counts said same₂ same₃ =
       qed W (Had r v items counts) ∵
       suffices ! _ (ends-at 𝓤 H A f.ended stayed (f.clauses 𝓤 H A mem run) W ((κs, (q₀, (q₁, (q₂, (q₃, tt)))), tt, a, at), tt) v r (tt, (tt, (tt, (tt, (tt, (items, (counts, tt))))))) (tt, (tt, (tt, (tt, (tt, (same₂, (same₃, tt)))))))) $
-      says ! answered $ join ! $ frame ! $ nothing ! $ move ! (2 ∷ 0 ∷ []) $ fjoin ! $ move ! (1 ∷ 0 ∷ []) $ fjoin ! $
+      says ! said $ join ! $ frame ! $ nothing ! $ move ! (2 ∷ 0 ∷ []) $ fjoin ! $ move ! (1 ∷ 0 ∷ []) $ fjoin ! $
       nothing ! $ fjoin ! $ nothing ! $ fjoin ! $ nothing ! $ fjoin ! $ nothing ! $ fjoin ! $ nothing ! $ fjoin ! $ frame ! $ done !
 
   module _ (C : Calls 𝓤 H) (Λ : Loops 𝓤 H) (fm : FmC 𝓤 H (W .laws) C) (known₁ : Triple 𝓤 (C #columns-of) (ColumnsOf 𝓤 H A mem run)) (known₂ : Triple 𝓤 (C #select-columns) (SelectColumns 𝓤 H A mem run)) (l₀ l₁ l₂ l₃ l₄ l₅ l₆ l₇ l₈ l₉ l₁₀ l₁₁ l₁₂ l₁₃ : ℕ) where
@@ -229,9 +229,9 @@ module _ {M : Type 1} (𝓤 : URA M) (H : Heap 𝓤) (A : Atoms 𝓤) (W : Given
     -- the locals are freed
     freed : (r : Selected) (v : Val) (items counts : List ℕ) → Answered (map cellsIn ys) r items counts → length items ≡ length (x₂ .now) → length counts ≡ length (x₃ .now)
         → Seq (Go {0}) W (rooms En ++ Had r v items counts ++ dies En) (frees En (prop (Post v)))
-    freed r v items counts answered same₂ same₃ =
+    freed r v items counts said same₂ same₃ =
         keep ! (0 ∷ 19 ∷ 1 ∷ 20 ∷ 2 ∷ 21 ∷ 3 ∷ 22 ∷ 4 ∷ 23 ∷ 5 ∷ 24 ∷ 6 ∷ 25 ∷ 7 ∷ 26 ∷ 8 ∷ 27 ∷ 9 ∷ 28 ∷ 10 ∷ 29 ∷ 11 ∷ 30 ∷ 12 ∷ 31 ∷ 13 ∷ 32 ∷ 14 ∷ 15 ∷ 16 ∷ 17 ∷ 18 ∷ []) $
-        free-all ! En $ by ! (exits r v items counts answered same₂ same₃)
+        free-all ! En $ by ! (exits r v items counts said same₂ same₃)
 
     -- the second call, and the return
     second : (c : RowColumns) (w : Val) → Is Columns.the-row c (w ∷ []) → Laid (map cellsIn ys) (columnsIn c)
