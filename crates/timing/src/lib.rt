@@ -1,5 +1,6 @@
 // Functions for C that tests/timing takes the times of. The caller meets what they require.
 ghost use Rattle.timing.specs.Lent.{Lent};
+use bundle::Judged;
 use needed_texts::needed_by_texts;
 use select_paths::select_paths;
 
@@ -29,7 +30,7 @@ pub extern "C" fn time_selection(
     let compiled = compiled_schema::compile(schema);
     let count = compiled.count;
     let names = compiled.names;
-    let judged = bundle_judging::judge_bundle(schema, &names[..count], bundle);
+    let judged: Judged = bundle_judging::judge_bundle(schema, &names[..count], bundle);
     let paths = judged.paths;
     select_paths(
         paths,
