@@ -1,12 +1,17 @@
-/* The archive of crates/journal_timing (a slice is a pointer and a length), and the same call on the plain reading. */
+/* Reading a journal through crates/test_functions (a slice is a pointer and a length), and the same call on the plain reading. */
 #include <stddef.h>
 #include <stdlib.h>
 #include "plain_journal.h"
 
 enum { CELLS = 65535, LONGEST = 1048576 };
 
-uint64_t time_journal(const uint8_t *schema, size_t schema_size, const uint8_t *text, size_t size, uint16_t *numbers, size_t, uint8_t *names, size_t,
-    uint16_t *parents, size_t, uint32_t *starts, size_t, uint16_t *lengths, size_t, uint64_t *place, uint64_t *rows);
+/* what the functions of crates/test_functions answer */
+struct outcome {
+    uint64_t number, place, size, other;
+};
+struct outcome test_read_schema(const uint8_t *text, size_t, uint8_t *record, size_t);
+struct outcome test_read_journal(const uint8_t *record, size_t, size_t record_size, const uint8_t *text, size_t, uint16_t *numbers, size_t, uint8_t *names,
+    size_t, uint16_t *parents, size_t, uint32_t *starts, size_t, uint16_t *lengths, size_t);
 
 struct answer { uint64_t number, place, rows; };
 
@@ -14,11 +19,18 @@ struct table { uint16_t numbers[CELLS], parents[CELLS], lengths[CELLS]; uint8_t 
 
 static struct table ours, theirs;
 
+/* the schema's record is read once for each schema; each call tests it and compiles it anew */
 static struct answer read_proved(const unsigned char *schema, int schema_size, const unsigned char *journal, int size, int cells) {
-    struct answer a;
-    a.number = time_journal(schema, schema_size, journal, size, ours.numbers, cells, ours.names, cells, ours.parents, cells, ours.starts, cells,
-        ours.lengths, cells, &a.place, &a.rows);
-    return a;
+    static uint8_t record[8192];
+    static const unsigned char *last;
+    static size_t record_size;
+    if (schema != last) {
+        record_size = test_read_schema(schema, schema_size, record, sizeof record).size;
+        last = schema;
+    }
+    struct outcome o = test_read_journal(record, record_size, record_size, journal, size, ours.numbers, cells, ours.names, cells, ours.parents, cells,
+        ours.starts, cells, ours.lengths, cells);
+    return (struct answer){o.number, o.place, o.size};
 }
 
 /* the columns are cleared, as those of the library are */
