@@ -21,12 +21,13 @@ static struct table ours, theirs;
 
 /* the schema's record is read once for each schema; each call tests it and compiles it anew */
 static struct answer read_proved(const unsigned char *schema, int schema_size, const unsigned char *journal, int size, int cells) {
-    static uint8_t record[8192];
-    static const unsigned char *last;
+    static uint8_t record[8192], last[8192];
     static size_t record_size;
-    if (schema != last) {
+    static int last_size = -1;
+    if (schema_size != last_size || memcmp(schema, last, schema_size)) {
         record_size = test_read_schema(schema, schema_size, record, sizeof record).size;
-        last = schema;
+        memcpy(last, schema, schema_size);
+        last_size = schema_size;
     }
     struct outcome o = test_read_journal(record, record_size, record_size, journal, size, ours.numbers, cells, ours.names, cells, ours.parents, cells,
         ours.starts, cells, ours.lengths, cells);
