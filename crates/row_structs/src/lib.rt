@@ -6,7 +6,7 @@ use verdicts::Verdict;
 // How many rows a table has at most.
 pub const MAX_ROWS: usize = limits::MAX_NODES;
 // How many cells a column has: one for each row, and one for the rows past those, of which no table has any.
-pub const CELLS: usize = 65536;
+pub const CELLS: usize = MAX_ROWS + 1;
 
 // One row, its name by its code.
 #[repr(C)]
