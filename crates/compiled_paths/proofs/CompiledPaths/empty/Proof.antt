@@ -20,15 +20,11 @@ zeros n m k = omega (arith, all-zero n k)
 returns : tie.Need-returns
 unfolding pathsIn
 returns c = (
-  bundle-none _ _ _ _ _ _ 0 0 refl,
+  bundle-none _ _ _ _ 0 0 refl,
   record {
     few = omega arith;
     paths-in = zeros 9 _;
     conditions-in = zeros 129 _;
-    alternatives-in = zeros 513 _;
-    axes-in = zeros 640 _;
-    lows-in = zeros 640 _;
-    highs-in = zeros 640 _;
   },
 )
 
