@@ -5,7 +5,7 @@ use mathlib.Core.Path.{_≡_, sym, ap, _∙_}
 use Prim.Native.Nat.{ℕ, suc, _+_, _-_, _<_, _≤_}
 use native.Mathlib.Omega.{arith}
 use lib.ListN.{length, getD, replicate, length-replicate}
-use Rattle.compiled_paths.specs.Columns.{plainIn}
+use Rattle.compiled_paths.specs.Columns.{axisNumber, plainIn}
 use Rattle.compiled_paths.specs.Sizes.{allSteps}
 use Rattle.marks.specs.Columns.{union}
 use Rattle.marks.specs.Passes.{fill-marks}
@@ -34,16 +34,16 @@ alternative-column ps ns [] = marks-column ps (λ r. true)
 alternative-column ps ns (q ∷ qs) = inverse-column (q .axis) ps _
 
 -- ---- the steps of an alternative, those from k on behind the loop
-pub record StepsBack (ps codes axes lows highs : List ℕ) (first size k : ℕ) (steps next : List ℕ) : Type 0 where
+pub record StepsBack (ps codes axes tests : List ℕ) (first size k : ℕ) (steps next : List ℕ) : Type 0 where
   pub low : first ≤ k
   pub high : k ≤ first + size
-  pub column : steps ≡ alternativeMarks ps (namesIn codes) (plainIn axes lows highs (first + size - k) k)
+  pub column : steps ≡ alternativeMarks ps (namesIn codes) (plainIn axes tests (first + size - k) k)
   pub room-steps : length steps ≡ length ps
   pub room-next : length next ≡ length ps
 
-module _ (ps codes axes lows highs : List ℕ) (first size : ℕ) where
+module _ (ps codes axes tests : List ℕ) (first size : ℕ) where
   pub steps-begun : (held steps₀ steps next : List ℕ) → AlternativePass ps codes first size held steps₀ next → steps ≡ replicate (length steps₀) 1
-      → StepsBack ps codes axes lows highs first size (first + size) steps next
+      → StepsBack ps codes axes tests first size (first + size) steps next
   unfolding alternativeMarks plainIn
   steps-begun held steps₀ steps next h e =
       record {
@@ -51,7 +51,7 @@ module _ (ps codes axes lows highs : List ℕ) (first size : ℕ) where
         high = omega arith;
         column =
             e ∙ ap (λ (n : ℕ). replicate n 1) (h .room-steps) ∙ fill-marks (length ps) true
-            ∙ sym (ap (λ (n : ℕ). alternativeMarks ps (namesIn codes) (plainIn axes lows highs n (first + size))) none);
+            ∙ sym (ap (λ (n : ℕ). alternativeMarks ps (namesIn codes) (plainIn axes tests n (first + size))) none);
         room-steps = ap length e ∙ length-replicate (length steps₀) 1 ∙ h .room-steps;
         room-next = h .room-next;
       }
@@ -59,22 +59,22 @@ module _ (ps codes axes lows highs : List ℕ) (first size : ℕ) where
       none : first + size - (first + size) ≡ 0
       none = omega arith
 
-  module _ (k : ℕ) (steps next : List ℕ) (w : StepsBack ps codes axes lows highs first size k steps next) where
+  module _ (k : ℕ) (steps next : List ℕ) (w : StepsBack ps codes axes tests first size k steps next) where
     pub steps-column : MarkColumn ps steps
-    steps-column = rw (w .column) (alternative-column ps (namesIn codes) (plainIn axes lows highs (first + size - k) k))
+    steps-column = rw (w .column) (alternative-column ps (namesIn codes) (plainIn axes tests (first + size - k) k))
 
     pub steps-pass : TableColumns ps codes → StepPass ps codes steps next
     steps-pass t = record { table = t; column = steps-column; room = w .room-next }
 
-    pub steps-next : (x y : List ℕ) → first < k → x ≡ backwardMarks ps codes (getD axes (k - 1) 0) (getD lows (k - 1) 0) (getD highs (k - 1) 0) steps
-        → length y ≡ length next → StepsBack ps codes axes lows highs first size (k - 1) x y
+    pub steps-next : (axis : ℕ) (x y : List ℕ) → first < k → axis ≡ axisNumber (getD axes (k - 1) 0) → x ≡ backwardMarks ps codes axis (getD tests (k - 1) 0) steps
+        → length y ≡ length next → StepsBack ps codes axes tests first size (k - 1) x y
     unfolding alternativeMarks plainIn backwardMarks
-    steps-next x y l e d =
+    steps-next axis x y l a e d =
         record {
           low = omega arith;
           high = omega (arith, w .high);
           column = is;
-          room-steps = ap length is ∙ alternative-column ps (namesIn codes) (plainIn axes lows highs (first + size - (k - 1)) (k - 1)) .size;
+          room-steps = ap length is ∙ alternative-column ps (namesIn codes) (plainIn axes tests (first + size - (k - 1)) (k - 1)) .size;
           room-next = d ∙ w .room-next;
         }
       where
@@ -84,15 +84,16 @@ module _ (ps codes axes lows highs : List ℕ) (first size : ℕ) where
         next-place : k ≡ suc (k - 1)
         next-place = omega arith
 
-        is : x ≡ alternativeMarks ps (namesIn codes) (plainIn axes lows highs (first + size - (k - 1)) (k - 1))
+        is : x ≡ alternativeMarks ps (namesIn codes) (plainIn axes tests (first + size - (k - 1)) (k - 1))
         is =
-            e ∙ ap (backwardMarks ps codes (getD axes (k - 1) 0) (getD lows (k - 1) 0) (getD highs (k - 1) 0))
-            (w .column ∙ ap (λ (i : ℕ). alternativeMarks ps (namesIn codes) (plainIn axes lows highs (first + size - k) i)) next-place)
-            ∙ sym (ap (λ (n : ℕ). alternativeMarks ps (namesIn codes) (plainIn axes lows highs n (k - 1))) one-more)
+            e ∙ ap (λ (b : ℕ). backwardMarks ps codes b (getD tests (k - 1) 0) steps) a
+            ∙ ap (backwardMarks ps codes (axisNumber (getD axes (k - 1) 0)) (getD tests (k - 1) 0))
+            (w .column ∙ ap (λ (i : ℕ). alternativeMarks ps (namesIn codes) (plainIn axes tests (first + size - k) i)) next-place)
+            ∙ sym (ap (λ (n : ℕ). alternativeMarks ps (namesIn codes) (plainIn axes tests n (k - 1))) one-more)
 
-    pub steps-all : (held x : List ℕ) → k ≤ first → x ≡ union held steps → x ≡ union held (alternativeMarks ps (namesIn codes) (plainIn axes lows highs size first))
+    pub steps-all : (held x : List ℕ) → k ≤ first → x ≡ union held steps → x ≡ union held (alternativeMarks ps (namesIn codes) (plainIn axes tests size first))
     steps-all held x l e =
         let z : k ≡ first = omega (arith, w .low) in
         let n : first + size - k ≡ size = omega arith in
         e ∙ ap (union held)
-        (w .column ∙ ap (λ (i : ℕ). alternativeMarks ps (namesIn codes) (plainIn axes lows highs i k)) n ∙ ap (λ (i : ℕ). alternativeMarks ps (namesIn codes) (plainIn axes lows highs size i)) z)
+        (w .column ∙ ap (λ (i : ℕ). alternativeMarks ps (namesIn codes) (plainIn axes tests i k)) n ∙ ap (λ (i : ℕ). alternativeMarks ps (namesIn codes) (plainIn axes tests size i)) z)

@@ -8,6 +8,7 @@ ghost use Rattle.step_passes.specs.Tests.{namesIn};
 use axis_passes::MARKED;
 use axis_passes::fill;
 use compiled_paths::STEPS;
+use compiled_paths::axis_number;
 use mark_sets::unite;
 use step_passes::step_back;
 
@@ -16,8 +17,7 @@ pub fn alternative<'a>(
     parents: &[u16],
     codes: &[u8],
     axes: &'a [u8; STEPS],
-    lows: &'a [u8; STEPS],
-    highs: &'a [u8; STEPS],
+    tests: &'a [u8; STEPS],
     first: usize,
     size: usize,
     held: &mut [u8],
@@ -25,13 +25,14 @@ pub fn alternative<'a>(
     next: &mut [u8],
 )
     requires { ⌜ AlternativePass (now parents) (now codes) first size (now held) (now steps) (now next) ⌝ }
-    ensures { λ _. ⌜ now (held .exit) ≡ union (now (held .entry)) (alternativeMarks (now (parents .entry)) (namesIn (now (codes .entry))) (plainIn (now (axes .entry)) (now (lows .entry)) (now (highs .entry)) size first)) ⌝ }
+    ensures { λ _. ⌜ now (held .exit) ≡ union (now (held .entry)) (alternativeMarks (now (parents .entry)) (namesIn (now (codes .entry))) (plainIn (now (axes .entry)) (now (tests .entry)) size first)) ⌝ }
 {
     fill(steps, MARKED);
     let mut k = first + size;
     while first < k {
         k -= 1;
-        step_back(parents, codes, axes[k], lows[k], highs[k], steps, next);
+        let axis = axis_number(axes[k]);
+        step_back(parents, codes, axis, tests[k], steps, next);
     }
     unite(&steps[..], held);
 }

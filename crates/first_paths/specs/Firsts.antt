@@ -16,7 +16,7 @@ use Rattle.marks.specs.Columns.{isMarked}
 use Rattle.marks.specs.Selection.{pathMarks}
 use Rattle.path_spec.specs.Paths.{LocationPath}
 use Rattle.select.specs.Paths.{pathIn, pathsFrom}
-use Rattle.selection.specs.Steps.{PathPass}
+use Rattle.selection.specs.Steps.{PathPass, path-ranges}
 use Rattle.step_passes.specs.Steps.{TableColumns}
 use Rattle.step_passes.specs.Tests.{namesIn}
 use Rattle.text_laws.specs.Loops.{Passed, passed-first, passed-next}
@@ -115,8 +115,8 @@ module _ (c : CompiledPaths) (ps codes : List ℕ) where
       nothing r = let z : c .count ≡ c .count - 0 = omega arith in ap (λ (n : ℕ). firstMarked 1 r (columnsFor ps codes (pathsFrom c n 0))) z
 
   module _ (i : ℕ) (firsts m held steps next : List ℕ) (w : FirstsSoFar c ps codes i firsts m held steps next) where
-    pub firsts-path : (was m₀ held₀ steps₀ next₀ : List ℕ) → FirstsPass c ps codes was m₀ held₀ steps₀ next₀ → i < c .count → PathPass c i ps codes m held steps next
-    firsts-path was m₀ held₀ steps₀ next₀ h l = record { shaped = h .shaped; inside = l; table = h .table; room = w .room; scratch = w .scratch }
+    pub firsts-path : (was m₀ held₀ steps₀ next₀ : List ℕ) → FirstsPass c ps codes was m₀ held₀ steps₀ next₀ → i < c .count → PathPass (c .conditions) (c .paths) i ps codes m held steps next
+    firsts-path was m₀ held₀ steps₀ next₀ h l = record { ranges = path-ranges c i (h .shaped) l; table = h .table; room = w .room; scratch = w .scratch }
 
     pub firsts-next : (x out held′ steps′ next′ : List ℕ) → i < c .count → x ≡ pathMarks ps (namesIn codes) (pathIn c i) → Noted x (i + 1) firsts out
         → length x ≡ length m → length held′ ≡ length held → length steps′ ≡ length steps → length next′ ≡ length next
@@ -142,7 +142,7 @@ module _ (c : CompiledPaths) (ps codes : List ℕ) where
         split : pathsFrom c (c .count - i) i ≡ pathIn c i ∷ pathsFrom c (c .count - (i + 1)) (i + 1)
         split =
             let z : c .count - i - 1 ≡ c .count - (i + 1) = omega arith in
-            bundle-next (c .axes) (c .lows) (c .highs) (c .alternatives) (c .conditions) (c .paths) (c .count - i) i (λ q. omega arith)
+            bundle-next (c .axes) (c .tests) (c .conditions) (c .paths) (c .count - i) i (λ q. omega arith)
             ∙ ap (λ (k : ℕ). pathIn c i ∷ pathsFrom c k (i + 1)) z
 
         one-more : (k f rest : ℕ) → cond (eqb f 0) (cond (eqb k 1) (suc i) rest) f ≡ cond (eqb (firstOf k f (suc i)) 0) rest (firstOf k f (suc i))
@@ -172,7 +172,7 @@ module _ (c : CompiledPaths) (ps codes : List ℕ) where
         }
       where
         none : pathsFrom c (c .count - i) i ≡ []
-        none = bundle-none (c .axes) (c .lows) (c .highs) (c .alternatives) (c .conditions) (c .paths) (c .count - i) i (omega arith)
+        none = bundle-none (c .axes) (c .tests) (c .conditions) (c .paths) (c .count - i) i (omega arith)
 
         same : (f : ℕ) → cond (eqb f 0) 0 f ≡ f
         same zero = refl

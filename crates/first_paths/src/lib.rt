@@ -55,7 +55,19 @@ pub fn first_paths(
     let count = paths.count;
     let mut i = 0;
     while i < count {
-        select_path(paths, i, parents, codes, marks, held, steps, next);
+        select_path(
+            parents,
+            codes,
+            &paths.axes,
+            &paths.tests,
+            &paths.conditions,
+            &paths.paths,
+            i,
+            marks,
+            held,
+            steps,
+            next,
+        );
         i += 1;
         note(&marks[..], i as u8, firsts);
     }

@@ -48,14 +48,14 @@ pub refusal-by : (equal inside : Bool) (told : Told) {a b : Bool} → equal ≡ 
 refusal-by equal inside told {a} e f = sym (ap (λ (x : Bool). refusalOf x inside told) e ∙ ap (λ (x : Bool). refusalOf a x told) f)
 
 -- as many paths as are counted
-paths-long : (axes lows highs ways conditions paths : List ℕ) (n i : ℕ) → length (bundleIn axes lows highs ways conditions paths n i) ≡ n
+paths-long : (axes tests conditions paths : List ℕ) (n i : ℕ) → length (bundleIn axes tests conditions paths n i) ≡ n
 unfolding bundleIn
-paths-long axes lows highs ways conditions paths zero i = refl
-paths-long axes lows highs ways conditions paths (suc n) i = ap suc (paths-long axes lows highs ways conditions paths n (suc i))
+paths-long axes tests conditions paths zero i = refl
+paths-long axes tests conditions paths (suc n) i = ap suc (paths-long axes tests conditions paths n (suc i))
 
 paths-count : (c : CompiledPaths) → length (pathsIn c) ≡ c .count
 unfolding pathsIn
-paths-count c = paths-long (c .axes) (c .lows) (c .highs) (c .alternatives) (c .conditions) (c .paths) (c .count) 0
+paths-count c = paths-long (c .axes) (c .tests) (c .conditions) (c .paths) (c .count) 0
 
 pub all-refused : (number place : ℕ) (c d : Columns) (items counts items′ counts′ : List ℕ) (r : HostResult) → d ≡ columnsOf (sizesOf c) [] → Cleared items 0 items′ → Cleared counts 0 counts′
     → r ≡ refusedBy number place → RefusedExit number place (lentOf c items counts) r d items′ counts′

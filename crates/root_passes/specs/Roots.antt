@@ -108,7 +108,7 @@ module _ (ps codes m out : List ℕ) (h : FirstPass ps codes m out) where
     pub first-test : TestPass codes x m
     first-test = column-test (h .table) (rw e (image-column (axisOf axis) ps (rootMarks (length ps)))) (h .room-marks)
 
-    pub first-marked : (low high : ℕ) (y : List ℕ) → y ≡ intersection x (testMarks (testOf low high) (namesIn codes))
-        → y ≡ forwardMarks ps codes axis low high (rootMarks (length ps))
+    pub first-marked : (test : ℕ) (y : List ℕ) → y ≡ intersection x (testMarks (testOf test) (namesIn codes))
+        → y ≡ forwardMarks ps codes axis test (rootMarks (length ps))
     unfolding forwardMarks
-    first-marked low high y f = f ∙ ap (λ (l : List ℕ). intersection l (testMarks (testOf low high) (namesIn codes))) e
+    first-marked test y f = f ∙ ap (λ (l : List ℕ). intersection l (testMarks (testOf test) (namesIn codes))) e

@@ -80,14 +80,13 @@ pub fn step_from_root(
     parents: &[u16],
     codes: &[u8],
     axis: u8,
-    low: u8,
-    high: u8,
+    test: u8,
     marks: &mut [u8],
     next: &mut [u8],
 )
     requires { ⌜ FirstPass (now parents) (now codes) (now marks) (now next) ⌝ }
-    ensures { λ _. ⌜ now (marks .exit) ≡ forwardMarks (now (parents .entry)) (now (codes .entry)) axis low high (rootMarks (length (now (parents .entry)))) ⌝ }
+    ensures { λ _. ⌜ now (marks .exit) ≡ forwardMarks (now (parents .entry)) (now (codes .entry)) axis test (rootMarks (length (now (parents .entry)))) ⌝ }
 {
     root_image(axis, parents, next);
-    filter_test(codes, low, high, &next[..], marks);
+    filter_test(codes, test, &next[..], marks);
 }

@@ -7,13 +7,12 @@ use native.Mathlib.Omega.{arith}
 use lib.Dec.{eqb}
 use lib.ListN.{length}
 use Rattle.compiled_paths.specs.Columns.{stepsIn, sizeAt, startAt, pathAt, bundleIn}
-use Rattle.compiled_paths.specs.Paths.{Shaped}
 use Rattle.compiled_paths.specs.declared.CompiledPaths.{CompiledPaths}
 use Rattle.marks.specs.Columns.{picked}
 use Rattle.marks.specs.Selection.{stepsMarks, pathMarks, rootMarks, selectColumns}
 use Rattle.path_spec.specs.Paths.{LocationPath}
 use Rattle.row_numbers.specs.Cells.{AppendPass, Appended}
-use Rattle.selection.specs.Steps.{PathPass, root-column}
+use Rattle.selection.specs.Steps.{PathRanges, PathPass, root-column}
 use Rattle.step_passes.specs.Steps.{MarkColumn}
 use Rattle.step_passes.specs.Tests.{namesIn, Coded}
 use Rattle.table_laws.specs.Parents.{ParentsBefore}
@@ -22,10 +21,10 @@ use Rattle.written_steps.specs.Steps.{Scratch, step-column}
 
 -- the path i, and n paths from i on
 abbrev pub pathIn : CompiledPaths → ℕ → LocationPath ℕ
-pathIn c i = pathAt (c .axes) (c .lows) (c .highs) (c .alternatives) (c .conditions) (c .paths) i
+pathIn c i = pathAt (c .axes) (c .tests) (c .conditions) (c .paths) i
 
 abbrev pub pathsFrom : CompiledPaths → ℕ → ℕ → List (LocationPath ℕ)
-pathsFrom c n i = bundleIn (c .axes) (c .lows) (c .highs) (c .alternatives) (c .conditions) (c .paths) n i
+pathsFrom c n i = bundleIn (c .axes) (c .tests) (c .conditions) (c .paths) n i
 
 -- ---- what selecting asks
 -- the columns of a table, which may be empty
@@ -36,26 +35,25 @@ pub record Columns (numbers codes ps : List ℕ) : Type 0 where
   pub numbers-size : length numbers ≡ length ps
   pub few : length ps ≤ maxNodes
 
-pub record OnePass (c : CompiledPaths) (i : ℕ) (numbers codes ps : List ℕ) (at : ℕ) (m held steps next : List ℕ) : Type 0 where
-  pub shaped : Shaped c
-  pub inside : i < c .count
+pub record OnePass (conditions paths : List ℕ) (i : ℕ) (numbers codes ps : List ℕ) (at : ℕ) (m held steps next : List ℕ) : Type 0 where
+  pub ranges : PathRanges conditions paths i
   pub columns : Columns numbers codes ps
   pub low : at ≤ maxPaths * maxNodes
   pub room : length m ≡ length ps
   pub scratch : Scratch ps held steps next
 
 -- ---- one path
-steps-column : (ps codes axes lows highs ways conditions : List ℕ) (n k : ℕ) (m : List ℕ) → MarkColumn ps m
-    → MarkColumn ps (stepsMarks ps (namesIn codes) (stepsIn axes lows highs ways conditions n k) m)
+steps-column : (ps codes axes tests conditions : List ℕ) (n k : ℕ) (m : List ℕ) → MarkColumn ps m
+    → MarkColumn ps (stepsMarks ps (namesIn codes) (stepsIn axes tests conditions n k) m)
 unfolding stepsMarks stepsIn
-steps-column ps codes axes lows highs ways conditions zero k m c = c
-steps-column ps codes axes lows highs ways conditions (suc n) k m c =
-    steps-column ps codes axes lows highs ways conditions n (suc k) _ (step-column ps codes axes lows highs ways conditions k m _ c refl)
+steps-column ps codes axes tests conditions zero k m c = c
+steps-column ps codes axes tests conditions (suc n) k m c =
+    steps-column ps codes axes tests conditions n (suc k) _ (step-column ps codes axes tests conditions k m _ c refl)
 
-path-column : (c : CompiledPaths) (i : ℕ) (ps codes : List ℕ) → MarkColumn ps (pathMarks ps (namesIn codes) (pathIn c i))
+path-column : (axes tests conditions paths : List ℕ) (i : ℕ) (ps codes : List ℕ) → MarkColumn ps (pathMarks ps (namesIn codes) (pathAt axes tests conditions paths i))
 unfolding pathMarks
-path-column c i ps codes =
-    steps-column ps codes (c .axes) (c .lows) (c .highs) (c .alternatives) (c .conditions) (sizeAt (c .paths) i) (startAt (c .paths) i) (rootMarks (length ps)) (root-column ps)
+path-column axes tests conditions paths i ps codes =
+    steps-column ps codes axes tests conditions (sizeAt paths i) (startAt paths i) (rootMarks (length ps)) (root-column ps)
 
 nothing-at : (m xs : List ℕ) → length xs ≡ 0 → picked m xs ≡ []
 unfolding picked
@@ -76,30 +74,32 @@ pub selected-few : (ps codes numbers : List ℕ) (p : LocationPath ℕ) → leng
 unfolding selectColumns
 selected-few ps codes numbers p = picked-few (pathMarks ps (namesIn codes) p) numbers
 
-module _ (c : CompiledPaths) (i : ℕ) (numbers codes ps : List ℕ) (at : ℕ) (m held steps next : List ℕ) (h : OnePass c i numbers codes ps at m held steps next) where
-  pub one-path : (length ps ≡ 0 → ⊥) → PathPass c i ps codes m held steps next
+module _ (axes tests conditions paths : List ℕ) (i : ℕ) (numbers codes ps : List ℕ) (at : ℕ) (m held steps next : List ℕ) (h : OnePass conditions paths i numbers codes ps at m held steps next) where
+  abbrev path : LocationPath ℕ
+  path = pathAt axes tests conditions paths i
+
+  pub one-path : (length ps ≡ 0 → ⊥) → PathPass conditions paths i ps codes m held steps next
   one-path some =
       record {
-        shaped = h .shaped;
-        inside = h .inside;
+        ranges = h .ranges;
         table = record { before = h .columns .before; filled = omega arith; size = h .columns .names-size; coded = h .columns .coded };
         room = h .room;
         scratch = h .scratch;
       }
 
-  pub one-append : (x : List ℕ) → x ≡ pathMarks ps (namesIn codes) (pathIn c i) → AppendPass numbers x at
+  pub one-append : (x : List ℕ) → x ≡ pathMarks ps (namesIn codes) path → AppendPass numbers x at
   one-append x e =
-      let k : MarkColumn ps x = rw e (path-column c i ps codes) in
+      let k : MarkColumn ps x = rw e (path-column axes tests conditions paths i ps codes) in
       record { marked = k .marked; size = k .size ∙ sym (h .columns .numbers-size); few = omega (arith, k .size, h .columns .few); low = h .low }
 
-  pub one-selected : (x was out : List ℕ) (n : ℕ) → x ≡ pathMarks ps (namesIn codes) (pathIn c i) → Appended was at (picked x numbers) n out
-      → Appended was at (selectColumns ps (namesIn codes) numbers (pathIn c i)) n out
+  pub one-selected : (x was out : List ℕ) (n : ℕ) → x ≡ pathMarks ps (namesIn codes) path → Appended was at (picked x numbers) n out
+      → Appended was at (selectColumns ps (namesIn codes) numbers path) n out
   unfolding selectColumns
   one-selected x was out n e a = rw (← e) a
 
   -- on an empty table nothing is selected
-  pub none-selected : (was : List ℕ) → length ps ≡ 0 → Appended was at (selectColumns ps (namesIn codes) numbers (pathIn c i)) at was
+  pub none-selected : (was : List ℕ) → length ps ≡ 0 → Appended was at (selectColumns ps (namesIn codes) numbers path) at was
   unfolding selectColumns
   none-selected was e =
-      rw (nothing-at (pathMarks ps (namesIn codes) (pathIn c i)) numbers (h .columns .numbers-size ∙ e))
+      rw (nothing-at (pathMarks ps (namesIn codes) path) numbers (h .columns .numbers-size ∙ e))
       (record { long = refl; count = omega arith; kept = λ k l. refl; cells = λ k l b. absurd (omega arith) })

@@ -11,6 +11,7 @@ use Rattle.marks.specs.Selection.{selectColumns}
 use Rattle.path_spec.specs.Paths.{LocationPath}
 use Rattle.row_numbers.specs.Cells.{written, Appended, Cleared, appended-appended, appended-cleared, appended-one}
 use Rattle.select.specs.Paths.{pathIn, pathsFrom, Columns, OnePass, selected-few}
+use Rattle.selection.specs.Steps.{path-ranges}
 use Rattle.step_passes.specs.Tests.{namesIn}
 use Rattle.text_spec.specs.Cells.{padded}
 use Rattle.text_spec.specs.Limits.{maxNodes}
@@ -101,11 +102,10 @@ module _ (c : CompiledPaths) (first end : ℕ) (numbers codes ps items₀ counts
 
   module _ (i n : ℕ) (items counts m held steps next : List ℕ) (w : PathsSoFar c first end numbers codes ps items₀ counts₀ i n items counts m held steps next) where
     pub paths-one : (m₀ held₀ steps₀ next₀ : List ℕ) → AllPass c first end numbers codes ps m₀ held₀ steps₀ next₀ → i < end
-        → OnePass c i numbers codes ps n m held steps next
+        → OnePass (c .conditions) (c .paths) i numbers codes ps n m held steps next
     paths-one m₀ held₀ steps₀ next₀ h l =
         record {
-          shaped = h .shaped;
-          inside = omega (arith, h .inside);
+          ranges = path-ranges c i (h .shaped) (omega (arith, h .inside));
           columns = h .columns;
           low = omega (arith, w .fit, h .inside, h .shaped .few);
           room = w .room;

@@ -29,11 +29,14 @@ pub fn select_paths(
     let mut i = first;
     while i < end {
         let m = select_one(
-            paths,
-            i,
             numbers,
             codes,
             parents,
+            &paths.axes,
+            &paths.tests,
+            &paths.conditions,
+            &paths.paths,
+            i,
             items,
             n,
             marks,

@@ -5,14 +5,13 @@ ghost use Rattle.compiled_paths.specs.Columns.{stepsIn, pathAt};
 ghost use Rattle.marks.specs.Selection.{stepsMarks, pathMarks, rootMarks};
 ghost use Rattle.selection.specs.Steps.{StepsPass, RootStepsPass, PathPass};
 ghost use Rattle.step_passes.specs.Tests.{namesIn};
-use compiled_paths::ALTERNATIVE_STARTS;
 use compiled_paths::CONDITION_STARTS;
-use compiled_paths::CompiledPaths;
+use compiled_paths::PATH_STARTS;
 use compiled_paths::STEPS;
-use condition_passes::range_size;
 use mark_sets::any_marked;
 use root_passes::mark_root;
 use written_steps::first_step;
+use written_steps::range_size;
 use written_steps::step;
 
 // The rows that `size` written steps, the first of them at `first`, lead to from the marked ones. From no row nothing is reached.
@@ -20,9 +19,7 @@ fn steps_from<'a>(
     parents: &[u16],
     codes: &[u8],
     axes: &'a [u8; STEPS],
-    lows: &'a [u8; STEPS],
-    highs: &'a [u8; STEPS],
-    alternatives: &'a [u16; ALTERNATIVE_STARTS],
+    tests: &'a [u8; STEPS],
     conditions: &'a [u16; CONDITION_STARTS],
     first: usize,
     size: usize,
@@ -31,8 +28,8 @@ fn steps_from<'a>(
     steps: &mut [u8],
     next: &mut [u8],
 )
-    requires { ⌜ StepsPass (now parents) (now codes) (now alternatives) (now conditions) first size (now marks) (now held) (now steps) (now next) ⌝ }
-    ensures { λ _. ⌜ now (marks .exit) ≡ stepsMarks (now (parents .entry)) (namesIn (now (codes .entry))) (stepsIn (now (axes .entry)) (now (lows .entry)) (now (highs .entry)) (now (alternatives .entry)) (now (conditions .entry)) size first) (now (marks .entry)) ⌝ }
+    requires { ⌜ StepsPass (now parents) (now codes) (now conditions) first size (now marks) (now held) (now steps) (now next) ⌝ }
+    ensures { λ _. ⌜ now (marks .exit) ≡ stepsMarks (now (parents .entry)) (namesIn (now (codes .entry))) (stepsIn (now (axes .entry)) (now (tests .entry)) (now (conditions .entry)) size first) (now (marks .entry)) ⌝ }
 {
     let end = first + size;
     let mut k = first;
@@ -44,9 +41,7 @@ fn steps_from<'a>(
             parents,
             codes,
             axes,
-            lows,
-            highs,
-            alternatives,
+            tests,
             conditions,
             k,
             marks,
@@ -63,9 +58,7 @@ fn steps_from_root<'a>(
     parents: &[u16],
     codes: &[u8],
     axes: &'a [u8; STEPS],
-    lows: &'a [u8; STEPS],
-    highs: &'a [u8; STEPS],
-    alternatives: &'a [u16; ALTERNATIVE_STARTS],
+    tests: &'a [u8; STEPS],
     conditions: &'a [u16; CONDITION_STARTS],
     first: usize,
     size: usize,
@@ -74,8 +67,8 @@ fn steps_from_root<'a>(
     steps: &mut [u8],
     next: &mut [u8],
 )
-    requires { ⌜ RootStepsPass (now parents) (now codes) (now alternatives) (now conditions) first size (now marks) (now held) (now steps) (now next) ⌝ }
-    ensures { λ _. ⌜ now (marks .exit) ≡ stepsMarks (now (parents .entry)) (namesIn (now (codes .entry))) (stepsIn (now (axes .entry)) (now (lows .entry)) (now (highs .entry)) (now (alternatives .entry)) (now (conditions .entry)) size first) (rootMarks (length (now (parents .entry)))) ⌝ }
+    requires { ⌜ RootStepsPass (now parents) (now codes) (now conditions) first size (now marks) (now held) (now steps) (now next) ⌝ }
+    ensures { λ _. ⌜ now (marks .exit) ≡ stepsMarks (now (parents .entry)) (namesIn (now (codes .entry))) (stepsIn (now (axes .entry)) (now (tests .entry)) (now (conditions .entry)) size first) (rootMarks (length (now (parents .entry)))) ⌝ }
 {
     if size == 0 {
         mark_root(marks);
@@ -85,9 +78,7 @@ fn steps_from_root<'a>(
         parents,
         codes,
         axes,
-        lows,
-        highs,
-        alternatives,
+        tests,
         conditions,
         first,
         marks,
@@ -99,9 +90,7 @@ fn steps_from_root<'a>(
         parents,
         codes,
         axes,
-        lows,
-        highs,
-        alternatives,
+        tests,
         conditions,
         first + 1,
         size - 1,
@@ -113,29 +102,30 @@ fn steps_from_root<'a>(
 }
 
 // The rows of a table that is not empty that the path `i` selects; `held`, `steps` and `next` are scratch.
-pub fn select_path(
-    paths: CompiledPaths,
-    i: usize,
+pub fn select_path<'a>(
     parents: &[u16],
     codes: &[u8],
+    axes: &'a [u8; STEPS],
+    tests: &'a [u8; STEPS],
+    conditions: &'a [u16; CONDITION_STARTS],
+    paths: &'a [u8; PATH_STARTS],
+    i: usize,
     marks: &mut [u8],
     held: &mut [u8],
     steps: &mut [u8],
     next: &mut [u8],
 )
-    requires { ⌜ PathPass paths i (now parents) (now codes) (now marks) (now held) (now steps) (now next) ⌝ }
-    ensures { λ _. ⌜ now (marks .exit) ≡ pathMarks (now (parents .entry)) (namesIn (now (codes .entry))) (pathAt (paths .axes) (paths .lows) (paths .highs) (paths .alternatives) (paths .conditions) (paths .paths) i) ⌝ }
+    requires { ⌜ PathPass (now conditions) (now paths) i (now parents) (now codes) (now marks) (now held) (now steps) (now next) ⌝ }
+    ensures { λ _. ⌜ now (marks .exit) ≡ pathMarks (now (parents .entry)) (namesIn (now (codes .entry))) (pathAt (now (axes .entry)) (now (tests .entry)) (now (conditions .entry)) (now (paths .entry)) i) ⌝ }
 {
-    let start = paths.paths[i] as u16;
-    let size = range_size(start, paths.paths[i + 1] as u16);
+    let start = paths[i] as u16;
+    let size = range_size(start, paths[i + 1] as u16);
     steps_from_root(
         parents,
         codes,
-        &paths.axes,
-        &paths.lows,
-        &paths.highs,
-        &paths.alternatives,
-        &paths.conditions,
+        axes,
+        tests,
+        conditions,
         start as usize,
         size,
         marks,

@@ -18,14 +18,14 @@ use Rattle.table_laws.specs.Parents.{ParentsBefore}
 use Rattle.text_spec.specs.Lists.{anyBelow}
 
 -- ---- definitions
-module _ (ps codes : List ℕ) (axis low high : ℕ) where
+module _ (ps codes : List ℕ) (axis test : ℕ) where
   -- the rows that a step leads to from the marked ones, before its condition
   unfoldable pub forwardMarks : List ℕ → List ℕ
-  forwardMarks m = intersection (imageMarks (axisOf axis) ps m) (testMarks (testOf low high) (namesIn codes))
+  forwardMarks m = intersection (imageMarks (axisOf axis) ps m) (testMarks (testOf test) (namesIn codes))
 
   -- the rows from which a step leads to a marked one
   unfoldable pub backwardMarks : List ℕ → List ℕ
-  backwardMarks m = imageMarks (inverse (axisOf axis)) ps (intersection m (testMarks (testOf low high) (namesIn codes)))
+  backwardMarks m = imageMarks (inverse (axisOf axis)) ps (intersection m (testMarks (testOf test) (namesIn codes)))
 
 -- ---- what the passes ask
 -- the columns of parents and of names of a table that is not empty
@@ -66,13 +66,13 @@ module _ (ps m k : List ℕ) (c : MarkColumn ps m) where
   unfolding intersection
   intersection-column = record { marked = only-marks (length m) _; size = marks-length (length m) _ ∙ c .size }
 
-pub forward-column : (ps codes : List ℕ) (axis low high : ℕ) (m : List ℕ) → MarkColumn ps (forwardMarks ps codes axis low high m)
+pub forward-column : (ps codes : List ℕ) (axis test : ℕ) (m : List ℕ) → MarkColumn ps (forwardMarks ps codes axis test m)
 unfolding forwardMarks
-forward-column ps codes axis low high m = intersection-column ps (imageMarks (axisOf axis) ps m) (testMarks (testOf low high) (namesIn codes)) (image-column (axisOf axis) ps m)
+forward-column ps codes axis test m = intersection-column ps (imageMarks (axisOf axis) ps m) (testMarks (testOf test) (namesIn codes)) (image-column (axisOf axis) ps m)
 
-pub backward-column : (ps codes : List ℕ) (axis low high : ℕ) (m : List ℕ) → MarkColumn ps (backwardMarks ps codes axis low high m)
+pub backward-column : (ps codes : List ℕ) (axis test : ℕ) (m : List ℕ) → MarkColumn ps (backwardMarks ps codes axis test m)
 unfolding backwardMarks
-backward-column ps codes axis low high m = image-column (inverse (axisOf axis)) ps (intersection m (testMarks (testOf low high) (namesIn codes)))
+backward-column ps codes axis test m = image-column (inverse (axisOf axis)) ps (intersection m (testMarks (testOf test) (namesIn codes)))
 
 pub columns-same-length : {ps m out : List ℕ} → MarkColumn ps m → MarkColumn ps out → SameLength m out
 columns-same-length c d = record { marked = c .marked; marks-out = d .marked; size = c .size ∙ sym (d .size) }
@@ -89,9 +89,9 @@ pub image-kept : (c : ℕ) (ps m was out : List ℕ) → AxisPass ps m was → a
 image-kept c ps m was out h e d = rw e (d ∙ self-image ps m was h)
 
 -- ---- a test
-pub tested : (low high a b : ℕ) (codes m y : List ℕ) → Coded codes → InRange a b (testOf low high) → y ≡ intersection m (rangeMarks a b codes)
-    → y ≡ intersection m (testMarks (testOf low high) (namesIn codes))
-tested low high a b codes m y h r e = e ∙ ap (intersection m) (range-test a b (testOf low high) codes r h)
+pub tested : (test a b : ℕ) (codes m y : List ℕ) → Coded codes → InRange a b (testOf test) → y ≡ intersection m (rangeMarks a b codes)
+    → y ≡ intersection m (testMarks (testOf test) (namesIn codes))
+tested test a b codes m y h r e = e ∙ ap (intersection m) (range-test a b (testOf test) codes r h)
 
 pub column-test : {ps codes m out : List ℕ} → TableColumns ps codes → MarkColumn ps m → length out ≡ length ps → TestPass codes m out
 column-test t c e =
@@ -105,18 +105,18 @@ module _ (ps codes m out : List ℕ) (h : StepPass ps codes m out) where
   pub moved-test : (axis : ℕ) (x : List ℕ) → x ≡ imageMarks (axisOf axis) ps m → TestPass codes x m
   moved-test axis x e = column-test (h .table) (rw e (image-column (axisOf axis) ps m)) (h .column .size)
 
-  pub moved : (axis low high : ℕ) (x y : List ℕ) → x ≡ imageMarks (axisOf axis) ps m → y ≡ intersection x (testMarks (testOf low high) (namesIn codes))
-      → y ≡ forwardMarks ps codes axis low high m
+  pub moved : (axis test : ℕ) (x y : List ℕ) → x ≡ imageMarks (axisOf axis) ps m → y ≡ intersection x (testMarks (testOf test) (namesIn codes))
+      → y ≡ forwardMarks ps codes axis test m
   unfolding forwardMarks
-  moved axis low high x y e f = f ∙ ap (λ (l : List ℕ). intersection l (testMarks (testOf low high) (namesIn codes))) e
+  moved axis test x y e f = f ∙ ap (λ (l : List ℕ). intersection l (testMarks (testOf test) (namesIn codes))) e
 
   -- ---- back: the test, then the inverse axis
   pub pass-test : TestPass codes m out
   pass-test = column-test (h .table) (h .column) (h .room)
 
-  module _ (low high : ℕ) (k : List ℕ) (e : k ≡ intersection m (testMarks (testOf low high) (namesIn codes))) where
+  module _ (test : ℕ) (k : List ℕ) (e : k ≡ intersection m (testMarks (testOf test) (namesIn codes))) where
     tested-column : MarkColumn ps k
-    tested-column = rw e (intersection-column ps m (testMarks (testOf low high) (namesIn codes)) (h .column))
+    tested-column = rw e (intersection-column ps m (testMarks (testOf test) (namesIn codes)) (h .column))
 
     pub tested-marks : OnlyMarks k
     tested-marks = tested-column .marked
@@ -131,13 +131,13 @@ module _ (ps codes m out : List ℕ) (h : StepPass ps codes m out) where
           room = h .column .size;
         }
 
-    pub moved-back : (axis i : ℕ) (x : List ℕ) → axisOf i ≡ inverse (axisOf axis) → x ≡ imageMarks (axisOf i) ps k → x ≡ backwardMarks ps codes axis low high m
+    pub moved-back : (axis i : ℕ) (x : List ℕ) → axisOf i ≡ inverse (axisOf axis) → x ≡ imageMarks (axisOf i) ps k → x ≡ backwardMarks ps codes axis test m
     unfolding backwardMarks
     moved-back axis i x d f =
-        f ∙ ap (imageMarks (axisOf i) ps) e ∙ ap (λ (a : Axis). imageMarks a ps (intersection m (testMarks (testOf low high) (namesIn codes)))) d
+        f ∙ ap (imageMarks (axisOf i) ps) e ∙ ap (λ (a : Axis). imageMarks a ps (intersection m (testMarks (testOf test) (namesIn codes)))) d
 
     -- no marked row passes the test
-    pub none-back : (axis : ℕ) (x : List ℕ) → anyBelow (length k) (isMarked k) ≡ false → x ≡ replicate (length m) 0 → x ≡ backwardMarks ps codes axis low high m
+    pub none-back : (axis : ℕ) (x : List ℕ) → anyBelow (length k) (isMarked k) ≡ false → x ≡ replicate (length m) 0 → x ≡ backwardMarks ps codes axis test m
     unfolding backwardMarks
     none-back axis x d f =
         f ∙ ap (λ (n : ℕ). replicate n 0) (h .column .size) ∙ fill-marks (length ps) false

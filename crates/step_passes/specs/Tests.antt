@@ -70,19 +70,17 @@ text-range c b =
     (λ h. between 32 63 c true (λ t. (omega arith, omega arith)) (λ x y. tt))
 
 -- ---- the test of a compiled step
-pub test-named : (low high : ℕ) → low ≡ high → testOf low high ≡ named low
+pub test-node : (t : ℕ) → t ≡ 254 → testOf t ≡ anyNode
 unfolding testOf
-test-named low high e = ap (λ (b : Bool). cond b (named low) (cond (eqb low 0) anyNode anyText)) (eq-eqb low high e)
+test-node t e = rw (eq-eqb t 254 e)
 
-pub test-node : (low high : ℕ) → (low ≡ high → ⊥) → low ≡ 0 → testOf low high ≡ anyNode
+pub test-text : (t : ℕ) → (t ≡ 254 → ⊥) → t ≡ 255 → testOf t ≡ anyText
 unfolding testOf
-test-node low high d e =
-    ap (λ (b : Bool). cond b (named low) (cond (eqb low 0) anyNode anyText)) (ne-eqb low high d) ∙ ap (λ (b : Bool). cond b anyNode anyText) (eq-eqb low 0 e)
+test-text t d e = rw (ne-eqb t 254 d, eq-eqb t 255 e)
 
-pub test-text : (low high : ℕ) → (low ≡ high → ⊥) → (low ≡ 0 → ⊥) → testOf low high ≡ anyText
+pub test-named : (t : ℕ) → (t ≡ 254 → ⊥) → (t ≡ 255 → ⊥) → testOf t ≡ named t
 unfolding testOf
-test-text low high d e =
-    ap (λ (b : Bool). cond b (named low) (cond (eqb low 0) anyNode anyText)) (ne-eqb low high d) ∙ ap (λ (b : Bool). cond b anyNode anyText) (ne-eqb low 0 e)
+test-named t d e = rw (ne-eqb t 254 d, ne-eqb t 255 e)
 
 pub in-range-of : (low high : ℕ) (s t : NodeTest ℕ) → t ≡ s → InRange low high s → InRange low high t
 in-range-of low high s t e h = rw e h

@@ -16,6 +16,8 @@ use axis_passes::descendants_or_self;
 use axis_passes::fill;
 use compiled_paths::ANCESTOR;
 use compiled_paths::ANCESTOR_OR_SELF;
+use compiled_paths::ANY_NODE;
+use compiled_paths::ANY_TEXT;
 use compiled_paths::CHILD;
 use compiled_paths::DESCENDANT;
 use compiled_paths::DESCENDANT_OR_SELF;
@@ -68,33 +70,36 @@ struct CodeRange {
 }
 
 // The codes of the names that pass a compiled step's test.
-fn code_range(low: u8, high: u8) -> CodeRange
-    ensures { λ r. ⌜ InRange (r .low) (r .high) (testOf low high) ⌝ }
+fn code_range(test: u8) -> CodeRange
+    ensures { λ r. ⌜ InRange (r .low) (r .high) (testOf test) ⌝ }
 {
-    if low == high {
-        if low < TEXT_NAMES {
-            return CodeRange { low, high: low };
-        }
-        return CodeRange { low: 1, high: 0 };
-    }
-    if low == 0 {
+    if test == ANY_NODE {
         return CodeRange {
             low: 0,
             high: LAST_CODE,
         };
     }
-    CodeRange {
-        low: TEXT_NAMES,
-        high: LAST_CODE,
+    if test == ANY_TEXT {
+        return CodeRange {
+            low: TEXT_NAMES,
+            high: LAST_CODE,
+        };
     }
+    if test < TEXT_NAMES {
+        return CodeRange {
+            low: test,
+            high: test,
+        };
+    }
+    CodeRange { low: 1, high: 0 }
 }
 
 // The marked rows whose names pass a compiled step's test.
-pub fn filter_test(codes: &[u8], low: u8, high: u8, from: &[u8], out: &mut [u8])
+pub fn filter_test(codes: &[u8], test: u8, from: &[u8], out: &mut [u8])
     requires { ⌜ TestPass (now codes) (now from) (now out) ⌝ }
-    ensures { λ _. ⌜ now (out .exit) ≡ intersection (now (from .entry)) (testMarks (testOf low high) (namesIn (now (codes .entry)))) ⌝ }
+    ensures { λ _. ⌜ now (out .exit) ≡ intersection (now (from .entry)) (testMarks (testOf test) (namesIn (now (codes .entry)))) ⌝ }
 {
-    let range = code_range(low, high);
+    let range = code_range(test);
     filter(codes, range.low, range.high, from, out);
 }
 
@@ -103,16 +108,15 @@ pub fn step_forward(
     parents: &[u16],
     codes: &[u8],
     axis: u8,
-    low: u8,
-    high: u8,
+    test: u8,
     marks: &mut [u8],
     next: &mut [u8],
 )
     requires { ⌜ StepPass (now parents) (now codes) (now marks) (now next) ⌝ }
-    ensures { λ _. ⌜ now (marks .exit) ≡ forwardMarks (now (parents .entry)) (now (codes .entry)) axis low high (now (marks .entry)) ⌝ }
+    ensures { λ _. ⌜ now (marks .exit) ≡ forwardMarks (now (parents .entry)) (now (codes .entry)) axis test (now (marks .entry)) ⌝ }
 {
     axis_image(axis, parents, &marks[..], next);
-    filter_test(codes, low, high, &next[..], marks);
+    filter_test(codes, test, &next[..], marks);
 }
 
 // The rows from which a step leads to a marked one; `next` is scratch. Where no marked row passes the test there is none.
@@ -120,15 +124,14 @@ pub fn step_back(
     parents: &[u16],
     codes: &[u8],
     axis: u8,
-    low: u8,
-    high: u8,
+    test: u8,
     marks: &mut [u8],
     next: &mut [u8],
 )
     requires { ⌜ StepPass (now parents) (now codes) (now marks) (now next) ⌝ }
-    ensures { λ _. ⌜ now (marks .exit) ≡ backwardMarks (now (parents .entry)) (now (codes .entry)) axis low high (now (marks .entry)) ⌝ }
+    ensures { λ _. ⌜ now (marks .exit) ≡ backwardMarks (now (parents .entry)) (now (codes .entry)) axis test (now (marks .entry)) ⌝ }
 {
-    filter_test(codes, low, high, &marks[..], next);
+    filter_test(codes, test, &marks[..], next);
     if !any_marked(&next[..]) {
         fill(marks, UNMARKED);
         return;

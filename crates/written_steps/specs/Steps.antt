@@ -4,9 +4,9 @@ use mathlib.Core.Path.{_≡_, ap, _∙_}
 use Prim.Native.Nat.{ℕ, _+_, _-_, _<_}
 use native.Mathlib.Omega.{arith}
 use lib.ListN.{length, getD}
-use Rattle.compiled_paths.specs.Columns.{sizeAt, startAt, conditionIn, stepAt}
+use Rattle.compiled_paths.specs.Columns.{axisNumber, sizeAt, startAt, conditionIn, stepAt}
 use Rattle.compiled_paths.specs.Paths.{AtMost}
-use Rattle.compiled_paths.specs.Sizes.{writtenSteps, allSteps, allAlternatives}
+use Rattle.compiled_paths.specs.Sizes.{writtenSteps, allSteps}
 use Rattle.condition_passes.specs.Conditions.{KeepPass}
 use Rattle.marks.specs.Columns.{intersection}
 use Rattle.marks.specs.Selection.{conditionMarks, stepMarks, rootMarks}
@@ -20,37 +20,34 @@ pub record Scratch (ps held steps next : List ℕ) : Type 0 where
   pub room-steps : length steps ≡ length ps
   pub room-next : length next ≡ length ps
 
-pub record StepAtPass (ps codes ways conditions : List ℕ) (k : ℕ) (m held steps next : List ℕ) : Type 0 where
+pub record StepAtPass (ps codes conditions : List ℕ) (k : ℕ) (m held steps next : List ℕ) : Type 0 where
   pub table : TableColumns ps codes
   pub inside : k < writtenSteps
-  pub alternative-starts : AtMost allSteps ways
-  pub condition-starts : AtMost allAlternatives conditions
+  pub condition-starts : AtMost allSteps conditions
   pub column : MarkColumn ps m
   pub scratch : Scratch ps held steps next
 
 -- the marks may be anything where a path starts
-pub record FirstAtPass (ps codes ways conditions : List ℕ) (k : ℕ) (m held steps next : List ℕ) : Type 0 where
+pub record FirstAtPass (ps codes conditions : List ℕ) (k : ℕ) (m held steps next : List ℕ) : Type 0 where
   pub table : TableColumns ps codes
   pub inside : k < writtenSteps
-  pub alternative-starts : AtMost allSteps ways
-  pub condition-starts : AtMost allAlternatives conditions
+  pub condition-starts : AtMost allSteps conditions
   pub room : length m ≡ length ps
   pub scratch : Scratch ps held steps next
 
 -- ---- the condition of a step
-module _ (ps codes axes lows highs ways conditions : List ℕ) (k : ℕ) where
+module _ (ps codes axes tests conditions : List ℕ) (k : ℕ) where
   -- the rows where it holds
   abbrev holding : List ℕ
-  holding = conditionMarks ps (namesIn codes) (conditionIn axes lows highs ways (sizeAt conditions k) (startAt conditions k))
+  holding = conditionMarks ps (namesIn codes) (conditionIn axes tests (sizeAt conditions k) (startAt conditions k))
 
-  module _ (m held steps next : List ℕ) (h : StepAtPass ps codes ways conditions k m held steps next) where
-    pub at-keep : (n : ℕ) → n ≡ getD conditions (k + 1) 0 - getD conditions k 0 → KeepPass ps codes ways (getD conditions k 0) n m held steps next
+  module _ (m held steps next : List ℕ) (h : StepAtPass ps codes conditions k m held steps next) where
+    pub at-keep : (n : ℕ) → n ≡ getD conditions (k + 1) 0 - getD conditions k 0 → KeepPass ps codes (getD conditions k 0) n m held steps next
     at-keep n e =
         record {
           condition = record {
             table = h .table;
             inside = omega (arith, h .condition-starts k, h .condition-starts (k + 1));
-            starts = h .alternative-starts;
             room-held = h .scratch .room-held;
             room-steps = h .scratch .room-steps;
             room-next = h .scratch .room-next;
@@ -59,52 +56,50 @@ module _ (ps codes axes lows highs ways conditions : List ℕ) (k : ℕ) where
         }
 
     pub at-kept : (n : ℕ) (y : List ℕ) → n ≡ getD conditions (k + 1) 0 - getD conditions k 0
-        → y ≡ intersection m (conditionMarks ps (namesIn codes) (conditionIn axes lows highs ways n (getD conditions k 0))) → y ≡ intersection m holding
-    at-kept n y e f = f ∙ ap (λ (s : ℕ). intersection m (conditionMarks ps (namesIn codes) (conditionIn axes lows highs ways s (getD conditions k 0)))) e
+        → y ≡ intersection m (conditionMarks ps (namesIn codes) (conditionIn axes tests n (getD conditions k 0))) → y ≡ intersection m holding
+    at-kept n y e f = f ∙ ap (λ (s : ℕ). intersection m (conditionMarks ps (namesIn codes) (conditionIn axes tests s (getD conditions k 0)))) e
 
     -- ---- one step from marked rows
     pub step-pass : StepPass ps codes m next
     step-pass = record { table = h .table; column = h .column; room = h .scratch .room-next }
 
-    pub step-kept : (x y : List ℕ) → x ≡ forwardMarks ps codes (getD axes k 0) (getD lows k 0) (getD highs k 0) m → length y ≡ length next
-        → StepAtPass ps codes ways conditions k x held steps y
-    step-kept x y d f =
+    pub step-kept : (axis : ℕ) (x y : List ℕ) → x ≡ forwardMarks ps codes axis (getD tests k 0) m → length y ≡ length next
+        → StepAtPass ps codes conditions k x held steps y
+    step-kept axis x y d f =
         record {
           table = h .table;
           inside = h .inside;
-          alternative-starts = h .alternative-starts;
           condition-starts = h .condition-starts;
-          column = rw d (forward-column ps codes (getD axes k 0) (getD lows k 0) (getD highs k 0) m);
+          column = rw d (forward-column ps codes axis (getD tests k 0) m);
           scratch = record { room-held = h .scratch .room-held; room-steps = h .scratch .room-steps; room-next = f ∙ h .scratch .room-next };
         }
 
   -- ---- the first step, from the root
-  module _ (m held steps next : List ℕ) (h : FirstAtPass ps codes ways conditions k m held steps next) where
+  module _ (m held steps next : List ℕ) (h : FirstAtPass ps codes conditions k m held steps next) where
     pub first-pass : FirstPass ps codes m next
     first-pass = record { table = h .table; room-marks = h .room; room-next = h .scratch .room-next }
 
-    pub first-kept : (x y : List ℕ) → x ≡ forwardMarks ps codes (getD axes k 0) (getD lows k 0) (getD highs k 0) (rootMarks (length ps)) → length y ≡ length next
-        → StepAtPass ps codes ways conditions k x held steps y
-    first-kept x y d f =
+    pub first-kept : (axis : ℕ) (x y : List ℕ) → x ≡ forwardMarks ps codes axis (getD tests k 0) (rootMarks (length ps)) → length y ≡ length next
+        → StepAtPass ps codes conditions k x held steps y
+    first-kept axis x y d f =
         record {
           table = h .table;
           inside = h .inside;
-          alternative-starts = h .alternative-starts;
           condition-starts = h .condition-starts;
-          column = rw d (forward-column ps codes (getD axes k 0) (getD lows k 0) (getD highs k 0) (rootMarks (length ps)));
+          column = rw d (forward-column ps codes axis (getD tests k 0) (rootMarks (length ps)));
           scratch = record { room-held = h .scratch .room-held; room-steps = h .scratch .room-steps; room-next = f ∙ h .scratch .room-next };
         }
 
-  pub step-marked : (m x y : List ℕ) → x ≡ forwardMarks ps codes (getD axes k 0) (getD lows k 0) (getD highs k 0) m → y ≡ intersection x holding
-      → y ≡ stepMarks ps (namesIn codes) (stepAt axes lows highs ways conditions k) m
+  pub step-marked : (axis : ℕ) (m x y : List ℕ) → axis ≡ axisNumber (getD axes k 0) → x ≡ forwardMarks ps codes axis (getD tests k 0) m → y ≡ intersection x holding
+      → y ≡ stepMarks ps (namesIn codes) (stepAt axes tests conditions k) m
   unfolding stepMarks forwardMarks
-  step-marked m x y d f = f ∙ ap (λ (l : List ℕ). intersection l holding) d
+  step-marked axis m x y a d f = f ∙ ap (λ (l : List ℕ). intersection l holding) (d ∙ ap (λ (b : ℕ). forwardMarks ps codes b (getD tests k 0) m) a)
 
-pub step-column : (ps codes axes lows highs ways conditions : List ℕ) (k : ℕ) (m x : List ℕ) → MarkColumn ps m
-    → x ≡ stepMarks ps (namesIn codes) (stepAt axes lows highs ways conditions k) m → MarkColumn ps x
+pub step-column : (ps codes axes tests conditions : List ℕ) (k : ℕ) (m x : List ℕ) → MarkColumn ps m
+    → x ≡ stepMarks ps (namesIn codes) (stepAt axes tests conditions k) m → MarkColumn ps x
 unfolding stepMarks forwardMarks
-step-column ps codes axes lows highs ways conditions k m x c e =
+step-column ps codes axes tests conditions k m x c e =
     rw e
-    (intersection-column ps (forwardMarks ps codes (getD axes k 0) (getD lows k 0) (getD highs k 0) m)
-    (conditionMarks ps (namesIn codes) (conditionIn axes lows highs ways (sizeAt conditions k) (startAt conditions k)))
-    (forward-column ps codes (getD axes k 0) (getD lows k 0) (getD highs k 0) m))
+    (intersection-column ps (forwardMarks ps codes (axisNumber (getD axes k 0)) (getD tests k 0) m)
+    (conditionMarks ps (namesIn codes) (conditionIn axes tests (sizeAt conditions k) (startAt conditions k)))
+    (forward-column ps codes (axisNumber (getD axes k 0)) (getD tests k 0) m))

@@ -1,27 +1,36 @@
 // A written step of a compiled path for all rows at once, its condition included: from marked rows, or from the root.
 ghost use mathlib.Core.Path.{_≡_};
+ghost use Prim.Native.Nat.{_-_};
 ghost use lib.ListN.{length};
 ghost use Rattle.compiled_paths.specs.Columns.{sizeAt, startAt, conditionIn, stepAt};
 ghost use Rattle.marks.specs.Columns.{intersection};
 ghost use Rattle.marks.specs.Selection.{conditionMarks, stepMarks, rootMarks};
 ghost use Rattle.step_passes.specs.Tests.{namesIn};
 ghost use Rattle.written_steps.specs.Steps.{StepAtPass, FirstAtPass};
-use compiled_paths::ALTERNATIVE_STARTS;
 use compiled_paths::CONDITION_STARTS;
 use compiled_paths::STEPS;
+use compiled_paths::axis_number;
 use condition_passes::keep;
-use condition_passes::range_size;
 use root_passes::step_from_root;
 use step_passes::step_forward;
+
+// How many cells a range has.
+pub fn range_size(start: u16, end: u16) -> usize
+    ensures { λ n. ⌜ n ≡ end - start ⌝ }
+{
+    if start < end {
+        (end - start) as usize
+    } else {
+        0
+    }
+}
 
 // Keeps the rows where the condition of the written step `k` holds; `held`, `steps` and `next` are scratch.
 fn keep_at<'a>(
     parents: &[u16],
     codes: &[u8],
     axes: &'a [u8; STEPS],
-    lows: &'a [u8; STEPS],
-    highs: &'a [u8; STEPS],
-    alternatives: &'a [u16; ALTERNATIVE_STARTS],
+    tests: &'a [u8; STEPS],
     conditions: &'a [u16; CONDITION_STARTS],
     k: usize,
     marks: &mut [u8],
@@ -29,8 +38,8 @@ fn keep_at<'a>(
     steps: &mut [u8],
     next: &mut [u8],
 )
-    requires { ⌜ StepAtPass (now parents) (now codes) (now alternatives) (now conditions) k (now marks) (now held) (now steps) (now next) ⌝ }
-    ensures { λ _. ⌜ now (marks .exit) ≡ intersection (now (marks .entry)) (conditionMarks (now (parents .entry)) (namesIn (now (codes .entry))) (conditionIn (now (axes .entry)) (now (lows .entry)) (now (highs .entry)) (now (alternatives .entry)) (sizeAt (now (conditions .entry)) k) (startAt (now (conditions .entry)) k))) ⌝ }
+    requires { ⌜ StepAtPass (now parents) (now codes) (now conditions) k (now marks) (now held) (now steps) (now next) ⌝ }
+    ensures { λ _. ⌜ now (marks .exit) ≡ intersection (now (marks .entry)) (conditionMarks (now (parents .entry)) (namesIn (now (codes .entry))) (conditionIn (now (axes .entry)) (now (tests .entry)) (sizeAt (now (conditions .entry)) k) (startAt (now (conditions .entry)) k))) ⌝ }
 {
     let start = conditions[k];
     let count = range_size(start, conditions[k + 1]);
@@ -38,9 +47,7 @@ fn keep_at<'a>(
         parents,
         codes,
         axes,
-        lows,
-        highs,
-        alternatives,
+        tests,
         start as usize,
         count,
         marks,
@@ -55,9 +62,7 @@ pub fn step<'a>(
     parents: &[u16],
     codes: &[u8],
     axes: &'a [u8; STEPS],
-    lows: &'a [u8; STEPS],
-    highs: &'a [u8; STEPS],
-    alternatives: &'a [u16; ALTERNATIVE_STARTS],
+    tests: &'a [u8; STEPS],
     conditions: &'a [u16; CONDITION_STARTS],
     k: usize,
     marks: &mut [u8],
@@ -65,17 +70,16 @@ pub fn step<'a>(
     steps: &mut [u8],
     next: &mut [u8],
 )
-    requires { ⌜ StepAtPass (now parents) (now codes) (now alternatives) (now conditions) k (now marks) (now held) (now steps) (now next) ⌝ }
-    ensures { λ _. ⌜ now (marks .exit) ≡ stepMarks (now (parents .entry)) (namesIn (now (codes .entry))) (stepAt (now (axes .entry)) (now (lows .entry)) (now (highs .entry)) (now (alternatives .entry)) (now (conditions .entry)) k) (now (marks .entry)) ⌝ }
+    requires { ⌜ StepAtPass (now parents) (now codes) (now conditions) k (now marks) (now held) (now steps) (now next) ⌝ }
+    ensures { λ _. ⌜ now (marks .exit) ≡ stepMarks (now (parents .entry)) (namesIn (now (codes .entry))) (stepAt (now (axes .entry)) (now (tests .entry)) (now (conditions .entry)) k) (now (marks .entry)) ⌝ }
 {
-    step_forward(parents, codes, axes[k], lows[k], highs[k], marks, next);
+    let axis = axis_number(axes[k]);
+    step_forward(parents, codes, axis, tests[k], marks, next);
     keep_at(
         parents,
         codes,
         axes,
-        lows,
-        highs,
-        alternatives,
+        tests,
         conditions,
         k,
         marks,
@@ -90,9 +94,7 @@ pub fn first_step<'a>(
     parents: &[u16],
     codes: &[u8],
     axes: &'a [u8; STEPS],
-    lows: &'a [u8; STEPS],
-    highs: &'a [u8; STEPS],
-    alternatives: &'a [u16; ALTERNATIVE_STARTS],
+    tests: &'a [u8; STEPS],
     conditions: &'a [u16; CONDITION_STARTS],
     k: usize,
     marks: &mut [u8],
@@ -100,17 +102,16 @@ pub fn first_step<'a>(
     steps: &mut [u8],
     next: &mut [u8],
 )
-    requires { ⌜ FirstAtPass (now parents) (now codes) (now alternatives) (now conditions) k (now marks) (now held) (now steps) (now next) ⌝ }
-    ensures { λ _. ⌜ now (marks .exit) ≡ stepMarks (now (parents .entry)) (namesIn (now (codes .entry))) (stepAt (now (axes .entry)) (now (lows .entry)) (now (highs .entry)) (now (alternatives .entry)) (now (conditions .entry)) k) (rootMarks (length (now (parents .entry)))) ⌝ }
+    requires { ⌜ FirstAtPass (now parents) (now codes) (now conditions) k (now marks) (now held) (now steps) (now next) ⌝ }
+    ensures { λ _. ⌜ now (marks .exit) ≡ stepMarks (now (parents .entry)) (namesIn (now (codes .entry))) (stepAt (now (axes .entry)) (now (tests .entry)) (now (conditions .entry)) k) (rootMarks (length (now (parents .entry)))) ⌝ }
 {
-    step_from_root(parents, codes, axes[k], lows[k], highs[k], marks, next);
+    let axis = axis_number(axes[k]);
+    step_from_root(parents, codes, axis, tests[k], marks, next);
     keep_at(
         parents,
         codes,
         axes,
-        lows,
-        highs,
-        alternatives,
+        tests,
         conditions,
         k,
         marks,

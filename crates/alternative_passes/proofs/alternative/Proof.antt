@@ -6,26 +6,23 @@ use Rattle.alternative_passes.proofs.alternative.Statement.{statement}
 use Rattle.alternative_passes.proofs.alternative.Tie as tie
 
 abbrev Inv-loop : tie.InvT-loop
-Inv-loop parents codes axes lows highs first size held steps₀ next₀ k₀ steps next k = StepsBack parents codes axes lows highs first size k steps next
+Inv-loop parents codes axes tests first size held steps₀ next₀ k₀ steps next k = StepsBack parents codes axes tests first size k steps next
 
 abbrev μ-loop : tie.MeasureT-loop
-μ-loop parents codes axes lows highs first size held steps₀ next₀ k₀ steps next k = k
+μ-loop parents codes axes tests first size held steps₀ next₀ k₀ steps next k = k
 
 -- the states that answers go back to
-abbrev loop-before : tie.After-step-back-arg5 Inv-loop μ-loop → tie.At-loop Inv-loop μ-loop
-loop-before c = c .before .before .before .before .before .before
-
-abbrev loop-before-3 : tie.After-slice-known7 Inv-loop μ-loop → tie.At-loop Inv-loop μ-loop
-loop-before-3 c = c .before .before .before .before .before .before
-
-abbrev loop-before-2 : tie.After-step-back Inv-loop μ-loop → tie.At-loop Inv-loop μ-loop
-loop-before-2 c = loop-before (c .before)
-
 abbrev start-before : tie.After-slice-known4 Inv-loop μ-loop → tie.Start Inv-loop μ-loop
 start-before c = c .before .before .before .before .before .before .before .before .before
 
 abbrev start-before-2 : tie.At-loop Inv-loop μ-loop → tie.Start Inv-loop μ-loop
 start-before-2 c = start-before (c .before)
+
+abbrev loop-before : tie.After-axis-number Inv-loop μ-loop → tie.At-loop Inv-loop μ-loop
+loop-before c = c .before .before .before
+
+abbrev loop-before-2 : tie.After-slice-known7 Inv-loop μ-loop → tie.At-loop Inv-loop μ-loop
+loop-before-2 c = c .before .before .before .before .before .before
 
 add-k : tie.Need-add-k Inv-loop μ-loop
 add-k c = omega (arith, (start-before c) .pre .inside)
@@ -33,37 +30,38 @@ add-k c = omega (arith, (start-before c) .pre .inside)
 loop-holds : tie.Need-loop-holds Inv-loop μ-loop
 loop-holds c =
     let start = start-before c in
-    steps-begun _ _ _ _ _ _ _ _ (start .args .steps .now) _ _ (start .pre) (c .before .before .fill .ensures)
+    steps-begun _ _ _ _ _ _ _ (start .args .steps .now) _ _ (start .pre) (c .before .before .fill .ensures)
+
+element-copy-out-axis-number : tie.Need-element-copy-out-axis-number Inv-loop μ-loop
+element-copy-out-axis-number c = omega (arith, (start-before-2 (c .before)) .pre .inside, c .before .loop .inv .high)
 
 element-copy-out-step-back : tie.Need-element-copy-out-step-back Inv-loop μ-loop
-element-copy-out-step-back c = omega (arith, (start-before-2 (c .before)) .pre .inside, c .before .loop .inv .high)
-
-element-copy-out-step-back-2 : tie.Need-element-copy-out-step-back-2 Inv-loop μ-loop
-element-copy-out-step-back-2 c = omega (arith, (start-before-2 (c .before .before)) .pre .inside, c .before .before .loop .inv .high)
-
-element-copy-out-step-back-3 : tie.Need-element-copy-out-step-back-3 Inv-loop μ-loop
-element-copy-out-step-back-3 c = omega (arith, (start-before-2 (c .before .before .before)) .pre .inside, c .before .before .before .loop .inv .high)
+element-copy-out-step-back c =
+    let turn = loop-before c in
+    omega (arith, (start-before-2 turn) .pre .inside, turn .loop .inv .high)
 
 step-back-requires : tie.Need-step-back-requires Inv-loop μ-loop
 step-back-requires c κs =
-    let turn = loop-before c in
-    steps-pass _ _ _ _ _ _ _ _ _ _ (turn .loop .inv) ((start-before-2 turn) .pre .table)
+    let turn = loop-before (c .before .before .before) in
+    steps-pass _ _ _ _ _ _ _ _ _ (turn .loop .inv) ((start-before-2 turn) .pre .table)
 
 loop-again : tie.Need-loop-again Inv-loop μ-loop
 loop-again c =
     let after-step-back = c .before .before .before .before in
-    let at = (loop-before-2 after-step-back) .loop in
-    steps-next _ _ _ _ _ _ _ (at .k) (at .steps) (at .next) (at .inv) _ _ (omega arith) (after-step-back .step-back .ensures) (omega arith)
+    let after-axis-number = after-step-back .before .before .before .before in
+    let at = (loop-before after-axis-number) .loop in
+    steps-next _ _ _ _ _ _ (at .k) (at .steps) (at .next) (at .inv) _ _ _ (omega arith) (after-axis-number .axis-number .ensures) (after-step-back .step-back .ensures)
+    (omega arith)
 
 unite-requires : tie.Need-unite-requires Inv-loop μ-loop
 unite-requires c κs =
     let at = c .before .before .before .loop in
-    columns-same-length (steps-column _ _ _ _ _ _ _ (at .k) (at .steps) (at .next) (at .inv)) ((start-before-2 (c .before .before .before)) .pre .column)
+    columns-same-length (steps-column _ _ _ _ _ _ (at .k) (at .steps) (at .next) (at .inv)) ((start-before-2 (c .before .before .before)) .pre .column)
 
 returns : tie.Need-returns Inv-loop μ-loop
 returns c =
-    let at = (loop-before-3 c) .loop in
-    steps-all _ _ _ _ _ _ _ (at .k) (at .steps) (at .next) (at .inv) _ _ (omega arith) (c .before .before .unite .ensures)
+    let at = (loop-before-2 c) .loop in
+    steps-all _ _ _ _ _ _ (at .k) (at .steps) (at .next) (at .inv) _ _ (omega arith) (c .before .before .unite .ensures)
 
 pub alternative-spec : {M : Type 1} → statement M
 alternative-spec =
@@ -75,9 +73,9 @@ alternative-spec =
     add-k
     loop-holds
     (λ c. search needs)
+    element-copy-out-axis-number
+    (λ c κs. search needs)
     element-copy-out-step-back
-    element-copy-out-step-back-2
-    element-copy-out-step-back-3
     step-back-requires
     (λ c. search needs)
     loop-again

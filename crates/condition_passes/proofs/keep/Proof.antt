@@ -34,26 +34,26 @@ intersect-requires : tie.Need-intersect-requires
 intersect-requires c κs =
     let after-condition = condition-before c in
     let start = start-before (then1-before-2 after-condition) in
-    condition-columns _ _ (start .args .axes .now) (start .args .lows .now) (start .args .highs .now) _ _ _ _ _ _ _ (start .pre) _ (after-condition .condition .ensures)
+    condition-columns _ _ (start .args .axes .now) (start .args .tests .now) _ _ _ _ _ _ (start .pre) _ (after-condition .condition .ensures)
 
 returns : tie.Need-returns
 returns c =
     let after-condition = condition-before-2 c in
     let then1 = then1-before-2 after-condition in
     let start = start-before then1 in
-    condition-kept _ _ (start .args .axes .now) (start .args .lows .now) (start .args .highs .now) _ _ _ _ _ _ _ (start .pre) _ _ (then1 .if1 .taken)
+    condition-kept _ _ (start .args .axes .now) (start .args .tests .now) _ _ _ _ _ _ (start .pre) _ _ (then1 .if1 .taken)
     (after-condition .condition .ensures) (c .before .before .intersect .ensures)
 
 returns-2 : tie.Need-returns-2
 returns-2 c =
     let start = start-before (c .before .before .before) in
-    none-kept _ _ (start .args .axes .now) (start .args .lows .now) (start .args .highs .now) _ _ _ _ _ _ _ (start .pre)
+    none-kept _ _ (start .args .axes .now) (start .args .tests .now) _ _ _ _ _ _ (start .pre)
     (sym (c .before .any-marked .ensures) ∙ c .if2 .left)
 
 returns-3 : tie.Need-returns-3
 returns-3 c =
     let start = start-before-2 c in
-    all-kept _ _ (start .args .axes .now) (start .args .lows .now) (start .args .highs .now) _ _ _ _ _ _ _ (start .pre) (omega arith)
+    all-kept _ _ (start .args .axes .now) (start .args .tests .now) _ _ _ _ _ _ (start .pre) (omega arith)
 
 pub keep-spec : {M : Type 1} → statement M
 keep-spec =

@@ -12,17 +12,17 @@ use Rattle.first_paths.proofs.note.Reads as note-reads
 use Rattle.selection.proofs.select_path.Reads as select-path-reads
 
 abbrev Inv-loop : tie.InvT-loop
-Inv-loop paths parents codes firsts₀ marks₀ held₀ steps₀ next₀ count i₀ firsts marks held steps next i = FirstsSoFar paths parents codes i firsts marks held steps next
+Inv-loop parents codes firsts₀ marks₀ held₀ steps₀ next₀ paths count i₀ firsts marks held steps next i = FirstsSoFar paths parents codes i firsts marks held steps next
 
 abbrev μ-loop : tie.MeasureT-loop
-μ-loop paths parents codes firsts₀ marks₀ held₀ steps₀ next₀ count i₀ firsts marks held steps next i = paths .count - i
+μ-loop parents codes firsts₀ marks₀ held₀ steps₀ next₀ paths count i₀ firsts marks held steps next i = paths .count - i
 
 -- the states that answers go back to
 abbrev start-before : tie.After-slice-known6 Inv-loop μ-loop → tie.Start Inv-loop μ-loop
 start-before c = c .before .before .before .before .before .before .before .before .before .before .before
 
 abbrev turn-before : tie.After-select-path Inv-loop μ-loop → tie.At-loop Inv-loop μ-loop
-turn-before c = c .before .before .before .before .before .before
+turn-before c = c .before .before .before .before .before .before .before .before .before .before .before
 
 abbrev path-before : tie.After-slice-known10 Inv-loop μ-loop → tie.After-select-path Inv-loop μ-loop
 path-before c = c .before .before .before .before .before .before .before .before
@@ -38,7 +38,7 @@ loop-holds c = firsts-begun _ _ _ _ _ _ _ _ _ ((start-before c) .pre) (c .before
 -- src/lib.rt:58:9
 select-path-requires : tie.Need-select-path-requires Inv-loop μ-loop
 select-path-requires c κs =
-    let turn = c .before .before .before .before .before in
+    let turn = c .before .before .before .before .before .before .before .before .before .before in
     let at = turn .loop in
     firsts-path _ _ _ (at .i) (at .firsts) (at .marks) (at .held) (at .steps) (at .next) (at .inv) _ _ _ _ _ ((start-before (turn .before)) .pre) (omega arith)
 

@@ -21,7 +21,7 @@ filter-test-requires c κs =
 returns : tie.Need-returns
 returns c =
     let after-root-image = root-image-before c in
-    first-marked _ _ _ _ ((start-before after-root-image) .pre) _ _ (after-root-image .root-image .ensures) _ _ _ (c .before .before .filter-test .ensures)
+    first-marked _ _ _ _ ((start-before after-root-image) .pre) _ _ (after-root-image .root-image .ensures) _ _ (c .before .before .filter-test .ensures)
 
 pub step-from-root-spec : {M : Type 1} → statement M
 step-from-root-spec =

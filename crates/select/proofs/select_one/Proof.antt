@@ -20,22 +20,27 @@ abbrev select-path-before-2 : tie.After-slice-known10 → tie.After-select-path
 select-path-before-2 c = select-path-before (c .before .before .before)
 
 returns : tie.Need-returns
-returns c = none-selected _ _ _ _ _ _ _ _ _ _ ((start-before c) .pre) _ (c .if1 .taken)
+returns c =
+    let start = start-before c in
+    none-selected (start .args .axes .now) (start .args .tests .now) _ _ _ _ _ _ _ _ _ _ _ (start .pre) _ (c .if1 .taken)
 
 select-path-requires : tie.Need-select-path-requires
 select-path-requires c κs =
     let else1 = c .before .before .before .before in
-    one-path _ _ _ _ _ _ _ _ _ _ ((start-before-2 else1) .pre) (else1 .if1 .left)
+    let start = start-before-2 else1 in
+    one-path (start .args .axes .now) (start .args .tests .now) _ _ _ _ _ _ _ _ _ _ _ (start .pre) (else1 .if1 .left)
 
 append-requires : tie.Need-append-requires
 append-requires c κs =
     let after-select-path = select-path-before c in
-    one-append _ _ _ _ _ _ _ _ _ _ ((start-before-2 (else1-before after-select-path)) .pre) _ (after-select-path .select-path .ensures)
+    let start = start-before-2 (else1-before after-select-path) in
+    one-append (start .args .axes .now) (start .args .tests .now) _ _ _ _ _ _ _ _ _ _ _ (start .pre) _ (after-select-path .select-path .ensures)
 
 returns-2 : tie.Need-returns-2
 returns-2 c =
     let after-select-path = select-path-before-2 c in
-    one-selected _ _ _ _ _ _ _ _ _ _ ((start-before-2 (else1-before after-select-path)) .pre) _ _ _ _ (after-select-path .select-path .ensures)
+    let start = start-before-2 (else1-before after-select-path) in
+    one-selected (start .args .axes .now) (start .args .tests .now) _ _ _ _ _ _ _ _ _ _ _ (start .pre) _ _ _ _ (after-select-path .select-path .ensures)
     (c .before .before .append .ensures)
 
 pub select-one-spec : {M : Type 1} → statement M

@@ -6,15 +6,15 @@ use Rattle.select_paths.proofs.select_paths.Statement.{statement}
 use Rattle.select_paths.proofs.select_paths.Tie as tie
 
 abbrev Inv-loop : tie.InvT-loop
-Inv-loop paths first end numbers codes parents items₀ counts₀ marks₀ held₀ steps₀ next₀ n₀ i₀ items counts marks held steps next n i =
+Inv-loop first end numbers codes parents items₀ counts₀ marks₀ held₀ steps₀ next₀ paths n₀ i₀ items counts marks held steps next n i =
     PathsSoFar paths first end numbers codes parents items₀ counts₀ i n items counts marks held steps next
 
 abbrev μ-loop : tie.MeasureT-loop
-μ-loop paths first end numbers codes parents items₀ counts₀ marks₀ held₀ steps₀ next₀ n₀ i₀ items counts marks held steps next n i = end - i
+μ-loop first end numbers codes parents items₀ counts₀ marks₀ held₀ steps₀ next₀ paths n₀ i₀ items counts marks held steps next n i = end - i
 
 -- the states that answers go back to
 abbrev in-loop-before : tie.After-select-one Inv-loop μ-loop → tie.In-loop Inv-loop μ-loop
-in-loop-before c = c .before .before .before .before .before .before
+in-loop-before c = c .before .before .before .before .before .before .before .before .before .before .before
 
 abbrev clear-from-before : tie.After-slice-known14 Inv-loop μ-loop → tie.After-clear-from Inv-loop μ-loop
 clear-from-before c = c .before .before .before .before .before .before
@@ -36,7 +36,7 @@ loop-holds c = paths-begun _ _ _ _ _ _ _ _ _ _ _ _ ((start-before c) .pre)
 
 select-one-requires : tie.Need-select-one-requires Inv-loop μ-loop
 select-one-requires c κs =
-    let turn = c .before .before .before .before .before .before in
+    let turn = c .before .before .before .before .before .before .before .before .before .before .before in
     let at = turn .loop in
     paths-one _ _ _ _ _ _ _ _ (at .i) (at .n) (at .items) (at .counts) (at .marks) (at .held) (at .steps) (at .next) (at .inv) _ _ _ _
     ((start-before-2 turn) .pre) (omega arith)
@@ -67,11 +67,15 @@ add-i c =
 loop-again : tie.Need-loop-again Inv-loop μ-loop
 loop-again c =
     let after-select-one = select-one-before-2 c in
-    let turn = in-loop-before after-select-one .before in
+    let in-loop = in-loop-before after-select-one in
+    let turn = in-loop .before in
     let at = turn .loop in
+    let after-next = c .before .before .before .before .before in
+    let after-steps = after-next .before .before in
+    let after-held = after-steps .before .before in
     paths-next _ _ _ _ _ _ _ _ (at .i) (at .n) (at .items) (at .counts) (at .marks) (at .held) (at .steps) (at .next) (at .inv) _ _
-    (after-select-one .select-one .ensures) ((start-before-2 turn) .pre .columns) _ _ _ _ _ (omega arith) (c .before .before .put-count .ensures)
-    (omega arith) (omega arith) (omega arith) (omega arith)
+    (after-select-one .select-one .ensures) ((start-before-2 turn) .pre .columns) _ _ _ _ _ (in-loop .loop-test .taken) (c .before .before .put-count .ensures)
+    (after-held .before .before .marks .given) (after-held .held .given) (after-steps .steps .given) (after-next .next .given)
 
 sub-clear-counts-from : tie.Need-sub-clear-counts-from Inv-loop μ-loop
 sub-clear-counts-from c = omega (arith, (start-before-2 (c .before .before .before .before .before .before)) .pre .order)

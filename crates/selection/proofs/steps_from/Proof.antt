@@ -8,11 +8,11 @@ use Rattle.selection.proofs.steps_from.Statement.{statement}
 use Rattle.selection.proofs.steps_from.Tie as tie
 
 abbrev Inv-loop : tie.InvT-loop
-Inv-loop parents codes axes lows highs alternatives conditions first size marks₀ held₀ steps₀ next₀ end k₀ marks held steps next k =
-    StepsSoFar parents codes axes lows highs alternatives conditions first size marks₀ k marks held steps next
+Inv-loop parents codes axes tests conditions first size marks₀ held₀ steps₀ next₀ end k₀ marks held steps next k =
+    StepsSoFar parents codes axes tests conditions first size marks₀ k marks held steps next
 
 abbrev μ-loop : tie.MeasureT-loop
-μ-loop parents codes axes lows highs alternatives conditions first size marks₀ held₀ steps₀ next₀ end k₀ marks held steps next k = first + size - k
+μ-loop parents codes axes tests conditions first size marks₀ held₀ steps₀ next₀ end k₀ marks held steps next k = first + size - k
 
 -- the states that answers go back to
 abbrev start-before : tie.After-slice-known4 Inv-loop μ-loop → tie.Start Inv-loop μ-loop
@@ -34,31 +34,31 @@ add-end : tie.Need-add-end Inv-loop μ-loop
 add-end c = omega (arith, (start-before c) .pre .inside)
 
 loop-holds : tie.Need-loop-holds Inv-loop μ-loop
-loop-holds c = steps-begun _ _ _ _ _ _ _ _ _ _ _ _ _ ((start-before c) .pre)
+loop-holds c = steps-begun _ _ _ _ _ _ _ _ _ _ _ ((start-before c) .pre)
 
 returns : tie.Need-returns Inv-loop μ-loop
 returns c =
     let at = c .before .before .before .before .loop in
-    steps-ended _ _ _ _ _ _ _ _ _ _ (at .k) (at .marks) (at .held) (at .steps) (at .next) (at .inv)
+    steps-ended _ _ _ _ _ _ _ _ (at .k) (at .marks) (at .held) (at .steps) (at .next) (at .inv)
     (sym (c .before .any-marked .ensures) ∙ not-true _ (c .if1 .taken))
 
 step-requires : tie.Need-step-requires Inv-loop μ-loop
 step-requires c κs =
     let turn = loop-before c in
     let at = turn .loop in
-    steps-pass _ _ _ _ _ _ _ _ _ _ (at .k) (at .marks) (at .held) (at .steps) (at .next) (at .inv) _ _ _ ((start-before-2 turn) .pre) (omega arith)
+    steps-pass _ _ _ _ _ _ _ _ (at .k) (at .marks) (at .held) (at .steps) (at .next) (at .inv) _ _ _ ((start-before-2 turn) .pre) (omega arith)
 
 loop-again : tie.Need-loop-again Inv-loop μ-loop
 loop-again c =
     let after-step = step-before c in
     let at = (loop-before-2 after-step) .loop in
-    steps-next _ _ _ _ _ _ _ _ _ _ (at .k) (at .marks) (at .held) (at .steps) (at .next) (at .inv) _ _ _ _ (omega arith) (after-step .step .ensures)
+    steps-next _ _ _ _ _ _ _ _ (at .k) (at .marks) (at .held) (at .steps) (at .next) (at .inv) _ _ _ _ (omega arith) (after-step .step .ensures)
     (omega arith) (omega arith) (omega arith)
 
 returns-2 : tie.Need-returns-2 Inv-loop μ-loop
 returns-2 c =
     let at = c .before .loop in
-    steps-all _ _ _ _ _ _ _ _ _ _ (at .k) (at .marks) (at .held) (at .steps) (at .next) (at .inv) (omega arith)
+    steps-all _ _ _ _ _ _ _ _ (at .k) (at .marks) (at .held) (at .steps) (at .next) (at .inv) (omega arith)
 
 pub steps-from-spec : {M : Type 1} → statement M
 steps-from-spec =

@@ -29,14 +29,14 @@ returns : tie.Need-returns
 returns c =
     let then1 = c .before .before .before .before in
     let start = start-before then1 in
-    no-steps _ _ (start .args .axes .now) (start .args .lows .now) (start .args .highs .now) _ _ _ _ _ _ _ _ (start .pre) _ (then1 .if1 .taken)
+    no-steps _ _ (start .args .axes .now) (start .args .tests .now) _ _ _ _ _ _ _ (start .pre) _ (then1 .if1 .taken)
     (c .before .before .mark-root .ensures)
 
 first-step-requires : tie.Need-first-step-requires
 first-step-requires c κs =
     let else1 = c .before .before .before .before in
     let start = start-before-2 else1 in
-    first-at _ _ (start .args .axes .now) (start .args .lows .now) (start .args .highs .now) _ _ _ _ _ _ _ _ (start .pre) (else1 .if1 .left)
+    first-at _ _ (start .args .axes .now) (start .args .tests .now) _ _ _ _ _ _ _ (start .pre) (else1 .if1 .left)
 
 add-steps-from : tie.Need-add-steps-from
 add-steps-from c = omega (arith, (start-before-2 (else1-before (c .before .before .before .before .before .before .before .before))) .pre .inside)
@@ -52,7 +52,7 @@ steps-from-requires c κs =
     let after-first-step = after-held .before .before .before in
     let else1 = else1-before after-first-step in
     let start = start-before-2 else1 in
-    later-pass _ _ (start .args .axes .now) (start .args .lows .now) (start .args .highs .now) _ _ _ _ _ _ _ _ (start .pre) _
+    later-pass _ _ (start .args .axes .now) (start .args .tests .now) _ _ _ _ _ _ _ (start .pre) _
     (after-first-step .first-step .ensures) (else1 .if1 .left) _ _ _
     (omega (arith, after-held .held .given)) (omega (arith, after-steps .steps .given)) (omega (arith, after-next .next .given))
 
@@ -62,7 +62,7 @@ returns-2 c =
     let after-first-step = next-before after-steps-from .before .before .before .before .before .before .before in
     let else1 = else1-before after-first-step in
     let start = start-before-2 else1 in
-    later-marked _ _ (start .args .axes .now) (start .args .lows .now) (start .args .highs .now) _ _ _ _ _ _ _ _ (start .pre) _
+    later-marked _ _ (start .args .axes .now) (start .args .tests .now) _ _ _ _ _ _ _ (start .pre) _
     (after-first-step .first-step .ensures) (else1 .if1 .left) _ (after-steps-from .steps-from .ensures)
 
 pub steps-from-root-spec : {M : Type 1} → statement M

@@ -4,24 +4,20 @@ use Rattle.step_passes.proofs.code_range.Statement.{statement}
 use Rattle.step_passes.proofs.code_range.Tie as tie
 
 returns : tie.Need-returns
-returns c =
-    let low = c .before .before .args .low in
-    in-range-of low low _ _ (test-named low _ (c .before .if1 .taken)) (element-range low (c .if2 .taken))
+returns c = in-range-of 0 63 _ _ (test-node _ (c .if1 .taken)) node-range
 
 returns-2 : tie.Need-returns-2
-returns-2 c =
-    let low = c .before .before .args .low in
-    in-range-of 1 0 _ _ (test-named low _ (c .before .if1 .taken)) (no-range low (omega arith))
+returns-2 c = in-range-of 32 63 _ _ (test-text _ (c .before .if1 .left) (c .if2 .taken)) text-range
 
 returns-3 : tie.Need-returns-3
 returns-3 c =
-    let low = c .before .before .args .low in
-    in-range-of 0 63 _ _ (test-node low _ (c .before .if1 .left) (c .if3 .taken)) node-range
+    let test = c .before .before .before .args .test in
+    in-range-of test test _ _ (test-named test (c .before .before .if1 .left) (c .before .if2 .left)) (element-range test (c .if3 .taken))
 
 returns-4 : tie.Need-returns-4
 returns-4 c =
-    let low = c .before .before .args .low in
-    in-range-of 32 63 _ _ (test-text low _ (c .before .if1 .left) (c .if3 .left)) text-range
+    let test = c .before .before .before .args .test in
+    in-range-of 1 0 _ _ (test-named test (c .before .before .if1 .left) (c .before .if2 .left)) (no-range test (omega arith))
 
 pub code-range-spec : {M : Type 1} → statement M
 code-range-spec = tie.close (tie.spec returns returns-2 returns-3 returns-4)

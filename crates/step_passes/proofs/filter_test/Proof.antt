@@ -13,7 +13,7 @@ filter-requires c κs = (start-before (c .before)) .pre .columns
 returns : tie.Need-returns
 returns c =
     let after-code-range = c .before .before .before .before in
-    tested _ _ _ _ _ _ _ ((start-before after-code-range) .pre .coded) (after-code-range .code-range .ensures) (c .before .before .filter .ensures)
+    tested _ _ _ _ _ _ ((start-before after-code-range) .pre .coded) (after-code-range .code-range .ensures) (c .before .before .filter .ensures)
 
 pub filter-test-spec : {M : Type 1} → statement M
 filter-test-spec = tie.close (tie.spec (λ c κs. search needs) filter-requires (λ c. search needs) returns)

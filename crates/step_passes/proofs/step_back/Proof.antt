@@ -19,27 +19,27 @@ filter-test-requires : tie.Need-filter-test-requires
 filter-test-requires c κs = pass-test _ _ _ _ ((start-before c) .pre)
 
 any-marked-requires : tie.Need-any-marked-requires
-any-marked-requires c κs = tested-marks _ _ _ _ ((start-before-2 (c .before .before .before)) .pre) _ _ _ (c .before .before .before .filter-test .ensures)
+any-marked-requires c κs = tested-marks _ _ _ _ ((start-before-2 (c .before .before .before)) .pre) _ _ (c .before .before .before .filter-test .ensures)
 
 returns : tie.Need-returns
 returns c =
     let then1 = c .before .before .before .before in
     let after-any-marked = then1 .before in
     let after-filter-test = filter-test-before after-any-marked in
-    none-back _ _ _ _ ((start-before-2 after-filter-test) .pre) _ _ _ (after-filter-test .filter-test .ensures) _ _
+    none-back _ _ _ _ ((start-before-2 after-filter-test) .pre) _ _ (after-filter-test .filter-test .ensures) _ _
     (sym (after-any-marked .any-marked .ensures) ∙ not-true _ (then1 .if1 .taken))
     (c .before .before .fill .ensures)
 
 axis-image-requires : tie.Need-axis-image-requires
 axis-image-requires c κs =
     let after-filter-test = filter-test-before (c .before .before .before .before) in
-    tested-axis _ _ _ _ ((start-before-2 after-filter-test) .pre) _ _ _ (after-filter-test .filter-test .ensures)
+    tested-axis _ _ _ _ ((start-before-2 after-filter-test) .pre) _ _ (after-filter-test .filter-test .ensures)
 
 returns-2 : tie.Need-returns-2
 returns-2 c =
     let after-inverse-of = c .before .before .before .before .before in
     let after-filter-test = filter-test-before (after-inverse-of .before .before) in
-    moved-back _ _ _ _ ((start-before-2 after-filter-test) .pre) _ _ _ (after-filter-test .filter-test .ensures) _ _ _ (after-inverse-of .inverse-of .ensures)
+    moved-back _ _ _ _ ((start-before-2 after-filter-test) .pre) _ _ (after-filter-test .filter-test .ensures) _ _ _ (after-inverse-of .inverse-of .ensures)
     (c .before .before .axis-image .ensures)
 
 pub step-back-spec : {M : Type 1} → statement M

@@ -24,7 +24,7 @@ filter-test-requires c κs =
 returns : tie.Need-returns
 returns c =
     let after-axis-image = axis-image-before c in
-    moved _ _ _ _ ((start-before-2 after-axis-image) .pre) _ _ _ _ _ (after-axis-image .axis-image .ensures) (c .before .before .filter-test .ensures)
+    moved _ _ _ _ ((start-before-2 after-axis-image) .pre) _ _ _ _ (after-axis-image .axis-image .ensures) (c .before .before .filter-test .ensures)
 
 pub step-forward-spec : {M : Type 1} → statement M
 step-forward-spec =

@@ -5,47 +5,44 @@ use Rattle.written_steps.proofs.first_step.Statement.{statement}
 use Rattle.written_steps.proofs.first_step.Tie as tie
 
 -- the states that answers go back to
+abbrev start-before : tie.After-axis-number → tie.Start
+start-before c = c .before .before .before .before .before .before .before .before
+
+abbrev axis-number-before : tie.After-step-from-root → tie.After-axis-number
+axis-number-before c = c .before .before .before .before
+
 abbrev step-from-root-before : tie.After-keep-at-arg4 → tie.After-step-from-root
 step-from-root-before c = c .before .before .before .before .before .before .before .before
 
 abbrev keep-at-before : tie.After-slice-known10 → tie.After-keep-at
 keep-at-before c = c .before .before .before .before .before .before .before .before
 
-abbrev step-from-root-before-2 : tie.After-keep-at → tie.After-step-from-root
-step-from-root-before-2 c = step-from-root-before (c .before)
-
-abbrev start-before : tie.After-step-from-root-arg5 → tie.Start
-start-before c = c .before .before .before .before .before .before .before .before .before .before .before
-
-abbrev start-before-2 : tie.After-step-from-root → tie.Start
-start-before-2 c = start-before (c .before)
-
 step-from-root-requires : tie.Need-step-from-root-requires
 step-from-root-requires c κs =
-    let start = start-before c in
-    first-pass _ _ (start .args .axes .now) (start .args .lows .now) (start .args .highs .now) _ _ _ _ _ _ _ (start .pre)
+    let start = start-before (c .before .before .before) in
+    first-pass _ _ (start .args .axes .now) (start .args .tests .now) _ _ _ _ _ _ (start .pre)
 
 keep-at-requires : tie.Need-keep-at-requires
 keep-at-requires c κs =
     let after-step-from-root = step-from-root-before c in
-    let start = start-before-2 after-step-from-root in
-    first-kept _ _ (start .args .axes .now) (start .args .lows .now) (start .args .highs .now) _ _ _ _ _ _ _ (start .pre) _ _
-    (after-step-from-root .step-from-root .ensures) (omega arith)
+    let start = start-before (axis-number-before after-step-from-root) in
+    first-kept _ _ (start .args .axes .now) (start .args .tests .now) _ _ _ _ _ _ (start .pre) _ _ _ (after-step-from-root .step-from-root .ensures) (omega arith)
 
 returns : tie.Need-returns
 returns c =
     let after-keep-at = keep-at-before c in
-    let after-step-from-root = step-from-root-before-2 after-keep-at in
-    let start = start-before-2 after-step-from-root in
-    step-marked _ _ (start .args .axes .now) (start .args .lows .now) (start .args .highs .now) (start .args .alternatives .now)
-    (start .args .conditions .now) _ _ _ _ (after-step-from-root .step-from-root .ensures) (after-keep-at .keep-at .ensures)
+    let after-step-from-root = step-from-root-before (after-keep-at .before) in
+    let after-axis-number = axis-number-before after-step-from-root in
+    let start = start-before after-axis-number in
+    step-marked _ _ (start .args .axes .now) (start .args .tests .now) (start .args .conditions .now) _ _ _ _ _ (after-axis-number .axis-number .ensures)
+    (after-step-from-root .step-from-root .ensures) (after-keep-at .keep-at .ensures)
 
 pub first-step-spec : {M : Type 1} → statement M
 first-step-spec =
     tie.close
     (tie.spec
     (λ c. search needs)
-    (λ c. search needs)
+    (λ c κs. search needs)
     (λ c. search needs)
     step-from-root-requires
     keep-at-requires

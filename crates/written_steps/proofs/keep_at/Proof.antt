@@ -23,7 +23,7 @@ keep-requires : tie.Need-keep-requires
 keep-requires c κs =
     let after-range-size = c .before .before .before .before in
     let start = start-before after-range-size in
-    at-keep _ _ (start .args .axes .now) (start .args .lows .now) (start .args .highs .now) _ _ _ _ _ _ _ (start .pre) _
+    at-keep _ _ (start .args .axes .now) (start .args .tests .now) _ _ _ _ _ _ (start .pre) _
     (after-range-size .range-size .ensures)
 
 returns : tie.Need-returns
@@ -31,7 +31,7 @@ returns c =
     let after-keep = keep-before c in
     let after-range-size = range-size-before after-keep in
     let start = start-before after-range-size in
-    at-kept _ _ (start .args .axes .now) (start .args .lows .now) (start .args .highs .now) _ _ _ _ _ _ _ (start .pre) _ _
+    at-kept _ _ (start .args .axes .now) (start .args .tests .now) _ _ _ _ _ _ (start .pre) _ _
     (after-range-size .range-size .ensures) (after-keep .keep .ensures)
 
 pub keep-at-spec : {M : Type 1} → statement M
