@@ -10,6 +10,12 @@ ghost use Rattle.schema_spec.specs.Types.{typesOf};
 ghost use Rattle.compiled_paths.specs.Columns.{axisOf};
 ghost use Rattle.type_steps.specs.Relations.{RelationsOf, setIn};
 ghost use Rattle.back_steps.specs.Needs.{RelatedTo, leading, StepNeeds};
+use compiled_paths::ANCESTOR;
+use compiled_paths::ANCESTOR_OR_SELF;
+use compiled_paths::CHILD;
+use compiled_paths::DESCENDANT;
+use compiled_paths::DESCENDANT_OR_SELF;
+use compiled_paths::PARENT;
 use names::MAX_ELEMENTS;
 use names::NameSet;
 use type_steps::all_above;
@@ -51,12 +57,12 @@ fn related_names(
     ensures { λ r. ⌜ ((s : Schema) → RelationsOf s holds below → RelatedTo s (axisOf axis) (setIn s h) (setIn s r)) ⌝ }
 {
     match axis {
-        1 => holding(holds, below, h),
-        2 => all_above(holds, below, h),
-        3 => or_above(holds, below, h),
-        4 => held_by(holds, below, h),
-        5 => all_below(holds, below, h),
-        6 => or_below(holds, below, h),
+        CHILD => holding(holds, below, h),
+        DESCENDANT => all_above(holds, below, h),
+        DESCENDANT_OR_SELF => or_above(holds, below, h),
+        PARENT => held_by(holds, below, h),
+        ANCESTOR => all_below(holds, below, h),
+        ANCESTOR_OR_SELF => or_below(holds, below, h),
         _ => h,
     }
 }
@@ -100,8 +106,8 @@ fn names_between(
     ensures { λ r. ⌜ ((s : Schema) → RelationsOf s holds below → setIn s r ≡ between (typesOf s) (axisOf axis) (setIn s g) (setIn s h)) ⌝ }
 {
     match axis {
-        2 => inner_names(holds, below, g, h),
-        3 => inner_names(holds, below, g, h),
+        DESCENDANT => inner_names(holds, below, g, h),
+        DESCENDANT_OR_SELF => inner_names(holds, below, g, h),
         _ => NameSet::empty(),
     }
 }

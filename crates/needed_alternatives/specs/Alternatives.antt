@@ -2,8 +2,7 @@
 use mathlib.Core.Bool.{Bool, not}
 use mathlib.Core.List.{List, [], _∷_, List·Memᴰ}
 use mathlib.Core.Path.{_≡_}
-use Prim.Native.Nat.{ℕ, _+_, _<_, _≤_}
-use lib.ListN.{length, getD}
+use Prim.Native.Nat.{ℕ}
 use Rattle.name_codes.specs.Codes.{nameOfCode}
 use Rattle.names.specs.declared.NameSet.{NameSet}
 use Rattle.path_spec.specs.Paths.{PlainStep, expand}
@@ -29,10 +28,3 @@ anyEndsSome s e qs = anyOf (λ q. endsSome s e q) qs
 
 abbrev pub needOfAll : Schema → Env → List (List (PlainStep ℕ)) → Names
 needOfAll s e qs = gather (λ q. need (typesOf s) keepsAll wantsNothing (expand tt q) e) qs
-
--- columns that have n alternatives from i on
-pub record HasAlternatives (axes lows highs ways : List ℕ) (i n : ℕ) : Type 0 where
-  pub room : i + n < length ways
-  pub inside : (j : ℕ) → getD ways j 0 ≤ length axes
-  pub lows-size : length lows ≡ length axes
-  pub highs-size : length highs ≡ length axes

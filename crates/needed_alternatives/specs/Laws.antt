@@ -2,15 +2,15 @@
 use mathlib.Core.Bool.{Bool, true, false, not, _||_}
 use mathlib.Core.List.{List, [], _∷_, _++_, List·Memᴰ as In, List·Memᴰ·head as here}
 use mathlib.Core.Path.{_≡_, refl, sym, ap, subst, _∙_}
-use Prim.Native.Nat.{ℕ, _+_, _-_, _≤_}
+use Prim.Native.Nat.{ℕ, _+_, _-_, _<_, _≤_}
 use native.Mathlib.Omega.{arith}
 use lib.Dec.{T}
 use lib.ListN.{length}
-use Rattle.compiled_paths.specs.Columns.{startAt, sizeAt, plainIn, alternativesIn, alternatives-next}
+use Rattle.compiled_paths.specs.Columns.{firstSize, first-size-fits, first-size-some, plainIn, alternativesIn, alternatives-next}
 use Rattle.names.specs.SetLaws.{setOf-in, in-setOf, schema-every, every-element, every-text, overlap-some, element-overlap, text-overlap}
 use Rattle.names.specs.Sets.{member, overlap}
 use Rattle.names.specs.declared.NameSet.{NameSet}
-use Rattle.needed_alternatives.specs.Alternatives.{endsSome, anyEndsSome, needOfAll, HasAlternatives}
+use Rattle.needed_alternatives.specs.Alternatives.{endsSome, anyEndsSome, needOfAll}
 use Rattle.path_spec.specs.Paths.{PlainStep, expand}
 use Rattle.plain_steps.specs.Columns.{HasSteps}
 use Rattle.inference_spec.specs.Needed.{keepsAll, wantsNothing, need}
@@ -48,37 +48,43 @@ module _ (s : Schema) where
           let r = setOf-in (namesOf s) t (subst (λ (x : Names). In n x) (sym e) (here refl)) in
           met n (r .0) (r .1)
 
--- ---- alternatives in columns
-module _ (axes lows highs ways : List ℕ) where
-  pub alternative-steps : (n i first size : ℕ) → (n ≡ 0 → ⊥) → HasAlternatives axes lows highs ways i n → first ≡ startAt ways i → size ≡ sizeAt ways i → HasSteps axes lows highs first size
-  alternative-steps n i first size d h e f =
-      let l = h .inside i in
-      let k = h .inside (i + 1) in
-      record { room = omega arith; lows-size = h .lows-size; highs-size = h .highs-size }
-
-  pub alternatives-after : (n i : ℕ) → (n ≡ 0 → ⊥) → HasAlternatives axes lows highs ways i n → HasAlternatives axes lows highs ways (i + 1) (n - 1)
-  alternatives-after n i d h =
+-- ---- alternatives in columns, of which the first has some size
+module _ (axes tests : List ℕ) (n k size : ℕ) (same : size ≡ firstSize axes n k) where
+  pub first-steps : HasSteps axes tests k n → HasSteps axes tests k size
+  first-steps h =
       let l = h .room in
-      record { room = omega arith; inside = h .inside; lows-size = h .lows-size; highs-size = h .highs-size }
+      let f = first-size-fits axes n k in
+      record { room = omega arith; tests-size = h .tests-size }
 
-  module _ (s : Schema) (e : Env) (n i first size : ℕ) (left : n ≡ 0 → ⊥) (begin : first ≡ startAt ways i) (same : size ≡ sizeAt ways i) where
+  pub later-steps : HasSteps axes tests k n → HasSteps axes tests (k + size) (n - size)
+  later-steps h =
+      let l = h .room in
+      let f = first-size-fits axes n k in
+      record { room = omega arith; tests-size = h .tests-size }
+
+  pub fewer-steps : (n ≡ 0 → ⊥) → n - size < n
+  fewer-steps d =
+      let l = first-size-some axes n k d in
+      let f = first-size-fits axes n k in
+      omega arith
+
+  module _ (s : Schema) (e : Env) (left : n ≡ 0 → ⊥) where
     abbrev one : List (PlainStep ℕ)
-    one = plainIn axes lows highs size first
+    one = plainIn axes tests size k
 
     abbrev rest : List (List (PlainStep ℕ))
-    rest = alternativesIn axes lows highs ways (n - 1) (i + 1)
+    rest = alternativesIn axes tests (n - size) (k + size)
 
-    one-and-rest : alternativesIn axes lows highs ways n i ≡ one ∷ rest
+    one-and-rest : one ∷ rest ≡ alternativesIn axes tests n k
     one-and-rest =
-        alternatives-next axes lows highs ways n i left ∙ ap (λ (x : ℕ). plainIn axes lows highs (sizeAt ways i) x ∷ rest) (sym begin)
-        ∙ ap (λ (x : ℕ). plainIn axes lows highs x first ∷ rest) (sym same)
+        ap (λ (x : ℕ). plainIn axes tests x k ∷ alternativesIn axes tests (n - x) (k + x)) same ∙ sym (alternatives-next axes tests n k left)
 
-    pub first-ends : (b : Bool) → b ≡ true → b ≡ endsSome s e one → true ≡ anyEndsSome s e (alternativesIn axes lows highs ways n i)
-    first-ends b t h = ap (λ (x : Bool). x || anyEndsSome s e rest) (sym t ∙ h) ∙ ap (anyEndsSome s e) (sym one-and-rest)
+    pub first-ends : (b : Bool) → b ≡ true → b ≡ endsSome s e one → true ≡ anyEndsSome s e (alternativesIn axes tests n k)
+    first-ends b t h = ap (λ (x : Bool). x || anyEndsSome s e rest) (sym t ∙ h) ∙ ap (anyEndsSome s e) one-and-rest
 
-    pub later-ends : (b r : Bool) → b ≡ false → b ≡ endsSome s e one → r ≡ anyEndsSome s e rest → r ≡ anyEndsSome s e (alternativesIn axes lows highs ways n i)
-    later-ends b r t h k = k ∙ ap (λ (x : Bool). x || anyEndsSome s e rest) (sym t ∙ h) ∙ ap (anyEndsSome s e) (sym one-and-rest)
+    pub later-ends : (b r : Bool) → b ≡ false → b ≡ endsSome s e one → r ≡ anyEndsSome s e rest → r ≡ anyEndsSome s e (alternativesIn axes tests n k)
+    later-ends b r t h g = g ∙ ap (λ (x : Bool). x || anyEndsSome s e rest) (sym t ∙ h) ∙ ap (anyEndsSome s e) one-and-rest
 
     pub need-one-and-rest : (r : NameSet) → setIn s r ≡ within (namesOf s) (need (typesOf s) keepsAll wantsNothing (expand tt one) e ++ needOfAll s e rest)
-        → setIn s r ≡ within (namesOf s) (needOfAll s e (alternativesIn axes lows highs ways n i))
-    need-one-and-rest r h = h ∙ ap (λ (qs : List (List (PlainStep ℕ))). within (namesOf s) (needOfAll s e qs)) (sym one-and-rest)
+        → setIn s r ≡ within (namesOf s) (needOfAll s e (alternativesIn axes tests n k))
+    need-one-and-rest r h = h ∙ ap (λ (qs : List (List (PlainStep ℕ))). within (namesOf s) (needOfAll s e qs)) one-and-rest

@@ -2,12 +2,13 @@
 ghost use mathlib.Core.Path.{_≡_};
 ghost use Prim.Native.Nat.{_<_};
 ghost use Rattle.compiled_paths.specs.Columns.{plainIn, alternativesIn};
-ghost use Rattle.needed_alternatives.specs.Alternatives.{FromName, endsSome, anyEndsSome, needOfAll, HasAlternatives};
+ghost use Rattle.needed_alternatives.specs.Alternatives.{FromName, endsSome, anyEndsSome, needOfAll};
 ghost use Rattle.plain_steps.specs.Columns.{HasSteps};
 ghost use Rattle.schema_spec.specs.Names.{namesOf, within};
 ghost use Rattle.schema_spec.specs.Schemas.{Schema};
 ghost use Rattle.type_steps.specs.Relations.{RelationsOf, NamesOf, setIn, envIn};
 use back_steps::together;
+use compiled_paths::first_size;
 use names::MAX_ELEMENTS;
 use names::NameSet;
 use plain_steps::infer_plain;
@@ -36,70 +37,63 @@ fn ends_some(
     holds: [NameSet; MAX_ELEMENTS],
     below: [NameSet; MAX_ELEMENTS],
     axes: &[u8],
-    lows: &[u8],
-    highs: &[u8],
+    tests: &[u8],
     k: usize,
     n: usize,
     e: Inferred,
 ) -> bool
-    requires { ⌜ HasSteps (now axes) (now lows) (now highs) k n ⌝ }
-    ensures { λ r. ⌜ ((s : Schema) → RelationsOf s holds below → NamesOf s all → r ≡ endsSome s (envIn s e) (plainIn (now (axes .entry)) (now (lows .entry)) (now (highs .entry)) n k)) ⌝ }
+    requires { ⌜ HasSteps (now axes) (now tests) k n ⌝ }
+    ensures { λ r. ⌜ ((s : Schema) → RelationsOf s holds below → NamesOf s all → r ≡ endsSome s (envIn s e) (plainIn (now (axes .entry)) (now (tests .entry)) n k)) ⌝ }
 {
-    let f = infer_plain(holds, below, axes, lows, highs, k, n, e);
+    let f = infer_plain(holds, below, axes, tests, k, n, e);
     all.meets(f.types)
 }
 
-// Whether one of `n` alternatives from `i` on ends with a type that is not empty.
+// Whether one of the alternatives in `n` steps from `k` on ends with a type that is not empty.
 pub fn any_ends_some(
     all: NameSet,
     holds: [NameSet; MAX_ELEMENTS],
     below: [NameSet; MAX_ELEMENTS],
     axes: &[u8],
-    lows: &[u8],
-    highs: &[u8],
-    ways: &[u16],
-    i: usize,
+    tests: &[u8],
+    k: usize,
     n: usize,
     e: Inferred,
 ) -> bool
-    requires { ⌜ HasAlternatives (now axes) (now lows) (now highs) (now ways) i n ⌝ }
-    ensures { λ r. ⌜ ((s : Schema) → RelationsOf s holds below → NamesOf s all → r ≡ anyEndsSome s (envIn s e) (alternativesIn (now (axes .entry)) (now (lows .entry)) (now (highs .entry)) (now (ways .entry)) n i)) ⌝ }
+    requires { ⌜ HasSteps (now axes) (now tests) k n ⌝ }
+    ensures { λ r. ⌜ ((s : Schema) → RelationsOf s holds below → NamesOf s all → r ≡ anyEndsSome s (envIn s e) (alternativesIn (now (axes .entry)) (now (tests .entry)) n k)) ⌝ }
 {
     if n == 0 {
         false
     } else {
-        let first = ranges::start(ways, i);
-        let size = ranges::size(ways, i);
-        if ends_some(all, holds, below, axes, lows, highs, first, size, e) {
+        let size = first_size(axes, k, n);
+        if ends_some(all, holds, below, axes, tests, k, size, e) {
             true
         } else {
-            any_ends_some(all, holds, below, axes, lows, highs, ways, i + 1, n - 1, e)
+            any_ends_some(all, holds, below, axes, tests, k + size, n - size, e)
         }
     }
 }
 
-// What `n` alternatives from `i` on need.
+// What the alternatives in `n` steps from `k` on need.
 pub fn need_of_all(
     holds: [NameSet; MAX_ELEMENTS],
     below: [NameSet; MAX_ELEMENTS],
     axes: &[u8],
-    lows: &[u8],
-    highs: &[u8],
-    ways: &[u16],
-    i: usize,
+    tests: &[u8],
+    k: usize,
     n: usize,
     e: Inferred,
 ) -> NameSet
-    requires { ⌜ HasAlternatives (now axes) (now lows) (now highs) (now ways) i n ⌝ }
-    ensures { λ r. ⌜ ((s : Schema) → RelationsOf s holds below → setIn s r ≡ within (namesOf s) (needOfAll s (envIn s e) (alternativesIn (now (axes .entry)) (now (lows .entry)) (now (highs .entry)) (now (ways .entry)) n i))) ⌝ }
+    requires { ⌜ HasSteps (now axes) (now tests) k n ⌝ }
+    ensures { λ r. ⌜ ((s : Schema) → RelationsOf s holds below → setIn s r ≡ within (namesOf s) (needOfAll s (envIn s e) (alternativesIn (now (axes .entry)) (now (tests .entry)) n k))) ⌝ }
 {
     if n == 0 {
         NameSet::empty()
     } else {
-        let first = ranges::start(ways, i);
-        let size = ranges::size(ways, i);
-        let one = need_plain(holds, below, axes, lows, highs, first, size, e);
-        let rest = need_of_all(holds, below, axes, lows, highs, ways, i + 1, n - 1, e);
+        let size = first_size(axes, k, n);
+        let one = need_plain(holds, below, axes, tests, k, size, e);
+        let rest = need_of_all(holds, below, axes, tests, k + size, n - size, e);
         together(one.names, rest)
     }
 }

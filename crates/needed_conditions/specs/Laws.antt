@@ -28,22 +28,22 @@ use Rattle.type_steps.specs.Relations.{Known, setIn}
 use Rattle.text_laws.specs.Searches.{one-more}
 
 -- ---- a condition in columns
-module _ (axes lows highs ways : List ℕ) (s : Schema) (n i : ℕ) where
+module _ (axes tests : List ℕ) (s : Schema) (n i : ℕ) where
   abbrev whole : Condition ℕ
-  whole = conditionIn axes lows highs ways n i
+  whole = conditionIn axes tests n i
 
   abbrev some : Condition ℕ
-  some = alternatives (alternativesIn axes lows highs ways n i)
+  some = alternatives (alternativesIn axes tests n i)
 
   -- no alternative keeps all and wants nothing
   pub keeps-unconditional : (k t : NameSet) → n ≡ 0 → (m : Name) → member t m ≡ (member t m && keepsIn s k whole m)
   keeps-unconditional k t e m =
-      sym (ap (λ (q : Condition ℕ). member t m && keepsIn s k q m) (condition-none axes lows highs ways n i e) ∙ and-true (member t m))
+      sym (ap (λ (q : Condition ℕ). member t m && keepsIn s k q m) (condition-none axes tests n i e) ∙ and-true (member t m))
 
   pub wants-unconditional : (k h r : NameSet) → n ≡ 0 → setIn s r ≡ [] → setIn s r ≡ within (namesOf s) (gather (wantsIn s k whole) (setIn s h))
   wants-unconditional k h r e b =
       setIn-within s r [] b
-      ∙ ap (within (namesOf s)) (sym (ap (λ (q : Condition ℕ). gather (wantsIn s k q) (setIn s h)) (condition-none axes lows highs ways n i e) ∙ none (setIn s h)))
+      ∙ ap (within (namesOf s)) (sym (ap (λ (q : Condition ℕ). gather (wantsIn s k q) (setIn s h)) (condition-none axes tests n i e) ∙ none (setIn s h)))
     where
       none : (xs : Names) → gather (wantsIn s k unconditional) xs ≡ []
       none [] = refl
@@ -51,10 +51,10 @@ module _ (axes lows highs ways : List ℕ) (s : Schema) (n i : ℕ) where
 
   -- some are the condition
   pub keeps-conditional : (k t r : NameSet) → (n ≡ 0 → ⊥) → (m : Name) → member r m ≡ (member t m && keepsIn s k some m) → member r m ≡ (member t m && keepsIn s k whole m)
-  keeps-conditional k t r d m h = h ∙ ap (λ (q : Condition ℕ). member t m && keepsIn s k q m) (sym (condition-some axes lows highs ways n i d))
+  keeps-conditional k t r d m h = h ∙ ap (λ (q : Condition ℕ). member t m && keepsIn s k q m) (sym (condition-some axes tests n i d))
 
   pub wants-conditional : (k h r : NameSet) → (n ≡ 0 → ⊥) → setIn s r ≡ within (namesOf s) (gather (wantsIn s k some) (setIn s h)) → setIn s r ≡ within (namesOf s) (gather (wantsIn s k whole) (setIn s h))
-  wants-conditional k h r d e = e ∙ ap (λ (q : Condition ℕ). within (namesOf s) (gather (wantsIn s k q) (setIn s h))) (sym (condition-some axes lows highs ways n i d))
+  wants-conditional k h r d e = e ∙ ap (λ (q : Condition ℕ). within (namesOf s) (gather (wantsIn s k q) (setIn s h))) (sym (condition-some axes tests n i d))
 
 -- ---- names one by one, in the order of their codes
 module _ (s : Schema) (small : length s ≤ maxDeclarations) where

@@ -6,9 +6,9 @@ ghost use Prim.Native.Nat.{_<_};
 ghost use Rattle.compiled_paths.specs.Columns.{alternativesIn, conditionIn};
 ghost use Rattle.name_codes.specs.Codes.{nameOfCode};
 ghost use Rattle.names.specs.Sets.{member};
-ghost use Rattle.needed_alternatives.specs.Alternatives.{HasAlternatives};
 ghost use Rattle.needed_conditions.specs.Conditions.{keepsIn, wantsIn};
 ghost use Rattle.path_spec.specs.Paths.{alternatives};
+ghost use Rattle.plain_steps.specs.Columns.{HasSteps};
 ghost use Rattle.inference_spec.specs.Types.{narrow};
 ghost use Rattle.schema_spec.specs.Names.{Name, has, namesOf, within};
 ghost use Rattle.schema_spec.specs.Schemas.{Schema};
@@ -25,53 +25,49 @@ use needed_alternatives::need_of_all;
 use type_steps::Inferred;
 use type_steps::cut_to;
 
-// Whether the name of the code `c` is in the type `t` and `n` alternatives from `i` on keep it, in the context `k`.
+// Whether the name of the code `c` is in the type `t` and the alternatives in `n` steps from `i` on keep it, in the context `k`.
 fn keeps(
     all: NameSet,
     holds: [NameSet; MAX_ELEMENTS],
     below: [NameSet; MAX_ELEMENTS],
     axes: &[u8],
-    lows: &[u8],
-    highs: &[u8],
-    ways: &[u16],
+    tests: &[u8],
     i: usize,
     n: usize,
     t: NameSet,
     k: NameSet,
     c: usize,
 ) -> bool
-    requires { ⌜ HasAlternatives (now axes) (now lows) (now highs) (now ways) i n × (c < 64) ⌝ }
-    ensures { λ r. ⌜ ((s : Schema) → RelationsOf s holds below → NamesOf s all → List·Memᴰ (nameOfCode c) (namesOf s) → r ≡ (member t (nameOfCode c) && keepsIn s k (alternatives (alternativesIn (now (axes .entry)) (now (lows .entry)) (now (highs .entry)) (now (ways .entry)) n i)) (nameOfCode c))) ⌝ }
+    requires { ⌜ HasSteps (now axes) (now tests) i n × (c < 64) ⌝ }
+    ensures { λ r. ⌜ ((s : Schema) → RelationsOf s holds below → NamesOf s all → List·Memᴰ (nameOfCode c) (namesOf s) → r ≡ (member t (nameOfCode c) && keepsIn s k (alternatives (alternativesIn (now (axes .entry)) (now (tests .entry)) n i)) (nameOfCode c))) ⌝ }
 {
     if name_codes::has(t, c) {
         let e = from_name(holds, below, k, c);
-        any_ends_some(all, holds, below, axes, lows, highs, ways, i, n, e)
+        any_ends_some(all, holds, below, axes, tests, i, n, e)
     } else {
         false
     }
 }
 
-// The names of the type `t` that `n` alternatives from `i` on keep, in the context `k`.
+// The names of the type `t` that the alternatives in `n` steps from `i` on keep, in the context `k`.
 fn kept_by_some(
     all: NameSet,
     holds: [NameSet; MAX_ELEMENTS],
     below: [NameSet; MAX_ELEMENTS],
     axes: &[u8],
-    lows: &[u8],
-    highs: &[u8],
-    ways: &[u16],
+    tests: &[u8],
     i: usize,
     n: usize,
     t: NameSet,
     k: NameSet,
 ) -> NameSet
-    requires { ⌜ HasAlternatives (now axes) (now lows) (now highs) (now ways) i n ⌝ }
-    ensures { λ r. ⌜ ((s : Schema) → RelationsOf s holds below → NamesOf s all → (m : Name) → List·Memᴰ m (namesOf s) → member r m ≡ (member t m && keepsIn s k (alternatives (alternativesIn (now (axes .entry)) (now (lows .entry)) (now (highs .entry)) (now (ways .entry)) n i)) m)) ⌝ }
+    requires { ⌜ HasSteps (now axes) (now tests) i n ⌝ }
+    ensures { λ r. ⌜ ((s : Schema) → RelationsOf s holds below → NamesOf s all → (m : Name) → List·Memᴰ m (namesOf s) → member r m ≡ (member t m && keepsIn s k (alternatives (alternativesIn (now (axes .entry)) (now (tests .entry)) n i)) m)) ⌝ }
 {
     let mut out = NameSet::empty();
     let mut c = 0;
     while c < CODES {
-        let v = keeps(all, holds, below, axes, lows, highs, ways, i, n, t, k, c);
+        let v = keeps(all, holds, below, axes, tests, i, n, t, k, c);
         let next = with_name(out, c, v);
         out = next;
         c += 1;
@@ -85,21 +81,19 @@ fn kept(
     holds: [NameSet; MAX_ELEMENTS],
     below: [NameSet; MAX_ELEMENTS],
     axes: &[u8],
-    lows: &[u8],
-    highs: &[u8],
-    ways: &[u16],
+    tests: &[u8],
     i: usize,
     n: usize,
     t: NameSet,
     k: NameSet,
 ) -> NameSet
-    requires { ⌜ HasAlternatives (now axes) (now lows) (now highs) (now ways) i n ⌝ }
-    ensures { λ r. ⌜ ((s : Schema) → RelationsOf s holds below → NamesOf s all → (m : Name) → List·Memᴰ m (namesOf s) → member r m ≡ (member t m && keepsIn s k (conditionIn (now (axes .entry)) (now (lows .entry)) (now (highs .entry)) (now (ways .entry)) n i) m)) ⌝ }
+    requires { ⌜ HasSteps (now axes) (now tests) i n ⌝ }
+    ensures { λ r. ⌜ ((s : Schema) → RelationsOf s holds below → NamesOf s all → (m : Name) → List·Memᴰ m (namesOf s) → member r m ≡ (member t m && keepsIn s k (conditionIn (now (axes .entry)) (now (tests .entry)) n i) m)) ⌝ }
 {
     if n == 0 {
         t
     } else {
-        kept_by_some(all, holds, below, axes, lows, highs, ways, i, n, t, k)
+        kept_by_some(all, holds, below, axes, tests, i, n, t, k)
     }
 }
 
@@ -109,70 +103,64 @@ pub fn conditioned(
     holds: [NameSet; MAX_ELEMENTS],
     below: [NameSet; MAX_ELEMENTS],
     axes: &[u8],
-    lows: &[u8],
-    highs: &[u8],
-    ways: &[u16],
+    tests: &[u8],
     i: usize,
     n: usize,
     e: Inferred,
 ) -> Inferred
-    requires { ⌜ HasAlternatives (now axes) (now lows) (now highs) (now ways) i n ⌝ }
-    ensures { λ r. ⌜ ((s : Schema) → RelationsOf s holds below → NamesOf s all → envIn s r ≡ narrow (typesOf s) (keepsIn s (e .context) (conditionIn (now (axes .entry)) (now (lows .entry)) (now (highs .entry)) (now (ways .entry)) n i)) (envIn s e)) ⌝ }
+    requires { ⌜ HasSteps (now axes) (now tests) i n ⌝ }
+    ensures { λ r. ⌜ ((s : Schema) → RelationsOf s holds below → NamesOf s all → envIn s r ≡ narrow (typesOf s) (keepsIn s (e .context) (conditionIn (now (axes .entry)) (now (tests .entry)) n i)) (envIn s e)) ⌝ }
 {
     let t = e.types;
     let k = e.context;
-    let types = kept(all, holds, below, axes, lows, highs, ways, i, n, t, k);
+    let types = kept(all, holds, below, axes, tests, i, n, t, k);
     let context = cut_to(holds, below, types, k);
     Inferred { types, context }
 }
 
-// What `n` alternatives from `i` on want from the name of the code `c`, if it is in the set `g`, in the context `k`.
+// What the alternatives in `n` steps from `i` on want from the name of the code `c`, if it is in the set `g`, in the context `k`.
 fn wanted_of(
     holds: [NameSet; MAX_ELEMENTS],
     below: [NameSet; MAX_ELEMENTS],
     axes: &[u8],
-    lows: &[u8],
-    highs: &[u8],
-    ways: &[u16],
+    tests: &[u8],
     i: usize,
     n: usize,
     g: NameSet,
     k: NameSet,
     c: usize,
 ) -> NameSet
-    requires { ⌜ HasAlternatives (now axes) (now lows) (now highs) (now ways) i n × (c < 64) ⌝ }
-    ensures { λ r. ⌜ ((s : Schema) → RelationsOf s holds below → Known s g → (m : Name) → List·Memᴰ m (namesOf s) → member r m ≡ (member g (nameOfCode c) && has m (wantsIn s k (alternatives (alternativesIn (now (axes .entry)) (now (lows .entry)) (now (highs .entry)) (now (ways .entry)) n i)) (nameOfCode c)))) ⌝ }
+    requires { ⌜ HasSteps (now axes) (now tests) i n × (c < 64) ⌝ }
+    ensures { λ r. ⌜ ((s : Schema) → RelationsOf s holds below → Known s g → (m : Name) → List·Memᴰ m (namesOf s) → member r m ≡ (member g (nameOfCode c) && has m (wantsIn s k (alternatives (alternativesIn (now (axes .entry)) (now (tests .entry)) n i)) (nameOfCode c)))) ⌝ }
 {
     if name_codes::has(g, c) {
         let e = from_name(holds, below, k, c);
-        need_of_all(holds, below, axes, lows, highs, ways, i, n, e)
+        need_of_all(holds, below, axes, tests, i, n, e)
     } else {
         NameSet::empty()
     }
 }
 
-// What `n` alternatives from `i` on want from the names of the set `h`, in the context `k`.
+// What the alternatives in `n` steps from `i` on want from the names of the set `h`, in the context `k`.
 fn wanted_by_some(
     all: NameSet,
     holds: [NameSet; MAX_ELEMENTS],
     below: [NameSet; MAX_ELEMENTS],
     axes: &[u8],
-    lows: &[u8],
-    highs: &[u8],
-    ways: &[u16],
+    tests: &[u8],
     i: usize,
     n: usize,
     h: NameSet,
     k: NameSet,
 ) -> NameSet
-    requires { ⌜ HasAlternatives (now axes) (now lows) (now highs) (now ways) i n ⌝ }
-    ensures { λ r. ⌜ ((s : Schema) → RelationsOf s holds below → NamesOf s all → setIn s r ≡ within (namesOf s) (gather (wantsIn s k (alternatives (alternativesIn (now (axes .entry)) (now (lows .entry)) (now (highs .entry)) (now (ways .entry)) n i))) (setIn s h))) ⌝ }
+    requires { ⌜ HasSteps (now axes) (now tests) i n ⌝ }
+    ensures { λ r. ⌜ ((s : Schema) → RelationsOf s holds below → NamesOf s all → setIn s r ≡ within (namesOf s) (gather (wantsIn s k (alternatives (alternativesIn (now (axes .entry)) (now (tests .entry)) n i))) (setIn s h))) ⌝ }
 {
     let g = h.common(all);
     let mut out = NameSet::empty();
     let mut c = 0;
     while c < CODES {
-        let one = wanted_of(holds, below, axes, lows, highs, ways, i, n, g, k, c);
+        let one = wanted_of(holds, below, axes, tests, i, n, g, k, c);
         let next = out.union(one);
         out = next;
         c += 1;
@@ -186,20 +174,18 @@ pub fn wanted(
     holds: [NameSet; MAX_ELEMENTS],
     below: [NameSet; MAX_ELEMENTS],
     axes: &[u8],
-    lows: &[u8],
-    highs: &[u8],
-    ways: &[u16],
+    tests: &[u8],
     i: usize,
     n: usize,
     h: NameSet,
     k: NameSet,
 ) -> NameSet
-    requires { ⌜ HasAlternatives (now axes) (now lows) (now highs) (now ways) i n ⌝ }
-    ensures { λ r. ⌜ ((s : Schema) → RelationsOf s holds below → NamesOf s all → setIn s r ≡ within (namesOf s) (gather (wantsIn s k (conditionIn (now (axes .entry)) (now (lows .entry)) (now (highs .entry)) (now (ways .entry)) n i)) (setIn s h))) ⌝ }
+    requires { ⌜ HasSteps (now axes) (now tests) i n ⌝ }
+    ensures { λ r. ⌜ ((s : Schema) → RelationsOf s holds below → NamesOf s all → setIn s r ≡ within (namesOf s) (gather (wantsIn s k (conditionIn (now (axes .entry)) (now (tests .entry)) n i)) (setIn s h))) ⌝ }
 {
     if n == 0 {
         NameSet::empty()
     } else {
-        wanted_by_some(all, holds, below, axes, lows, highs, ways, i, n, h, k)
+        wanted_by_some(all, holds, below, axes, tests, i, n, h, k)
     }
 }

@@ -16,31 +16,22 @@ use Rattle.schema_spec.specs.Types.{typesOf}
 use Rattle.text_spec.specs.Lists.{gather}
 use Rattle.type_steps.specs.Relations.{setIn}
 
-module _ (axes lows highs ways conditions paths : List ℕ) where
+module _ (axes tests conditions paths : List ℕ) where
   -- n paths from i on
   pub record HasPaths (i n : ℕ) : Type 0 where
     pub room : i + n < length paths
     pub paths-inside : (j : ℕ) → getD paths j 0 ≤ length axes
     pub paths-counted : (j : ℕ) → getD paths j 0 < length conditions
-    pub lows-size : length lows ≡ length axes
-    pub highs-size : length highs ≡ length axes
-    pub conditions-inside : (j : ℕ) → getD conditions j 0 < length ways
-    pub ways-inside : (j : ℕ) → getD ways j 0 ≤ length axes
+    pub tests-size : length tests ≡ length axes
+    pub conditions-inside : (j : ℕ) → getD conditions j 0 ≤ length axes
 
-  pub path-steps : (i n first size : ℕ) → HasPaths i n → first ≡ startAt paths i → size ≡ sizeAt paths i → HasWrittenSteps axes lows highs ways conditions first size
+  pub path-steps : (i n first size : ℕ) → HasPaths i n → first ≡ startAt paths i → size ≡ sizeAt paths i → HasWrittenSteps axes tests conditions first size
   path-steps i n first size h e f =
       let a = h .paths-inside i in
       let b = h .paths-inside (i + 1) in
       let c = h .paths-counted i in
       let d = h .paths-counted (i + 1) in
-      record {
-        room = omega arith;
-        counted = omega arith;
-        lows-size = h .lows-size;
-        highs-size = h .highs-size;
-        conditions-inside = h .conditions-inside;
-        ways-inside = h .ways-inside;
-      }
+      record { room = omega arith; counted = omega arith; tests-size = h .tests-size; conditions-inside = h .conditions-inside }
 
   pub later-paths : (i n : ℕ) → (n ≡ 0 → ⊥) → HasPaths i n → HasPaths (i + 1) (n - 1)
   later-paths i n d h =
@@ -49,28 +40,26 @@ module _ (axes lows highs ways conditions paths : List ℕ) where
         room = omega arith;
         paths-inside = h .paths-inside;
         paths-counted = h .paths-counted;
-        lows-size = h .lows-size;
-        highs-size = h .highs-size;
+        tests-size = h .tests-size;
         conditions-inside = h .conditions-inside;
-        ways-inside = h .ways-inside;
       }
 
   module _ (s : Schema) (i n : ℕ) where
     abbrev bundle : List (LocationPath ℕ)
-    bundle = bundleIn axes lows highs ways conditions paths n i
+    bundle = bundleIn axes tests conditions paths n i
 
     abbrev rest : List (LocationPath ℕ)
-    rest = bundleIn axes lows highs ways conditions paths (n - 1) (i + 1)
+    rest = bundleIn axes tests conditions paths (n - 1) (i + 1)
 
     abbrev pathFrom : ℕ → ℕ → LocationPath ℕ
-    pathFrom size first = fromRootElement (stepsIn axes lows highs ways conditions size first)
+    pathFrom size first = fromRootElement (stepsIn axes tests conditions size first)
 
     abbrev neededBy : List (LocationPath ℕ) → Names
     neededBy ps = within (namesOf s) (gather (neededByPath (typesOf s)) ps)
 
     pub needed-none : (r : NameSet) → n ≡ 0 → setIn s r ≡ [] → setIn s r ≡ needed (typesOf s) bundle
     unfolding needed typesOf
-    needed-none r e h = setIn-within s r [] h ∙ ap neededBy (sym (bundle-none axes lows highs ways conditions paths n i e))
+    needed-none r e h = setIn-within s r [] h ∙ ap neededBy (sym (bundle-none axes tests conditions paths n i e))
 
     pub needed-one-and-rest : (first size : ℕ) (one later r : NameSet) → (n ≡ 0 → ⊥) → first ≡ startAt paths i → size ≡ sizeAt paths i
         → setIn s one ≡ neededByPath (typesOf s) (pathFrom size first) → setIn s later ≡ needed (typesOf s) rest
@@ -78,4 +67,4 @@ module _ (axes lows highs ways conditions paths : List ℕ) where
     unfolding needed typesOf
     needed-one-and-rest first size one later r d e f h g join =
         join (neededByPath (typesOf s) (pathFrom size first)) (gather (neededByPath (typesOf s)) rest) (setIn-within s one (neededByPath (typesOf s) (pathFrom size first)) h) g
-        ∙ ap₂ (λ (x y : ℕ). neededBy (pathFrom x y ∷ rest)) f e ∙ ap neededBy (sym (bundle-next axes lows highs ways conditions paths n i d))
+        ∙ ap₂ (λ (x y : ℕ). neededBy (pathFrom x y ∷ rest)) f e ∙ ap neededBy (sym (bundle-next axes tests conditions paths n i d))

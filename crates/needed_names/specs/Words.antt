@@ -1,9 +1,10 @@
 -- The 64 bits of a set that has only names of a schema, and compiled paths in their columns.
 use mathlib.Core.Path.{_≡_, ap, _∙_}
-use Prim.Native.Nat.{_≤_}
+use Prim.Native.Nat.{_+_, _≤_}
 use native.Mathlib.Omega.{arith}
 use lib.ListN.{length}
 use Rattle.compiled_paths.specs.Paths.{Shaped}
+use Rattle.compiled_paths.specs.Sizes.{writtenSteps, allSteps}
 use Rattle.compiled_paths.specs.declared.CompiledPaths.{CompiledPaths}
 use Rattle.names.specs.Encoding.{handed-back}
 use Rattle.names.specs.Sets.{setOf, everyName}
@@ -11,7 +12,7 @@ use Rattle.names.specs.declared.NameSet.{NameSet}
 use Rattle.needed_names.specs.Bundles.{HasPaths}
 use Rattle.schema_spec.specs.Names.{Names, wordOfSet, namesOf}
 use Rattle.schema_spec.specs.Schemas.{Schema}
-use Rattle.text_spec.specs.Limits.{maxDeclarations}
+use Rattle.text_spec.specs.Limits.{maxDeclarations, maxPaths}
 use Rattle.type_steps.specs.Relations.{Known, setIn}
 
 pub word-of-known : (s : Schema) → length s ≤ maxDeclarations → (x : NameSet) (l : Names) → Known s x → setIn s x ≡ l → wordOfSet everyName (setOf everyName x) ≡ wordOfSet (namesOf s) l
@@ -19,28 +20,22 @@ word-of-known s small x l only e = handed-back s small x only ∙ ap (wordOfSet 
 
 -- the columns of compiled paths have their lengths
 pub record Sized (c : CompiledPaths) : Type 0 where
-  pub axes-size : length (c .axes) ≡ 640
-  pub lows-size : length (c .lows) ≡ 640
-  pub highs-size : length (c .highs) ≡ 640
-  pub ways-size : length (c .alternatives) ≡ 513
-  pub conditions-size : length (c .conditions) ≡ 129
-  pub paths-size : length (c .paths) ≡ 9
+  pub axes-size : length (c .axes) ≡ allSteps
+  pub tests-size : length (c .tests) ≡ allSteps
+  pub conditions-size : length (c .conditions) ≡ writtenSteps + 1
+  pub paths-size : length (c .paths) ≡ maxPaths + 1
 
-pub shaped-paths : (c : CompiledPaths) → Shaped c → Sized c → HasPaths (c .axes) (c .lows) (c .highs) (c .alternatives) (c .conditions) (c .paths) 0 (c .count)
+pub shaped-paths : (c : CompiledPaths) → Shaped c → Sized c → HasPaths (c .axes) (c .tests) (c .conditions) (c .paths) 0 (c .count)
 shaped-paths c h z =
     let a = z .axes-size in
-    let b = z .lows-size in
-    let d = z .highs-size in
-    let e = z .ways-size in
-    let f = z .conditions-size in
-    let g = z .paths-size in
+    let b = z .tests-size in
+    let d = z .conditions-size in
+    let e = z .paths-size in
     let few = h .few in
     record {
       room = omega arith;
       paths-inside = λ j. let l = h .paths-in j in omega arith;
       paths-counted = λ j. let l = h .paths-in j in omega arith;
-      lows-size = omega arith;
-      highs-size = omega arith;
+      tests-size = omega arith;
       conditions-inside = λ j. let l = h .conditions-in j in omega arith;
-      ways-inside = λ j. let l = h .alternatives-in j in omega arith;
     }

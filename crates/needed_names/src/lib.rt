@@ -22,42 +22,27 @@ fn paths_needed(
     holds: [NameSet; MAX_ELEMENTS],
     below: [NameSet; MAX_ELEMENTS],
     axes: &[u8],
-    lows: &[u8],
-    highs: &[u8],
-    ways: &[u16],
+    tests: &[u8],
     conditions: &[u16],
     paths: &[u8],
     i: usize,
     n: usize,
 ) -> NameSet
-    requires { ⌜ HasPaths (now axes) (now lows) (now highs) (now ways) (now conditions) (now paths) i n ⌝ }
-    ensures { λ r. ⌜ ((s : Schema) → RelationsOf s holds below → NamesOf s all → setIn s r ≡ needed (typesOf s) (bundleIn (now (axes .entry)) (now (lows .entry)) (now (highs .entry)) (now (ways .entry)) (now (conditions .entry)) (now (paths .entry)) n i)) ⌝ }
+    requires { ⌜ HasPaths (now axes) (now tests) (now conditions) (now paths) i n ⌝ }
+    ensures { λ r. ⌜ ((s : Schema) → RelationsOf s holds below → NamesOf s all → setIn s r ≡ needed (typesOf s) (bundleIn (now (axes .entry)) (now (tests .entry)) (now (conditions .entry)) (now (paths .entry)) n i)) ⌝ }
 {
     if n == 0 {
         NameSet::empty()
     } else {
         let first = ranges::byte_start(paths, i);
         let size = ranges::byte_size(paths, i);
-        let one = path_needed(
-            all,
-            holds,
-            below,
-            axes,
-            lows,
-            highs,
-            ways,
-            conditions,
-            first,
-            size,
-        );
+        let one = path_needed(all, holds, below, axes, tests, conditions, first, size);
         let rest = paths_needed(
             all,
             holds,
             below,
             axes,
-            lows,
-            highs,
-            ways,
+            tests,
             conditions,
             paths,
             i + 1,
@@ -78,9 +63,7 @@ fn bundle_needed(
     ensures { λ r. ⌜ ((s : Schema) → RelationsOf s holds below → NamesOf s all → setIn s r ≡ needed (typesOf s) (pathsIn bundle)) ⌝ }
 {
     let axes = bundle.axes;
-    let lows = bundle.lows;
-    let highs = bundle.highs;
-    let ways = bundle.alternatives;
+    let tests = bundle.tests;
     let conditions = bundle.conditions;
     let paths = bundle.paths;
     paths_needed(
@@ -88,9 +71,7 @@ fn bundle_needed(
         holds,
         below,
         &axes,
-        &lows,
-        &highs,
-        &ways,
+        &tests,
         &conditions,
         &paths,
         0,

@@ -15,6 +15,7 @@ ghost use Rattle.text_spec.specs.Lists.{gather};
 ghost use Rattle.type_steps.specs.Relations.{RelationsOf, NamesOf, setIn, envIn};
 use back_steps::Needs;
 use back_steps::with_step;
+use compiled_paths::axis_number;
 use names::MAX_ELEMENTS;
 use names::NameSet;
 use needed_conditions::conditioned;
@@ -28,31 +29,19 @@ fn infer_step(
     holds: [NameSet; MAX_ELEMENTS],
     below: [NameSet; MAX_ELEMENTS],
     axes: &[u8],
-    lows: &[u8],
-    highs: &[u8],
-    ways: &[u16],
+    tests: &[u8],
     conditions: &[u16],
     k: usize,
     e: Inferred,
 ) -> Inferred
-    requires { ⌜ HasWrittenSteps (now axes) (now lows) (now highs) (now ways) (now conditions) k 1 ⌝ }
-    ensures { λ r. ⌜ ((s : Schema) → RelationsOf s holds below → NamesOf s all → (i : ℕ) → envIn s r ≡ infer (typesOf s) (keepsName (typesOf s)) (analysedAt (now (axes .entry)) (now (lows .entry)) (now (highs .entry)) (now (ways .entry)) (now (conditions .entry)) i k) (envIn s e)) ⌝ }
+    requires { ⌜ HasWrittenSteps (now axes) (now tests) (now conditions) k 1 ⌝ }
+    ensures { λ r. ⌜ ((s : Schema) → RelationsOf s holds below → NamesOf s all → (i : ℕ) → envIn s r ≡ infer (typesOf s) (keepsName (typesOf s)) (analysedAt (now (axes .entry)) (now (tests .entry)) (now (conditions .entry)) i k) (envIn s e)) ⌝ }
 {
     let first = ranges::start(conditions, k);
-    let count = ranges::size(conditions, k);
-    let gone = step(holds, below, axes[k], lows[k], highs[k], e);
-    conditioned(
-        all,
-        holds,
-        below,
-        axes,
-        lows,
-        highs,
-        ways,
-        first,
-        count,
-        gone,
-    )
+    let size = ranges::size(conditions, k);
+    let axis = axis_number(axes[k]);
+    let gone = step(holds, below, axis, tests[k], e);
+    conditioned(all, holds, below, axes, tests, first, size, gone)
 }
 
 // What the condition of the step `k` wants from the names of the set `h`, in a context.
@@ -61,32 +50,18 @@ fn wanted_at(
     holds: [NameSet; MAX_ELEMENTS],
     below: [NameSet; MAX_ELEMENTS],
     axes: &[u8],
-    lows: &[u8],
-    highs: &[u8],
-    ways: &[u16],
+    tests: &[u8],
     conditions: &[u16],
     k: usize,
     h: NameSet,
     context: NameSet,
 ) -> NameSet
-    requires { ⌜ HasWrittenSteps (now axes) (now lows) (now highs) (now ways) (now conditions) k 1 ⌝ }
-    ensures { λ r. ⌜ ((s : Schema) → RelationsOf s holds below → NamesOf s all → setIn s r ≡ within (namesOf s) (gather (wantsIn s context (conditionAt (now (axes .entry)) (now (lows .entry)) (now (highs .entry)) (now (ways .entry)) (now (conditions .entry)) k)) (setIn s h))) ⌝ }
+    requires { ⌜ HasWrittenSteps (now axes) (now tests) (now conditions) k 1 ⌝ }
+    ensures { λ r. ⌜ ((s : Schema) → RelationsOf s holds below → NamesOf s all → setIn s r ≡ within (namesOf s) (gather (wantsIn s context (conditionAt (now (axes .entry)) (now (tests .entry)) (now (conditions .entry)) k)) (setIn s h))) ⌝ }
 {
     let first = ranges::start(conditions, k);
-    let count = ranges::size(conditions, k);
-    wanted(
-        all,
-        holds,
-        below,
-        axes,
-        lows,
-        highs,
-        ways,
-        first,
-        count,
-        h,
-        context,
-    )
+    let size = ranges::size(conditions, k);
+    wanted(all, holds, below, axes, tests, first, size, h, context)
 }
 
 // What `n` steps from `k` on need.
@@ -95,16 +70,14 @@ fn need_steps(
     holds: [NameSet; MAX_ELEMENTS],
     below: [NameSet; MAX_ELEMENTS],
     axes: &[u8],
-    lows: &[u8],
-    highs: &[u8],
-    ways: &[u16],
+    tests: &[u8],
     conditions: &[u16],
     k: usize,
     n: usize,
     e: Inferred,
 ) -> Needs
-    requires { ⌜ HasWrittenSteps (now axes) (now lows) (now highs) (now ways) (now conditions) k n ⌝ }
-    ensures { λ r. ⌜ ((s : Schema) → RelationsOf s holds below → NamesOf s all → (i : ℕ) → NeedsOf s (keepsName (typesOf s)) (wantsNames (typesOf s)) (expandFrom unconditional i (stepsIn (now (axes .entry)) (now (lows .entry)) (now (highs .entry)) (now (ways .entry)) (now (conditions .entry)) n k)) (envIn s e) r) ⌝ }
+    requires { ⌜ HasWrittenSteps (now axes) (now tests) (now conditions) k n ⌝ }
+    ensures { λ r. ⌜ ((s : Schema) → RelationsOf s holds below → NamesOf s all → (i : ℕ) → NeedsOf s (keepsName (typesOf s)) (wantsNames (typesOf s)) (expandFrom unconditional i (stepsIn (now (axes .entry)) (now (tests .entry)) (now (conditions .entry)) n k)) (envIn s e) r) ⌝ }
 {
     let t = e.types;
     if n == 0 {
@@ -113,29 +86,15 @@ fn need_steps(
             names: t,
         }
     } else {
-        let axis = axes[k];
-        let f = infer_step(all, holds, below, axes, lows, highs, ways, conditions, k, e);
-        let later = need_steps(
-            all,
-            holds,
-            below,
-            axes,
-            lows,
-            highs,
-            ways,
-            conditions,
-            k + 1,
-            n - 1,
-            f,
-        );
+        let axis = axis_number(axes[k]);
+        let f = infer_step(all, holds, below, axes, tests, conditions, k, e);
+        let later = need_steps(all, holds, below, axes, tests, conditions, k + 1, n - 1, f);
         let want = wanted_at(
             all,
             holds,
             below,
             axes,
-            lows,
-            highs,
-            ways,
+            tests,
             conditions,
             k,
             later.complete,
@@ -151,33 +110,19 @@ pub fn path_needed(
     holds: [NameSet; MAX_ELEMENTS],
     below: [NameSet; MAX_ELEMENTS],
     axes: &[u8],
-    lows: &[u8],
-    highs: &[u8],
-    ways: &[u16],
+    tests: &[u8],
     conditions: &[u16],
     k: usize,
     n: usize,
 ) -> NameSet
-    requires { ⌜ HasWrittenSteps (now axes) (now lows) (now highs) (now ways) (now conditions) k n ⌝ }
-    ensures { λ r. ⌜ ((s : Schema) → RelationsOf s holds below → NamesOf s all → setIn s r ≡ neededByPath (typesOf s) (fromRootElement (stepsIn (now (axes .entry)) (now (lows .entry)) (now (highs .entry)) (now (ways .entry)) (now (conditions .entry)) n k))) ⌝ }
+    requires { ⌜ HasWrittenSteps (now axes) (now tests) (now conditions) k n ⌝ }
+    ensures { λ r. ⌜ ((s : Schema) → RelationsOf s holds below → NamesOf s all → setIn s r ≡ neededByPath (typesOf s) (fromRootElement (stepsIn (now (axes .entry)) (now (tests .entry)) (now (conditions .entry)) n k))) ⌝ }
 {
     let root = reachable_names::root();
     let start = Inferred {
         types: root,
         context: root,
     };
-    let needs = need_steps(
-        all,
-        holds,
-        below,
-        axes,
-        lows,
-        highs,
-        ways,
-        conditions,
-        k,
-        n,
-        start,
-    );
+    let needs = need_steps(all, holds, below, axes, tests, conditions, k, n, start);
     reachable_names::from_root(holds, below, needs.names)
 }

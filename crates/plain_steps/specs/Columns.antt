@@ -5,7 +5,6 @@ use Prim.Native.Nat.{ℕ, _+_, _≤_}
 use lib.ListN.{length}
 
 -- n steps from k on
-pub record HasSteps (axes lows highs : List ℕ) (k n : ℕ) : Type 0 where
+pub record HasSteps (axes tests : List ℕ) (k n : ℕ) : Type 0 where
   pub room : k + n ≤ length axes
-  pub lows-size : length lows ≡ length axes
-  pub highs-size : length highs ≡ length axes
+  pub tests-size : length tests ≡ length axes

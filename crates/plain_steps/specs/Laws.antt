@@ -3,11 +3,10 @@ use mathlib.Core.Bool.{Bool, true, false}
 use mathlib.Core.List.{List, [], _∷_, _++_}
 use mathlib.Core.Path.{_≡_, refl, sym, ap, ap₂, subst, _∙_}
 use Prim.Native.Nat.{ℕ, suc, _+_, _-_}
-use native.Mathlib.Omega.{arith}
 use lib.ListN.{getD}
 use Rattle.names.specs.Sets.{member}
 use Rattle.names.specs.declared.NameSet.{NameSet}
-use Rattle.path_spec.specs.Paths.{Step, PlainStep, expandFrom}
+use Rattle.path_spec.specs.Paths.{Step, expandFrom}
 use Rattle.path_spec.specs.Selection.{passes}
 use Rattle.inference_spec.specs.Needed.{complete, keepsAll, wantsNothing}
 use Rattle.inference_spec.specs.Types.{Env, env, allAbove, cutTo, move, narrow, infer, inferAll}
@@ -16,11 +15,10 @@ use Rattle.schema_spec.specs.Schemas.{Schema}
 use Rattle.schema_spec.specs.Types.{Types, typesOf}
 use Rattle.text_laws.specs.Lists.{filter-filter}
 use Rattle.text_spec.specs.Lists.{filterBy, gather}
-use Rattle.compiled_paths.specs.Columns.{axisOf, testOf, plainIn, plain-next}
+use Rattle.compiled_paths.specs.Columns.{axisOf, axisNumber, testOf, plainIn, plain-next}
 use Rattle.type_steps.specs.Relations.{setIn}
 use Rattle.back_steps.specs.Laws.{setIn-within, empty-setIn, needs-step}
 use Rattle.back_steps.specs.Needs.{StepNeeds, NeedsOf}
-use Rattle.plain_steps.specs.Columns.{HasSteps}
 use Rattle.back_steps.specs.declared.Needs.{Needs}
 
 filter-all : (xs : Names) → filterBy (λ a. true) xs ≡ xs
@@ -55,32 +53,33 @@ module _ (s : Schema) where
   nothing-wanted r k h e = setIn-within s r _ (e ∙ sym (gather-none h))
 
 -- ---- steps in columns
-module _ (axes lows highs : List ℕ) where
-  pub steps-next : (n k : ℕ) → (n ≡ 0 → ⊥) → HasSteps axes lows highs k n → HasSteps axes lows highs (k + 1) (n - 1)
-  steps-next n k d h =
-      let l = h .room in
-      record { room = omega arith; lows-size = h .lows-size; highs-size = h .highs-size }
+module _ (axes tests : List ℕ) where
+  -- the step k of some axis, which is written as the step of number i, and the n - 1 steps after it
+  module _ (s : Schema) (i n k axis : ℕ) (left : n ≡ 0 → ⊥) (number : axis ≡ axisNumber (getD axes k 0)) where
+    abbrev hereAlong : ℕ → Step ℕ (Unit {0})
+    hereAlong a = record { written = i; axis = axisOf a; test = testOf (getD tests k 0); condition = tt }
 
-  -- the step k, which is written as the step of number i, and the n - 1 steps after it
-  module _ (s : Schema) (i n k : ℕ) (left : n ≡ 0 → ⊥) where
     abbrev here : Step ℕ (Unit {0})
-    here = record { written = i; axis = axisOf (getD axes k 0); test = testOf (getD lows k 0) (getD highs k 0); condition = tt }
+    here = hereAlong axis
 
     abbrev after : Env → Env
     after e = narrow (typesOf s) (passes (here .test)) (move (typesOf s) (here .axis) (here .test) e)
 
     abbrev rest : List (Step ℕ (Unit {0}))
-    rest = expandFrom tt (suc i) (plainIn axes lows highs (n - 1) (k + 1))
+    rest = expandFrom tt (suc i) (plainIn axes tests (n - 1) (k + 1))
 
-    pub infer-plain-step : (e f r : Env) → f ≡ after e → r ≡ inferAll (typesOf s) keepsAll rest f → r ≡ inferAll (typesOf s) keepsAll (expandFrom tt i (plainIn axes lows highs n k)) e
+    here-and-rest : here ∷ rest ≡ expandFrom tt i (plainIn axes tests n k)
+    here-and-rest = ap (λ (a : ℕ). hereAlong a ∷ rest) number ∙ ap (expandFrom tt i) (sym (plain-next axes tests n k left))
+
+    pub infer-plain-step : (e f r : Env) → f ≡ after e → r ≡ inferAll (typesOf s) keepsAll rest f → r ≡ inferAll (typesOf s) keepsAll (expandFrom tt i (plainIn axes tests n k)) e
     infer-plain-step e f r d h =
         h ∙ ap (inferAll (typesOf s) keepsAll rest) (d ∙ sym (plain-infer s here e))
-        ∙ ap (λ (ps : List (PlainStep ℕ)). inferAll (typesOf s) keepsAll (expandFrom tt i ps) e) (sym (plain-next axes lows highs n k left))
+        ∙ ap (λ (ps : List (Step ℕ (Unit {0}))). inferAll (typesOf s) keepsAll ps e) here-and-rest
 
     pub needs-plain-step : (e f : Env) (t none : NameSet) (later r : Needs) → f ≡ after e → setIn s t ≡ e .type → ((m : Name) → member none m ≡ false)
         → NeedsOf s keepsAll wantsNothing rest f later → StepNeeds s (here .axis) (setIn s t) none later r
-        → NeedsOf s keepsAll wantsNothing (expandFrom tt i (plainIn axes lows highs n k)) e r
+        → NeedsOf s keepsAll wantsNothing (expandFrom tt i (plainIn axes tests n k)) e r
     needs-plain-step e f t none later r d h empty m w =
-        subst (λ (ps : List (PlainStep ℕ)). NeedsOf s keepsAll wantsNothing (expandFrom tt i ps) e r) (sym (plain-next axes lows highs n k left))
+        subst (λ (ps : List (Step ℕ (Unit {0}))). NeedsOf s keepsAll wantsNothing ps e r) here-and-rest
         (needs-step s keepsAll wantsNothing here rest e t none later r f (d ∙ sym (plain-infer s here e)) h m
         (nothing-wanted s none (f .context) (setIn s (later .complete)) (empty-setIn s none empty)) w)

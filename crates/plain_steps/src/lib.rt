@@ -12,6 +12,7 @@ ghost use Rattle.schema_spec.specs.Types.{typesOf};
 ghost use Rattle.type_steps.specs.Relations.{RelationsOf, envIn};
 use back_steps::Needs;
 use back_steps::with_step;
+use compiled_paths::axis_number;
 use names::MAX_ELEMENTS;
 use names::NameSet;
 use type_steps::Inferred;
@@ -22,20 +23,20 @@ pub fn infer_plain(
     holds: [NameSet; MAX_ELEMENTS],
     below: [NameSet; MAX_ELEMENTS],
     axes: &[u8],
-    lows: &[u8],
-    highs: &[u8],
+    tests: &[u8],
     k: usize,
     n: usize,
     e: Inferred,
 ) -> Inferred
-    requires { ⌜ HasSteps (now axes) (now lows) (now highs) k n ⌝ }
-    ensures { λ r. ⌜ ((s : Schema) → RelationsOf s holds below → (i : ℕ) → envIn s r ≡ inferAll (typesOf s) keepsAll (expandFrom tt i (plainIn (now (axes .entry)) (now (lows .entry)) (now (highs .entry)) n k)) (envIn s e)) ⌝ }
+    requires { ⌜ HasSteps (now axes) (now tests) k n ⌝ }
+    ensures { λ r. ⌜ ((s : Schema) → RelationsOf s holds below → (i : ℕ) → envIn s r ≡ inferAll (typesOf s) keepsAll (expandFrom tt i (plainIn (now (axes .entry)) (now (tests .entry)) n k)) (envIn s e)) ⌝ }
 {
     if n == 0 {
         e
     } else {
-        let f = step(holds, below, axes[k], lows[k], highs[k], e);
-        infer_plain(holds, below, axes, lows, highs, k + 1, n - 1, f)
+        let axis = axis_number(axes[k]);
+        let f = step(holds, below, axis, tests[k], e);
+        infer_plain(holds, below, axes, tests, k + 1, n - 1, f)
     }
 }
 
@@ -44,14 +45,13 @@ pub fn need_plain(
     holds: [NameSet; MAX_ELEMENTS],
     below: [NameSet; MAX_ELEMENTS],
     axes: &[u8],
-    lows: &[u8],
-    highs: &[u8],
+    tests: &[u8],
     k: usize,
     n: usize,
     e: Inferred,
 ) -> Needs
-    requires { ⌜ HasSteps (now axes) (now lows) (now highs) k n ⌝ }
-    ensures { λ r. ⌜ ((s : Schema) → RelationsOf s holds below → (i : ℕ) → NeedsOf s keepsAll wantsNothing (expandFrom tt i (plainIn (now (axes .entry)) (now (lows .entry)) (now (highs .entry)) n k)) (envIn s e) r) ⌝ }
+    requires { ⌜ HasSteps (now axes) (now tests) k n ⌝ }
+    ensures { λ r. ⌜ ((s : Schema) → RelationsOf s holds below → (i : ℕ) → NeedsOf s keepsAll wantsNothing (expandFrom tt i (plainIn (now (axes .entry)) (now (tests .entry)) n k)) (envIn s e) r) ⌝ }
 {
     let t = e.types;
     if n == 0 {
@@ -60,9 +60,9 @@ pub fn need_plain(
             names: t,
         }
     } else {
-        let axis = axes[k];
-        let f = step(holds, below, axis, lows[k], highs[k], e);
-        let later = need_plain(holds, below, axes, lows, highs, k + 1, n - 1, f);
+        let axis = axis_number(axes[k]);
+        let f = step(holds, below, axis, tests[k], e);
+        let later = need_plain(holds, below, axes, tests, k + 1, n - 1, f);
         let none = NameSet::empty();
         with_step(holds, below, axis, t, none, later)
     }

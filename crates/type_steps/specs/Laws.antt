@@ -5,7 +5,7 @@ use mathlib.Core.Logic.{⊎-elim}
 use mathlib.Core.Path.{_≡_, refl, sym, ap, ap₂, subst, _∙_}
 use Prim.Native.Nat.{ℕ, _≤_}
 use native.Mathlib.Omega.{arith}
-use borrow.Author.Tests.{ne-eqb, eq-eqb}
+use borrow.Author.Tests.{ne-eqb}
 use lib.Dec.{T, eqb, ltb, lt→ltb, eqb→eq, eqb-refl}
 use lib.ListN.{length}
 use Rattle.closures.specs.Schemas.{holds-relating, below-relating, relatedFrom-filter, relatedTo-filter}
@@ -28,17 +28,9 @@ use Rattle.compiled_paths.specs.Columns.{axisOf, testOf}
 use Rattle.type_steps.specs.Relations.{RelationsOf, NamesOf, Known, setIn}
 
 -- ---- tests
-pub test-named : (low high : ℕ) → low ≡ high → testOf low high ≡ named low
+pub test-named : (t : ℕ) → (t ≡ 254 → ⊥) → (t ≡ 255 → ⊥) → testOf t ≡ named t
 unfolding testOf
-test-named low high e = rw (eq-eqb low high e)
-
-pub test-node : (low high : ℕ) → (low ≡ high → ⊥) → low ≡ 0 → testOf low high ≡ anyNode
-unfolding testOf
-test-node low high d e = rw (ne-eqb low high d, eq-eqb low 0 e)
-
-pub test-text : (low high : ℕ) → (low ≡ high → ⊥) → (low ≡ 0 → ⊥) → testOf low high ≡ anyText
-unfolding testOf
-test-text low high d e = rw (ne-eqb low high d, ne-eqb low 0 e)
+test-named t d e = rw (ne-eqb t 254 d, ne-eqb t 255 e)
 
 -- what a set has that passes a test
 abbrev pub Tested : NodeTest ℕ → NameSet → NameSet → Type 0

@@ -10,6 +10,14 @@ ghost use Rattle.schema_spec.specs.Types.{typesOf};
 ghost use Rattle.type_steps.specs.Laws.{Tested};
 ghost use Rattle.compiled_paths.specs.Columns.{axisOf, testOf};
 ghost use Rattle.type_steps.specs.Relations.{RelationsOf, setIn, envIn};
+use compiled_paths::ANCESTOR;
+use compiled_paths::ANCESTOR_OR_SELF;
+use compiled_paths::ANY_NODE;
+use compiled_paths::ANY_TEXT;
+use compiled_paths::CHILD;
+use compiled_paths::DESCENDANT;
+use compiled_paths::DESCENDANT_OR_SELF;
+use compiled_paths::PARENT;
 use names::MAX_ELEMENTS;
 use names::NameSet;
 
@@ -115,30 +123,27 @@ fn only_texts(t: NameSet) -> NameSet
     }
 }
 
-// What a set has that passes a test, given as a range of codes.
-fn tested(t: NameSet, low: u8, high: u8) -> NameSet
-    ensures { λ r. ⌜ Tested (testOf low high) t r ⌝ }
+// What a set has that passes a test, given by its number.
+fn tested(t: NameSet, test: u8) -> NameSet
+    ensures { λ r. ⌜ Tested (testOf test) t r ⌝ }
 {
-    if low == high {
-        only_element(t, wide(low))
-    } else if low == 0 {
-        t
-    } else {
-        only_texts(t)
+    match test {
+        ANY_NODE => t,
+        ANY_TEXT => only_texts(t),
+        _ => only_element(t, wide(test)),
     }
 }
 
 fn to_children(
     holds: [NameSet; MAX_ELEMENTS],
     below: [NameSet; MAX_ELEMENTS],
-    low: u8,
-    high: u8,
+    test: u8,
     e: Inferred,
 ) -> Inferred
-    ensures { λ r. ⌜ ((s : Schema) → RelationsOf s holds below → envIn s r ≡ move (typesOf s) child (testOf low high) (envIn s e)) ⌝ }
+    ensures { λ r. ⌜ ((s : Schema) → RelationsOf s holds below → envIn s r ≡ move (typesOf s) child (testOf test) (envIn s e)) ⌝ }
 {
     let types = held_by(holds, below, e.types);
-    let passing = tested(types, low, high);
+    let passing = tested(types, test);
     let context = union_of(e.context, passing);
     Inferred { types, context }
 }
@@ -213,19 +218,18 @@ fn moved(
     holds: [NameSet; MAX_ELEMENTS],
     below: [NameSet; MAX_ELEMENTS],
     axis: u8,
-    low: u8,
-    high: u8,
+    test: u8,
     e: Inferred,
 ) -> Inferred
-    ensures { λ r. ⌜ ((s : Schema) → RelationsOf s holds below → envIn s r ≡ move (typesOf s) (axisOf axis) (testOf low high) (envIn s e)) ⌝ }
+    ensures { λ r. ⌜ ((s : Schema) → RelationsOf s holds below → envIn s r ≡ move (typesOf s) (axisOf axis) (testOf test) (envIn s e)) ⌝ }
 {
     match axis {
-        1 => to_children(holds, below, low, high, e),
-        2 => to_descendants(holds, below, e),
-        3 => to_descendants_or_self(holds, below, e),
-        4 => to_parents(holds, below, e),
-        5 => to_ancestors(holds, below, e),
-        6 => to_ancestors_or_self(holds, below, e),
+        CHILD => to_children(holds, below, test, e),
+        DESCENDANT => to_descendants(holds, below, e),
+        DESCENDANT_OR_SELF => to_descendants_or_self(holds, below, e),
+        PARENT => to_parents(holds, below, e),
+        ANCESTOR => to_ancestors(holds, below, e),
+        ANCESTOR_OR_SELF => to_ancestors_or_self(holds, below, e),
         _ => e,
     }
 }
@@ -235,14 +239,13 @@ pub fn step(
     holds: [NameSet; MAX_ELEMENTS],
     below: [NameSet; MAX_ELEMENTS],
     axis: u8,
-    low: u8,
-    high: u8,
+    test: u8,
     e: Inferred,
 ) -> Inferred
-    ensures { λ r. ⌜ ((s : Schema) → RelationsOf s holds below → envIn s r ≡ narrow (typesOf s) (passes (testOf low high)) (move (typesOf s) (axisOf axis) (testOf low high) (envIn s e))) ⌝ }
+    ensures { λ r. ⌜ ((s : Schema) → RelationsOf s holds below → envIn s r ≡ narrow (typesOf s) (passes (testOf test)) (move (typesOf s) (axisOf axis) (testOf test) (envIn s e))) ⌝ }
 {
-    let gone = moved(holds, below, axis, low, high, e);
-    let types = tested(gone.types, low, high);
+    let gone = moved(holds, below, axis, test, e);
+    let types = tested(gone.types, test);
     let context = cut_to(holds, below, types, gone.context);
     Inferred { types, context }
 }

@@ -10,7 +10,7 @@ use Rattle.needed_alternatives.proofs.ends_some.Tie as tie
 
 returns : tie.Need-returns
 returns c = λ s k named.
-    let start = c .before .before .before .before .before .args in
+    let start = c .before .before .before .before .args in
     c .meets .ensures ∙ overlap-some-setIn s (k .small) (start .all) (c .before .infer-plain .result .types) named ∙ ap (λ (e : Env). not (isEmpty (e .type))) (c .before .infer-plain .ensures s k 1)
 
 pub ends-some-spec : {M : Type 1} → statement M

@@ -10,8 +10,8 @@ use Rattle.needed_conditions.proofs.conditioned.Tie as tie
 
 returns : tie.Need-returns
 returns c = λ s k named.
-    let start = c .before .before .before .before .before .before .before .before .args in
-    let q = conditionIn (start .axes .now) (start .lows .now) (start .highs .now) (start .ways .now) (start .n) (start .i) in
+    let start = c .before .before .before .before .before .before .args in
+    let q = conditionIn (start .axes .now) (start .tests .now) (start .n) (start .i) in
     let kept = c .before .kept in
     narrow-parts s (keepsIn s (start .e .context) q) (envIn s (start .e)) (setIn s (kept .result)) (setIn s (c .cut-to .result))
     (kept-filter s (k .small) (keepsIn s (start .e .context) q) (start .e .types) (kept .result) (kept .ensures s k named)) (c .cut-to .ensures s k)

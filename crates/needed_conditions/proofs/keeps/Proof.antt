@@ -12,21 +12,21 @@ use Rattle.needed_conditions.proofs.keeps.Statement.{statement}
 use Rattle.needed_conditions.proofs.keeps.Tie as tie
 
 any-ends-some-requires : tie.Need-any-ends-some-requires
-any-ends-some-requires c κs = (c .before .before .before .before .before .before .before .pre .0)
+any-ends-some-requires c κs = (c .before .before .before .before .before .pre .0)
 
 returns : tie.Need-returns
 returns c = λ s k named i.
-    let start = c .before .before .before .before .before .before .before .before .args in
-    let q = alternatives (alternativesIn (start .axes .now) (start .lows .now) (start .highs .now) (start .ways .now) (start .n) (start .i)) in
+    let start = c .before .before .before .before .before .before .args in
+    let qs = alternativesIn (start .axes .now) (start .tests .now) (start .n) (start .i) in
     let a = nameOfCode (start .c) in
     c .any-ends-some .ensures s k named
-    ∙ ap (λ (e : Env). anyEndsSome s e (alternativesIn (start .axes .now) (start .lows .now) (start .highs .now) (start .ways .now) (start .n) (start .i))) (c .before .from-name .ensures s k i)
-    ∙ ap (λ (b : Bool). b && keepsIn s (start .k) q a) (sym (c .before .before .if1 .taken) ∙ c .before .before .before .has .ensures)
+    ∙ ap (λ (e : Env). anyEndsSome s e qs) (c .before .from-name .ensures s k i)
+    ∙ ap (λ (b : Bool). b && keepsIn s (start .k) (alternatives qs) a) (sym (c .before .before .if1 .taken) ∙ c .before .before .before .has .ensures)
 
 returns-2 : tie.Need-returns-2
 returns-2 c = λ s k named i.
-    let start = c .before .before .before .before .before .before .args in
-    let q = alternatives (alternativesIn (start .axes .now) (start .lows .now) (start .highs .now) (start .ways .now) (start .n) (start .i)) in
+    let start = c .before .before .before .before .args in
+    let q = alternatives (alternativesIn (start .axes .now) (start .tests .now) (start .n) (start .i)) in
     ap (λ (b : Bool). b && keepsIn s (start .k) q (nameOfCode (start .c))) (sym (c .if1 .left) ∙ c .before .has .ensures)
 
 pub keeps-spec : {M : Type 1} → statement M

@@ -17,28 +17,28 @@ use Rattle.needed_conditions.proofs.wanted_by_some.Statement.{statement
 use Rattle.needed_conditions.proofs.wanted_by_some.Tie as tie
 
 abbrev Inv-loop : tie.InvT-loop
-Inv-loop holds below axes lows highs ways i n k g out₀ c₀ out c =
-    (c ≤ 64) × ((s : Schema) (l : RelationsOf s holds below) → Known s g → (m : Name) → List·Memᴰ m (namesOf s) → member out m ≡ wantedBelow s (l .small) (wantsIn s k (alternatives (alternativesIn axes lows highs ways n i))) g c m)
+Inv-loop holds below axes tests i n k g out₀ c₀ out c =
+    (c ≤ 64) × ((s : Schema) (l : RelationsOf s holds below) → Known s g → (m : Name) → List·Memᴰ m (namesOf s) → member out m ≡ wantedBelow s (l .small) (wantsIn s k (alternatives (alternativesIn axes tests n i))) g c m)
 
 abbrev μ-loop : tie.MeasureT-loop
-μ-loop holds below axes lows highs ways i n k g out₀ c₀ out c = 64 - c
+μ-loop holds below axes tests i n k g out₀ c₀ out c = 64 - c
 
 loop-holds : tie.Need-loop-holds Inv-loop μ-loop
 loop-holds c =
-    let start = c .before .before .before .before .before .before .args in
-    let q = alternatives (alternativesIn (start .axes .now) (start .lows .now) (start .highs .now) (start .ways .now) (start .n) (start .i)) in
+    let start = c .before .before .before .before .args in
+    let q = alternatives (alternativesIn (start .axes .now) (start .tests .now) (start .n) (start .i)) in
     (omega arith, λ s k only m i. wanted-none s (k .small) (wantsIn s (start .k) q) (c .before .common .result) (c .empty .result) (c .empty .ensures) m)
 
 wanted-of-requires : tie.Need-wanted-of-requires Inv-loop μ-loop
 wanted-of-requires c κs =
-    (c .before .before .before .before .before .before .before .before .pre, omega arith)
+    (c .before .before .before .before .before .before .pre, omega arith)
 
 loop-again : tie.Need-loop-again Inv-loop μ-loop
 loop-again c =
     let at = c .before .before .before .loop in
     let g = c .before .before .before .before .before .common in
-    let start = c .before .before .before .before .before .before .before .before .before .before .args in
-    let q = alternatives (alternativesIn (start .axes .now) (start .lows .now) (start .highs .now) (start .ways .now) (start .n) (start .i)) in (
+    let start = c .before .before .before .before .before .before .before .before .args in
+    let q = alternatives (alternativesIn (start .axes .now) (start .tests .now) (start .n) (start .i)) in (
       omega arith,
       λ s k only m i.
           wanted-one-more s (k .small) (wantsIn s (start .k) q) (g .result) (at .out) (c .before .wanted-of .result) (c .union .result) (at .c) only m (at .inv .1 s k only m i)
@@ -50,8 +50,8 @@ returns c =
     λ s k named.
     let at = c .before .loop in
     let g = c .before .before .before .common in
-    let start = c .before .before .before .before .before .before .before .before .args in
-    let q = alternatives (alternativesIn (start .axes .now) (start .lows .now) (start .highs .now) (start .ways .now) (start .n) (start .i)) in
+    let start = c .before .before .before .before .before .before .args in
+    let q = alternatives (alternativesIn (start .axes .now) (start .tests .now) (start .n) (start .i)) in
     let only = common-known s (start .all) (start .h) (g .result) named (g .ensures) in
     wanted-gather s (k .small) (wantsIn s (start .k) q) (g .result) (at .out) (setIn s (start .h)) (at .c) (omega arith) (common-setIn s (start .all) (start .h) (g .result) named (g .ensures)) (at .inv .1 s k only)
 

@@ -16,22 +16,22 @@ use Rattle.needed_conditions.proofs.wanted_of.Statement.{statement}
 use Rattle.needed_conditions.proofs.wanted_of.Tie as tie
 
 need-of-all-requires : tie.Need-need-of-all-requires
-need-of-all-requires c κs = (c .before .before .before .before .before .before .before .pre .0)
+need-of-all-requires c κs = (c .before .before .before .before .before .pre .0)
 
 returns : tie.Need-returns
 returns c = λ s k only m i.
-    let start = c .before .before .before .before .before .before .before .before .args in
-    let q = alternatives (alternativesIn (start .axes .now) (start .lows .now) (start .highs .now) (start .ways .now) (start .n) (start .i)) in
+    let start = c .before .before .before .before .before .before .args in
+    let qs = alternativesIn (start .axes .now) (start .tests .now) (start .n) (start .i) in
     let a = nameOfCode (start .c) in
     let there = sym (c .before .before .before .has .ensures) ∙ c .before .before .if1 .taken in
-    within-member s (c .need-of-all .result) (needOfAll s (envIn s (c .before .from-name .result)) (alternativesIn (start .axes .now) (start .lows .now) (start .highs .now) (start .ways .now) (start .n) (start .i))) (c .need-of-all .ensures s k) m i
-    ∙ ap (λ (e : Env). has m (needOfAll s e (alternativesIn (start .axes .now) (start .lows .now) (start .highs .now) (start .ways .now) (start .n) (start .i)))) (c .before .from-name .ensures s k (only a (passed there)))
-    ∙ ap (λ (b : Bool). b && has m (wantsIn s (start .k) q a)) (sym there)
+    within-member s (c .need-of-all .result) (needOfAll s (envIn s (c .before .from-name .result)) qs) (c .need-of-all .ensures s k) m i
+    ∙ ap (λ (e : Env). has m (needOfAll s e qs)) (c .before .from-name .ensures s k (only a (passed there)))
+    ∙ ap (λ (b : Bool). b && has m (wantsIn s (start .k) (alternatives qs) a)) (sym there)
 
 returns-2 : tie.Need-returns-2
 returns-2 c = λ s k only m i.
-    let start = c .before .before .before .before .before .before .before .args in
-    let q = alternatives (alternativesIn (start .axes .now) (start .lows .now) (start .highs .now) (start .ways .now) (start .n) (start .i)) in
+    let start = c .before .before .before .before .before .args in
+    let q = alternatives (alternativesIn (start .axes .now) (start .tests .now) (start .n) (start .i)) in
     c .empty .ensures m ∙ ap (λ (b : Bool). b && has m (wantsIn s (start .k) q (nameOfCode (start .c)))) (sym (c .before .if1 .left) ∙ c .before .before .has .ensures)
 
 pub wanted-of-spec : {M : Type 1} → statement M

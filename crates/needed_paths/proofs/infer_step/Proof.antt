@@ -3,18 +3,18 @@ use mathlib.Core.Path.{refl}
 use borrow.Author.Needs.{needs}
 use native.Mathlib.Omega.{arith}
 use Rattle.compiled_paths.specs.Columns.{conditionIn}
-use Rattle.needed_paths.specs.Laws.{condition-alternatives, condition-range, infer-written-step}
+use Rattle.needed_paths.specs.Laws.{condition-steps, condition-range, infer-written-step}
 use Rattle.type_steps.specs.Relations.{envIn}
 use Rattle.needed_paths.proofs.infer_step.Statement.{statement}
 use Rattle.needed_paths.proofs.infer_step.Tie as tie
 
 -- the states that answers go back to
 abbrev start-before : tie.After-start → tie.Start
-start-before c = c .before .before .before .before .before .before
+start-before c = c .before .before .before .before
 
 start-requires : tie.Need-start-requires
 start-requires c κs =
-    let l = c .before .before .before .before .before .pre .counted in
+    let l = c .before .before .before .pre .counted in
     omega arith
 
 size-requires : tie.Need-size-requires
@@ -28,8 +28,8 @@ conditioned-requires c κs =
     let after-start = after-size .before in
     let start = start-before after-start in
     let first = after-start .start in
-    let count = after-size .size in
-    condition-alternatives (start .args .axes .now) (start .args .lows .now) (start .args .highs .now) (start .args .ways .now) (start .args .conditions .now) (start .args .k) 1 (first .result) (count .result) (start .pre) (first .ensures) (count .ensures)
+    let size = after-size .size in
+    condition-steps (start .args .axes .now) (start .args .tests .now) (start .args .conditions .now) (start .args .k) 1 (first .result) (size .result) (start .pre) (first .ensures) (size .ensures)
 
 returns : tie.Need-returns
 returns c =
@@ -38,11 +38,12 @@ returns c =
     λ s k named i.
     let start = (start-before after-start) .args in
     let first = after-start .start in
-    let count = after-size .size in
+    let size = after-size .size in
+    let axis = c .before .before .before .axis-number in
     let gone = c .before .step in
-    infer-written-step (start .axes .now) (start .lows .now) (start .highs .now) (start .ways .now) (start .conditions .now) s i (start .k) (conditionIn (start .axes .now) (start .lows .now) (start .highs .now) (start .ways .now) (count .result) (first .result))
+    infer-written-step (start .axes .now) (start .tests .now) (start .conditions .now) s i (start .k) (axis .result) (axis .ensures) (conditionIn (start .axes .now) (start .tests .now) (size .result) (first .result))
     (envIn s (start .e)) (envIn s (gone .result)) (envIn s (c .conditioned .result)) (gone .result .context)
-    (condition-range (start .axes .now) (start .lows .now) (start .highs .now) (start .ways .now) (start .conditions .now) (start .k) (first .result) (count .result) (first .ensures) (count .ensures)) (gone .ensures s k) refl (c .conditioned .ensures s k named)
+    (condition-range (start .axes .now) (start .tests .now) (start .conditions .now) (start .k) (first .result) (size .result) (first .ensures) (size .ensures)) (gone .ensures s k) refl (c .conditioned .ensures s k named)
 
 pub infer-step-spec : {M : Type 1} → statement M
 infer-step-spec =
@@ -51,7 +52,7 @@ infer-step-spec =
     start-requires
     size-requires
     (λ c. search needs)
-    (λ c. search needs)
+    (λ c κs. search needs)
     (λ c. search needs)
     (λ c κs. search needs)
     conditioned-requires

@@ -12,14 +12,14 @@ use Rattle.needed_paths.proofs.path_needed.Tie as tie
 
 -- the states that answers go back to
 abbrev start-before : tie.After-from-root → tie.Start
-start-before c = c .before .before .before .before .before .before .before .before
+start-before c = c .before .before .before .before .before .before
 
 returns : tie.Need-returns
 unfolding neededByPath neededBeforeFilter typesOf
 returns c = λ s k named.
     let start = (start-before c) .args in
     let root = c .before .before .root in
-    let ps = expand unconditional (stepsIn (start .axes .now) (start .lows .now) (start .highs .now) (start .ways .now) (start .conditions .now) (start .n) (start .k)) in
+    let ps = expand unconditional (stepsIn (start .axes .now) (start .tests .now) (start .conditions .now) (start .n) (start .k)) in
     let e = root .ensures s (k .full) in
     c .from-root .ensures s k (need (typesOf s) (keepsName (typesOf s)) (wantsNames (typesOf s)) ps (env (setIn s (root .result)) (setIn s (root .result)))) (c .before .need-steps .ensures s k named 1 .names)
     ∙ ap (λ (x : Env). fromRoot (typesOf s) (need (typesOf s) (keepsName (typesOf s)) (wantsNames (typesOf s)) ps x)) (ap₂ env e e)

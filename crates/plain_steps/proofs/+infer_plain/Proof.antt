@@ -8,6 +8,7 @@ use borrow.Fn.PlainCycle.{Measures, is, falls, and}
 use Rattle.plain_steps.proofs.infer_plain.Reads as infer-plain
 use Rattle.plain_steps.proofs.infer_plain.Kinds as infer-plain-kinds
 use Rattle.plain_steps.proofs.+infer_plain.Lts-infer_plain as infer-plain-lts
+use Rattle.compiled_paths.proofs.axis_number.Reads as axis-number-reads
 use Rattle.type_steps.proofs.step.Reads as step-reads
 use Rattle.plain_steps.proofs.+infer_plain.{statement}
 use Rattle.plain_steps.proofs.+infer_plain.Tie.{close}
@@ -19,31 +20,33 @@ use Rattle.inference_spec.specs.Types.{inferAll}
 use Rattle.schema_spec.specs.Types.{typesOf}
 use Rattle.type_steps.specs.Relations.{envIn}
 
-abbrev μ-infer-plain : Measures 3 infer-plain-kinds.ps ℕ
-μ-infer-plain κs a = a .1 .1 .1 .1 .1 .1 .0
+abbrev μ-infer-plain : Measures 2 infer-plain-kinds.ps ℕ
+μ-infer-plain κs a = a .1 .1 .1 .1 .1 .0
 
-abbrev infer-plain-at : ℕ → In 3 infer-plain-kinds.ps
-infer-plain-at t = and 3 infer-plain-kinds.ps (is 3 infer-plain-kinds.ps μ-infer-plain t) infer-plain.Pre
+abbrev infer-plain-at : ℕ → In 2 infer-plain-kinds.ps
+infer-plain-at t = and 2 infer-plain-kinds.ps (is 2 infer-plain-kinds.ps μ-infer-plain t) infer-plain.Pre
 
-abbrev infer-plain-below : ℕ → In 3 infer-plain-kinds.ps
-infer-plain-below t = and 3 infer-plain-kinds.ps (falls 3 infer-plain-kinds.ps _<_ μ-infer-plain t) infer-plain.Pre
+abbrev infer-plain-below : ℕ → In 2 infer-plain-kinds.ps
+infer-plain-below t = and 2 infer-plain-kinds.ps (falls 2 infer-plain-kinds.ps _<_ μ-infer-plain t) infer-plain.Pre
 
 -- what the functions that are called ask and ensure
 abbrev claims : ℕ → infer-plain-lts.Claims
-claims t = (step-reads.Asked, step-reads.Learnt, infer-plain-below t, infer-plain.Post)
+claims t = (axis-number-reads.Asked, axis-number-reads.Learnt, step-reads.Asked, step-reads.Learnt, infer-plain-below t, infer-plain.Post)
 
 infer-plain-returns : (t : ℕ) → infer-plain-lts.Need-returns (claims t) (infer-plain-at t) infer-plain.Post
 infer-plain-returns t c =
     λ s k i.
-    let start = c .before .before .before .before .args in
+    let start = c .before .before .before .args in
     sym (ap (λ (ps : List (PlainStep ℕ)). inferAll (typesOf s) keepsAll (expandFrom tt i ps) (envIn s (start .e)))
-    (plain-none (start .axes .now) (start .lows .now) (start .highs .now) (start .n) (start .k) (c .if1 .taken)))
+    (plain-none (start .axes .now) (start .tests .now) (start .n) (start .k) (c .if1 .taken)))
 
 infer-plain-returns-2 : (t : ℕ) → infer-plain-lts.Need-returns-2 (claims t) (infer-plain-at t) infer-plain.Post
 infer-plain-returns-2 t c =
     λ s k i.
-    let start = c .before .before .before .before .before .before .before .before .before .args in
-    infer-plain-step (start .axes .now) (start .lows .now) (start .highs .now) s i (start .n) (start .k) (c .before .before .before .before .before .if1 .left)
+    let axis = c .before .before .before in
+    let left = axis .before .before in
+    let start = left .before .before .before .args in
+    infer-plain-step (start .axes .now) (start .tests .now) s i (start .n) (start .k) (axis .axis-number .result) (left .if1 .left) (axis .axis-number .ensures)
     (envIn s (start .e)) (envIn s (c .before .step .result)) (envIn s (c .infer-plain .result)) (c .before .step .ensures s k) (c .infer-plain .ensures s k (suc i))
 
 pub +infer-plain-spec : {M : Type 1} → statement M
@@ -51,7 +54,7 @@ pub +infer-plain-spec : {M : Type 1} → statement M
     (infer-plain-at t)
     infer-plain.Post
     (λ c. search needs)
-    (λ c. search needs)
+    (λ c κs. search needs)
     (λ c. search needs)
     (λ c κs. search needs)
     (λ c. search needs)

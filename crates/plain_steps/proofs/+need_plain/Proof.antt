@@ -10,6 +10,7 @@ use Rattle.plain_steps.proofs.need_plain.Kinds as need-plain-kinds
 use Rattle.plain_steps.proofs.+need_plain.Lts-need_plain as need-plain-lts
 use Rattle.names.proofs.NameSet.empty.Reads as empty-reads
 use Rattle.back_steps.proofs.with_step.Reads as with-step-reads
+use Rattle.compiled_paths.proofs.axis_number.Reads as axis-number-reads
 use Rattle.type_steps.proofs.step.Reads as step-reads
 use Rattle.plain_steps.proofs.+need_plain.{statement}
 use Rattle.plain_steps.proofs.+need_plain.Tie.{close}
@@ -21,25 +22,25 @@ use Rattle.compiled_paths.specs.Columns.{plain-none}
 use Rattle.inference_spec.specs.Needed.{keepsAll, wantsNothing}
 use Rattle.type_steps.specs.Relations.{envIn}
 
-abbrev μ-need-plain : Measures 3 need-plain-kinds.ps ℕ
-μ-need-plain κs a = a .1 .1 .1 .1 .1 .1 .0
+abbrev μ-need-plain : Measures 2 need-plain-kinds.ps ℕ
+μ-need-plain κs a = a .1 .1 .1 .1 .1 .0
 
-abbrev need-plain-at : ℕ → In 3 need-plain-kinds.ps
-need-plain-at t = and 3 need-plain-kinds.ps (is 3 need-plain-kinds.ps μ-need-plain t) need-plain.Pre
+abbrev need-plain-at : ℕ → In 2 need-plain-kinds.ps
+need-plain-at t = and 2 need-plain-kinds.ps (is 2 need-plain-kinds.ps μ-need-plain t) need-plain.Pre
 
-abbrev need-plain-below : ℕ → In 3 need-plain-kinds.ps
-need-plain-below t = and 3 need-plain-kinds.ps (falls 3 need-plain-kinds.ps _<_ μ-need-plain t) need-plain.Pre
+abbrev need-plain-below : ℕ → In 2 need-plain-kinds.ps
+need-plain-below t = and 2 need-plain-kinds.ps (falls 2 need-plain-kinds.ps _<_ μ-need-plain t) need-plain.Pre
 
 -- what the functions that are called ask and ensure
 abbrev claims : ℕ → need-plain-lts.Claims
-claims t = (step-reads.Asked, step-reads.Learnt, need-plain-below t, need-plain.Post, empty-reads.Asked, empty-reads.Learnt, with-step-reads.Asked, with-step-reads.Learnt)
+claims t = (axis-number-reads.Asked, axis-number-reads.Learnt, step-reads.Asked, step-reads.Learnt, need-plain-below t, need-plain.Post, empty-reads.Asked, empty-reads.Learnt, with-step-reads.Asked, with-step-reads.Learnt)
 
 need-plain-returns : (t : ℕ) → need-plain-lts.Need-returns (claims t) (need-plain-at t) need-plain.Post
 need-plain-returns t c =
     λ s k i.
-    let start = c .before .before .before .before .before .args in
+    let start = c .before .before .before .before .args in
     subst (λ (ps : List (PlainStep ℕ)). NeedsOf s keepsAll wantsNothing (expandFrom tt i ps) (envIn s (start .e)) (record { complete = start .e .types; names = start .e .types }))
-    (sym (plain-none (start .axes .now) (start .lows .now) (start .highs .now) (start .n) (start .k) (c .if1 .taken)))
+    (sym (plain-none (start .axes .now) (start .tests .now) (start .n) (start .k) (c .if1 .taken)))
     (needs-last s keepsAll wantsNothing (envIn s (start .e)) (start .e .types) refl)
 
 need-plain-returns-2 : (t : ℕ) → need-plain-lts.Need-returns-2 (claims t) (need-plain-at t) need-plain.Post
@@ -47,9 +48,10 @@ need-plain-returns-2 t c =
     λ s k i.
     let later = c .before .before .need-plain in
     let step = c .before .before .before .step in
-    let if1 = c .before .before .before .before .before .before .before .if1 in
-    let start = c .before .before .before .before .before .before .before .before .before .before .before .before .args in
-    needs-plain-step (start .axes .now) (start .lows .now) (start .highs .now) s i (start .n) (start .k) (if1 .left)
+    let axis = c .before .before .before .before .before in
+    let left = axis .before .before in
+    let start = left .before .before .before .before .args in
+    needs-plain-step (start .axes .now) (start .tests .now) s i (start .n) (start .k) (axis .axis-number .result) (left .if1 .left) (axis .axis-number .ensures)
     (envIn s (start .e)) (envIn s (step .result)) (start .e .types) (c .before .empty .result) (later .result) (c .with-step .result) (step .ensures s k) refl (c .before .empty .ensures)
     (later .ensures s k (suc i)) (c .with-step .ensures s k)
 
@@ -58,7 +60,7 @@ pub +need-plain-spec : {M : Type 1} → statement M
     (need-plain-at t)
     need-plain.Post
     (λ c. search needs)
-    (λ c. search needs)
+    (λ c κs. search needs)
     (λ c. search needs)
     (λ c κs. search needs)
     (λ c. search needs)

@@ -15,7 +15,7 @@ returns c = λ s k.
     let start = c .before .before .before .args in
     let gone = c .before .before .moved in
     let t = c .before .tested in
-    let w = testOf (start .low) (start .high) in
+    let w = testOf (start .test) in
     narrow-parts s (passes w) (envIn s (gone .result)) (setIn s (t .result)) (setIn s (c .cut-to .result)) (tested-filter s (k .small) w (gone .result .types) (t .result) (t .ensures)) (c .cut-to .ensures s k)
     ∙ ap (λ (e : Env). narrow (typesOf s) (passes w) e) (gone .ensures s k)
 

@@ -11,7 +11,7 @@ returns c = λ s k.
     let start = c .before .before .before .args in
     let t = c .before .before .held-by in
     let p = c .before .tested in
-    let w = testOf (start .low) (start .high) in
+    let w = testOf (start .test) in
     move-child s w (setIn s (start .e .types)) (setIn s (start .e .context)) (setIn s (t .result)) (setIn s (p .result)) (setIn s (c .union-of .result))
     (t .ensures s k) (tested-filter s (k .small) w (t .result) (p .result) (p .ensures)) (c .union-of .ensures s)
 
