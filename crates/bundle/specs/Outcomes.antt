@@ -9,7 +9,7 @@ use Rattle.bundle.specs.declared.Judged.{Judged}
 use Rattle.bundle.specs.declared.Judgement.the-variants.{Accepted}
 use Rattle.bundle.specs.declared.Kind.{Kind}
 use Rattle.bundle.specs.declared.Kind.the-variants.{BadLength, BadByte, BadGrammar, OverLimit, Undeclared}
-use Rattle.bundle_laws.specs.Filled.{noted-room, noted-shaped, noted-paths, read-noted, read-counts}
+use Rattle.bundle_laws.specs.Filled.{noted-room, noted-shaped, noted-paths, Counts, read-noted, read-counts}
 use Rattle.bundle_laws.specs.Limits.{over-first, over-none, limits-later}
 use Rattle.bundle_laws.specs.Names.{lostPlace, lost-none, lost-first}
 use Rattle.bundle_laws.specs.Order.{Later, later-none, later-all, later-append, Least, least-all, least-judged}
@@ -153,8 +153,8 @@ module _ {text outers cells paths conditions ways : List ℕ} {count : ℕ} (S :
             let made : r .paths ≡ filledPaths names text count outers cells paths conditions ways = ap (λ (f : Filled). f .paths) F in
             record {
               outcome = ap accepted (S .counted ∙ sym (length-map read (λ (p : PathRead). resolvedPath s (p .path)) ∙ length-map (S .lines) (pathNoted text))) ∙ ap sized (sym z);
-              compiled = ap pathsIn made ∙ noted-paths (S .noted) names text s e (S .counted) ∙ ap (resultOr []) (sym z);
-              shaped = subst Shaped (sym made) (noted-shaped (S .noted) names text few (S .counted));
+              compiled = ap pathsIn made ∙ noted-paths (S .noted) names text s e few (S .counted) ∙ ap (resultOr []) (sym z);
+              shaped = subst Shaped (sym made) (noted-shaped (S .noted) names text (S .counted));
             }
 
 pub few-names : (schema names : List ℕ) → length names ≤ maxDeclarations → length (map (nameAt schema) names) ≤ maxDeclarations
@@ -182,10 +182,10 @@ module _ {text outers conditions paths cells ways : List ℕ} {o : BundleOutcome
         back x m = omega (arith, m)
 
     module _ (n : c .over ≡ 0) where
-      pub judge-counts : (c .k ≤ length outers) × (c .n ≤ length cells) × (c .k ≡ length (take (c .k) outers)) × (c .n ≡ length (take (c .n) cells))
+      pub judge-counts : Counts outers cells ways c
       judge-counts = read-counts (bundle-as u) (readable .short) n
 
-      pub judge-spelling : Spelling text (c .count) (take (c .k) outers) (take (c .n) cells) paths conditions ways
+      pub judge-spelling : Spelling text (c .count) (take (c .k) outers) (take (c .n) cells) paths conditions (take (c .m + 1) ways)
       judge-spelling =
           let b = bundle-as u in
           record {

@@ -1,28 +1,22 @@
 -- The columns of compiled paths that were filled from what was noted of a text stand for its paths, with their elements by index.
-use mathlib.Core.List.{List, [], _∷_, _++_, map, map-append, map-map, append-nil}
+use mathlib.Core.Bool.{Bool, true}
+use mathlib.Core.List.{List, [], _∷_, _++_, map, map-map}
 use mathlib.Core.Path.{_≡_, refl, sym, ap, ap₂, subst, _∙_}
-use Prim.Native.Nat.{ℕ, suc, _+_, _-_, _/_, _≤_, _<_}
+use Prim.Native.Nat.{ℕ, suc, _+_, _-_, _≤_, _<_}
 use native.Mathlib.Nat.{add-zero}
 use native.Mathlib.Numerals.{add-one}
 use native.Mathlib.Omega.{arith}
-use borrow.Author.Tests.{eq-eqb}
-use lib.ListN.{length, getD, set, length-set, length-append, length-map}
+use borrow.Author.Tests.{lt-ltb, le-ltb}
+use lib.ListN.{length, getD, set, length-set, length-append}
 use lib.Seq.{sets, getD-set-same, getD-set-other}
-use Rattle.bundle_laws.specs.Names.{Test, node, texts, known, lost, test-by-number}
-use Rattle.bundle_paths.specs.Laws.{paths-append, conditions-append, conditions-length}
 use Rattle.bundle_paths.specs.Readings.{LineCells, pathNoted, allSteps, pathEnds}
-use Rattle.compiled_paths.specs.Columns.{axisOf, testOf, startAt, sizeAt, plainIn, alternativesIn, conditionIn, stepAt, stepsIn, bundleIn}
-use Rattle.path_conditions.specs.Laws.{cells-append, ends-append, ends-length}
-use Rattle.path_conditions.specs.Readings.{cellsOf, endsFrom}
-use Rattle.path_lines.specs.Readings.{Written, stepNoted, conditionOf, outerCells, allPaths, conditionEnds}
-use Rattle.path_names.specs.Steps.{axisCell, lowCell, highCell}
-use Rattle.path_names.specs.declared.Range.{Range}
-use Rattle.path_spec.specs.Paths.{along, WrittenAxis, NodeTest, named, PlainStep, WrittenStep, Condition, alternatives, LocationPath, fromRootElement, renameTest, renamePlain, renameCondition, renameStep, renamePath}
-use Rattle.path_steps.specs.Readings.{axisCount, stepAxis, stepTest, plainNoted, useAt}
+use Rattle.compiled_paths.specs.Columns.{axisOf, lastMark, axisNumber, testOf, startAt, sizeAt, joined, plainAt, alternativesIn, conditionIn, condition-none, condition-some, stepAt, stepsIn, bundleIn}
+use Rattle.path_conditions.specs.Laws.{cells-append}
+use Rattle.path_conditions.specs.Readings.{cellsOf}
+use Rattle.path_lines.specs.Readings.{Written, stepNoted, conditionOf, allPaths}
+use Rattle.path_spec.specs.Paths.{along, WrittenAxis, NodeTest, PlainStep, WrittenStep, Condition, alternatives, LocationPath, fromRootElement, renameTest, renamePlain, renameCondition, renameStep, renamePath}
+use Rattle.path_steps.specs.Readings.{stepAxis, stepTest, plainNoted}
 use Rattle.schema_spec.specs.Declarations.{Use}
-use Rattle.schema_spec.specs.Schemas.{indexFrom}
-use Rattle.text_laws.specs.Tests.{cond-yes}
-use Rattle.text_spec.specs.Lists.{valueOr}
 
 -- ---- a list stands along a column
 abbrev pub Along : (ℕ → ℕ → Type 0) → ℕ → List ℕ → Type 0
@@ -32,7 +26,7 @@ Along P k (x ∷ xs) = P k x × Along P (suc k) xs
 abbrev pub Holds : List ℕ → ℕ → List ℕ → Type 0
 Holds column k xs = Along (λ j x. getD column j 0 ≡ x) k xs
 
-along-append : (P : ℕ → ℕ → Type 0) (k : ℕ) (xs ys : List ℕ) → Along P k (xs ++ ys) → Along P k xs × Along P (k + length xs) ys
+pub along-append : (P : ℕ → ℕ → Type 0) (k : ℕ) (xs ys : List ℕ) → Along P k (xs ++ ys) → Along P k xs × Along P (k + length xs) ys
 along-append P k [] ys h = (tt, subst (λ (n : ℕ). Along P n ys) (sym (add-zero k)) h)
 along-append P k (x ∷ xs) ys h =
     let z = along-append P (suc k) xs ys (h .1) in
@@ -53,151 +47,129 @@ pub holds-before : (l : List ℕ) (at : ℕ) (xs : List ℕ) (k : ℕ) (ys : Lis
 holds-before l at xs k [] h s = tt
 holds-before l at xs k (y ∷ ys) h s = (sets-before l at xs k (omega arith) ∙ s .0, holds-before l at xs (suc k) ys (omega arith) (s .1))
 
+-- what stands so in one column stands so in another with the same cells up to there
+pub holds-same : (l l′ : List ℕ) (k : ℕ) (xs : List ℕ) → ((j : ℕ) → j < k + length xs → getD l′ j 0 ≡ getD l j 0) → Holds l k xs → Holds l′ k xs
+holds-same l l′ k [] h s = tt
+holds-same l l′ k (x ∷ xs) h s = (h k (omega arith) ∙ s .0, holds-same l l′ (suc k) xs (λ j g. h j (omega arith)) (s .1))
+
 -- ---- steps, over any way to give names their elements
-module _ (names : List (List ℕ)) (text : List ℕ) (f : Use → ℕ) (same : (u : Use) → f u ≡ valueOr 0 (indexFrom 0 (u .name) names)) (axes lows highs : List ℕ) where
+module _ (text : List ℕ) (f : Use → ℕ) (axes tests : List ℕ) where
   abbrev pub Step : ℕ → ℕ → Type 0
-  Step k c = (along (axisOf (getD axes k 0)) ≡ stepAxis c) × (testOf (getD lows k 0) (getD highs k 0) ≡ renameTest f (stepTest text c))
+  Step k c = (along (axisOf (axisNumber (getD axes k 0))) ≡ stepAxis c) × (testOf (getD tests k 0) ≡ renameTest f (stepTest text c))
 
-  test-same : {r : Range} {t : NodeTest Use} → Test names text r t → testOf (r .low) (r .high) ≡ renameTest f t
-  unfolding testOf
-  test-same node = refl
-  test-same texts = refl
-  test-same (known p e q) = cond-yes _ _ (eq-eqb e e refl) ∙ ap named (sym (same (useAt text p) ∙ ap (valueOr 0) q))
-  test-same (lost p q d n) = ap named (sym (same (useAt text p) ∙ ap (valueOr 0) n))
+  abbrev renamed : ℕ → PlainStep ℕ
+  renamed c = renamePlain f (plainNoted text c)
 
-  step-at : (k c : ℕ) → getD axes k 0 ≡ axisCell c → getD lows k 0 ≡ lowCell names text c → getD highs k 0 ≡ highCell names text c → Step k c
-  unfolding stepAxis stepTest
-  step-at k c a b d = (ap (λ (n : ℕ). along (axisOf n)) a, ap₂ testOf b d ∙ test-same (test-by-number names text (c / axisCount)))
+  plain-at : (k c : ℕ) → Step k c → plainAt axes tests k ≡ renamed c
+  plain-at k c h = ap₂ (λ (a : WrittenAxis) (t : NodeTest ℕ). record { axis = a; test = t; condition = tt }) (h .0) (h .1)
 
-  pub steps-along : (k : ℕ) (cs : List ℕ) → Holds axes k (map axisCell cs) → Holds lows k (map (lowCell names text) cs) → Holds highs k (map (highCell names text) cs) → Along Step k cs
-  steps-along k [] a b d = tt
-  steps-along k (c ∷ cs) a b d = (step-at k c (a .0) (b .0) (d .0), steps-along (suc k) cs (a .1) (b .1) (d .1))
+  -- ---- alternatives: each has the mark at its last step
+  abbrev pub Alternative : ℕ → List ℕ → Type 0
+  Alternative k [] = ⊥
+  Alternative k (c ∷ []) = Step k c × (lastMark ≤ getD axes k 0)
+  Alternative k (c ∷ d ∷ cs) = Step k c × (getD axes k 0 < lastMark) × Alternative (suc k) (d ∷ cs)
 
-  plains : (k : ℕ) (cs : List ℕ) → Along Step k cs → plainIn axes lows highs (length cs) k ≡ map (λ c. renamePlain f (plainNoted text c)) cs
-  unfolding plainIn
-  plains k [] h = refl
-  plains k (c ∷ cs) h =
-      ap₂ (λ (p : PlainStep ℕ) (ps : List (PlainStep ℕ)). p ∷ ps)
-      (ap₂ (λ (a : WrittenAxis) (t : NodeTest ℕ). record { axis = a; test = t; condition = tt }) (h .0 .0) (h .0 .1)) (plains (suc k) cs (h .1))
+  -- one after the other
+  abbrev pub Alternatives : ℕ → List (List ℕ) → Type 0
+  Alternatives k [] = Unit {0}
+  Alternatives k (q ∷ qs) = Alternative k q × Alternatives (k + length q) qs
 
-  module _ (ways : List ℕ) where
-    -- ---- alternatives
-    alternatives-stand : (i n : ℕ) (qs : List (List ℕ)) → getD ways i 0 ≡ n → Holds ways (suc i) (endsFrom n qs) → Along Step n (cellsOf qs)
-        → alternativesIn axes lows highs ways (length qs) i ≡ map (map (λ c. renamePlain f (plainNoted text c))) qs
-    unfolding alternativesIn
-    alternatives-stand i n [] e h a = refl
-    alternatives-stand i n (q ∷ qs) e h a =
-        let z = along-append Step n q (cellsOf qs) a in
-        let x : getD ways (i + 1) 0 ≡ n + length q = ap (λ (k : ℕ). getD ways k 0) (add-one i) ∙ h .0 in
-        let y : getD ways (i + 1) 0 - getD ways i 0 ≡ length q = omega arith in
-        ap₂ (λ (p : List (PlainStep ℕ)) (ps : List (List (PlainStep ℕ))). p ∷ ps)
-        (ap₂ (λ (k m : ℕ). plainIn axes lows highs k m) y e ∙ plains n q (z .0)) (alternatives-stand (suc i) (n + length q) qs (h .0) (h .1) (z .1))
+  pub alternatives-append : (k : ℕ) (ps qs : List (List ℕ)) → Alternatives k (ps ++ qs) → Alternatives k ps × Alternatives (k + length (cellsOf ps)) qs
+  alternatives-append k [] qs h = (tt, subst (λ (n : ℕ). Alternatives n qs) (sym (add-zero k)) h)
+  alternatives-append k (p ∷ ps) qs h =
+      let z = alternatives-append (k + length p) ps qs (h .1) in
+      let e : k + length p + length (cellsOf ps) ≡ k + length (p ++ cellsOf ps) = omega (arith, length-append p (cellsOf ps)) in
+      ((h .0, z .0), subst (λ (n : ℕ). Alternatives n qs) e (z .1))
 
-    -- where the last of them ends
-    ends-last : (i n : ℕ) (qs : List (List ℕ)) → getD ways i 0 ≡ n → Holds ways (suc i) (endsFrom n qs) → getD ways (i + length qs) 0 ≡ n + length (cellsOf qs)
-    ends-last i n [] e h = ap (λ (k : ℕ). getD ways k 0) (add-zero i) ∙ e ∙ sym (add-zero n)
-    ends-last i n (q ∷ qs) e h =
-        let z = ends-last (suc i) (n + length q) qs (h .0) (h .1) in
-        let a : i + suc (length qs) ≡ suc i + length qs = omega arith in
-        let b : n + length q + length (cellsOf qs) ≡ n + length (q ++ cellsOf qs) = omega (arith, length-append q (cellsOf qs)) in
-        ap (λ (k : ℕ). getD ways k 0) a ∙ z ∙ b
+  -- an alternative before others
+  alternative-stands : (k n : ℕ) (q : List ℕ) {qs : List (List (PlainStep ℕ))} → Alternative k q → alternativesIn axes tests n (k + length q) ≡ qs
+      → alternativesIn axes tests (length q + n) k ≡ map renamed q ∷ qs
+  unfolding alternativesIn joined
+  alternative-stands k n [] a e = absurd a
+  alternative-stands k n (c ∷ []) a e =
+      let i : length (c ∷ []) + n ≡ suc n = omega arith in
+      ap (λ (m : ℕ). alternativesIn axes tests m k) i
+      ∙ ap (λ (b : Bool). joined b (plainAt axes tests k) (alternativesIn axes tests n (suc k))) (le-ltb (getD axes k 0) lastMark (a .1))
+      ∙ ap₂ (λ (p : PlainStep ℕ) (ps : List (List (PlainStep ℕ))). (p ∷ []) ∷ ps) (plain-at k c (a .0)) (ap (alternativesIn axes tests n) (sym (add-one k)) ∙ e)
+  alternative-stands k n (c ∷ d ∷ cs) a e =
+      let i : length (c ∷ d ∷ cs) + n ≡ suc (length (d ∷ cs) + n) = omega arith in
+      let j : suc k + length (d ∷ cs) ≡ k + length (c ∷ d ∷ cs) = omega arith in
+      ap (λ (m : ℕ). alternativesIn axes tests m k) i
+      ∙ ap (λ (b : Bool). joined b (plainAt axes tests k) (alternativesIn axes tests (length (d ∷ cs) + n) (suc k))) (lt-ltb (getD axes k 0) lastMark (a .1))
+      ∙ ap₂ (λ (p : PlainStep ℕ) (ps : List (List (PlainStep ℕ))). joined true p ps) (plain-at k c (a .0))
+      (alternative-stands (suc k) n (d ∷ cs) (a .2) (ap (alternativesIn axes tests n) j ∙ e))
 
-    renamed-alternatives : (qs : List (List ℕ)) → map (map (λ c. renamePlain f (plainNoted text c))) qs ≡ map (map (renamePlain f)) (map (map (plainNoted text)) qs)
-    renamed-alternatives [] = refl
-    renamed-alternatives (q ∷ qs) =
-        ap₂ (λ (p : List (PlainStep ℕ)) (ps : List (List (PlainStep ℕ))). p ∷ ps) (sym (map-map (renamePlain f) (plainNoted text) q)) (renamed-alternatives qs)
+  alternatives-stand : (k : ℕ) (qs : List (List ℕ)) → Alternatives k qs → alternativesIn axes tests (length (cellsOf qs)) k ≡ map (map renamed) qs
+  unfolding alternativesIn
+  alternatives-stand k [] a = refl
+  alternatives-stand k (q ∷ qs) a =
+      ap (λ (n : ℕ). alternativesIn axes tests n k) (length-append q (cellsOf qs))
+      ∙ alternative-stands k (length (cellsOf qs)) q (a .0) (alternatives-stand (k + length q) qs (a .1))
 
-    condition-stands : (i n : ℕ) (qs : List (List ℕ)) → getD ways i 0 ≡ n → Holds ways (suc i) (endsFrom n qs) → Along Step n (cellsOf qs)
-        → conditionIn axes lows highs ways (length qs) i ≡ renameCondition f (conditionOf text qs)
-    unfolding conditionIn
-    condition-stands i n [] e h a = refl
-    condition-stands i n (q ∷ qs) e h a = ap alternatives (alternatives-stand i n (q ∷ qs) e h a ∙ renamed-alternatives (q ∷ qs))
+  renamed-alternatives : (qs : List (List ℕ)) → map (map renamed) qs ≡ map (map (renamePlain f)) (map (map (plainNoted text)) qs)
+  renamed-alternatives [] = refl
+  renamed-alternatives (q ∷ qs) =
+      ap₂ (λ (p : List (PlainStep ℕ)) (ps : List (List (PlainStep ℕ))). p ∷ ps) (sym (map-map (renamePlain f) (plainNoted text) q)) (renamed-alternatives qs)
 
-    module _ (conditions : List ℕ) where
-      -- ---- written steps: their conditions from k on, their alternatives from m on, the steps of these from n on
-      pub record Stand (k m n : ℕ) (ws : List Written) : Type 0 where
-        pub condition-start : getD conditions k 0 ≡ m
-        pub condition-ends : Holds conditions (suc k) (conditionEnds m ws)
-        pub alternative-start : getD ways m 0 ≡ n
-        pub alternative-ends : Holds ways (suc m) (endsFrom n (allPaths ws))
-        pub outer : Along Step k (outerCells ws)
-        pub inner : Along Step n (cellsOf (allPaths ws))
+  alternative-some : (k : ℕ) (q : List ℕ) → Alternative k q → 0 < length q
+  alternative-some k [] a = absurd a
+  alternative-some k (c ∷ cs) a = omega arith
 
-      conditions-last : (k m : ℕ) (ws : List Written) → getD conditions k 0 ≡ m → Holds conditions (suc k) (conditionEnds m ws) → getD conditions (k + length ws) 0 ≡ m + length (allPaths ws)
-      conditions-last k m [] e h = ap (λ (j : ℕ). getD conditions j 0) (add-zero k) ∙ e ∙ sym (add-zero m)
-      conditions-last k m (w ∷ ws) e h =
-          let z = conditions-last (suc k) (m + length (w .paths)) ws (h .0) (h .1) in
-          let a : k + suc (length ws) ≡ suc k + length ws = omega arith in
-          let b : m + length (w .paths) + length (allPaths ws) ≡ m + length (w .paths ++ allPaths ws) = omega (arith, length-append (w .paths) (allPaths ws)) in
-          ap (λ (j : ℕ). getD conditions j 0) a ∙ z ∙ b
+  condition-stands : (k : ℕ) (qs : List (List ℕ)) → Alternatives k qs → conditionIn axes tests (length (cellsOf qs)) k ≡ renameCondition f (conditionOf text qs)
+  condition-stands k [] a = condition-none axes tests 0 k refl
+  condition-stands k (q ∷ qs) a =
+      let z = alternative-some k q (a .0) in
+      condition-some axes tests (length (cellsOf (q ∷ qs))) k (λ e. omega (arith, length-append q (cellsOf qs)))
+      ∙ ap alternatives (alternatives-stand k (q ∷ qs) a ∙ renamed-alternatives (q ∷ qs))
 
-      stand-append : (k m n : ℕ) (ws vs : List Written) → Stand k m n (ws ++ vs)
-          → Stand k m n ws × Stand (k + length ws) (m + length (allPaths ws)) (n + length (cellsOf (allPaths ws))) vs
-      stand-append k m n ws vs S =
-          let c = along-append _ (suc k) (conditionEnds m ws) (conditionEnds (m + length (allPaths ws)) vs) (subst (Holds conditions (suc k)) (conditions-append m ws vs) (S .condition-ends)) in
-          let e =
-          along-append _ (suc m) (endsFrom n (allPaths ws)) (endsFrom (n + length (cellsOf (allPaths ws))) (allPaths vs))
-          (subst (Holds ways (suc m)) (ap (endsFrom n) (paths-append ws vs) ∙ ends-append n (allPaths ws) (allPaths vs)) (S .alternative-ends)) in
-          let o = along-append Step k (outerCells ws) (outerCells vs) (subst (Along Step k) (map-append (λ (w : Written). w .cell) ws vs) (S .outer)) in
-          let i =
-          along-append Step n (cellsOf (allPaths ws)) (cellsOf (allPaths vs))
-          (subst (Along Step n) (ap cellsOf (paths-append ws vs) ∙ cells-append (allPaths ws) (allPaths vs)) (S .inner)) in
-          let a : suc k + length (conditionEnds m ws) ≡ suc (k + length ws) = omega (arith, conditions-length m ws) in
-          let b : suc m + length (endsFrom n (allPaths ws)) ≡ suc (m + length (allPaths ws)) = omega (arith, ends-length n (allPaths ws)) in
-          let d : k + length (outerCells ws) ≡ k + length ws = omega (arith, length-map ws (λ (w : Written). w .cell)) in (
-            record {
-              condition-start = S .condition-start;
-              condition-ends = c .0;
-              alternative-start = S .alternative-start;
-              alternative-ends = e .0;
-              outer = o .0;
-              inner = i .0;
-            },
-            record {
-              condition-start = conditions-last k m ws (S .condition-start) (c .0);
-              condition-ends = subst (λ (j : ℕ). Holds conditions j (conditionEnds (m + length (allPaths ws)) vs)) a (c .1);
-              alternative-start = ends-last m n (allPaths ws) (S .alternative-start) (e .0);
-              alternative-ends = subst (λ (j : ℕ). Holds ways j (endsFrom (n + length (cellsOf (allPaths ws))) (allPaths vs))) b (e .1);
-              outer = subst (λ (j : ℕ). Along Step j (outerCells vs)) d (o .1);
-              inner = i .1;
-            },
-          )
+  module _ (conditions : List ℕ) where
+    -- ---- written steps from k on; the steps in their brackets are those from n on
+    abbrev pub Stand : ℕ → ℕ → List Written → Type 0
+    Stand k n [] = getD conditions k 0 ≡ n
+    Stand k n (w ∷ ws) = (getD conditions k 0 ≡ n) × Step k (w .cell) × Alternatives n (w .paths) × Stand (suc k) (n + length (cellsOf (w .paths))) ws
 
-      step-stands : (k m n : ℕ) (w : Written) → Stand k m n (w ∷ []) → stepAt axes lows highs ways conditions k ≡ renameStep f (stepNoted text w)
-      step-stands k m n w S =
-          let a : getD conditions (k + 1) 0 ≡ m + length (w .paths) = ap (λ (j : ℕ). getD conditions j 0) (add-one k) ∙ S .condition-ends .0 in
-          let e = S .condition-start in
-          let b : getD conditions (k + 1) 0 - getD conditions k 0 ≡ length (w .paths) = omega arith in
-          let p : allPaths (w ∷ []) ≡ w .paths = append-nil (w .paths) in
-          let c =
-          condition-stands m n (w .paths) (S .alternative-start) (subst (λ (qs : List (List ℕ)). Holds ways (suc m) (endsFrom n qs)) p (S .alternative-ends))
-          (subst (λ (qs : List (List ℕ)). Along Step n (cellsOf qs)) p (S .inner)) in
-          ap₂ (λ (x : WrittenAxis) (t : NodeTest ℕ). record { axis = x; test = t; condition = conditionIn axes lows highs ways (sizeAt conditions k) (startAt conditions k) })
-          (S .outer .0 .0) (S .outer .0 .1)
-          ∙ ap (λ (z : Condition ℕ). record { axis = stepAxis (w .cell); test = renameTest f (stepTest text (w .cell)); condition = z })
-          (ap₂ (λ (x y : ℕ). conditionIn axes lows highs ways x y) b e ∙ c)
+    stand-start : (k n : ℕ) (ws : List Written) → Stand k n ws → getD conditions k 0 ≡ n
+    stand-start k n [] S = S
+    stand-start k n (w ∷ ws) S = S .0
 
-      steps-stand : (k m n : ℕ) (ws : List Written) → Stand k m n ws → stepsIn axes lows highs ways conditions (length ws) k ≡ map (λ w. renameStep f (stepNoted text w)) ws
-      unfolding stepsIn
-      steps-stand k m n [] S = refl
-      steps-stand k m n (w ∷ ws) S =
-          let z = stand-append k m n (w ∷ []) ws S in
-          ap₂ (λ (x : WrittenStep ℕ (Condition ℕ)) (xs : List (WrittenStep ℕ (Condition ℕ))). x ∷ xs) (step-stands k m n w (z .0))
-          (ap (stepsIn axes lows highs ways conditions (length ws)) (sym (add-one k))
-          ∙ steps-stand (k + 1) (m + length (allPaths (w ∷ []))) (n + length (cellsOf (allPaths (w ∷ [])))) ws (z .1))
+    stand-append : (k n : ℕ) (ws vs : List Written) → Stand k n (ws ++ vs) → Stand k n ws × Stand (k + length ws) (n + length (cellsOf (allPaths ws))) vs
+    stand-append k n [] vs S = (stand-start k n vs S, subst (λ (j : ℕ). Stand j (n + 0) vs) (sym (add-zero k)) (subst (λ (m : ℕ). Stand k m vs) (sym (add-zero n)) S))
+    stand-append k n (w ∷ ws) vs S =
+        let z = stand-append (suc k) (n + length (cellsOf (w .paths))) ws vs (S .3) in
+        let a : suc k + length ws ≡ k + suc (length ws) = omega arith in
+        let b : n + length (cellsOf (w .paths)) + length (cellsOf (allPaths ws)) ≡ n + length (cellsOf (w .paths ++ allPaths ws)) =
+        omega (arith, ap length (cells-append (w .paths) (allPaths ws)), length-append (cellsOf (w .paths)) (cellsOf (allPaths ws))) in (
+          (S .0, S .1, S .2, z .0),
+          subst (λ (m : ℕ). Stand (k + suc (length ws)) m vs) b (subst (λ (j : ℕ). Stand j (n + length (cellsOf (w .paths)) + length (cellsOf (allPaths ws))) vs) a (z .1)),
+        )
 
-      -- ---- paths
-      module _ (paths : List ℕ) where
-        pub paths-stand : (i k m n : ℕ) (ls : List LineCells) → getD paths i 0 ≡ k → Holds paths (suc i) (pathEnds k ls) → Stand k m n (allSteps ls)
-            → bundleIn axes lows highs ways conditions paths (length ls) i ≡ map (λ l. renamePath f (pathNoted text l .path)) ls
-        unfolding bundleIn
-        paths-stand i k m n [] e h S = refl
-        paths-stand i k m n (l ∷ ls) e h S =
-            let z = stand-append k m n (l .steps) (allSteps ls) S in
-            let a : getD paths (i + 1) 0 ≡ k + length (l .steps) = ap (λ (j : ℕ). getD paths j 0) (add-one i) ∙ h .0 in
-            let b : getD paths (i + 1) 0 - getD paths i 0 ≡ length (l .steps) = omega arith in
-            ap₂ (λ (x : LocationPath ℕ) (xs : List (LocationPath ℕ)). x ∷ xs)
-            (ap fromRootElement
-            (ap₂ (λ (x y : ℕ). stepsIn axes lows highs ways conditions x y) b e ∙ steps-stand k m n (l .steps) (z .0)
-            ∙ sym (map-map (renameStep f) (stepNoted text) (l .steps))))
-            (paths-stand (suc i) (k + length (l .steps)) (m + length (allPaths (l .steps))) (n + length (cellsOf (allPaths (l .steps)))) ls (h .0) (h .1) (z .1))
+    step-stands : (k n : ℕ) (w : Written) (ws : List Written) → Stand k n (w ∷ ws) → stepAt axes tests conditions k ≡ renameStep f (stepNoted text w)
+    step-stands k n w ws S =
+        let a : getD conditions (k + 1) 0 ≡ n + length (cellsOf (w .paths)) = ap (λ (j : ℕ). getD conditions j 0) (add-one k) ∙ stand-start (suc k) _ ws (S .3) in
+        let e = S .0 in
+        let b : getD conditions (k + 1) 0 - getD conditions k 0 ≡ length (cellsOf (w .paths)) = omega arith in
+        ap₂ (λ (x : WrittenAxis) (t : NodeTest ℕ). record { axis = x; test = t; condition = conditionIn axes tests (sizeAt conditions k) (startAt conditions k) }) (S .1 .0) (S .1 .1)
+        ∙ ap (λ (z : Condition ℕ). record { axis = stepAxis (w .cell); test = renameTest f (stepTest text (w .cell)); condition = z })
+        (ap₂ (λ (x y : ℕ). conditionIn axes tests x y) b e ∙ condition-stands n (w .paths) (S .2))
+
+    steps-stand : (k n : ℕ) (ws : List Written) → Stand k n ws → stepsIn axes tests conditions (length ws) k ≡ map (λ w. renameStep f (stepNoted text w)) ws
+    unfolding stepsIn
+    steps-stand k n [] S = refl
+    steps-stand k n (w ∷ ws) S =
+        ap₂ (λ (x : WrittenStep ℕ (Condition ℕ)) (xs : List (WrittenStep ℕ (Condition ℕ))). x ∷ xs) (step-stands k n w ws S)
+        (steps-stand (suc k) (n + length (cellsOf (w .paths))) ws (S .3))
+
+    -- ---- paths
+    module _ (paths : List ℕ) where
+      pub paths-stand : (i k n : ℕ) (ls : List LineCells) → getD paths i 0 ≡ k → Holds paths (suc i) (pathEnds k ls) → Stand k n (allSteps ls)
+          → bundleIn axes tests conditions paths (length ls) i ≡ map (λ l. renamePath f (pathNoted text l .path)) ls
+      unfolding bundleIn
+      paths-stand i k n [] e h S = refl
+      paths-stand i k n (l ∷ ls) e h S =
+          let z = stand-append k n (l .steps) (allSteps ls) S in
+          let a : getD paths (i + 1) 0 ≡ k + length (l .steps) = ap (λ (j : ℕ). getD paths j 0) (add-one i) ∙ h .0 in
+          let b : getD paths (i + 1) 0 - getD paths i 0 ≡ length (l .steps) = omega arith in
+          ap₂ (λ (x : LocationPath ℕ) (xs : List (LocationPath ℕ)). x ∷ xs)
+          (ap fromRootElement
+          (ap₂ (λ (x y : ℕ). stepsIn axes tests conditions x y) b e ∙ steps-stand k n (l .steps) (z .0) ∙ sym (map-map (renameStep f) (stepNoted text) (l .steps))))
+          (paths-stand (suc i) (k + length (l .steps)) (n + length (cellsOf (allPaths (l .steps)))) ls (h .0) (h .1) (z .1))

@@ -1,7 +1,7 @@
 -- The first path that passes a limit (9), against the refusals that the definition lists, and what holds where none does.
 use mathlib.Core.Bool.{Bool, true, false, cond}
 use mathlib.Core.List.{List, [], _∷_, _++_, map, append-assoc, List·Memᴰ as In, List·Memᴰ·head as here, List·Memᴰ·tail as there}
-use mathlib.Core.Path.{_≡_, refl, sym, ap, _∙_}
+use mathlib.Core.Path.{_≡_, refl, sym, ap, subst, _∙_}
 use Prim.Native.Nat.{ℕ, suc, _+_, _*_, _≤_, _<_}
 use native.Mathlib.Omega.{arith}
 use borrow.Author.Tests.{leb-false, ltb-false}
@@ -14,9 +14,9 @@ use Rattle.path_conditions.specs.Laws.{cells-append}
 use Rattle.path_conditions.specs.Readings.{cellsOf}
 use Rattle.path_laws.specs.Grammar.Sound.{parse-sound}
 use Rattle.path_lines.specs.Readings.{Written, stepNoted, conditionOf, allPaths}
-use Rattle.path_spec.specs.Grammar.{PathRead, PathText, last-step, next-step, BundleText, last-path, next-path}
+use Rattle.path_spec.specs.Grammar.{PathRead, AlternativeText, one-step, more-steps, ConditionText, one-alternative, more-alternatives, StepText, bare, conditional, PathText, last-step, next-step, BundleText, last-path, next-path}
 use Rattle.path_spec.specs.Machine.{parse}
-use Rattle.path_spec.specs.Paths.{WrittenStep, Condition, conditionPaths}
+use Rattle.path_spec.specs.Paths.{PlainStep, WrittenStep, Condition, conditionPaths}
 use Rattle.path_spec.specs.Reading.{passesConditionLimit, passesLimit, limitRefusals}
 use Rattle.path_steps.specs.Readings.{plainNoted}
 use Rattle.schema_spec.specs.Declarations.{Use}
@@ -193,11 +193,69 @@ outer-count s (l ∷ ls) =
     let g = length-append (l .steps) (allSteps ls) in
     omega (arith, length-append (map (stepNoted s) (l .steps)) (gather (λ p. p .path .steps) (map (pathNoted s) ls)))
 
+-- each alternative has a step
+abbrev pub EachSome : {A : Type 0} → List (List A) → Type 0
+EachSome [] = Unit {0}
+EachSome (q ∷ qs) = (0 < length q) × EachSome qs
+
+each-append : {A : Type 0} (ps qs : List (List A)) → EachSome ps → EachSome qs → EachSome (ps ++ qs)
+each-append [] qs a b = b
+each-append (p ∷ ps) qs a b = (a .0, each-append ps qs (a .1) b)
+
+each-split : {A : Type 0} (ps qs : List (List A)) → EachSome (ps ++ qs) → EachSome ps × EachSome qs
+each-split [] qs a = (tt, a)
+each-split (p ∷ ps) qs a = let z = each-split ps qs (a .1) in ((a .0, z .0), z .1)
+
+alternative-some : {k : ℕ} {w : List ℕ} {q : List (PlainStep Use)} → AlternativeText k w q → 0 < length q
+alternative-some (one-step p) = omega arith
+alternative-some (more-steps p a) = omega arith
+
+condition-each : {k : ℕ} {w : List ℕ} {qs : List (List (PlainStep Use))} → ConditionText k w qs → EachSome qs
+condition-each (one-alternative a) = (alternative-some a, tt)
+condition-each (more-alternatives a c) = (alternative-some a, condition-each c)
+
+step-each : {k : ℕ} {w : List ℕ} {p : WrittenStep Use (Condition Use)} → StepText k w p → EachSome (conditionPaths (p .condition))
+step-each (bare p) = tt
+step-each (conditional p c) = condition-each c
+
+abbrev bracketed : List (WrittenStep Use (Condition Use)) → List (List (PlainStep Use))
+bracketed ps = gather (λ p. conditionPaths (p .condition)) ps
+
+path-each : {k : ℕ} {w : List ℕ} {ps : List (WrittenStep Use (Condition Use))} → PathText k w ps → EachSome (bracketed ps)
+path-each (last-step {p = p} a) = each-append (conditionPaths (p .condition)) [] (step-each a) tt
+path-each (next-step {p = p} {ps = ps} a b) = each-append (conditionPaths (p .condition)) (bracketed ps) (step-each a) (path-each b)
+
+bundle-each : {k : ℕ} {w : List ℕ} {ps : List PathRead} → BundleText k w ps → EachSome (gather (λ p. bracketed (p .path .steps)) ps)
+bundle-each (last-path {s = s} a) = each-append (bracketed s) [] (path-each a) tt
+bundle-each (next-path {s = s} {ps = ps} a b) = each-append (bracketed s) (gather (λ p. bracketed (p .path .steps)) ps) (path-each a) (bundle-each b)
+
+plain-each : (s : List ℕ) (qs : List (List ℕ)) → EachSome (map (map (plainNoted s)) qs) → EachSome qs
+plain-each s [] a = tt
+plain-each s (q ∷ qs) a = let z = a .0 in (omega (arith, length-map q (plainNoted s)), plain-each s qs (a .1))
+
+condition-noted : (s : List ℕ) (qs : List (List ℕ)) → EachSome (conditionPaths (conditionOf s qs)) → EachSome qs
+condition-noted s [] a = tt
+condition-noted s (q ∷ qs) a = plain-each s (q ∷ qs) a
+
+steps-noted : (s : List ℕ) (ws : List Written) → EachSome (bracketed (map (stepNoted s) ws)) → EachSome (allPaths ws)
+steps-noted s [] a = tt
+steps-noted s (w ∷ ws) a =
+    let z = each-split (conditionPaths (conditionOf s (w .paths))) (bracketed (map (stepNoted s) ws)) a in
+    each-append (w .paths) (allPaths ws) (condition-noted s (w .paths) (z .0)) (steps-noted s ws (z .1))
+
+lines-noted : (s : List ℕ) (ls : List LineCells) → EachSome (gather (λ p. bracketed (p .path .steps)) (map (pathNoted s) ls)) → EachSome (allPaths (allSteps ls))
+lines-noted s [] a = tt
+lines-noted s (l ∷ ls) a =
+    let z = each-split (bracketed (map (stepNoted s) (l .steps))) (gather (λ p. bracketed (p .path .steps)) (map (pathNoted s) ls)) a in
+    subst EachSome (sym (gather-append (λ (w : Written). w .paths) (l .steps) (allSteps ls)))
+    (each-append (allPaths (l .steps)) (allPaths (allSteps ls)) (steps-noted s (l .steps) (z .0)) (lines-noted s ls (z .1)))
+
 pub record Few (ls : List LineCells) : Type 0 where
   pub paths : length ls ≤ maxPaths
   pub steps : length (allSteps ls) ≤ writtenSteps
   pub alternatives : length (allPaths (allSteps ls)) ≤ allAlternatives
   pub inner : length (cellsOf (allPaths (allSteps ls))) ≤ innerSteps
+  pub each : EachSome (allPaths (allSteps ls))
 
 pub all-few : (s : List ℕ) (ls : List LineCells) → length s ≤ maxBundleBytes → parse s ≡ spells (map (pathNoted s) ls) → firstOver 0 (map (pathNoted s) ls) ≡ 0 → Few ls
 all-few s ls h e f =
@@ -209,4 +267,4 @@ all-few s ls h e f =
     let g = all-count s ls in
     let j = steps-some (parse-sound e) in
     let k = outer-count s ls in
-    record { paths = omega arith; steps = omega arith; alternatives = omega arith; inner = omega arith }
+    record { paths = omega arith; steps = omega arith; alternatives = omega arith; inner = omega arith; each = lines-noted s ls (bundle-each (parse-sound e)) }

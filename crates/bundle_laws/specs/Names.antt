@@ -4,17 +4,18 @@ use mathlib.Core.List.{List, [], _∷_, _++_, map, map-append, List·Memᴰ as I
 use mathlib.Core.Logic.{_⊎_, inl, inr, ⊎-elim}
 use mathlib.Core.Option.{Option, none, some}
 use mathlib.Core.Path.{_≡_, refl, sym, ap, ap₂, subst, _∙_}
-use Prim.Native.Nat.{ℕ, _+_, _-_, _/_, _≤_}
+use Prim.Native.Nat.{ℕ, suc, _+_, _-_, _/_, _≤_, _<_}
 use native.Mathlib.Omega.{arith}
 use borrow.Author.Tests.{eqb-true, eqb-false, ltb-true, ltb-false}
 use lib.Dec.{T, eqb, ltb}
+use lib.ListN.{length}
 use Rattle.bundle_laws.specs.Limits.{gather-append}
 use Rattle.bundle_laws.specs.Order.{Least, least-all}
 use Rattle.bundle_paths.specs.Readings.{LineCells, pathNoted, allSteps}
 use Rattle.path_conditions.specs.Readings.{cellsOf}
 use Rattle.path_lines.specs.Readings.{Written, stepNoted, conditionOf, outerCells, allPaths}
-use Rattle.path_names.specs.Steps.{lastCode, codes, nameRange, rangeOf, earliest, earliestOf, lostCell}
-use Rattle.path_names.specs.declared.Range.{Range}
+use Rattle.path_names.specs.Steps.{numbered, numberedName, compiledTest, earliest, earliestOf, lostCell}
+use Rattle.path_names.specs.declared.CompiledTest.{CompiledTest}
 use Rattle.path_spec.specs.Grammar.{PathRead}
 use Rattle.path_spec.specs.Paths.{NodeTest, named, anyNode, anyText, PlainStep, conditionPaths, testUses, pathUses}
 use Rattle.path_spec.specs.Reading.{undeclaredPlaces}
@@ -22,25 +23,34 @@ use Rattle.path_steps.specs.Readings.{axisCount, useAt, testNoted, stepTest, pl
 use Rattle.schema_spec.specs.Declarations.{Use}
 use Rattle.schema_spec.specs.Schemas.{Schema, indexFrom, elementNamed}
 use Rattle.text_laws.specs.Lists.{in-map, map-in, in-gather, gather-in, in-filter, filter-in, is-none, memberless}
-use Rattle.text_spec.specs.Limits.{maxDeclarations}
-use Rattle.text_spec.specs.Lists.{gather, filterBy, isNone}
+use Rattle.text_laws.specs.Tests.{never}
+use Rattle.text_spec.specs.Lists.{gather, filterBy, isNone, sameBytes}
 use Rattle.text_spec.specs.Refusals.{allAt, undeclaredInPath}
 use Rattle.text_spec.specs.Scans.{nameAt}
 
--- ---- a test by its number: what passes it beside what it is
-module _ (names : List (List ℕ)) (text : List ℕ) where
-  pub data Test : Range → NodeTest Use → Type 0 where
-    node : Test (codes 0 lastCode 0) anyNode
-    texts : Test (codes maxDeclarations lastCode 0) anyText
-    known : (p e : ℕ) → indexFrom 0 (nameAt text p) names ≡ some e → Test (codes e e 0) (named (useAt text p))
-    lost : (p q : ℕ) → q ≡ p + 1 → indexFrom 0 (nameAt text p) names ≡ none → Test (codes 0 0 q) (named (useAt text p))
+-- an index is below the number of names
+pub index-below : (k : ℕ) (n : List ℕ) (ms : List (List ℕ)) (e : ℕ) → indexFrom k n ms ≡ some e → e < k + length ms
+index-below k n [] e h = never (cc)
+index-below k n (m ∷ ms) e h = pick (sameBytes n m) (index-below (suc k) n ms e) h
+  where
+    pick : (b : Bool) → (indexFrom (suc k) n ms ≡ some e → e < suc k + length ms) → cond b (some k) (indexFrom (suc k) n ms) ≡ some e → e < k + suc (length ms)
+    pick true r q = let z : k ≡ e = cc in omega arith
+    pick false r q = let z = r q in omega arith
 
-  pub test-by-number : (t : ℕ) → Test (rangeOf names text t) (testNoted text t)
-  unfolding rangeOf testNoted
+-- ---- a test by its number: what it is compiled to beside what it is
+module _ (names : List (List ℕ)) (text : List ℕ) where
+  pub data Test : CompiledTest → NodeTest Use → Type 0 where
+    node : Test (numbered 254 0) anyNode
+    texts : Test (numbered 255 0) anyText
+    known : (p e : ℕ) → indexFrom 0 (nameAt text p) names ≡ some e → Test (numbered e 0) (named (useAt text p))
+    lost : (p q : ℕ) → q ≡ p + 1 → indexFrom 0 (nameAt text p) names ≡ none → Test (numbered 0 q) (named (useAt text p))
+
+  pub test-by-number : (t : ℕ) → Test (compiledTest names text t) (testNoted text t)
+  unfolding compiledTest testNoted
   test-by-number t = go (eqb t 0) (eqb t 1) refl refl (indexFrom 0 (nameAt text (t - 2)) names) refl
     where
       go : (a b : Bool) → eqb t 0 ≡ a → eqb t 1 ≡ b → (o : Option ℕ) → indexFrom 0 (nameAt text (t - 2)) names ≡ o
-          → Test (cond a (codes 0 lastCode 0) (cond b (codes maxDeclarations lastCode 0) (nameRange (t - 1) o))) (cond a anyNode (cond b anyText (named (useAt text (t - 2)))))
+          → Test (cond a (numbered 254 0) (cond b (numbered 255 0) (numberedName (t - 1) o))) (cond a anyNode (cond b anyText (named (useAt text (t - 2)))))
       go true b p q o e = node
       go false true p q o e = texts
       go false false p q (some i) e = known (t - 2) i e
@@ -57,7 +67,7 @@ module _ (names : List (List ℕ)) (text : List ℕ) where
   unfolding stepTest
   lost-use c m e = go (test-by-number (c / axisCount)) e
     where
-      go : {r : Range} {t : NodeTest Use} → Test r t → r .lost ≡ m + 1 → (u : Use) × In u (testUses t) × (u .place ≡ m) × Unknown u
+      go : {r : CompiledTest} {t : NodeTest Use} → Test r t → r .lost ≡ m + 1 → (u : Use) × In u (testUses t) × (u .place ≡ m) × Unknown u
       go node f = absurd (omega arith)
       go texts f = absurd (omega arith)
       go (known p i q) f = absurd (omega arith)
@@ -67,7 +77,7 @@ module _ (names : List (List ℕ)) (text : List ℕ) where
   unfolding stepTest
   use-lost c u i n = go (test-by-number (c / axisCount)) i
     where
-      go : {r : Range} {t : NodeTest Use} → Test r t → In u (testUses t) → r .lost ≡ u .place + 1
+      go : {r : CompiledTest} {t : NodeTest Use} → Test r t → In u (testUses t) → r .lost ≡ u .place + 1
       go node j = elim j [ ]
       go texts j = elim j [ ]
       go (known p i q) (here e) =

@@ -1,14 +1,25 @@
 -- The columns of compiled paths, put together.
 use mathlib.Core.List.{List, map}
-use mathlib.Core.Path.{_≡_, ap, ap₂, _∙_}
-use Prim.Native.Nat.{ℕ, _+_}
-use lib.ListN.{replicate}
-use lib.Seq.{sets}
+use mathlib.Core.Path.{_≡_, sym, ap, ap₂, _∙_}
+use Prim.Native.Nat.{ℕ, _+_, _-_, _≤_, _<_}
+use native.Mathlib.Numerals.{add-one}
+use lib.ListN.{length, drop, getD, replicate, drop-of-length-le}
+use lib.Seq.{sets, drop-cons}
 use Rattle.compiled_paths.specs.Sizes.{writtenSteps, allSteps}
-use Rattle.path_columns.specs.Filling.{stepColumn, filled}
+use Rattle.path_columns.specs.Filling.{stepColumn, mark, marked, bracketStart, filled}
 use Rattle.path_columns.specs.declared.Filled.{Filled}
-use Rattle.path_names.specs.Steps.{earliestOf, axisCell, lowCell, highCell, lostCell, Compiled}
+use Rattle.path_names.specs.Steps.{earliestOf, axisCell, testCell, lostCell, Compiled}
 
+-- ---- marks from the end i on
+module _ (axes ways : List ℕ) (i : ℕ) where
+  pub marked-next : i < length ways → marked (mark axes (writtenSteps + getD ways i 0 - 1)) (drop (i + 1) ways) ≡ marked axes (drop i ways)
+  marked-next h =
+      ap (λ (j : ℕ). marked (mark axes (writtenSteps + getD ways i 0 - 1)) (drop j ways)) (add-one i) ∙ sym (ap (marked axes) (drop-cons ways i 0 h))
+
+  pub marked-all : length ways ≤ i → axes ≡ marked axes (drop i ways)
+  marked-all h = sym (ap (marked axes) (drop-of-length-le ways h))
+
+-- ---- all columns
 abbrev zeros : List ℕ
 zeros = replicate allSteps 0
 
@@ -16,22 +27,20 @@ zeros = replicate allSteps 0
 written-twice : (f : ℕ → ℕ) (outers cells : List ℕ) {a b : List ℕ} → a ≡ sets zeros 0 (map f outers) → b ≡ sets a writtenSteps (map f cells) → b ≡ stepColumn f outers cells
 written-twice f outers cells e d = d ∙ ap (λ (l : List ℕ). sets l writtenSteps (map f cells)) e
 
-pub filled-from : {names : List (List ℕ)} {text outers cells : List ℕ} {axes axes′ lows lows′ highs highs′ : List ℕ} {outer lost : ℕ} {ps cs ws : List ℕ} (count : ℕ) (paths conditions ways : List ℕ)
-    → Compiled names text outers 0 zeros axes zeros lows zeros highs 0 outer → Compiled names text cells writtenSteps axes axes′ lows lows′ highs highs′ outer lost
-    → ps ≡ paths → cs ≡ map (λ x. 0 + x) conditions → ws ≡ map (λ x. writtenSteps + x) ways
-    → _≡_ {A = Filled} (record { paths = record { count = count; paths = ps; conditions = cs; alternatives = ws; axes = axes′; lows = lows′; highs = highs′ }; lost = lost })
-    (filled names text count outers cells paths conditions ways)
+pub filled-from : {names : List (List ℕ)} {text outers cells : List ℕ} {axes axes′ axes″ tests tests′ : List ℕ} {outer lost : ℕ} {ps cs : List ℕ} (count : ℕ) (paths conditions ways : List ℕ)
+    → Compiled names text outers 0 zeros axes zeros tests 0 outer → Compiled names text cells writtenSteps axes axes′ tests tests′ outer lost
+    → axes″ ≡ marked axes′ (drop 1 ways) → ps ≡ paths → cs ≡ map (bracketStart ways) conditions
+    → _≡_ {A = Filled} (record { paths = record { count = count; paths = ps; conditions = cs; axes = axes″; tests = tests′ }; lost = lost }) (filled names text count outers cells paths conditions ways)
 unfolding filled
-filled-from {names} {text} {outers} {cells} {axes′ = axes′} {lows′ = lows′} {highs′ = highs′} {lost = lost} {ps = ps} {cs = cs} {ws = ws} count paths conditions ways A B p q r =
-    let x : axes′ ≡ stepColumn axisCell outers cells = written-twice axisCell outers cells (A .wrote-axes) (B .wrote-axes) in
-    let y : lows′ ≡ stepColumn (lowCell names text) outers cells = written-twice (lowCell names text) outers cells (A .wrote-lows) (B .wrote-lows) in
-    let z : highs′ ≡ stepColumn (highCell names text) outers cells = written-twice (highCell names text) outers cells (A .wrote-highs) (B .wrote-highs) in
+filled-from {names} {text} {outers} {cells} {axes″ = axes″} {tests′ = tests′} {lost = lost} {ps = ps} {cs = cs} count paths conditions ways A B m p q =
+    let x : axes″ ≡ marked (stepColumn axisCell outers cells) (drop 1 ways) =
+    m ∙ ap (λ (l : List ℕ). marked l (drop 1 ways)) (written-twice axisCell outers cells (A .wrote-axes) (B .wrote-axes)) in
+    let y : tests′ ≡ stepColumn (testCell names text) outers cells = written-twice (testCell names text) outers cells (A .wrote-tests) (B .wrote-tests) in
     let l : lost ≡ earliestOf (earliestOf 0 (map (lostCell names text) outers)) (map (lostCell names text) cells) =
     B .least ∙ ap (λ (n : ℕ). earliestOf n (map (lostCell names text) cells)) (A .least) in
-    ap₂ (λ (a b : List ℕ). made a b ws axes′ lows′ highs′ lost) p q
-    ∙ ap₂ (λ (a b : List ℕ). made paths (map (λ n. 0 + n) conditions) a b lows′ highs′ lost) r x
-    ∙ ap₂ (λ (a b : List ℕ). made paths (map (λ n. 0 + n) conditions) (map (λ n. writtenSteps + n) ways) (stepColumn axisCell outers cells) a b lost) y z
-    ∙ ap (λ (n : ℕ). made paths (map (λ n. 0 + n) conditions) (map (λ n. writtenSteps + n) ways) (stepColumn axisCell outers cells) (stepColumn (lowCell names text) outers cells) (stepColumn (highCell names text) outers cells) n) l
+    ap₂ (λ (a b : List ℕ). made a b axes″ tests′ lost) p q
+    ∙ ap₂ (λ (a b : List ℕ). made paths (map (bracketStart ways) conditions) a b lost) x y
+    ∙ ap (λ (n : ℕ). made paths (map (bracketStart ways) conditions) (marked (stepColumn axisCell outers cells) (drop 1 ways)) (stepColumn (testCell names text) outers cells) n) l
   where
-    made : List ℕ → List ℕ → List ℕ → List ℕ → List ℕ → List ℕ → ℕ → Filled
-    made a b c d e f n = record { paths = record { count = count; paths = a; conditions = b; alternatives = c; axes = d; lows = e; highs = f }; lost = n }
+    made : List ℕ → List ℕ → List ℕ → List ℕ → ℕ → Filled
+    made a b d e n = record { paths = record { count = count; paths = a; conditions = b; axes = d; tests = e }; lost = n }

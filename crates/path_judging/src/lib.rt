@@ -10,7 +10,6 @@ use bundle::Kind;
 use bundle::judge_names;
 use bundle::refused;
 use bundle_paths::BundleOutcome;
-use compiled_paths::ALTERNATIVE_STARTS;
 use compiled_paths::CONDITION_STARTS;
 use compiled_paths::PATH_STARTS;
 use compiled_paths::STEPS;
@@ -18,6 +17,9 @@ use compiled_paths::WRITTEN_STEPS;
 
 // The steps in brackets.
 const INNER_STEPS: usize = STEPS - WRITTEN_STEPS;
+
+// A start for each alternative, which has at least one step, and one past the last.
+const ALTERNATIVE_STARTS: usize = INNER_STEPS + 1;
 
 // Judges 8 to 10 on a text that passes 2 and 3.
 pub fn judge_paths(schema: &[u8], names: &[usize], text: &[u8]) -> Judged
@@ -42,6 +44,7 @@ pub fn judge_paths(schema: &[u8], names: &[usize], text: &[u8]) -> Judged
             let over = b.over;
             let k = b.k;
             let n = b.n;
+            let m = b.m;
             if over != 0 {
                 return refused(Kind::OverLimit, over - 1);
             }
@@ -54,7 +57,7 @@ pub fn judge_paths(schema: &[u8], names: &[usize], text: &[u8]) -> Judged
                 &cells[..n],
                 &paths,
                 &conditions,
-                &ways,
+                &ways[..=m],
             )
         }
     }

@@ -7,14 +7,13 @@ use borrow.Author.Tests.{eq-eqb, ne-eqb, lt-ltb, le-ltb}
 use lib.ListN.{length, take, set, getD}
 use lib.Seq.{length-sets, take-length}
 use Rattle.path_names.specs.Columns.{map-next, column-next}
-use Rattle.path_names.specs.Steps.{lastCode, codes, nameRange, rangeOf, earliest, earliestOf, axisCell, lowCell, highCell, lostCell, Compiled}
-use Rattle.path_names.specs.declared.Range.{Range}
+use Rattle.path_names.specs.Steps.{numbered, numberedName, compiledTest, earliest, earliestOf, axisCell, testCell, lostCell, Compiled}
+use Rattle.path_names.specs.declared.CompiledTest.{CompiledTest}
 use Rattle.path_steps.specs.Readings.{axisCount}
 use Rattle.schema_names.specs.NameLaws.{found-one, found-none}
 use Rattle.schema_spec.specs.Schemas.{indexFrom}
 use Rattle.text_laws.specs.Tests.{cond-yes, cond-no}
 use Rattle.text_spec.specs.Lists.{valueOr}
-use Rattle.text_spec.specs.Limits.{maxDeclarations}
 use Rattle.text_spec.specs.Scans.{nameAt}
 
 -- ---- a test
@@ -22,25 +21,25 @@ module _ (schema places text : List ℕ) (t : ℕ) where
   abbrev names : List (List ℕ)
   names = map (nameAt schema) places
 
-  pub range-node : t ≡ 0 → codes 0 lastCode 0 ≡ rangeOf names text t
-  unfolding rangeOf
-  range-node e = sym (cond-yes _ _ (eq-eqb t 0 e))
+  pub test-node : t ≡ 0 → numbered 254 0 ≡ compiledTest names text t
+  unfolding compiledTest
+  test-node e = sym (cond-yes _ _ (eq-eqb t 0 e))
 
   module _ (n : t ≡ 0 → ⊥) where
-    pub range-text : t ≡ 1 → codes maxDeclarations lastCode 0 ≡ rangeOf names text t
-    unfolding rangeOf
-    range-text e = sym (cond-no _ _ (ne-eqb t 0 n) ∙ cond-yes _ _ (eq-eqb t 1 e))
+    pub test-text : t ≡ 1 → numbered 255 0 ≡ compiledTest names text t
+    unfolding compiledTest
+    test-text e = sym (cond-no _ _ (ne-eqb t 0 n) ∙ cond-yes _ _ (eq-eqb t 1 e))
 
     module _ (m : t ≡ 1 → ⊥) {r : ℕ} (e : r ≡ valueOr (length places) (indexFrom 0 (nameAt text (t - 2)) names)) where
-      pub range-lost : length places ≤ r → codes 0 0 (t - 1) ≡ rangeOf names text t
-      unfolding rangeOf
-      range-lost h =
-          sym (cond-no _ _ (ne-eqb t 0 n) ∙ cond-no _ _ (ne-eqb t 1 m) ∙ ap (nameRange (t - 1)) (found-none schema places (nameAt text (t - 2)) e h .0))
+      pub test-lost : length places ≤ r → numbered 0 (t - 1) ≡ compiledTest names text t
+      unfolding compiledTest
+      test-lost h =
+          sym (cond-no _ _ (ne-eqb t 0 n) ∙ cond-no _ _ (ne-eqb t 1 m) ∙ ap (numberedName (t - 1)) (found-none schema places (nameAt text (t - 2)) e h .0))
 
-      pub range-named : r < length places → codes r r 0 ≡ rangeOf names text t
-      unfolding rangeOf
-      range-named h =
-          sym (cond-no _ _ (ne-eqb t 0 n) ∙ cond-no _ _ (ne-eqb t 1 m) ∙ ap (nameRange (t - 1)) (found-one schema places (nameAt text (t - 2)) e h .0))
+      pub test-named : r < length places → numbered r 0 ≡ compiledTest names text t
+      unfolding compiledTest
+      test-named h =
+          sym (cond-no _ _ (ne-eqb t 0 n) ∙ cond-no _ _ (ne-eqb t 1 m) ∙ ap (numberedName (t - 1)) (found-one schema places (nameAt text (t - 2)) e h .0))
 
 -- ---- the lesser of two
 module _ (a b : ℕ) where
@@ -67,33 +66,32 @@ earliest-more : (a : ℕ) (xs : List ℕ) (x : ℕ) → earliestOf a (xs ++ (x �
 earliest-more a [] x = refl
 earliest-more a (y ∷ xs) x = earliest-more (earliest a y) xs x
 
-pub compiled-sizes : {names : List (List ℕ)} {text cells : List ℕ} {at : ℕ} {axes axes′ lows lows′ highs highs′ : List ℕ} {lost least : ℕ}
-    → Compiled names text cells at axes axes′ lows lows′ highs highs′ lost least
-    → (length axes′ ≡ length axes) × (length lows′ ≡ length lows) × (length highs′ ≡ length highs)
-compiled-sizes C = (ap length (C .wrote-axes) ∙ simp length-sets, ap length (C .wrote-lows) ∙ simp length-sets, ap length (C .wrote-highs) ∙ simp length-sets)
+pub compiled-sizes : {names : List (List ℕ)} {text cells : List ℕ} {at : ℕ} {axes axes′ tests tests′ : List ℕ} {lost least : ℕ}
+    → Compiled names text cells at axes axes′ tests tests′ lost least
+    → (length axes′ ≡ length axes) × (length tests′ ≡ length tests)
+compiled-sizes C = (ap length (C .wrote-axes) ∙ simp length-sets, ap length (C .wrote-tests) ∙ simp length-sets)
 
-module _ (names : List (List ℕ)) (text cells : List ℕ) (at : ℕ) (axes lows highs : List ℕ) (lost : ℕ) where
-  abbrev pub CompiledTo : ℕ → List ℕ → List ℕ → List ℕ → ℕ → Type 0
-  CompiledTo i axes′ lows′ highs′ least = Compiled names text (take i cells) at axes axes′ lows lows′ highs highs′ lost least
+module _ (names : List (List ℕ)) (text cells : List ℕ) (at : ℕ) (axes tests : List ℕ) (lost : ℕ) where
+  abbrev pub CompiledTo : ℕ → List ℕ → List ℕ → ℕ → Type 0
+  CompiledTo i axes′ tests′ least = Compiled names text (take i cells) at axes axes′ tests tests′ lost least
 
-  pub compiled-first : CompiledTo 0 axes lows highs lost
-  compiled-first = record { wrote-axes = refl; wrote-lows = refl; wrote-highs = refl; least = refl }
+  pub compiled-first : CompiledTo 0 axes tests lost
+  compiled-first = record { wrote-axes = refl; wrote-tests = refl; least = refl }
 
-  module _ (axes′ lows′ highs′ : List ℕ) (least i : ℕ) (C : CompiledTo i axes′ lows′ highs′ least) where
-    pub compiled-all : i ≤ length cells → length cells ≤ i → Compiled names text cells at axes axes′ lows lows′ highs highs′ lost least
+  module _ (axes′ tests′ : List ℕ) (least i : ℕ) (C : CompiledTo i axes′ tests′ least) where
+    pub compiled-all : i ≤ length cells → length cells ≤ i → Compiled names text cells at axes axes′ tests tests′ lost least
     compiled-all h k =
         let e : i ≡ length cells = omega arith in
-        subst (λ (l : List ℕ). Compiled names text l at axes axes′ lows lows′ highs highs′ lost least) (ap (λ (n : ℕ). take n cells) e ∙ take-length cells) C
+        subst (λ (l : List ℕ). Compiled names text l at axes axes′ tests tests′ lost least) (ap (λ (n : ℕ). take n cells) e ∙ take-length cells) C
 
-    pub compiled-next : i < length cells → {r : Range} → r ≡ rangeOf names text (getD cells i 0 / axisCount) → {least′ : ℕ} → least′ ≡ earliest least (r .lost)
-        → CompiledTo (i + 1) (set axes′ (at + i) (axisCell (getD cells i 0))) (set lows′ (at + i) (r .low)) (set highs′ (at + i) (r .high)) least′
+    pub compiled-next : i < length cells → {r : CompiledTest} → r ≡ compiledTest names text (getD cells i 0 / axisCount) → {least′ : ℕ} → least′ ≡ earliest least (r .lost)
+        → CompiledTo (i + 1) (set axes′ (at + i) (axisCell (getD cells i 0))) (set tests′ (at + i) (r .number)) least′
     compiled-next h {r} e {least′} d =
         record {
           wrote-axes = column-next axisCell cells i h axes axes′ at (C .wrote-axes);
-          wrote-lows = ap (λ (x : Range). set lows′ (at + i) (x .low)) e ∙ column-next (lowCell names text) cells i h lows lows′ at (C .wrote-lows);
-          wrote-highs = ap (λ (x : Range). set highs′ (at + i) (x .high)) e ∙ column-next (highCell names text) cells i h highs highs′ at (C .wrote-highs);
+          wrote-tests = ap (λ (x : CompiledTest). set tests′ (at + i) (x .number)) e ∙ column-next (testCell names text) cells i h tests tests′ at (C .wrote-tests);
           least =
-              d ∙ ap₂ (λ (a : ℕ) (x : Range). earliest a (x .lost)) (C .least) e
+              d ∙ ap₂ (λ (a : ℕ) (x : CompiledTest). earliest a (x .lost)) (C .least) e
               ∙ sym (earliest-more lost (map (lostCell names text) (take i cells)) (lostCell names text (getD cells i 0)))
               ∙ ap (earliestOf lost) (sym (map-next (lostCell names text) cells i h));
         }

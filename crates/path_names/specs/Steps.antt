@@ -4,32 +4,28 @@ use mathlib.Core.Bool.{cond}
 use mathlib.Core.List.{List, [], _∷_, map}
 use mathlib.Core.Option.{Option, none, some}
 use mathlib.Core.Path.{_≡_}
-use Prim.Native.Nat.{ℕ, _+_, _-_, _/_, _%_}
+use Prim.Native.Nat.{ℕ, _-_, _/_, _%_}
 use lib.Dec.{eqb, ltb}
 use lib.Seq.{sets}
-use Rattle.path_names.specs.declared.Range.{Range}
+use Rattle.path_names.specs.declared.CompiledTest.{CompiledTest}
 use Rattle.path_steps.specs.Readings.{axisCount}
 use Rattle.schema_spec.specs.Schemas.{indexFrom}
-use Rattle.text_spec.specs.Limits.{maxDeclarations}
 use Rattle.text_spec.specs.Scans.{nameAt}
 
-abbrev pub lastCode : ℕ
-lastCode = maxDeclarations + maxDeclarations - 1
+abbrev pub numbered : ℕ → ℕ → CompiledTest
+numbered n p = record { number = n; lost = p }
 
-abbrev pub codes : ℕ → ℕ → ℕ → Range
-codes a b p = record { low = a; high = b; lost = p }
+-- a name by the element that has it, or else lost with the number p
+abbrev pub numberedName : ℕ → Option ℕ → CompiledTest
+numberedName p (some e) = numbered e 0
+numberedName p none = numbered 0 p
 
--- a name by the element that has it, or else the number p
-abbrev pub nameRange : ℕ → Option ℕ → Range
-nameRange p (some e) = codes e e 0
-nameRange p none = codes 0 0 p
-
--- the codes of names that pass the test with this number, and one more than the place of a name that no element has
-unfoldable pub rangeOf : List (List ℕ) → List ℕ → ℕ → Range
-rangeOf names text t =
-    cond (eqb t 0) (codes 0 lastCode 0)
-    (cond (eqb t 1) (codes maxDeclarations lastCode 0)
-    (nameRange (t - 1) (indexFrom 0 (nameAt text (t - 2)) names)))
+-- the test with this number in the text, as in compiled paths, and one more than the place of a name that no element has
+unfoldable pub compiledTest : List (List ℕ) → List ℕ → ℕ → CompiledTest
+compiledTest names text t =
+    cond (eqb t 0) (numbered 254 0)
+    (cond (eqb t 1) (numbered 255 0)
+    (numberedName (t - 1) (indexFrom 0 (nameAt text (t - 2)) names)))
 
 -- the lesser of two numbers, 0 standing for none
 unfoldable pub earliest : ℕ → ℕ → ℕ
@@ -44,17 +40,13 @@ abbrev pub axisCell : ℕ → ℕ
 axisCell c = c % axisCount
 
 module _ (names : List (List ℕ)) (text : List ℕ) where
-  abbrev pub lowCell : ℕ → ℕ
-  lowCell c = rangeOf names text (c / axisCount) .low
-
-  abbrev pub highCell : ℕ → ℕ
-  highCell c = rangeOf names text (c / axisCount) .high
+  abbrev pub testCell : ℕ → ℕ
+  testCell c = compiledTest names text (c / axisCount) .number
 
   abbrev pub lostCell : ℕ → ℕ
-  lostCell c = rangeOf names text (c / axisCount) .lost
+  lostCell c = compiledTest names text (c / axisCount) .lost
 
-  pub record Compiled (cells : List ℕ) (at : ℕ) (axes axes′ lows lows′ highs highs′ : List ℕ) (lost r : ℕ) : Type 0 where
+  pub record Compiled (cells : List ℕ) (at : ℕ) (axes axes′ tests tests′ : List ℕ) (lost r : ℕ) : Type 0 where
     pub wrote-axes : axes′ ≡ sets axes at (map axisCell cells)
-    pub wrote-lows : lows′ ≡ sets lows at (map lowCell cells)
-    pub wrote-highs : highs′ ≡ sets highs at (map highCell cells)
+    pub wrote-tests : tests′ ≡ sets tests at (map testCell cells)
     pub least : r ≡ earliestOf lost (map lostCell cells)

@@ -18,28 +18,50 @@ array-share-prefix-outers c =
     let at-b = c .before .before in
     let at-all = at-b .before .before .before .before .before .before .before in
     let start = at-all .before .before .before .before .before .before .before .before .before in
-    judge-counts (start .pre .1) (at-all .all-paths .ensures) (at-b .b .given .1) (c .if1 .left) .0
+    judge-counts (start .pre .1) (at-all .all-paths .ensures) (at-b .b .given .1) (c .if1 .left) .outers-in
 
 slice-aggregate-judge-names : tie.Need-slice-aggregate-judge-names
 slice-aggregate-judge-names c =
     let at-b = c .before .before .before in
     let at-all = at-b .before .before .before .before .before .before .before in
     let start = at-all .before .before .before .before .before .before .before .before .before in
-    judge-counts (start .pre .1) (at-all .all-paths .ensures) (at-b .b .given .1) (c .before .if1 .left) .2
+    judge-counts (start .pre .1) (at-all .all-paths .ensures) (at-b .b .given .1) (c .before .if1 .left) .outers-taken
 
 array-share-prefix-cells : tie.Need-array-share-prefix-cells
 array-share-prefix-cells c =
     let at-b = c .before .before .before in
     let at-all = at-b .before .before .before .before .before .before .before in
     let start = at-all .before .before .before .before .before .before .before .before .before in
-    judge-counts (start .pre .1) (at-all .all-paths .ensures) (at-b .b .given .1) (c .before .if1 .left) .1
+    judge-counts (start .pre .1) (at-all .all-paths .ensures) (at-b .b .given .1) (c .before .if1 .left) .cells-in
 
 slice-aggregate-judge-names-2 : tie.Need-slice-aggregate-judge-names-2
 slice-aggregate-judge-names-2 c =
     let at-b = c .before .before .before .before in
     let at-all = at-b .before .before .before .before .before .before .before in
     let start = at-all .before .before .before .before .before .before .before .before .before in
-    judge-counts (start .pre .1) (at-all .all-paths .ensures) (at-b .b .given .1) (c .before .before .if1 .left) .3
+    judge-counts (start .pre .1) (at-all .all-paths .ensures) (at-b .b .given .1) (c .before .before .if1 .left) .cells-taken
+
+add-ways : tie.Need-add-ways
+add-ways c =
+    let at-b = c .before .before .before .before .before .before in
+    let at-all = at-b .before .before .before .before .before .before .before in
+    let start = at-all .before .before .before .before .before .before .before .before .before in
+    let small = judge-counts (start .pre .1) (at-all .all-paths .ensures) (at-b .b .given .1) (c .before .before .before .before .if1 .left) .ways-in in
+    search needs
+
+array-share-prefix-ways : tie.Need-array-share-prefix-ways
+array-share-prefix-ways c =
+    let at-b = c .before .before .before .before .before .before in
+    let at-all = at-b .before .before .before .before .before .before .before in
+    let start = at-all .before .before .before .before .before .before .before .before .before in
+    judge-counts (start .pre .1) (at-all .all-paths .ensures) (at-b .b .given .1) (c .before .before .before .before .if1 .left) .ways-in
+
+slice-aggregate-judge-names-5 : tie.Need-slice-aggregate-judge-names-5
+slice-aggregate-judge-names-5 c =
+    let at-b = c .before .before .before .before .before .before .before in
+    let at-all = at-b .before .before .before .before .before .before .before in
+    let start = at-all .before .before .before .before .before .before .before .before .before in
+    judge-counts (start .pre .1) (at-all .all-paths .ensures) (at-b .b .given .1) (c .before .before .before .before .before .if1 .left) .ways-taken
 
 judge-names-requires : tie.Need-judge-names-requires
 judge-names-requires c κs =
@@ -77,7 +99,9 @@ judge-paths-spec =
     slice-aggregate-judge-names-2
     (λ c. search needs)
     (λ c. search needs)
-    (λ c. search needs)
+    add-ways
+    array-share-prefix-ways
+    slice-aggregate-judge-names-5
     judge-names-requires
     returns-2
     (λ c. search needs))

@@ -10,59 +10,50 @@ use Rattle.path_names.proofs.compile_steps.Statement.{statement}
 use Rattle.path_names.proofs.compile_steps.Tie as tie
 
 abbrev Inv-loop : tie.InvT-loop
-Inv-loop schema names text cells at axes₀ lows₀ highs₀ lost least₀ i₀ axes lows highs least i =
-    (i ≤ length cells) × CompiledTo (map (nameAt schema) names) text cells at axes₀ lows₀ highs₀ lost i axes lows highs least
+Inv-loop schema names text cells at axes₀ tests₀ lost least₀ i₀ axes tests least i =
+    (i ≤ length cells) × CompiledTo (map (nameAt schema) names) text cells at axes₀ tests₀ lost i axes tests least
 
 abbrev μ-loop : tie.MeasureT-loop
-μ-loop schema names text cells at axes₀ lows₀ highs₀ lost least₀ i₀ axes lows highs least i = length cells - i
+μ-loop schema names text cells at axes₀ tests₀ lost least₀ i₀ axes tests least i = length cells - i
 
 loop-holds : tie.Need-loop-holds Inv-loop μ-loop
 loop-holds c =
-    let args = c .before .before .before .before .before .before .before .args in (
+    let args = c .before .before .before .before .before .before .args in (
       omega arith,
-      compiled-first (map (nameAt (args .schema .now)) (args .names .now)) (args .text .now) (args .cells .now) (args .at) (args .axes .now) (args .lows .now) (args .highs .now) (args .lost),
+      compiled-first (map (nameAt (args .schema .now)) (args .names .now)) (args .text .now) (args .cells .now) (args .at) (args .axes .now) (args .tests .now) (args .lost),
     )
 
 add-k : tie.Need-add-k Inv-loop μ-loop
 add-k c =
-    let start = c .before .before .before .before .before .before .before .before .before .before .before in
+    let start = c .before .before .before .before .before .before .before .before .before .before in
     let room = start .pre .1 in
     omega arith
 
 slice-write-axes : tie.Need-slice-write-axes Inv-loop μ-loop
 slice-write-axes c =
     let at-loop = c .before .before .before in
-    let start = at-loop .before .before .before .before .before .before .before .before in
+    let start = at-loop .before .before .before .before .before .before .before in
     let room = start .pre .1 in
     let z = compiled-sizes (at-loop .loop .inv .1) .0 in
     omega arith
 
-slice-write-lows : tie.Need-slice-write-lows Inv-loop μ-loop
-slice-write-lows c =
+slice-write-tests : tie.Need-slice-write-tests Inv-loop μ-loop
+slice-write-tests c =
     let at-loop = c .before .before .before in
-    let start = at-loop .before .before .before .before .before .before .before .before in
+    let start = at-loop .before .before .before .before .before .before .before in
     let room = start .pre .1 in
     let same = start .pre .2 in
     let z = compiled-sizes (at-loop .loop .inv .1) .1 in
     omega arith
 
-slice-write-highs : tie.Need-slice-write-highs Inv-loop μ-loop
-slice-write-highs c =
-    let at-loop = c .before .before .before in
-    let start = at-loop .before .before .before .before .before .before .before .before in
-    let room = start .pre .1 in
-    let same = start .pre .3 in
-    let z = compiled-sizes (at-loop .loop .inv .1) .2 in
-    omega arith
-
 loop-again : tie.Need-loop-again Inv-loop μ-loop
 loop-again c =
     let at-loop = c .before .before .before .before in
-    let args = at-loop .before .before .before .before .before .before .before .before .args in
+    let args = at-loop .before .before .before .before .before .before .before .args in
     let l = at-loop .loop in
     let h = c .before .before .before .loop-test .taken in (
       omega arith,
-      compiled-next (map (nameAt (args .schema .now)) (args .names .now)) (args .text .now) (args .cells .now) (args .at) (args .axes .now) (args .lows .now) (args .highs .now) (args .lost) (l .axes) (l .lows) (l .highs) (l .least) (l .i) (l .inv .1) h (c .before .test-range .ensures) (c .earlier .ensures),
+      compiled-next (map (nameAt (args .schema .now)) (args .names .now)) (args .text .now) (args .cells .now) (args .at) (args .axes .now) (args .tests .now) (args .lost) (l .axes) (l .tests) (l .least) (l .i) (l .inv .1) h (c .before .compile-test .ensures) (c .earlier .ensures),
     )
 
 same-length : tie.Need-same-length Inv-loop μ-loop
@@ -73,15 +64,11 @@ same-length-2 : tie.Need-same-length-2 Inv-loop μ-loop
 same-length-2 c =
     compiled-sizes (c .before .loop .inv .1) .1
 
-same-length-3 : tie.Need-same-length-3 Inv-loop μ-loop
-same-length-3 c =
-    compiled-sizes (c .before .loop .inv .1) .2
-
 returns : tie.Need-returns Inv-loop μ-loop
 returns c =
-    let args = c .before .before .before .before .before .before .before .before .before .args in
+    let args = c .before .before .before .before .before .before .before .before .args in
     let l = c .before .loop in
-    compiled-all (map (nameAt (args .schema .now)) (args .names .now)) (args .text .now) (args .cells .now) (args .at) (args .axes .now) (args .lows .now) (args .highs .now) (args .lost) (l .axes) (l .lows) (l .highs) (l .least) (l .i) (l .inv .1) (l .inv .0) (c .loop-test .left)
+    compiled-all (map (nameAt (args .schema .now)) (args .names .now)) (args .text .now) (args .cells .now) (args .at) (args .axes .now) (args .tests .now) (args .lost) (l .axes) (l .tests) (l .least) (l .i) (l .inv .1) (l .inv .0) (c .loop-test .left)
 
 pub compile-steps-spec : {M : Type 1} → statement M
 compile-steps-spec =
@@ -96,13 +83,11 @@ compile-steps-spec =
     add-k
     (λ c. search needs)
     slice-write-axes
-    slice-write-lows
-    slice-write-highs
+    slice-write-tests
     (λ c κs. search needs)
     (λ c. search needs)
     (λ c. search needs)
     loop-again
     same-length
     same-length-2
-    same-length-3
     returns)

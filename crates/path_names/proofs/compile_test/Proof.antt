@@ -1,0 +1,31 @@
+-- `compile_test` meets its contract: the two tests that are called, then the name.
+use borrow.Author.Needs.{needs}
+use Rattle.path_names.proofs.Columns.{test-node, test-text, test-lost, test-named}
+use Rattle.path_names.proofs.compile_test.Statement.{statement}
+use Rattle.path_names.proofs.compile_test.Tie as tie
+
+returns : tie.Need-returns
+returns c =
+    let args = c .before .before .before .before .args in
+    test-node (args .schema .now) (args .names .now) (args .text .now) (args .test) (c .if1 .taken)
+
+returns-2 : tie.Need-returns-2
+returns-2 c =
+    let args = c .before .before .before .before .before .args in
+    test-text (args .schema .now) (args .names .now) (args .text .now) (args .test) (c .before .if1 .left) (c .if2 .taken)
+
+returns-3 : tie.Need-returns-3
+returns-3 c =
+    let at-if2 = c .before .before in
+    let args = at-if2 .before .before .before .before .before .args in
+    test-lost (args .schema .now) (args .names .now) (args .text .now) (args .test) (at-if2 .before .if1 .left) (at-if2 .if2 .left) (c .before .find .ensures) (c .if3 .taken)
+
+returns-4 : tie.Need-returns-4
+returns-4 c =
+    let at-if2 = c .before .before in
+    let args = at-if2 .before .before .before .before .before .args in
+    test-named (args .schema .now) (args .names .now) (args .text .now) (args .test) (at-if2 .before .if1 .left) (at-if2 .if2 .left) (c .before .find .ensures) (c .if3 .left)
+
+pub compile-test-spec : {M : Type 1} → statement M
+compile-test-spec =
+    tie.close (tie.spec returns returns-2 (λ c. search needs) (λ c κs. search needs) (λ c. search needs) returns-3 (λ c. search needs) returns-4)
