@@ -1,5 +1,5 @@
 #!/usr/bin/env python3
-"""Writes crates/bundle_cases/stdin and stdout. With --check it compares instead.
+"""Writes tests/cases/bundle_cases.in and bundle_cases.out. With --check it compares instead.
 
 First the bundle cases of tests/vectors: each text after its length in two bytes, a schema's where 128 is added to the first byte, and the
 outcome that the case itself gives. Then each limit on both sides, undeclared names, and bundles made by a generator that always gives the
@@ -13,7 +13,7 @@ import re
 import sys
 
 HERE = os.path.dirname(os.path.abspath(__file__))
-CRATE = os.path.join(HERE, "..", "crates", "bundle_cases")
+CASES = os.path.join(HERE, "cases", "bundle_cases")
 AXES = ["self", "child", "descendant", "descendant-or-self", "parent", "ancestor", "ancestor-or-self"]
 # the cells before those of steps in brackets
 WRITTEN = 128
@@ -148,12 +148,12 @@ def main():
     # under a schema that is refused no bundle is read
     read += text_case("<!ELEMENT a>", True) + text_case("self::a\n", False)
     written += refused(1, 0)
-    for name, content in (("stdin", read), ("stdout", written.encode("ascii"))):
-        path = os.path.join(CRATE, name)
+    for name, content in ((".in", read), (".out", written.encode("ascii"))):
+        path = CASES + name
         if "--check" in sys.argv[1:]:
             with open(path, "rb") as f:
                 if f.read() != content:
-                    sys.exit("bundle_cases: %s is not what tests/bundle_cases.py says" % name)
+                    sys.exit("bundle_cases: %s is not what tests/bundle_cases.py says" % path)
         else:
             with open(path, "wb") as f:
                 f.write(content)

@@ -1,5 +1,5 @@
 #!/usr/bin/env python3
-"""Writes crates/extract_cases/stdin and stdout. With --check it compares instead.
+"""Writes tests/cases/extract_cases.in and extract_cases.out. With --check it compares instead.
 
 First the cases of tests/vectors that read an extract, each with the outcome that the case itself gives; then extracts at the limits of depth 64 and
 65 and of a text of 4,096 and 4,097 bytes. A case is the lengths of the schema and of the extract, two bytes each, and the two texts. It is read into
@@ -10,7 +10,7 @@ import struct
 import sys
 
 HERE = os.path.dirname(os.path.abspath(__file__))
-CRATE = os.path.join(HERE, "..", "crates", "extract_cases")
+CASES = os.path.join(HERE, "cases", "extract_cases")
 TEXTS = 32
 
 
@@ -59,8 +59,8 @@ def main():
     for schema, extract, outcome, rows in [*vectors(), *limits()]:
         stdin += struct.pack(">2H", len(schema), len(extract)) + schema.encode("latin-1") + extract
         stdout += answer(outcome, rows, 64) + answer(outcome, rows, 4)
-    for name, made in (("stdin", stdin), ("stdout", stdout.encode())):
-        path = os.path.join(CRATE, name)
+    for name, made in ((".in", stdin), (".out", stdout.encode())):
+        path = CASES + name
         if "--check" in sys.argv:
             with open(path, "rb") as f:
                 if f.read() != made:

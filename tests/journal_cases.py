@@ -1,5 +1,5 @@
 #!/usr/bin/env python3
-"""Writes crates/journal_cases/stdin and stdout. With --check it compares instead.
+"""Writes tests/cases/journal_cases.in and journal_cases.out. With --check it compares instead.
 
 First the journal cases of tests/vectors, each with the outcome that the case itself gives, by the public entry and over a compiled schema; then
 the limits of nodes, bytes, depth, texts and names on both sides, and what is refused by 1, 2 and 18 beside other faults. A case is the schema's
@@ -12,7 +12,7 @@ import struct
 import sys
 
 HERE = os.path.dirname(os.path.abspath(__file__))
-CRATE = os.path.join(HERE, "..", "crates", "journal_cases")
+CASES = os.path.join(HERE, "cases", "journal_cases")
 LONGEST, LENT, SHOWN = 1048576, 100, 100
 PUBLIC, WITHIN = 0, 1
 
@@ -145,8 +145,8 @@ def main():
     for given, gives in cases():
         stdin += given
         stdout += gives
-    for name, made in (("stdin", stdin), ("stdout", stdout.encode())):
-        path = os.path.join(CRATE, name)
+    for name, made in ((".in", stdin), (".out", stdout.encode())):
+        path = CASES + name
         if "--check" in sys.argv:
             with open(path, "rb") as f:
                 if f.read() != made:

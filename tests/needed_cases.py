@@ -1,5 +1,5 @@
 #!/usr/bin/env python3
-"""Writes crates/needed_cases/stdin and stdout. With --check it compares instead.
+"""Writes tests/cases/needed_cases.in and needed_cases.out. With --check it compares instead.
 
 The cases of tests/vectors that ask for needed names: the schema (128 is added to the first byte of its length), its bundle, and each path of the
 bundle as a bundle of its own. The case gives the names of the bundle and those of each path."""
@@ -8,7 +8,7 @@ import os
 import sys
 
 HERE = os.path.dirname(os.path.abspath(__file__))
-CRATE = os.path.join(HERE, "..", "crates", "needed_cases")
+CASES = os.path.join(HERE, "cases", "needed_cases")
 
 
 def cases():
@@ -34,12 +34,12 @@ def main():
         for bundle, word in zip([texts[1]] + paths, words):
             read += len(bundle).to_bytes(2, "big") + bundle
             written += "%d\n" % int(word, 16)
-    for name, content in (("stdin", read), ("stdout", written.encode("ascii"))):
-        path = os.path.join(CRATE, name)
+    for name, content in ((".in", read), (".out", written.encode("ascii"))):
+        path = CASES + name
         if "--check" in sys.argv[1:]:
             with open(path, "rb") as f:
                 if f.read() != content:
-                    sys.exit("needed_cases: %s is not what tests/needed_cases.py says" % name)
+                    sys.exit("needed_cases: %s is not what tests/needed_cases.py says" % path)
         else:
             with open(path, "wb") as f:
                 f.write(content)

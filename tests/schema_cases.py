@@ -1,5 +1,5 @@
 #!/usr/bin/env python3
-"""Writes crates/schema_cases/stdin and stdout. With --check it compares instead.
+"""Writes tests/cases/schema_cases.in and schema_cases.out. With --check it compares instead.
 
 First the schema cases of tests/vectors: each text after its length in two bytes, and the outcome that the case itself gives. Then texts of
 which the tables are shown, too (128 is added to the first byte): those of these cases that are accepted, the schemas of other cases, and
@@ -12,7 +12,7 @@ import re
 import sys
 
 HERE = os.path.dirname(os.path.abspath(__file__))
-CRATE = os.path.join(HERE, "..", "crates", "schema_cases")
+CASES = os.path.join(HERE, "cases", "schema_cases")
 NAME = r"[A-Za-z_][A-Za-z0-9._-]*"
 BLANK = r"[ \t\n]"
 TRIED = 5
@@ -106,12 +106,12 @@ def main():
     for text in dict.fromkeys(shown()):
         read += (2 ** 15 + len(text)).to_bytes(2, "big") + text.encode("latin-1")
         written += "ok %d\n" % len(declarations(text)) + tables(text)
-    for name, content in (("stdin", read), ("stdout", written.encode("ascii"))):
-        path = os.path.join(CRATE, name)
+    for name, content in ((".in", read), (".out", written.encode("ascii"))):
+        path = CASES + name
         if "--check" in sys.argv[1:]:
             with open(path, "rb") as f:
                 if f.read() != content:
-                    sys.exit("schema_cases: %s is not what tests/schema_cases.py says" % name)
+                    sys.exit("schema_cases: %s is not what tests/schema_cases.py says" % path)
         else:
             with open(path, "wb") as f:
                 f.write(content)

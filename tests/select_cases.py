@@ -1,5 +1,5 @@
 #!/usr/bin/env python3
-"""Writes crates/select_cases/stdin and stdout. With --check it compares instead.
+"""Writes tests/cases/select_cases.in and select_cases.out. With --check it compares instead.
 
 The cases of tests/vectors that select, those of document 01's tried paths among them. A case is four numbers of two bytes (the lengths of the
 schema, the bundle and the journal, and how many calls follow), the three texts, and for each call three numbers of two bytes: a place in the
@@ -12,7 +12,7 @@ import struct
 import sys
 
 HERE = os.path.dirname(os.path.abspath(__file__))
-CRATE = os.path.join(HERE, "..", "crates", "select_cases")
+CASES = os.path.join(HERE, "cases", "select_cases")
 
 
 def vectors():
@@ -56,8 +56,8 @@ def main():
         for place, items, counts, refusal, answer in asked:
             stdin += struct.pack(">3H", place, items, counts)
             stdout += line(items, counts, refusal, answer)
-    for name, made in (("stdin", stdin), ("stdout", stdout.encode())):
-        path = os.path.join(CRATE, name)
+    for name, made in ((".in", stdin), (".out", stdout.encode())):
+        path = CASES + name
         if "--check" in sys.argv:
             with open(path, "rb") as f:
                 if f.read() != made:

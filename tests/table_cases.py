@@ -1,5 +1,5 @@
 #!/usr/bin/env python3
-"""Writes crates/table_cases/stdin and stdout. With --check it compares instead.
+"""Writes tests/cases/table_cases.in and table_cases.out. With --check it compares instead.
 
 First the table cases of tests/vectors, each with the outcome that the case itself gives; then tables at the limits of depth 64 and 65 and of a
 text of 4,096 and 4,097 bytes, columns of more cells than rows, and a count above the cells. A case is six numbers of two bytes (the lengths of
@@ -12,7 +12,7 @@ import struct
 import sys
 
 HERE = os.path.dirname(os.path.abspath(__file__))
-CRATE = os.path.join(HERE, "..", "crates", "table_cases")
+CASES = os.path.join(HERE, "cases", "table_cases")
 TEXTS = 32
 
 
@@ -78,8 +78,8 @@ def main():
             stdin += case(schema, rows, count, text, position)
             outcome = "ok %d" % count if passes else "refused 1 at 0"
             stdout += outcome + " " + answer(rows, count, position, passes) + "\n"
-    for name, made in (("stdin", stdin), ("stdout", stdout.encode())):
-        path = os.path.join(CRATE, name)
+    for name, made in ((".in", stdin), (".out", stdout.encode())):
+        path = CASES + name
         if "--check" in sys.argv:
             with open(path, "rb") as f:
                 if f.read() != made:

@@ -1,5 +1,6 @@
 /* This library. Reading is making an extract for one path that needs the root alone: parsing and validating, and little else. Selecting is one call
    on the extract for all paths, which reads schema, bundle and extract anew. */
+#include "../cases/functions.h"
 #include "lozhymet.h"
 #include "peers.h"
 
@@ -11,10 +12,6 @@ static size_t extract_len, rows;
 
 /* as many cells as there are rows: what is lent is cleared */
 #define COLUMNS(n) numbers, n, names, n, parents, n, starts, n, lengths, n
-
-static void start(const struct tray *t) {
-    tray = t;
-}
 
 static int make_for(const char *bundle, size_t bundle_len) {
     size_t most = rows ? rows : LOZHYMET_JOURNAL_ROWS(tray->journal_len);
@@ -46,15 +43,25 @@ static long select_all(void) {
     return r.number ? -1 : (long)r.items;
 }
 
-/* crates/timing, on columns of exactly the journal's rows */
-size_t time_selection(const uint8_t *schema, size_t schema_len, const uint8_t *bundle, size_t bundle_len, const uint16_t *numbers, size_t numbers_len,
-    const uint8_t *codes, size_t codes_len, const uint16_t *parents, size_t parents_len, uint16_t *items, size_t items_len, uint32_t *counts,
-    size_t counts_len, uint8_t *marks, size_t marks_len, uint8_t *held, size_t held_len, uint8_t *steps, size_t steps_len, uint8_t *next, size_t next_len);
+/* the public function over records, on columns of exactly the journal's rows: it judges records and table first */
+static uint8_t schema_cells[8192], bundle_cells[4104];
+static size_t schema_len, bundle_len;
+
+static void read_records(void) {
+    schema_len = test_read_schema((const uint8_t *)tray->schema, tray->schema_len, schema_cells, sizeof schema_cells).size;
+    bundle_len = test_read_bundle(schema_cells, sizeof schema_cells, schema_len, (const uint8_t *)tray->bundle, tray->bundle_len, bundle_cells,
+        sizeof bundle_cells).size;
+}
 
 static long select_columns(void) {
-    static uint8_t scratch[4][LOZHYMET_MAX_ROWS];
-    return (long)time_selection((const uint8_t *)tray->schema, tray->schema_len, (const uint8_t *)tray->bundle, tray->bundle_len, numbers, rows, names, rows,
-        parents, rows, items, LOZHYMET_MAX_PATHS * rows, counts, LOZHYMET_MAX_PATHS, scratch[0], rows, scratch[1], rows, scratch[2], rows, scratch[3], rows);
+    struct outcome selected = test_select_nodes(schema_cells, sizeof schema_cells, schema_len, bundle_cells, sizeof bundle_cells, bundle_len, 0,
+        COLUMNS(rows), rows, (const uint8_t *)tray->journal, tray->journal_len, items, LOZHYMET_MAX_PATHS * rows, counts, LOZHYMET_MAX_PATHS);
+    return selected.number ? -1 : (long)selected.size;
+}
+
+static void start(const struct tray *t) {
+    tray = t;
+    read_records();
 }
 
 static size_t selected(size_t path, uint16_t *to) {

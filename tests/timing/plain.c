@@ -1,4 +1,4 @@
-/* The same input and output as the program schema_cases, up to the first text of which the compiled form is shown, by a plain C reading. Each
+/* The same input and output as schema_cases of tests/cases, up to the first text of which the compiled form is shown, by a plain C reading. Each
    accepted text is read a second time from its record, as there. Nothing here is proved. */
 #include "plain_schema.h"
 

@@ -1,4 +1,4 @@
-/* A plain reading of bundle texts, as a C programmer would write it, for comparison with crates/bundle_cases: one pass by recursive descent, each
+/* A plain reading of bundle texts, as a C programmer would write it, for comparison with bundle_cases of tests/cases: one pass by recursive descent, each
    name looked up where it is read. Standard input has texts after their lengths in two bytes, a schema's where 128 is added to the first byte. */
 #include <stdio.h>
 #include <string.h>

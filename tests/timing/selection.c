@@ -1,17 +1,12 @@
-/* The cost of selecting eight paths on 60,000 rows against plain C passes that do the same on the same columns, and the cost of needed names with
-   schema and bundle read. Links the archive of crates/timing. Prints both times of each and the ratio; ends with 1 where the answers differ. */
-#include <stdint.h>
+/* The cost of selecting eight paths on 60,000 rows against plain C passes that do the same on the same columns, and the cost of needed names. The proved
+   functions judge and compile the records of schema and bundle each time, and selecting judges the table; the plain passes do not. Links the archive of
+   crates/test_functions. Prints both times and the ratio; ends with 1 where the answers differ. */
 #include <stdio.h>
 #include <string.h>
 #include <time.h>
+#include "../cases/functions.h"
 
 enum { ROWS = 60000, PATHS = 8, CELLS = PATHS * ROWS, TURNS = 40 };
-
-/* the archive: a slice is a pointer and a length */
-uint64_t time_needed(const uint8_t *schema, size_t schema_size, const uint8_t *bundle, size_t bundle_size);
-size_t time_selection(const uint8_t *schema, size_t schema_size, const uint8_t *bundle, size_t bundle_size, const uint16_t *numbers, size_t,
-    const uint8_t *codes, size_t, const uint16_t *parents, size_t, uint16_t *items, size_t, uint32_t *counts, size_t, uint8_t *marks, size_t,
-    uint8_t *held, size_t, uint8_t *steps, size_t, uint8_t *next, size_t);
 
 static const char schema[] =
     "<!ELEMENT journal (tray*)><!ELEMENT tray (note?, well*)><!ELEMENT well (image*)><!ELEMENT image (focus?, shift?, note?, lamp?, dye?)>"
@@ -52,8 +47,8 @@ static const struct path paths[PATHS] = {
     { 2, { { { DESCENDANT, NAME(IMAGE) }, 1, { { 2, { { ANCESTOR, NAME(TRAY) }, { CHILD, NAME(NOTE) } } } } }, { { DESCENDANT_OR_SELF, NODE } } } },
 };
 
-static uint16_t numbers[ROWS], parents[ROWS], items[CELLS], plain_items[CELLS];
-static uint32_t counts[PATHS], plain_counts[PATHS];
+static uint16_t numbers[ROWS], parents[ROWS], lengths[ROWS], items[CELLS], plain_items[CELLS];
+static uint32_t starts[ROWS], counts[PATHS], plain_counts[PATHS];
 static uint8_t codes[ROWS], columns[4][ROWS];
 static int rows;
 
@@ -133,16 +128,26 @@ static size_t plain(void) {
     return n;
 }
 
+static uint8_t schema_cells[8192], bundle_cells[4104];
+static size_t schema_len, bundle_len;
+#define RECORDS schema_cells, sizeof schema_cells, schema_len, bundle_cells, sizeof bundle_cells, bundle_len
+
+static void read_records(void) {
+    schema_len = test_read_schema((const uint8_t *)schema, sizeof schema - 1, schema_cells, sizeof schema_cells).size;
+    bundle_len = test_read_bundle(schema_cells, sizeof schema_cells, schema_len, (const uint8_t *)bundle, sizeof bundle - 1, bundle_cells,
+        sizeof bundle_cells).size;
+}
+
 static size_t proved(void) {
-    return time_selection((const uint8_t *)schema, sizeof schema - 1, (const uint8_t *)bundle, sizeof bundle - 1, numbers, rows, codes, rows, parents, rows,
-        items, CELLS, counts, PATHS, columns[0], rows, columns[1], rows, columns[2], rows, columns[3], rows);
+    return test_select_nodes(RECORDS, 0, numbers, rows, codes, rows, parents, rows, starts, rows, lengths, rows, rows, (const uint8_t *)"x", 1, items,
+        CELLS, counts, PATHS).size;
 }
 
 /* ---- a table: trays of wells of images, some of each part missing */
 static unsigned seed = 12345;
 static unsigned random_below(unsigned n) { seed = seed * 1103515245u + 12345u; return (seed >> 16) % n; }
 static int add(int code, int parent) { codes[rows] = code; parents[rows] = parent; numbers[rows] = rows; return rows++; }
-static void add_text(int code, int parent) { add(32 + code, add(code, parent)); }
+static void add_text(int code, int parent) { lengths[add(32 + code, add(code, parent))] = 1; }
 
 static void fill_table(void) {
     add(JOURNAL, 0);
@@ -169,15 +174,16 @@ static double least(size_t (*f)(void)) {
     return best;
 }
 
-static size_t needed(void) { return time_needed((const uint8_t *)schema, sizeof schema - 1, (const uint8_t *)bundle, sizeof bundle - 1) != 0; }
+static size_t needed(void) { return test_needed_names(RECORDS).other != 0; }
 
 int main(void) {
     fill_table();
+    read_records();
     size_t n = plain(), m = proved();
     if (n != m || memcmp(items, plain_items, sizeof items) || memcmp(counts, plain_counts, sizeof counts)) { puts("the answers differ"); return 1; }
     double a = 1e9, b = 1e9;
     for (int k = 0; k < 5; k++) { double p = least(plain), q = least(proved); if (p < a) a = p; if (q < b) b = q; }
     printf("eight paths on %d rows, %zu numbers: plain %.0f microseconds, proved %.0f, ratio %.2f\n", rows, n, a * 1e6, b * 1e6, b / a);
-    printf("needed names, schema and bundle read: %.0f microseconds\n", least(needed) * 1e6);
+    printf("needed names, the records of schema and bundle judged: %.0f microseconds\n", least(needed) * 1e6);
     return 0;
 }

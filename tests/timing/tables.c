@@ -1,5 +1,5 @@
-/* A plain C test of tables in columns, to compare times with: the same input as the program table_cases, and the same outcome, without the text
-   of a row. */
+/* A plain C test of tables in columns, to compare times with: the same input as table_cases of tests/cases, and the same outcome, without
+   the text of a row. */
 #include <stdio.h>
 #include "plain_table.h"
 

@@ -53,6 +53,17 @@ pub fn copy(from: &[u8], out: &mut [u8]) {
     }
 }
 
+pub fn copy_numbers(from: &[u16], out: &mut [u16]) {
+    let mut i = 0;
+    while i < from.len() {
+        if out.len() <= i {
+            return;
+        }
+        out[i] = from[i];
+        i += 1;
+    }
+}
+
 // A record of any bytes and any length; past the bytes its cells are 0.
 pub fn schema_of(cells: &[u8], len: usize) -> Schema {
     let mut bytes = [0u8; Schema::MAX_BYTES];
@@ -66,8 +77,8 @@ pub fn bundle_of(cells: &[u8], len: usize) -> Bundle {
     Bundle { bytes, len }
 }
 
-// A refusal by a reader, with the length of the record that it hands back.
-fn refused_with(number: u8, place: usize, len: usize) -> Outcome {
+// A refusal with the length of what is handed back beside it.
+pub fn refused_with(number: u8, place: usize, len: usize) -> Outcome {
     Outcome {
         number: number as u64,
         place: place as u64,

@@ -1,0 +1,148 @@
+/* Cases of texts: schemas, bundles under them, and the names that these need. A text comes after its length in two bytes; what 128 that is added to the
+   first byte means is said at each. */
+#include "cases.h"
+
+#include <stdio.h>
+
+/* The children that are tried are the first elements, declared or not. */
+enum { TRIED = 5 };
+
+/* schema_elements::CHILDREN */
+enum { CHILDREN = 2 };
+
+/* the next text, and whether 128 was added */
+static struct text take_text(struct text *input, int *marked) {
+    size_t head = take_number(input, 2);
+    *marked = head >= 1 << 15;
+    return take(input, head % (1 << 15));
+}
+
+/* ---- schemas: of a marked one the compiled form is shown, too */
+
+static void show_fit(struct text schema, size_t element, const uint8_t *children, size_t len) {
+    printf("%d", test_fits(GIVEN(schema), element, children, len));
+}
+
+/* every list of at most two children */
+static void show_fits(struct text schema, size_t element) {
+    uint8_t children[2] = { 0, 0 };
+    show_fit(schema, element, children, 0);
+    for (children[0] = 0; children[0] < TRIED; children[0]++) {
+        show_fit(schema, element, children, 1);
+        for (children[1] = 0; children[1] < TRIED; children[1]++) show_fit(schema, element, children, 2);
+    }
+}
+
+/* of each element its kind, the names that it holds and those below it, and for a children model what fits it */
+static void show_elements(struct text schema) {
+    struct outcome e;
+    for (size_t i = 0; (e = test_element(GIVEN(schema), i)).number == 0; i++) {
+        printf("%llu %llu %llu ", (unsigned long long)e.place, (unsigned long long)e.size, (unsigned long long)e.other);
+        if (e.place == CHILDREN) show_fits(schema, i);
+        printf("\n");
+    }
+}
+
+static void show_schema(struct text text) {
+    static struct schema schema;
+    struct outcome outcome = read_schema(&schema, text);
+    if (outcome.number) show_refusal(outcome);
+    else {
+        if (!test_is_schema_record(HANDED(schema))) printf("no record: ");
+        printf("ok %llu", (unsigned long long)outcome.other);
+    }
+    printf("\n");
+}
+
+void schema_cases(struct text input) {
+    while (input.len) {
+        int marked;
+        struct text text = take_text(&input, &marked);
+        show_schema(text);
+        if (marked) show_elements(text);
+    }
+}
+
+/* ---- bundles under the last schema, which is marked: of an accepted one the columns of its compiled paths are shown */
+
+/* as in crates/compiled_paths: most paths, steps outside brackets, steps in them, and all */
+enum { MAX_PATHS = 8, WRITTEN_STEPS = 128, INNER_STEPS = 512, STEPS = WRITTEN_STEPS + INNER_STEPS };
+
+static size_t within(size_t number, size_t most) {
+    if (number > most) fail("compiled paths that are out of shape");
+    return number;
+}
+
+static void show_bytes(const uint8_t *cells, size_t from, size_t end) {
+    for (size_t i = from; i < end; i++) printf("%d ", cells[i]);
+}
+
+static void show_starts(const uint16_t *cells, size_t ranges) {
+    for (size_t i = 0; i <= ranges; i++) printf("%d ", cells[i]);
+    printf("\n");
+}
+
+/* a column of steps: those outside brackets, and those in them */
+static void show_steps(const uint8_t *cells, size_t outside, size_t end) {
+    show_bytes(cells, 0, outside);
+    show_bytes(cells, WRITTEN_STEPS, end);
+    printf("\n");
+}
+
+/* What is compiled of a text: the starts of paths, of conditions and of alternatives, then the axis of each step and the codes that pass its test. */
+static void show_paths(struct text schema, struct text text) {
+    static uint8_t paths[MAX_PATHS + 1], axes[STEPS], lows[STEPS], highs[STEPS];
+    static uint16_t conditions[WRITTEN_STEPS + 1], alternatives[INNER_STEPS + 1];
+    size_t count = test_compiled_paths(GIVEN(schema), GIVEN(text), paths, MAX_PATHS + 1, conditions, WRITTEN_STEPS + 1, alternatives, INNER_STEPS + 1,
+        axes, STEPS, lows, STEPS, highs, STEPS);
+    size_t steps = paths[within(count, MAX_PATHS)], ways = conditions[within(steps, WRITTEN_STEPS)], end = alternatives[within(ways, INNER_STEPS)];
+    within(end, STEPS);
+    show_bytes(paths, 0, count);
+    printf("%zu \n", steps);
+    show_starts(conditions, steps);
+    show_starts(alternatives, ways);
+    show_steps(axes, steps, end);
+    show_steps(lows, steps, end);
+    show_steps(highs, steps, end);
+}
+
+static void show_bundle(const struct schema *schema, struct text text) {
+    static struct bundle bundle;
+    struct outcome outcome = read_bundle(&bundle, schema, text);
+    if (outcome.number) {
+        show_refusal(outcome);
+        printf("\n");
+        return;
+    }
+    if (!test_is_bundle_record(HANDED(*schema), HANDED(bundle))) printf("no record: ");
+    printf("ok %llu\n", (unsigned long long)outcome.other);
+    show_paths((struct text){ schema->cells, schema->len }, text);
+}
+
+/* the names that a bundle needs, as 64 bits in decimal */
+static void show_needed(const struct schema *schema, struct text text) {
+    static struct bundle bundle;
+    struct outcome outcome = read_bundle(&bundle, schema, text);
+    if (!outcome.number) outcome = test_needed_names(HANDED(*schema), HANDED(bundle));
+    if (outcome.number) show_refusal(outcome);
+    else printf("%llu", (unsigned long long)outcome.other);
+    printf("\n");
+}
+
+static void under_schemas(struct text input, void (*show)(const struct schema *, struct text)) {
+    static struct schema schema;
+    while (input.len) {
+        int marked;
+        struct text text = take_text(&input, &marked);
+        if (marked) read_schema(&schema, text);
+        else show(&schema, text);
+    }
+}
+
+void bundle_cases(struct text input) {
+    under_schemas(input, show_bundle);
+}
+
+void needed_cases(struct text input) {
+    under_schemas(input, show_needed);
+}
