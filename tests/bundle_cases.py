@@ -4,7 +4,7 @@
 First the bundle cases of tests/vectors: each text after its length in two bytes, a schema's where 128 is added to the first byte, and the
 outcome that the case itself gives. Then each limit on both sides, undeclared names, and bundles made by a generator that always gives the
 same. What is compiled of an accepted one is worked out here from document 01 alone, by regular expressions: for each path its steps, for each
-step its condition's alternatives, for each alternative its steps, and of each step the axis and the codes that pass its test."""
+step the steps in its brackets, and of each step the axis, with a mark at the last of an alternative, and the test."""
 import itertools
 import json
 import os
@@ -15,8 +15,9 @@ import sys
 HERE = os.path.dirname(os.path.abspath(__file__))
 CASES = os.path.join(HERE, "cases", "bundle_cases")
 AXES = ["self", "child", "descendant", "descendant-or-self", "parent", "ancestor", "ancestor-or-self"]
-# the cells before those of steps in brackets
-WRITTEN = 128
+# the cells before those of steps in brackets, and what is added to the axis of an alternative's last step
+WRITTEN, LAST = 128, 8
+TESTS = {"node()": 254, "text()": 255}
 SCHEMA = "<!ELEMENT a (b|c|%s)*><!ELEMENT b (#PCDATA)><!ELEMENT c EMPTY><!ELEMENT %s EMPTY>" % ("n" * 31, "n" * 31)
 
 
@@ -30,26 +31,24 @@ def declared(schema):
 
 
 def step(text, names):
-    """The axis of a step without brackets, and the codes that pass its test."""
+    """The number of the axis of a step without brackets, and that of its test."""
     axis, test = text.split("::")
-    low, high = {"node()": (0, 63), "text()": (32, 63)}.get(test) or (names.index(test),) * 2
-    return AXES.index(axis), low, high
+    return AXES.index(axis), TESTS[test] if test in TESTS else names.index(test)
 
 
 def columns(schema, bundle):
     names = declared(schema)
-    paths, conditions, ends, outer, inner = [0], [0], [WRITTEN], [], []
+    paths, conditions, outer, inner = [0], [WRITTEN], [], []
     for line in bundle.split("\n")[:-1]:
         for written in re.findall(r"[^/\[\]]+(?:\[[^\]]*\])?", line):
             bare, _, brackets = written.partition("[")
             outer.append(step(bare, names))
             for alternative in brackets[:-1].split(" or ") if brackets else []:
                 inner += [step(text, names) for text in alternative.split("/")]
-                ends.append(WRITTEN + len(inner))
-            conditions.append(len(ends) - 1)
+                inner[-1] = inner[-1][0] + LAST, inner[-1][1]
+            conditions.append(WRITTEN + len(inner))
         paths.append(len(outer))
-    steps = outer + inner
-    lists = [paths, conditions, ends] + [[s[k] for s in steps] for k in range(3)]
+    lists = [paths, conditions] + [[s[k] for s in outer + inner] for k in range(2)]
     return "".join("".join("%d " % n for n in numbers) + "\n" for numbers in lists)
 
 

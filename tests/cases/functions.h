@@ -27,7 +27,7 @@ struct outcome test_read_bundle(RECORD(schema), SLICE(text), uint8_t *out, size_
 bool test_is_bundle_record(RECORD(schema), RECORD(bundle));
 struct outcome test_needed_names(RECORD(schema), RECORD(bundle));
 size_t test_compiled_paths(SLICE(schema), SLICE(text), uint8_t *paths, size_t paths_len, uint16_t *conditions, size_t conditions_len,
-    uint16_t *alternatives, size_t alternatives_len, uint8_t *axes, size_t axes_len, uint8_t *lows, size_t lows_len, uint8_t *highs, size_t highs_len);
+    uint8_t *axes, size_t axes_len, uint8_t *tests, size_t tests_len);
 
 struct outcome test_read_journal(RECORD(schema), SLICE(text), LENT_COLUMNS);
 struct outcome test_read_within(SLICE(schema), SLICE(text), size_t limit, LENT_COLUMNS);

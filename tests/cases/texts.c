@@ -65,8 +65,8 @@ void schema_cases(struct text input) {
 
 /* ---- bundles under the last schema, which is marked: of an accepted one the columns of its compiled paths are shown */
 
-/* as in crates/compiled_paths: most paths, steps outside brackets, steps in them, and all */
-enum { MAX_PATHS = 8, WRITTEN_STEPS = 128, INNER_STEPS = 512, STEPS = WRITTEN_STEPS + INNER_STEPS };
+/* as in crates/compiled_paths: most paths, steps outside brackets, and all */
+enum { MAX_PATHS = 8, WRITTEN_STEPS = 128, STEPS = WRITTEN_STEPS + 512 };
 
 static size_t within(size_t number, size_t most) {
     if (number > most) fail("compiled paths that are out of shape");
@@ -89,21 +89,18 @@ static void show_steps(const uint8_t *cells, size_t outside, size_t end) {
     printf("\n");
 }
 
-/* What is compiled of a text: the starts of paths, of conditions and of alternatives, then the axis of each step and the codes that pass its test. */
+/* What is compiled of a text: the starts of paths and of conditions, then the axis of each step, with the mark at an alternative's last, and its test. */
 static void show_paths(struct text schema, struct text text) {
-    static uint8_t paths[MAX_PATHS + 1], axes[STEPS], lows[STEPS], highs[STEPS];
-    static uint16_t conditions[WRITTEN_STEPS + 1], alternatives[INNER_STEPS + 1];
-    size_t count = test_compiled_paths(GIVEN(schema), GIVEN(text), paths, MAX_PATHS + 1, conditions, WRITTEN_STEPS + 1, alternatives, INNER_STEPS + 1,
-        axes, STEPS, lows, STEPS, highs, STEPS);
-    size_t steps = paths[within(count, MAX_PATHS)], ways = conditions[within(steps, WRITTEN_STEPS)], end = alternatives[within(ways, INNER_STEPS)];
+    static uint8_t paths[MAX_PATHS + 1], axes[STEPS], tests[STEPS];
+    static uint16_t conditions[WRITTEN_STEPS + 1];
+    size_t count = test_compiled_paths(GIVEN(schema), GIVEN(text), paths, MAX_PATHS + 1, conditions, WRITTEN_STEPS + 1, axes, STEPS, tests, STEPS);
+    size_t steps = paths[within(count, MAX_PATHS)], end = conditions[within(steps, WRITTEN_STEPS)];
     within(end, STEPS);
     show_bytes(paths, 0, count);
     printf("%zu \n", steps);
     show_starts(conditions, steps);
-    show_starts(alternatives, ways);
     show_steps(axes, steps, end);
-    show_steps(lows, steps, end);
-    show_steps(highs, steps, end);
+    show_steps(tests, steps, end);
 }
 
 static void show_bundle(const struct schema *schema, struct text text) {

@@ -162,23 +162,13 @@ fn copy_conditions(c: CompiledPaths, out: &mut [u16]) {
     copy_numbers(&cells, out);
 }
 
-fn copy_alternatives(c: CompiledPaths, out: &mut [u16]) {
-    let cells = c.alternatives;
-    copy_numbers(&cells, out);
-}
-
 fn copy_axes(c: CompiledPaths, out: &mut [u8]) {
     let cells = c.axes;
     copy(&cells, out);
 }
 
-fn copy_lows(c: CompiledPaths, out: &mut [u8]) {
-    let cells = c.lows;
-    copy(&cells, out);
-}
-
-fn copy_highs(c: CompiledPaths, out: &mut [u8]) {
-    let cells = c.highs;
+fn copy_tests(c: CompiledPaths, out: &mut [u8]) {
+    let cells = c.tests;
     copy(&cells, out);
 }
 
@@ -189,19 +179,15 @@ pub extern "C" fn test_compiled_paths(
     text: &[u8],
     paths: &mut [u8],
     conditions: &mut [u16],
-    alternatives: &mut [u16],
     axes: &mut [u8],
-    lows: &mut [u8],
-    highs: &mut [u8],
+    tests: &mut [u8],
 ) -> usize {
     let judged: Judged = bundle_reader::judge_under(schema, text);
     let compiled: CompiledPaths = judged.paths;
     copy_paths(compiled, paths);
     copy_conditions(compiled, conditions);
-    copy_alternatives(compiled, alternatives);
     copy_axes(compiled, axes);
-    copy_lows(compiled, lows);
-    copy_highs(compiled, highs);
+    copy_tests(compiled, tests);
     compiled.count
 }
 
