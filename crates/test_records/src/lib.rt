@@ -1,6 +1,7 @@
 // For tests alone: what the functions for C of the other crates test_.. answer, and records of any bytes that tests hand in.
 use bundle_reader::Answer;
 use bundle_reader::Bundle;
+use compiled_paths::CompiledPaths;
 use schema::Judgement;
 use schema::Schema;
 use verdicts::Verdict;
@@ -53,7 +54,7 @@ pub fn copy(from: &[u8], out: &mut [u8]) {
     }
 }
 
-pub fn copy_numbers(from: &[u16], out: &mut [u16]) {
+fn copy_numbers(from: &[u16], out: &mut [u16]) {
     let mut i = 0;
     while i < from.len() {
         if out.len() <= i {
@@ -62,6 +63,30 @@ pub fn copy_numbers(from: &[u16], out: &mut [u16]) {
         out[i] = from[i];
         i += 1;
     }
+}
+
+// The columns of compiled paths: ranges, and steps.
+pub fn copy_ranges(
+    c: CompiledPaths,
+    paths: &mut [u8],
+    conditions: &mut [u16],
+    alternatives: &mut [u16],
+) {
+    let path_starts = c.paths;
+    copy(&path_starts, paths);
+    let condition_starts = c.conditions;
+    copy_numbers(&condition_starts, conditions);
+    let alternative_starts = c.alternatives;
+    copy_numbers(&alternative_starts, alternatives);
+}
+
+pub fn copy_steps(c: CompiledPaths, axes: &mut [u8], lows: &mut [u8], highs: &mut [u8]) {
+    let step_axes = c.axes;
+    copy(&step_axes, axes);
+    let step_lows = c.lows;
+    copy(&step_lows, lows);
+    let step_highs = c.highs;
+    copy(&step_highs, highs);
 }
 
 // A record of any bytes and any length; past the bytes its cells are 0.
