@@ -18,7 +18,7 @@ use test_records::answer_of;
 use test_records::answered;
 use test_records::bundle_of;
 use test_records::copy;
-use test_records::copy_numbers;
+use test_records::copy_paths;
 use test_records::of_bundle;
 use test_records::of_schema;
 use test_records::refused;
@@ -151,27 +151,6 @@ pub extern "C" fn test_is_bundle_record(
     bundle_tests::is_bundle_record(record, bundle_of(bundle, bundle_len))
 }
 
-// The columns of compiled paths, one by one.
-fn copy_paths(c: CompiledPaths, out: &mut [u8]) {
-    let cells = c.paths;
-    copy(&cells, out);
-}
-
-fn copy_conditions(c: CompiledPaths, out: &mut [u16]) {
-    let cells = c.conditions;
-    copy_numbers(&cells, out);
-}
-
-fn copy_axes(c: CompiledPaths, out: &mut [u8]) {
-    let cells = c.axes;
-    copy(&cells, out);
-}
-
-fn copy_tests(c: CompiledPaths, out: &mut [u8]) {
-    let cells = c.tests;
-    copy(&cells, out);
-}
-
 // How many paths a bundle text has under a schema text, and the columns of its compiled paths.
 #[no_mangle]
 pub extern "C" fn test_compiled_paths(
@@ -184,10 +163,7 @@ pub extern "C" fn test_compiled_paths(
 ) -> usize {
     let judged: Judged = bundle_reader::judge_under(schema, text);
     let compiled: CompiledPaths = judged.paths;
-    copy_paths(compiled, paths);
-    copy_conditions(compiled, conditions);
-    copy_axes(compiled, axes);
-    copy_tests(compiled, tests);
+    copy_paths(compiled, paths, conditions, axes, tests);
     compiled.count
 }
 

@@ -1,6 +1,7 @@
 // For tests alone: what the functions for C of the other crates test_.. answer, and records of any bytes that tests hand in.
 use bundle_reader::Answer;
 use bundle_reader::Bundle;
+use compiled_paths::CompiledPaths;
 use schema::Judgement;
 use schema::Schema;
 use verdicts::Verdict;
@@ -53,7 +54,7 @@ pub fn copy(from: &[u8], out: &mut [u8]) {
     }
 }
 
-pub fn copy_numbers(from: &[u16], out: &mut [u16]) {
+fn copy_numbers(from: &[u16], out: &mut [u16]) {
     let mut i = 0;
     while i < from.len() {
         if out.len() <= i {
@@ -62,6 +63,24 @@ pub fn copy_numbers(from: &[u16], out: &mut [u16]) {
         out[i] = from[i];
         i += 1;
     }
+}
+
+// The columns of compiled paths.
+pub fn copy_paths(
+    c: CompiledPaths,
+    paths: &mut [u8],
+    conditions: &mut [u16],
+    axes: &mut [u8],
+    tests: &mut [u8],
+) {
+    let path_starts = c.paths;
+    copy(&path_starts, paths);
+    let condition_starts = c.conditions;
+    copy_numbers(&condition_starts, conditions);
+    let step_axes = c.axes;
+    copy(&step_axes, axes);
+    let step_tests = c.tests;
+    copy(&step_tests, tests);
 }
 
 // A record of any bytes and any length; past the bytes its cells are 0.
