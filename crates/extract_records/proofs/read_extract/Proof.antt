@@ -4,7 +4,8 @@ use borrow.Author.Needs.{needs}
 use borrow.Author.Tests.{not-true, not-false}
 use denote.Ref.{now}
 use mathlib.Core.Path.{sym, _∙_}
-use Rattle.extract_records.specs.Calls.{call-no-record, call-no-columns, call-read, record-low}
+use Rattle.extract_records.specs.Calls.{call-no-record, call-no-columns, call-read}
+use Rattle.row_text.specs.Answers.{record-low}
 use Rattle.row_columns.specs.ColumnLaws.{equal-columns}
 use Rattle.schema_records.specs.Records.{recordWith, passes-schema}
 use Rattle.text_laws.specs.Tests.{passed}
