@@ -13,11 +13,9 @@ use Rattle.marks.specs.Columns.{isMarked, marks, marks-length}
 use Rattle.cut_rows.specs.Cells.{cellsBefore, Noted, noted-none, noted-unmarked, noted-marked, noted-length}
 use Rattle.table_spec.specs.Columns.{Columns}
 use Rattle.text_laws.specs.Tests.{cond-yes, cond-no}
+pub use Rattle.lent_cells.specs.Columns.{table}
 
 -- ---- definitions
-abbrev pub table : List ℕ → List ℕ → List ℕ → List ℕ → List ℕ → Columns
-table numbers names parents starts lengths = record { numbers = numbers; names = names; parents = parents; starts = starts; lengths = lengths }
-
 -- two tables that agree in each column
 pub columns-equal : (x y : Columns) → x .numbers ≡ y .numbers → x .names ≡ y .names → x .parents ≡ y .parents → x .starts ≡ y .starts → x .lengths ≡ y .lengths → x ≡ y
 columns-equal x y a b c d e =

@@ -1,14 +1,14 @@
 -- The bytes of an extract's fields, written from a place on.
 use mathlib.Core.List.{List, [], _∷_, _++_}
 use mathlib.Core.Path.{_≡_, refl, sym, ap, subst, _∙_}
-use Prim.Native.Nat.{ℕ, zero, suc, _+_, _-_, _/_, _%_, _<_, _≤_}
-use native.Mathlib.Numerals.{add-one}
+use Prim.Native.Nat.{ℕ, _+_, _/_, _%_}
 use native.Mathlib.Omega.{arith}
-use lib.ListN.{length, getD, set, take, length-set}
-use lib.Seq.{sets, length-sets, take-suc, take-all, length-take-le}
+use lib.ListN.{length, set, length-set}
+use lib.Seq.{sets, length-sets}
 use Rattle.extract_spec.specs.Fields.{twoBytes, field, elementTag, textTag, countTag, rowField}
 use Rattle.schema_spec.specs.Names.{element, text}
 use Rattle.text_laws.specs.Cells.{sets-append}
+use Rattle.written_text.specs.Written.{WrittenAt}
 
 -- the tag, the length and the two numbers that a row's field begins with
 abbrev pub head : ℕ → ℕ → ℕ → ℕ → List ℕ
@@ -29,6 +29,11 @@ stored-length o k xs x e = ap length e ∙ length-sets o k xs
 
 pub set-length : (o : List ℕ) (k : ℕ) (xs x : List ℕ) (i b : ℕ) → x ≡ stored o k xs → length (set x i b) ≡ length o
 set-length o k xs x i b e = length-set x i b ∙ stored-length o k xs x e
+
+-- a text written from a place on
+pub text-written : {o w out : List ℕ} {k n : ℕ} → WrittenAt o k w n out → out ≡ stored o k w
+unfolding stored
+text-written h = h .cells
 
 pub stored-nothing : (o : List ℕ) (k : ℕ) → stored o k [] ≡ o
 unfolding stored
@@ -74,29 +79,3 @@ module _ (o : List ℕ) (k : ℕ) where
       → y ≡ stored o k (field countTag (twoBytes n))
   count-stored n x y d f =
       f ∙ ap (λ (u : List ℕ). stored u (k + 3) (twoBytes n)) (tag-stored countTag 2 x d) ∙ stored-after o k (countTag ∷ twoBytes 2) (twoBytes n) (k + 3) refl
-
--- ---- a text copied, with i bytes behind
-pub record Copied (o : List ℕ) (k : ℕ) (w : List ℕ) (i : ℕ) (out : List ℕ) : Type 0 where
-  pub within : i ≤ length w
-  pub bytes : out ≡ stored o k (take i w)
-
-module _ (o : List ℕ) (k : ℕ) (w : List ℕ) where
-  pub copied-none : Copied o k w 0 o
-  unfolding stored
-  copied-none = record { within = omega arith; bytes = refl }
-
-  pub copied-length : (i : ℕ) (out : List ℕ) → Copied o k w i out → length out ≡ length o
-  copied-length i out c = stored-length o k (take i w) out (c .bytes)
-
-  pub copied-next : (i : ℕ) (out : List ℕ) → Copied o k w i out → i < length w → Copied o k w (i + 1) (set out (k + i) (getD w i 0))
-  copied-next i out c l =
-      record {
-        within = omega arith;
-        bytes =
-            ap (λ (u : List ℕ). set u (k + i) (getD w i 0)) (c .bytes) ∙ one-stored (stored o k (take i w)) (k + i) (getD w i 0)
-            ∙ stored-after o k (take i w) (getD w i 0 ∷ []) (k + i) (omega (arith, length-take-le i w (c .within)))
-            ∙ ap (stored o k) (sym (ap (λ (j : ℕ). take j w) (add-one i) ∙ take-suc w i 0 l));
-      }
-
-  pub copied-all : (i : ℕ) (out : List ℕ) → Copied o k w i out → length w ≤ i → out ≡ stored o k w
-  copied-all i out c l = c .bytes ∙ ap (stored o k) (take-all i w l)

@@ -50,25 +50,13 @@ pub fn put_element(out: &mut [u8], at: usize, number: u16, parent: u16, e: u8)
     out[at + 7] = e;
 }
 
-// The bytes of a text.
-fn put_bytes(out: &mut [u8], at: usize, bytes: &[u8])
-    requires { ⌜ at + length (now bytes) ≤ length (now out) ⌝ }
-    ensures { λ _. ⌜ now (out .exit) ≡ stored (now (out .entry)) at (now (bytes .entry)) ⌝ }
-{
-    let mut i = 0;
-    while i < bytes.len() {
-        out[at + i] = bytes[i];
-        i += 1;
-    }
-}
-
 // The field of a text; its name stands in no field.
 pub fn put_text(out: &mut [u8], at: usize, number: u16, parent: u16, bytes: &[u8])
     requires { ⌜ (length (now bytes) ≤ maxTextBytes) × (at + 7 + length (now bytes) ≤ length (now out)) ⌝ }
     ensures { λ _. ⌜ now (out .exit) ≡ stored (now (out .entry)) at (rowField (text 0) number parent (now (bytes .entry))) ⌝ }
 {
     put_head(out, at, TEXT_TAG, (bytes.len() + 4) as u16, number, parent);
-    put_bytes(out, at + TEXT_HEAD_BYTES, bytes);
+    written_text::put_text(out, at + TEXT_HEAD_BYTES, bytes);
 }
 
 // The field of the count of rows.

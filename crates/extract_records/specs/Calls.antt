@@ -1,28 +1,21 @@
 -- The answer is the library's outcome: 1 for the record and for columns of unequal length, then that of the extract.
-use mathlib.Core.Bool.{Bool, true, false, cond, _&&_}
+use mathlib.Core.Bool.{Bool, true, false, cond}
 use mathlib.Core.List.{List, []}
 use mathlib.Core.Option.{some, none}
 use mathlib.Core.Path.{_≡_, refl, sym, ap, _∙_}
-use Prim.Native.Nat.{ℕ, _≤_}
-use lib.Dec.{leb, leb→le}
-use lib.ListN.{take}
+use Prim.Native.Nat.{ℕ}
 use Rattle.extract_spec.specs.Reading.{readExtract}
 use Rattle.extract_table.specs.Tables.{outcome, TableRead}
 use Rattle.extract_table.specs.Words.{ReadWords, read-words}
 use Rattle.library_spec.specs.Calls.{inColumns, columnsAfter, extractRead}
 use Rattle.library_spec.specs.Records.{TextRecord, textIn, schemaHeld, passesSchema}
-use Rattle.schema_reader.specs.Records.{passesRecord}
-use Rattle.schema_spec.specs.Records.{schemaIn, isSchemaRecord}
+use Rattle.schema_spec.specs.Records.{schemaIn}
 use Rattle.schema_spec.specs.Schemas.{Schema}
 use Rattle.schema_spec.specs.Types.{typesOf}
 use Rattle.table_passes.specs.Codes.{HeldWords}
 use Rattle.table_spec.specs.Columns.{Columns, Sizes, sizesOf, equalSizes, columnsOf}
 use Rattle.table_spec.specs.Rows.{Row}
-use Rattle.text_laws.specs.Tests.{passed, and-cases}
 use Rattle.text_spec.specs.Calls.{handed, tested}
-use Rattle.text_spec.specs.Cells.{padded}
-use Rattle.text_spec.specs.Limits.{maxSchemaBytes}
-use Rattle.text_spec.specs.Lists.{sameBytes}
 use Rattle.text_spec.specs.Refusals.{Outcome, refused, at, badRecord, andThen}
 use Rattle.verdicts.specs.Verdicts.{refusedBy, verdict}
 use Rattle.verdicts.specs.declared.Verdict.{Verdict}
@@ -74,9 +67,3 @@ module _ (schema : TextRecord) (bs : List ℕ) (c d : Columns) (r : Verdict) whe
         answer = t .answer (schemaIn (textIn schema)) w ∙ ap verdict same;
         cells = t .cells (schemaIn (textIn schema)) w ∙ ap (columnsAfter (sizesOf c) (λ rows. rows)) same;
       }
-
--- a record that passes is within its limit
-pub record-low : (cells : List ℕ) (size : ℕ) → passesRecord cells size ≡ true → size ≤ maxSchemaBytes
-record-low cells size e =
-    let c₀ = and-cases (leb size maxSchemaBytes && sameBytes cells (padded maxSchemaBytes (take size cells))) (isSchemaRecord (take size cells)) (passed e) in
-    leb→le _ _ (and-cases (leb size maxSchemaBytes) (sameBytes cells (padded maxSchemaBytes (take size cells))) (c₀ .0) .0)

@@ -19,10 +19,10 @@ use Rattle.table_extracts.specs.Cut.{columnsIn}
 use Rattle.table_spec.specs.Columns.{Columns, Sizes, sizesOf, columnsOf}
 use Rattle.table_spec.specs.Rows.{Row}
 use Rattle.text_laws.specs.Cells.{padded-length, padded-take}
-use Rattle.text_laws.specs.Order.{number-from-2}
 use Rattle.text_spec.specs.Calls.{inRoom}
 use Rattle.text_spec.specs.Cells.{padded}
-use Rattle.text_spec.specs.Refusals.{Reason, Refusal, Outcome, accepted, refused, andThen, numberOf}
+use Rattle.text_spec.specs.Refusals.{Refusal, Outcome, accepted, refused, andThen, numberOf}
+use Rattle.verdicts.specs.VerdictLaws.{number-some}
 use Rattle.verdicts.specs.Verdicts.{verdict}
 use Rattle.verdicts.specs.declared.Verdict.{Verdict}
 
@@ -48,11 +48,6 @@ pub record RowsRead (o : Outcome (List Row)) (z : Sizes) (n : ℕ) (d : Columns)
   pub columns-are : d ≡ columnsOf z rows
 
 -- ---- a text's outcome by its verdict
-number-some : (r : Reason) → numberOf r ≡ 0 → ⊥
-number-some r e =
-    let h = number-from-2 r (λ q. omega (arith, ap numberOf q, e)) in
-    omega arith
-
 module _ (o : Outcome (List Row)) (z : Sizes) (v : Verdict) (d : Columns) (answer : v ≡ verdict (andThen o (inColumns z)))
     (cells : d ≡ columnsAfter z (λ rows. rows) (andThen o (inColumns z))) where
   pub rows-read : v .number ≡ 0 → RowsRead o z (v .size) d

@@ -51,11 +51,11 @@ chosenUnder s ps place extract l =
 -- ---- texts in turn
 module _ {A B C : Type 0} where
   -- two that are judged in turn, and what comes next
-  turns-refused : (o : Outcome A) (g : A → Outcome B) (k : A → B → Outcome C) (f : Refusal) → andThen o g ≡ refused f → andThen o (λ a. andThen (g a) (k a)) ≡ refused f
+  pub turns-refused : (o : Outcome A) (g : A → Outcome B) (k : A → B → Outcome C) (f : Refusal) → andThen o g ≡ refused f → andThen o (λ a. andThen (g a) (k a)) ≡ refused f
   turns-refused (accepted a) g k f e = ap (λ (x : Outcome B). andThen x (k a)) e
   turns-refused (refused r) g k f e = let same : r ≡ f = cc in ap refused same
 
-  turns-accepted : (o : Outcome A) (g : A → Outcome B) (k : A → B → Outcome C) (a : A) (b : B) → o ≡ accepted a → g a ≡ accepted b → andThen o (λ x. andThen (g x) (k x)) ≡ k a b
+  pub turns-accepted : (o : Outcome A) (g : A → Outcome B) (k : A → B → Outcome C) (a : A) (b : B) → o ≡ accepted a → g a ≡ accepted b → andThen o (λ x. andThen (g x) (k x)) ≡ k a b
   turns-accepted o g k a b e h = ap (λ (x : Outcome A). andThen x (λ y. andThen (g y) (k y))) e ∙ ap (λ (x : Outcome B). andThen x (k a)) h
 
 -- a schema and a bundle that are accepted

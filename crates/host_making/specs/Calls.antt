@@ -10,7 +10,7 @@ use Rattle.host_laws.specs.Stages.{lentOf, madeUnder, bundle-accepted, make-une
 use Rattle.host_made.specs.Making.{UnderTexts}
 use Rattle.host_results.specs.Exits.{refusedBy, Exits, RefusedExit, same-exit, refused-exit}
 use Rattle.host_results.specs.declared.HostResult.{HostResult}
-use Rattle.host_texts.specs.Texts.{TextsJudged, texts-accepted, texts-refused}
+use Rattle.host_texts.specs.Texts.{refusalOf, TextsJudged, none-refused, texts-accepted, texts-refused}
 use Rattle.host_texts.specs.declared.Texts.{Texts}
 use Rattle.host_texts.specs.declared.Told.{Told}
 use Rattle.library_spec.specs.Hosts.{makeExtract}
@@ -18,21 +18,8 @@ use Rattle.row_columns.specs.ColumnLaws.{equal-columns}
 use Rattle.row_numbers.specs.Cells.{Cleared}
 use Rattle.schema_spec.specs.Records.{schemaIn}
 use Rattle.table_spec.specs.Columns.{Columns, sizesOf, equalSizes, columnsOf}
-use Rattle.text_laws.specs.Tests.{never, passed}
+use Rattle.text_laws.specs.Tests.{passed}
 use Rattle.text_spec.specs.Refusals.{at, badRecord}
-
--- the refusal of a call by its columns, then by its texts
-abbrev pub refusalOf : Bool → Told → Told
-refusalOf true told = told
-refusalOf false told = record { number = 1; place = 0 }
-
-pub refusal-by : (equal : Bool) (told : Told) {a : Bool} → equal ≡ a → refusalOf a told ≡ refusalOf equal told
-refusal-by equal told e = sym (ap (λ (x : Bool). refusalOf x told) e)
-
--- a call that is not refused is refused by neither
-none-refused : (equal : Bool) (told u : Told) → u ≡ refusalOf equal told → u .number ≡ 0 → (equal ≡ true) × (told .number ≡ 0)
-none-refused true told u e n = (refl, sym (ap (λ (x : Told). x .number) e) ∙ n)
-none-refused false told u e n = never (sym n ∙ ap (λ (x : Told). x .number) e)
 
 pub all-refused : (number place : ℕ) (c d : Columns) (was out : List ℕ) (r : HostResult) → d ≡ columnsOf (sizesOf c) [] → Cleared was 0 out → r ≡ refusedBy number place
     → RefusedExit number place (lentOf c was []) r d out []

@@ -1,8 +1,6 @@
 // Making an extract of three texts: columns of one length first (1), then the texts in turn, 18 last. On refusal every lent cell is 0.
 ghost use mathlib.Core.List.{[]};
-ghost use mathlib.Core.Path.{_≡_};
 ghost use Rattle.host_laws.specs.Stages.{lentOf};
-ghost use Rattle.host_making.specs.Calls.{refusalOf};
 ghost use Rattle.host_results.specs.Exits.{Exits, RefusedExit};
 ghost use Rattle.library_spec.specs.Hosts.{makeExtract};
 ghost use Rattle.row_columns.specs.Columns.{columns};
@@ -13,10 +11,10 @@ use host_made::make_under;
 use host_results::HostResult;
 use host_texts::Told;
 use host_texts::judge_texts;
+use host_texts::refusal;
 use names::NameSet;
 use schema_entries::Entries;
 use table_cutting::clear_bytes;
-use verdicts::BAD_RECORD;
 
 fn refuse(
     number: u64,
@@ -33,19 +31,6 @@ fn refuse(
     row_columns::clear(numbers, names, parents, starts, lengths);
     clear_bytes(out, 0);
     host_results::refused(number, place)
-}
-
-// The refusal before the journal is read: the call's own, then the texts'.
-fn refusal(equal: bool, told: Told) -> Told
-    ensures { λ r. ⌜ r ≡ refusalOf equal told ⌝ }
-{
-    if !equal {
-        return Told {
-            number: BAD_RECORD,
-            place: 0,
-        };
-    }
-    told
 }
 
 // The texts are compiled once, and the journal is read once.

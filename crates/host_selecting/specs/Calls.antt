@@ -1,5 +1,5 @@
 -- The call that selects from an extract, by its stages.
-use mathlib.Core.Bool.{Bool, true, false, cond}
+use mathlib.Core.Bool.{Bool, true, false, cond, _&&_}
 use mathlib.Core.List.{List, []}
 use mathlib.Core.Path.{_≡_, refl, sym, ap, subst, _∙_}
 use Prim.Native.Nat.{ℕ, zero, suc}
@@ -15,7 +15,7 @@ use Rattle.host_chosen.specs.Choosing.{UnderSchema}
 use Rattle.host_laws.specs.Stages.{lentOf, chosenUnder, bundle-accepted, select-unequal, select-out, select-refused, select-accepted}
 use Rattle.host_results.specs.Exits.{refusedBy, Exits, RefusedExit, same-exit, refused-exit}
 use Rattle.host_results.specs.declared.HostResult.{HostResult}
-use Rattle.host_texts.specs.Texts.{TextsJudged, texts-accepted, texts-refused}
+use Rattle.host_texts.specs.Texts.{refusalOf, TextsJudged, none-refused, texts-accepted, texts-refused}
 use Rattle.host_texts.specs.declared.Texts.{Texts}
 use Rattle.host_texts.specs.declared.Told.{Told}
 use Rattle.library_spec.specs.Hosts.{bundlePaths, inRange, selectFrom}
@@ -38,14 +38,16 @@ range-refused place number count n = sym (ap (λ (b : Bool). cond b (leb place c
 pub range-accepted : (place number count : ℕ) → number ≡ 0 → leb place count ≡ rangeOf place number count
 range-accepted place number count e = sym (ap (λ (b : Bool). cond b (leb place count) (leb place maxPaths)) (eq-eqb number 0 e))
 
--- the refusal of a call by its columns and its place, then by its texts
-abbrev pub refusalOf : Bool → Bool → Told → Told
-refusalOf true true told = told
-refusalOf true false told = record { number = 1; place = 0 }
-refusalOf false inside told = record { number = 1; place = 0 }
+-- the tests of a call: columns of one length, then the place
+pub unequal-fails : (equal inside : Bool) → equal ≡ false → false ≡ (equal && inside)
+unequal-fails equal inside e = sym (ap (λ (b : Bool). b && inside) e)
 
-pub refusal-by : (equal inside : Bool) (told : Told) {a b : Bool} → equal ≡ a → inside ≡ b → refusalOf a b told ≡ refusalOf equal inside told
-refusal-by equal inside told {a} e f = sym (ap (λ (x : Bool). refusalOf x inside told) e ∙ ap (λ (x : Bool). refusalOf a x told) f)
+pub equal-passes : (equal inside : Bool) {b : Bool} → equal ≡ true → b ≡ inside → b ≡ (equal && inside)
+equal-passes equal inside e f = f ∙ sym (ap (λ (x : Bool). x && inside) e)
+
+both-pass : (equal inside : Bool) → (equal && inside) ≡ true → (equal ≡ true) × (inside ≡ true)
+both-pass true inside e = (refl, e)
+both-pass false inside e = never (cc)
 
 -- as many paths as are counted
 paths-long : (axes tests conditions paths : List ℕ) (n i : ℕ) → length (bundleIn axes tests conditions paths n i) ≡ n
@@ -62,12 +64,6 @@ pub all-refused : (number place : ℕ) (c d : Columns) (items counts items′ co
 all-refused number place c d items counts items′ counts′ r e i m f =
     record { result = f; columns-are = e; items-are = all-cleared items items′ i; counts-are = all-cleared counts counts′ m }
 
--- a call that is not refused is refused by none of them
-none-refused : (equal inside : Bool) (told u : Told) → u ≡ refusalOf equal inside told → u .number ≡ 0 → (equal ≡ true) × (inside ≡ true) × (told .number ≡ 0)
-none-refused true true told u e n = (refl, refl, sym (ap (λ (x : Told). x .number) e) ∙ n)
-none-refused true false told u e n = never (sym n ∙ ap (λ (x : Told). x .number) e)
-none-refused false inside told u e n = never (sym n ∙ ap (λ (x : Told). x .number) e)
-
 module _ (schema bundle : List ℕ) (place : ℕ) (t : Texts) (J : TextsJudged schema bundle t) where
   -- the test of the place is the definition's
   range-is : rangeOf place (t .told .number) (t .paths .count) ≡ inRange place (bundlePaths schema bundle)
@@ -80,17 +76,18 @@ module _ (schema bundle : List ℕ) (place : ℕ) (t : Texts) (J : TextsJudged s
       pick false q = sym (ap (inRange place) (texts-refused schema bundle t J (eqb-false (t .told .number) 0 q) .1))
 
   -- what the later stages ask for
-  pub under-schema : (c : Columns) (equal : Bool) → equal ≡ equalSizes (sizesOf c) → (u : Told) → u ≡ refusalOf equal (rangeOf place (t .told .number) (t .paths .count)) (t .told)
+  pub under-schema : (c : Columns) (equal : Bool) → equal ≡ equalSizes (sizesOf c) → (tests : Bool) → tests ≡ (equal && rangeOf place (t .told .number) (t .paths .count)) → (u : Told) → u ≡ refusalOf tests (t .told)
       → u .number ≡ 0 → UnderSchema (t .schema) (t .paths) place c
-  under-schema c equal sizes u e m =
-      let f = none-refused equal (rangeOf place (t .told .number) (t .paths .count)) (t .told) u e m in
+  under-schema c equal sizes tests q u e m =
+      let f = none-refused tests (t .told) u e m in
+      let both = both-pass equal (rangeOf place (t .told .number) (t .paths .count)) (sym q ∙ f .0) in
       record {
         schema = schema;
-        read = bundle-accepted schema bundle (pathsIn (t .paths)) (texts-accepted schema bundle t J (f .2)) .0;
+        read = bundle-accepted schema bundle (pathsIn (t .paths)) (texts-accepted schema bundle t J (f .1)) .0;
         made = J .compiled;
         shaped = J .shaped;
-        inside = leb→le place (t .paths .count) (passed (range-accepted place (t .told .number) (t .paths .count) (f .2) ∙ f .1));
-        equal = equal-columns c (passed (sym sizes ∙ f .0));
+        inside = leb→le place (t .paths .count) (passed (range-accepted place (t .told .number) (t .paths .count) (f .1) ∙ both .1));
+        equal = equal-columns c (passed (sym sizes ∙ both .0));
       }
 
 module _ (schema bundle : List ℕ) (place : ℕ) (extract : List ℕ) (c : Columns) (items counts : List ℕ) {r : HostResult} {d : Columns} {items′ counts′ : List ℕ} where
@@ -116,14 +113,14 @@ module _ (schema bundle : List ℕ) (place : ℕ) (extract : List ℕ) (c : Colu
           same-exit (select-accepted schema bundle place extract (lentOf c items counts) equal (sym (range-is schema bundle place t J) ∙ inside) (pathsIn (t .paths)) both)
           (h schema (bundle-accepted schema bundle (pathsIn (t .paths)) both .0) (J .compiled))
 
-  module _ (t : Texts) (J : TextsJudged schema bundle t) (equal : Bool) (sizes : equal ≡ equalSizes (sizesOf c)) (u : Told) (e : u ≡ refusalOf equal (rangeOf place (t .told .number) (t .paths .count)) (t .told)) where
+  module _ (t : Texts) (J : TextsJudged schema bundle t) (equal : Bool) (sizes : equal ≡ equalSizes (sizesOf c)) (tests : Bool) (q : tests ≡ (equal && rangeOf place (t .told .number) (t .paths .count))) (u : Told) (e : u ≡ refusalOf tests (t .told)) where
     pub refused-call : (u .number ≡ 0 → ⊥) → RefusedExit (u .number) (u .place) (lentOf c items counts) r d items′ counts′ → Exits (selectFrom schema bundle place extract (lentOf c items counts)) (lentOf c items counts) r d items′ counts′
-    refused-call n h = pick equal (rangeOf place (t .told .number) (t .paths .count)) (sym sizes) refl e
+    refused-call n h = pick equal (rangeOf place (t .told .number) (t .paths .count)) (sym sizes) refl (e ∙ ap (λ (b : Bool). refusalOf b (t .told)) q)
       where
         same : {v : Told} → u ≡ v → RefusedExit (v .number) (v .place) (lentOf c items counts) r d items′ counts′
         same f = subst (λ (x : Told). RefusedExit (x .number) (x .place) (lentOf c items counts) r d items′ counts′) f h
 
-        pick : (a b : Bool) → equalSizes (sizesOf c) ≡ a → rangeOf place (t .told .number) (t .paths .count) ≡ b → u ≡ refusalOf a b (t .told)
+        pick : (a b : Bool) → equalSizes (sizesOf c) ≡ a → rangeOf place (t .told .number) (t .paths .count) ≡ b → u ≡ refusalOf (a && b) (t .told)
             → Exits (selectFrom schema bundle place extract (lentOf c items counts)) (lentOf c items counts) r d items′ counts′
         pick true true p q f = turned-back-exit p t J q (λ z. n (ap (λ (x : Told). x .number) f ∙ z)) (same f)
         pick true false p q f = out-exit p t J q (same f)
@@ -134,5 +131,6 @@ module _ (schema bundle : List ℕ) (place : ℕ) (extract : List ℕ) (c : Colu
         → Exits (chosenUnder (schemaIn z) (pathsIn (t .paths)) place extract (lentOf c items counts)) (lentOf c items counts) r d items′ counts′)
         → Exits (selectFrom schema bundle place extract (lentOf c items counts)) (lentOf c items counts) r d items′ counts′
     accepted-call m h =
-        let f = none-refused equal (rangeOf place (t .told .number) (t .paths .count)) (t .told) u e m in
-        accepted-exit (sym sizes ∙ f .0) t J (f .1) (f .2) h
+        let f = none-refused tests (t .told) u e m in
+        let both = both-pass equal (rangeOf place (t .told .number) (t .paths .count)) (sym q ∙ f .0) in
+        accepted-exit (sym sizes ∙ both .0) t J (both .1) (f .1) h

@@ -1,9 +1,10 @@
 // Selecting from an extract by two texts: 1 first (columns of unequal length, a place that the bundle does not have), then the texts in turn, 18
 // last. On refusal every lent cell is 0.
+ghost use mathlib.Core.Bool.{_&&_};
 ghost use mathlib.Core.Path.{_≡_};
 ghost use Rattle.host_laws.specs.Stages.{lentOf};
 ghost use Rattle.host_results.specs.Exits.{Exits, RefusedExit};
-ghost use Rattle.host_selecting.specs.Calls.{rangeOf, refusalOf};
+ghost use Rattle.host_selecting.specs.Calls.{rangeOf};
 ghost use Rattle.library_spec.specs.Hosts.{selectFrom};
 ghost use Rattle.row_columns.specs.Columns.{columns};
 use column_sizes::equal_sizes;
@@ -11,14 +12,13 @@ use compiled_paths::CompiledPaths;
 use compiled_schema::CompiledSchema;
 use host_chosen::choose_under;
 use host_results::HostResult;
-use host_texts::Told;
 use host_texts::judge_texts;
+use host_texts::refusal;
 use limits::MAX_PATHS;
 use names::NameSet;
 use row_numbers::clear_counts_from;
 use row_numbers::clear_from;
 use schema_entries::Entries;
-use verdicts::BAD_RECORD;
 
 fn refuse(
     number: u64,
@@ -39,33 +39,17 @@ fn refuse(
     host_results::refused(number, place)
 }
 
-// Whether the bundle has the place; of a bundle that is refused, whether some bundle has it.
-fn in_range(place: usize, number: u64, count: usize) -> bool
-    ensures { λ r. ⌜ r ≡ rangeOf place number count ⌝ }
+// Whether the columns are of one length, and the bundle has the place; of a bundle that is refused, whether some bundle has it.
+fn passes(equal: bool, place: usize, number: u64, count: usize) -> bool
+    ensures { λ r. ⌜ r ≡ (equal && rangeOf place number count) ⌝ }
 {
+    if !equal {
+        return false;
+    }
     if number != 0 {
         return place <= MAX_PATHS;
     }
     place <= count
-}
-
-// The refusal before the extract is read: the call's own, then the texts'.
-fn refusal(equal: bool, place: usize, told: Told, count: usize) -> Told
-    ensures { λ r. ⌜ r ≡ refusalOf equal (rangeOf place (told .number) count) told ⌝ }
-{
-    if !equal {
-        return Told {
-            number: BAD_RECORD,
-            place: 0,
-        };
-    }
-    if !in_range(place, told.number, count) {
-        return Told {
-            number: BAD_RECORD,
-            place: 0,
-        };
-    }
-    told
 }
 
 // The texts are compiled once, and the extract is read once for all paths that are asked for.
@@ -92,7 +76,8 @@ pub fn select_from(
         lengths.len(),
     );
     let texts = judge_texts(schema, bundle);
-    let told = refusal(equal, place, texts.told, texts.paths.count);
+    let passed = passes(equal, place, texts.told.number, texts.paths.count);
+    let told = refusal(passed, texts.told);
     if told.number != 0 {
         return refuse(
             told.number,

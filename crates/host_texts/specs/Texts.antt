@@ -1,4 +1,5 @@
 -- What judging a schema and a bundle in turn answers, in the definition's terms.
+use mathlib.Core.Bool.{Bool, true, false}
 use mathlib.Core.List.{List, [], map}
 use mathlib.Core.Path.{_≡_, refl, sym, ap, subst, _∙_}
 use Prim.Native.Nat.{ℕ}
@@ -21,15 +22,20 @@ use Rattle.schema.specs.Judging as first
 use Rattle.schema_spec.specs.Reading.{readSchema}
 use Rattle.schema_spec.specs.Records.{schemaIn}
 use Rattle.schema_spec.specs.Schemas.{Schema}
-use Rattle.text_laws.specs.Order.{number-from-2}
 use Rattle.text_laws.specs.Tests.{never}
-use Rattle.text_spec.specs.Refusals.{Reason, Refusal, Outcome, accepted, refused, andThen, numberOf, resultOr}
+use Rattle.text_spec.specs.Refusals.{Refusal, Outcome, accepted, refused, andThen, numberOf, resultOr}
+use Rattle.verdicts.specs.VerdictLaws.{number-some}
 
 -- ---- definitions
 -- the refusal of an outcome, as numbers
 abbrev pub toldOf : {A : Type 0} → Outcome A → Told
 toldOf (accepted a) = record { number = 0; place = 0 }
 toldOf (refused f) = record { number = numberOf (f .reason); place = f .place }
+
+-- the refusal of a call: 1 where it does not pass its own tests, then that of its texts
+abbrev pub refusalOf : Bool → Told → Told
+refusalOf true told = told
+refusalOf false told = record { number = 1; place = 0 }
 
 -- the two texts in turn: their refusal, the compiled schema, the compiled paths
 pub record TextsJudged (schema bundle : List ℕ) (r : Texts) : Type 0 where
@@ -39,11 +45,6 @@ pub record TextsJudged (schema bundle : List ℕ) (r : Texts) : Type 0 where
   pub shaped : Shaped (r .paths)
 
 -- ---- laws
-number-some : (r : Reason) → numberOf r ≡ 0 → ⊥
-number-some r e =
-    let h = number-from-2 r (λ q. omega (arith, ap numberOf q, e)) in
-    omega arith
-
 -- by the number
 module _ {A : Type 0} (t : Told) (o : Outcome A) (e : t ≡ toldOf o) where
   pub told-accepted : (d : A) → t .number ≡ 0 → o ≡ accepted (resultOr d o)
@@ -59,6 +60,11 @@ module _ {A : Type 0} (t : Told) (o : Outcome A) (e : t ≡ toldOf o) where
       pick : (x : Outcome A) → t ≡ toldOf x → (f : Refusal) × (x ≡ refused f) × (t .number ≡ numberOf (f .reason)) × (t .place ≡ f .place)
       pick (accepted a) h = absurd (n (ap (λ (y : Told). y .number) h))
       pick (refused f) h = (f, refl, ap (λ (y : Told). y .number) h, ap (λ (y : Told). y .place) h)
+
+-- a call that is not refused passes its tests, and its texts are accepted
+pub none-refused : (passes : Bool) (told u : Told) → u ≡ refusalOf passes told → u .number ≡ 0 → (passes ≡ true) × (told .number ≡ 0)
+none-refused true told u e n = (refl, sym (ap (λ (x : Told). x .number) e) ∙ n)
+none-refused false told u e n = never (sym n ∙ ap (λ (x : Told). x .number) e)
 
 -- a judgement that tells how much is accepted tells the same refusal
 schema-told : (o : Outcome Schema) → toldOf (first.sized o) ≡ toldOf o

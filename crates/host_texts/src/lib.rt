@@ -1,13 +1,14 @@
 // The schema and the bundle that a host function is handed, judged in turn, each read once.
 ghost use mathlib.Core.Path.{_≡_};
 ghost use Rattle.bundle.specs.Judging as under;
-ghost use Rattle.host_texts.specs.Texts.{toldOf, TextsJudged};
+ghost use Rattle.host_texts.specs.Texts.{toldOf, refusalOf, TextsJudged};
 ghost use Rattle.schema.specs.Judging as first;
 use compiled_paths::CompiledPaths;
 use compiled_schema::CompiledSchema;
 use compiled_schema::judge_and_compile;
 use names::NameSet;
 use schema_entries::Entries;
+use verdicts::BAD_RECORD;
 
 // The refusal's number and its place, 0 and 0 for none.
 pub struct Told {
@@ -77,4 +78,17 @@ pub fn judge_texts(schema: &[u8], bundle: &[u8]) -> Texts
         schema: compiled,
         paths,
     }
+}
+
+// The refusal before a call's last text is read: the call's own, then that of the schema and the bundle.
+pub fn refusal(passes: bool, told: Told) -> Told
+    ensures { λ r. ⌜ r ≡ refusalOf passes told ⌝ }
+{
+    if !passes {
+        return Told {
+            number: BAD_RECORD,
+            place: 0,
+        };
+    }
+    told
 }

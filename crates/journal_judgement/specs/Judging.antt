@@ -18,8 +18,8 @@ use Rattle.library_spec.specs.Calls.{inColumns, columnsAfter}
 use Rattle.schema_spec.specs.Schemas.{Schema}
 use Rattle.table_spec.specs.Columns.{Columns, Sizes, sizesOf, columnsOf}
 use Rattle.table_spec.specs.Rows.{Row}
-use Rattle.text_laws.specs.Order.{number-from-2}
-use Rattle.text_spec.specs.Refusals.{Reason, Outcome, accepted, refused, andThen, at, badLength, tooFewCells, numberOf}
+use Rattle.text_spec.specs.Refusals.{Outcome, accepted, refused, andThen, at, badLength, tooFewCells}
+use Rattle.verdicts.specs.VerdictLaws.{number-some}
 use Rattle.verdicts.specs.Verdicts.{refusedBy, verdict}
 use Rattle.verdicts.specs.declared.Verdict.{Verdict}
 
@@ -32,11 +32,6 @@ pub record Judged (t : SchemaCells) (text : List ℕ) (limit : ℕ) (c d : Colum
   pub judged : (s : Schema) → CellsOf s t → c ≡ columnsOf (sizesOf c) [] → r ≡ verdict (outcome s text limit (sizesOf c))
   pub held : (s : Schema) → CellsOf s t → c ≡ columnsOf (sizesOf c) [] → r .number ≡ 0
       → d ≡ columnsAfter (sizesOf c) (λ rows. rows) (outcome s text limit (sizesOf c))
-
-number-some : (r : Reason) → numberOf r ≡ 0 → ⊥
-number-some r e =
-    let h = number-from-2 r (λ q. omega (arith, ap numberOf q, e)) in
-    omega arith
 
 -- ---- 2
 pub judged-2 : {t : SchemaCells} {limit : ℕ} {c : Columns} {r : Verdict} (text : List ℕ) → ((s : Schema) → readJournal limit s text ≡ refused (at badLength 0))

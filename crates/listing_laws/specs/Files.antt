@@ -3,7 +3,7 @@ use mathlib.Core.Bool.{Bool, true, false}
 use mathlib.Core.List.{List}
 use mathlib.Core.Path.{_≡_, refl, sym, ap, _∙_}
 use Prim.Native.Nat.{ℕ}
-use Rattle.host_laws.specs.Stages.{bundle-accepted}
+use Rattle.host_laws.specs.Stages.{turns-refused, turns-accepted, bundle-accepted}
 use Rattle.journal_spec.specs.Reading.{readJournal}
 use Rattle.library_spec.specs.Calls.{inColumns}
 use Rattle.library_spec.specs.Hosts.{bundlePaths}
@@ -21,15 +21,12 @@ use Rattle.text_spec.specs.Cells.{tooSmall}
 use Rattle.text_spec.specs.Limits.{listingJournalBytes, listingRows}
 use Rattle.text_spec.specs.Refusals.{Refusal, Outcome, accepted, refused, andThen, numberOf}
 
--- ---- in turn
-turns-refused : {A B C : Type 0} (o : Outcome A) (g : A → Outcome B) (k : A → B → Outcome C) (f : Refusal) → andThen o g ≡ refused f
-    → andThen o (λ a. andThen (g a) (k a)) ≡ refused f
-turns-refused {A} {B} {C} (accepted a) g k f e = ap (λ (x : Outcome B). andThen x (k a)) e
-turns-refused (refused r) g k f e = let same : r ≡ f = cc in ap refused same
-
 module _ (schema bundle journal : List ℕ) where
   abbrev read : Schema → List (LocationPath ℕ) → List Row → FilesRead
   read s ps rows = record { schema = s; paths = ps; rows = rows }
+
+  abbrev reading : Schema → List (LocationPath ℕ) → Outcome FilesRead
+  reading s ps = andThen (readJournal listingJournalBytes s journal) (λ rows. inRoom (tooSmall listingRows rows) (read s ps rows))
 
   -- a text is refused: the only line
   refused-prints : (f : Refusal) → judgeFiles schema bundle journal ≡ refused f → listing schema bundle journal ≡ refusal (numberOf (f .reason)) (f .place)
@@ -39,9 +36,7 @@ module _ (schema bundle journal : List ℕ) where
   pub texts-refused : (f : Refusal) → bundlePaths schema bundle ≡ refused f → listing schema bundle journal ≡ refusal (numberOf (f .reason)) (f .place)
   unfolding judgeFiles bundlePaths
   texts-refused f e =
-      refused-prints f
-      (turns-refused (readSchema schema) (λ s. readBundle s bundle)
-      (λ s ps. andThen (readJournal listingJournalBytes s journal) (λ rows. inRoom (tooSmall listingRows rows) (read s ps rows))) f e)
+      refused-prints f (turns-refused (readSchema schema) (λ s. readBundle s bundle) reading f e)
 
   module _ (ps : List (LocationPath ℕ)) (taken : bundlePaths schema bundle ≡ accepted ps) (z : Sizes) (lent : z .numbers ≡ listingRows) where
     abbrev s : Schema
@@ -62,8 +57,7 @@ module _ (schema bundle journal : List ℕ) where
     unfolding judgeFiles
     files-judged =
         let both = bundle-accepted schema bundle ps taken in
-        ap (λ (o : Outcome Schema). andThen o (λ q. andThen (readBundle q bundle) (λ bs. andThen (readJournal listingJournalBytes q journal) (λ rows. inRoom (tooSmall listingRows rows) (read q bs rows))))) (both .0)
-        ∙ ap (λ (o : Outcome (List (LocationPath ℕ))). andThen o (λ bs. andThen (readJournal listingJournalBytes s journal) (λ rows. inRoom (tooSmall listingRows rows) (read s bs rows)))) (both .1)
+        turns-accepted (readSchema schema) (λ q. readBundle q bundle) reading s ps (both .0) (both .1)
         ∙ in-columns (readJournal listingJournalBytes s journal)
 
     pub journal-refused : (f : Refusal) → journalRows ≡ refused f → listing schema bundle journal ≡ refusal (numberOf (f .reason)) (f .place)

@@ -7,14 +7,18 @@ use native.Mathlib.Numerals.{add-one}
 use native.Mathlib.Omega.{arith}
 use lib.ListN.{length, getD, set, take, drop, length-set, length-take}
 use lib.Seq.{sets}
-use Rattle.row_chains.specs.Chains.{linkAt, LinkPass, link-size-element, link-size-text, link-element, link-text, link-length}
+use Rattle.row_chains.specs.Chains.{linkAt, LinkPass, link-size-element, link-size-text, link-element, link-text}
 use Rattle.text_laws.specs.Searches.{below-or-past}
 use Rattle.text_spec.specs.Limits.{maxDeclarations}
 use Rattle.text_spec.specs.Lists.{bytes, part}
+use Rattle.written_text.specs.Written.{WrittenAt}
 
--- `/` before some bytes
-slash-first : (was w : List ℕ) (at : ℕ) → sets (set was at 0x2F) (at + 1) w ≡ sets was at (bytes "/" ++ w)
-slash-first was w at = ap (λ (k : ℕ). sets (set was at 0x2F) k w) (add-one at)
+-- `/`, and some bytes behind it
+slash-first : (was w link : List ℕ) (at : ℕ) {n : ℕ} {out : List ℕ} → link ≡ bytes "/" ++ w → WrittenAt (set was at 0x2F) (at + 1) w n out → (n ≡ at + length link) × (out ≡ sets was at link)
+slash-first was w link at e h = (
+  omega (arith, h .after, ap length e),
+  h .cells ∙ ap (λ (k : ℕ). sets (set was at 0x2F) k w) (add-one at) ∙ ap (sets was at) (sym e),
+)
 
 module _ (text starts sizes : List ℕ) (c : ℕ) (was : List ℕ) (at : ℕ) (h : LinkPass text starts sizes c was at) where
   abbrev start : ℕ
@@ -37,12 +41,9 @@ module _ (text starts sizes : List ℕ) (c : ℕ) (was : List ℕ) (at : ℕ) (h
     pub element-room : at + 1 + length name ≤ length (set was at 0x2F)
     element-room = omega (arith, element-fits .0, element-fits .1, length-set was at 0x2F, length-take (start + size - start) (drop start text))
 
-    pub element-written : (out : List ℕ) → out ≡ sets (set was at 0x2F) (at + 1) name
-        → (at + 1 + size ≡ at + length (linkAt text starts sizes c)) × (out ≡ sets was at (linkAt text starts sizes c))
-    element-written out e = (
-      omega (arith, link-length text starts sizes (h .named) c, link-size-element sizes c l),
-      e ∙ slash-first was name at ∙ ap (λ (w : List ℕ). sets was at (bytes "/" ++ w)) name-is ∙ ap (sets was at) (sym (link-element text starts sizes c l)),
-    )
+    pub element-written : {n : ℕ} {out : List ℕ} → WrittenAt (set was at 0x2F) (at + 1) name n out
+        → (n ≡ at + length (linkAt text starts sizes c)) × (out ≡ sets was at (linkAt text starts sizes c))
+    element-written e = slash-first was name _ at (link-element text starts sizes c l ∙ ap (λ (w : List ℕ). bytes "/" ++ w) (sym name-is)) e
 
   module _ (l : maxDeclarations ≤ c) where
     pub text-fits : at + 7 ≤ length was
@@ -51,12 +52,9 @@ module _ (text starts sizes : List ℕ) (c : ℕ) (was : List ℕ) (at : ℕ) (h
     pub text-room : at + 1 + 6 ≤ length (set was at 0x2F)
     text-room = omega (arith, text-fits, length-set was at 0x2F)
 
-    pub text-written : (out : List ℕ) → out ≡ sets (set was at 0x2F) (at + 1) (bytes "text()")
-        → (at + 7 ≡ at + length (linkAt text starts sizes c)) × (out ≡ sets was at (linkAt text starts sizes c))
-    text-written out e = (
-      omega (arith, link-length text starts sizes (h .named) c, link-size-text sizes c l),
-      e ∙ slash-first was (bytes "text()") at ∙ ap (sets was at) (sym (link-text text starts sizes c l)),
-    )
+    pub text-written : {n : ℕ} {out : List ℕ} → WrittenAt (set was at 0x2F) (at + 1) (bytes "text()") n out
+        → (n ≡ at + length (linkAt text starts sizes c)) × (out ≡ sets was at (linkAt text starts sizes c))
+    text-written e = slash-first was (bytes "text()") _ at (link-text text starts sizes c l) e
 
 -- there is a cell for `/`
 pub slash-room : (text starts sizes : List ℕ) (c : ℕ) (was : List ℕ) (at : ℕ) → LinkPass text starts sizes c was at → at < length was

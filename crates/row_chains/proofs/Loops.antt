@@ -1,35 +1,14 @@
--- The loops: a text copied cell by cell, and the climb that measures a chain.
+-- The loops: the climb that measures a chain, and the sizes of the names.
 use mathlib.Core.List.{List, [], _∷_, map}
-use mathlib.Core.Path.{_≡_, refl, sym, ap, ap₂, _∙_}
+use mathlib.Core.Path.{_≡_, refl, sym, ap, _∙_}
 use Prim.Native.Nat.{ℕ, zero, suc, _+_, _*_, _-_, _≤_, _<_}
-use native.Mathlib.Numerals.{add-one}
 use native.Mathlib.Omega.{arith}
-use lib.ListN.{length, getD, set, take, length-set, length-map}
-use lib.Seq.{sets, length-sets, length-take-le, take-suc, take-all, ext-getD}
+use lib.ListN.{length, getD, set, length-set, length-map}
+use lib.Seq.{ext-getD}
 use Rattle.row_chains.specs.Chains.{linkSize, chainSize, SizePass, link-small, size-root, size-later}
-use Rattle.text_laws.specs.Cells.{sets-append}
 use Rattle.text_laws.specs.Loops.{Passed, passed-next}
 use Rattle.text_spec.specs.Limits.{maxNodes, maxSchemaBytes}
 use Rattle.text_spec.specs.Scans.{nameAt}
-
--- i bytes of the text are copied
-pub record Copying (text was : List ℕ) (at i : ℕ) (out : List ℕ) : Type 0 where
-  pub within : i ≤ length text
-  pub long : length out ≡ length was
-  pub copied : out ≡ sets was at (take i text)
-
-pub copying-next : (text was : List ℕ) (at i : ℕ) (out : List ℕ) → Copying text was at i out → i < length text
-    → Copying text was at (i + 1) (set out (at + i) (getD text i 0))
-copying-next text was at i out w l =
-    let place : length (take i text) ≡ i = length-take-le i text (w .within) in
-    let wrote : set out (at + i) (getD text i 0) ≡ sets was at (take (i + 1) text) =
-    ap₂ (λ (o : List ℕ) (k : ℕ). set o (at + k) (getD text i 0)) (w .copied) (sym place)
-    ∙ sym (sets-append was at (take i text) (getD text i 0 ∷ []))
-    ∙ ap (sets was at) (sym (ap (λ (k : ℕ). take k text) (add-one i) ∙ take-suc text i 0 l)) in
-    record { within = omega arith; long = ap length wrote ∙ length-sets was at (take (i + 1) text); copied = wrote }
-
-pub copying-all : (text was : List ℕ) (at i : ℕ) (out : List ℕ) → Copying text was at i out → length text ≤ i → out ≡ sets was at text
-copying-all text was at i out w l = w .copied ∙ ap (sets was at) (take-all i text l)
 
 -- row r is reached, and n bytes are counted for the rows below it
 pub record Climbing (sizes codes ps : List ℕ) (row n r : ℕ) : Type 0 where

@@ -8,6 +8,7 @@ ghost use lib.Seq.{sets};
 ghost use Rattle.row_chains.specs.Chains.{linkAt, linkSize, chainSize, SizesFit, LinkPass, SizePass};
 ghost use Rattle.text_spec.specs.Scans.{nameAt};
 use names::MAX_ELEMENTS;
+use written_text::put_text;
 
 // How many bytes each of the names at the places `names` of a text has.
 pub fn name_sizes(text: &[u8], names: &[usize], sizes: &mut [usize])
@@ -19,18 +20,6 @@ pub fn name_sizes(text: &[u8], names: &[usize], sizes: &mut [usize])
         let p = names[e];
         sizes[e] = schema_names::past_name(text, p) - p;
         e += 1;
-    }
-}
-
-// Copies a text into cells from `at` on.
-fn copy(text: &[u8], out: &mut [u8], at: usize)
-    requires { ⌜ at + length (now text) ≤ length (now out) ⌝ }
-    ensures { λ _. ⌜ now (out .exit) ≡ sets (now (out .entry)) at (now (text .entry)) ⌝ }
-{
-    let mut i = 0;
-    while i < text.len() {
-        out[at + i] = text[i];
-        i += 1;
     }
 }
 
@@ -59,13 +48,10 @@ pub fn put_link(
     out[at] = b'/';
     if e < MAX_ELEMENTS {
         let from = starts[e];
-        let size = sizes[e];
-        let to = from + size;
-        copy(&text[from..to], out, at + 1);
-        return at + 1 + size;
+        let to = from + sizes[e];
+        return put_text(out, at + 1, &text[from..to]);
     }
-    copy(b"text()", out, at + 1);
-    at + 7
+    put_text(out, at + 1, b"text()")
 }
 
 // How many bytes the chain of a row takes.

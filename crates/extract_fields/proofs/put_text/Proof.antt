@@ -1,4 +1,4 @@
-use Rattle.extract_fields.specs.Fields.{text-stored}
+use Rattle.extract_fields.specs.Fields.{text-stored, text-written}
 use borrow.Author.Needs.{needs}
 use Rattle.extract_fields.proofs.put_text.Statement.{statement}
 use Rattle.extract_fields.proofs.put_text.Tie as tie
@@ -8,7 +8,7 @@ returns c =
     let copied = c .before .before in
     let headed = copied .before .before .before .before in
     let start = headed .before .before .before .before .args in
-    text-stored _ (start .at) (start .number) (start .parent) _ _ _ (headed .put-head .ensures) (copied .put-bytes .ensures)
+    text-stored _ (start .at) (start .number) (start .parent) _ _ _ (headed .put-head .ensures) (text-written (copied .put-text .ensures))
 
 pub put-text-spec : {M : Type 1} → statement M
 put-text-spec =

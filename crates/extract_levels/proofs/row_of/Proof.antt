@@ -4,12 +4,9 @@ use Rattle.extract_levels.specs.Levels.{rowIn}
 use Rattle.extract_levels.proofs.row_of.Statement.{statement}
 use Rattle.extract_levels.proofs.row_of.Tie as tie
 
-cast-result : tie.Need-cast-result
-cast-result c = search needs
-
 returns : tie.Need-returns
 unfolding rowIn
 returns c = search needs
 
 pub row-of-spec : {M : Type 1} → statement M
-row-of-spec = tie.close (tie.spec cast-result returns)
+row-of-spec = tie.close (tie.spec (λ c. search needs) returns)

@@ -6,18 +6,6 @@ use Rattle.field_reader.specs.declared.First.the-variants as first
 use Rattle.extract_reader.proofs.begin.Statement.{statement}
 use Rattle.extract_reader.proofs.begin.Tie as tie
 
-first-field-requires : tie.Need-first-field-requires
-first-field-requires c κs = search needs
-
-enum-told : tie.Need-enum-told
-enum-told c = search needs
-
-enum-told-2 : tie.Need-enum-told-2
-enum-told-2 c = search needs
-
-enum-told-3 : tie.Need-enum-told-3
-enum-told-3 c = search needs
-
 returns : tie.Need-returns
 returns c = begun-by _ _ first.Wrong (c .before .before .first-field .ensures) (c .enum-told .given .1) _ refl
 
@@ -30,4 +18,4 @@ returns-3 c = begun-by _ _ first.Root (c .before .before .first-field .ensures) 
 pub begin-spec : {M : Type 1} → statement M
 begin-spec =
     tie.close
-    (tie.spec first-field-requires enum-told enum-told-2 enum-told-3 returns returns-2 returns-3)
+    (tie.spec (λ c κs. search needs) (λ c. search needs) (λ c. search needs) (λ c. search needs) returns returns-2 returns-3)

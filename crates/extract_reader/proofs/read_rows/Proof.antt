@@ -22,9 +22,6 @@ abbrev μ-loop : tie.MeasureT-loop
 μ-loop extract words numbers₀ names₀ parents₀ starts₀ lengths₀ levels₀ x₀ numbers names parents starts lengths levels x =
     bytesLeft extract x
 
-begin-requires : tie.Need-begin-requires Inv-loop μ-loop
-begin-requires c κs = search needs
-
 loop-holds : tie.Need-loop-holds Inv-loop μ-loop
 loop-holds c =
     let start = c .before .before .before .before .before .before .before in
@@ -76,7 +73,7 @@ read-rows-spec =
     (tie.spec
     Inv-loop
     μ-loop
-    begin-requires
+    (λ c κs. search needs)
     loop-holds
     read-row-requires
     loop-less

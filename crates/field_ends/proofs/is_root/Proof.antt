@@ -9,20 +9,11 @@ use Rattle.field_ends.proofs.is_root.Tie as tie
 returns : tie.Need-returns
 returns c = root-misfit (now (c .before .before .args .extract)) (c .before .before .args .size) (c .before .before .pre) (c .if1 .taken)
 
-two-bytes-requires : tie.Need-two-bytes-requires
-two-bytes-requires c κs = search needs
-
 returns-2 : tie.Need-returns-2
 returns-2 c = root-numbered (now (c .before .before .before .before .args .extract)) (c .before .before .before .before .args .size) (c .before .before .before .before .pre) (c .before .before .if1 .left) _ (c .before .two-bytes .ensures) (c .if2 .taken)
 
-two-bytes-requires-2 : tie.Need-two-bytes-requires-2
-two-bytes-requires-2 c κs = search needs
-
 returns-3 : tie.Need-returns-3
 returns-3 c = root-under (now (c .before .before .before .before .before .before .args .extract)) (c .before .before .before .before .before .before .args .size) (c .before .before .before .before .before .before .pre) (c .before .before .before .before .if1 .left) _ (c .before .two-bytes2 .ensures) (c .if3 .taken)
-
-shared-slice-read-result : tie.Need-shared-slice-read-result
-shared-slice-read-result c = search needs
 
 returns-4 : tie.Need-returns-4
 returns-4 c = root-accepted (now (c .before .before .before .before .before .before .before .args .extract)) (c .before .before .before .before .before .before .before .args .size) (c .before .before .before .before .before .before .before .pre) (c .before .before .before .before .before .if1 .left) _ _ (c .before .before .before .before .two-bytes .ensures) (c .before .before .two-bytes2 .ensures) (c .before .before .before .if2 .left) (c .before .if3 .left) _ refl
@@ -32,9 +23,9 @@ is-root-spec =
     tie.close
     (tie.spec
     returns
-    two-bytes-requires
+    (λ c κs. search needs)
     returns-2
-    two-bytes-requires-2
+    (λ c κs. search needs)
     returns-3
-    shared-slice-read-result
+    (λ c. search needs)
     returns-4)

@@ -5,9 +5,6 @@ use Rattle.field_reader.specs.FieldLaws.{count-ended, count-wrong}
 use Rattle.field_reader.proofs.count_field.Statement.{statement}
 use Rattle.field_reader.proofs.count_field.Tie as tie
 
-is-count-requires : tie.Need-is-count-requires
-is-count-requires c κs = search needs
-
 returns : tie.Need-returns
 returns c = count-ended _ _ _ (sym (c .before .is-count .ensures) ∙ c .if1 .taken)
 
@@ -15,4 +12,4 @@ returns-2 : tie.Need-returns-2
 returns-2 c = count-wrong _ _ _ (sym (c .before .is-count .ensures) ∙ c .if1 .left)
 
 pub count-field-spec : {M : Type 1} → statement M
-count-field-spec = tie.close (tie.spec is-count-requires returns returns-2)
+count-field-spec = tie.close (tie.spec (λ c κs. search needs) returns returns-2)

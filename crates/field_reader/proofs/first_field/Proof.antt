@@ -7,9 +7,6 @@ use Rattle.field_reader.specs.FieldLaws.{length-inside, value-inside, fi
 use Rattle.field_reader.proofs.first_field.Statement.{statement}
 use Rattle.field_reader.proofs.first_field.Tie as tie
 
-has-field-requires : tie.Need-has-field-requires
-has-field-requires c κs = search needs
-
 returns : tie.Need-returns
 returns c = first-none _ (sym (c .before .has-field .ensures) ∙ not-true _ (c .if1 .taken))
 
@@ -44,7 +41,7 @@ pub first-field-spec : {M : Type 1} → statement M
 first-field-spec =
     tie.close
     (tie.spec
-    has-field-requires
+    (λ c κs. search needs)
     returns
     two-bytes-requires
     shared-slice-read-tag

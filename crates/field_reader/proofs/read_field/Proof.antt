@@ -7,14 +7,8 @@ use Rattle.field_reader.specs.FieldLaws.{length-inside, value-inside, va
 use Rattle.field_reader.proofs.read_field.Statement.{statement}
 use Rattle.field_reader.proofs.read_field.Tie as tie
 
-has-field-requires : tie.Need-has-field-requires
-has-field-requires c κs = search needs
-
 returns : tie.Need-returns
 returns c = field-none _ _ _ _ (c .before .before .before .pre) (sym (c .before .has-field .ensures) ∙ not-true _ (c .if1 .taken))
-
-add-two-bytes : tie.Need-add-two-bytes
-add-two-bytes c = search needs
 
 two-bytes-requires : tie.Need-two-bytes-requires
 two-bytes-requires c κs = length-inside _ _ (sym (c .before .has-field .ensures) ∙ not-false _ (c .if1 .left))
@@ -47,9 +41,9 @@ pub read-field-spec : {M : Type 1} → statement M
 read-field-spec =
     tie.close
     (tie.spec
-    has-field-requires
+    (λ c κs. search needs)
     returns
-    add-two-bytes
+    (λ c. search needs)
     two-bytes-requires
     shared-slice-read-match
     element-field-requires

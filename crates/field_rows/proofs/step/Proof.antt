@@ -7,20 +7,8 @@ use Rattle.field_rows.proofs.step.Tie as tie
 read-field-requires : tie.Need-read-field-requires
 read-field-requires c κs = c .before .before .pre .field-pass
 
-enum-told : tie.Need-enum-told
-enum-told c = search needs
-
-enum-told-2 : tie.Need-enum-told-2
-enum-told-2 c = search needs
-
-enum-known-number : tie.Need-enum-known-number
-enum-known-number c = search needs
-
 element-row-requires : tie.Need-element-row-requires
 element-row-requires c κs = element-place _ _ _ _ (c .before .before .before .before .before .before .before .pre) _ (c .before .before .before .before .read-field .ensures) _ _ _ (c .before .before .number .given .1)
-
-enum-known-number-2 : tie.Need-enum-known-number-2
-enum-known-number-2 c = search needs
 
 text-row-requires : tie.Need-text-row-requires
 text-row-requires c κs = text-place _ _ _ _ (c .before .before .before .before .before .before .before .pre) _ (c .before .before .before .before .read-field .ensures) _ _ _ (c .before .before .number2 .given .1)
@@ -44,11 +32,11 @@ step-spec =
     tie.close
     (tie.spec
     read-field-requires
-    enum-told
-    enum-told-2
-    enum-known-number
+    (λ c. search needs)
+    (λ c. search needs)
+    (λ c. search needs)
     element-row-requires
-    enum-known-number-2
+    (λ c. search needs)
     text-row-requires
     returns
     returns-2

@@ -10,18 +10,6 @@ returns c = element-none _ _ _ _ (c .if1 .taken)
 returns-2 : tie.Need-returns-2
 returns-2 c = element-deep _ _ _ _ (c .if2 .taken)
 
-sub-element-of : tie.Need-sub-element-of
-sub-element-of c = search needs
-
-mul-element-of : tie.Need-mul-element-of
-mul-element-of c = search needs
-
-element-copy-out-element-of : tie.Need-element-copy-out-element-of
-element-copy-out-element-of c = search needs
-
-element-of-requires : tie.Need-element-of-requires
-element-of-requires c κs = search needs
-
 holds-element-requires : tie.Need-holds-element-requires
 holds-element-requires c κs = level-known _ _ (c .before .before .before .before .pre) (c .before .before .before .if1 .left) _ (c .element-of .ensures)
 
@@ -34,9 +22,9 @@ element-fits-spec =
     (tie.spec
     returns
     returns-2
-    sub-element-of
-    mul-element-of
-    element-copy-out-element-of
-    element-of-requires
+    (λ c. search needs)
+    (λ c. search needs)
+    (λ c. search needs)
+    (λ c κs. search needs)
     holds-element-requires
     returns-3)

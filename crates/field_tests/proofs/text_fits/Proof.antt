@@ -11,18 +11,6 @@ returns c = text-none _ _ _ _ (c .if1 .taken)
 returns-2 : tie.Need-returns-2
 returns-2 c = text-after _ _ _ _ (c .if2 .taken)
 
-sub-element-of : tie.Need-sub-element-of
-sub-element-of c = search needs
-
-mul-element-of : tie.Need-mul-element-of
-mul-element-of c = search needs
-
-element-copy-out-element-of : tie.Need-element-copy-out-element-of
-element-copy-out-element-of c = search needs
-
-element-of-requires : tie.Need-element-of-requires
-element-of-requires c κs = search needs
-
 mul-has-bit : tie.Need-mul-has-bit
 mul-has-bit c = let l = level-known _ _ (c .before .before .before .before .pre) (c .before .before .before .if1 .left) _ (c .element-of .ensures) in omega arith
 
@@ -31,9 +19,6 @@ element-copy-out-has-bit c = level-known _ _ (c .before .before .before .before 
 
 add-has-bit : tie.Need-add-has-bit
 add-has-bit c = let l = level-known _ _ (c .before .before .before .before .before .pre) (c .before .before .before .before .if1 .left) _ (c .before .element-of .ensures) in omega arith
-
-has-bit-requires : tie.Need-has-bit-requires
-has-bit-requires c κs = search needs
 
 returns-3 : tie.Need-returns-3
 returns-3 c = text-held _ _ _ _ (c .before .before .before .before .before .if1 .left) (c .before .before .before .before .if2 .left) _ _ (c .has-bit .ensures) (c .before .before .element-of .ensures)
@@ -44,12 +29,12 @@ text-fits-spec =
     (tie.spec
     returns
     returns-2
-    sub-element-of
-    mul-element-of
-    element-copy-out-element-of
-    element-of-requires
+    (λ c. search needs)
+    (λ c. search needs)
+    (λ c. search needs)
+    (λ c κs. search needs)
     mul-has-bit
     element-copy-out-has-bit
     add-has-bit
-    has-bit-requires
+    (λ c κs. search needs)
     returns-3)

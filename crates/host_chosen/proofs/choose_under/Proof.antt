@@ -4,72 +4,85 @@ use mathlib.Core.Path.{_∙_}
 use Rattle.host_chosen.specs.Choosing.{words-read, refused-chosen, rows-asked, chosen-exit}
 use Rattle.host_columns.specs.Rows.{rows-read}
 use Rattle.row_columns.specs.Columns.{columns}
+use Rattle.table_spec.specs.Columns.{Columns}
 use Rattle.host_chosen.proofs.choose_under.Statement.{statement}
 use Rattle.host_chosen.proofs.choose_under.Tie as tie
 
-read-extract-table-requires : tie.Need-read-extract-table-requires
-read-extract-table-requires c κs = c .before .before .before .before .before .before .before .before .before .before .before .before .before .before .before .pre .equal
+-- The states that several needs go back to: the extract read, from where its verdict is tested; the words; the start, with the columns that are lent.
+abbrev read : tie.After-struct-known → tie.After-read-extract-table
+read c = c .before .before .before .before .before .before .before .before .before .before .before
+
+abbrev told : tie.After-struct-known → tie.After-words-of
+told c = read c .before .before .before .before .before .before .before
+
+abbrev start : tie.After-struct-known → tie.Start
+start c = told c .before .before .before .before .before .before .before .before .before
+
+abbrev lent : tie.After-struct-known → Columns
+lent c = columns (start c .args .numbers .now) (start c .args .names .now) (start c .args .parents .now) (start c .args .starts .now) (start c .args .lengths .now)
+
+-- from the exit of an extract that is refused, and from that of an accepted one
+abbrev refused : tie.After-refused → tie.Then1
+refused c = c .before .before .before .before .before .before .before .before .before
+
+abbrev chosen : tie.After-slice-known21 → tie.After-select-under
+chosen c = c .before .before .before .before .before .before .before .before .before .before .before .before .before .before
+
+abbrev accepted : tie.After-slice-known21 → tie.Else1
+accepted c = chosen c .before .before .before .before .before .before .before .before
 
 returns : tie.Need-returns
 returns c =
-    let start = c .before .before .before .before .before .before .before .before .before .before .before .before .before .before .before .before .before .before .before .before .before .before .before .before .before .before .before .before .before .before .before .before .before .before .before .before .before in
-    let at = start .args in
-    let lent = columns (at .numbers .now) (at .names .now) (at .parents .now) (at .starts .now) (at .lengths .now) in
-    let tested = c .before .before .before .before .before .before .before .before .before in
-    let read = c .before .before .before .before .before .before .before .before .before .before .before .before .before .before .before .before .before .before .before .before .before .read-extract-table .ensures in
-    let words = c .before .before .before .before .before .before .before .before .before .before .before .before .before .before .before .before .before .before .before .before .before .before .before .before .before .before .before .before .words-of .ensures in
-    λ schema accepted made.
-    let held = words-read schema _ made _ words in
-    refused-chosen _ _ lent _ _ (read .answer _ held) (read .cells _ held) (at .paths) (at .place) (tested .if1 .taken) _ (c .refused .ensures) _ _ _ _ (c .before .before .before .before .before .before .before .clear-from .ensures) (c .before .before .before .clear-counts-from .ensures)
+    let known = refused c .before in
+    let at = start known .args in
+    let was = read known .read-extract-table .ensures in
+    λ schema taken made.
+    let held = words-read schema _ made _ (told known .words-of .ensures) in
+    refused-chosen _ _ (lent known) _ _ (was .answer _ held) (was .cells _ held) (at .paths) (at .place) (refused c .if1 .taken) _ (c .refused .ensures) _ _ _ _ (c .before .before .before .before .before .before .before .clear-from .ensures) (c .before .before .before .clear-counts-from .ensures)
 
 select-under-requires : tie.Need-select-under-requires
 select-under-requires c κs =
-    let start = c .before .before .before .before .before .before .before .before .before .before .before .before .before .before .before .before .before .before .before .before .before .before .before .before .before .before .before .before .before .before .before .before .before .before .before in
-    let at = start .args in
-    let lent = columns (at .numbers .now) (at .names .now) (at .parents .now) (at .starts .now) (at .lengths .now) in
     let tested = c .before .before .before .before .before .before .before in
-    let read = c .before .before .before .before .before .before .before .before .before .before .before .before .before .before .before .before .before .before .before .read-extract-table .ensures in
-    let words = c .before .before .before .before .before .before .before .before .before .before .before .before .before .before .before .before .before .before .before .before .before .before .before .before .before .before .words-of .ensures in
-    let held = words-read _ _ (start .pre .made) _ words in
-    let rows = rows-read _ _ _ _ (read .answer _ held) (read .cells _ held) (tested .if1 .left) in
-    (start .pre .shaped, start .pre .inside, rows-asked _ _ (start .pre .read) _ lent (start .pre .equal) _ _ rows)
+    let known = tested .before in
+    let pre = start known .pre in
+    let was = read known .read-extract-table .ensures in
+    let held = words-read _ _ (pre .made) _ (told known .words-of .ensures) in
+    let rows = rows-read _ _ _ _ (was .answer _ held) (was .cells _ held) (tested .if1 .left) in
+    (pre .shaped, pre .inside, rows-asked _ _ (pre .read) _ (lent known) (pre .equal) _ _ rows)
 
 returns-2 : tie.Need-returns-2
 returns-2 c =
-    let start = c .before .before .before .before .before .before .before .before .before .before .before .before .before .before .before .before .before .before .before .before .before .before .before .before .before .before .before .before .before .before .before .before .before .before .before .before .before .before .before .before .before .before .before .before .before .before .before .before .before .before in
-    let at = start .args in
-    let lent = columns (at .numbers .now) (at .names .now) (at .parents .now) (at .starts .now) (at .lengths .now) in
-    let tested = c .before .before .before .before .before .before .before .before .before .before .before .before .before .before .before .before .before .before .before .before .before .before in
-    let read = c .before .before .before .before .before .before .before .before .before .before .before .before .before .before .before .before .before .before .before .before .before .before .before .before .before .before .before .before .before .before .before .before .before .before .read-extract-table .ensures in
-    let words = c .before .before .before .before .before .before .before .before .before .before .before .before .before .before .before .before .before .before .before .before .before .before .before .before .before .before .before .before .before .before .before .before .before .before .before .before .before .before .before .before .before .words-of .ensures in
-    λ schema accepted made.
-    let held = words-read schema _ made _ words in
-    let rows = rows-read _ _ _ _ (read .answer _ held) (read .cells _ held) (tested .if1 .left) in
-    chosen-exit _ _ accepted _ lent (start .pre .equal) _ _ rows (at .paths) (at .place) _ _ _ _ _ _ (c .before .before .before .before .before .before .before .before .before .before .before .before .before .before .select-under .ensures)
+    let known = accepted c .before in
+    let at = start known .args in
+    let was = read known .read-extract-table .ensures in
+    λ schema taken made.
+    let held = words-read schema _ made _ (told known .words-of .ensures) in
+    let rows = rows-read _ _ _ _ (was .answer _ held) (was .cells _ held) (accepted c .if1 .left) in
+    chosen-exit _ _ taken _ (lent known) (start known .pre .equal) _ _ rows (at .paths) (at .place) _ _ _ _ _ _ (chosen c .select-under .ensures)
 
 pub choose-under-spec : {M : Type 1} → statement M
 choose-under-spec =
     tie.close
     (tie.spec
     (λ c κs. search needs)
-    read-extract-table-requires
+    (λ c κs. c .before .before .before .before .before .before .before .before .before .before .before .before .before .before .before .pre .equal)
     (λ c κs. search needs)
     (λ c κs. search needs)
     (λ c κs. search needs)
-    (λ c. c .before .before .before .before .before .before .before .before .before .before .before .before .before .before .before .before .before .before .before .before .before .read-extract-table .kept .1 .1 .0)
-    (λ c. c .before .before .before .before .before .before .before .before .before .before .before .before .before .before .before .before .before .before .before .before .before .read-extract-table .kept .1 .1 .1 .0)
-    (λ c. c .before .before .before .before .before .before .before .before .before .before .before .before .before .before .before .before .before .before .before .before .before .read-extract-table .kept .1 .1 .1 .1 .0)
-    (λ c. c .before .before .before .before .before .before .before .before .before .before .before .before .before .before .before .before .before .before .before .before .before .read-extract-table .kept .1 .1 .1 .1 .1 .0)
-    (λ c. c .before .before .before .before .before .before .before .before .before .before .before .before .before .before .before .before .before .before .before .before .before .read-extract-table .kept .1 .1 .1 .1 .1 .1 .0)
+    (λ c. read (refused c .before) .read-extract-table .kept .1 .1 .0)
+    (λ c. read (refused c .before) .read-extract-table .kept .1 .1 .1 .0)
+    (λ c. read (refused c .before) .read-extract-table .kept .1 .1 .1 .1 .0)
+    (λ c. read (refused c .before) .read-extract-table .kept .1 .1 .1 .1 .1 .0)
+    (λ c. read (refused c .before) .read-extract-table .kept .1 .1 .1 .1 .1 .1 .0)
     (λ c. c .before .before .before .before .before .before .before .clear-from .kept .0)
     (λ c. c .before .before .before .clear-counts-from .kept .0)
     returns
     select-under-requires
-    (λ c. c .before .before .before .before .before .before .before .before .before .before .before .before .before .before .select-under .kept .1 .1 .1 .0 ∙ c .before .before .before .before .before .before .before .before .before .before .before .before .before .before .before .before .before .before .before .before .before .before .before .before .before .before .before .before .before .before .before .before .before .before .read-extract-table .kept .1 .1 .0)
-    (λ c. c .before .before .before .before .before .before .before .before .before .before .before .before .before .before .select-under .kept .1 .1 .1 .1 .0 ∙ c .before .before .before .before .before .before .before .before .before .before .before .before .before .before .before .before .before .before .before .before .before .before .before .before .before .before .before .before .before .before .before .before .before .before .read-extract-table .kept .1 .1 .1 .0)
-    (λ c. c .before .before .before .before .before .before .before .before .before .before .before .before .before .before .select-under .kept .1 .1 .1 .1 .1 .0 ∙ c .before .before .before .before .before .before .before .before .before .before .before .before .before .before .before .before .before .before .before .before .before .before .before .before .before .before .before .before .before .before .before .before .before .before .read-extract-table .kept .1 .1 .1 .1 .0)
-    (λ c. c .before .before .before .before .before .before .before .before .before .before .before .before .before .before .select-under .kept .1 .1 .1 .1 .1 .1 .0 ∙ c .before .before .before .before .before .before .before .before .before .before .before .before .before .before .before .before .before .before .before .before .before .before .before .before .before .before .before .before .before .before .before .before .before .before .read-extract-table .kept .1 .1 .1 .1 .1 .0)
-    (λ c. c .before .before .before .before .before .before .before .before .before .before .before .before .before .before .select-under .kept .1 .1 .1 .1 .1 .1 .1 .0 ∙ c .before .before .before .before .before .before .before .before .before .before .before .before .before .before .before .before .before .before .before .before .before .before .before .before .before .before .before .before .before .before .before .before .before .before .read-extract-table .kept .1 .1 .1 .1 .1 .1 .0)
-    (λ c. c .before .before .before .before .before .before .before .before .before .before .before .before .before .before .select-under .kept .1 .1 .1 .1 .1 .1 .1 .1 .0)
-    (λ c. c .before .before .before .before .before .before .before .before .before .before .before .before .before .before .select-under .kept .1 .1 .1 .1 .1 .1 .1 .1 .1 .0)
+    (λ c. chosen c .select-under .kept .1 .1 .1 .0 ∙ read (accepted c .before) .read-extract-table .kept .1 .1 .0)
+    (λ c. chosen c .select-under .kept .1 .1 .1 .1 .0 ∙ read (accepted c .before) .read-extract-table .kept .1 .1 .1 .0)
+    (λ c. chosen c .select-under .kept .1 .1 .1 .1 .1 .0 ∙ read (accepted c .before) .read-extract-table .kept .1 .1 .1 .1 .0)
+    (λ c. chosen c .select-under .kept .1 .1 .1 .1 .1 .1 .0 ∙ read (accepted c .before) .read-extract-table .kept .1 .1 .1 .1 .1 .0)
+    (λ c. chosen c .select-under .kept .1 .1 .1 .1 .1 .1 .1 .0 ∙ read (accepted c .before) .read-extract-table .kept .1 .1 .1 .1 .1 .1 .0)
+    (λ c. chosen c .select-under .kept .1 .1 .1 .1 .1 .1 .1 .1 .0)
+    (λ c. chosen c .select-under .kept .1 .1 .1 .1 .1 .1 .1 .1 .1 .0)
     returns-2)

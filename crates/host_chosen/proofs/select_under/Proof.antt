@@ -4,51 +4,41 @@ use mathlib.Core.Path.{sym}
 use Rattle.host_chosen.proofs.select_under.Statement.{statement}
 use Rattle.host_chosen.proofs.select_under.Tie as tie
 
-slice-reshare-prefix-select-table : tie.Need-slice-reshare-prefix-select-table
-slice-reshare-prefix-select-table c = c .before .before .before .before .before .before .before .pre .2 .rooms .numbers
+-- The states that several needs go back to.
+abbrev start : tie.After-slice-known7 → tie.Start
+start c = c .before .before .before .before .before .before .before
 
-slice-aggregate-select-table : tie.Need-slice-aggregate-select-table
-slice-aggregate-select-table c = sym (length-take-le _ _ (c .before .before .before .before .before .before .before .before .pre .2 .rooms .numbers))
+abbrev answered : tie.After-slice-known14 → tie.After-answer
+answered c = c .before .before .before .before .before .before .before .before .before .before
 
-slice-reshare-prefix-select-table-2 : tie.Need-slice-reshare-prefix-select-table-2
-slice-reshare-prefix-select-table-2 c = c .before .before .before .before .before .before .before .before .pre .2 .rooms .names
-
-slice-aggregate-select-table-2 : tie.Need-slice-aggregate-select-table-2
-slice-aggregate-select-table-2 c = sym (length-take-le _ _ (c .before .before .before .before .before .before .before .before .before .pre .2 .rooms .names))
-
-slice-reshare-prefix-select-table-3 : tie.Need-slice-reshare-prefix-select-table-3
-slice-reshare-prefix-select-table-3 c = c .before .before .before .before .before .before .before .before .before .pre .2 .rooms .parents
-
-slice-aggregate-select-table-3 : tie.Need-slice-aggregate-select-table-3
-slice-aggregate-select-table-3 c = sym (length-take-le _ _ (c .before .before .before .before .before .before .before .before .before .before .pre .2 .rooms .parents))
+abbrev chosen : tie.After-slice-known14 → tie.After-select-table
+chosen c = answered c .before .before .before .before .before .before .before .before .before .before
 
 select-table-requires : tie.Need-select-table-requires
 select-table-requires c κs =
-    let pre = c .before .before .before .before .before .before .before .before .before .before .before .before .pre in
+    let pre = start (c .before .before .before .before .before) .pre in
     (pre .0, pre .1, pre .2 .columns)
 
 returns : tie.Need-returns
-returns c =
-    let chosen = c .before .before .before .before .before .before .before .before .before .before .before .before .before .before .before .before .before .before .before .before in
-    record { selected = chosen .select-table .result; answer = chosen .select-table .ensures; last = c .before .before .before .before .before .before .before .before .before .before .answer .ensures }
+returns c = record { selected = chosen c .select-table .result; answer = chosen c .select-table .ensures; last = answered c .answer .ensures }
 
 pub select-under-spec : {M : Type 1} → statement M
 select-under-spec =
     tie.close
     (tie.spec
-    slice-reshare-prefix-select-table
-    slice-aggregate-select-table
-    slice-reshare-prefix-select-table-2
-    slice-aggregate-select-table-2
-    slice-reshare-prefix-select-table-3
-    slice-aggregate-select-table-3
+    (λ c. start c .pre .2 .rooms .numbers)
+    (λ c. sym (length-take-le _ _ (start (c .before) .pre .2 .rooms .numbers)))
+    (λ c. start (c .before) .pre .2 .rooms .names)
+    (λ c. sym (length-take-le _ _ (start (c .before .before) .pre .2 .rooms .names)))
+    (λ c. start (c .before .before) .pre .2 .rooms .parents)
+    (λ c. sym (length-take-le _ _ (start (c .before .before .before) .pre .2 .rooms .parents)))
     select-table-requires
     (λ c κs. tt)
-    (λ c. c .before .before .before .before .before .before .before .before .before .before .answer .kept .1 .1 .0)
-    (λ c. c .before .before .before .before .before .before .before .before .before .before .answer .kept .1 .1 .1 .0)
-    (λ c. c .before .before .before .before .before .before .before .before .before .before .answer .kept .1 .1 .1 .1 .0)
-    (λ c. c .before .before .before .before .before .before .before .before .before .before .answer .kept .1 .1 .1 .1 .1 .0)
-    (λ c. c .before .before .before .before .before .before .before .before .before .before .answer .kept .1 .1 .1 .1 .1 .1 .0)
-    (λ c. c .before .before .before .before .before .before .before .before .before .before .before .before .before .before .before .before .before .before .before .before .select-table .kept .1 .1 .1 .1 .1 .0)
-    (λ c. c .before .before .before .before .before .before .before .before .before .before .before .before .before .before .before .before .before .before .before .before .select-table .kept .1 .1 .1 .1 .1 .1 .0)
+    (λ c. answered c .answer .kept .1 .1 .0)
+    (λ c. answered c .answer .kept .1 .1 .1 .0)
+    (λ c. answered c .answer .kept .1 .1 .1 .1 .0)
+    (λ c. answered c .answer .kept .1 .1 .1 .1 .1 .0)
+    (λ c. answered c .answer .kept .1 .1 .1 .1 .1 .1 .0)
+    (λ c. chosen c .select-table .kept .1 .1 .1 .1 .1 .0)
+    (λ c. chosen c .select-table .kept .1 .1 .1 .1 .1 .1 .0)
     returns)

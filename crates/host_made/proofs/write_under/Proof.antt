@@ -4,79 +4,53 @@ use mathlib.Core.Path.{sym}
 use Rattle.host_made.proofs.write_under.Statement.{statement}
 use Rattle.host_made.proofs.write_under.Tie as tie
 
-needed-by-requires : tie.Need-needed-by-requires
-needed-by-requires c κs =
-    let pre = c .before .before .before .before .before .before .before .pre in
-    (pre .0, pre .1)
+-- The states that several needs go back to.
+abbrev start : tie.After-needed-by → tie.Start
+start c = c .before .before .before .before .before .before .before .before
 
-slice-reshare-prefix-write-kept : tie.Need-slice-reshare-prefix-write-kept
-slice-reshare-prefix-write-kept c = c .before .before .before .before .before .before .before .before .pre .2 .rooms .numbers
+abbrev answered : tie.After-slice-known12 → tie.After-answer
+answered c = c .before .before .before .before .before .before .before .before .before .before
 
-slice-aggregate-write-kept : tie.Need-slice-aggregate-write-kept
-slice-aggregate-write-kept c = sym (length-take-le _ _ (c .before .before .before .before .before .before .before .before .before .pre .2 .rooms .numbers))
-
-slice-reshare-prefix-write-kept-2 : tie.Need-slice-reshare-prefix-write-kept-2
-slice-reshare-prefix-write-kept-2 c = c .before .before .before .before .before .before .before .before .before .pre .2 .rooms .names
-
-slice-aggregate-write-kept-2 : tie.Need-slice-aggregate-write-kept-2
-slice-aggregate-write-kept-2 c = sym (length-take-le _ _ (c .before .before .before .before .before .before .before .before .before .before .pre .2 .rooms .names))
-
-slice-reshare-prefix-write-kept-3 : tie.Need-slice-reshare-prefix-write-kept-3
-slice-reshare-prefix-write-kept-3 c = c .before .before .before .before .before .before .before .before .before .before .pre .2 .rooms .parents
-
-slice-aggregate-write-kept-3 : tie.Need-slice-aggregate-write-kept-3
-slice-aggregate-write-kept-3 c = sym (length-take-le _ _ (c .before .before .before .before .before .before .before .before .before .before .before .pre .2 .rooms .parents))
-
-slice-reshare-prefix-write-kept-4 : tie.Need-slice-reshare-prefix-write-kept-4
-slice-reshare-prefix-write-kept-4 c = c .before .before .before .before .before .before .before .before .before .before .before .pre .2 .rooms .starts
-
-slice-aggregate-write-kept-4 : tie.Need-slice-aggregate-write-kept-4
-slice-aggregate-write-kept-4 c = sym (length-take-le _ _ (c .before .before .before .before .before .before .before .before .before .before .before .before .pre .2 .rooms .starts))
-
-slice-reshare-prefix-write-kept-5 : tie.Need-slice-reshare-prefix-write-kept-5
-slice-reshare-prefix-write-kept-5 c = c .before .before .before .before .before .before .before .before .before .before .before .before .pre .2 .rooms .lengths
-
-slice-aggregate-write-kept-5 : tie.Need-slice-aggregate-write-kept-5
-slice-aggregate-write-kept-5 c = sym (length-take-le _ _ (c .before .before .before .before .before .before .before .before .before .before .before .before .before .pre .2 .rooms .lengths))
+abbrev written : tie.After-slice-known12 → tie.After-write-kept
+written c = answered c .before .before .before .before .before .before .before .before
 
 write-kept-requires : tie.Need-write-kept-requires
 write-kept-requires c κs =
-    let pre = c .before .before .before .before .before .before .before .before .before .before .before .before .before .before .pre in
-    (pre .2 .texts, pre .2 .kept)
+    let asked = start (c .before .before .before .before .before .before) .pre .2 in
+    (asked .texts, asked .kept)
 
 returns : tie.Need-returns
 returns c =
-    let needed = c .before .before .before .before .before .before .before .before .before .before .before .before .before .before .before .before .before .before .before .before .before .before .before .before .before in
-    let written = c .before .before .before .before .before .before .before .before .before .before .before .before .before .before .before .before .before .before in
+    let needed = written c .before .before .before .before .before .before .before in
     record {
       set = needed .needed-by .result;
       need = needed .needed-by .ensures;
-      size = written .write-kept .result;
-      bytes = written .write-kept .ensures;
-      last = c .before .before .before .before .before .before .before .before .before .before .answer .ensures;
+      size = written c .write-kept .result;
+      bytes = written c .write-kept .ensures;
+      last = answered c .answer .ensures;
     }
 
 pub write-under-spec : {M : Type 1} → statement M
 write-under-spec =
     tie.close
     (tie.spec
-    needed-by-requires
-    slice-reshare-prefix-write-kept
-    slice-aggregate-write-kept
-    slice-reshare-prefix-write-kept-2
-    slice-aggregate-write-kept-2
-    slice-reshare-prefix-write-kept-3
-    slice-aggregate-write-kept-3
-    slice-reshare-prefix-write-kept-4
-    slice-aggregate-write-kept-4
-    slice-reshare-prefix-write-kept-5
-    slice-aggregate-write-kept-5
+    (λ c κs. let pre = c .before .before .before .before .before .before .before .pre in (pre .0, pre .1))
+    (λ c. start c .pre .2 .rooms .numbers)
+    (λ c. sym (length-take-le _ _ (start (c .before) .pre .2 .rooms .numbers)))
+    (λ c. start (c .before) .pre .2 .rooms .names)
+    (λ c. sym (length-take-le _ _ (start (c .before .before) .pre .2 .rooms .names)))
+    (λ c. start (c .before .before) .pre .2 .rooms .parents)
+    (λ c. sym (length-take-le _ _ (start (c .before .before .before) .pre .2 .rooms .parents)))
+    (λ c. start (c .before .before .before) .pre .2 .rooms .starts)
+    (λ c. sym (length-take-le _ _ (start (c .before .before .before .before) .pre .2 .rooms .starts)))
+    (λ c. start (c .before .before .before .before) .pre .2 .rooms .lengths)
+    (λ c. sym (length-take-le _ _ (start (c .before .before .before .before .before) .pre .2 .rooms .lengths)))
     write-kept-requires
     (λ c κs. tt)
-    (λ c. c .before .before .before .before .before .before .before .before .before .before .answer .kept .1 .1 .1 .0)
-    (λ c. c .before .before .before .before .before .before .before .before .before .before .answer .kept .1 .1 .1 .1 .0)
-    (λ c. c .before .before .before .before .before .before .before .before .before .before .answer .kept .1 .1 .1 .1 .1 .0)
-    (λ c. c .before .before .before .before .before .before .before .before .before .before .answer .kept .1 .1 .1 .1 .1 .1 .0)
-    (λ c. c .before .before .before .before .before .before .before .before .before .before .answer .kept .1 .1 .1 .1 .1 .1 .1 .0)
-    (λ c. c .before .before .before .before .before .before .before .before .before .before .before .before .before .before .before .before .before .before .write-kept .kept .1 .1 .1 .1 .1 .1 .1 .0)
+    (λ c. answered c .answer .kept .1 .1 .1 .0)
+    (λ c. answered c .answer .kept .1 .1 .1 .1 .0)
+    (λ c. answered c .answer .kept .1 .1 .1 .1 .1 .0)
+    (λ c. answered c .answer .kept .1 .1 .1 .1 .1 .1 .0)
+    (λ c. answered c .answer .kept .1 .1 .1 .1 .1 .1 .1 .0)
+    (λ c. written c .write-kept .kept .1 .1 .1 .1 .1 .1 .1 .0)
     returns)

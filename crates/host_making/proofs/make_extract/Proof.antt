@@ -1,34 +1,41 @@
 -- `make_extract` meets its contract: a call that is refused before the journal is read, or what is made under the two texts.
 use Rattle.host_making.specs.Calls.{under-texts, refused-call, accepted-call}
 use Rattle.row_columns.specs.Columns.{columns}
+use Rattle.table_spec.specs.Columns.{Columns}
 use Rattle.host_making.proofs.make_extract.Statement.{statement}
 use Rattle.host_making.proofs.make_extract.Tie as tie
 
+-- back to the start, and to the columns that are lent, from where the refusal is told
+abbrev start : tie.After-refusal → tie.Start
+start c = c .before .before .before .before .before .before .before .before .before .before .before .before
+
+abbrev lent : tie.After-refusal → Columns
+lent c = columns (start c .args .numbers .now) (start c .args .names .now) (start c .args .parents .now) (start c .args .starts .now) (start c .args .lengths .now)
+
+-- back from the two exits to the calls before them
+abbrev refused : tie.After-slice-known12 → tie.After-refuse
+refused c = c .before .before .before .before .before .before .before .before .before .before .before .before
+
+abbrev made : tie.After-slice-known18 → tie.After-make-under
+made c = c .before .before .before .before .before .before .before .before .before .before .before .before
+
 returns : tie.Need-returns
 returns c =
-    let refused = c .before .before .before .before .before .before .before .before .before .before .before .before in
-    let tested = refused .before .before .before .before .before .before .before in
+    let tested = refused c .before .before .before .before .before .before .before in
     let told = tested .before .before in
-    let at = told .before .before .before .before .before .before .before .before .before .before .before .before .args in
-    let lent = columns (at .numbers .now) (at .names .now) (at .parents .now) (at .starts .now) (at .lengths .now) in
-    refused-call _ _ _ lent (at .out .now) _ (told .before .judge-texts .ensures) _ (told .before .before .equal-sizes .ensures) _ (told .refusal .ensures) (tested .if1 .taken) (refused .refuse .ensures)
+    refused-call _ _ _ (lent told) (start told .args .out .now) _ (told .before .judge-texts .ensures) _ (told .before .before .equal-sizes .ensures) _ (told .refusal .ensures) (tested .if1 .taken) (refused c .refuse .ensures)
 
 make-under-requires : tie.Need-make-under-requires
 make-under-requires c κs =
     let tested = c .before .before .before .before .before .before in
     let told = tested .before .before in
-    let at = told .before .before .before .before .before .before .before .before .before .before .before .before .args in
-    let lent = columns (at .numbers .now) (at .names .now) (at .parents .now) (at .starts .now) (at .lengths .now) in
-    under-texts _ _ lent _ (told .before .judge-texts .ensures) _ (told .before .before .equal-sizes .ensures) _ (told .refusal .ensures) (tested .if1 .left)
+    under-texts _ _ (lent told) _ (told .before .judge-texts .ensures) _ (told .before .before .equal-sizes .ensures) _ (told .refusal .ensures) (tested .if1 .left)
 
 returns-2 : tie.Need-returns-2
 returns-2 c =
-    let made = c .before .before .before .before .before .before .before .before .before .before .before .before in
-    let tested = made .before .before .before .before .before .before .before in
+    let tested = made c .before .before .before .before .before .before .before in
     let told = tested .before .before in
-    let at = told .before .before .before .before .before .before .before .before .before .before .before .before .args in
-    let lent = columns (at .numbers .now) (at .names .now) (at .parents .now) (at .starts .now) (at .lengths .now) in
-    accepted-call _ _ _ lent (at .out .now) _ (told .before .judge-texts .ensures) _ (told .before .before .equal-sizes .ensures) _ (told .refusal .ensures) (tested .if1 .left) (made .make-under .ensures)
+    accepted-call _ _ _ (lent told) (start told .args .out .now) _ (told .before .judge-texts .ensures) _ (told .before .before .equal-sizes .ensures) _ (told .refusal .ensures) (tested .if1 .left) (made c .make-under .ensures)
 
 pub make-extract-spec : {M : Type 1} → statement M
 make-extract-spec =
@@ -38,18 +45,18 @@ make-extract-spec =
     (λ c κs. tt)
     (λ c κs. tt)
     (λ c κs. tt)
-    (λ c. c .before .before .before .before .before .before .before .before .before .before .before .before .refuse .kept .1 .1 .0)
-    (λ c. c .before .before .before .before .before .before .before .before .before .before .before .before .refuse .kept .1 .1 .1 .0)
-    (λ c. c .before .before .before .before .before .before .before .before .before .before .before .before .refuse .kept .1 .1 .1 .1 .0)
-    (λ c. c .before .before .before .before .before .before .before .before .before .before .before .before .refuse .kept .1 .1 .1 .1 .1 .0)
-    (λ c. c .before .before .before .before .before .before .before .before .before .before .before .before .refuse .kept .1 .1 .1 .1 .1 .1 .0)
-    (λ c. c .before .before .before .before .before .before .before .before .before .before .before .before .refuse .kept .1 .1 .1 .1 .1 .1 .1 .0)
+    (λ c. refused c .refuse .kept .1 .1 .0)
+    (λ c. refused c .refuse .kept .1 .1 .1 .0)
+    (λ c. refused c .refuse .kept .1 .1 .1 .1 .0)
+    (λ c. refused c .refuse .kept .1 .1 .1 .1 .1 .0)
+    (λ c. refused c .refuse .kept .1 .1 .1 .1 .1 .1 .0)
+    (λ c. refused c .refuse .kept .1 .1 .1 .1 .1 .1 .1 .0)
     returns
     make-under-requires
-    (λ c. c .before .before .before .before .before .before .before .before .before .before .before .before .make-under .kept .1 .1 .1 .1 .0)
-    (λ c. c .before .before .before .before .before .before .before .before .before .before .before .before .make-under .kept .1 .1 .1 .1 .1 .0)
-    (λ c. c .before .before .before .before .before .before .before .before .before .before .before .before .make-under .kept .1 .1 .1 .1 .1 .1 .0)
-    (λ c. c .before .before .before .before .before .before .before .before .before .before .before .before .make-under .kept .1 .1 .1 .1 .1 .1 .1 .0)
-    (λ c. c .before .before .before .before .before .before .before .before .before .before .before .before .make-under .kept .1 .1 .1 .1 .1 .1 .1 .1 .0)
-    (λ c. c .before .before .before .before .before .before .before .before .before .before .before .before .make-under .kept .1 .1 .1 .1 .1 .1 .1 .1 .1 .0)
+    (λ c. made c .make-under .kept .1 .1 .1 .1 .0)
+    (λ c. made c .make-under .kept .1 .1 .1 .1 .1 .0)
+    (λ c. made c .make-under .kept .1 .1 .1 .1 .1 .1 .0)
+    (λ c. made c .make-under .kept .1 .1 .1 .1 .1 .1 .1 .0)
+    (λ c. made c .make-under .kept .1 .1 .1 .1 .1 .1 .1 .1 .0)
+    (λ c. made c .make-under .kept .1 .1 .1 .1 .1 .1 .1 .1 .1 .0)
     returns-2)

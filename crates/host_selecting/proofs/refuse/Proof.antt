@@ -1,32 +1,31 @@
 -- `refuse` meets its contract: every cell cleared.
-use borrow.Author.Needs.{needs}
 use Rattle.host_selecting.specs.Calls.{all-refused}
 use Rattle.row_columns.specs.Columns.{columns}
 use Rattle.host_selecting.proofs.refuse.Statement.{statement}
 use Rattle.host_selecting.proofs.refuse.Tie as tie
 
+abbrev cleared : tie.After-refused → tie.After-clear
+cleared c = c .before .before .before .before .before .before .before .before .before .before .before .before .before .before .before .before .before .before .before
+
 returns : tie.Need-returns
 returns c =
-    let counted = c .before .before .before in
-    let listed = counted .before .before .before .before in
-    let cleared = listed .before .before .before .before .before .before .before .before .before .before .before .before in
-    let at = cleared .before .before .before .before .before .before .before .before .before .before .before .before .before .args in
+    let at = cleared c .before .before .before .before .before .before .before .before .before .before .before .before .before .args in
     let lent = columns (at .numbers .now) (at .names .now) (at .parents .now) (at .starts .now) (at .lengths .now) in
-    all-refused _ _ lent _ _ _ _ _ _ (cleared .clear .ensures) (listed .clear-from .ensures) (counted .clear-counts-from .ensures) (c .refused .ensures)
+    all-refused _ _ lent _ _ _ _ _ _ (cleared c .clear .ensures) (c .before .before .before .before .before .before .before .clear-from .ensures) (c .before .before .before .clear-counts-from .ensures) (c .refused .ensures)
 
 pub refuse-spec : {M : Type 1} → statement M
 refuse-spec =
     tie.close
     (tie.spec
-    (λ c κs. search needs)
-    (λ c κs. search needs)
-    (λ c κs. search needs)
-    (λ c κs. search needs)
-    (λ c. c .before .before .before .before .before .before .before .before .before .before .before .before .before .before .before .before .before .before .before .clear .kept .0)
-    (λ c. c .before .before .before .before .before .before .before .before .before .before .before .before .before .before .before .before .before .before .before .clear .kept .1 .0)
-    (λ c. c .before .before .before .before .before .before .before .before .before .before .before .before .before .before .before .before .before .before .before .clear .kept .1 .1 .0)
-    (λ c. c .before .before .before .before .before .before .before .before .before .before .before .before .before .before .before .before .before .before .before .clear .kept .1 .1 .1 .0)
-    (λ c. c .before .before .before .before .before .before .before .before .before .before .before .before .before .before .before .before .before .before .before .clear .kept .1 .1 .1 .1 .0)
+    (λ c κs. tt)
+    (λ c κs. tt)
+    (λ c κs. tt)
+    (λ c κs. tt)
+    (λ c. cleared c .clear .kept .0)
+    (λ c. cleared c .clear .kept .1 .0)
+    (λ c. cleared c .clear .kept .1 .1 .0)
+    (λ c. cleared c .clear .kept .1 .1 .1 .0)
+    (λ c. cleared c .clear .kept .1 .1 .1 .1 .0)
     (λ c. c .before .before .before .before .before .before .before .clear-from .kept .0)
     (λ c. c .before .before .before .clear-counts-from .kept .0)
     returns)

@@ -1,34 +1,43 @@
 -- `select_from` meets its contract: a call that is refused before the extract is read, or what is chosen under the two texts.
 use Rattle.host_selecting.specs.Calls.{under-schema, refused-call, accepted-call}
 use Rattle.row_columns.specs.Columns.{columns}
+use Rattle.table_spec.specs.Columns.{Columns}
 use Rattle.host_selecting.proofs.select_from.Statement.{statement}
 use Rattle.host_selecting.proofs.select_from.Tie as tie
 
+-- back to the start, and to the columns that are lent, from where the refusal is told
+abbrev start : tie.After-refusal → tie.Start
+start c = c .before .before .before .before .before .before .before .before .before .before .before .before .before .before
+
+abbrev lent : tie.After-refusal → Columns
+lent c = columns (start c .args .numbers .now) (start c .args .names .now) (start c .args .parents .now) (start c .args .starts .now) (start c .args .lengths .now)
+
+-- back from the two exits to the calls before them
+abbrev refused : tie.After-slice-known14 → tie.After-refuse
+refused c = c .before .before .before .before .before .before .before .before .before .before .before .before .before .before
+
+abbrev chosen : tie.After-slice-known21 → tie.After-choose-under
+chosen c = c .before .before .before .before .before .before .before .before .before .before .before .before .before .before
+
 returns : tie.Need-returns
 returns c =
-    let refused = c .before .before .before .before .before .before .before .before .before .before .before .before .before .before in
-    let tested = refused .before .before .before .before .before .before .before .before in
+    let tested = refused c .before .before .before .before .before .before .before .before in
     let told = tested .before .before in
-    let at = told .before .before .before .before .before .before .before .before .before .before .before .before .before .args in
-    let lent = columns (at .numbers .now) (at .names .now) (at .parents .now) (at .starts .now) (at .lengths .now) in
-    refused-call _ _ _ _ lent (at .items .now) (at .counts .now) _ (told .before .judge-texts .ensures) _ (told .before .before .equal-sizes .ensures) _ (told .refusal .ensures) (tested .if1 .taken) (refused .refuse .ensures)
+    let at = start told .args in
+    refused-call _ _ _ _ (lent told) (at .items .now) (at .counts .now) _ (told .before .before .judge-texts .ensures) _ (told .before .before .before .equal-sizes .ensures) _ (told .before .passes .ensures) _ (told .refusal .ensures) (tested .if1 .taken) (refused c .refuse .ensures)
 
 choose-under-requires : tie.Need-choose-under-requires
 choose-under-requires c κs =
     let tested = c .before .before .before .before .before .before .before in
     let told = tested .before .before in
-    let at = told .before .before .before .before .before .before .before .before .before .before .before .before .before .args in
-    let lent = columns (at .numbers .now) (at .names .now) (at .parents .now) (at .starts .now) (at .lengths .now) in
-    under-schema _ _ _ _ (told .before .judge-texts .ensures) lent _ (told .before .before .equal-sizes .ensures) _ (told .refusal .ensures) (tested .if1 .left)
+    under-schema _ _ _ _ (told .before .before .judge-texts .ensures) (lent told) _ (told .before .before .before .equal-sizes .ensures) _ (told .before .passes .ensures) _ (told .refusal .ensures) (tested .if1 .left)
 
 returns-2 : tie.Need-returns-2
 returns-2 c =
-    let chosen = c .before .before .before .before .before .before .before .before .before .before .before .before .before .before in
-    let tested = chosen .before .before .before .before .before .before .before .before in
+    let tested = chosen c .before .before .before .before .before .before .before .before in
     let told = tested .before .before in
-    let at = told .before .before .before .before .before .before .before .before .before .before .before .before .before .args in
-    let lent = columns (at .numbers .now) (at .names .now) (at .parents .now) (at .starts .now) (at .lengths .now) in
-    accepted-call _ _ _ _ lent (at .items .now) (at .counts .now) _ (told .before .judge-texts .ensures) _ (told .before .before .equal-sizes .ensures) _ (told .refusal .ensures) (tested .if1 .left) (chosen .choose-under .ensures)
+    let at = start told .args in
+    accepted-call _ _ _ _ (lent told) (at .items .now) (at .counts .now) _ (told .before .before .judge-texts .ensures) _ (told .before .before .before .equal-sizes .ensures) _ (told .before .passes .ensures) _ (told .refusal .ensures) (tested .if1 .left) (chosen c .choose-under .ensures)
 
 pub select-from-spec : {M : Type 1} → statement M
 select-from-spec =
@@ -38,20 +47,21 @@ select-from-spec =
     (λ c κs. tt)
     (λ c κs. tt)
     (λ c κs. tt)
-    (λ c. c .before .before .before .before .before .before .before .before .before .before .before .before .before .before .refuse .kept .1 .1 .0)
-    (λ c. c .before .before .before .before .before .before .before .before .before .before .before .before .before .before .refuse .kept .1 .1 .1 .0)
-    (λ c. c .before .before .before .before .before .before .before .before .before .before .before .before .before .before .refuse .kept .1 .1 .1 .1 .0)
-    (λ c. c .before .before .before .before .before .before .before .before .before .before .before .before .before .before .refuse .kept .1 .1 .1 .1 .1 .0)
-    (λ c. c .before .before .before .before .before .before .before .before .before .before .before .before .before .before .refuse .kept .1 .1 .1 .1 .1 .1 .0)
-    (λ c. c .before .before .before .before .before .before .before .before .before .before .before .before .before .before .refuse .kept .1 .1 .1 .1 .1 .1 .1 .0)
-    (λ c. c .before .before .before .before .before .before .before .before .before .before .before .before .before .before .refuse .kept .1 .1 .1 .1 .1 .1 .1 .1 .0)
+    (λ c κs. tt)
+    (λ c. refused c .refuse .kept .1 .1 .0)
+    (λ c. refused c .refuse .kept .1 .1 .1 .0)
+    (λ c. refused c .refuse .kept .1 .1 .1 .1 .0)
+    (λ c. refused c .refuse .kept .1 .1 .1 .1 .1 .0)
+    (λ c. refused c .refuse .kept .1 .1 .1 .1 .1 .1 .0)
+    (λ c. refused c .refuse .kept .1 .1 .1 .1 .1 .1 .1 .0)
+    (λ c. refused c .refuse .kept .1 .1 .1 .1 .1 .1 .1 .1 .0)
     returns
     choose-under-requires
-    (λ c. c .before .before .before .before .before .before .before .before .before .before .before .before .before .before .choose-under .kept .1 .1 .1 .1 .0)
-    (λ c. c .before .before .before .before .before .before .before .before .before .before .before .before .before .before .choose-under .kept .1 .1 .1 .1 .1 .0)
-    (λ c. c .before .before .before .before .before .before .before .before .before .before .before .before .before .before .choose-under .kept .1 .1 .1 .1 .1 .1 .0)
-    (λ c. c .before .before .before .before .before .before .before .before .before .before .before .before .before .before .choose-under .kept .1 .1 .1 .1 .1 .1 .1 .0)
-    (λ c. c .before .before .before .before .before .before .before .before .before .before .before .before .before .before .choose-under .kept .1 .1 .1 .1 .1 .1 .1 .1 .0)
-    (λ c. c .before .before .before .before .before .before .before .before .before .before .before .before .before .before .choose-under .kept .1 .1 .1 .1 .1 .1 .1 .1 .1 .0)
-    (λ c. c .before .before .before .before .before .before .before .before .before .before .before .before .before .before .choose-under .kept .1 .1 .1 .1 .1 .1 .1 .1 .1 .1 .0)
+    (λ c. chosen c .choose-under .kept .1 .1 .1 .1 .0)
+    (λ c. chosen c .choose-under .kept .1 .1 .1 .1 .1 .0)
+    (λ c. chosen c .choose-under .kept .1 .1 .1 .1 .1 .1 .0)
+    (λ c. chosen c .choose-under .kept .1 .1 .1 .1 .1 .1 .1 .0)
+    (λ c. chosen c .choose-under .kept .1 .1 .1 .1 .1 .1 .1 .1 .0)
+    (λ c. chosen c .choose-under .kept .1 .1 .1 .1 .1 .1 .1 .1 .1 .0)
+    (λ c. chosen c .choose-under .kept .1 .1 .1 .1 .1 .1 .1 .1 .1 .1 .0)
     returns-2)

@@ -7,7 +7,10 @@ use Rattle.journal_state.specs.Places.{noPlace}
 use Rattle.journal_reader.proofs.read_journal.Statement.{statement}
 use Rattle.journal_reader.proofs.read_journal.Tie as tie
 
--- from the end back to all bytes, to the table of kinds, to the call
+-- from the exit back to the end, to all bytes, to the table of kinds, to the call
+abbrev end-of : tie.After-slice-known15 → tie.After-finish
+end-of c = c .before .before .before .before .before .before .before .before .before .before
+
 abbrev bytes-of : tie.After-finish → tie.After-read-all
 bytes-of c = c .before .before .before .before .before .before .before .before .before .before .before .before .before .before .before .before .before .before
 
@@ -29,11 +32,6 @@ finish-requires c κs =
     let all = read .read-all .ensures in
     (all .usable, subst (λ (k : ℕ). k < noPlace) (sym (all .place)) (start-of (table-of read) .pre .0))
 
-returns : tie.Need-returns
-returns c =
-    let end = c .before .before .before .before .before .before .before .before .before .before in
-    journal-read _ (search needs) (bytes-of end .read-all .ensures) (end .finish .ensures _)
-
 pub read-journal-spec : {M : Type 1} → statement M
 read-journal-spec =
     tie.close
@@ -41,9 +39,9 @@ read-journal-spec =
     (λ c κs. tt)
     read-all-requires
     finish-requires
-    (λ c. c .before .before .before .before .before .before .before .before .before .numbers2 .given ∙ c .before .before .before .before .before .before .before .before .before .before .before .before .before .before .before .before .before .before .before .before .before .before .before .before .before .before .before .numbers .given)
-    (λ c. c .before .before .before .before .before .before .before .names2 .given ∙ c .before .before .before .before .before .before .before .before .before .before .before .before .before .before .before .before .before .before .before .before .before .before .before .before .before .names .given)
-    (λ c. c .before .before .before .before .before .parents2 .given ∙ c .before .before .before .before .before .before .before .before .before .before .before .before .before .before .before .before .before .before .before .before .before .before .before .parents .given)
-    (λ c. c .before .before .before .starts2 .given ∙ c .before .before .before .before .before .before .before .before .before .before .before .before .before .before .before .before .before .before .before .before .before .starts .given)
-    (λ c. c .before .lengths2 .given ∙ c .before .before .before .before .before .before .before .before .before .before .before .before .before .before .before .before .before .before .before .lengths .given)
-    returns)
+    (λ c. end-of c .finish .kept .1 .0 ∙ bytes-of (end-of c) .read-all .kept .1 .1 .1 .1 .1 .1 .1 .1 .1 .1 .1 .1 .1 .0)
+    (λ c. end-of c .finish .kept .1 .1 .0 ∙ bytes-of (end-of c) .read-all .kept .1 .1 .1 .1 .1 .1 .1 .1 .1 .1 .1 .1 .1 .1 .0)
+    (λ c. end-of c .finish .kept .1 .1 .1 .0 ∙ bytes-of (end-of c) .read-all .kept .1 .1 .1 .1 .1 .1 .1 .1 .1 .1 .1 .1 .1 .1 .1 .0)
+    (λ c. end-of c .finish .kept .1 .1 .1 .1 .0 ∙ bytes-of (end-of c) .read-all .kept .1 .1 .1 .1 .1 .1 .1 .1 .1 .1 .1 .1 .1 .1 .1 .1 .0)
+    (λ c. end-of c .finish .kept .1 .1 .1 .1 .1 .0 ∙ bytes-of (end-of c) .read-all .kept .1 .1 .1 .1 .1 .1 .1 .1 .1 .1 .1 .1 .1 .1 .1 .1 .1 .0)
+    (λ c. journal-read _ (search needs) (bytes-of (end-of c) .read-all .ensures) (end-of c .finish .ensures _)))

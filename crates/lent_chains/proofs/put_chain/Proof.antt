@@ -4,15 +4,6 @@ use borrow.Author.Needs.{needs}
 use Rattle.lent_chains.proofs.put_chain.Statement.{statement}
 use Rattle.lent_chains.proofs.put_chain.Tie as tie
 
-chain-size-requires : tie.Need-chain-size-requires
-chain-size-requires c κs = search needs
-
-clear-bytes-requires : tie.Need-clear-bytes-requires
-clear-bytes-requires c κs = search needs
-
-same-length : tie.Need-same-length
-same-length c = search needs
-
 returns : tie.Need-returns
 returns c =
     let start = c .before .before .before .before .before .before .before .before .before .before .before .before in
@@ -23,12 +14,6 @@ write-chain-requires c κs =
     let start = c .before .before .before .before .before .before .before .before .before in
     record { named = start .pre .0; table = start .pre .1; room = omega (arith, c .before .before .chain-size .ensures, c .before .if1 .left) }
 
-clear-bytes-requires-2 : tie.Need-clear-bytes-requires-2
-clear-bytes-requires-2 c κs = search needs
-
-same-length-2 : tie.Need-same-length-2
-same-length-2 c = search needs
-
 returns-2 : tie.Need-returns-2
 returns-2 c =
     let start = c .before .before .before .before .before .before .before .before .before .before .before .before .before .before .before .before in
@@ -38,11 +23,11 @@ pub put-chain-spec : {M : Type 1} → statement M
 put-chain-spec =
     tie.close
     (tie.spec
-    chain-size-requires
-    clear-bytes-requires
-    same-length
+    (λ c κs. search needs)
+    (λ c κs. search needs)
+    (λ c. search needs)
     returns
     write-chain-requires
-    clear-bytes-requires-2
-    same-length-2
+    (λ c κs. search needs)
+    (λ c. search needs)
     returns-2)

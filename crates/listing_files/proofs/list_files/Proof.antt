@@ -17,11 +17,11 @@ texts-before c = c .before .before .before
 abbrev accepted-before : tie.After-read-compiled → tie.Else1
 accepted-before c = c .before .before .before .before .before .before
 
-abbrev read-before : tie.Then2 → tie.After-read-compiled
-read-before c = c .before .before .before .before .before .before .before .before .before .before .before .before
+abbrev read-before : tie.After-struct-known2 → tie.After-read-compiled
+read-before c = c .before .before .before .before .before .before .before .before .before .before .before
 
-abbrev read-before-2 : tie.Else2 → tie.After-read-compiled
-read-before-2 c = c .before .before .before .before .before .before .before .before .before .before .before .before
+abbrev rows-before : tie.After-slice-known12 → tie.Else2
+rows-before c = c .before .before .before .before .before .before
 
 returns : tie.Need-returns
 returns c =
@@ -31,80 +31,80 @@ returns c =
 read-compiled-requires : tie.Need-read-compiled-requires
 read-compiled-requires c κs =
     let judge = texts-before (c .before .before .before .before .before) in
-    (judge .judge-texts .ensures .compiled, omega arith, (start-before judge) .pre .equal)
+    (judge .judge-texts .ensures .compiled, omega arith, start-before judge .pre .equal)
 
 returns-2 : tie.Need-returns-2
 returns-2 c =
-    let read = read-before (c .before) in
+    let read = read-before (c .before .before) in
     let accepted = accepted-before read in
     let judge = texts-before accepted in
-    journal-refused-lists _ _ _ _ (judge .judge-texts .ensures) (accepted .if1 .left) _ _ _ ((start-before judge) .pre) _ (read .read-compiled .ensures) _ (c .before .if2 .taken) (c .refused2 .ensures)
+    journal-refused-lists _ _ _ _ (judge .judge-texts .ensures) (accepted .if1 .left) _ _ _ (start-before judge .pre) _ (read .read-compiled .ensures) _ (c .before .if2 .taken) (c .refused2 .ensures)
 
 slice-reshare-prefix-list-rows : tie.Need-slice-reshare-prefix-list-rows
 slice-reshare-prefix-list-rows c =
-    let read = read-before-2 c in
+    let read = read-before (c .before) in
     let accepted = accepted-before read in
     let judge = texts-before accepted in
-    rows-rooms _ _ _ _ (judge .judge-texts .ensures) (accepted .if1 .left) _ _ _ ((start-before judge) .pre) _ (read .read-compiled .ensures) (c .if2 .left) .names
+    rows-rooms _ _ _ _ (judge .judge-texts .ensures) (accepted .if1 .left) _ _ _ (start-before judge .pre) _ (read .read-compiled .ensures) (c .if2 .left) .names
 
 slice-aggregate-list-rows : tie.Need-slice-aggregate-list-rows
 slice-aggregate-list-rows c =
     let else2 = c .before in
-    let read = read-before-2 else2 in
+    let read = read-before (else2 .before) in
     let accepted = accepted-before read in
     let judge = texts-before accepted in
-    taken-size _ _ (rows-rooms _ _ _ _ (judge .judge-texts .ensures) (accepted .if1 .left) _ _ _ ((start-before judge) .pre) _ (read .read-compiled .ensures) (else2 .if2 .left) .names)
+    taken-size _ _ (rows-rooms _ _ _ _ (judge .judge-texts .ensures) (accepted .if1 .left) _ _ _ (start-before judge .pre) _ (read .read-compiled .ensures) (else2 .if2 .left) .names)
 
 slice-reshare-prefix-list-rows-2 : tie.Need-slice-reshare-prefix-list-rows-2
 slice-reshare-prefix-list-rows-2 c =
     let else2 = c .before in
-    let read = read-before-2 else2 in
+    let read = read-before (else2 .before) in
     let accepted = accepted-before read in
     let judge = texts-before accepted in
-    rows-rooms _ _ _ _ (judge .judge-texts .ensures) (accepted .if1 .left) _ _ _ ((start-before judge) .pre) _ (read .read-compiled .ensures) (else2 .if2 .left) .parents
+    rows-rooms _ _ _ _ (judge .judge-texts .ensures) (accepted .if1 .left) _ _ _ (start-before judge .pre) _ (read .read-compiled .ensures) (else2 .if2 .left) .parents
 
 slice-aggregate-list-rows-2 : tie.Need-slice-aggregate-list-rows-2
 slice-aggregate-list-rows-2 c =
     let else2 = c .before .before in
-    let read = read-before-2 else2 in
+    let read = read-before (else2 .before) in
     let accepted = accepted-before read in
     let judge = texts-before accepted in
-    taken-size _ _ (rows-rooms _ _ _ _ (judge .judge-texts .ensures) (accepted .if1 .left) _ _ _ ((start-before judge) .pre) _ (read .read-compiled .ensures) (else2 .if2 .left) .parents)
+    taken-size _ _ (rows-rooms _ _ _ _ (judge .judge-texts .ensures) (accepted .if1 .left) _ _ _ (start-before judge .pre) _ (read .read-compiled .ensures) (else2 .if2 .left) .parents)
 
 slice-relend-prefix-list-rows : tie.Need-slice-relend-prefix-list-rows
 slice-relend-prefix-list-rows c =
     let else2 = c .before .before in
-    let read = read-before-2 else2 in
+    let read = read-before (else2 .before) in
     let accepted = accepted-before read in
     let judge = texts-before accepted in
-    firsts-room _ _ _ _ (judge .judge-texts .ensures) (accepted .if1 .left) _ _ _ ((start-before judge) .pre) _ (read .read-compiled .ensures) (else2 .if2 .left)
+    firsts-room _ _ _ _ (judge .judge-texts .ensures) (accepted .if1 .left) _ _ _ (start-before judge .pre) _ (read .read-compiled .ensures) (else2 .if2 .left)
 
 slice-aggregate-list-rows-3 : tie.Need-slice-aggregate-list-rows-3
 slice-aggregate-list-rows-3 c =
     let else2 = c .before .before .before in
-    let read = read-before-2 else2 in
+    let read = read-before (else2 .before) in
     let accepted = accepted-before read in
     let judge = texts-before accepted in
-    taken-size _ _ (firsts-room _ _ _ _ (judge .judge-texts .ensures) (accepted .if1 .left) _ _ _ ((start-before judge) .pre) _ (read .read-compiled .ensures) (else2 .if2 .left))
+    taken-size _ _ (firsts-room _ _ _ _ (judge .judge-texts .ensures) (accepted .if1 .left) _ _ _ (start-before judge .pre) _ (read .read-compiled .ensures) (else2 .if2 .left))
 
 list-rows-requires : tie.Need-list-rows-requires
 list-rows-requires c κs =
     let else2 = c .before .before .before in
-    let read = read-before-2 else2 in
+    let read = read-before (else2 .before) in
     let accepted = accepted-before read in
     let judge = texts-before accepted in
-    let lent = (start-before judge) .pre in
+    let lent = start-before judge .pre in
     let room = firsts-room _ _ _ _ (judge .judge-texts .ensures) (accepted .if1 .left) _ _ _ lent _ (read .read-compiled .ensures) (else2 .if2 .left) in
     rows-asked _ _ _ _ (judge .judge-texts .ensures) (accepted .if1 .left) _ _ _ lent _ (read .read-compiled .ensures) (else2 .if2 .left) _ (sym (taken-size _ _ room))
 
 returns-3 : tie.Need-returns-3
 returns-3 c =
     let rows = c .before .before in
-    let else2 = rows .before .before .before .before in
-    let read = read-before-2 else2 in
+    let else2 = rows-before c in
+    let read = read-before (else2 .before) in
     let accepted = accepted-before read in
     let judge = texts-before accepted in
-    let lent = (start-before judge) .pre in
+    let lent = start-before judge .pre in
     let room = rows-rooms _ _ _ _ (judge .judge-texts .ensures) (accepted .if1 .left) _ _ _ lent _ (read .read-compiled .ensures) (else2 .if2 .left) .parents in
     rows-list _ _ _ _ (judge .judge-texts .ensures) (accepted .if1 .left) _ _ _ lent _ (read .read-compiled .ensures) (else2 .if2 .left) _ _ (rows .list-rows .ensures) _
     (take-at _ _ _ (rows .list-rows .ensures .noted .long ∙ sym (taken-size _ _ room)))
@@ -113,16 +113,16 @@ pub list-files-spec : {M : Type 1} → statement M
 list-files-spec =
     tie.close
     (tie.spec
-    (λ c κs. search needs)
-    (λ c κs. search needs)
+    (λ c κs. tt)
+    (λ c κs. tt)
     returns
     read-compiled-requires
-    (λ c κs. search needs)
-    (λ c. (read-before (c .before)) .read-compiled .kept .1 .1 .1 .1 .0)
-    (λ c. (read-before (c .before)) .read-compiled .kept .1 .1 .1 .1 .1 .0)
-    (λ c. (read-before (c .before)) .read-compiled .kept .1 .1 .1 .1 .1 .1 .0)
-    (λ c. (read-before (c .before)) .read-compiled .kept .1 .1 .1 .1 .1 .1 .1 .0)
-    (λ c. (read-before (c .before)) .read-compiled .kept .1 .1 .1 .1 .1 .1 .1 .1 .0)
+    (λ c κs. tt)
+    (λ c. read-before (c .before .before) .read-compiled .kept .1 .1 .1 .1 .0)
+    (λ c. read-before (c .before .before) .read-compiled .kept .1 .1 .1 .1 .1 .0)
+    (λ c. read-before (c .before .before) .read-compiled .kept .1 .1 .1 .1 .1 .1 .0)
+    (λ c. read-before (c .before .before) .read-compiled .kept .1 .1 .1 .1 .1 .1 .1 .0)
+    (λ c. read-before (c .before .before) .read-compiled .kept .1 .1 .1 .1 .1 .1 .1 .1 .0)
     returns-2
     slice-reshare-prefix-list-rows
     slice-aggregate-list-rows
@@ -131,10 +131,10 @@ list-files-spec =
     slice-relend-prefix-list-rows
     slice-aggregate-list-rows-3
     list-rows-requires
-    (λ c. (read-before-2 (c .before .before .before .before .before .before)) .read-compiled .kept .1 .1 .1 .1 .0)
-    (λ c. (read-before-2 (c .before .before .before .before .before .before)) .read-compiled .kept .1 .1 .1 .1 .1 .0)
-    (λ c. (read-before-2 (c .before .before .before .before .before .before)) .read-compiled .kept .1 .1 .1 .1 .1 .1 .0)
-    (λ c. (read-before-2 (c .before .before .before .before .before .before)) .read-compiled .kept .1 .1 .1 .1 .1 .1 .1 .0)
-    (λ c. (read-before-2 (c .before .before .before .before .before .before)) .read-compiled .kept .1 .1 .1 .1 .1 .1 .1 .1 .0)
+    (λ c. read-before (rows-before c .before) .read-compiled .kept .1 .1 .1 .1 .0)
+    (λ c. read-before (rows-before c .before) .read-compiled .kept .1 .1 .1 .1 .1 .0)
+    (λ c. read-before (rows-before c .before) .read-compiled .kept .1 .1 .1 .1 .1 .1 .0)
+    (λ c. read-before (rows-before c .before) .read-compiled .kept .1 .1 .1 .1 .1 .1 .1 .0)
+    (λ c. read-before (rows-before c .before) .read-compiled .kept .1 .1 .1 .1 .1 .1 .1 .1 .0)
     (λ c. search needs)
     returns-3)

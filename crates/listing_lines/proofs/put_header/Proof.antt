@@ -7,45 +7,18 @@ use Rattle.written_text.specs.Written.{WrittenAt, written-then}
 use borrow.Author.Needs.{needs}
 use Rattle.listing_lines.proofs.put_header.Statement.{statement}
 use Rattle.listing_lines.proofs.put_header.Tie as tie
-use Rattle.listing_lines.proofs.put_header.Reads as reads
-use Rattle.listing_lines.proofs.put_header.Lts as lts
-use Rattle.listing_lines.proofs.put_number.Reads as put-number-reads
-use Rattle.written_text.proofs.put_text.Reads as put-text-reads
 
--- src/lib.rt:25:36
-slice-aggregate-put-number : tie.Need-slice-aggregate-put-number
-slice-aggregate-put-number c = search needs
-
--- src/lib.rt:25:9
-put-number-requires : tie.Need-put-number-requires
-put-number-requires c κs = search needs
-
--- src/lib.rt:26:41
-slice-aggregate-put-number-2 : tie.Need-slice-aggregate-put-number-2
-slice-aggregate-put-number-2 c = search needs
-
--- src/lib.rt:26:9
 put-number-requires-2 : tie.Need-put-number-requires-2
 put-number-requires-2 c κs =
     let first = c .before .before .before .before .put-number .ensures in
     omega (arith, first .low, first .long)
 
--- src/lib.rt:27:41
-slice-aggregate-put-number-3 : tie.Need-slice-aggregate-put-number-3
-slice-aggregate-put-number-3 c = search needs
-
--- src/lib.rt:27:9
 put-number-requires-3 : tie.Need-put-number-requires-3
 put-number-requires-3 c κs =
     let second = c .before .before .before .before in
     let first = second .before .before .before .before .before .put-number .ensures in
     omega (arith, second .put-number2 .ensures .low, second .put-number2 .ensures .long, first .low, first .long)
 
--- src/lib.rt:28:26
-slice-aggregate-put-text : tie.Need-slice-aggregate-put-text
-slice-aggregate-put-text c = search needs
-
--- src/lib.rt:28:5
 put-text-requires : tie.Need-put-text-requires
 put-text-requires c κs =
     let third = c .before .before .before .before in
@@ -53,11 +26,6 @@ put-text-requires c κs =
     let first = second .before .before .before .before .before .put-number .ensures in
     omega (arith, third .put-number3 .ensures .low, third .put-number3 .ensures .long, second .put-number2 .ensures .low, second .put-number2 .ensures .long, first .low, first .long)
 
--- src/lib.rt:21:1
-same-length : tie.Need-same-length
-same-length c = search needs
-
--- src/lib.rt:21:1
 returns : tie.Need-returns
 returns c =
     let text = c .before .before in
@@ -70,13 +38,13 @@ pub put-header-spec : {M : Type 1} → statement M
 put-header-spec =
     tie.close
     (tie.spec
-    slice-aggregate-put-number
-    put-number-requires
-    slice-aggregate-put-number-2
+    (λ c. search needs)
+    (λ c κs. search needs)
+    (λ c. search needs)
     put-number-requires-2
-    slice-aggregate-put-number-3
+    (λ c. search needs)
     put-number-requires-3
-    slice-aggregate-put-text
+    (λ c. search needs)
     put-text-requires
-    same-length
+    (λ c. search needs)
     returns)

@@ -3,35 +3,18 @@ use Rattle.listing_lines.specs.Lines.{first-room, second-room, third-roo
 use borrow.Author.Needs.{needs}
 use Rattle.listing_lines.proofs.put_line.Statement.{statement}
 use Rattle.listing_lines.proofs.put_line.Tie as tie
-use Rattle.listing_lines.proofs.put_line.Reads as reads
-use Rattle.listing_lines.proofs.put_line.Lts as lts
-use Rattle.listing_lines.proofs.put_number.Reads as put-number-reads
-use Rattle.listing_lines.proofs.put_tags.Reads as put-tags-reads
-use Rattle.written_text.proofs.put_decimal.Reads as put-decimal-reads
-use Rattle.written_text.proofs.put_text.Reads as put-text-reads
 
--- src/lib.rt:75:9
 put-decimal-requires : tie.Need-put-decimal-requires
 put-decimal-requires c κs =
     let start = c .before .before .before .before .before .before .before in
     first-room _ _ _ _ _ _ _ (start .pre) (start .args .number) 0
 
--- src/lib.rt:76:41
-slice-aggregate-put-number : tie.Need-slice-aggregate-put-number
-slice-aggregate-put-number c = search needs
-
--- src/lib.rt:76:9
 put-number-requires : tie.Need-put-number-requires
 put-number-requires c κs =
     let first = c .before .before .before .before in
     let start = first .before .before .before .before .before .before .before .before in
     second-room _ _ _ _ _ _ _ (start .pre) (start .args .number) 0 _ _ (first .put-decimal .ensures)
 
--- src/lib.rt:77:39
-slice-aggregate-put-text : tie.Need-slice-aggregate-put-text
-slice-aggregate-put-text c = search needs
-
--- src/lib.rt:77:9
 put-text-requires : tie.Need-put-text-requires
 put-text-requires c κs =
     let second = c .before .before .before .before in
@@ -39,7 +22,6 @@ put-text-requires c κs =
     let start = first .before .before .before .before .before .before .before .before in
     third-room _ _ _ _ _ _ _ (start .pre) (start .args .number) (start .args .place) _ _ (first .put-decimal .ensures) _ _ (second .put-number .ensures)
 
--- src/lib.rt:78:9
 put-tags-requires : tie.Need-put-tags-requires
 put-tags-requires c κs =
     let third = c .before .before .before in
@@ -48,11 +30,6 @@ put-tags-requires c κs =
     let start = first .before .before .before .before .before .before .before .before in
     fourth-pass _ _ _ _ _ _ _ (start .pre) (start .args .number) (start .args .place) _ _ (first .put-decimal .ensures) _ _ (second .put-number .ensures) _ _ (third .put-text .ensures)
 
--- src/lib.rt:79:27
-slice-aggregate-put-text-2 : tie.Need-slice-aggregate-put-text-2
-slice-aggregate-put-text-2 c = search needs
-
--- src/lib.rt:79:5
 put-text-requires-2 : tie.Need-put-text-requires-2
 put-text-requires-2 c κs =
     let fourth = c .before .before .before .before in
@@ -62,11 +39,6 @@ put-text-requires-2 c κs =
     let start = first .before .before .before .before .before .before .before .before in
     fifth-room _ _ _ _ _ _ _ (start .pre) (start .args .number) (start .args .place) _ _ (first .put-decimal .ensures) _ _ (second .put-number .ensures) _ _ (third .put-text .ensures) _ _ (fourth .put-tags .ensures)
 
--- src/lib.rt:61:1
-same-length : tie.Need-same-length
-same-length c = search needs
-
--- src/lib.rt:61:1
 returns : tie.Need-returns
 returns c =
     let fifth = c .before .before in
@@ -82,12 +54,12 @@ put-line-spec =
     tie.close
     (tie.spec
     put-decimal-requires
-    slice-aggregate-put-number
+    (λ c. search needs)
     put-number-requires
-    slice-aggregate-put-text
+    (λ c. search needs)
     put-text-requires
     put-tags-requires
-    slice-aggregate-put-text-2
+    (λ c. search needs)
     put-text-requires-2
-    same-length
+    (λ c. search needs)
     returns)

@@ -3,9 +3,6 @@ use borrow.Author.Needs.{needs}
 use native.Mathlib.Omega.{arith}
 use Rattle.row_chains.proofs.chain_size.Statement.{statement}
 use Rattle.row_chains.proofs.chain_size.Tie as tie
-use Rattle.row_chains.proofs.chain_size.Reads as reads
-use Rattle.row_chains.proofs.chain_size.Lts as lts
-use Rattle.row_chains.proofs.link_size.Reads as link-size-reads
 
 abbrev Inv-loop : tie.InvT-loop
 Inv-loop sizes codes parents row r₀ n₀ r n = Climbing sizes codes parents row n r
@@ -13,19 +10,9 @@ Inv-loop sizes codes parents row r₀ n₀ r n = Climbing sizes codes parents ro
 abbrev μ-loop : tie.MeasureT-loop
 μ-loop sizes codes parents row r₀ n₀ r n = r
 
--- src/lib.rt:66:5
 loop-holds : tie.Need-loop-holds Inv-loop μ-loop
 loop-holds c = climbing-first _ _ _ _
 
--- src/lib.rt:67:31
-shared-slice-read-link-size : tie.Need-shared-slice-read-link-size Inv-loop μ-loop
-shared-slice-read-link-size c = search needs
-
--- src/lib.rt:67:14
-link-size-requires : tie.Need-link-size-requires Inv-loop μ-loop
-link-size-requires c κs = search needs
-
--- src/lib.rt:67:9
 add-n : tie.Need-add-n Inv-loop μ-loop
 add-n c =
     let at = c .before .before .before .loop in
@@ -33,15 +20,6 @@ add-n c =
     let fits = climbing-fits _ _ _ _ (at .n) (at .r) _ _ (start .pre) (at .inv) (c .link-size .ensures) in
     omega arith
 
--- src/lib.rt:68:13
-mul-r : tie.Need-mul-r Inv-loop μ-loop
-mul-r c = search needs
-
--- src/lib.rt:68:13
-shared-slice-read-r : tie.Need-shared-slice-read-r Inv-loop μ-loop
-shared-slice-read-r c = search needs
-
--- src/lib.rt:68:13
 cast-r : tie.Need-cast-r Inv-loop μ-loop
 cast-r c = omega (arith, c .shared-slice-known5 .given (c .before .before .before .before .loop .r))
 
@@ -57,15 +35,6 @@ loop-again c =
     let start = c .before .before .before .before .before .before .before .before in
     climbing-next _ _ _ _ (at .n) (at .r) _ (start .pre) (at .inv) (c .before .before .before .loop-test .taken) (c .before .link-size .ensures) .1
 
--- src/lib.rt:70:26
-shared-slice-read-link-size-2 : tie.Need-shared-slice-read-link-size-2 Inv-loop μ-loop
-shared-slice-read-link-size-2 c = search needs
-
--- src/lib.rt:70:9
-link-size-requires-2 : tie.Need-link-size-requires-2 Inv-loop μ-loop
-link-size-requires-2 c κs = search needs
-
--- src/lib.rt:70:5
 add-result : tie.Need-add-result Inv-loop μ-loop
 add-result c =
     let at = c .before .before .before .loop in
@@ -85,15 +54,15 @@ chain-size-spec =
     Inv-loop
     μ-loop
     loop-holds
-    shared-slice-read-link-size
-    link-size-requires
+    (λ c. search needs)
+    (λ c κs. search needs)
     add-n
-    mul-r
-    shared-slice-read-r
+    (λ c. search needs)
+    (λ c. search needs)
     cast-r
     loop-less
     loop-again
-    shared-slice-read-link-size-2
-    link-size-requires-2
+    (λ c. search needs)
+    (λ c κs. search needs)
     add-result
     returns)

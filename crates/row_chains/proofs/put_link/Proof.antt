@@ -1,3 +1,4 @@
+-- `put_link` meets its contract: `/`, then the element's name or `text()`.
 use mathlib.Core.Path.{_∙_}
 use lib.ListN.{length-set}
 use Rattle.row_chains.proofs.Links.{element-fits, element-room, element-written, text-room, text-written, slash-room}
@@ -5,123 +6,52 @@ use native.Mathlib.Omega.{arith}
 use borrow.Author.Needs.{needs}
 use Rattle.row_chains.proofs.put_link.Statement.{statement}
 use Rattle.row_chains.proofs.put_link.Tie as tie
-use Rattle.row_chains.proofs.put_link.Reads as reads
-use Rattle.row_chains.proofs.put_link.Lts as lts
-use Rattle.row_chains.proofs.copy.Reads as copy-reads
 
--- src/lib.rt:48:5
-slice-write-out : tie.Need-slice-write-out
-slice-write-out c = slash-room _ _ _ _ _ _ (c .before .before .before .before .pre)
-
--- src/lib.rt:50:20
-mul-from : tie.Need-mul-from
-mul-from c = search needs
-
--- src/lib.rt:50:20
-shared-slice-read-from : tie.Need-shared-slice-read-from
-shared-slice-read-from c = search needs
-
--- src/lib.rt:51:20
-mul-size : tie.Need-mul-size
-mul-size c = search needs
-
--- src/lib.rt:51:20
-shared-slice-read-size : tie.Need-shared-slice-read-size
-shared-slice-read-size c = search needs
-
--- src/lib.rt:52:18
 add-to : tie.Need-add-to
 add-to c =
-    let fits = element-fits _ _ _ _ _ _ (c .before .before .before .before .before .before .before .pre) (omega arith) in
-    let small = c .before .before .before .before .before .before .before .good in
+    let start = c .before .before .before .before .before .before .before in
+    let fits = element-fits _ _ _ _ _ _ (start .pre) (omega arith) in
+    let small = start .good in
     omega arith
 
--- src/lib.rt:53:14
-sub-copy : tie.Need-sub-copy
-sub-copy c = search needs
+part-put-text-end : tie.Need-part-put-text-end
+part-put-text-end c = omega (arith, element-fits _ _ _ _ _ _ (c .before .before .before .before .before .before .before .before .pre) (omega arith))
 
--- src/lib.rt:53:14
-part-copy-start : tie.Need-part-copy-start
-part-copy-start c = search needs
+put-text-requires : tie.Need-put-text-requires
+put-text-requires c κs = element-room _ _ _ _ _ _ (c .before .before .before .before .before .before .before .before .before .pre) (omega arith)
 
--- src/lib.rt:53:14
-part-copy-end : tie.Need-part-copy-end
-part-copy-end c =
-    let fits = element-fits _ _ _ _ _ _ (c .before .before .before .before .before .before .before .pre) (omega arith) in
-    omega arith
-
--- src/lib.rt:53:36
-add-copy : tie.Need-add-copy
-add-copy c = search needs
-
--- src/lib.rt:53:9
-copy-requires : tie.Need-copy-requires
-copy-requires c κs = element-room _ _ _ _ _ _ (c .before .before .before .before .before .before .before .before .before .pre) (omega arith)
-
--- src/lib.rt:54:16
-add-result : tie.Need-add-result
-add-result c = search needs
-
--- src/lib.rt:54:16
-add-result-2 : tie.Need-add-result-2
-add-result-2 c =
-    let fits = element-fits _ _ _ _ _ _ (c .before .before .before .before .before .before .before .before .before .before .before .before .pre) (omega arith) in
-    omega arith
-
--- src/lib.rt:54:9
-same-length : tie.Need-same-length
-same-length c = c .before .before .copy .kept .1 .0 ∙ simp length-set
-
--- src/lib.rt:54:9
 returns : tie.Need-returns
-returns c = element-written _ _ _ _ _ _ (c .before .before .before .before .before .before .before .before .before .before .before .before .pre) (omega arith) _ (c .before .before .copy .ensures)
+returns c =
+    let put = c .before .before in
+    element-written _ _ _ _ _ _ (put .before .before .before .before .before .before .before .before .before .before .pre) (omega arith) (put .put-text .ensures)
 
--- src/lib.rt:56:10
-slice-aggregate-copy : tie.Need-slice-aggregate-copy
-slice-aggregate-copy c = search needs
+put-text-requires-2 : tie.Need-put-text-requires-2
+put-text-requires-2 c κs = text-room _ _ _ _ _ _ (c .before .before .before .before .before .before .before .pre) (omega arith)
 
--- src/lib.rt:56:26
-add-copy-2 : tie.Need-add-copy-2
-add-copy-2 c = search needs
-
--- src/lib.rt:56:5
-copy-requires-2 : tie.Need-copy-requires-2
-copy-requires-2 c κs = text-room _ _ _ _ _ _ (c .before .before .before .before .before .before .before .pre) (omega arith)
-
--- src/lib.rt:57:5
-add-result-3 : tie.Need-add-result-3
-add-result-3 c = search needs
-
--- src/lib.rt:36:1
-same-length-2 : tie.Need-same-length-2
-same-length-2 c = c .before .before .copy2 .kept .1 .0 ∙ simp length-set
-
--- src/lib.rt:36:1
 returns-2 : tie.Need-returns-2
-returns-2 c = text-written _ _ _ _ _ _ (c .before .before .before .before .before .before .before .before .before .before .pre) (omega arith) _ (c .before .before .copy2 .ensures)
+returns-2 c =
+    let put = c .before .before in
+    text-written _ _ _ _ _ _ (put .before .before .before .before .before .before .before .before .pre) (omega arith) (put .put-text2 .ensures)
 
 pub put-link-spec : {M : Type 1} → statement M
 put-link-spec =
     tie.close
     (tie.spec
-    slice-write-out
-    mul-from
-    shared-slice-read-from
-    mul-size
-    shared-slice-read-size
+    (λ c. slash-room _ _ _ _ _ _ (c .before .before .before .before .pre))
+    (λ c. search needs)
+    (λ c. search needs)
+    (λ c. search needs)
+    (λ c. search needs)
     add-to
-    sub-copy
-    part-copy-start
-    part-copy-end
-    add-copy
-    copy-requires
-    add-result
-    add-result-2
-    same-length
+    (λ c. search needs)
+    (λ c. search needs)
+    (λ c. search needs)
+    part-put-text-end
+    put-text-requires
+    (λ c. c .before .before .put-text .kept .0 ∙ simp length-set)
     returns
-    slice-aggregate-copy
-    add-copy-2
-    copy-requires-2
-    add-result-3
-    same-length-2
+    (λ c. search needs)
+    (λ c. search needs)
+    put-text-requires-2
+    (λ c. c .before .before .put-text2 .kept .0 ∙ simp length-set)
     returns-2)
