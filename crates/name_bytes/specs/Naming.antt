@@ -11,7 +11,7 @@ use borrow.Author.Tests.{ltb-true, ltb-false, eq-eqb, ne-eqb}
 use lib.Dec.{eqb, ltb}
 use lib.ListN.{length, drop, getD, drop-of-length-le}
 use lib.Seq.{drop-cons}
-use Rattle.schema_names.specs.Names.{nameByte}
+use Rattle.name_bytes.specs.Names.{nameByte}
 use Rattle.schema_spec.specs.Schemas.{indexFrom}
 use Rattle.text_laws.specs.Lists.{bytes-equal}
 use Rattle.text_laws.specs.Scans.{name-cons, name-stops}

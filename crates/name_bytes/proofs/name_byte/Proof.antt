@@ -2,9 +2,9 @@
 use mathlib.Core.Path.{sym, _∙_}
 use borrow.Author.Needs.{needs}
 use native.Mathlib.Omega.{arith}
-use Rattle.schema_names.proofs.Naming.{byte-none, byte-there}
-use Rattle.schema_names.proofs.name_byte.Statement.{statement}
-use Rattle.schema_names.proofs.name_byte.Tie as tie
+use Rattle.name_bytes.specs.Naming.{byte-none, byte-there}
+use Rattle.name_bytes.proofs.name_byte.Statement.{statement}
+use Rattle.name_bytes.proofs.name_byte.Tie as tie
 
 returns : tie.Need-returns
 returns c = byte-none (c .before .before .args .s .now) (c .before .before .args .i) (λ l. absurd (omega arith))

@@ -2,8 +2,8 @@
 use borrow.Author.Tests.{le-leb, lt-leb, eq-eqb, ne-eqb}
 use Prim.Native.Nat.{suc}
 use native.Mathlib.Omega.{arith}
-use Rattle.row_tests.proofs.element_fits.Statement.{statement}
-use Rattle.row_tests.proofs.element_fits.Tie as tie
+use Rattle.row_limits.proofs.element_fits.Statement.{statement}
+use Rattle.row_limits.proofs.element_fits.Tie as tie
 
 returns : tie.Need-returns
 returns c = simp (lt-leb (suc (c .before .args .depth)) 64 (omega arith))

@@ -1,7 +1,7 @@
 -- `text_fits` meets its contract: the tests in their order.
 use borrow.Author.Tests.{le-leb, lt-leb}
-use Rattle.row_tests.proofs.text_fits.Statement.{statement}
-use Rattle.row_tests.proofs.text_fits.Tie as tie
+use Rattle.row_limits.proofs.text_fits.Statement.{statement}
+use Rattle.row_limits.proofs.text_fits.Tie as tie
 
 returns : tie.Need-returns
 returns c = simp (c .if1 .taken)

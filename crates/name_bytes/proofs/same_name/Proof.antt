@@ -4,11 +4,11 @@ use Prim.Native.Nat.{_+_, _-_}
 use lib.ListN.{length}
 use Rattle.text_spec.specs.Scans.{nameAt}
 use Rattle.text_spec.specs.Lists.{sameBytes}
-use Rattle.schema_names.proofs.Naming.{name-goes-on, names-differ, names-agree, names-ended}
+use Rattle.name_bytes.specs.Naming.{name-goes-on, names-differ, names-agree, names-ended}
 use borrow.Author.Needs.{needs}
 use native.Mathlib.Omega.{arith}
-use Rattle.schema_names.proofs.same_name.Statement.{statement}
-use Rattle.schema_names.proofs.same_name.Tie as tie
+use Rattle.name_bytes.proofs.same_name.Statement.{statement}
+use Rattle.name_bytes.proofs.same_name.Tie as tie
 
 abbrev Inv-loop : tie.InvT-loop
 Inv-loop t p end s q i₀ j₀ i j =

@@ -4,8 +4,8 @@ use native.Mathlib.Omega.{arith}
 use borrow.Author.Needs.{needs}
 use borrow.Author.Tests.{lt-ltb, le-ltb, le-leb, not-true, not-false}
 use Rattle.table_passes.specs.Passes.{laterFits}
-use Rattle.row_tests.proofs.later_fits.Statement.{statement}
-use Rattle.row_tests.proofs.later_fits.Tie as tie
+use Rattle.later_rows.proofs.later_fits.Statement.{statement}
+use Rattle.later_rows.proofs.later_fits.Tie as tie
 
 returns : tie.Need-returns
 unfolding laterFits

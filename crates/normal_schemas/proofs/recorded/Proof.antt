@@ -1,10 +1,10 @@
 -- `recorded` meets its contract.
-use Rattle.schema_reader.proofs.Records.{normal-cells}
+use Rattle.normal_schemas.proofs.Cells.{normal-cells}
 use native.Mathlib.Omega.{arith}
 use Rattle.text_spec.specs.Limits.{maxSchemaBytes}
 use borrow.Author.Needs.{needs}
-use Rattle.schema_reader.proofs.recorded.Statement.{statement}
-use Rattle.schema_reader.proofs.recorded.Tie as tie
+use Rattle.normal_schemas.proofs.recorded.Statement.{statement}
+use Rattle.normal_schemas.proofs.recorded.Tie as tie
 
 returns : tie.Need-returns
 returns c = record { bytes = λ h. absurd (omega arith); size = λ h. absurd (omega arith) }
