@@ -72,7 +72,7 @@ fn model(
     }
     match model_groups::group(s, i, 0, out, n, n, predecessors) {
         PartOutcome::Past(p) => {
-            let q = particles::indicated(s, p, predecessors);
+            let q = indicators::indicated(s, p, predecessors);
             let ends = q.ends;
             ContentOutcome::Past(ContentEnd {
                 at: q.at,

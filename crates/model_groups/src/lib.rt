@@ -32,7 +32,7 @@ fn particle(
         return PartOutcome::Fail(i);
     }
     if text::starts_name(s[i]) {
-        return particles::use_name(s, i, out, n, start, predecessors);
+        return used_names::use_name(s, i, out, n, start, predecessors);
     }
     if s[i] != b'(' {
         return PartOutcome::Fail(i);
@@ -41,7 +41,7 @@ fn particle(
         return PartOutcome::Fail(i);
     }
     match group(s, i + 1, depth + 1, out, n, start, predecessors) {
-        PartOutcome::Past(p) => PartOutcome::Past(particles::indicated(s, p, predecessors)),
+        PartOutcome::Past(p) => PartOutcome::Past(indicators::indicated(s, p, predecessors)),
         PartOutcome::Fail(j) => PartOutcome::Fail(j),
     }
 }
@@ -72,10 +72,10 @@ pub fn group(
             PartOutcome::Fail(j) => return PartOutcome::Fail(j),
             PartOutcome::Past(p) => {
                 let end = p.at;
-                let joined = particles::join(sep, ends, p.ends, predecessors);
+                let joined = separators::join(sep, ends, p.ends, predecessors);
                 count = p.n;
                 ends = joined;
-                match particles::after_particle(s, end, sep) {
+                match separators::after_particle(s, end, sep) {
                     Follow::Fail(j) => return PartOutcome::Fail(j),
                     Follow::Close(j) => return PartOutcome::Past(Part {
                         at: j,

@@ -1,3 +1,5 @@
 pub mod Automata
-pub mod Readings
+pub mod AutomataLaws
+pub mod ParticleLaws
 pub mod ReadingLaws
+pub mod Readings

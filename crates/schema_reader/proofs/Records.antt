@@ -1,37 +1,28 @@
 -- Laws of the record that reading a text hands back.
 use mathlib.Core.Bool.{_||_}
-use mathlib.Core.List.{List, [], _++_}
+use mathlib.Core.List.{List, []}
 use mathlib.Core.Path.{_≡_, refl, sym, ap, _∙_}
-use Prim.Native.Nat.{ℕ, _-_, _≤_}
-use native.Mathlib.Omega.{arith}
+use Prim.Native.Nat.{ℕ, _≤_}
 use borrow.Author.Tests.{ltb-false}
 use lib.Dec.{ltb}
-use lib.ListN.{length, replicate}
+use lib.ListN.{length}
 use Rattle.schema.specs.Judging.{outcomeOf, sized, JudgedAs}
 use Rattle.schema.specs.declared.Judgement.{Judgement}
 use Rattle.schema.specs.declared.Judgement.the-variants.{Accepted, Refused}
 use Rattle.schema.specs.declared.Schema.{Schema as Cells}
 use Rattle.schema_laws.specs.Accepted.{accepted-spelt}
-use Rattle.normal_forms.specs.Normal.{Normalized}
-use Rattle.schema_reader.specs.Records.{Recorded, handedBack, ReadAs}
+use Rattle.normal_schemas.specs.Recorded.{Recorded, handedBack}
+use Rattle.schema_reader.specs.Records.{ReadAs}
 use Rattle.schema_spec.specs.Reading.{readSchema}
 use Rattle.schema_spec.specs.Records.{normal, recordBy, schemaRecord}
 use Rattle.schema_spec.specs.Schemas.{Schema}
-use Rattle.text_laws.specs.Cells.{drop-replicate, padded-zeros, padded-content}
+use Rattle.text_laws.specs.Cells.{padded-zeros}
 use Rattle.text_laws.specs.Refusals.{given-free}
 use Rattle.text_laws.specs.Tests.{false-of, or-right, never}
 use Rattle.text_spec.specs.Cells.{padded}
 use Rattle.text_spec.specs.Limits.{maxSchemaBytes}
 use Rattle.text_spec.specs.Lists.{isEmpty}
 use Rattle.text_spec.specs.Refusals.{Outcome, accepted, refused, at, badLength}
-
--- the normal form in cells that were 0
-pub normal-cells : {s cells : List ℕ} (size : ℕ) {r : ℕ} → length s ≤ size → Normalized s (replicate size 0) cells r → cells ≡ padded size (normal s)
-normal-cells {s} size {r} h N =
-    let a = N .size in
-    let b = N .short in
-    N .wrote ∙ ap (λ (l : List ℕ). normal s ++ l) (drop-replicate r size 0 ∙ ap (λ (k : ℕ). replicate (size - k) 0) (N .size))
-    ∙ sym (padded-content size (normal s) (omega arith))
 
 -- an accepted text is not too long
 accepted-short : (text : List ℕ) (s : Schema) → readSchema text ≡ accepted s → length text ≤ maxSchemaBytes

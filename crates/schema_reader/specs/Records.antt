@@ -2,29 +2,16 @@
 use mathlib.Core.Bool.{Bool, _&&_}
 use mathlib.Core.List.{List}
 use mathlib.Core.Path.{_≡_}
-use Prim.Native.Nat.{ℕ, _≤_}
+use Prim.Native.Nat.{ℕ}
 use lib.Dec.{leb}
 use lib.ListN.{length, take}
-use Rattle.schema.specs.Judging.{emptySchema, outcomeOf, sized}
-use Rattle.schema.specs.declared.Judgement.{Judgement}
-use Rattle.schema.specs.declared.Judgement.the-variants.{Accepted, Refused}
-use Rattle.schema.specs.declared.Schema.{Schema}
+use Rattle.schema.specs.Judging.{outcomeOf, sized}
 use Rattle.schema_reader.specs.declared.SchemaRead.{SchemaRead}
 use Rattle.schema_spec.specs.Reading.{readSchema}
-use Rattle.schema_spec.specs.Records.{normal, schemaRecord, isSchemaRecord}
+use Rattle.schema_spec.specs.Records.{schemaRecord, isSchemaRecord}
 use Rattle.text_spec.specs.Cells.{padded}
 use Rattle.text_spec.specs.Limits.{maxSchemaBytes}
 use Rattle.text_spec.specs.Lists.{sameBytes}
-
--- the normal form of a text that is not too long
-pub record Recorded (text : List ℕ) (s : Schema) : Type 0 where
-  pub bytes : length text ≤ maxSchemaBytes → s .bytes ≡ padded maxSchemaBytes (normal text)
-  pub size : length text ≤ maxSchemaBytes → s .len ≡ length (normal text)
-
--- the schema that was read, or the empty one
-abbrev pub handedBack : Judgement → Schema → Schema
-handedBack (Accepted n) s = s
-handedBack (Refused k p) s = emptySchema
 
 -- reading a text answers so: the outcome, and the record, which is the empty one on refusal
 pub record ReadAs (text : List ℕ) (r : SchemaRead) : Type 0 where

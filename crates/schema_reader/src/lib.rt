@@ -1,31 +1,9 @@
 // Reading schema texts: the judgement, and the schema in its record, which is the text's normal form.
 ghost use mathlib.Core.Path.{_≡_};
-ghost use Rattle.schema_reader.specs.Records.{Recorded, handedBack, ReadAs, passesRecord};
+ghost use Rattle.schema_reader.specs.Records.{ReadAs, passesRecord};
 ghost use Rattle.text_spec.specs.Lists.{sameBytes};
 use schema::Judgement;
 use schema::Schema;
-
-// The normal form of a text that is not too long, in a schema's cells.
-fn recorded(s: &[u8]) -> Schema
-    ensures { λ r. ⌜ Recorded (now (s .entry)) r ⌝ }
-{
-    if Schema::MAX_BYTES < s.len() {
-        return Schema::empty();
-    }
-    let mut bytes = [0u8; Schema::MAX_BYTES];
-    let len = normal_forms::write_normal(s, &mut bytes);
-    Schema { bytes, len }
-}
-
-// On refusal the empty schema is handed back.
-fn handed_back(judgement: Judgement, read: Schema) -> Schema
-    ensures { λ r. ⌜ r ≡ handedBack judgement read ⌝ }
-{
-    match judgement {
-        Judgement::Accepted(_) => read,
-        Judgement::Refused(_, _) => Schema::empty(),
-    }
-}
 
 pub struct SchemaRead {
     pub judgement: Judgement,
@@ -37,7 +15,7 @@ pub fn read_schema(text: &[u8]) -> SchemaRead
     ensures { λ r. ⌜ ReadAs (now (text .entry)) r ⌝ }
 {
     let judgement = schema_judging::judge_schema(text);
-    let schema = handed_back(judgement, recorded(text));
+    let schema = normal_schemas::handed_back(judgement, normal_schemas::recorded(text));
     SchemaRead { judgement, schema }
 }
 

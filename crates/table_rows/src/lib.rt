@@ -4,9 +4,9 @@ ghost use Prim.Native.Nat.{_≤_, _-_};
 ghost use Rattle.table_passes.specs.Passes.{laterPass, rowsPass};
 ghost use Rattle.table_rows.specs.Lent.{columns, Lent, RowLent, RootAt, rowFits};
 ghost use Rattle.text_spec.specs.Limits.{maxDepth};
+use later_rows::later_fits;
 use names::MAX_ELEMENTS;
 use row_tests::is_text;
-use row_tests::later_fits;
 use row_tests::root_fits;
 
 // Whether a row fits after the row before it, under the row `parent`, whose depth this is.

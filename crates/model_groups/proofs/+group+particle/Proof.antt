@@ -14,10 +14,10 @@ use Rattle.model_groups.proofs.+group+particle.Lts-group as group-lts
 use Rattle.model_groups.proofs.particle.Reads as particle
 use Rattle.model_groups.proofs.particle.Kinds as particle-kinds
 use Rattle.model_groups.proofs.+group+particle.Lts-particle as particle-lts
-use Rattle.particles.proofs.after_particle.Reads as after-particle-reads
-use Rattle.particles.proofs.indicated.Reads as indicated-reads
-use Rattle.particles.proofs.join.Reads as join-reads
-use Rattle.particles.proofs.use_name.Reads as use-name-reads
+use Rattle.separators.proofs.after_particle.Reads as after-particle-reads
+use Rattle.indicators.proofs.indicated.Reads as indicated-reads
+use Rattle.separators.proofs.join.Reads as join-reads
+use Rattle.used_names.proofs.use_name.Reads as use-name-reads
 use Rattle.scanning.proofs.skip.Reads as skip-reads
 use Rattle.text.proofs.starts_name.Reads as starts-name-reads
 use Rattle.model_groups.proofs.+group+particle.{statement}

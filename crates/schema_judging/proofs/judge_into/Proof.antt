@@ -1,5 +1,5 @@
 -- `judge_into` meets its contract: 2, then 3, then the others.
-use Rattle.schema_judging.proofs.Outcomes.{refused-into, read-empty, read-long, read-foreign, readable}
+use Rattle.schema_judging_laws.specs.Outcomes.{refused-into, read-empty, read-long, read-foreign, readable}
 use native.Mathlib.Omega.{arith}
 use borrow.Author.Needs.{needs}
 use Rattle.schema_judging.proofs.judge_into.Statement.{statement}

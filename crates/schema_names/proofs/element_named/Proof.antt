@@ -4,7 +4,7 @@ use mathlib.Core.Path.{sym, ap, _∙_}
 use Prim.Native.Nat.{ℕ}
 use native.Mathlib.Nat.{zero-add}
 use Rattle.text_spec.specs.Scans.{nameAt}
-use Rattle.schema_names.proofs.Naming.{name-whole, never-found}
+use Rattle.name_bytes.specs.Naming.{name-whole, never-found}
 use Rattle.schema_names.specs.NameLaws.{found-one, found-none}
 use Rattle.schema_spec.specs.Schemas.{indexFrom}
 use borrow.Author.Needs.{needs}

@@ -6,7 +6,7 @@ use lib.ListN.{length, drop}
 use Rattle.text_spec.specs.Scans.{nameAt}
 use Rattle.schema_spec.specs.Schemas.{indexFrom}
 use Rattle.text_spec.specs.Lists.{valueOr}
-use Rattle.schema_names.proofs.Naming.{index-here, index-later, index-none}
+use Rattle.name_bytes.specs.Naming.{index-here, index-later, index-none}
 use borrow.Author.Needs.{needs}
 use Rattle.schema_names.proofs.find.Statement.{statement}
 use Rattle.schema_names.proofs.find.Tie as tie

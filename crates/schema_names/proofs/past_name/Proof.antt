@@ -3,7 +3,7 @@ use mathlib.Core.Path.{_≡_, refl, ap}
 use Prim.Native.Nat.{_+_, _-_}
 use lib.ListN.{length}
 use Rattle.text_spec.specs.Scans.{nameAt}
-use Rattle.schema_names.proofs.Naming.{byte-over, byte-on}
+use Rattle.name_bytes.specs.Naming.{byte-over, byte-on}
 use borrow.Author.Needs.{needs}
 use native.Mathlib.Omega.{arith}
 use Rattle.schema_names.proofs.past_name.Statement.{statement}

@@ -1,3 +1,0 @@
-pub mod Automata
-pub mod Indicators
-pub mod Particles

@@ -1,0 +1,1 @@
+// Definitions and theorems alone: they stand in specs/.
