@@ -47,10 +47,10 @@ def sources(crate):
 
 def called(crate, name, texts):
     """Whether another crate calls a function or a method of this crate by its name."""
-    path = re.compile(r"\b%s::(?:[A-Z]\w*::)?%s\(" % (crate, name))
+    path = re.compile(r"\b%s::(?:(?:[A-Z]\w*::)?%s\(|%s;)" % (crate, name, name))
     brought = re.compile(r"\buse %s::([A-Z]\w*)" % crate)
     for other, text in texts.items():
-        if other == crate:
+        if other == crate or crate not in text or name not in text:
             continue
         if path.search(text):
             return True
