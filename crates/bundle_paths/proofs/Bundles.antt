@@ -15,10 +15,10 @@ use Rattle.bundle_paths.specs.declared.BundleOutcome.the-variants.{Past,
 use Rattle.path_conditions.specs.Laws.{cells-append, ends-append, ends-length}
 use Rattle.path_conditions.specs.Readings.{cellsOf, endsFrom, tooMuch}
 use Rattle.path_limits.specs.Limits.{overLimit}
-use Rattle.path_lines.specs.Readings.{Written, stepNoted, conditionOf, outerCells, allPaths, conditionEnds, overCondition, Steps, LineRead, LineAs, ReadsLine}
-use Rattle.path_lines.specs.declared.Line.{Line}
-use Rattle.path_lines.specs.declared.LineOutcome.{LineOutcome}
-use Rattle.path_lines.specs.declared.LineOutcome.the-variants.{Past as LinePast, Fail as LineFail}
+use Rattle.path_line_steps.specs.Readings.{Written, stepNoted, conditionOf, outerCells, allPaths, conditionEnds, overCondition, Steps, LineRead, LineAs, ReadsLine}
+use Rattle.path_line_steps.specs.declared.Line.{Line}
+use Rattle.path_line_steps.specs.declared.LineOutcome.{LineOutcome}
+use Rattle.path_line_steps.specs.declared.LineOutcome.the-variants.{Past as LinePast, Fail as LineFail}
 use Rattle.path_spec.specs.Grammar.{PathRead}
 use Rattle.path_spec.specs.Machine.{lineStart, bundleMachine, parse}
 use Rattle.path_spec.specs.Reading.{passesConditionLimit, passesLimit}

@@ -1,9 +1,9 @@
 -- `brackets` meets its contract: a condition, or none.
 use native.Mathlib.Omega.{arith}
-use Rattle.path_lines.proofs.Lines.{brackets-none, brackets-some}
+use Rattle.path_line_steps.proofs.Steps.{brackets-none, brackets-some}
 use borrow.Author.Needs.{needs}
-use Rattle.path_lines.proofs.brackets.Statement.{statement}
-use Rattle.path_lines.proofs.brackets.Tie as tie
+use Rattle.path_line_steps.proofs.brackets.Statement.{statement}
+use Rattle.path_line_steps.proofs.brackets.Tie as tie
 
 condition-requires : tie.Need-condition-requires
 condition-requires c κs =

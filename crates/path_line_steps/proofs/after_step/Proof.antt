@@ -1,8 +1,8 @@
 -- `after_step` meets its contract: the byte decides.
-use Rattle.path_lines.proofs.Lines.{follow-end, follow-slash, follow-line, follow-not}
+use Rattle.path_line_steps.proofs.Steps.{follow-end, follow-slash, follow-line, follow-not}
 use borrow.Author.Needs.{needs}
-use Rattle.path_lines.proofs.after_step.Statement.{statement}
-use Rattle.path_lines.proofs.after_step.Tie as tie
+use Rattle.path_line_steps.proofs.after_step.Statement.{statement}
+use Rattle.path_line_steps.proofs.after_step.Tie as tie
 
 returns : tie.Need-returns
 returns c =

@@ -1,9 +1,9 @@
 -- `written_step` meets its contract: a step without brackets, and then its brackets.
 use native.Mathlib.Omega.{arith}
-use Rattle.path_lines.proofs.Lines.{written-fails, written-place, written-reads}
+use Rattle.path_line_steps.proofs.Steps.{written-fails, written-place, written-reads}
 use borrow.Author.Needs.{needs}
-use Rattle.path_lines.proofs.written_step.Statement.{statement}
-use Rattle.path_lines.proofs.written_step.Tie as tie
+use Rattle.path_line_steps.proofs.written_step.Statement.{statement}
+use Rattle.path_line_steps.proofs.written_step.Tie as tie
 
 -- ---- the states that answers look back at
 -- the call, from the reading of a step without brackets

@@ -4,10 +4,10 @@ use Prim.Native.Nat.{_-_, _≤_}
 use native.Mathlib.Omega.{arith}
 use borrow.Author.Needs.{needs}
 use lib.ListN.{length, drop, length-set}
-use Rattle.path_columns.proofs.Columns.{marked-next, marked-all}
-use Rattle.path_columns.specs.Filling.{marked}
-use Rattle.path_columns.proofs.mark_last.Statement.{statement}
-use Rattle.path_columns.proofs.mark_last.Tie as tie
+use Rattle.last_steps.proofs.Marks.{marked-next, marked-all}
+use Rattle.last_steps.specs.Marks.{marked}
+use Rattle.last_steps.proofs.mark_last.Statement.{statement}
+use Rattle.last_steps.proofs.mark_last.Tie as tie
 
 abbrev Inv-loop : tie.InvT-loop
 Inv-loop ways axes₀ i₀ axes i = (1 ≤ i) × (length axes ≡ length axes₀) × (marked axes (drop i ways) ≡ marked axes₀ (drop 1 ways))

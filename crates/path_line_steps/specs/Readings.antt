@@ -12,9 +12,9 @@ use Rattle.path_conditions.specs.declared.ConditionOutcome.{ConditionOutcome}
 use Rattle.path_conditions.specs.declared.ConditionOutcome.the-variants.{Past as ConditionPast, Fail as ConditionFail}
 use Rattle.path_alternatives.specs.declared.Follow.{Follow}
 use Rattle.path_alternatives.specs.declared.Follow.the-variants.{Close, More, Fail as FollowFail}
-use Rattle.path_lines.specs.declared.Line.{Line}
-use Rattle.path_lines.specs.declared.LineOutcome.{LineOutcome}
-use Rattle.path_lines.specs.declared.LineOutcome.the-variants.{Past, Fail}
+use Rattle.path_line_steps.specs.declared.Line.{Line}
+use Rattle.path_line_steps.specs.declared.LineOutcome.{LineOutcome}
+use Rattle.path_line_steps.specs.declared.LineOutcome.the-variants.{Past, Fail}
 use Rattle.path_spec.specs.Grammar.{PathRead, pathRead}
 use Rattle.path_spec.specs.Machine.{Outer, outside, State, lineStart, afterCall, afterBrackets, beginStep, withStep, bundleMachine}
 use Rattle.path_spec.specs.Paths.{Condition, unconditional, WrittenStep}

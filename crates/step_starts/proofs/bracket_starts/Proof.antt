@@ -6,10 +6,10 @@ use native.Mathlib.Omega.{arith}
 use borrow.Author.Needs.{needs}
 use lib.ListN.{length, take, getD, length-set}
 use lib.Seq.{sets}
-use Rattle.path_columns.specs.Filling.{bracketStart}
+use Rattle.step_starts.specs.Starts.{bracketStart}
 use Rattle.path_names.specs.Columns.{column-next-first, column-whole}
-use Rattle.path_columns.proofs.bracket_starts.Statement.{statement}
-use Rattle.path_columns.proofs.bracket_starts.Tie as tie
+use Rattle.step_starts.proofs.bracket_starts.Statement.{statement}
+use Rattle.step_starts.proofs.bracket_starts.Tie as tie
 
 abbrev Inv-loop : tie.InvT-loop
 Inv-loop conditions ways out₀ i₀ out i =

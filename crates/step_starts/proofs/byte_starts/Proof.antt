@@ -7,8 +7,8 @@ use borrow.Author.Needs.{needs}
 use lib.ListN.{length, take, length-set}
 use lib.Seq.{sets}
 use Rattle.path_names.specs.Columns.{column-next-first, column-whole}
-use Rattle.path_columns.proofs.byte_starts.Statement.{statement}
-use Rattle.path_columns.proofs.byte_starts.Tie as tie
+use Rattle.step_starts.proofs.byte_starts.Statement.{statement}
+use Rattle.step_starts.proofs.byte_starts.Tie as tie
 
 abbrev Inv-loop : tie.InvT-loop
 Inv-loop ends out₀ i₀ out i = (i ≤ length ends) × (length out ≡ length out₀) × (out ≡ sets out₀ 0 (map (λ x. x) (take i ends)))
