@@ -18,8 +18,8 @@ use Rattle.compiled_paths.specs.Paths.{pathsIn, AtMost, Shaped}
 use Rattle.compiled_paths.specs.Sizes.{writtenSteps, allAlternatives, innerSteps, allSteps as stepCount}
 use Rattle.last_steps.specs.Marks.{marked}
 use Rattle.path_columns.specs.Filling.{stepColumn, filledPaths, Room}
-use Rattle.path_conditions.specs.Laws.{ends-append, ends-length}
-use Rattle.path_conditions.specs.Readings.{cellsOf, endsFrom}
+use Rattle.path_alternatives.specs.Laws.{ends-append, ends-length}
+use Rattle.path_alternatives.specs.Conditions.{cellsOf, endsFrom}
 use Rattle.path_line_steps.specs.Readings.{Written, outerCells, allPaths, conditionEnds}
 use Rattle.path_names.specs.Steps.{axisCell, testCell}
 use Rattle.path_spec.specs.Grammar.{PathRead}

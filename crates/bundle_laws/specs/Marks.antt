@@ -12,7 +12,7 @@ use Rattle.bundle_laws.specs.Names.{Test, node, texts, known, lost, test
 use Rattle.compiled_paths.specs.Columns.{axisOf, lastMark, axisNumber, number-going-on, number-of-last, testOf}
 use Rattle.compiled_paths.specs.Sizes.{writtenSteps}
 use Rattle.last_steps.specs.Marks.{mark, marked}
-use Rattle.path_conditions.specs.Readings.{cellsOf, endsFrom}
+use Rattle.path_alternatives.specs.Conditions.{cellsOf, endsFrom}
 use Rattle.path_names.specs.Steps.{axisCell, testCell}
 use Rattle.path_names.specs.declared.CompiledTest.{CompiledTest}
 use Rattle.path_spec.specs.Paths.{along, NodeTest, named, renameTest}

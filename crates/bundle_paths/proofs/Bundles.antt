@@ -12,8 +12,8 @@ use lib.Seq.{sets, length-sets}
 use Rattle.bundle_paths.specs.Laws.{paths-append, conditions-append, conditions-length}
 use Rattle.bundle_paths.specs.Readings.{LineCells, pathNoted, allSteps, pathEnds, firstOver, ReadsBundle}
 use Rattle.bundle_paths.specs.declared.BundleOutcome.the-variants.{Past, Fail}
-use Rattle.path_conditions.specs.Laws.{cells-append, ends-append, ends-length}
-use Rattle.path_conditions.specs.Readings.{cellsOf, endsFrom, tooMuch}
+use Rattle.path_alternatives.specs.Laws.{cells-append, ends-append, ends-length}
+use Rattle.path_alternatives.specs.Conditions.{cellsOf, endsFrom, tooMuch}
 use Rattle.path_limits.specs.Limits.{overLimit}
 use Rattle.path_line_steps.specs.Readings.{Written, stepNoted, conditionOf, outerCells, allPaths, conditionEnds, overCondition, Steps, LineRead, LineAs, ReadsLine}
 use Rattle.path_line_steps.specs.declared.Line.{Line}

@@ -8,10 +8,10 @@ use borrow.Author.Tests.{ltb-true, ltb-false, ne-eqb}
 use lib.Dec.{ltb}
 use lib.ListN.{length, set}
 use Rattle.path_alternatives.specs.Readings.{Stands}
-use Rattle.path_conditions.specs.Readings.{conditionNoted, opened, ConditionAs, ReadsCondition}
-use Rattle.path_conditions.specs.declared.ConditionOutcome.{ConditionOutcome}
-use Rattle.path_conditions.specs.declared.ConditionOutcome.the-variants.{Past as ConditionPast, Fail as ConditionFail}
-use Rattle.path_alternatives.specs.declared.Follow.the-variants.{Close, More, Fail as FollowFail}
+use Rattle.path_alternatives.specs.Conditions.{conditionNoted, opened, ConditionAs, ReadsCondition}
+use Rattle.path_alternatives.specs.declared.ConditionOutcome.{ConditionOutcome}
+use Rattle.path_alternatives.specs.declared.ConditionOutcome.the-variants.{Past as ConditionPast, Fail as ConditionFail}
+use Rattle.alternative_ends.specs.declared.Follow.the-variants.{Close, More, Fail as FollowFail}
 use Rattle.path_line_steps.specs.Readings.{conditionOf, stepped, BracketsAs, ReadsBrackets, WrittenAs, ReadsWritten, lineEnded, FollowedAs}
 use Rattle.path_spec.specs.Machine.{Outer, outside, inside, State, dead, afterCall, afterBrackets, beginStep, withStep, stepDone, step, bundleMachine}
 use Rattle.path_spec.specs.Paths.{Condition}

@@ -6,13 +6,13 @@ use Prim.Native.Nat.{ℕ, suc, _+_, _-_, _≤_, _<_}
 use native.Mathlib.Omega.{arith}
 use lib.ListN.{length, set, length-append, length-map}
 use lib.Seq.{sets, length-sets}
-use Rattle.path_conditions.specs.Laws.{cells-append, ends-append, ends-length}
-use Rattle.path_conditions.specs.Readings.{cellsOf, endsFrom, tooMuch}
-use Rattle.path_conditions.specs.declared.Alternatives.{Alternatives}
-use Rattle.path_conditions.specs.declared.ConditionOutcome.{ConditionOutcome}
-use Rattle.path_conditions.specs.declared.ConditionOutcome.the-variants.{Past as ConditionPast, Fail as ConditionFail}
-use Rattle.path_alternatives.specs.declared.Follow.{Follow}
-use Rattle.path_alternatives.specs.declared.Follow.the-variants.{Close, More, Fail as FollowFail}
+use Rattle.path_alternatives.specs.Laws.{cells-append, ends-append, ends-length}
+use Rattle.path_alternatives.specs.Conditions.{cellsOf, endsFrom, tooMuch}
+use Rattle.path_alternatives.specs.declared.Alternatives.{Alternatives}
+use Rattle.path_alternatives.specs.declared.ConditionOutcome.{ConditionOutcome}
+use Rattle.path_alternatives.specs.declared.ConditionOutcome.the-variants.{Past as ConditionPast, Fail as ConditionFail}
+use Rattle.alternative_ends.specs.declared.Follow.{Follow}
+use Rattle.alternative_ends.specs.declared.Follow.the-variants.{Close, More, Fail as FollowFail}
 use Rattle.path_line_steps.specs.Readings.{stepped, BracketsRead, WrittenRead, WrittenAs, ReadsWritten, FollowedAs, Followed, Written, stepNoted, outerCells, allPaths, conditionEnds, overCondition, Steps, ReadsLine}
 use Rattle.path_line_steps.specs.declared.LineOutcome.the-variants.{Past, Fail}
 use Rattle.path_spec.specs.Grammar.{PathRead, pathRead}

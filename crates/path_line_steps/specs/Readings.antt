@@ -6,12 +6,12 @@ use mathlib.Core.Path.{_≡_}
 use Prim.Native.Nat.{ℕ, _+_, _-_, _≤_, _<_}
 use lib.ListN.{length, set}
 use lib.Seq.{sets}
-use Rattle.path_conditions.specs.Readings.{cellsOf, endsFrom, tooMuch, conditionNoted}
-use Rattle.path_conditions.specs.declared.Alternatives.{Alternatives}
-use Rattle.path_conditions.specs.declared.ConditionOutcome.{ConditionOutcome}
-use Rattle.path_conditions.specs.declared.ConditionOutcome.the-variants.{Past as ConditionPast, Fail as ConditionFail}
-use Rattle.path_alternatives.specs.declared.Follow.{Follow}
-use Rattle.path_alternatives.specs.declared.Follow.the-variants.{Close, More, Fail as FollowFail}
+use Rattle.path_alternatives.specs.Conditions.{cellsOf, endsFrom, tooMuch, conditionNoted}
+use Rattle.path_alternatives.specs.declared.Alternatives.{Alternatives}
+use Rattle.path_alternatives.specs.declared.ConditionOutcome.{ConditionOutcome}
+use Rattle.path_alternatives.specs.declared.ConditionOutcome.the-variants.{Past as ConditionPast, Fail as ConditionFail}
+use Rattle.alternative_ends.specs.declared.Follow.{Follow}
+use Rattle.alternative_ends.specs.declared.Follow.the-variants.{Close, More, Fail as FollowFail}
 use Rattle.path_line_steps.specs.declared.Line.{Line}
 use Rattle.path_line_steps.specs.declared.LineOutcome.{LineOutcome}
 use Rattle.path_line_steps.specs.declared.LineOutcome.the-variants.{Past, Fail}

@@ -3,9 +3,9 @@ ghost use Prim.Native.Nat.{_≤_};
 ghost use lib.ListN.{length};
 ghost use Rattle.path_line_steps.specs.Readings.{ReadsBrackets, ReadsWritten, Followed};
 ghost use Rattle.text_spec.specs.Limits.{maxBundleBytes};
-use path_alternatives::Follow;
-use path_conditions::Alternatives;
-use path_conditions::ConditionOutcome;
+use alternative_ends::Follow;
+use path_alternatives::Alternatives;
+use path_alternatives::ConditionOutcome;
 use path_steps::StepOutcome;
 
 // The place past a path's line feed, the numbers of steps outside brackets, of steps in brackets and of alternatives noted so far, and

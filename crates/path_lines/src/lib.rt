@@ -3,8 +3,8 @@ ghost use Prim.Native.Nat.{_≤_, _<_};
 ghost use lib.ListN.{length};
 ghost use Rattle.path_line_steps.specs.Readings.{ReadsLine};
 ghost use Rattle.text_spec.specs.Limits.{maxBundleBytes};
-use path_alternatives::Follow;
-use path_conditions::ConditionOutcome;
+use alternative_ends::Follow;
+use path_alternatives::ConditionOutcome;
 use path_line_steps::Line;
 use path_line_steps::LineOutcome;
 
@@ -36,7 +36,7 @@ pub fn path(
                 let past = p.over;
                 count = p.n;
                 many = p.m;
-                over = path_conditions::either(over, past);
+                over = path_alternatives::either(over, past);
                 steps += 1;
                 scanning::note(conditions, steps, many);
                 match path_line_steps::after_step(s, end) {

@@ -7,14 +7,15 @@ use native.Mathlib.Omega.{arith}
 use lib.Dec.{ltb}
 use lib.ListN.{length, set, length-append, length-reverse}
 use lib.Seq.{sets, length-sets}
-use Rattle.path_conditions.specs.Laws.{cells-more, ends-more, ends-length}
-use Rattle.path_alternatives.specs.Readings.{inAlternative, plainPast, AlternativeRead, AlternativeAs, ReadsAlternative, closed, FollowedAs, Followed}
-use Rattle.path_conditions.specs.Readings.{cellsOf, endsFrom, longAlternative, conditionNoted, opened, ReadsCondition}
+use Rattle.path_alternatives.specs.Laws.{cells-more, ends-more, ends-length}
+use Rattle.alternative_ends.specs.Readings.{plainPast, closed, FollowedAs, Followed}
+use Rattle.path_alternatives.specs.Readings.{inAlternative, AlternativeRead, AlternativeAs, ReadsAlternative}
+use Rattle.path_alternatives.specs.Conditions.{cellsOf, endsFrom, longAlternative, conditionNoted, opened, ReadsCondition}
 use Rattle.path_alternatives.specs.declared.AlternativeOutcome.{AlternativeOutcome}
 use Rattle.path_alternatives.specs.declared.AlternativeOutcome.the-variants.{Past as AlternativePast, Fail as AlternativeFail}
-use Rattle.path_conditions.specs.declared.ConditionOutcome.the-variants.{Past, Fail}
-use Rattle.path_alternatives.specs.declared.Follow.{Follow}
-use Rattle.path_alternatives.specs.declared.Follow.the-variants.{Close, More, Fail as FollowFail}
+use Rattle.path_alternatives.specs.declared.ConditionOutcome.the-variants.{Past, Fail}
+use Rattle.alternative_ends.specs.declared.Follow.{Follow}
+use Rattle.alternative_ends.specs.declared.Follow.the-variants.{Close, More, Fail as FollowFail}
 use Rattle.path_spec.specs.Machine.{Outer, Inner, inside, afterBrackets, beginStep, withStep, bracketed, bundleMachine}
 use Rattle.path_spec.specs.Paths.{WrittenAxis, NodeTest, PlainStep, alternatives}
 use Rattle.path_steps.specs.Readings.{plainNoted}

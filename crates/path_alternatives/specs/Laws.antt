@@ -5,7 +5,7 @@ use Prim.Native.Nat.{ℕ, suc, _+_}
 use native.Mathlib.Nat.{add-zero}
 use native.Mathlib.Omega.{arith}
 use lib.ListN.{length, length-append}
-use Rattle.path_conditions.specs.Readings.{cellsOf, endsFrom}
+use Rattle.path_alternatives.specs.Conditions.{cellsOf, endsFrom}
 
 -- ---- alternatives in cells: one more, or some more
 pub cells-more : (qs : List (List ℕ)) (q : List ℕ) → cellsOf (qs ++ (q ∷ [])) ≡ cellsOf qs ++ q

@@ -1,8 +1,8 @@
 -- `after_alternative` meets its contract: the byte decides, and then the rest of ` or `.
-use Rattle.path_alternatives.proofs.Reading.{follow-end, follow-close, follow-not, follow-more, follow-stops}
+use Rattle.alternative_ends.proofs.Reading.{follow-end, follow-close, follow-not, follow-more, follow-stops}
 use borrow.Author.Needs.{needs}
-use Rattle.path_alternatives.proofs.after_alternative.Statement.{statement}
-use Rattle.path_alternatives.proofs.after_alternative.Tie as tie
+use Rattle.alternative_ends.proofs.after_alternative.Statement.{statement}
+use Rattle.alternative_ends.proofs.after_alternative.Tie as tie
 
 returns : tie.Need-returns
 returns c =

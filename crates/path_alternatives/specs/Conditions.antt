@@ -7,9 +7,9 @@ use Prim.Native.Nat.{ℕ, _+_, _≤_, _<_}
 use lib.Dec.{ltb}
 use lib.ListN.{length}
 use lib.Seq.{sets}
-use Rattle.path_conditions.specs.declared.ConditionOutcome.{ConditionOutcome}
-use Rattle.path_conditions.specs.declared.ConditionOutcome.the-variants.{Past, Fail}
-use Rattle.path_conditions.specs.declared.Alternatives.{Alternatives}
+use Rattle.path_alternatives.specs.declared.ConditionOutcome.{ConditionOutcome}
+use Rattle.path_alternatives.specs.declared.ConditionOutcome.the-variants.{Past, Fail}
+use Rattle.path_alternatives.specs.declared.Alternatives.{Alternatives}
 use Rattle.path_spec.specs.Machine.{Outer, Inner, inside, afterBrackets, beginStep, withStep, bundleMachine}
 use Rattle.path_spec.specs.Paths.{WrittenAxis, NodeTest, Condition, alternatives}
 use Rattle.path_steps.specs.Readings.{plainNoted}
