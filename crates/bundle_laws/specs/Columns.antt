@@ -11,9 +11,9 @@ use lib.ListN.{length, getD, set, length-set, length-append}
 use lib.Seq.{sets, getD-set-same, getD-set-other}
 use Rattle.bundle_paths.specs.Readings.{LineCells, pathNoted, allSteps, pathEnds}
 use Rattle.compiled_paths.specs.Columns.{axisOf, lastMark, axisNumber, testOf, startAt, sizeAt, joined, plainAt, alternativesIn, conditionIn, condition-none, condition-some, stepAt, stepsIn, bundleIn}
-use Rattle.path_conditions.specs.Laws.{cells-append}
-use Rattle.path_conditions.specs.Readings.{cellsOf}
-use Rattle.path_lines.specs.Readings.{Written, stepNoted, conditionOf, allPaths}
+use Rattle.path_alternatives.specs.Laws.{cells-append}
+use Rattle.path_alternatives.specs.Conditions.{cellsOf}
+use Rattle.path_line_steps.specs.Readings.{Written, stepNoted, conditionOf, allPaths}
 use Rattle.path_spec.specs.Paths.{along, WrittenAxis, NodeTest, PlainStep, WrittenStep, Condition, alternatives, LocationPath, fromRootElement, renameTest, renamePlain, renameCondition, renameStep, renamePath}
 use Rattle.path_steps.specs.Readings.{stepAxis, stepTest, plainNoted}
 use Rattle.schema_spec.specs.Declarations.{Use}

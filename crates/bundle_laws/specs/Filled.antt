@@ -16,15 +16,17 @@ use Rattle.bundle_paths.specs.declared.Bundled.{Bundled}
 use Rattle.compiled_paths.specs.Columns.{bundleIn}
 use Rattle.compiled_paths.specs.Paths.{pathsIn, AtMost, Shaped}
 use Rattle.compiled_paths.specs.Sizes.{writtenSteps, allAlternatives, innerSteps, allSteps as stepCount}
-use Rattle.path_columns.specs.Filling.{stepColumn, marked, bracketStart, filledPaths, Room}
-use Rattle.path_conditions.specs.Laws.{ends-append, ends-length}
-use Rattle.path_conditions.specs.Readings.{cellsOf, endsFrom}
-use Rattle.path_lines.specs.Readings.{Written, outerCells, allPaths, conditionEnds}
+use Rattle.last_steps.specs.Marks.{marked}
+use Rattle.path_columns.specs.Filling.{stepColumn, filledPaths, Room}
+use Rattle.path_alternatives.specs.Laws.{ends-append, ends-length}
+use Rattle.path_alternatives.specs.Conditions.{cellsOf, endsFrom}
+use Rattle.path_line_steps.specs.Readings.{Written, outerCells, allPaths, conditionEnds}
 use Rattle.path_names.specs.Steps.{axisCell, testCell}
 use Rattle.path_spec.specs.Grammar.{PathRead}
 use Rattle.path_spec.specs.Paths.{resolvedPath}
 use Rattle.schema_spec.specs.Declarations.{Use}
 use Rattle.schema_spec.specs.Schemas.{Schema, indexFrom, elementNamed}
+use Rattle.step_starts.specs.Starts.{bracketStart}
 use Rattle.text_spec.specs.Limits.{maxDeclarations, maxPaths, maxBundleBytes}
 use Rattle.text_spec.specs.Lists.{valueOr}
 

@@ -10,10 +10,10 @@ use lib.ListN.{length, length-append, length-map}
 use Rattle.bundle_laws.specs.Order.{Later, later-none, later-all, later-append, Least}
 use Rattle.bundle_paths.specs.Readings.{LineCells, pathNoted, allSteps, firstOver}
 use Rattle.compiled_paths.specs.Sizes.{writtenSteps, allAlternatives, innerSteps, stepsOfAll, bracketedSteps, stepsOf, steps-few}
-use Rattle.path_conditions.specs.Laws.{cells-append}
-use Rattle.path_conditions.specs.Readings.{cellsOf}
+use Rattle.path_alternatives.specs.Laws.{cells-append}
+use Rattle.path_alternatives.specs.Conditions.{cellsOf}
 use Rattle.path_laws.specs.Grammar.Sound.{parse-sound}
-use Rattle.path_lines.specs.Readings.{Written, stepNoted, conditionOf, allPaths}
+use Rattle.path_line_steps.specs.Readings.{Written, stepNoted, conditionOf, allPaths}
 use Rattle.path_spec.specs.Grammar.{PathRead, AlternativeText, one-step, more-steps, ConditionText, one-alternative, more-alternatives, StepText, bare, conditional, PathText, last-step, next-step, BundleText, last-path, next-path}
 use Rattle.path_spec.specs.Machine.{parse}
 use Rattle.path_spec.specs.Paths.{PlainStep, WrittenStep, Condition, conditionPaths}

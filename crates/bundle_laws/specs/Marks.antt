@@ -11,8 +11,8 @@ use Rattle.bundle_laws.specs.Limits.{EachSome}
 use Rattle.bundle_laws.specs.Names.{Test, node, texts, known, lost, test-by-number, index-below}
 use Rattle.compiled_paths.specs.Columns.{axisOf, lastMark, axisNumber, number-going-on, number-of-last, testOf}
 use Rattle.compiled_paths.specs.Sizes.{writtenSteps}
-use Rattle.path_columns.specs.Filling.{mark, marked}
-use Rattle.path_conditions.specs.Readings.{cellsOf, endsFrom}
+use Rattle.last_steps.specs.Marks.{mark, marked}
+use Rattle.path_alternatives.specs.Conditions.{cellsOf, endsFrom}
 use Rattle.path_names.specs.Steps.{axisCell, testCell}
 use Rattle.path_names.specs.declared.CompiledTest.{CompiledTest}
 use Rattle.path_spec.specs.Paths.{along, NodeTest, named, renameTest}

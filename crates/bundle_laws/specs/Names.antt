@@ -12,8 +12,8 @@ use lib.ListN.{length}
 use Rattle.bundle_laws.specs.Limits.{gather-append}
 use Rattle.bundle_laws.specs.Order.{Least, least-all}
 use Rattle.bundle_paths.specs.Readings.{LineCells, pathNoted, allSteps}
-use Rattle.path_conditions.specs.Readings.{cellsOf}
-use Rattle.path_lines.specs.Readings.{Written, stepNoted, conditionOf, outerCells, allPaths}
+use Rattle.path_alternatives.specs.Conditions.{cellsOf}
+use Rattle.path_line_steps.specs.Readings.{Written, stepNoted, conditionOf, outerCells, allPaths}
 use Rattle.path_names.specs.Steps.{numbered, numberedName, compiledTest, earliest, earliestOf, lostCell}
 use Rattle.path_names.specs.declared.CompiledTest.{CompiledTest}
 use Rattle.path_spec.specs.Grammar.{PathRead}

@@ -12,13 +12,13 @@ use lib.Seq.{sets, length-sets}
 use Rattle.bundle_paths.specs.Laws.{paths-append, conditions-append, conditions-length}
 use Rattle.bundle_paths.specs.Readings.{LineCells, pathNoted, allSteps, pathEnds, firstOver, ReadsBundle}
 use Rattle.bundle_paths.specs.declared.BundleOutcome.the-variants.{Past, Fail}
-use Rattle.path_conditions.specs.Laws.{cells-append, ends-append, ends-length}
-use Rattle.path_conditions.specs.Readings.{cellsOf, endsFrom, tooMuch}
+use Rattle.path_alternatives.specs.Laws.{cells-append, ends-append, ends-length}
+use Rattle.path_alternatives.specs.Conditions.{cellsOf, endsFrom, tooMuch}
 use Rattle.path_limits.specs.Limits.{overLimit}
-use Rattle.path_lines.specs.Readings.{Written, stepNoted, conditionOf, outerCells, allPaths, conditionEnds, overCondition, Steps, LineRead, LineAs, ReadsLine}
-use Rattle.path_lines.specs.declared.Line.{Line}
-use Rattle.path_lines.specs.declared.LineOutcome.{LineOutcome}
-use Rattle.path_lines.specs.declared.LineOutcome.the-variants.{Past as LinePast, Fail as LineFail}
+use Rattle.path_line_steps.specs.Readings.{Written, stepNoted, conditionOf, outerCells, allPaths, conditionEnds, overCondition, Steps, LineRead, LineAs, ReadsLine}
+use Rattle.path_line_steps.specs.declared.Line.{Line}
+use Rattle.path_line_steps.specs.declared.LineOutcome.{LineOutcome}
+use Rattle.path_line_steps.specs.declared.LineOutcome.the-variants.{Past as LinePast, Fail as LineFail}
 use Rattle.path_spec.specs.Grammar.{PathRead}
 use Rattle.path_spec.specs.Machine.{lineStart, bundleMachine, parse}
 use Rattle.path_spec.specs.Reading.{passesConditionLimit, passesLimit}

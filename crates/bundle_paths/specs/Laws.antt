@@ -5,7 +5,7 @@ use Prim.Native.Nat.{ℕ, suc, _+_}
 use native.Mathlib.Nat.{add-zero}
 use native.Mathlib.Omega.{arith}
 use lib.ListN.{length, length-append}
-use Rattle.path_lines.specs.Readings.{Written, allPaths, conditionEnds}
+use Rattle.path_line_steps.specs.Readings.{Written, allPaths, conditionEnds}
 
 pub paths-append : (ws vs : List Written) → allPaths (ws ++ vs) ≡ allPaths ws ++ allPaths vs
 paths-append [] vs = refl

@@ -8,7 +8,7 @@ use lib.Seq.{sets}
 use Rattle.bundle_paths.specs.declared.Bundled.{Bundled}
 use Rattle.bundle_paths.specs.declared.BundleOutcome.{BundleOutcome}
 use Rattle.bundle_paths.specs.declared.BundleOutcome.the-variants.{Past, Fail}
-use Rattle.path_lines.specs.Readings.{Written, stepNoted, overCondition, Steps}
+use Rattle.path_line_steps.specs.Readings.{Written, stepNoted, overCondition, Steps}
 use Rattle.path_spec.specs.Grammar.{PathRead, pathRead}
 use Rattle.path_spec.specs.Machine.{parse}
 use Rattle.path_spec.specs.Reading.{passesLimit}

@@ -3,7 +3,7 @@ ghost use Prim.Native.Nat.{_≤_, _<_};
 ghost use lib.ListN.{length};
 ghost use Rattle.bundle_paths.specs.Readings.{ReadsBundle};
 ghost use Rattle.text_spec.specs.Limits.{maxBundleBytes};
-use path_lines::LineOutcome;
+use path_line_steps::LineOutcome;
 
 // The numbers of paths, of steps outside brackets, of steps in brackets and of alternatives, and one more than the first byte of the
 // first path that passes a limit, or 0.

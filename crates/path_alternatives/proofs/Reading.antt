@@ -1,29 +1,23 @@
--- Laws of reading an alternative, and of what follows it.
+-- Laws of reading an alternative.
 use mathlib.Core.Bool.{Bool, true, false}
 use mathlib.Core.List.{List, [], _∷_, reverse, reverse-append}
 use mathlib.Core.Path.{_≡_, refl, sym, ap, ap₂, subst, _∙_}
 use Prim.Native.Nat.{ℕ, _+_, _≤_, _<_}
 use native.Mathlib.Omega.{arith}
-use borrow.Author.Tests.{eq-eqb, ne-eqb, eqb-true, eqb-false}
+use borrow.Author.Tests.{eq-eqb, eqb-true, eqb-false}
 use lib.Dec.{eqb}
 use lib.ListN.{length, set, length-set, length-reverse}
 use lib.Seq.{sets, length-sets}
-use Rattle.path_alternatives.specs.Readings.{Stands, NoSlash, inAlternative, plainPast, ReadsAlternative, closed, FollowedAs}
+use Rattle.alternative_ends.specs.Readings.{plainPast}
+use Rattle.path_alternatives.specs.Readings.{Stands, inAlternative, ReadsAlternative}
 use Rattle.path_alternatives.specs.declared.AlternativeOutcome.the-variants.{Past, Fail}
-use Rattle.path_alternatives.specs.declared.Follow.the-variants.{Close, More, Fail as FollowFail}
-use Rattle.path_laws.specs.Grammar.Machine.{or-keyword}
-use Rattle.path_spec.specs.Machine.{Inner, inside, dead, inOr, afterBrackets, beginStep, bracketed, step, bundleMachine}
+use Rattle.path_spec.specs.Machine.{Inner, inside, beginStep, step, bundleMachine}
 use Rattle.path_steps.specs.Readings.{ReadsPlain, PlainAs}
 use Rattle.path_steps.specs.declared.StepOutcome.{StepOutcome}
 use Rattle.path_steps.specs.declared.StepOutcome.the-variants.{Past as StepPast, Fail as StepFail}
-use Rattle.scanning.specs.OutcomeLaws.{spelt-end, spelt-past, spelt-fail}
-use Rattle.scanning.specs.Outcomes.{Spelt}
-use Rattle.scanning.specs.declared.Read.{Read}
-use Rattle.scanning.specs.declared.Read.the-variants.{Past as SpeltPast, Fail as SpeltFail}
 use Rattle.text_laws.specs.Cells.{sets-append}
-use Rattle.text_laws.specs.Scans.{step-at, dead-at, at-end}
-use Rattle.text_laws.specs.Tests.{never, cond-yes, cond-no}
-use Rattle.text_spec.specs.Lists.{bytes}
+use Rattle.text_laws.specs.Scans.{step-at}
+use Rattle.text_laws.specs.Tests.{never, cond-yes}
 use Rattle.text_spec.specs.Machines.{from}
 use Rattle.text_spec.specs.Scans.{byteAt}
 
@@ -114,37 +108,3 @@ module _ {s : List ℕ} {at n : ℕ} {o o′ : List ℕ} {i count : ℕ} (U : Up
 
     pub up-to-length : length o″ ≡ length o
     up-to-length = ap length w ∙ length-set o′ count c ∙ up-to-size U
-
--- ---- what follows it
-module _ (s : List ℕ) (at : ℕ) where
-  pub follow-end : length s ≤ at → FollowedAs s at (FollowFail at)
-  follow-end l c x = at-end bundleMachine s at (plainPast s c x) l
-
-  module _ (l : at < length s) where
-    pub follow-close : byteAt s at ≡ 0x5D → FollowedAs s at (Close (at + 1))
-    unfolding step
-    follow-close e = (
-      omega arith,
-      omega arith,
-      λ c x. step-at bundleMachine s at (plainPast s c x) (afterBrackets (bracketed (closed s c x))) l (ap (λ (b : ℕ). step (plainPast s c x) at b) e) refl,
-    )
-
-    pub follow-not : NoSlash s at → (byteAt s at ≡ 0x5D → ⊥) → (byteAt s at ≡ 0x20 → ⊥) → FollowedAs s at (FollowFail at)
-    unfolding step
-    follow-not f d e c x =
-        dead-at bundleMachine s at (plainPast s c x) dead l
-        (cond-no _ _ (ne-eqb (byteAt s at) 0x2F (f l)) ∙ cond-no _ _ (ne-eqb (byteAt s at) 0x20 e) ∙ cond-no _ _ (ne-eqb (byteAt s at) 0x5D d)) refl
-
-    blank-to : byteAt s at ≡ 0x20 → (c : ℕ) (x : Inner) → from bundleMachine (plainPast s c x) s at ≡ from bundleMachine (inOr (bytes "or ") (closed s c x)) s (at + 1)
-    unfolding step
-    blank-to e c x = step-at bundleMachine s at (plainPast s c x) (inOr (bytes "or ") (closed s c x)) l (ap (λ (b : ℕ). step (plainPast s c x) at b) e) refl
-
-    module _ (e : byteAt s at ≡ 0x20) {r : Read} (W : Spelt (bytes "or ") s (at + 1) r) where
-      pub follow-more : {j : ℕ} → r ≡ SpeltPast j → FollowedAs s at (More j)
-      follow-more u =
-          let h = spelt-end W u in
-          let g = h .0 in
-          (omega arith, h .1, λ c x. blank-to e c x ∙ spelt-past W (or-keyword (closed s c x)) u)
-
-      pub follow-stops : {j : ℕ} → r ≡ SpeltFail j → FollowedAs s at (FollowFail j)
-      follow-stops u c x = blank-to e c x ∙ spelt-fail W (or-keyword (closed s c x)) u

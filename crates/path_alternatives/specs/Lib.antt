@@ -1,1 +1,4 @@
 pub mod Readings
+pub mod Conditions
+pub mod Laws
+pub mod ConditionLaws

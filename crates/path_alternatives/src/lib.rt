@@ -1,21 +1,15 @@
-// An alternative of a condition, a path of steps without brackets, and what follows it.
+// Alternatives of a condition, paths of steps without brackets, and what a condition of them answers.
+ghost use mathlib.Core.Bool.{_||_};
+ghost use mathlib.Core.Path.{_≡_};
 ghost use Prim.Native.Nat.{_≤_};
 ghost use lib.ListN.{length};
-ghost use Rattle.path_alternatives.specs.Readings.{Stands, NoSlash, ReadsAlternative, Followed};
+ghost use Rattle.path_alternatives.specs.Readings.{Stands, ReadsAlternative};
 ghost use Rattle.text_spec.specs.Limits.{maxBundleBytes};
 use path_steps::StepOutcome;
-use scanning::Read;
 
 // The number of steps noted so far and the place past the alternative, or where the text departs from it.
 pub enum AlternativeOutcome {
     Past(usize, usize),
-    Fail(usize),
-}
-
-// What follows an alternative: the place past `]` or past ` or `.
-pub enum Follow {
-    Close(usize),
-    More(usize),
     Fail(usize),
 }
 
@@ -51,22 +45,25 @@ pub fn alternative(s: &[u8], at: usize, cells: &mut [usize], n: usize) -> Altern
     }
 }
 
-// What follows an alternative that ends at `at`.
-pub fn after_alternative(s: &[u8], at: usize) -> Follow
-    requires { ⌜ (at ≤ length (now s)) × NoSlash (now s) at ⌝ }
-    ensures { λ r. ⌜ Followed (now (s .entry)) at r ⌝ }
+// The place past a condition, the numbers of steps and of alternatives noted so far, and whether it passes a limit.
+pub struct Alternatives {
+    pub at: usize,
+    pub n: usize,
+    pub m: usize,
+    pub over: bool,
+}
+
+pub enum ConditionOutcome {
+    Past(Alternatives),
+    Fail(usize),
+}
+
+// Whether one of two tests passes.
+pub fn either(a: bool, b: bool) -> bool
+    ensures { λ r. ⌜ r ≡ (a || b) ⌝ }
 {
-    if s.len() <= at {
-        return Follow::Fail(at);
+    if a {
+        return true;
     }
-    if s[at] == b']' {
-        return Follow::Close(at + 1);
-    }
-    if s[at] != b' ' {
-        return Follow::Fail(at);
-    }
-    match scanning::spell(s, at + 1, b"or ") {
-        Read::Past(j) => Follow::More(j),
-        Read::Fail(j) => Follow::Fail(j),
-    }
+    b
 }

@@ -1,25 +1,16 @@
 -- The columns of compiled paths, put together.
 use mathlib.Core.List.{List, map}
 use mathlib.Core.Path.{_≡_, sym, ap, ap₂, _∙_}
-use Prim.Native.Nat.{ℕ, _+_, _-_, _≤_, _<_}
-use native.Mathlib.Numerals.{add-one}
-use lib.ListN.{length, drop, getD, replicate, drop-of-length-le}
-use lib.Seq.{sets, drop-cons}
+use Prim.Native.Nat.{ℕ}
+use lib.ListN.{drop, replicate}
+use lib.Seq.{sets}
 use Rattle.compiled_paths.specs.Sizes.{writtenSteps, allSteps}
-use Rattle.path_columns.specs.Filling.{stepColumn, mark, marked, bracketStart, filled}
+use Rattle.last_steps.specs.Marks.{marked}
+use Rattle.path_columns.specs.Filling.{stepColumn, filled}
 use Rattle.path_columns.specs.declared.Filled.{Filled}
 use Rattle.path_names.specs.Steps.{earliestOf, axisCell, testCell, lostCell, Compiled}
+use Rattle.step_starts.specs.Starts.{bracketStart}
 
--- ---- marks from the end i on
-module _ (axes ways : List ℕ) (i : ℕ) where
-  pub marked-next : i < length ways → marked (mark axes (writtenSteps + getD ways i 0 - 1)) (drop (i + 1) ways) ≡ marked axes (drop i ways)
-  marked-next h =
-      ap (λ (j : ℕ). marked (mark axes (writtenSteps + getD ways i 0 - 1)) (drop j ways)) (add-one i) ∙ sym (ap (marked axes) (drop-cons ways i 0 h))
-
-  pub marked-all : length ways ≤ i → axes ≡ marked axes (drop i ways)
-  marked-all h = sym (ap (marked axes) (drop-of-length-le ways h))
-
--- ---- all columns
 abbrev zeros : List ℕ
 zeros = replicate allSteps 0
 

@@ -1,33 +1,21 @@
 -- Compiled paths, column by column, from what was noted of a bundle text under the names of a schema's elements.
-use mathlib.Core.List.{List, [], _∷_, map}
+use mathlib.Core.List.{List, map}
 use mathlib.Core.Path.{_≡_}
-use Prim.Native.Nat.{ℕ, _+_, _-_, _%_, _≤_, _<_}
-use lib.ListN.{length, drop, getD, set, replicate}
+use Prim.Native.Nat.{ℕ, _+_, _≤_, _<_}
+use lib.ListN.{length, drop, getD, replicate}
 use lib.Seq.{sets}
-use Rattle.compiled_paths.specs.Columns.{lastMark}
 use Rattle.compiled_paths.specs.Paths.{AtMost}
 use Rattle.compiled_paths.specs.Sizes.{writtenSteps, allAlternatives, innerSteps, allSteps}
 use Rattle.compiled_paths.specs.declared.CompiledPaths.{CompiledPaths}
+use Rattle.last_steps.specs.Marks.{marked}
 use Rattle.path_columns.specs.declared.Filled.{Filled}
 use Rattle.path_names.specs.Steps.{earliestOf, axisCell, testCell, lostCell}
+use Rattle.step_starts.specs.Starts.{bracketStart}
 use Rattle.text_spec.specs.Limits.{maxDeclarations, maxPaths}
 
 -- what a column has of the steps outside brackets and of those in them
 abbrev pub stepColumn : (ℕ → ℕ) → List ℕ → List ℕ → List ℕ
 stepColumn f outers cells = sets (sets (replicate allSteps 0) 0 (map f outers)) writtenSteps (map f cells)
-
--- the axes with the mark at the step k, whether it had one or not
-abbrev pub mark : List ℕ → ℕ → List ℕ
-mark axes k = set axes k (getD axes k 0 % lastMark + lastMark)
-
--- with the mark at the last step of each alternative; its end counts the steps in brackets up to there
-abbrev pub marked : List ℕ → List ℕ → List ℕ
-marked axes [] = axes
-marked axes (e ∷ ends) = marked (mark axes (writtenSteps + e - 1)) ends
-
--- where the steps in the brackets of a written step start, before which there are m alternatives
-abbrev pub bracketStart : List ℕ → ℕ → ℕ
-bracketStart ways m = writtenSteps + getD ways m 0
 
 -- `ways` has 0 and then the ends of the alternatives
 abbrev pub filledPaths : List (List ℕ) → List ℕ → ℕ → List ℕ → List ℕ → List ℕ → List ℕ → List ℕ → CompiledPaths

@@ -1,37 +1,15 @@
 // What stands in the brackets of a step: alternatives parted by ` or `.
-ghost use mathlib.Core.Bool.{_||_};
-ghost use mathlib.Core.Path.{_≡_};
 ghost use Prim.Native.Nat.{_≤_};
 ghost use lib.ListN.{length};
-ghost use Rattle.path_conditions.specs.Readings.{ReadsCondition};
+ghost use Rattle.path_alternatives.specs.Conditions.{ReadsCondition};
 ghost use Rattle.text_spec.specs.Limits.{maxBundleBytes};
+use alternative_ends::Follow;
 use limits::MAX_ALTERNATIVE_STEPS;
 use limits::MAX_ALTERNATIVES;
 use path_alternatives::AlternativeOutcome;
-use path_alternatives::Follow;
-
-// The place past a condition, the numbers of steps and of alternatives noted so far, and whether it passes a limit.
-pub struct Alternatives {
-    pub at: usize,
-    pub n: usize,
-    pub m: usize,
-    pub over: bool,
-}
-
-pub enum ConditionOutcome {
-    Past(Alternatives),
-    Fail(usize),
-}
-
-// Whether one of two tests passes.
-pub fn either(a: bool, b: bool) -> bool
-    ensures { λ r. ⌜ r ≡ (a || b) ⌝ }
-{
-    if a {
-        return true;
-    }
-    b
-}
+use path_alternatives::Alternatives;
+use path_alternatives::ConditionOutcome;
+use path_alternatives::either;
 
 // Past the condition whose first alternative is due at `at`. The numbers of steps are noted from n on, the ends of alternatives after m.
 pub fn condition(
@@ -57,7 +35,7 @@ pub fn condition(
                 count = c;
                 k += 1;
                 scanning::note(ways, k, count);
-                match path_alternatives::after_alternative(s, j) {
+                match alternative_ends::after_alternative(s, j) {
                     Follow::Fail(f) => return ConditionOutcome::Fail(f),
                     Follow::More(f) => {
                         i = f;

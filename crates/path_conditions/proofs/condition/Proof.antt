@@ -3,7 +3,7 @@ use mathlib.Core.Path.{_≡_}
 use Prim.Native.Nat.{_-_}
 use native.Mathlib.Omega.{arith}
 use lib.ListN.{length}
-use Rattle.path_conditions.proofs.Conditions.{Upto, upto-start, upto-size, upto-fails, upto-counts, upto-stop, upto-length, upto-stops, upto-next, upto-closes, upto-later}
+use Rattle.path_alternatives.specs.ConditionLaws.{Upto, upto-start, upto-size, upto-fails, upto-counts, upto-stop, upto-length, upto-stops, upto-next, upto-closes, upto-later}
 use borrow.Author.Needs.{needs}
 use Rattle.path_conditions.proofs.condition.Statement.{statement}
 use Rattle.path_conditions.proofs.condition.Tie as tie

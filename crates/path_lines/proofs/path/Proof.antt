@@ -3,7 +3,7 @@ use mathlib.Core.Path.{_≡_}
 use Prim.Native.Nat.{_-_}
 use native.Mathlib.Omega.{arith}
 use lib.ListN.{length}
-use Rattle.path_lines.proofs.Lines.{Upto, upto-start, steps-size, upto-fails, upto-length, upto-stops, upto-later, upto-next, upto-closes}
+use Rattle.path_line_steps.specs.Lines.{Upto, upto-start, steps-size, upto-fails, upto-length, upto-stops, upto-later, upto-next, upto-closes}
 use borrow.Author.Needs.{needs}
 use Rattle.path_lines.proofs.path.Statement.{statement}
 use Rattle.path_lines.proofs.path.Tie as tie
