@@ -8,7 +8,6 @@ ghost use Rattle.row_structs.specs.Structs.{AnsweredFor, Laid, columnsIn};
 ghost use Rattle.schema_records.specs.Records.{recordWith};
 ghost use Rattle.table_spec.specs.Rows.{Cells};
 ghost use Rattle.text_spec.specs.Limits.{maxNodes};
-ghost use Rattle.text_spec.specs.Refusals.{refused, at, badRecord};
 use cut_records::cut_table;
 use row_structs::CELLS;
 use row_structs::MAX_ROWS;
@@ -16,23 +15,8 @@ use row_structs::RowColumns;
 use row_structs::TableAnswer;
 use row_structs::cell_of;
 use schema::Schema;
-use verdicts::BAD_RECORD;
+use table_answers::refused_table;
 use verdicts::Verdict;
-
-// Refusal 1 for any number of structs: every cell is 0.
-fn refuse() -> TableAnswer
-    ensures { λ r. ⌜ ((n : ℕ) → AnsweredFor (refused (at badRecord 0)) n r) ⌝ }
-{
-    let verdict: Verdict = verdicts::refused(BAD_RECORD, 0);
-    let columns = RowColumns {
-        numbers: [0u16; CELLS],
-        names: [0u8; CELLS],
-        parents: [0u16; CELLS],
-        starts: [0u32; CELLS],
-        lengths: [0u16; CELLS],
-    };
-    TableAnswer { verdict, columns }
-}
 
 // Cuts a table of no more rows than a table can have.
 fn cut_laid(schema: Schema, laid: RowColumns, count: usize, word: u64, room: usize) -> TableAnswer
@@ -86,7 +70,7 @@ pub fn cut_columns(
     ensures { λ r. ⌜ ((rows : List Cells) → length rows ≡ count → Laid rows (columnsIn columns) → AnsweredFor (tableCutRows (recordWith (schema .bytes) (schema .len)) rows word room) room r) ⌝ }
 {
     if count > MAX_ROWS {
-        return refuse();
+        return refused_table();
     }
     cut_laid(schema, columns, count, word, room)
 }

@@ -10,7 +10,7 @@ returns : tie.Need-returns
 returns c = λ rows long laid.
     let many = c .before in
     let args = many .before .args in
-    cut-many (recordWith (args .schema .bytes) (args .schema .len)) (args .word) rows (args .room) (omega (arith, many .if1 .taken, long)) (c .refuse .result) (c .refuse .ensures (args .room))
+    cut-many (recordWith (args .schema .bytes) (args .schema .len)) (args .word) rows (args .room) (omega (arith, many .if1 .taken, long)) (c .refused-table .result) (c .refused-table .ensures (args .room))
 
 returns-2 : tie.Need-returns-2
 returns-2 c = c .cut-laid .ensures

@@ -4,16 +4,21 @@ use borrow.Author.Tests.{not-true, not-false}
 use Rattle.cut_laws.specs.Answers.{refused-1, no-record, by-record}
 use Rattle.row_text.specs.Answers.{record-low}
 use Rattle.schema_records.specs.Records.{passes-schema}
-use native.Mathlib.Omega.{arith}
 use borrow.Author.Needs.{needs}
 use Rattle.cut_records.proofs.cut_table.Statement.{statement}
 use Rattle.cut_records.proofs.cut_table.Tie as tie
 
+-- back from the two exits to the calls before them
+abbrev refused : tie.After-slice-known10 → tie.After-refuse
+refused c = c .before .before .before .before .before .before .before .before .before .before
+
+abbrev called : tie.After-slice-known15 → tie.After-cut-lent
+called c = c .before .before .before .before .before .before .before .before .before .before
+
 returns : tie.Need-returns
 returns c =
-    let refused = c .before .before .before .before .before .before .before .before .before .before in
-    let tested = refused .before .before .before .before .before .before in
-    refused-1 (no-record _ _ _ _ (sym (passes-schema _ _) ∙ sym (tested .before .is-schema-record .ensures) ∙ not-true _ (tested .if1 .taken))) (refused .refuse .ensures .0) (refused .refuse .ensures .1)
+    let tested = refused c .before .before .before .before .before .before in
+    refused-1 (no-record _ _ _ _ (sym (passes-schema _ _) ∙ sym (tested .before .is-schema-record .ensures) ∙ not-true _ (tested .if1 .taken))) (refused c .refuse .ensures .0) (refused c .refuse .ensures .1)
 
 schema-sets-requires : tie.Need-schema-sets-requires
 schema-sets-requires c κs =
@@ -25,10 +30,9 @@ cut-lent-requires c κs = record { schema = _; sets = c .before .before .before 
 
 returns-2 : tie.Need-returns-2
 returns-2 c =
-    let called = c .before .before .before .before .before .before .before .before .before .before in
-    let made = called .before .before .before .before .before .before in
+    let made = called c .before .before .before .before .before .before in
     let tested = made .before in
-    by-record _ _ _ _ (sym (passes-schema _ _) ∙ sym (tested .before .is-schema-record .ensures) ∙ not-false _ (tested .if1 .left)) _ _ (called .cut-lent .ensures _ (made .schema-sets .ensures))
+    by-record _ _ _ _ (sym (passes-schema _ _) ∙ sym (tested .before .is-schema-record .ensures) ∙ not-false _ (tested .if1 .left)) _ _ (called c .cut-lent .ensures _ (made .schema-sets .ensures))
 
 pub cut-table-spec : {M : Type 1} → statement M
 cut-table-spec =
@@ -36,17 +40,17 @@ cut-table-spec =
     (tie.spec
     (λ c κs. search needs)
     (λ c κs. search needs)
-    (λ c. c .before .before .before .before .before .before .before .before .before .out-numbers .given)
-    (λ c. c .before .before .before .before .before .before .before .out-names .given)
-    (λ c. c .before .before .before .before .before .out-parents .given)
-    (λ c. c .before .before .before .out-starts .given)
-    (λ c. c .before .out-lengths .given)
+    (λ c. refused c .refuse .kept .0)
+    (λ c. refused c .refuse .kept .1 .0)
+    (λ c. refused c .refuse .kept .1 .1 .0)
+    (λ c. refused c .refuse .kept .1 .1 .1 .0)
+    (λ c. refused c .refuse .kept .1 .1 .1 .1 .0)
     returns
     schema-sets-requires
     cut-lent-requires
-    (λ c. c .before .before .before .before .before .before .before .before .before .out-numbers2 .given)
-    (λ c. c .before .before .before .before .before .before .before .out-names2 .given)
-    (λ c. c .before .before .before .before .before .out-parents2 .given)
-    (λ c. c .before .before .before .out-starts2 .given)
-    (λ c. c .before .out-lengths2 .given)
+    (λ c. called c .cut-lent .kept .1 .1 .1 .1 .1 .1 .1 .1 .0)
+    (λ c. called c .cut-lent .kept .1 .1 .1 .1 .1 .1 .1 .1 .1 .0)
+    (λ c. called c .cut-lent .kept .1 .1 .1 .1 .1 .1 .1 .1 .1 .1 .0)
+    (λ c. called c .cut-lent .kept .1 .1 .1 .1 .1 .1 .1 .1 .1 .1 .1 .0)
+    (λ c. called c .cut-lent .kept .1 .1 .1 .1 .1 .1 .1 .1 .1 .1 .1 .1 .0)
     returns-2)

@@ -1,46 +1,57 @@
 -- `chain_lent` meets its contract: the table and the position, the chain.
+use mathlib.Core.Path.{_≡_}
 use lib.ListN.{length}
 use Rattle.handed_chains.specs.Answers.{not-chained, may-be-chained, chain-answered}
 use Rattle.held_words.specs.Words.{words-held}
+use Rattle.library_spec.specs.Records.{LentTable}
 use Rattle.schema_laws.specs.Accepted.{schemaIn-length}
 use Rattle.schema_spec.specs.Records.{schemaIn}
-use Rattle.tables.specs.Handed.{lentTable}
+use Rattle.schema_spec.specs.Schemas.{Schema}
+use Rattle.tables.specs.Handed.{lentTable, isHeld}
 use borrow.Author.Needs.{needs}
 use Rattle.handed_chains.proofs.chain_lent.Statement.{statement}
 use Rattle.handed_chains.proofs.chain_lent.Tie as tie
 
+-- back from where the table is tested to where the schema is compiled, and from there to the start
+abbrev compiled : tie.After-is-table → tie.After-compile
+compiled c = c .before .before .before .before .before .before
+
+abbrev start : tie.After-compile → tie.Start
+start c = c .before .before .before .before .before .before .before .before
+
+-- the schema and the table that are handed in, and what their test tells
+abbrev schema : tie.After-is-table → Schema
+schema c = schemaIn (start (compiled c) .args .text .now)
+
+abbrev given : tie.After-is-table → LentTable
+given c = let at = start (compiled c) .args in lentTable (at .numbers .now) (at .codes .now) (at .parents .now) (at .starts .now) (at .lengths .now) (at .count)
+
+told : (c : tie.After-is-table) → c .is-table .result ≡ isHeld (schema c) (given c)
+told c = c .is-table .ensures (schema c) (words-held (schema c) (schemaIn-length _) _ (compiled c .compile .ensures .entries .held) _ (c .before .before .held-words .ensures))
+
 returns : tie.Need-returns
 returns c =
     let tested = c .before .before .before .before in
-    let held = tested .before .before in
-    let compiled = held .before .before .before .before .before .before in
-    let at = compiled .before .before .before .before .before .before .before .before in
-    let s = schemaIn (at .args .text .now) in
-    let t = lentTable (at .args .numbers .now) (at .args .codes .now) (at .args .parents .now) (at .args .starts .now) (at .args .lengths .now) (at .args .count) in
-    let words = words-held s (schemaIn-length (at .args .text .now)) _ (compiled .compile .ensures .entries .held) _ (held .before .before .held-words .ensures) in
-    not-chained s t (at .args .position) (length (at .args .out .now)) (held .is-table .result) (tested .before .has-row .result) (held .is-table .ensures s words) (tested .before .has-row .ensures) (tested .if1 .taken) _ _ (c .before .before .refuse .ensures .0) (c .before .before .refuse .ensures .1)
+    let row = tested .before in
+    let held = row .before in
+    let at = start (compiled held) .args in
+    not-chained (schema held) (given held) (at .position) (length (at .out .now)) _ (row .has-row .result) (told held) (row .has-row .ensures) (tested .if1 .taken) _ _ (c .before .before .refuse .ensures .0) (c .before .before .refuse .ensures .1)
 
 chain-first-requires : tie.Need-chain-first-requires
 chain-first-requires c κs =
     let tested = c .before .before in
-    let held = tested .before .before in
-    let compiled = held .before .before .before .before .before .before in
-    let at = compiled .before .before .before .before .before .before .before .before in
-    let s = schemaIn (at .args .text .now) in
-    let t = lentTable (at .args .numbers .now) (at .args .codes .now) (at .args .parents .now) (at .args .starts .now) (at .args .lengths .now) (at .args .count) in
-    let words = words-held s (schemaIn-length (at .args .text .now)) _ (compiled .compile .ensures .entries .held) _ (held .before .before .held-words .ensures) in
-    may-be-chained s t (at .args .position) 0 (held .is-table .result) (tested .before .has-row .result) (held .is-table .ensures s words) (tested .before .has-row .ensures) (tested .if1 .left) (at .args .text .now) (at .pre) (compiled .compile .result) (compiled .compile .ensures)
+    let row = tested .before in
+    let held = row .before in
+    let at = start (compiled held) in
+    may-be-chained (schema held) (given held) (at .args .position) 0 _ (row .has-row .result) (told held) (row .has-row .ensures) (tested .if1 .left) (at .args .text .now) (at .pre) _ (compiled held .compile .ensures)
 
 returns-2 : tie.Need-returns-2
 returns-2 c =
     let tested = c .before .before .before .before .before in
-    let held = tested .before .before in
-    let compiled = held .before .before .before .before .before .before in
-    let at = compiled .before .before .before .before .before .before .before .before in
-    let s = schemaIn (at .args .text .now) in
-    let t = lentTable (at .args .numbers .now) (at .args .codes .now) (at .args .parents .now) (at .args .starts .now) (at .args .lengths .now) (at .args .count) in
-    let words = words-held s (schemaIn-length (at .args .text .now)) _ (compiled .compile .ensures .entries .held) _ (held .before .before .held-words .ensures) in
-    chain-answered s t (at .args .position) (length (at .args .out .now)) (held .is-table .result) (tested .before .has-row .result) (held .is-table .ensures s words) (tested .before .has-row .ensures) (tested .if1 .left) (at .args .text .now) (at .pre) (compiled .compile .result) (compiled .compile .ensures) _ _ (c .before .before .chain-first .ensures)
+    let row = tested .before in
+    let held = row .before in
+    let at = start (compiled held) in
+    chain-answered (schema held) (given held) (at .args .position) (length (at .args .out .now)) _ (row .has-row .result) (told held) (row .has-row .ensures) (tested .if1 .left) (at .args .text .now) (at .pre) _ (compiled held .compile .ensures) _ _ (c .before .before .chain-first .ensures)
 
 pub chain-lent-spec : {M : Type 1} → statement M
 chain-lent-spec =

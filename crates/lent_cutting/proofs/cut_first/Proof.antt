@@ -1,46 +1,37 @@
 -- `cut_first` meets its contract: the first cells of each column are cut, and the answer says whether there was room.
 use mathlib.Core.Path.{sym}
 use lib.Seq.{length-take-le}
-use native.Mathlib.Omega.{arith}
 use borrow.Author.Needs.{needs}
 use Rattle.lent_cutting.proofs.cut_first.Statement.{statement}
 use Rattle.lent_cutting.proofs.cut_first.Tie as tie
 
-slice-aggregate-cut : tie.Need-slice-aggregate-cut
-slice-aggregate-cut c = sym (length-take-le _ _ (c .before .before .before .before .before .before .before .before .before .before .before .pre .lent .numbered))
+-- back to the start from the first column that is handed on, and to the call from the exit
+abbrev start : tie.After-cut-arg → tie.Start
+start c = c .before .before .before .before .before .before .before .before .before .before .before
 
-slice-aggregate-cut-2 : tie.Need-slice-aggregate-cut-2
-slice-aggregate-cut-2 c = sym (length-take-le _ _ (c .before .before .before .before .before .before .before .before .before .before .before .before .pre .lent .named))
-
-slice-aggregate-cut-3 : tie.Need-slice-aggregate-cut-3
-slice-aggregate-cut-3 c = sym (length-take-le _ _ (c .before .before .before .before .before .before .before .before .before .before .before .before .before .pre .lent .parented))
-
-slice-aggregate-cut-4 : tie.Need-slice-aggregate-cut-4
-slice-aggregate-cut-4 c = sym (length-take-le _ _ (c .before .before .before .before .before .before .before .before .before .before .before .before .before .before .pre .lent .started))
-
-slice-aggregate-cut-5 : tie.Need-slice-aggregate-cut-5
-slice-aggregate-cut-5 c = sym (length-take-le _ _ (c .before .before .before .before .before .before .before .before .before .before .before .before .before .before .before .pre .lent .sized))
+abbrev called : tie.After-answer-in → tie.After-cut
+called c = c .before .before .before .before .before .before .before .before .before .before .before
 
 cut-requires : tie.Need-cut-requires
-cut-requires c κs = let asked = c .before .before .before .before .before .before .before .before .before .before .before .before .before .before .before .before .before .before .before .before .pre in (asked .rows, asked .room)
+cut-requires c κs = let asked = start (c .before .before .before .before .before .before .before .before .before) .pre in (asked .rows, asked .room)
 
 returns : tie.Need-returns
-returns c = record { count = _; answer = c .answer-in .ensures; cells = c .before .before .before .before .before .before .before .before .before .before .before .cut .ensures }
+returns c = record { count = _; answer = c .answer-in .ensures; cells = called c .cut .ensures }
 
 pub cut-first-spec : {M : Type 1} → statement M
 cut-first-spec =
     tie.close
     (tie.spec
-    slice-aggregate-cut
-    slice-aggregate-cut-2
-    slice-aggregate-cut-3
-    slice-aggregate-cut-4
-    slice-aggregate-cut-5
+    (λ c. sym (length-take-le _ _ (start c .pre .lent .numbered)))
+    (λ c. sym (length-take-le _ _ (start (c .before) .pre .lent .named)))
+    (λ c. sym (length-take-le _ _ (start (c .before .before) .pre .lent .parented)))
+    (λ c. sym (length-take-le _ _ (start (c .before .before .before) .pre .lent .started)))
+    (λ c. sym (length-take-le _ _ (start (c .before .before .before .before) .pre .lent .sized)))
     cut-requires
     (λ c κs. search needs)
-    (λ c. c .before .before .before .before .before .before .before .before .before .before .out-numbers .given)
-    (λ c. c .before .before .before .before .before .before .before .before .out-names .given)
-    (λ c. c .before .before .before .before .before .before .out-parents .given)
-    (λ c. c .before .before .before .before .out-starts .given)
-    (λ c. c .before .before .out-lengths .given)
+    (λ c. called c .cut .kept .1 .1 .1 .1 .1 .1 .0)
+    (λ c. called c .cut .kept .1 .1 .1 .1 .1 .1 .1 .0)
+    (λ c. called c .cut .kept .1 .1 .1 .1 .1 .1 .1 .1 .0)
+    (λ c. called c .cut .kept .1 .1 .1 .1 .1 .1 .1 .1 .1 .0)
+    (λ c. called c .cut .kept .1 .1 .1 .1 .1 .1 .1 .1 .1 .1 .0)
     returns)
