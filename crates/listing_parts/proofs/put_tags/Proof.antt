@@ -1,8 +1,8 @@
 use native.Mathlib.Omega.{arith}
-use Rattle.listing_lines.specs.Lines.{tags-pass, tags-low, tags-written}
+use Rattle.listing_parts.specs.Parts.{tags-pass, tags-low, tags-written}
 use borrow.Author.Needs.{needs}
-use Rattle.listing_lines.proofs.put_tags.Statement.{statement}
-use Rattle.listing_lines.proofs.put_tags.Tie as tie
+use Rattle.listing_parts.proofs.put_tags.Statement.{statement}
+use Rattle.listing_parts.proofs.put_tags.Tie as tie
 
 write-chain-requires : tie.Need-write-chain-requires
 write-chain-requires c κs = tags-pass _ _ _ _ _ _ _ _ (c .before .before .before .before .before .before .before .pre)

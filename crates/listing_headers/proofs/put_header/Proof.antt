@@ -2,11 +2,11 @@ use native.Mathlib.Omega.{arith}
 use mathlib.Core.Path.{subst}
 use mathlib.Core.List.{List}
 use Prim.Native.Nat.{ℕ}
-use Rattle.listing_lines.specs.Lines.{header-written}
+use Rattle.listing_headers.specs.Headers.{header-written}
 use Rattle.written_text.specs.Written.{WrittenAt, written-then}
 use borrow.Author.Needs.{needs}
-use Rattle.listing_lines.proofs.put_header.Statement.{statement}
-use Rattle.listing_lines.proofs.put_header.Tie as tie
+use Rattle.listing_headers.proofs.put_header.Statement.{statement}
+use Rattle.listing_headers.proofs.put_header.Tie as tie
 
 put-number-requires-2 : tie.Need-put-number-requires-2
 put-number-requires-2 c κs =

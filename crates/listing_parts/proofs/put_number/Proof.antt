@@ -1,8 +1,8 @@
 use native.Mathlib.Omega.{arith}
-use Rattle.listing_lines.specs.Lines.{number-room, number-put}
+use Rattle.listing_parts.specs.Parts.{number-room, number-put}
 use borrow.Author.Needs.{needs}
-use Rattle.listing_lines.proofs.put_number.Statement.{statement}
-use Rattle.listing_lines.proofs.put_number.Tie as tie
+use Rattle.listing_parts.proofs.put_number.Statement.{statement}
+use Rattle.listing_parts.proofs.put_number.Tie as tie
 
 put-decimal-requires : tie.Need-put-decimal-requires
 put-decimal-requires c κs =

@@ -1,8 +1,8 @@
 use native.Mathlib.Omega.{arith}
-use Rattle.listing_lines.specs.Lines.{refusal-written}
+use Rattle.listing_parts.specs.Parts.{refusal-written}
 use borrow.Author.Needs.{needs}
-use Rattle.listing_lines.proofs.put_refusal.Statement.{statement}
-use Rattle.listing_lines.proofs.put_refusal.Tie as tie
+use Rattle.listing_parts.proofs.put_refusal.Statement.{statement}
+use Rattle.listing_parts.proofs.put_refusal.Tie as tie
 
 put-number-requires-2 : tie.Need-put-number-requires-2
 put-number-requires-2 c κs =

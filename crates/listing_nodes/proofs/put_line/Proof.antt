@@ -1,8 +1,8 @@
 use native.Mathlib.Omega.{arith}
-use Rattle.listing_lines.specs.Lines.{first-room, second-room, third-room, fourth-pass, fifth-room, line-written}
+use Rattle.listing_nodes.specs.Nodes.{first-room, second-room, third-room, fourth-pass, fifth-room, line-written}
 use borrow.Author.Needs.{needs}
-use Rattle.listing_lines.proofs.put_line.Statement.{statement}
-use Rattle.listing_lines.proofs.put_line.Tie as tie
+use Rattle.listing_nodes.proofs.put_line.Statement.{statement}
+use Rattle.listing_nodes.proofs.put_line.Tie as tie
 
 put-decimal-requires : tie.Need-put-decimal-requires
 put-decimal-requires c κs =
