@@ -5,7 +5,7 @@ ghost use mathlib.Core.Path.{_≡_};
 ghost use Prim.Native.Nat.{ℕ, _≤_, _<_};
 ghost use lib.Dec.{eqb};
 ghost use lib.ListN.{length};
-ghost use Rattle.build_state.specs.Starts.{isInnermost};
+ghost use Rattle.build_laws.specs.Starts.{isInnermost};
 ghost use Rattle.build_state.specs.State.{Safe, Built, Leaves, SafeStep, outsideBy};
 ghost use Rattle.content_fit.specs.Fillings.{ModelsOf};
 ghost use Rattle.fault_keys.specs.Keys.{placeLimit};
