@@ -2,8 +2,8 @@ use borrow.Author.Tests.{eq-eqb, ne-eqb, lt-ltb, le-ltb}
 use mathlib.Core.Path.{refl}
 use Rattle.text_spec.specs.Limits.{maxDeclarations}
 use borrow.Author.Needs.{needs}
-use Rattle.build_state.proofs.is_wrong_root.Statement.{statement}
-use Rattle.build_state.proofs.is_wrong_root.Tie as tie
+use Rattle.begun_nodes.proofs.is_wrong_root.Statement.{statement}
+use Rattle.begun_nodes.proofs.is_wrong_root.Tie as tie
 
 returns : tie.Need-returns
 returns c = rw (ne-eqb (c .before .args .depth) 0 (c .if1 .taken)) refl

@@ -2,10 +2,10 @@ use mathlib.Core.Bool.{Bool}
 use mathlib.Core.Path.{ap, _∙_}
 use Prim.Native.Nat.{_+_}
 use Rattle.fault_keys.specs.Keys.{notedKey}
 use Rattle.build_state.specs.State.{build}
 use borrow.Author.Needs.{needs}
-use Rattle.build_state.proofs.with_text.Statement.{statement}
-use Rattle.build_state.proofs.with_text.Tie as tie
+use Rattle.begun_nodes.proofs.with_text.Statement.{statement}
+use Rattle.begun_nodes.proofs.with_text.Tie as tie
 
 returns : tie.Need-returns
 returns c =

@@ -3,11 +3,11 @@ use mathlib.Core.Bool.{Bool}
 use Prim.Native.Nat.{ℕ, _+_}
 use lib.Dec.{leb}
 use Rattle.fault_keys.specs.Keys.{notedKey}
 use Rattle.build_state.specs.State.{build, isWrongRoot}
 use Rattle.text_spec.specs.Limits.{maxDeclarations}
 use borrow.Author.Needs.{needs}
-use Rattle.build_state.proofs.with_element.Statement.{statement}
-use Rattle.build_state.proofs.with_element.Tie as tie
+use Rattle.begun_nodes.proofs.with_element.Statement.{statement}
+use Rattle.begun_nodes.proofs.with_element.Tie as tie
 
 returns : tie.Need-returns
 returns c =
