@@ -1,5 +1,1 @@
 pub mod State
-pub mod StateLaws
-pub mod Starts
-pub mod Ends
-pub mod Runs

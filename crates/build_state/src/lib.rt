@@ -1,24 +1,18 @@
 // What is built of a journal's events, by value, and what each event makes of it: the depth, the nodes so far, the first refusal.
-ghost use mathlib.Core.Bool.{not, _&&_, _||_};
+ghost use mathlib.Core.Bool.{not, _||_};
 ghost use mathlib.Core.Path.{_≡_};
-ghost use Prim.Native.Nat.{_+_, _-_, _%_, _≤_, _<_};
+ghost use Prim.Native.Nat.{_-_, _%_, _≤_, _<_};
 ghost use lib.Dec.{eqb, leb};
-ghost use Rattle.build_state.specs.State.{judgedFrom, isSecondRoot, isWrongRoot, build, begun, brokenBy, endedWith, texted, elementCells, textCells, noRow, step, endsShort};
+ghost use Rattle.build_state.specs.State.{judgedFrom, isSecondRoot, build, brokenBy, endedWith, elementCells, textCells, noRow, step, endsShort};
 ghost use Rattle.fault_keys.specs.Keys.{noKey, placeLimit, notedKey};
-ghost use Rattle.text_spec.specs.Limits.{maxDepth};
 use fault_keys::BAD_CONTENT;
 use fault_keys::BAD_NESTING;
-use fault_keys::OVER_NODE_LIMIT;
 use fault_keys::PLACE_LIMIT;
 use fault_keys::UNDECLARED_ELEMENT;
 use fault_keys::noted;
-use limits::MAX_NODES;
 use names::MAX_ELEMENTS;
 use row_columns::ROW_LIMIT;
 use row_columns::RowCells;
-
-// A text's length is counted in 32 bits.
-pub const MAX_TEXT_BYTES: u32 = limits::MAX_TEXT_BYTES as u32;
 
 // Keys from here on are those of 14 to 16. Below it nesting is broken, and nothing more is judged.
 const JUDGED_FROM: u64 = UNDECLARED_ELEMENT * PLACE_LIMIT;
@@ -69,33 +63,6 @@ pub fn is_second_root(m: Build) -> bool
     m.count != 0
 }
 
-fn is_wrong_root(depth: usize, e: usize) -> bool
-    ensures { λ r. ⌜ r ≡ isWrongRoot depth e ⌝ }
-{
-    if depth != 0 {
-        return false;
-    }
-    if MAX_ELEMENTS <= e {
-        return false;
-    }
-    e != 0
-}
-
-// The element e, or an undeclared one, begins.
-pub fn with_element(m: Build, e: usize, at: u32) -> Build
-    requires { ⌜ (m .depth < maxDepth) × (m .count < placeLimit) ⌝ }
-    ensures { λ r. ⌜ r ≡ begun m e at ⌝ }
-{
-    let over = noted(m.fault, MAX_NODES <= m.count, OVER_NODE_LIMIT, at);
-    let wrong = noted(over, is_wrong_root(m.depth, e), BAD_CONTENT, at);
-    let fault = noted(wrong, MAX_ELEMENTS <= e, UNDECLARED_ELEMENT, at);
-    Build {
-        depth: m.depth + 1,
-        count: m.count + 1,
-        fault,
-    }
-}
-
 // 12 or 13: from then on nothing more is judged.
 pub fn broken(m: Build, number: u64, at: u32) -> Build
     requires { ⌜ number ≤ 18 ⌝ }
@@ -118,26 +85,6 @@ pub fn without_element(m: Build, fits: bool, place: u64) -> Build
     Build {
         depth: m.depth - 1,
         count: m.count,
-        fault,
-    }
-}
-
-fn either(a: bool, b: bool) -> bool
-    ensures { λ r. ⌜ r ≡ (a || b) ⌝ }
-{
-    if a { true } else { b }
-}
-
-// A text node begins.
-pub fn with_text(m: Build, start: u32, size: u32) -> Build
-    requires { ⌜ m .count < placeLimit ⌝ }
-    ensures { λ r. ⌜ r ≡ texted m start size ⌝ }
-{
-    let over = either(MAX_TEXT_BYTES < size, MAX_NODES <= m.count);
-    let fault = noted(m.fault, over, OVER_NODE_LIMIT, start);
-    Build {
-        depth: m.depth,
-        count: m.count + 1,
         fault,
     }
 }

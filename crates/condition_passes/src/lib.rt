@@ -1,43 +1,14 @@
 // A condition of a compiled path judged for all rows at once.
 ghost use mathlib.Core.Path.{_≡_};
-ghost use lib.ListN.{length};
-ghost use Rattle.compiled_paths.specs.Columns.{alternativesIn, conditionIn};
-ghost use Rattle.condition_passes.specs.Conditions.{ConditionPass, KeepPass};
+ghost use Rattle.compiled_paths.specs.Columns.{conditionIn};
+ghost use Rattle.condition_passes.specs.Conditions.{KeepPass};
 ghost use Rattle.marks.specs.Columns.{intersection};
-ghost use Rattle.marks.specs.Selection.{noMarks, alternativesMarks, conditionMarks};
+ghost use Rattle.marks.specs.Selection.{conditionMarks};
 ghost use Rattle.step_passes.specs.Tests.{namesIn};
-use alternative_passes::alternative;
-use axis_passes::UNMARKED;
-use axis_passes::fill;
 use compiled_paths::STEPS;
-use compiled_paths::first_size;
+use condition_alternatives::condition;
 use mark_sets::any_marked;
 use mark_sets::intersect;
-
-// The rows from which one of the alternatives that take `count` steps from `first` on leads to some row; `steps` and `next` are scratch.
-fn condition<'a>(
-    parents: &[u16],
-    codes: &[u8],
-    axes: &'a [u8; STEPS],
-    tests: &'a [u8; STEPS],
-    first: usize,
-    count: usize,
-    held: &mut [u8],
-    steps: &mut [u8],
-    next: &mut [u8],
-)
-    requires { ⌜ ConditionPass (now parents) (now codes) first count (now held) (now steps) (now next) ⌝ }
-    ensures { λ _. ⌜ now (held .exit) ≡ alternativesMarks (now (parents .entry)) (namesIn (now (codes .entry))) (noMarks (length (now (parents .entry)))) (alternativesIn (now (axes .entry)) (now (tests .entry)) count first) ⌝ }
-{
-    fill(held, UNMARKED);
-    let end = first + count;
-    let mut k = first;
-    while k < end {
-        let size = first_size(axes, k, end - k);
-        alternative(parents, codes, axes, tests, k, size, held, steps, next);
-        k += size;
-    }
-}
 
 // Keeps the rows where a condition holds whose alternatives take `count` steps from `first` on; no steps are no condition. Where no row is
 // marked nothing is judged. `held`, `steps` and `next` are scratch.

@@ -6,10 +6,10 @@ use Prim.Native.Nat.{ℕ, _+_, _≤_, _<_}
 use native.Mathlib.Omega.{arith}
 use borrow.Author.Tests.{leb-true}
 use lib.Dec.{eqb, leb}
-use Rattle.build_state.specs.Ends.{end-none, end-keeps-rows}
-use Rattle.build_state.specs.Starts.{isInnermost}
+use Rattle.build_laws.specs.Ends.{end-none, end-keeps-rows}
+use Rattle.build_laws.specs.Starts.{isInnermost}
 use Rattle.build_state.specs.State.{judgedFrom, Safe, Built, Rows, Leaves, SafeStep, noRow, step}
-use Rattle.build_state.specs.StateLaws.{leaves-kept, leaves-as, rows-as}
+use Rattle.build_laws.specs.StateLaws.{leaves-kept, leaves-as, rows-as}
 use Rattle.build_state.specs.declared.Build.{Build}
 use Rattle.build_state.specs.declared.BuildStep.{BuildStep}
 use Rattle.fault_keys.specs.Keys.{noKey}

@@ -4,7 +4,7 @@ ghost use mathlib.Core.List.{List};
 ghost use mathlib.Core.Path.{_≡_};
 ghost use Prim.Native.Nat.{ℕ, _≤_, _<_};
 ghost use lib.ListN.{length};
-ghost use Rattle.build_state.specs.Starts.{isInnermost};
+ghost use Rattle.build_laws.specs.Starts.{isInnermost};
 ghost use Rattle.build_state.specs.State.{judgedFrom, Safe, Built, Leaves, SafeStep};
 ghost use Rattle.content_fit.specs.Fillings.{KindsOf, ModelsOf, Sized};
 ghost use Rattle.element_names.specs.Names.{NamesOf};

@@ -5,7 +5,7 @@ ghost use mathlib.Core.Path.{_≡_};
 ghost use Prim.Native.Nat.{ℕ, _≤_, _<_};
 ghost use lib.Dec.{eqb};
 ghost use lib.ListN.{length};
-ghost use Rattle.build_state.specs.Starts.{isInnermost};
+ghost use Rattle.build_laws.specs.Starts.{isInnermost};
 ghost use Rattle.build_state.specs.State.{Safe, Built, Leaves, SafeStep, outsideBy};
 ghost use Rattle.content_fit.specs.Fillings.{ModelsOf};
 ghost use Rattle.fault_keys.specs.Keys.{placeLimit};
@@ -109,7 +109,7 @@ pub fn on_run(levels: &mut [u64; LEVELS], m: Build, start: u32, solid: u32, size
     open_levels::refill(levels, d, new);
     if is_text(old.kind) {
         let row: RowCells = build_state::text_row(old.element, level.row, start, size);
-        let build = build_state::with_text(m, start, size);
+        let build = begun_nodes::with_text(m, start, size);
         return BuildStep { build, row };
     }
     build_state::without_row(m)

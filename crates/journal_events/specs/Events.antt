@@ -9,7 +9,7 @@ use borrow.Author.Tests.{eqb-true}
 use lib.Dec.{eqb}
 use lib.ListN.{length}
 use Rattle.build_state.specs.State.{Safe, Built, Leaves, SafeStep, noRow, step}
-use Rattle.build_state.specs.StateLaws.{leaves-as, leaves-kept}
+use Rattle.build_laws.specs.StateLaws.{leaves-as, leaves-kept}
 use Rattle.build_state.specs.declared.Build.{Build}
 use Rattle.build_state.specs.declared.BuildStep.{BuildStep}
 use Rattle.content_fit.specs.Fillings.{KindsOf, ModelsOf}

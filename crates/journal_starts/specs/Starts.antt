@@ -4,7 +4,7 @@ use mathlib.Core.Path.{_≡_, subst}
 use Prim.Native.Nat.{ℕ, _≤_, _<_}
 use native.Mathlib.Omega.{arith}
 use Rattle.build_state.specs.State.{judgedFrom, Safe, SafeStep, brokenBy, step}
-use Rattle.build_state.specs.StateLaws.{safe-as, broken-safe}
+use Rattle.build_laws.specs.StateLaws.{safe-as, broken-safe}
 use Rattle.build_state.specs.declared.Build.{Build}
 use Rattle.build_state.specs.declared.BuildStep.{BuildStep}
 use Rattle.fault_keys.specs.Keys.{placeLimit}

@@ -126,7 +126,7 @@ fn begin(
     );
     open_element(kinds, levels, d, e, count, at, name);
     let row: RowCells = build_state::element_row(e, parent);
-    let build = build_state::with_element(m, e, at);
+    let build = begun_nodes::with_element(m, e, at);
     BuildStep { build, row }
 }
 

@@ -5,9 +5,9 @@ use libc::STDOUT_FILENO;
 use limits::LISTED_ROWS;
 use listing_files::Listed;
 use listing_files::list_files;
-use listing_lines::put_header;
-use listing_lines::put_refusal;
+use listing_headers::put_header;
 use listing_lines::put_row;
+use listing_parts::put_refusal;
 
 // Each file is read to one byte past its limit, so that a longer one is refused by 2.
 const SCHEMA_BYTES: usize = 8193;

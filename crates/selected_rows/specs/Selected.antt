@@ -13,7 +13,7 @@ use Rattle.path_spec.specs.Selection.{selectRows}
 use Rattle.schema_spec.specs.Names.{Name, element, text, codeOf}
 use Rattle.schema_spec.specs.Types.{Types}
 use Rattle.selection_laws.specs.Paths.{select-columns}
-use Rattle.step_passes.specs.Tests.{nameWithCode, namesIn, Coded}
+use Rattle.code_ranges.specs.Tests.{nameWithCode, namesIn, Coded}
 use Rattle.table_spec.specs.Rows.{Row}
 use Rattle.table_spec.specs.Tables.{wellFormed}
 use Rattle.text_spec.specs.Limits.{maxDeclarations}

@@ -3,8 +3,8 @@ use mathlib.Core.Bool.{false}
 use mathlib.Core.List.{List}
 use mathlib.Core.Path.{_≡_, sym, ap, _∙_}
 use Prim.Native.Nat.{ℕ, _<_}
-use borrow.Author.Tests.{ne-eqb}
 use lib.ListN.{length, replicate}
+use Rattle.code_ranges.specs.Tests.{InRange, range-test}
 use Rattle.compiled_paths.specs.Columns.{axisOf, testOf}
 use Rattle.marks.specs.Columns.{RowSet, isMarked, marks, OnlyMarks, union, intersection, marks-length, only-marks, no-row-marked}
 use Rattle.marks.specs.Parents.{imageMarks}
@@ -13,7 +13,7 @@ use Rattle.marks.specs.Roots.{image-none}
 use Rattle.marks.specs.Selection.{noMarks, testMarks}
 use Rattle.path_laws.specs.Inverses.{inverse}
 use Rattle.path_spec.specs.Paths.{Axis, self}
-use Rattle.step_passes.specs.Tests.{namesIn, Coded, InRange, range-test}
+use Rattle.step_passes.specs.Tests.{namesIn, Coded}
 use Rattle.table_laws.specs.Parents.{ParentsBefore}
 use Rattle.text_spec.specs.Lists.{anyBelow}
 
@@ -80,10 +80,6 @@ columns-same-length c d = record { marked = c .marked; marks-out = d .marked; si
 -- ---- axes by their numbers
 pub axis-number : (c k : ℕ) (ps m out : List ℕ) → c ≡ k → out ≡ imageMarks (axisOf k) ps m → out ≡ imageMarks (axisOf c) ps m
 axis-number c k ps m out e h = rw e h
-
-pub axis-other : (c : ℕ) → (c ≡ 1 → ⊥) → (c ≡ 2 → ⊥) → (c ≡ 3 → ⊥) → (c ≡ 4 → ⊥) → (c ≡ 5 → ⊥) → (c ≡ 6 → ⊥) → axisOf c ≡ self
-unfolding axisOf
-axis-other c h1 h2 h3 h4 h5 h6 = rw (ne-eqb c 1 h1, ne-eqb c 2 h2, ne-eqb c 3 h3, ne-eqb c 4 h4, ne-eqb c 5 h5, ne-eqb c 6 h6)
 
 pub image-kept : (c : ℕ) (ps m was out : List ℕ) → AxisPass ps m was → axisOf c ≡ self → out ≡ m → out ≡ imageMarks (axisOf c) ps m
 image-kept c ps m was out h e d = rw e (d ∙ self-image ps m was h)

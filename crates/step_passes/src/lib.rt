@@ -5,34 +5,27 @@ ghost use Rattle.marks.specs.Columns.{intersection};
 ghost use Rattle.marks.specs.Parents.{imageMarks};
 ghost use Rattle.marks.specs.Passes.{AxisPass};
 ghost use Rattle.marks.specs.Selection.{testMarks};
-ghost use Rattle.path_laws.specs.Inverses.{inverse};
 ghost use Rattle.step_passes.specs.Steps.{forwardMarks, backwardMarks, StepPass, TestPass};
-ghost use Rattle.step_passes.specs.Tests.{namesIn, InRange};
+ghost use Rattle.step_passes.specs.Tests.{namesIn};
 use axis_passes::UNMARKED;
 use axis_passes::children;
 use axis_passes::copy;
 use axis_passes::descendants;
 use axis_passes::descendants_or_self;
 use axis_passes::fill;
+use code_ranges::code_range;
 use compiled_paths::ANCESTOR;
 use compiled_paths::ANCESTOR_OR_SELF;
-use compiled_paths::ANY_NODE;
-use compiled_paths::ANY_TEXT;
 use compiled_paths::CHILD;
 use compiled_paths::DESCENDANT;
 use compiled_paths::DESCENDANT_OR_SELF;
 use compiled_paths::PARENT;
-use compiled_paths::SELF;
+use inverse_axes::inverse_of;
 use mark_sets::any_marked;
 use mark_sets::filter;
 use upward_passes::ancestors;
 use upward_passes::ancestors_or_self;
 use upward_passes::parents_of;
-
-// The first code of a text name, and the last code that a name can have.
-const TEXT_NAMES: u8 = 32;
-
-const LAST_CODE: u8 = 63;
 
 // The rows on an axis from the marked ones.
 fn axis_image(axis: u8, parents: &[u16], from: &[u8], out: &mut [u8])
@@ -48,50 +41,6 @@ fn axis_image(axis: u8, parents: &[u16], from: &[u8], out: &mut [u8])
         ANCESTOR_OR_SELF => ancestors_or_self(parents, from, out),
         _ => copy(from, out),
     }
-}
-
-fn inverse_of(axis: u8) -> u8
-    ensures { λ r. ⌜ axisOf r ≡ inverse (axisOf axis) ⌝ }
-{
-    match axis {
-        CHILD => PARENT,
-        DESCENDANT => ANCESTOR,
-        DESCENDANT_OR_SELF => ANCESTOR_OR_SELF,
-        PARENT => CHILD,
-        ANCESTOR => DESCENDANT,
-        ANCESTOR_OR_SELF => DESCENDANT_OR_SELF,
-        _ => SELF,
-    }
-}
-
-struct CodeRange {
-    low: u8,
-    high: u8,
-}
-
-// The codes of the names that pass a compiled step's test.
-fn code_range(test: u8) -> CodeRange
-    ensures { λ r. ⌜ InRange (r .low) (r .high) (testOf test) ⌝ }
-{
-    if test == ANY_NODE {
-        return CodeRange {
-            low: 0,
-            high: LAST_CODE,
-        };
-    }
-    if test == ANY_TEXT {
-        return CodeRange {
-            low: TEXT_NAMES,
-            high: LAST_CODE,
-        };
-    }
-    if test < TEXT_NAMES {
-        return CodeRange {
-            low: test,
-            high: test,
-        };
-    }
-    CodeRange { low: 1, high: 0 }
 }
 
 // The marked rows whose names pass a compiled step's test.

@@ -1,70 +1,12 @@
--- A range by whether a byte in it fails 3, and one row more.
-use mathlib.Core.Bool.{Bool, true, false, not, _&&_, _||_}
-use mathlib.Core.List.{List, [], _∷_}
-use mathlib.Core.Path.{_≡_, refl, sym, ap, ap₂, _∙_}
+-- One row more.
+use mathlib.Core.Bool.{Bool, true, false, _&&_}
+use mathlib.Core.List.{List}
+use mathlib.Core.Path.{_≡_, sym, ap, _∙_}
 use Prim.Native.Nat.{ℕ, suc, _+_, _-_, _<_, _≤_}
-use native.Mathlib.Numerals.{add-one}
 use native.Mathlib.Omega.{arith}
-use borrow.Author.Tests.{le-leb, lt-leb, eq-eqb, ne-eqb}
-use lib.Bits.{bitOr}
-use lib.Dec.{eqb}
-use lib.ListN.{length, getD, take, drop, length-take, length-drop}
-use Rattle.marks.specs.Columns.{mark, mark-test}
-use Rattle.marks.specs.Forward.{or-marks}
-use Rattle.table_passes.specs.Texts.{passes, rangePasses, textPasses, textsPass}
-use Rattle.text_laws.specs.Searches.{any-zero}
-use Rattle.text_spec.specs.Bytes.{isForeign}
-use Rattle.text_spec.specs.Lists.{part, allOf, anyBelow}
+use lib.ListN.{getD}
+use Rattle.table_passes.specs.Texts.{textPasses, textsPass}
 
--- ---- some byte of a text fails 3
-abbrev pub foreignBefore : List ℕ → ℕ → Bool
-foreignBefore w i = anyBelow i (λ k. isForeign (getD w k 0))
-
--- no byte at first, and one byte more
-pub none-before : (w : List ℕ) → 0 ≡ mark (foreignBefore w 0)
-unfolding anyBelow
-none-before w = refl
-
-pub one-more : (w : List ℕ) (i x y : ℕ) → x ≡ mark (foreignBefore w i) → y ≡ mark (isForeign (getD w i 0)) → bitOr x y ≡ mark (foreignBefore w (i + 1))
-unfolding anyBelow
-one-more w i x y e f =
-    ap₂ bitOr e f ∙ or-marks (foreignBefore w i) (isForeign (getD w i 0)) ∙ sym (ap (λ (k : ℕ). mark (foreignBefore w k)) (add-one i))
-
-pub all-before : (w : List ℕ) (i x : ℕ) → x ≡ mark (foreignBefore w i) → i ≤ length w → length w ≤ i → eqb x 1 ≡ foreignBefore w (length w)
-all-before w i x e l m = let z : i ≡ length w = omega arith in ap (λ (k : ℕ). eqb k 1) e ∙ mark-test (foreignBefore w i) ∙ ap (foreignBefore w) z
-
--- then not all pass
-none-foreign : (w : List ℕ) → not (foreignBefore w (length w)) ≡ allOf passes w
-unfolding anyBelow
-none-foreign [] = refl
-none-foreign (b ∷ w) = ap not (any-zero (length w) (λ k. isForeign (getD (b ∷ w) k 0))) ∙ pick (isForeign b) (none-foreign w)
-  where
-    pick : (t : Bool) → not (foreignBefore w (length w)) ≡ allOf passes w → not (t || foreignBefore w (length w)) ≡ (not t && allOf passes w)
-    pick true rest = refl
-    pick false rest = rest
-
--- ---- a range
-module _ (lent : List ℕ) (start size : ℕ) where
-  pub range-past : length lent < start → false ≡ rangePasses lent start size
-  unfolding rangePasses
-  range-past l = simp (lt-leb start (length lent) l)
-
-  module _ (inside : start ≤ length lent) where
-    pub range-short : length lent - start < size → false ≡ rangePasses lent start size
-    unfolding rangePasses
-    range-short l =
-        let short : eqb (length (part start size lent)) size ≡ false = ne-eqb (length (part start size lent)) size (λ e. omega (arith, simp (length-take, length-drop) at e)) in
-        simp (le-leb start (length lent) inside, short)
-
-    pub range-whole : size ≤ length lent - start → (r : Bool) → (let w = take (start + size - start) (drop start lent) in r ≡ foreignBefore w (length w)) → not r ≡ rangePasses lent start size
-    unfolding rangePasses
-    range-whole l r found =
-        let w : start + size - start ≡ size = omega arith in
-        let n : length (part start size lent) ≡ size = simp (length-take, length-drop) (omega arith) in
-        ap not found ∙ none-foreign (take (start + size - start) (drop start lent))
-        ∙ ap (λ (k : ℕ). allOf passes (take k (drop start lent))) w ∙ simp (le-leb start (length lent) inside, eq-eqb (length (part start size lent)) size n)
-
--- ---- row by row
 module _ (lent names starts lengths : List ℕ) where
   abbrev all : ℕ → Bool
   all count = textsPass lent names starts lengths 0 count

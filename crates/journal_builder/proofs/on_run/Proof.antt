@@ -1,6 +1,6 @@
 use mathlib.Core.Path.{_≡_, refl, sym, _∙_}
 use denote.Ref.{now}
-use Rattle.build_state.specs.StateLaws.{leaves-as}
+use Rattle.build_laws.specs.StateLaws.{leaves-as}
 use Rattle.journal_builder.specs.Events.{judged-unbroken, event-judged, event-broken, kept-safe}
 use Rattle.journal_spec.specs.Lexer.{run, runs}
 use Rattle.journal_state.specs.Places.{placeOr}

@@ -1,8 +1,8 @@
 use mathlib.Core.Path.{_≡_, refl, sym, ap, subst, _∙_}
 use native.Mathlib.Omega.{arith}
 use denote.Ref.{now}
-use Rattle.build_state.specs.Ends.{end-built}
-use Rattle.build_state.specs.StateLaws.{innermost, built-as}
+use Rattle.build_laws.specs.Ends.{end-built}
+use Rattle.build_laws.specs.StateLaws.{innermost, built-as}
 use Rattle.build_state.specs.declared.Build.{Build}
 use Rattle.content_fit.specs.Fillings.{StateOf}
 use Rattle.open_levels.specs.declared.Level.{Level}

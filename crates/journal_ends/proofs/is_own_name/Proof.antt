@@ -1,8 +1,8 @@
 use mathlib.Core.Path.{_≡_, sym, ap, subst, _∙_}
 use Prim.Native.Nat.{ℕ}
 use denote.Ref.{now}
-use Rattle.build_state.specs.Ends.{own-name}
-use Rattle.build_state.specs.StateLaws.{innermost}
+use Rattle.build_laws.specs.Ends.{own-name}
+use Rattle.build_laws.specs.StateLaws.{innermost}
 use Rattle.name_words.specs.Words.{Spells}
 use Rattle.open_levels.specs.Levels.{levelAt}
 use Rattle.open_levels.specs.declared.Level.{Level}

@@ -1,8 +1,8 @@
 use mathlib.Core.Path.{_≡_, refl, sym, ap, _∙_}
 use native.Mathlib.Omega.{arith}
 use denote.Ref.{now}
-use Rattle.build_state.specs.Ends.{end-outside, end-other}
-use Rattle.build_state.specs.StateLaws.{breaks-built, built-as}
+use Rattle.build_laws.specs.Ends.{end-outside, end-other}
+use Rattle.build_laws.specs.StateLaws.{breaks-built, built-as}
 use Rattle.build_state.specs.declared.Build.{Build}
 use Rattle.text_spec.specs.Refusals.{badNesting}
 use borrow.Author.Needs.{needs}

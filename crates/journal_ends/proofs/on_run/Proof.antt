@@ -2,9 +2,9 @@ use mathlib.Core.Path.{_≡_, refl, sym, ap, ap₂, _∙_}
 use native.Mathlib.Omega.{arith}
 use borrow.Author.Tests.{eqb-true, eqb-false}
 use denote.Ref.{now}
-use Rattle.build_state.specs.Runs.{outside-safe, outside-leaves, run-plain, run-text, text-safe}
+use Rattle.build_laws.specs.Runs.{outside-safe, outside-leaves, run-plain, run-text, text-safe}
 use Rattle.build_state.specs.State.{noRow, step}
-use Rattle.build_state.specs.StateLaws.{leaves-as, safe-as}
+use Rattle.build_laws.specs.StateLaws.{leaves-as, safe-as}
 use Rattle.build_state.specs.declared.Build.{Build}
 use Rattle.schema_elements.specs.Entries.{pcdataKind}
 use borrow.Author.Needs.{needs}

@@ -2,9 +2,9 @@ use mathlib.Core.Path.{_≡_, refl, sym, ap, ap₂, _∙_}
 use Prim.Native.Nat.{_+_, _<_}
 use native.Mathlib.Omega.{arith}
 use denote.Ref.{now}
-use Rattle.build_state.specs.Starts.{begin-leaves, begin-safe}
+use Rattle.build_laws.specs.Starts.{begin-leaves, begin-safe}
 use Rattle.build_state.specs.State.{step}
-use Rattle.build_state.specs.StateLaws.{length-refill, leaves-as, safe-as}
+use Rattle.build_laws.specs.StateLaws.{length-refill, leaves-as, safe-as}
 use Rattle.build_state.specs.declared.Build.{Build}
 use Rattle.journal_spec.specs.Builder.{refill, withChild}
 use Rattle.schema_spec.specs.Schemas.{elementNamed}

@@ -1,6 +1,6 @@
 use mathlib.Core.Path.{_≡_, refl, sym, ap, subst, _∙_}
 use denote.Ref.{now}
-use Rattle.build_state.specs.StateLaws.{refilled}
+use Rattle.build_laws.specs.StateLaws.{refilled}
 use Rattle.journal_spec.specs.Builder.{withChild}
 use borrow.Author.Needs.{needs}
 use Rattle.journal_starts.proofs.fit_child.Statement.{statement}

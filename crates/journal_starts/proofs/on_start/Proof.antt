@@ -1,9 +1,9 @@
 use mathlib.Core.Path.{_≡_, refl, sym, ap, _∙_}
 use native.Mathlib.Omega.{arith}
 use denote.Ref.{now}
-use Rattle.build_state.specs.Starts.{start-second, start-deep, start-begins}
+use Rattle.build_laws.specs.Starts.{start-second, start-deep, start-begins}
 use Rattle.build_state.specs.State.{noRow, step}
-use Rattle.build_state.specs.StateLaws.{breaks-leaves, leaves-as}
+use Rattle.build_laws.specs.StateLaws.{breaks-leaves, leaves-as}
 use Rattle.build_state.specs.declared.Build.{Build}
 use Rattle.build_state.specs.declared.BuildStep.{BuildStep}
 use Rattle.journal_starts.specs.Starts.{broken-start}

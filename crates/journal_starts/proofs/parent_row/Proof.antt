@@ -2,7 +2,7 @@ use mathlib.Core.List.{List, [], _∷_}
 use mathlib.Core.Path.{_≡_, refl, sym, ap, subst, _∙_}
 use Prim.Native.Nat.{ℕ}
 use denote.Ref.{now}
-use Rattle.build_state.specs.Starts.{no-parent, own-row}
+use Rattle.build_laws.specs.Starts.{no-parent, own-row}
 use Rattle.open_levels.specs.declared.Level.{Level}
 use borrow.Author.Needs.{needs}
 use Rattle.journal_starts.proofs.parent_row.Statement.{statement}

@@ -1,5 +1,6 @@
 use Rattle.compiled_paths.specs.Columns.{axisOf}
-use Rattle.step_passes.specs.Steps.{axis-number, axis-other, image-kept}
+use Rattle.inverse_axes.specs.Axes.{axis-other}
+use Rattle.step_passes.specs.Steps.{axis-number, image-kept}
 use borrow.Author.Needs.{needs}
 use Rattle.step_passes.proofs.axis_image.Statement.{statement}
 use Rattle.step_passes.proofs.axis_image.Tie as tie

@@ -1,0 +1,4 @@
+pub mod StateLaws
+pub mod Starts
+pub mod Ends
+pub mod Runs

@@ -1,0 +1,42 @@
+// Whether a lent text has a byte that fails refusal 3.
+ghost use mathlib.Core.Path.{_≡_};
+ghost use lib.ListN.{length, getD};
+ghost use Rattle.marks.specs.Columns.{mark};
+ghost use Rattle.text_spec.specs.Bytes.{isForeign};
+ghost use Rattle.text_spec.specs.Lists.{anyBelow};
+
+const PASSES: u8 = 0;
+
+const FOREIGN: u8 = 1;
+
+// Whether a byte fails refusal 3, as a mark: comparisons alone, which the compiler takes for many bytes at once.
+fn foreign_mark(b: u8) -> u8
+    ensures { λ r. ⌜ r ≡ mark (isForeign b) ⌝ }
+{
+    if b == b'\t' {
+        return PASSES;
+    }
+    if b == b'\n' {
+        return PASSES;
+    }
+    if b < b' ' {
+        return FOREIGN;
+    }
+    if b'~' < b {
+        return FOREIGN;
+    }
+    PASSES
+}
+
+// Whether some byte fails refusal 3. There is no test in the loop, so that the compiler vectorises it.
+pub fn any_foreign(text: &[u8]) -> bool
+    ensures { λ r. ⌜ r ≡ anyBelow (length (now (text .entry))) (λ i. isForeign (getD (now (text .entry)) i 0)) ⌝ }
+{
+    let mut x = PASSES;
+    let mut i = 0;
+    while i < text.len() {
+        x = x | foreign_mark(text[i]);
+        i += 1;
+    }
+    x == FOREIGN
+}

@@ -1,0 +1,65 @@
+use native.Mathlib.Omega.{arith}
+use Rattle.listing_nodes.specs.Nodes.{first-room, second-room, third-room, fourth-pass, fifth-room, line-written}
+use borrow.Author.Needs.{needs}
+use Rattle.listing_nodes.proofs.put_line.Statement.{statement}
+use Rattle.listing_nodes.proofs.put_line.Tie as tie
+
+put-decimal-requires : tie.Need-put-decimal-requires
+put-decimal-requires c κs =
+    let start = c .before .before .before .before .before .before .before in
+    first-room _ _ _ _ _ _ _ (start .pre) (start .args .number) 0
+
+put-number-requires : tie.Need-put-number-requires
+put-number-requires c κs =
+    let first = c .before .before .before .before in
+    let start = first .before .before .before .before .before .before .before .before in
+    second-room _ _ _ _ _ _ _ (start .pre) (start .args .number) 0 _ _ (first .put-decimal .ensures)
+
+put-text-requires : tie.Need-put-text-requires
+put-text-requires c κs =
+    let second = c .before .before .before .before in
+    let first = second .before .before .before .before .before in
+    let start = first .before .before .before .before .before .before .before .before in
+    third-room _ _ _ _ _ _ _ (start .pre) (start .args .number) (start .args .place) _ _ (first .put-decimal .ensures) _ _ (second .put-number .ensures)
+
+put-tags-requires : tie.Need-put-tags-requires
+put-tags-requires c κs =
+    let third = c .before .before .before in
+    let second = third .before .before .before .before .before in
+    let first = second .before .before .before .before .before in
+    let start = first .before .before .before .before .before .before .before .before in
+    fourth-pass _ _ _ _ _ _ _ (start .pre) (start .args .number) (start .args .place) _ _ (first .put-decimal .ensures) _ _ (second .put-number .ensures) _ _ (third .put-text .ensures)
+
+put-text-requires-2 : tie.Need-put-text-requires-2
+put-text-requires-2 c κs =
+    let fourth = c .before .before .before .before in
+    let third = fourth .before .before .before .before in
+    let second = third .before .before .before .before .before in
+    let first = second .before .before .before .before .before in
+    let start = first .before .before .before .before .before .before .before .before in
+    fifth-room _ _ _ _ _ _ _ (start .pre) (start .args .number) (start .args .place) _ _ (first .put-decimal .ensures) _ _ (second .put-number .ensures) _ _ (third .put-text .ensures) _ _ (fourth .put-tags .ensures)
+
+returns : tie.Need-returns
+returns c =
+    let fifth = c .before .before in
+    let fourth = fifth .before .before .before .before .before in
+    let third = fourth .before .before .before .before in
+    let second = third .before .before .before .before .before in
+    let first = second .before .before .before .before .before in
+    let start = first .before .before .before .before .before .before .before .before in
+    line-written _ _ _ _ _ _ _ (start .pre) (start .args .number) (start .args .place) _ _ (first .put-decimal .ensures) _ _ (second .put-number .ensures) _ _ (third .put-text .ensures) _ _ (fourth .put-tags .ensures) _ _ (fifth .put-text2 .ensures)
+
+pub put-line-spec : {M : Type 1} → statement M
+put-line-spec =
+    tie.close
+    (tie.spec
+    put-decimal-requires
+    (λ c. search needs)
+    put-number-requires
+    (λ c. search needs)
+    put-text-requires
+    put-tags-requires
+    (λ c. search needs)
+    put-text-requires-2
+    (λ c. search needs)
+    returns)
