@@ -16,54 +16,28 @@ use Rattle.cut_columns.proofs.cut_laid.Tie as tie
 columns-long : (c : tie.Start) → sizesOf (columnsIn (c .args .laid)) ≡ allOfSize cellCount
 columns-long c = sizes-of (columnsIn (c .args .laid)) (search needs) (search needs) (search needs) (search needs) (search needs)
 
-abbrev start-before : tie.After-cell-of → tie.Start
-start-before c = c .before .before .before .before .before .before
+-- back to the size that is lent from the first column of which a part is, and from there to the start
+abbrev told : tie.After-sizes2 → tie.After-cell-of
+told c = c .before .before .before .before .before
+
+abbrev start : tie.After-cell-of → tie.Start
+start c = c .before .before .before .before .before .before
 
 -- the part of a column that is lent, once its size is known
 inside : (c : tie.After-cell-of) → c .cell-of .result ≤ cellCount
-inside c = cell-inside (c .cell-of .result) (start-before c .args .room) (c .cell-of .ensures)
+inside c = cell-inside (c .cell-of .result) (start c .args .room) (c .cell-of .ensures)
 
 sized : (c : tie.After-cell-of) → c .cell-of .result ≡ length (zerosIn cellCount (c .cell-of .result))
-sized c = cell-part (c .cell-of .result) (start-before c .args .room) (c .cell-of .ensures)
-
-array-borrow-prefix-numbers : tie.Need-array-borrow-prefix-numbers
-array-borrow-prefix-numbers c = inside (c .before .before .before .before .before)
-
-slice-aggregate-cut-table-6 : tie.Need-slice-aggregate-cut-table-6
-slice-aggregate-cut-table-6 c = sized (c .before .before .before .before .before .before)
-
-array-borrow-prefix-names : tie.Need-array-borrow-prefix-names
-array-borrow-prefix-names c = inside (c .before .before .before .before .before .before)
-
-slice-aggregate-cut-table-7 : tie.Need-slice-aggregate-cut-table-7
-slice-aggregate-cut-table-7 c = sized (c .before .before .before .before .before .before .before)
-
-array-borrow-prefix-parents : tie.Need-array-borrow-prefix-parents
-array-borrow-prefix-parents c = inside (c .before .before .before .before .before .before .before)
-
-slice-aggregate-cut-table-8 : tie.Need-slice-aggregate-cut-table-8
-slice-aggregate-cut-table-8 c = sized (c .before .before .before .before .before .before .before .before)
-
-array-borrow-prefix-starts : tie.Need-array-borrow-prefix-starts
-array-borrow-prefix-starts c = inside (c .before .before .before .before .before .before .before .before)
-
-slice-aggregate-cut-table-9 : tie.Need-slice-aggregate-cut-table-9
-slice-aggregate-cut-table-9 c = sized (c .before .before .before .before .before .before .before .before .before)
-
-array-borrow-prefix-lengths : tie.Need-array-borrow-prefix-lengths
-array-borrow-prefix-lengths c = inside (c .before .before .before .before .before .before .before .before .before)
-
-slice-aggregate-cut-table-10 : tie.Need-slice-aggregate-cut-table-10
-slice-aggregate-cut-table-10 c = sized (c .before .before .before .before .before .before .before .before .before .before)
+sized c = cell-part (c .cell-of .result) (start c .args .room) (c .cell-of .ensures)
 
 returns : tie.Need-returns
 returns c = λ rows long laid.
     let answered = c .before .before .before .before .before in
-    let made = answered .before .before .before .before .before .before .before .before .before .before .before in
+    let made = told (answered .before .before .before .before .before .before) in
     let cells = answered .cut-table .last .1 .1 .1 .1 .1 .1 .1 .1 in
-    let start = start-before made in
-    let schema = start .args .schema in
-    cut-for (recordWith (schema .bytes) (schema .len)) (start .args .word) rows (start .args .room) (columnsIn (start .args .laid)) (start .args .count) (columns-long start) long laid (start .pre)
+    let at = start made in
+    let schema = at .args .schema in
+    cut-for (recordWith (schema .bytes) (schema .len)) (at .args .word) rows (at .args .room) (columnsIn (at .args .laid)) (at .args .count) (columns-long at) long laid (at .pre)
     (made .cell-of .result) (made .cell-of .ensures) (answered .cut-table .result) (cells .0) (cells .1 .0) (cells .1 .1 .0) (cells .1 .1 .1 .0) (cells .1 .1 .1 .1 .0) (answered .cut-table .ensures)
 
 pub cut-laid-spec : {M : Type 1} → statement M
@@ -76,15 +50,15 @@ cut-laid-spec =
     (λ c. search needs)
     (λ c. search needs)
     (λ c. search needs)
-    array-borrow-prefix-numbers
-    slice-aggregate-cut-table-6
-    array-borrow-prefix-names
-    slice-aggregate-cut-table-7
-    array-borrow-prefix-parents
-    slice-aggregate-cut-table-8
-    array-borrow-prefix-starts
-    slice-aggregate-cut-table-9
-    array-borrow-prefix-lengths
-    slice-aggregate-cut-table-10
+    (λ c. inside (told c))
+    (λ c. sized (told (c .before)))
+    (λ c. inside (told (c .before)))
+    (λ c. sized (told (c .before .before)))
+    (λ c. inside (told (c .before .before)))
+    (λ c. sized (told (c .before .before .before)))
+    (λ c. inside (told (c .before .before .before)))
+    (λ c. sized (told (c .before .before .before .before)))
+    (λ c. inside (told (c .before .before .before .before)))
+    (λ c. sized (told (c .before .before .before .before .before)))
     (λ c κs. search needs)
     returns)
