@@ -3,11 +3,12 @@ ghost use Rattle.code_ranges.specs.Tests.{InRange};
 ghost use Rattle.compiled_paths.specs.Columns.{testOf};
 use compiled_paths::ANY_NODE;
 use compiled_paths::ANY_TEXT;
+use limits::MAX_DECLARATIONS;
 
 // The first code of a text name, and the last code that a name can have.
-const TEXT_NAMES: u8 = 32;
+const TEXT_NAMES: u8 = MAX_DECLARATIONS as u8;
 
-const LAST_CODE: u8 = 63;
+const LAST_CODE: u8 = 2 * TEXT_NAMES - 1;
 
 pub struct CodeRange {
     pub low: u8,

@@ -8,6 +8,10 @@ use Rattle.compiled_paths.specs.declared.CompiledPaths.{CompiledPaths}
 use Rattle.path_spec.specs.Paths.{LocationPath}
 use Rattle.text_spec.specs.Limits.{maxPaths}
 
+-- compiled paths by their columns and their count, as they are lent
+abbrev pub lentPaths : List ℕ → List ℕ → List ℕ → List ℕ → ℕ → CompiledPaths
+lentPaths axes tests conditions paths count = record { count = count; paths = paths; conditions = conditions; axes = axes; tests = tests }
+
 unfoldable pub pathsIn : CompiledPaths → List (LocationPath ℕ)
 pathsIn c = bundleIn (c .axes) (c .tests) (c .conditions) (c .paths) (c .count) 0
 

@@ -11,14 +11,13 @@ use Rattle.extract_spec.specs.Cut.{kept, renumbered, cutFrom, cut, cutToWord}
 use Rattle.laid_tables.specs.Tables.{same-held, none-held, held-few}
 use Rattle.library_spec.specs.Calls.{inColumns, columnsAfter, tableCut, tableCutRows, tableOfCells}
 use Rattle.library_spec.specs.Records.{TextRecord, LentTable, schemaHeld, tableHeld}
-use Rattle.row_columns.specs.Columns.{columns}
 use Rattle.row_struct_laws.specs.Answers.{Fitting, cellCount, partSizes, front, equal-sizes, room-fitting, room-same, part-sizes, in-front}
 use Rattle.row_structs.specs.Structs.{cellOf, Laid, AnsweredFor}
 use Rattle.row_structs.specs.declared.TableAnswer.{TableAnswer}
 use Rattle.schema_spec.specs.Names.{Names, setOfWord}
 use Rattle.schema_spec.specs.Schemas.{Schema}
 use Rattle.schema_spec.specs.Types.{Types, typesOf}
-use Rattle.table_spec.specs.Columns.{Columns, Sizes, allOfSize, equalSizes, sizesOf}
+use Rattle.table_spec.specs.Columns.{Columns, Sizes, allOfSize, equalSizes, sizesOf, columns}
 use Rattle.table_spec.specs.Nodes.{Node, nodeAt}
 use Rattle.table_spec.specs.Rows.{Row, Cells}
 use Rattle.text_spec.specs.Calls.{handed, tested}

@@ -2,8 +2,8 @@
 ghost use mathlib.Core.List.{[]};
 ghost use Rattle.extract_reader.specs.Whole.{Begun, RowsRead};
 ghost use Rattle.extract_steps.specs.Reads.{Hold};
-ghost use Rattle.row_columns.specs.Columns.{columns, EqualColumns};
-ghost use Rattle.table_spec.specs.Columns.{sizesOf};
+ghost use Rattle.row_columns.specs.Columns.{EqualColumns};
+ghost use Rattle.table_spec.specs.Columns.{sizesOf, columns};
 use extract_steps::Progress;
 use extract_steps::read_row;
 use field_reader::First;

@@ -2,7 +2,8 @@
 ghost use mathlib.Core.Path.{_≡_};
 ghost use Rattle.extract_steps.specs.Reads.{Reads, ReadOn};
 ghost use Rattle.field_rows.specs.Steps.{rowCells};
-ghost use Rattle.row_columns.specs.Columns.{columns, EqualColumns, withRow};
+ghost use Rattle.row_columns.specs.Columns.{EqualColumns, withRow};
+ghost use Rattle.table_spec.specs.Columns.{columns};
 use field_rows::FieldRow;
 use field_rows::FieldStep;
 use field_rows::step;

@@ -2,7 +2,8 @@
 ghost use mathlib.Core.List.{[]};
 ghost use Rattle.extract_steps.specs.Reads.{Hold};
 ghost use Rattle.extract_table.specs.Tables.{Judged, TableRead};
-ghost use Rattle.row_columns.specs.Columns.{columns, EqualColumns};
+ghost use Rattle.row_columns.specs.Columns.{EqualColumns};
+ghost use Rattle.table_spec.specs.Columns.{columns};
 use extract_reader::RowsFound;
 use extract_verdicts::verdict_of;
 use names::MAX_ELEMENTS;

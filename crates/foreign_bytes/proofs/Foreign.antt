@@ -1,5 +1,4 @@
 -- The bytes of a text one by one: whether one so far fails 3.
-use mathlib.Core.Bool.{Bool}
 use mathlib.Core.List.{List}
 use mathlib.Core.Path.{_≡_, refl, sym, ap, ap₂, _∙_}
 use Prim.Native.Nat.{ℕ, _+_, _≤_}
@@ -8,14 +7,11 @@ use native.Mathlib.Omega.{arith}
 use lib.Bits.{bitOr}
 use lib.Dec.{eqb}
 use lib.ListN.{length, getD}
+use Rattle.foreign_bytes.specs.Foreign.{foreignBefore}
 use Rattle.marks.specs.Columns.{mark, mark-test}
 use Rattle.marks.specs.Forward.{or-marks}
 use Rattle.text_spec.specs.Bytes.{isForeign}
 use Rattle.text_spec.specs.Lists.{anyBelow}
-
--- ---- some byte of a text fails 3
-abbrev pub foreignBefore : List ℕ → ℕ → Bool
-foreignBefore w i = anyBelow i (λ k. isForeign (getD w k 0))
 
 -- no byte at first, and one byte more
 pub none-before : (w : List ℕ) → 0 ≡ mark (foreignBefore w 0)

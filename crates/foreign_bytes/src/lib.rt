@@ -1,9 +1,9 @@
 // Whether a lent text has a byte that fails refusal 3.
 ghost use mathlib.Core.Path.{_≡_};
-ghost use lib.ListN.{length, getD};
+ghost use lib.ListN.{length};
+ghost use Rattle.foreign_bytes.specs.Foreign.{foreignBefore};
 ghost use Rattle.marks.specs.Columns.{mark};
 ghost use Rattle.text_spec.specs.Bytes.{isForeign};
-ghost use Rattle.text_spec.specs.Lists.{anyBelow};
 
 const PASSES: u8 = 0;
 
@@ -30,7 +30,7 @@ fn foreign_mark(b: u8) -> u8
 
 // Whether some byte fails refusal 3. There is no test in the loop, so that the compiler vectorises it.
 pub fn any_foreign(text: &[u8]) -> bool
-    ensures { λ r. ⌜ r ≡ anyBelow (length (now (text .entry))) (λ i. isForeign (getD (now (text .entry)) i 0)) ⌝ }
+    ensures { λ r. ⌜ r ≡ foreignBefore (now (text .entry)) (length (now (text .entry))) ⌝ }
 {
     let mut x = PASSES;
     let mut i = 0;

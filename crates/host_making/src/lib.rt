@@ -3,7 +3,7 @@ ghost use mathlib.Core.List.{[]};
 ghost use Rattle.host_laws.specs.Stages.{lentOf};
 ghost use Rattle.host_results.specs.Exits.{Exits, RefusedExit};
 ghost use Rattle.library_spec.specs.Hosts.{makeExtract};
-ghost use Rattle.row_columns.specs.Columns.{columns};
+ghost use Rattle.table_spec.specs.Columns.{columns};
 use column_sizes::equal_sizes;
 use compiled_paths::CompiledPaths;
 use compiled_schema::CompiledSchema;

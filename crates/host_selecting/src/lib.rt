@@ -6,7 +6,7 @@ ghost use Rattle.host_laws.specs.Stages.{lentOf};
 ghost use Rattle.host_results.specs.Exits.{Exits, RefusedExit};
 ghost use Rattle.host_selecting.specs.Calls.{rangeOf};
 ghost use Rattle.library_spec.specs.Hosts.{selectFrom};
-ghost use Rattle.row_columns.specs.Columns.{columns};
+ghost use Rattle.table_spec.specs.Columns.{columns};
 use column_sizes::equal_sizes;
 use compiled_paths::CompiledPaths;
 use compiled_schema::CompiledSchema;

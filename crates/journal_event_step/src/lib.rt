@@ -10,7 +10,7 @@ ghost use Rattle.journal_kinds.specs.Kinds.{KindTable};
 ghost use Rattle.journal_loop_laws.specs.Advance.{Ready};
 ghost use Rattle.journal_state.specs.Places.{noPlace};
 ghost use Rattle.reader_state.specs.Reading.{Usable};
-ghost use Rattle.row_columns.specs.Columns.{columns};
+ghost use Rattle.table_spec.specs.Columns.{columns};
 ghost use Rattle.text_spec.specs.Limits.{maxDeclarations};
 use build_state::Build;
 use element_names::HASHES;

@@ -5,7 +5,7 @@ ghost use Rattle.journal_events.specs.Events.{SchemaCells};
 ghost use Rattle.journal_reader_end.specs.Ends.{Finished};
 ghost use Rattle.journal_state.specs.Places.{noPlace};
 ghost use Rattle.reader_state.specs.Reading.{Usable};
-ghost use Rattle.row_columns.specs.Columns.{columns};
+ghost use Rattle.table_spec.specs.Columns.{columns};
 use build_state::Build;
 use build_state::BuildStep;
 use journal_state::Lex;

@@ -7,7 +7,7 @@ ghost use Rattle.journal_events.specs.Events.{schemaCells};
 ghost use Rattle.journal_reader_step.specs.Steps.{ByteRead};
 ghost use Rattle.journal_state.specs.Relation.{Handed};
 ghost use Rattle.reader_state.specs.Reading.{Usable};
-ghost use Rattle.row_columns.specs.Columns.{columns};
+ghost use Rattle.table_spec.specs.Columns.{columns};
 ghost use Rattle.text_spec.specs.Limits.{maxDeclarations};
 use build_state::Build;
 use element_names::HASHES;

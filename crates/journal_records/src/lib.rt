@@ -2,10 +2,9 @@
 ghost use mathlib.Core.Bool.{_&&_};
 ghost use mathlib.Core.Path.{_≡_};
 ghost use Rattle.library_spec.specs.Calls.{journalRead, columnsAfter};
-ghost use Rattle.row_columns.specs.Columns.{columns};
 ghost use Rattle.schema_reader.specs.Records.{passesRecord};
 ghost use Rattle.schema_records.specs.Records.{recordWith};
-ghost use Rattle.table_spec.specs.Columns.{equalSizes, sizesOf};
+ghost use Rattle.table_spec.specs.Columns.{equalSizes, sizesOf, columns};
 ghost use Rattle.verdicts.specs.Verdicts.{verdict};
 use column_sizes::equal_sizes;
 use journal_compiled::read_compiled;

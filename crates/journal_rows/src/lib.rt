@@ -4,7 +4,8 @@ ghost use mathlib.Core.Path.{_≡_};
 ghost use lib.ListN.{length};
 ghost use Rattle.build_state.specs.State.{Rows};
 ghost use Rattle.journal_rows.specs.Rows.{RowAdded};
-ghost use Rattle.row_columns.specs.Columns.{columns, EqualColumns};
+ghost use Rattle.row_columns.specs.Columns.{EqualColumns};
+ghost use Rattle.table_spec.specs.Columns.{columns};
 use build_state::BuildStep;
 
 // Puts the row, if a node has begun since there were `count`.

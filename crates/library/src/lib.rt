@@ -3,7 +3,7 @@ ghost use mathlib.Core.List.{[]};
 ghost use Rattle.host_laws.specs.Stages.{lentOf};
 ghost use Rattle.host_results.specs.Exits.{Exits};
 ghost use Rattle.library_spec.specs.Hosts.{makeExtract, selectFrom};
-ghost use Rattle.row_columns.specs.Columns.{columns};
+ghost use Rattle.table_spec.specs.Columns.{columns};
 use host_making::make_extract;
 use host_results::HostResult;
 use host_selecting::select_from;

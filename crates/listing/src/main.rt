@@ -2,7 +2,10 @@
 ghost use Rattle.io.specs.Counts.{Counts};
 ghost use Rattle.listing.specs.Prints.{RowsPrinted};
 use libc::STDOUT_FILENO;
+use limits::LISTED_BYTES;
 use limits::LISTED_ROWS;
+use limits::MAX_BUNDLE_BYTES;
+use limits::MAX_SCHEMA_BYTES;
 use listing_files::Listed;
 use listing_files::list_files;
 use listing_headers::put_header;
@@ -10,11 +13,11 @@ use listing_lines::put_row;
 use listing_parts::put_refusal;
 
 // Each file is read to one byte past its limit, so that a longer one is refused by 2.
-const SCHEMA_BYTES: usize = 8193;
+const SCHEMA_BYTES: usize = MAX_SCHEMA_BYTES + 1;
 
-const BUNDLE_BYTES: usize = 4105;
+const BUNDLE_BYTES: usize = MAX_BUNDLE_BYTES + 1;
 
-const JOURNAL_BYTES: usize = 32769;
+const JOURNAL_BYTES: usize = LISTED_BYTES + 1;
 
 // The longest line takes 2,098 bytes.
 const LINE_BYTES: usize = 2200;

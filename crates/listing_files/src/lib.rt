@@ -1,7 +1,7 @@
 // The three files of a listing, read once: what is refused, or what the header and the lines are made of.
 ghost use mathlib.Core.Path.{_≡_};
 ghost use Rattle.listing_files.specs.Files.{refusedBy, RowsAsked, ListedRows, FilesLent, ListsAs};
-ghost use Rattle.row_columns.specs.Columns.{columns};
+ghost use Rattle.table_spec.specs.Columns.{columns};
 use compiled_paths::CompiledPaths;
 use compiled_schema::CompiledSchema;
 use first_paths::selected_count;

@@ -9,7 +9,7 @@ use names::MAX_ELEMENTS;
 use names::NameSet;
 
 // How many codes there are: one for each element and one for its text name.
-pub const CODES: usize = 64;
+pub const CODES: usize = 2 * MAX_ELEMENTS;
 
 // The name of the code `c` alone.
 pub fn single(c: usize) -> NameSet

@@ -7,16 +7,13 @@ use native.Mathlib.Omega.{arith}
 use borrow.Author.Tests.{le-leb, lt-leb, eq-eqb, ne-eqb}
 use lib.Dec.{eqb}
 use lib.ListN.{length, getD, take, drop, length-take, length-drop}
+use Rattle.foreign_bytes.specs.Foreign.{foreignBefore}
 use Rattle.table_passes.specs.Texts.{passes, rangePasses}
 use Rattle.text_laws.specs.Searches.{any-zero}
 use Rattle.text_spec.specs.Bytes.{isForeign}
 use Rattle.text_spec.specs.Lists.{part, allOf, anyBelow}
 
--- whether one of the first bytes fails 3
-abbrev foreignBefore : List ℕ → ℕ → Bool
-foreignBefore w i = anyBelow i (λ k. isForeign (getD w k 0))
-
--- if one does, not all pass
+-- if one byte fails 3, not all pass
 none-foreign : (w : List ℕ) → not (foreignBefore w (length w)) ≡ allOf passes w
 unfolding anyBelow
 none-foreign [] = refl

@@ -9,11 +9,10 @@ use Rattle.journal_spec.specs.Reading.{readJournal}
 use Rattle.library_spec.specs.Calls.{inColumns, columnsAfter, journalRead, journalReadRows}
 use Rattle.library_spec.specs.Records.{TextRecord, schemaHeld}
 use Rattle.projection_laws.specs.Limits.{accepted-within}
-use Rattle.row_columns.specs.Columns.{columns}
 use Rattle.row_struct_laws.specs.Answers.{Fitting, partSizes, front, equal-sizes, room-fitting, room-same, part-sizes, in-front}
 use Rattle.row_structs.specs.Structs.{cellOf, AnsweredFor}
 use Rattle.schema_spec.specs.Schemas.{Schema}
-use Rattle.table_spec.specs.Columns.{Sizes, allOfSize, equalSizes}
+use Rattle.table_spec.specs.Columns.{Sizes, allOfSize, equalSizes, columns}
 use Rattle.table_spec.specs.Rows.{Row}
 use Rattle.text_spec.specs.Calls.{handed, tested}
 use Rattle.text_spec.specs.Limits.{maxJournalBytes}

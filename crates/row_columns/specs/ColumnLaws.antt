@@ -7,9 +7,9 @@ use native.Mathlib.Omega.{arith}
 use borrow.Author.Tests.{lt-ltb, le-ltb, ltb-true, ltb-false, eqb-true}
 use lib.Dec.{T, eqb, ltb}
 use lib.ListN.{length, set, length-set, length-map}
-use Rattle.row_columns.specs.Columns.{columns, EqualColumns, put, withRow}
+use Rattle.row_columns.specs.Columns.{EqualColumns, put, withRow}
 use Rattle.schema_spec.specs.Names.{codeOf}
-use Rattle.table_spec.specs.Columns.{Columns, Sizes, sizesOf, equalSizes, columnsOf}
+use Rattle.table_spec.specs.Columns.{Columns, Sizes, sizesOf, equalSizes, columnsOf, columns}
 use Rattle.table_spec.specs.Rows.{Row, Cells, cellsOf}
 use Rattle.text_laws.specs.Cells.{padded-length}
 use Rattle.text_laws.specs.Tests.{and-cases, true-of}

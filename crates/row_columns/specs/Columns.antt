@@ -6,11 +6,8 @@ use Prim.Native.Nat.{ℕ, _%_}
 use lib.Dec.{ltb}
 use lib.ListN.{length, set}
 use Rattle.row_columns.specs.declared.RowCells.{RowCells}
-use Rattle.table_spec.specs.Columns.{Columns}
+use Rattle.table_spec.specs.Columns.{Columns, columns}
 use Rattle.table_spec.specs.Rows.{Cells}
-
-abbrev pub columns : List ℕ → List ℕ → List ℕ → List ℕ → List ℕ → Columns
-columns numbers names parents starts lengths = record { numbers = numbers; names = names; parents = parents; starts = starts; lengths = lengths }
 
 -- all columns have the same length
 pub record EqualColumns (c : Columns) : Type 0 where

@@ -1,8 +1,9 @@
 // Rows in five lent columns: put one after the other, as far as the columns have room, and past them zeros.
 ghost use mathlib.Core.List.{[]};
 ghost use mathlib.Core.Path.{_≡_};
-ghost use Rattle.row_columns.specs.Columns.{columns, EqualColumns, cells, withRow};
-ghost use Rattle.table_spec.specs.Columns.{sizesOf, columnsOf};
+ghost use Rattle.row_columns.specs.Columns.{EqualColumns, cells, withRow};
+ghost use Rattle.table_spec.specs.Columns.{sizesOf, columnsOf, columns};
+use limits::MAX_NODES;
 
 // A row, but for its number, as the columns' cells hold it: the code of its name, its parent's row, the start and the length of its text.
 pub struct RowCells {
@@ -13,7 +14,7 @@ pub struct RowCells {
 }
 
 // Every number of a row is below it.
-pub const ROW_LIMIT: usize = 65536;
+pub const ROW_LIMIT: usize = MAX_NODES + 1;
 
 // Puts the row r, if the columns have room for it.
 pub fn put_row(

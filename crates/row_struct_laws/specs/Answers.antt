@@ -10,11 +10,10 @@ use lib.ListN.{length, getD, take, drop, replicate, length-map, length-replicate
 use lib.Seq.{length-take-le}
 use Rattle.library_spec.specs.Calls.{rowsAfter, columnsAfter, structsAfter, inColumns}
 use Rattle.row_columns.specs.ColumnLaws.{same-columns}
-use Rattle.row_columns.specs.Columns.{columns}
 use Rattle.row_structs.specs.Structs.{emptyCells, columnsIn, cellOf, AnsweredFor}
 use Rattle.row_structs.specs.declared.RowColumns.{RowColumns}
 use Rattle.schema_spec.specs.Names.{codeOf}
-use Rattle.table_spec.specs.Columns.{Columns, Sizes, allOfSize, equalSizes, sizesOf, columnsOf, cellsAt, cellsFrom}
+use Rattle.table_spec.specs.Columns.{Columns, Sizes, allOfSize, equalSizes, sizesOf, columnsOf, cellsAt, cellsFrom, columns}
 use Rattle.table_spec.specs.Rows.{Row, Cells}
 use Rattle.text_laws.specs.Cells.{padded-zeros}
 use Rattle.text_spec.specs.Calls.{inRoom}

@@ -8,9 +8,6 @@ use Rattle.table_passes.specs.Passes.{isTextCode, laterFits, codeAt, parentAt}
 use Rattle.table_spec.specs.Columns.{Columns}
 use Rattle.text_spec.specs.Limits.{maxDeclarations}
 
-abbrev pub columns : List ℕ → List ℕ → List ℕ → List ℕ → List ℕ → Columns
-columns numbers names parents starts lengths = record { numbers = numbers; names = names; parents = parents; starts = starts; lengths = lengths }
-
 -- each column has a cell for each of so many rows
 pub record Lent (c : Columns) (count : ℕ) : Type 0 where
   pub numbered : count ≤ length (c .numbers)

@@ -2,7 +2,8 @@
 ghost use mathlib.Core.Path.{_≡_};
 ghost use Prim.Native.Nat.{_≤_, _-_};
 ghost use Rattle.table_passes.specs.Passes.{laterPass, rowsPass};
-ghost use Rattle.table_rows.specs.Lent.{columns, Lent, RowLent, RootAt, rowFits};
+ghost use Rattle.table_rows.specs.Lent.{Lent, RowLent, RootAt, rowFits};
+ghost use Rattle.table_spec.specs.Columns.{columns};
 ghost use Rattle.text_spec.specs.Limits.{maxDepth};
 use later_rows::later_fits;
 use names::MAX_ELEMENTS;

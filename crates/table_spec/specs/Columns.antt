@@ -16,6 +16,9 @@ pub record Columns : Type 0 where
   pub starts : List ℕ
   pub lengths : List ℕ
 
+abbrev pub columns : List ℕ → List ℕ → List ℕ → List ℕ → List ℕ → Columns
+columns numbers names parents starts lengths = record { numbers = numbers; names = names; parents = parents; starts = starts; lengths = lengths }
+
 -- how many cells each column has
 pub record Sizes : Type 0 where
   pub numbers : ℕ

@@ -14,8 +14,8 @@ use Rattle.table_passes.specs.Codes.{HeldWords}
 use Rattle.table_passes.specs.Passes.{rowsPass}
 use Rattle.table_passes.specs.Tables.{passesRows, rows-pass}
 use Rattle.table_passes.specs.Texts.{textsPass, beside-pass}
-use Rattle.table_rows.specs.Lent.{columns, Lent}
-use Rattle.table_spec.specs.Columns.{sizesOf, equalSizes, cellsFrom}
+use Rattle.table_rows.specs.Lent.{Lent}
+use Rattle.table_spec.specs.Columns.{sizesOf, equalSizes, cellsFrom, columns}
 use Rattle.table_spec.specs.Rows.{Row, rowsOf}
 use Rattle.table_spec.specs.Tables.{wellFormed, wellFormedWith}
 use Rattle.text_laws.specs.Tests.{passed, and-cases}

@@ -4,10 +4,10 @@ use mathlib.Core.Path.{_≡_, refl}
 use lib.ListN.{length}
 use Rattle.extract_reader.specs.Whole.{stands-begun, bytesLeft, going-reads, fewer-left, rows-read, same-sizes}
 use Rattle.extract_steps.specs.Reads.{Stands}
-use Rattle.row_columns.specs.Columns.{columns}
 use native.Mathlib.Omega.{arith}
 use Rattle.extract_reader.proofs.read_rows.Statement.{statement}
 use Rattle.extract_reader.proofs.read_rows.Tie as tie
+use Rattle.table_spec.specs.Columns.{columns}
 
 abbrev Inv-loop : tie.InvT-loop
 Inv-loop extract words numbers₀ names₀ parents₀ starts₀ lengths₀ levels₀ x₀ numbers names parents starts lengths levels x =

@@ -3,9 +3,9 @@ use borrow.Author.Needs.{needs}
 use denote.Ref.{now}
 use Rattle.field_rows.specs.Steps.{rowCells}
 use Rattle.row_columns.specs.ColumnLaws.{row-in, row-out}
-use Rattle.row_columns.specs.Columns.{columns}
 use Rattle.extract_steps.proofs.put_row.Statement.{statement}
 use Rattle.extract_steps.proofs.put_row.Tie as tie
+use Rattle.table_spec.specs.Columns.{columns}
 
 returns : tie.Need-returns
 returns c =

@@ -5,7 +5,8 @@ use borrow.Author.Needs.{needs}
 use native.Mathlib.Omega.{arith}
 use lib.ListN.{length}
 use Rattle.marks.specs.Columns.{mark}
-use Rattle.foreign_bytes.proofs.Foreign.{foreignBefore, none-before, one-more, all-before}
+use Rattle.foreign_bytes.proofs.Foreign.{none-before, one-more, all-before}
+use Rattle.foreign_bytes.specs.Foreign.{foreignBefore}
 use Rattle.foreign_bytes.proofs.any_foreign.Statement.{statement}
 use Rattle.foreign_bytes.proofs.any_foreign.Tie as tie
 

@@ -3,8 +3,7 @@ use borrow.Author.Needs.{needs}
 use mathlib.Core.Path.{_∙_}
 use Rattle.host_chosen.specs.Choosing.{words-read, refused-chosen, rows-asked, chosen-exit}
 use Rattle.host_columns.specs.Rows.{rows-read}
-use Rattle.row_columns.specs.Columns.{columns}
-use Rattle.table_spec.specs.Columns.{Columns}
+use Rattle.table_spec.specs.Columns.{Columns, columns}
 use Rattle.host_chosen.proofs.choose_under.Statement.{statement}
 use Rattle.host_chosen.proofs.choose_under.Tie as tie
 

@@ -4,9 +4,8 @@ use mathlib.Core.Path.{_∙_}
 use native.Mathlib.Omega.{arith}
 use Rattle.host_made.specs.Making.{refused-made, first-asked, made-exit}
 use Rattle.host_columns.specs.Rows.{rows-read}
-use Rattle.row_columns.specs.Columns.{columns}
 use Rattle.schema_relations.specs.Compiled.{compiled-few}
-use Rattle.table_spec.specs.Columns.{Columns}
+use Rattle.table_spec.specs.Columns.{Columns, columns}
 use Rattle.host_made.proofs.make_under.Statement.{statement}
 use Rattle.host_made.proofs.make_under.Tie as tie
 

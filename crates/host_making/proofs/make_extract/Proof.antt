@@ -1,7 +1,6 @@
 -- `make_extract` meets its contract: a call that is refused before the journal is read, or what is made under the two texts.
 use Rattle.host_making.specs.Calls.{under-texts, refused-call, accepted-call}
-use Rattle.row_columns.specs.Columns.{columns}
-use Rattle.table_spec.specs.Columns.{Columns}
+use Rattle.table_spec.specs.Columns.{Columns, columns}
 use Rattle.host_making.proofs.make_extract.Statement.{statement}
 use Rattle.host_making.proofs.make_extract.Tie as tie
 

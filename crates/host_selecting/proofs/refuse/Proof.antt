@@ -1,8 +1,8 @@
 -- `refuse` meets its contract: every cell cleared.
 use Rattle.host_selecting.specs.Calls.{all-refused}
-use Rattle.row_columns.specs.Columns.{columns}
 use Rattle.host_selecting.proofs.refuse.Statement.{statement}
 use Rattle.host_selecting.proofs.refuse.Tie as tie
+use Rattle.table_spec.specs.Columns.{columns}
 
 abbrev cleared : tie.After-refused → tie.After-clear
 cleared c = c .before .before .before .before .before .before .before .before .before .before .before .before .before .before .before .before .before .before .before

@@ -1,7 +1,6 @@
 -- `select_from` meets its contract: a call that is refused before the extract is read, or what is chosen under the two texts.
 use Rattle.host_selecting.specs.Calls.{under-schema, refused-call, accepted-call}
-use Rattle.row_columns.specs.Columns.{columns}
-use Rattle.table_spec.specs.Columns.{Columns}
+use Rattle.table_spec.specs.Columns.{Columns, columns}
 use Rattle.host_selecting.proofs.select_from.Statement.{statement}
 use Rattle.host_selecting.proofs.select_from.Tie as tie
 

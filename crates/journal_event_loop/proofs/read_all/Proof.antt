@@ -5,9 +5,9 @@ use lib.ListN.{length}
 use Rattle.journal_event_loop.specs.Events.{EventsRead, no-event-read, event-more, events-all}
 use Rattle.journal_event_step.specs.Points.{fewer-left}
 use Rattle.journal_events.specs.Events.{schemaCells}
-use Rattle.row_columns.specs.Columns.{columns}
 use Rattle.journal_event_loop.proofs.read_all.Statement.{statement}
 use Rattle.journal_event_loop.proofs.read_all.Tie as tie
+use Rattle.table_spec.specs.Columns.{columns}
 
 abbrev Inv-loop : tie.InvT-loop
 Inv-loop text table words hints count kinds firsts lasts nullables elements predecessors sizes levels₀ numbers₀ names₀ parents₀ starts₀ lengths₀ places₀ x₀ levels numbers names parents starts lengths places x =

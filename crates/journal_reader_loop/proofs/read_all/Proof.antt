@@ -11,9 +11,9 @@ use mir.Val.{Fits}
 use Rattle.journal_events.specs.Events.{schemaCells}
 use Rattle.journal_reader_loop.specs.Whole.{SomeRead, none-read, more-read, all-read}
 use Rattle.journal_state.specs.Places.{noPlace}
-use Rattle.row_columns.specs.Columns.{columns}
 use Rattle.journal_reader_loop.proofs.read_all.Statement.{statement}
 use Rattle.journal_reader_loop.proofs.read_all.Tie as tie
+use Rattle.table_spec.specs.Columns.{columns}
 
 abbrev Inv-loop : tie.InvT-loop
 Inv-loop text table words hints count kinds firsts lasts nullables elements predecessors sizes levels₀ numbers₀ names₀ parents₀ starts₀ lengths₀ places₀ x₀ at₀ levels numbers names parents starts lengths places x at =

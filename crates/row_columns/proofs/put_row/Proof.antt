@@ -1,9 +1,10 @@
 use denote.Ref.{now}
 use borrow.Author.Needs.{needs}
 use Rattle.row_columns.specs.ColumnLaws.{row-in, row-out}
-use Rattle.row_columns.specs.Columns.{columns, cells}
+use Rattle.row_columns.specs.Columns.{cells}
 use Rattle.row_columns.proofs.put_row.Statement.{statement}
 use Rattle.row_columns.proofs.put_row.Tie as tie
+use Rattle.table_spec.specs.Columns.{columns}
 
 returns : tie.Need-returns
 returns c =

@@ -5,10 +5,10 @@ use mathlib.Core.Path.{refl, sym, _∙_}
 use mathlib.Core.Logic.{⊎-elim}
 use Prim.Native.Nat.{_-_}
 use native.Mathlib.Omega.{arith}
-use Rattle.table_rows.specs.Lent.{columns}
 use Rattle.table_rows.proofs.Turns.{Rows, Climbing, rows-first, climb-first, climb-next, rows-past, rows-fail, rows-text, rows-element, rows-done}
 use Rattle.table_rows.proofs.later_rows_fit.Statement.{statement}
 use Rattle.table_rows.proofs.later_rows_fit.Tie as tie
+use Rattle.table_spec.specs.Columns.{columns}
 
 abbrev Inv-loop : tie.InvT-loop
 Inv-loop numbers codes parents starts lengths count words element₀ depth₀ row parent element depth = Climbing (columns numbers codes parents starts lengths) row parent element₀ depth₀ element depth
