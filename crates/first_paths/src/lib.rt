@@ -1,12 +1,14 @@
 // For each row of a table the place in the bundle, counted from 1, of the first path that selects it; 0 where none does.
 ghost use mathlib.Core.Path.{_≡_};
 ghost use lib.ListN.{length};
-ghost use Rattle.compiled_paths.specs.Paths.{pathsIn};
+ghost use Rattle.compiled_paths.specs.Paths.{lentPaths, pathsIn};
 ghost use Rattle.first_paths.specs.Firsts.{firstOf, Noted, FirstsPass, FirstPaths, countOf, selectedCount};
 use axis_passes::MARKED;
 use axis_passes::UNMARKED;
 use axis_passes::fill;
-use compiled_paths::CompiledPaths;
+use compiled_paths::CONDITION_STARTS;
+use compiled_paths::PATH_STARTS;
+use compiled_paths::STEPS;
 use selection::select_path;
 
 // No path selects the row.
@@ -37,9 +39,13 @@ fn note(marks: &[u8], place: u8, firsts: &mut [u8])
     }
 }
 
-// Of a table that is not empty; `marks`, `held`, `steps` and `next` are scratch, a byte for each row.
-pub fn first_paths(
-    paths: CompiledPaths,
+// `total` paths, on a table that is not empty; `marks`, `held`, `steps` and `next` are scratch, a byte for each row.
+pub fn first_paths<'a>(
+    axes: &'a [u8; STEPS],
+    tests: &'a [u8; STEPS],
+    conditions: &'a [u16; CONDITION_STARTS],
+    paths: &'a [u8; PATH_STARTS],
+    total: usize,
     parents: &[u16],
     codes: &[u8],
     firsts: &mut [u8],
@@ -48,20 +54,19 @@ pub fn first_paths(
     steps: &mut [u8],
     next: &mut [u8],
 )
-    requires { ⌜ FirstsPass paths (now parents) (now codes) (now firsts) (now marks) (now held) (now steps) (now next) ⌝ }
-    ensures { λ _. ⌜ FirstPaths (now (parents .entry)) (now (codes .entry)) (pathsIn paths) (now (firsts .exit)) ⌝ }
+    requires { ⌜ FirstsPass (lentPaths (now axes) (now tests) (now conditions) (now paths) total) (now parents) (now codes) (now firsts) (now marks) (now held) (now steps) (now next) ⌝ }
+    ensures { λ _. ⌜ FirstPaths (now (parents .entry)) (now (codes .entry)) (pathsIn (lentPaths (now (axes .entry)) (now (tests .entry)) (now (conditions .entry)) (now (paths .entry)) total)) (now (firsts .exit)) ⌝ }
 {
     fill(firsts, NO_PATH);
-    let count = paths.count;
     let mut i = 0;
-    while i < count {
+    while i < total {
         select_path(
             parents,
             codes,
-            &paths.axes,
-            &paths.tests,
-            &paths.conditions,
-            &paths.paths,
+            axes,
+            tests,
+            conditions,
+            paths,
             i,
             marks,
             held,

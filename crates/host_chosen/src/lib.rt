@@ -3,7 +3,7 @@
 ghost use mathlib.Core.List.{List};
 ghost use mathlib.Core.Path.{_≡_};
 ghost use Prim.Native.Nat.{ℕ, _≤_};
-ghost use Rattle.compiled_paths.specs.Paths.{pathsIn, Shaped};
+ghost use Rattle.compiled_paths.specs.Paths.{lentPaths, pathsIn, Shaped};
 ghost use Rattle.compiled_schema.specs.Compiled.{CompiledOf};
 ghost use Rattle.host_chosen.specs.Choosing.{SelectedUnder, RowsAsked, UnderSchema, WordsIn, LastAs};
 ghost use Rattle.host_laws.specs.Stages.{lentOf, chosenUnder};
@@ -12,7 +12,9 @@ ghost use Rattle.schema_spec.specs.Reading.{readSchema};
 ghost use Rattle.schema_spec.specs.Records.{schemaIn};
 ghost use Rattle.table_spec.specs.Columns.{columns};
 ghost use Rattle.text_spec.specs.Refusals.{accepted};
-use compiled_paths::CompiledPaths;
+use compiled_paths::CONDITION_STARTS;
+use compiled_paths::PATH_STARTS;
+use compiled_paths::STEPS;
 use compiled_schema::CompiledSchema;
 use extract_table::read_extract_table;
 use held_words::held_words;
@@ -54,8 +56,12 @@ fn answer(
 }
 
 // Selects on the first rows in the columns.
-fn select_under(
-    paths: CompiledPaths,
+fn select_under<'a>(
+    axes: &'a [u8; STEPS],
+    tests: &'a [u8; STEPS],
+    conditions: &'a [u16; CONDITION_STARTS],
+    paths: &'a [u8; PATH_STARTS],
+    total: usize,
     place: usize,
     rows: usize,
     numbers: &mut [u16],
@@ -66,11 +72,15 @@ fn select_under(
     items: &mut [u16],
     counts: &mut [u32],
 ) -> HostResult
-    requires { ⌜ Shaped paths × (place ≤ paths .count) × RowsAsked (columns (now numbers) (now names) (now parents) (now starts) (now lengths)) rows ⌝ }
-    ensures { λ r. ⌜ SelectedUnder paths place rows (columns (now (numbers .entry)) (now (names .entry)) (now (parents .entry)) (now (starts .entry)) (now (lengths .entry))) (columns (now (numbers .exit)) (now (names .exit)) (now (parents .exit)) (now (starts .exit)) (now (lengths .exit))) (now (items .entry)) (now (counts .entry)) (now (items .exit)) (now (counts .exit)) r ⌝ }
+    requires { ⌜ Shaped (lentPaths (now axes) (now tests) (now conditions) (now paths) total) × (place ≤ total) × RowsAsked (columns (now numbers) (now names) (now parents) (now starts) (now lengths)) rows ⌝ }
+    ensures { λ r. ⌜ SelectedUnder (lentPaths (now (axes .entry)) (now (tests .entry)) (now (conditions .entry)) (now (paths .entry)) total) place rows (columns (now (numbers .entry)) (now (names .entry)) (now (parents .entry)) (now (starts .entry)) (now (lengths .entry))) (columns (now (numbers .exit)) (now (names .exit)) (now (parents .exit)) (now (starts .exit)) (now (lengths .exit))) (now (items .entry)) (now (counts .entry)) (now (items .exit)) (now (counts .exit)) r ⌝ }
 {
     let selected = select_table(
+        axes,
+        tests,
+        conditions,
         paths,
+        total,
         place,
         &numbers[..rows],
         &names[..rows],
@@ -82,9 +92,13 @@ fn select_under(
 }
 
 // The extract's rows in the columns, and then what is selected; on refusal no cell is left.
-pub fn choose_under(
+pub fn choose_under<'a>(
     compiled: CompiledSchema,
-    paths: CompiledPaths,
+    axes: &'a [u8; STEPS],
+    tests: &'a [u8; STEPS],
+    conditions: &'a [u16; CONDITION_STARTS],
+    paths: &'a [u8; PATH_STARTS],
+    total: usize,
     place: usize,
     extract: &[u8],
     numbers: &mut [u16],
@@ -95,8 +109,8 @@ pub fn choose_under(
     items: &mut [u16],
     counts: &mut [u32],
 ) -> HostResult
-    requires { ⌜ UnderSchema compiled paths place (columns (now numbers) (now names) (now parents) (now starts) (now lengths)) ⌝ }
-    ensures { λ r. ⌜ ((schema : List ℕ) → readSchema schema ≡ accepted (schemaIn schema) → CompiledOf schema (schemaIn schema) compiled → Exits (chosenUnder (schemaIn schema) (pathsIn paths) place (now (extract .entry)) (lentOf (columns (now (numbers .entry)) (now (names .entry)) (now (parents .entry)) (now (starts .entry)) (now (lengths .entry))) (now (items .entry)) (now (counts .entry)))) (lentOf (columns (now (numbers .entry)) (now (names .entry)) (now (parents .entry)) (now (starts .entry)) (now (lengths .entry))) (now (items .entry)) (now (counts .entry))) r (columns (now (numbers .exit)) (now (names .exit)) (now (parents .exit)) (now (starts .exit)) (now (lengths .exit))) (now (items .exit)) (now (counts .exit))) ⌝ }
+    requires { ⌜ UnderSchema compiled (lentPaths (now axes) (now tests) (now conditions) (now paths) total) place (columns (now numbers) (now names) (now parents) (now starts) (now lengths)) ⌝ }
+    ensures { λ r. ⌜ ((schema : List ℕ) → readSchema schema ≡ accepted (schemaIn schema) → CompiledOf schema (schemaIn schema) compiled → Exits (chosenUnder (schemaIn schema) (pathsIn (lentPaths (now (axes .entry)) (now (tests .entry)) (now (conditions .entry)) (now (paths .entry)) total)) place (now (extract .entry)) (lentOf (columns (now (numbers .entry)) (now (names .entry)) (now (parents .entry)) (now (starts .entry)) (now (lengths .entry))) (now (items .entry)) (now (counts .entry)))) (lentOf (columns (now (numbers .entry)) (now (names .entry)) (now (parents .entry)) (now (starts .entry)) (now (lengths .entry))) (now (items .entry)) (now (counts .entry))) r (columns (now (numbers .exit)) (now (names .exit)) (now (parents .exit)) (now (starts .exit)) (now (lengths .exit))) (now (items .exit)) (now (counts .exit))) ⌝ }
 {
     let words = words_of(compiled);
     let verdict = read_extract_table(extract, &words, numbers, names, parents, starts, lengths);
@@ -106,7 +120,11 @@ pub fn choose_under(
         return host_results::refused(verdict.number, verdict.place);
     }
     select_under(
+        axes,
+        tests,
+        conditions,
         paths,
+        total,
         place,
         verdict.size,
         numbers,

@@ -4,14 +4,16 @@ ghost use mathlib.Core.List.{[]};
 ghost use mathlib.Core.Path.{_≡_};
 ghost use Prim.Native.Nat.{_≤_};
 ghost use lib.ListN.{length};
-ghost use Rattle.compiled_paths.specs.Paths.{pathsIn, Shaped};
+ghost use Rattle.compiled_paths.specs.Paths.{lentPaths, pathsIn, Shaped};
 ghost use Rattle.host_laws.specs.Stages.{lentOf, madeUnder};
 ghost use Rattle.host_made.specs.Making.{NeededIn, AnswerAs, FirstAsked, WrittenUnder, UnderTexts};
 ghost use Rattle.host_results.specs.Exits.{Exits};
 ghost use Rattle.schema_spec.specs.Records.{schemaIn};
 ghost use Rattle.table_spec.specs.Columns.{sizesOf, columns};
 ghost use Rattle.text_spec.specs.Limits.{maxDeclarations};
-use compiled_paths::CompiledPaths;
+use compiled_paths::CONDITION_STARTS;
+use compiled_paths::PATH_STARTS;
+use compiled_paths::STEPS;
 use compiled_schema::CompiledSchema;
 use extract_writing::write_kept;
 use host_results::HostResult;
@@ -25,15 +27,22 @@ use table_cutting::clear_bytes;
 use verdicts::TOO_FEW_CELLS;
 
 // The names that the paths need.
-fn needed_by(compiled: CompiledSchema, paths: CompiledPaths) -> NameSet
-    requires { ⌜ Shaped paths × (compiled .count ≤ maxDeclarations) ⌝ }
-    ensures { λ r. ⌜ NeededIn compiled paths r ⌝ }
+fn needed_by<'a>(
+    compiled: CompiledSchema,
+    axes: &'a [u8; STEPS],
+    tests: &'a [u8; STEPS],
+    conditions: &'a [u16; CONDITION_STARTS],
+    paths: &'a [u8; PATH_STARTS],
+    total: usize,
+) -> NameSet
+    requires { ⌜ Shaped (lentPaths (now axes) (now tests) (now conditions) (now paths) total) × (compiled .count ≤ maxDeclarations) ⌝ }
+    ensures { λ r. ⌜ NeededIn compiled (lentPaths (now (axes .entry)) (now (tests .entry)) (now (conditions .entry)) (now (paths .entry)) total) r ⌝ }
 {
     let count = compiled.count;
     let entries: Entries = compiled.entries;
     let holds: [NameSet; MAX_ELEMENTS] = entries.holds;
     let below: [NameSet; MAX_ELEMENTS] = compiled.below;
-    needed_set(count, holds, below, paths)
+    needed_set(count, holds, below, axes, tests, conditions, paths, total)
 }
 
 // The result for rows in the columns and bytes in `room` cells; 18 where these are too few, and then no row is left.
@@ -57,9 +66,13 @@ fn answer(
 }
 
 // Writes the extract of the first rows in the columns.
-fn write_under(
+fn write_under<'a>(
     compiled: CompiledSchema,
-    paths: CompiledPaths,
+    axes: &'a [u8; STEPS],
+    tests: &'a [u8; STEPS],
+    conditions: &'a [u16; CONDITION_STARTS],
+    paths: &'a [u8; PATH_STARTS],
+    total: usize,
     journal: &[u8],
     rows: usize,
     numbers: &mut [u16],
@@ -69,10 +82,10 @@ fn write_under(
     lengths: &mut [u16],
     out: &mut [u8],
 ) -> HostResult
-    requires { ⌜ Shaped paths × (compiled .count ≤ maxDeclarations) × FirstAsked (now journal) (columns (now numbers) (now names) (now parents) (now starts) (now lengths)) rows ⌝ }
-    ensures { λ r. ⌜ WrittenUnder compiled paths (now (journal .entry)) rows (columns (now (numbers .entry)) (now (names .entry)) (now (parents .entry)) (now (starts .entry)) (now (lengths .entry))) (columns (now (numbers .exit)) (now (names .exit)) (now (parents .exit)) (now (starts .exit)) (now (lengths .exit))) (now (out .entry)) (now (out .exit)) r ⌝ }
+    requires { ⌜ Shaped (lentPaths (now axes) (now tests) (now conditions) (now paths) total) × (compiled .count ≤ maxDeclarations) × FirstAsked (now journal) (columns (now numbers) (now names) (now parents) (now starts) (now lengths)) rows ⌝ }
+    ensures { λ r. ⌜ WrittenUnder compiled (lentPaths (now (axes .entry)) (now (tests .entry)) (now (conditions .entry)) (now (paths .entry)) total) (now (journal .entry)) rows (columns (now (numbers .entry)) (now (names .entry)) (now (parents .entry)) (now (starts .entry)) (now (lengths .entry))) (columns (now (numbers .exit)) (now (names .exit)) (now (parents .exit)) (now (starts .exit)) (now (lengths .exit))) (now (out .entry)) (now (out .exit)) r ⌝ }
 {
-    let set = needed_by(compiled, paths);
+    let set = needed_by(compiled, axes, tests, conditions, paths, total);
     let bytes = write_kept(
         set,
         journal,
@@ -88,10 +101,14 @@ fn write_under(
 }
 
 // The journal's rows in the columns, and then the bytes; on refusal no cell is left.
-pub fn make_under(
+pub fn make_under<'a>(
     schema: &[u8],
     compiled: CompiledSchema,
-    paths: CompiledPaths,
+    axes: &'a [u8; STEPS],
+    tests: &'a [u8; STEPS],
+    conditions: &'a [u16; CONDITION_STARTS],
+    paths: &'a [u8; PATH_STARTS],
+    total: usize,
     journal: &[u8],
     numbers: &mut [u16],
     names: &mut [u8],
@@ -100,8 +117,8 @@ pub fn make_under(
     lengths: &mut [u16],
     out: &mut [u8],
 ) -> HostResult
-    requires { ⌜ UnderTexts (now schema) compiled paths (columns (now numbers) (now names) (now parents) (now starts) (now lengths)) ⌝ }
-    ensures { λ r. ⌜ Exits (madeUnder (schemaIn (now (schema .entry))) (pathsIn paths) (now (journal .entry)) (sizesOf (columns (now (numbers .entry)) (now (names .entry)) (now (parents .entry)) (now (starts .entry)) (now (lengths .entry)))) (length (now (out .entry)))) (lentOf (columns (now (numbers .entry)) (now (names .entry)) (now (parents .entry)) (now (starts .entry)) (now (lengths .entry))) (now (out .entry)) []) r (columns (now (numbers .exit)) (now (names .exit)) (now (parents .exit)) (now (starts .exit)) (now (lengths .exit))) (now (out .exit)) [] ⌝ }
+    requires { ⌜ UnderTexts (now schema) compiled (lentPaths (now axes) (now tests) (now conditions) (now paths) total) (columns (now numbers) (now names) (now parents) (now starts) (now lengths)) ⌝ }
+    ensures { λ r. ⌜ Exits (madeUnder (schemaIn (now (schema .entry))) (pathsIn (lentPaths (now (axes .entry)) (now (tests .entry)) (now (conditions .entry)) (now (paths .entry)) total)) (now (journal .entry)) (sizesOf (columns (now (numbers .entry)) (now (names .entry)) (now (parents .entry)) (now (starts .entry)) (now (lengths .entry)))) (length (now (out .entry)))) (lentOf (columns (now (numbers .entry)) (now (names .entry)) (now (parents .entry)) (now (starts .entry)) (now (lengths .entry))) (now (out .entry)) []) r (columns (now (numbers .exit)) (now (names .exit)) (now (parents .exit)) (now (starts .exit)) (now (lengths .exit))) (now (out .exit)) [] ⌝ }
 {
     let verdict = read_compiled(
         schema,
@@ -120,7 +137,11 @@ pub fn make_under(
     }
     write_under(
         compiled,
+        axes,
+        tests,
+        conditions,
         paths,
+        total,
         journal,
         verdict.size,
         numbers,

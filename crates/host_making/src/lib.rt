@@ -71,7 +71,11 @@ pub fn make_extract(
     make_under(
         schema,
         texts.schema,
-        texts.paths,
+        &texts.paths.axes,
+        &texts.paths.tests,
+        &texts.paths.conditions,
+        &texts.paths.paths,
+        texts.paths.count,
         journal,
         numbers,
         names,

@@ -93,7 +93,11 @@ pub fn select_from(
     }
     choose_under(
         texts.schema,
-        texts.paths,
+        &texts.paths.axes,
+        &texts.paths.tests,
+        &texts.paths.conditions,
+        &texts.paths.paths,
+        texts.paths.count,
         place,
         extract,
         numbers,

@@ -1,8 +1,11 @@
 // The three files of a listing, read once: what is refused, or what the header and the lines are made of.
 ghost use mathlib.Core.Path.{_≡_};
+ghost use Rattle.compiled_paths.specs.Paths.{lentPaths};
 ghost use Rattle.listing_files.specs.Files.{refusedBy, RowsAsked, ListedRows, FilesLent, ListsAs};
 ghost use Rattle.table_spec.specs.Columns.{columns};
-use compiled_paths::CompiledPaths;
+use compiled_paths::CONDITION_STARTS;
+use compiled_paths::PATH_STARTS;
+use compiled_paths::STEPS;
 use compiled_schema::CompiledSchema;
 use first_paths::selected_count;
 use host_texts::judge_texts;
@@ -43,24 +46,46 @@ fn refused(number: u64, place: u64) -> Listed
 }
 
 // What is listed of the rows of a journal.
-fn list_rows(
+fn list_rows<'a>(
     schema: &[u8],
     compiled: CompiledSchema,
-    paths: CompiledPaths,
+    axes: &'a [u8; STEPS],
+    tests: &'a [u8; STEPS],
+    conditions: &'a [u16; CONDITION_STARTS],
+    paths: &'a [u8; PATH_STARTS],
+    total: usize,
     codes: &[u8],
     parents: &[u16],
     firsts: &mut [u8],
 ) -> Listed
-    requires { ⌜ RowsAsked (now schema) compiled paths (now codes) (now parents) (now firsts) ⌝ }
-    ensures { λ r. ⌜ ListedRows (now (schema .entry)) compiled paths (now (codes .entry)) (now (parents .entry)) (now (firsts .exit)) r ⌝ }
+    requires { ⌜ RowsAsked (now schema) compiled (lentPaths (now axes) (now tests) (now conditions) (now paths) total) (now codes) (now parents) (now firsts) ⌝ }
+    ensures { λ r. ⌜ ListedRows (now (schema .entry)) compiled (lentPaths (now (axes .entry)) (now (tests .entry)) (now (conditions .entry)) (now (paths .entry)) total) (now (codes .entry)) (now (parents .entry)) (now (firsts .exit)) r ⌝ }
 {
     let entries: Entries = compiled.entries;
     let holds: [NameSet; MAX_ELEMENTS] = entries.holds;
     let below: [NameSet; MAX_ELEMENTS] = compiled.below;
     let names = compiled.names;
-    let set = needed_set(compiled.count, holds, below, paths);
+    let set = needed_set(
+        compiled.count,
+        holds,
+        below,
+        axes,
+        tests,
+        conditions,
+        paths,
+        total,
+    );
     let kept = kept_count(set, codes, parents);
-    note_paths(paths, codes, parents, firsts);
+    note_paths(
+        axes,
+        tests,
+        conditions,
+        paths,
+        total,
+        codes,
+        parents,
+        firsts,
+    );
     let selected = selected_count(&firsts[..]);
     let mut sizes = [0usize; MAX_ELEMENTS];
     name_sizes(schema, &names, &mut sizes);
@@ -114,7 +139,11 @@ pub fn list_files(
     list_rows(
         schema,
         texts.schema,
-        texts.paths,
+        &texts.paths.axes,
+        &texts.paths.tests,
+        &texts.paths.conditions,
+        &texts.paths.paths,
+        texts.paths.count,
         &codes[..rows],
         &parents[..rows],
         &mut firsts[..rows],

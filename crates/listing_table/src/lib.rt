@@ -2,12 +2,14 @@
 // that selects each row. Scratch is local: a byte or two for each row.
 ghost use mathlib.Core.Path.{_≡_};
 ghost use lib.ListN.{length};
-ghost use Rattle.compiled_paths.specs.Paths.{pathsIn};
+ghost use Rattle.compiled_paths.specs.Paths.{lentPaths, pathsIn};
 ghost use Rattle.first_paths.specs.Firsts.{FirstPaths};
 ghost use Rattle.kept_rows.specs.Kept.{inSet, keptMarks};
 ghost use Rattle.kept_rows.specs.Joined.{rank};
 ghost use Rattle.listing_table.specs.Tables.{KeptAsked, PathsAsked};
-use compiled_paths::CompiledPaths;
+use compiled_paths::CONDITION_STARTS;
+use compiled_paths::PATH_STARTS;
+use compiled_paths::STEPS;
 use first_paths::first_paths;
 use kept_rows::NOT_KEPT;
 use kept_rows::number_kept;
@@ -24,10 +26,19 @@ pub fn kept_count(set: NameSet, codes: &[u8], parents: &[u16]) -> usize
     number_kept(set, codes, parents, &mut positions[..count]) as usize
 }
 
-// The first path that selects each row.
-pub fn note_paths(paths: CompiledPaths, codes: &[u8], parents: &[u16], firsts: &mut [u8])
-    requires { ⌜ PathsAsked paths (now codes) (now parents) (now firsts) ⌝ }
-    ensures { λ _. ⌜ FirstPaths (now (parents .entry)) (now (codes .entry)) (pathsIn paths) (now (firsts .exit)) ⌝ }
+// The first of `total` paths that selects each row.
+pub fn note_paths<'a>(
+    axes: &'a [u8; STEPS],
+    tests: &'a [u8; STEPS],
+    conditions: &'a [u16; CONDITION_STARTS],
+    paths: &'a [u8; PATH_STARTS],
+    total: usize,
+    codes: &[u8],
+    parents: &[u16],
+    firsts: &mut [u8],
+)
+    requires { ⌜ PathsAsked (lentPaths (now axes) (now tests) (now conditions) (now paths) total) (now codes) (now parents) (now firsts) ⌝ }
+    ensures { λ _. ⌜ FirstPaths (now (parents .entry)) (now (codes .entry)) (pathsIn (lentPaths (now (axes .entry)) (now (tests .entry)) (now (conditions .entry)) (now (paths .entry)) total)) (now (firsts .exit)) ⌝ }
 {
     let count = parents.len();
     if count == 0 {
@@ -38,7 +49,11 @@ pub fn note_paths(paths: CompiledPaths, codes: &[u8], parents: &[u16], firsts: &
     let mut steps = [0u8; LISTED_ROWS];
     let mut next = [0u8; LISTED_ROWS];
     first_paths(
+        axes,
+        tests,
+        conditions,
         paths,
+        total,
         parents,
         codes,
         firsts,

@@ -3,7 +3,7 @@ ghost use mathlib.Core.Path.{_≡_};
 ghost use Prim.Native.Nat.{_≤_};
 ghost use lib.ListN.{length};
 ghost use Rattle.compiled_paths.specs.Columns.{bundleIn};
-ghost use Rattle.compiled_paths.specs.Paths.{pathsIn, Shaped};
+ghost use Rattle.compiled_paths.specs.Paths.{lentPaths, pathsIn, Shaped};
 ghost use Rattle.needed_names.specs.Bundles.{HasPaths};
 ghost use Rattle.inference_spec.specs.Needed.{needed, neededWord};
 ghost use Rattle.schema_spec.specs.Schemas.{Schema};
@@ -11,7 +11,9 @@ ghost use Rattle.schema_spec.specs.Types.{typesOf};
 ghost use Rattle.text_spec.specs.Limits.{maxDeclarations};
 ghost use Rattle.type_steps.specs.Relations.{RelationsOf, NamesOf, Known, setIn};
 use back_steps::together;
-use compiled_paths::CompiledPaths;
+use compiled_paths::CONDITION_STARTS;
+use compiled_paths::PATH_STARTS;
+use compiled_paths::STEPS;
 use names::MAX_ELEMENTS;
 use names::NameSet;
 use needed_paths::path_needed;
@@ -52,58 +54,39 @@ fn paths_needed(
     }
 }
 
-// What the paths of a bundle need, among the names `all` of the schema.
-fn bundle_needed(
-    all: NameSet,
-    holds: [NameSet; MAX_ELEMENTS],
-    below: [NameSet; MAX_ELEMENTS],
-    bundle: CompiledPaths,
-) -> NameSet
-    requires { ⌜ Shaped bundle ⌝ }
-    ensures { λ r. ⌜ ((s : Schema) → RelationsOf s holds below → NamesOf s all → setIn s r ≡ needed (typesOf s) (pathsIn bundle)) ⌝ }
-{
-    let axes = bundle.axes;
-    let tests = bundle.tests;
-    let conditions = bundle.conditions;
-    let paths = bundle.paths;
-    paths_needed(
-        all,
-        holds,
-        below,
-        &axes,
-        &tests,
-        &conditions,
-        &paths,
-        0,
-        bundle.count,
-    )
-}
-
-// The names that a bundle needs, under a schema of `count` elements, as a set of names of the schema alone.
-pub fn needed_set(
+// The names that `total` paths need, under a schema of `count` elements, as a set of names of the schema alone.
+pub fn needed_set<'a>(
     count: usize,
     holds: [NameSet; MAX_ELEMENTS],
     below: [NameSet; MAX_ELEMENTS],
-    bundle: CompiledPaths,
+    axes: &'a [u8; STEPS],
+    tests: &'a [u8; STEPS],
+    conditions: &'a [u16; CONDITION_STARTS],
+    paths: &'a [u8; PATH_STARTS],
+    total: usize,
 ) -> NameSet
-    requires { ⌜ Shaped bundle × (count ≤ maxDeclarations) ⌝ }
-    ensures { λ r. ⌜ ((s : Schema) → RelationsOf s holds below → count ≡ length s → (setIn s r ≡ needed (typesOf s) (pathsIn bundle)) × Known s r) ⌝ }
+    requires { ⌜ Shaped (lentPaths (now axes) (now tests) (now conditions) (now paths) total) × (count ≤ maxDeclarations) ⌝ }
+    ensures { λ r. ⌜ ((s : Schema) → RelationsOf s holds below → count ≡ length s → (setIn s r ≡ needed (typesOf s) (pathsIn (lentPaths (now (axes .entry)) (now (tests .entry)) (now (conditions .entry)) (now (paths .entry)) total))) × Known s r) ⌝ }
 {
     let all = known_names::names_of(holds, count);
-    let whole = bundle_needed(all, holds, below, bundle);
+    let whole = paths_needed(all, holds, below, axes, tests, conditions, paths, 0, total);
     whole.common(all)
 }
 
-// The names that a bundle needs, as 64 bits.
-pub fn needed_word(
+// The same as 64 bits.
+pub fn needed_word<'a>(
     count: usize,
     holds: [NameSet; MAX_ELEMENTS],
     below: [NameSet; MAX_ELEMENTS],
-    bundle: CompiledPaths,
+    axes: &'a [u8; STEPS],
+    tests: &'a [u8; STEPS],
+    conditions: &'a [u16; CONDITION_STARTS],
+    paths: &'a [u8; PATH_STARTS],
+    total: usize,
 ) -> u64
-    requires { ⌜ Shaped bundle × (count ≤ maxDeclarations) ⌝ }
-    ensures { λ r. ⌜ ((s : Schema) → RelationsOf s holds below → count ≡ length s → r ≡ neededWord (typesOf s) (pathsIn bundle)) ⌝ }
+    requires { ⌜ Shaped (lentPaths (now axes) (now tests) (now conditions) (now paths) total) × (count ≤ maxDeclarations) ⌝ }
+    ensures { λ r. ⌜ ((s : Schema) → RelationsOf s holds below → count ≡ length s → r ≡ neededWord (typesOf s) (pathsIn (lentPaths (now (axes .entry)) (now (tests .entry)) (now (conditions .entry)) (now (paths .entry)) total))) ⌝ }
 {
-    let set = needed_set(count, holds, below, bundle);
+    let set = needed_set(count, holds, below, axes, tests, conditions, paths, total);
     set.to_word()
 }

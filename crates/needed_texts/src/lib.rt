@@ -16,5 +16,14 @@ pub fn needed_by_texts(schema: &[u8], text: &[u8]) -> u64
     let below: [NameSet; MAX_ELEMENTS] = compiled.below;
     let judged = bundle_judging::judge_bundle(schema, &names[..count], text);
     let paths = judged.paths;
-    needed_names::needed_word(count, holds, below, paths)
+    needed_names::needed_word(
+        count,
+        holds,
+        below,
+        &paths.axes,
+        &paths.tests,
+        &paths.conditions,
+        &paths.paths,
+        paths.count,
+    )
 }

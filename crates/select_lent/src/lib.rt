@@ -1,13 +1,15 @@
 // The numbers that the paths asked for select on a table that is handed in, beside its text: refusal 1 of the place and of the table, 18 last.
 ghost use lib.ListN.{length};
-ghost use Rattle.compiled_paths.specs.Paths.{Shaped, pathsIn};
+ghost use Rattle.compiled_paths.specs.Paths.{Shaped, lentPaths, pathsIn};
 ghost use Rattle.schema_spec.specs.Schemas.{Schema};
 ghost use Rattle.schema_spec.specs.Types.{typesOf};
 ghost use Rattle.select_lent.specs.Lent.{SomeSchema, lentSelected};
 ghost use Rattle.selected_answers.specs.Answers.{AnsweredAs};
 ghost use Rattle.table_passes.specs.Codes.{HeldWords};
 ghost use Rattle.tables.specs.Handed.{lentTable};
-use compiled_paths::CompiledPaths;
+use compiled_paths::CONDITION_STARTS;
+use compiled_paths::PATH_STARTS;
+use compiled_paths::STEPS;
 use names::MAX_ELEMENTS;
 use select_table::select_table;
 use selected_answers::Selected;
@@ -15,9 +17,13 @@ use selected_answers::refused;
 use tables::is_table_beside;
 use verdicts::BAD_RECORD;
 
-// Selects by compiled paths; `words` has for each element of the schema the names that it holds.
-pub fn select_lent(
-    paths: CompiledPaths,
+// Selects by compiled paths, `total` of them; `words` has for each element of the schema the names that it holds.
+pub fn select_lent<'a>(
+    axes: &'a [u8; STEPS],
+    tests: &'a [u8; STEPS],
+    conditions: &'a [u16; CONDITION_STARTS],
+    paths: &'a [u8; PATH_STARTS],
+    total: usize,
     words: &[u64; MAX_ELEMENTS],
     place: usize,
     numbers: &[u16],
@@ -30,17 +36,21 @@ pub fn select_lent(
     items: &mut [u16],
     counts: &mut [u32],
 ) -> Selected
-    requires { ⌜ Shaped paths × SomeSchema (now words) ⌝ }
-    ensures { λ r. ⌜ ((s : Schema) → HeldWords (typesOf s) (now (words .entry)) → AnsweredAs (lentSelected s (pathsIn paths) place (lentTable (now (numbers .entry)) (now (codes .entry)) (now (parents .entry)) (now (starts .entry)) (now (lengths .entry)) count) (now (lent .entry)) (length (now (items .entry))) (length (now (counts .entry)))) (length (now (items .entry))) (length (now (counts .entry))) r (now (items .exit)) (now (counts .exit))) ⌝ }
+    requires { ⌜ Shaped (lentPaths (now axes) (now tests) (now conditions) (now paths) total) × SomeSchema (now words) ⌝ }
+    ensures { λ r. ⌜ ((s : Schema) → HeldWords (typesOf s) (now (words .entry)) → AnsweredAs (lentSelected s (pathsIn (lentPaths (now (axes .entry)) (now (tests .entry)) (now (conditions .entry)) (now (paths .entry)) total)) place (lentTable (now (numbers .entry)) (now (codes .entry)) (now (parents .entry)) (now (starts .entry)) (now (lengths .entry)) count) (now (lent .entry)) (length (now (items .entry))) (length (now (counts .entry)))) (length (now (items .entry))) (length (now (counts .entry))) r (now (items .exit)) (now (counts .exit))) ⌝ }
 {
-    if paths.count < place {
+    if total < place {
         return refused(BAD_RECORD, 0, items, counts);
     }
     if !is_table_beside(numbers, codes, parents, starts, lengths, count, words, lent) {
         return refused(BAD_RECORD, 0, items, counts);
     }
     select_table(
+        axes,
+        tests,
+        conditions,
         paths,
+        total,
         place,
         &numbers[..count],
         &codes[..count],

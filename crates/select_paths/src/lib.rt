@@ -1,6 +1,9 @@
 // The numbers that compiled paths select on a table in columns, joined and counted, in lent cells.
+ghost use Rattle.compiled_paths.specs.Paths.{lentPaths};
 ghost use Rattle.select_paths.specs.Joined.{AllPass, JoinedAs};
-use compiled_paths::CompiledPaths;
+use compiled_paths::CONDITION_STARTS;
+use compiled_paths::PATH_STARTS;
+use compiled_paths::STEPS;
 use row_numbers::clear_counts_from;
 use row_numbers::clear_from;
 use row_numbers::put_count;
@@ -8,8 +11,11 @@ use select::select_one;
 
 // Writes the numbers that the paths from `first` to before `end` select, joined, and how many each selects; past them zeros. Gives how many
 // numbers they are: more than there are cells where the room is too small.
-pub fn select_paths(
-    paths: CompiledPaths,
+pub fn select_paths<'a>(
+    axes: &'a [u8; STEPS],
+    tests: &'a [u8; STEPS],
+    conditions: &'a [u16; CONDITION_STARTS],
+    paths: &'a [u8; PATH_STARTS],
     first: usize,
     end: usize,
     numbers: &[u16],
@@ -22,8 +28,8 @@ pub fn select_paths(
     steps: &mut [u8],
     next: &mut [u8],
 ) -> usize
-    requires { ⌜ AllPass paths first end (now numbers) (now codes) (now parents) (now marks) (now held) (now steps) (now next) ⌝ }
-    ensures { λ n. ⌜ JoinedAs paths first end (now (numbers .entry)) (now (codes .entry)) (now (parents .entry)) (now (items .entry)) (now (counts .entry)) n (now (items .exit)) (now (counts .exit)) ⌝ }
+    requires { ⌜ AllPass (lentPaths (now axes) (now tests) (now conditions) (now paths) end) first end (now numbers) (now codes) (now parents) (now marks) (now held) (now steps) (now next) ⌝ }
+    ensures { λ n. ⌜ JoinedAs (lentPaths (now (axes .entry)) (now (tests .entry)) (now (conditions .entry)) (now (paths .entry)) end) first end (now (numbers .entry)) (now (codes .entry)) (now (parents .entry)) (now (items .entry)) (now (counts .entry)) n (now (items .exit)) (now (counts .exit)) ⌝ }
 {
     let mut n: usize = 0;
     let mut i = first;
@@ -32,10 +38,10 @@ pub fn select_paths(
             numbers,
             codes,
             parents,
-            &paths.axes,
-            &paths.tests,
-            &paths.conditions,
-            &paths.paths,
+            axes,
+            tests,
+            conditions,
+            paths,
             i,
             items,
             n,

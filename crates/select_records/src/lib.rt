@@ -46,7 +46,11 @@ fn select_texts(
     let judged = bundle_judging::judge_bundle(schema, &names[..elements], text);
     let paths = judged.paths;
     select_lent(
-        paths,
+        &paths.axes,
+        &paths.tests,
+        &paths.conditions,
+        &paths.paths,
+        paths.count,
         &words,
         place,
         numbers,

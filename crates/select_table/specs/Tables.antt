@@ -8,7 +8,7 @@ use lib.ListN.{length, take, replicate, length-map, length-replicate}
 use lib.Seq.{length-take-le}
 use Rattle.asked_paths.specs.Ranges.{pastAsked, asked-order}
 use Rattle.compiled_paths.specs.Columns.{bundleIn}
-use Rattle.compiled_paths.specs.Paths.{Shaped, pathsIn}
+use Rattle.compiled_paths.specs.Paths.{Shaped, lentPaths, pathsIn}
 use Rattle.compiled_paths.specs.declared.CompiledPaths.{CompiledPaths}
 use Rattle.library_spec.specs.Selections.{askedPaths, Selections, selections}
 use Rattle.marks.specs.Selection.{parentsOf, numbersOf}
@@ -50,6 +50,10 @@ pub record AskedPass (c : CompiledPaths) (place : ℕ) (numbers codes ps m held 
   pub scratch : Scratch ps held steps next
 
 -- ---- laws
+-- the paths before `end`
+abbrev upTo : ℕ → CompiledPaths → CompiledPaths
+upTo end c = lentPaths (c .axes) (c .tests) (c .conditions) (c .paths) end
+
 paths-long : (c : CompiledPaths) (n i : ℕ) → length (pathsFrom c n i) ≡ n
 unfolding bundleIn
 paths-long c zero i = refl
@@ -85,10 +89,11 @@ padded-again n cells xs e = e ∙ ap (λ (k : ℕ). padded k xs) (sym (ap length
 
 module _ (c : CompiledPaths) (place : ℕ) (numbers codes ps : List ℕ) where
   pub asked-pass : (m held steps next : List ℕ) → AskedPass c place numbers codes ps m held steps next → (first end : ℕ) → first ≡ place - 1 → end ≡ pastAsked place (c .count)
-      → AllPass c first end numbers codes ps m held steps next
+      → AllPass (upTo end c) first end numbers codes ps m held steps next
   asked-pass m held steps next h first end d e =
       let o = asked-order place (c .count) first end (h .inside) d e in
-      record { shaped = h .shaped; order = o .0; inside = o .1; columns = h .columns; room = h .room; scratch = h .scratch }
+      let few : Shaped (upTo end c) = record { few = omega (arith, o .1, h .shaped .few); paths-in = h .shaped .paths-in; conditions-in = h .shaped .conditions-in } in
+      record { shaped = few; order = o .0; inside = omega arith; columns = h .columns; room = h .room; scratch = h .scratch }
 
   -- what is written is what the definition selects
   module _ (l : place ≤ c .count) (first end : ℕ) (d : first ≡ place - 1) (e : end ≡ pastAsked place (c .count)) (s : Types) (text : List ℕ) (rows : List Row) (w : RowsIn s rows numbers codes ps) where
@@ -98,17 +103,17 @@ module _ (c : CompiledPaths) (place : ℕ) (numbers codes ps : List ℕ) where
     range : pathsFrom c (end - first) first ≡ asked
     range = rw (d, e) (asked-paths c place l)
 
-    same-items : itemsOf c numbers codes ps (end - first) first ≡ selections text rows asked .items
+    same-items : itemsOf (upTo end c) numbers codes ps (end - first) first ≡ selections text rows asked .items
     same-items =
-        let at = items-selected s text rows (w .well-formed) (w .coded) c (end - first) first asked range in
+        let at = items-selected s text rows (w .well-formed) (w .coded) (upTo end c) (end - first) first asked range in
         rw (w .numbered, w .named, w .parented) at
 
-    same-counts : countsOf c numbers codes ps (end - first) first ≡ selections text rows asked .counts
+    same-counts : countsOf (upTo end c) numbers codes ps (end - first) first ≡ selections text rows asked .counts
     same-counts =
-        let at = counts-of-selected s text rows (w .well-formed) (w .coded) c (end - first) first asked range in
+        let at = counts-of-selected s text rows (w .well-formed) (w .coded) (upTo end c) (end - first) first asked range in
         rw (w .numbered, w .named, w .parented) at
 
-    module _ (items₀ counts₀ : List ℕ) (n : ℕ) (items counts : List ℕ) (j : JoinedAs c first end numbers codes ps items₀ counts₀ n items counts) where
+    module _ (items₀ counts₀ : List ℕ) (n : ℕ) (items counts : List ℕ) (j : JoinedAs (upTo end c) first end numbers codes ps items₀ counts₀ n items counts) where
       asked-written : Written (selections text rows asked) n (end - first) items counts
       asked-written =
           record {

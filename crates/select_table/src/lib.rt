@@ -2,7 +2,7 @@
 ghost use mathlib.Core.List.{List};
 ghost use Prim.Native.Nat.{ℕ, _≤_};
 ghost use lib.ListN.{length};
-ghost use Rattle.compiled_paths.specs.Paths.{Shaped, pathsIn};
+ghost use Rattle.compiled_paths.specs.Paths.{Shaped, lentPaths, pathsIn};
 ghost use Rattle.schema_spec.specs.Types.{Types};
 ghost use Rattle.select.specs.Paths.{Columns};
 ghost use Rattle.select_table.specs.Tables.{AskedPass, RowsIn, rowsSelected};
@@ -10,15 +10,21 @@ ghost use Rattle.selected_answers.specs.Answers.{AnsweredAs};
 ghost use Rattle.table_spec.specs.Rows.{Row};
 use asked_paths::first_asked;
 use asked_paths::past_asked;
-use compiled_paths::CompiledPaths;
+use compiled_paths::CONDITION_STARTS;
+use compiled_paths::PATH_STARTS;
+use compiled_paths::STEPS;
 use limits::MAX_NODES;
 use select_paths::select_paths;
 use selected_answers::Selected;
 use selected_answers::in_room;
 
 // Selects with lent scratch, a byte for each row in each of `marks`, `held`, `steps` and `next`.
-fn select_into(
-    paths: CompiledPaths,
+fn select_into<'a>(
+    axes: &'a [u8; STEPS],
+    tests: &'a [u8; STEPS],
+    conditions: &'a [u16; CONDITION_STARTS],
+    paths: &'a [u8; PATH_STARTS],
+    count: usize,
     place: usize,
     numbers: &[u16],
     codes: &[u8],
@@ -30,12 +36,15 @@ fn select_into(
     steps: &mut [u8],
     next: &mut [u8],
 ) -> Selected
-    requires { ⌜ AskedPass paths place (now numbers) (now codes) (now parents) (now marks) (now held) (now steps) (now next) ⌝ }
-    ensures { λ r. ⌜ ((s : Types) (text : List ℕ) (rows : List Row) → RowsIn s rows (now (numbers .entry)) (now (codes .entry)) (now (parents .entry)) → AnsweredAs (rowsSelected text rows place (pathsIn paths) (length (now (items .entry))) (length (now (counts .entry)))) (length (now (items .entry))) (length (now (counts .entry))) r (now (items .exit)) (now (counts .exit))) ⌝ }
+    requires { ⌜ AskedPass (lentPaths (now axes) (now tests) (now conditions) (now paths) count) place (now numbers) (now codes) (now parents) (now marks) (now held) (now steps) (now next) ⌝ }
+    ensures { λ r. ⌜ ((s : Types) (text : List ℕ) (rows : List Row) → RowsIn s rows (now (numbers .entry)) (now (codes .entry)) (now (parents .entry)) → AnsweredAs (rowsSelected text rows place (pathsIn (lentPaths (now (axes .entry)) (now (tests .entry)) (now (conditions .entry)) (now (paths .entry)) count)) (length (now (items .entry))) (length (now (counts .entry)))) (length (now (items .entry))) (length (now (counts .entry))) r (now (items .exit)) (now (counts .exit))) ⌝ }
 {
     let first = first_asked(place);
-    let end = past_asked(place, paths.count);
+    let end = past_asked(place, count);
     let n = select_paths(
+        axes,
+        tests,
+        conditions,
         paths,
         first,
         end,
@@ -53,8 +62,12 @@ fn select_into(
 }
 
 // The same with scratch of its own: four bytes for each row that there can be, 262,140 in all.
-pub fn select_table(
-    paths: CompiledPaths,
+pub fn select_table<'a>(
+    axes: &'a [u8; STEPS],
+    tests: &'a [u8; STEPS],
+    conditions: &'a [u16; CONDITION_STARTS],
+    paths: &'a [u8; PATH_STARTS],
+    count: usize,
     place: usize,
     numbers: &[u16],
     codes: &[u8],
@@ -62,8 +75,8 @@ pub fn select_table(
     items: &mut [u16],
     counts: &mut [u32],
 ) -> Selected
-    requires { ⌜ Shaped paths × (place ≤ paths .count) × Columns (now numbers) (now codes) (now parents) ⌝ }
-    ensures { λ r. ⌜ ((s : Types) (text : List ℕ) (rows : List Row) → RowsIn s rows (now (numbers .entry)) (now (codes .entry)) (now (parents .entry)) → AnsweredAs (rowsSelected text rows place (pathsIn paths) (length (now (items .entry))) (length (now (counts .entry)))) (length (now (items .entry))) (length (now (counts .entry))) r (now (items .exit)) (now (counts .exit))) ⌝ }
+    requires { ⌜ Shaped (lentPaths (now axes) (now tests) (now conditions) (now paths) count) × (place ≤ count) × Columns (now numbers) (now codes) (now parents) ⌝ }
+    ensures { λ r. ⌜ ((s : Types) (text : List ℕ) (rows : List Row) → RowsIn s rows (now (numbers .entry)) (now (codes .entry)) (now (parents .entry)) → AnsweredAs (rowsSelected text rows place (pathsIn (lentPaths (now (axes .entry)) (now (tests .entry)) (now (conditions .entry)) (now (paths .entry)) count)) (length (now (items .entry))) (length (now (counts .entry)))) (length (now (items .entry))) (length (now (counts .entry))) r (now (items .exit)) (now (counts .exit))) ⌝ }
 {
     let mut marks = [0u8; MAX_NODES];
     let mut held = [0u8; MAX_NODES];
@@ -71,7 +84,11 @@ pub fn select_table(
     let mut next = [0u8; MAX_NODES];
     let rows = parents.len();
     select_into(
+        axes,
+        tests,
+        conditions,
         paths,
+        count,
         place,
         numbers,
         codes,

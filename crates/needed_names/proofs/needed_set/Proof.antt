@@ -1,18 +1,39 @@
 -- `needed_names::needed_set` meets its contract.
-use mathlib.Core.Path.{_∙_}
+use denote.Ref.{now}
+use mathlib.Core.Path.{_≡_, _∙_}
+use Prim.Native.Nat.{_+_}
 use borrow.Author.Needs.{needs}
+use lib.ListN.{length}
+use Rattle.compiled_paths.specs.Paths.{pathsIn}
+use Rattle.compiled_paths.specs.Sizes.{writtenSteps, allSteps}
+use Rattle.needed_names.specs.Words.{shaped-paths}
+use Rattle.text_spec.specs.Limits.{maxPaths}
 use Rattle.type_steps.specs.Laws.{common-known, common-setIn}
 use Rattle.needed_names.proofs.needed_set.Statement.{statement}
 use Rattle.needed_names.proofs.needed_set.Tie as tie
 
+-- the states that answers go back to
+abbrev all-before : tie.After-paths-needed-arg4 → tie.After-names-of
+all-before c = c .before .before .before .before
+
+paths-needed-requires : tie.Need-paths-needed-requires
+paths-needed-requires c κs =
+    let start = all-before c .before in
+    let axes : length (now (start .args .axes)) ≡ allSteps = search needs in
+    let tests : length (now (start .args .tests)) ≡ allSteps = search needs in
+    let conditions : length (now (start .args .conditions)) ≡ writtenSteps + 1 = search needs in
+    let paths : length (now (start .args .paths)) ≡ maxPaths + 1 = search needs in
+    shaped-paths _ (start .pre .0) (record { axes-size = axes; tests-size = tests; conditions-size = conditions; paths-size = paths })
+
 returns : tie.Need-returns
+unfolding pathsIn
 returns c = λ s k e.
-    let all = c .before .before .names-of in
-    let whole = c .before .bundle-needed in
+    let all = all-before (c .before .before) .names-of in
+    let whole = c .before .paths-needed in
     let named = all .ensures s (k .holding) e in (
       common-setIn s (all .result) (whole .result) (c .common .result) named (c .common .ensures) ∙ whole .ensures s k named,
       common-known s (all .result) (whole .result) (c .common .result) named (c .common .ensures),
     )
 
 pub needed-set-spec : {M : Type 1} → statement M
-needed-set-spec = tie.close (tie.spec (λ c κs. search needs) (λ c κs. search needs) (λ c κs. search needs) returns)
+needed-set-spec = tie.close (tie.spec (λ c κs. search needs) paths-needed-requires (λ c κs. search needs) returns)

@@ -13,7 +13,7 @@ unfolding neededWord typesOf
 returns c = λ s k e.
     let set = c .before .needed-set in
     let is = set .ensures s k e in
-    c .to-word .ensures ∙ word-of-known s (k .small) (set .result) (needed (typesOf s) (pathsIn (c .before .before .args .bundle))) (is .1) (is .0)
+    c .to-word .ensures ∙ word-of-known s (k .small) (set .result) _ (is .1) (is .0)
 
 pub needed-word-spec : {M : Type 1} → statement M
 needed-word-spec = tie.close (tie.spec (λ c κs. search needs) (λ c κs. search needs) returns)

@@ -1,4 +1,5 @@
 use Prim.Native.Nat.{_-_}
+use Rattle.compiled_paths.specs.Paths.{lentPaths}
 use Rattle.select_paths.specs.Joined.{PathsSoFar, paths-begun, paths-one, one-fits, paths-next, paths-all}
 use borrow.Author.Needs.{needs}
 use native.Mathlib.Omega.{arith}
@@ -6,15 +7,15 @@ use Rattle.select_paths.proofs.select_paths.Statement.{statement}
 use Rattle.select_paths.proofs.select_paths.Tie as tie
 
 abbrev Inv-loop : tie.InvT-loop
-Inv-loop first end numbers codes parents items₀ counts₀ marks₀ held₀ steps₀ next₀ paths n₀ i₀ items counts marks held steps next n i =
-    PathsSoFar paths first end numbers codes parents items₀ counts₀ i n items counts marks held steps next
+Inv-loop axes tests conditions paths first end numbers codes parents items₀ counts₀ marks₀ held₀ steps₀ next₀ n₀ i₀ items counts marks held steps next n i =
+    PathsSoFar (lentPaths axes tests conditions paths end) first end numbers codes parents items₀ counts₀ i n items counts marks held steps next
 
 abbrev μ-loop : tie.MeasureT-loop
-μ-loop first end numbers codes parents items₀ counts₀ marks₀ held₀ steps₀ next₀ paths n₀ i₀ items counts marks held steps next n i = end - i
+μ-loop axes tests conditions paths first end numbers codes parents items₀ counts₀ marks₀ held₀ steps₀ next₀ n₀ i₀ items counts marks held steps next n i = end - i
 
 -- the states that answers go back to
 abbrev in-loop-before : tie.After-select-one Inv-loop μ-loop → tie.In-loop Inv-loop μ-loop
-in-loop-before c = c .before .before .before .before .before .before .before .before .before .before .before
+in-loop-before c = c .before .before .before .before .before .before
 
 abbrev clear-from-before : tie.After-slice-known14 Inv-loop μ-loop → tie.After-clear-from Inv-loop μ-loop
 clear-from-before c = c .before .before .before .before .before .before
@@ -36,7 +37,7 @@ loop-holds c = paths-begun _ _ _ _ _ _ _ _ _ _ _ _ ((start-before c) .pre)
 
 select-one-requires : tie.Need-select-one-requires Inv-loop μ-loop
 select-one-requires c κs =
-    let turn = c .before .before .before .before .before .before .before .before .before .before .before in
+    let turn = c .before .before .before .before .before .before in
     let at = turn .loop in
     paths-one _ _ _ _ _ _ _ _ (at .i) (at .n) (at .items) (at .counts) (at .marks) (at .held) (at .steps) (at .next) (at .inv) _ _ _ _
     ((start-before-2 turn) .pre) (omega arith)
