@@ -15,15 +15,14 @@ pub fn needed_by_texts(schema: &[u8], text: &[u8]) -> u64
     let holds: [NameSet; MAX_ELEMENTS] = entries.holds;
     let below: [NameSet; MAX_ELEMENTS] = compiled.below;
     let judged = bundle_judging::judge_bundle(schema, &names[..count], text);
-    let paths = judged.paths;
     needed_names::needed_word(
         count,
         holds,
         below,
-        &paths.axes,
-        &paths.tests,
-        &paths.conditions,
-        &paths.paths,
-        paths.count,
+        &judged.paths.axes,
+        &judged.paths.tests,
+        &judged.paths.conditions,
+        &judged.paths.paths,
+        judged.paths.count,
     )
 }

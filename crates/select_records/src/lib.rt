@@ -44,13 +44,12 @@ fn select_texts(
     let holds: [NameSet; MAX_ELEMENTS] = entries.holds;
     let words = held_words::held_words(holds);
     let judged = bundle_judging::judge_bundle(schema, &names[..elements], text);
-    let paths = judged.paths;
     select_lent(
-        &paths.axes,
-        &paths.tests,
-        &paths.conditions,
-        &paths.paths,
-        paths.count,
+        &judged.paths.axes,
+        &judged.paths.tests,
+        &judged.paths.conditions,
+        &judged.paths.paths,
+        judged.paths.count,
         &words,
         place,
         numbers,

@@ -3,14 +3,10 @@ use borrow.Author.Needs.{needs}
 use native.Mathlib.Omega.{arith}
 use Rattle.first_paths.proofs.count_of.Statement.{statement}
 use Rattle.first_paths.proofs.count_of.Tie as tie
-use Rattle.first_paths.proofs.count_of.Reads as reads
-use Rattle.first_paths.proofs.count_of.Lts as lts
 
--- src/lib.rt:69:9
 returns : tie.Need-returns
 returns c = count-none _ (c .if1 .taken)
 
--- src/lib.rt:65:1
 returns-2 : tie.Need-returns-2
 returns-2 c = count-one _ (c .if1 .left)
 

@@ -3,18 +3,13 @@ use borrow.Author.Needs.{needs}
 use native.Mathlib.Omega.{arith}
 use Rattle.first_paths.proofs.first_of.Statement.{statement}
 use Rattle.first_paths.proofs.first_of.Tie as tie
-use Rattle.first_paths.proofs.first_of.Reads as reads
-use Rattle.first_paths.proofs.first_of.Lts as lts
 
--- src/lib.rt:20:9
 returns : tie.Need-returns
 returns c = simp (ne-eqb _ _ (c .if1 .taken))
 
--- src/lib.rt:23:9
 returns-2 : tie.Need-returns-2
 returns-2 c = simp (eq-eqb _ _ (c .before .if1 .left), ne-eqb _ _ (c .if2 .taken))
 
--- src/lib.rt:16:1
 returns-3 : tie.Need-returns-3
 returns-3 c = simp (eq-eqb _ _ (c .before .if1 .left), eq-eqb _ _ (c .if2 .left))
 

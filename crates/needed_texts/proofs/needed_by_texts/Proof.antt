@@ -6,29 +6,31 @@ use Rattle.needed_texts.proofs.needed_by_texts.Statement.{statement}
 use Rattle.needed_texts.proofs.needed_by_texts.Tie as tie
 
 -- the states that answers go back to
-abbrev compile-before : tie.After-paths → tie.After-compile
-compile-before c = c .before .before .before .before .before .before .before
+abbrev judged-before : tie.After-needed-word-arg4 → tie.After-judge-bundle
+judged-before c = c .before .before .before .before .before
 
-abbrev compile-before-2 : tie.After-needed-word → tie.After-compile
-compile-before-2 c = compile-before (c .before)
+abbrev compile-before : tie.After-names2 → tie.After-compile
+compile-before c = c .before .before .before .before .before
 
 array-share-prefix-names : tie.Need-array-share-prefix-names
 array-share-prefix-names c = names-inside _ _ (c .before .before .before .before .compile .ensures)
 
 slice-aggregate-judge-bundle : tie.Need-slice-aggregate-judge-bundle
-slice-aggregate-judge-bundle c = names-taken _ _ (c .before .before .before .before .before .compile .ensures)
+slice-aggregate-judge-bundle c = names-taken _ _ (compile-before c .compile .ensures)
 
 judge-bundle-requires : tie.Need-judge-bundle-requires
-judge-bundle-requires c κs = names-few _ _ (c .before .before .before .before .before .compile .ensures)
+judge-bundle-requires c κs = names-few _ _ (compile-before c .compile .ensures)
 
 needed-word-requires : tie.Need-needed-word-requires
 needed-word-requires c κs =
-    let after-compile = compile-before c in
-    (judged-shaped _ _ _ (after-compile .compile .ensures) _ (c .before .judge-bundle .ensures), compiled-few _ _ (after-compile .compile .ensures))
+    let judged = judged-before c in
+    let made = compile-before (judged .before) .compile .ensures in
+    (judged-shaped _ _ _ made _ (judged .judge-bundle .ensures), compiled-few _ _ made)
 
 returns : tie.Need-returns
 returns c =
-    judged-needed _ _ _ ((compile-before-2 c) .compile .ensures) _ (c .before .before .judge-bundle .ensures) _ (c .needed-word .ensures)
+    let judged = judged-before (c .before) in
+    judged-needed _ _ _ (compile-before (judged .before) .compile .ensures) _ (judged .judge-bundle .ensures) _ (c .needed-word .ensures)
 
 pub needed-by-texts-spec : {M : Type 1} → statement M
 needed-by-texts-spec =

@@ -10,6 +10,9 @@ use Rattle.select_records.proofs.select_texts.Tie as tie
 abbrev compile-before : tie.After-held-words → tie.After-compile
 compile-before c = c .before .before .before .before
 
+abbrev judged-before : tie.After-select-lent-arg6 → tie.After-judge-bundle
+judged-before c = c .before .before .before .before .before .before .before .before
+
 array-share-prefix-names : tie.Need-array-share-prefix-names
 array-share-prefix-names c = names-inside _ _ (compile-before c .compile .ensures)
 
@@ -21,7 +24,7 @@ judge-bundle-requires c κs = names-few _ _ (compile-before (c .before) .compile
 
 select-lent-requires : tie.Need-select-lent-requires
 select-lent-requires c κs =
-    let judged = c .before .before .before .before in
+    let judged = judged-before c in
     let words = judged .before .before in
     let made = compile-before words .compile .ensures in
     (judged-shaped _ _ _ made _ (judged .judge-bundle .ensures), some-schema _ _ made _ (words .held-words .ensures))
@@ -29,7 +32,7 @@ select-lent-requires c κs =
 returns : tie.Need-returns
 returns c =
     let answered = c .before .before .before .before in
-    let judged = answered .before .before .before .before .before in
+    let judged = judged-before (answered .before) in
     let words = judged .before .before in
     texts-selected _ _ (compile-before words .compile .ensures) _ (words .held-words .ensures) _ _ (judged .judge-bundle .ensures) _ _ _ _ _ _ _ _ (answered .select-lent .ensures)
 
