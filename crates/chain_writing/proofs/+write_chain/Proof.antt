@@ -23,7 +23,6 @@ abbrev write-chain-below : ℕ → In 6 write-chain-kinds.ps
 write-chain-below t =
     and 6 write-chain-kinds.ps (falls 6 write-chain-kinds.ps _<_ μ-write-chain t) write-chain.Pre
 
--- src/lib.rt:87:46
 write-chain-shared-slice-read-put-link : (t : ℕ) → write-chain-lts.Need-shared-slice-read-put-link (
   put-link-reads.Asked,
   put-link-reads.Learnt,
@@ -34,7 +33,6 @@ write-chain-shared-slice-read-put-link t c =
     let start = c .before .before .before .before .before .before .before .before in
     omega (arith, start .pre .1 .table .size, start .pre .1 .table .within)
 
--- src/lib.rt:87:9
 write-chain-put-link-requires : (t : ℕ) → write-chain-lts.Need-put-link-requires (
   put-link-reads.Asked,
   put-link-reads.Learnt,
@@ -45,7 +43,6 @@ write-chain-put-link-requires t c κs =
     let start = c .before .before .before .before .before .before .before .before .before in
     pass-root _ _ _ _ _ _ _ (start .pre .1) (c .before .before .if1 .taken)
 
--- src/lib.rt:87:9
 write-chain-same-length : (t : ℕ) → write-chain-lts.Need-same-length (
   put-link-reads.Asked,
   put-link-reads.Learnt,
@@ -54,7 +51,6 @@ write-chain-same-length : (t : ℕ) → write-chain-lts.Need-same-length (
 ) (write-chain-at t) write-chain.Post
 write-chain-same-length t c = c .before .before .put-link .kept .1 .1 .1 .1 .0
 
--- src/lib.rt:87:9
 write-chain-returns : (t : ℕ) → write-chain-lts.Need-returns (
   put-link-reads.Asked,
   put-link-reads.Learnt,
@@ -65,7 +61,6 @@ write-chain-returns t c =
     let start = c .before .before .before .before .before .before .before .before .before .before .before .before in
     chained-root _ _ _ _ _ _ _ (start .pre .1) _ _ (c .before .before .before .before .before .if1 .taken) (c .before .before .put-link .ensures .0) (c .before .before .put-link .ensures .1)
 
--- src/lib.rt:89:14
 write-chain-mul-up : (t : ℕ) → write-chain-lts.Need-mul-up (
   put-link-reads.Asked,
   put-link-reads.Learnt,
@@ -74,7 +69,6 @@ write-chain-mul-up : (t : ℕ) → write-chain-lts.Need-mul-up (
 ) (write-chain-at t) write-chain.Post
 write-chain-mul-up t c = search needs
 
--- src/lib.rt:89:14
 write-chain-shared-slice-read-up : (t : ℕ) → write-chain-lts.Need-shared-slice-read-up (
   put-link-reads.Asked,
   put-link-reads.Learnt,
@@ -83,7 +77,6 @@ write-chain-shared-slice-read-up : (t : ℕ) → write-chain-lts.Need-shared-sli
 ) (write-chain-at t) write-chain.Post
 write-chain-shared-slice-read-up t c = search needs
 
--- src/lib.rt:89:14
 write-chain-cast-up : (t : ℕ) → write-chain-lts.Need-cast-up (
   put-link-reads.Asked,
   put-link-reads.Learnt,
@@ -94,7 +87,6 @@ write-chain-cast-up t c =
     let start = c .before .before .before .before .before .before .before .before in
     omega (arith, c .shared-slice-known7 .given (start .args .row))
 
--- src/lib.rt:90:9
 write-chain-write-chain-requires : (t : ℕ) → write-chain-lts.Need-write-chain-requires (
   put-link-reads.Asked,
   put-link-reads.Learnt,
@@ -105,7 +97,6 @@ write-chain-write-chain-requires t c κs =
     let start = c .before .before .before .before .before .before .before .before .before in
     (pass-falls _ _ _ _ _ _ _ (start .pre .1) (c .before .before .if1 .left) _ (start .pre .0), pass-up _ _ _ _ _ _ _ (start .pre .1) (c .before .before .if1 .left))
 
--- src/lib.rt:91:35
 write-chain-shared-slice-read-put-link-2 :
     (t : ℕ) → write-chain-lts.Need-shared-slice-read-put-link-2 (
       put-link-reads.Asked,
@@ -117,7 +108,6 @@ write-chain-shared-slice-read-put-link-2 t c =
     let start = c .before .before .before .before .before .before .before .before .before .before .before .before .before in
     omega (arith, start .pre .1 .table .size, start .pre .1 .table .within)
 
--- src/lib.rt:91:5
 write-chain-put-link-requires-2 : (t : ℕ) → write-chain-lts.Need-put-link-requires-2 (
   put-link-reads.Asked,
   put-link-reads.Learnt,
@@ -128,7 +118,6 @@ write-chain-put-link-requires-2 t c κs =
     let start = c .before .before .before .before .before .before .before .before .before .before .before .before .before .before in
     pass-link _ _ _ _ _ _ _ (start .pre .1) _ _ (c .before .before .before .before .before .before .before .if1 .left) (c .before .before .before .before .write-chain .ensures)
 
--- src/lib.rt:74:1
 write-chain-same-length-2 : (t : ℕ) → write-chain-lts.Need-same-length-2 (
   put-link-reads.Asked,
   put-link-reads.Learnt,
@@ -137,7 +126,6 @@ write-chain-same-length-2 : (t : ℕ) → write-chain-lts.Need-same-length-2 (
 ) (write-chain-at t) write-chain.Post
 write-chain-same-length-2 t c = c .before .before .put-link2 .kept .1 .1 .1 .1 .0 ∙ c .before .before .before .before .before .before .before .write-chain .kept .1 .1 .1 .1 .1 .1 .0
 
--- src/lib.rt:74:1
 write-chain-returns-2 : (t : ℕ) → write-chain-lts.Need-returns-2 (
   put-link-reads.Asked,
   put-link-reads.Learnt,

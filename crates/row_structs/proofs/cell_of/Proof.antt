@@ -2,15 +2,11 @@ use mathlib.Core.Path.{refl}
 use borrow.Author.Tests.{lt-ltb, le-ltb}
 use Rattle.row_structs.proofs.cell_of.Statement.{statement}
 use Rattle.row_structs.proofs.cell_of.Tie as tie
-use Rattle.row_structs.proofs.cell_of.Reads as reads
-use Rattle.row_structs.proofs.cell_of.Lts as lts
 use Rattle.text_spec.specs.Limits.{maxNodes}
 
--- src/lib.rt:41:9
 returns : tie.Need-returns
 returns c = rw (lt-ltb (c .before .args .row) maxNodes (c .if1 .taken)) refl
 
--- src/lib.rt:37:1
 returns-2 : tie.Need-returns-2
 returns-2 c = rw (le-ltb (c .before .args .row) maxNodes (c .if1 .left)) refl
 
