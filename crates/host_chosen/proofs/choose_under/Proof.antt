@@ -1,6 +1,8 @@
 -- `choose_under` meets its contract: the extract's refusal, or its rows and what is selected on them.
 use borrow.Author.Needs.{needs}
 use mathlib.Core.Path.{_∙_}
+use Rattle.compiled_paths.specs.Paths.{lentPaths}
+use Rattle.compiled_paths.specs.declared.CompiledPaths.{CompiledPaths}
 use Rattle.host_chosen.specs.Choosing.{words-read, refused-chosen, rows-asked, chosen-exit}
 use Rattle.host_columns.specs.Rows.{rows-read}
 use Rattle.table_spec.specs.Columns.{Columns, columns}
@@ -20,6 +22,9 @@ start c = told c .before .before .before .before .before .before .before .before
 abbrev lent : tie.After-struct-known → Columns
 lent c = columns (start c .args .numbers .now) (start c .args .names .now) (start c .args .parents .now) (start c .args .starts .now) (start c .args .lengths .now)
 
+abbrev paths-at : tie.After-struct-known → CompiledPaths
+paths-at c = lentPaths (start c .args .axes .now) (start c .args .tests .now) (start c .args .conditions .now) (start c .args .paths .now) (start c .args .total)
+
 -- from the exit of an extract that is refused, and from that of an accepted one
 abbrev refused : tie.After-refused → tie.Then1
 refused c = c .before .before .before .before .before .before .before .before .before
@@ -37,7 +42,7 @@ returns c =
     let was = read known .read-extract-table .ensures in
     λ schema taken made.
     let held = words-read schema _ made _ (told known .words-of .ensures) in
-    refused-chosen _ _ (lent known) _ _ (was .answer _ held) (was .cells _ held) (at .paths) (at .place) (refused c .if1 .taken) _ (c .refused .ensures) _ _ _ _ (c .before .before .before .before .before .before .before .clear-from .ensures) (c .before .before .before .clear-counts-from .ensures)
+    refused-chosen _ _ (lent known) _ _ (was .answer _ held) (was .cells _ held) (paths-at known) (at .place) (refused c .if1 .taken) _ (c .refused .ensures) _ _ _ _ (c .before .before .before .before .before .before .before .clear-from .ensures) (c .before .before .before .clear-counts-from .ensures)
 
 select-under-requires : tie.Need-select-under-requires
 select-under-requires c κs =
@@ -57,7 +62,7 @@ returns-2 c =
     λ schema taken made.
     let held = words-read schema _ made _ (told known .words-of .ensures) in
     let rows = rows-read _ _ _ _ (was .answer _ held) (was .cells _ held) (accepted c .if1 .left) in
-    chosen-exit _ _ taken _ (lent known) (start known .pre .equal) _ _ rows (at .paths) (at .place) _ _ _ _ _ _ (chosen c .select-under .ensures)
+    chosen-exit _ _ taken _ (lent known) (start known .pre .equal) _ _ rows (paths-at known) (at .place) _ _ _ _ _ _ (chosen c .select-under .ensures)
 
 pub choose-under-spec : {M : Type 1} → statement M
 choose-under-spec =
@@ -77,11 +82,11 @@ choose-under-spec =
     (λ c. c .before .before .before .clear-counts-from .kept .0)
     returns
     select-under-requires
-    (λ c. chosen c .select-under .kept .1 .1 .1 .0 ∙ read (accepted c .before) .read-extract-table .kept .1 .1 .0)
-    (λ c. chosen c .select-under .kept .1 .1 .1 .1 .0 ∙ read (accepted c .before) .read-extract-table .kept .1 .1 .1 .0)
-    (λ c. chosen c .select-under .kept .1 .1 .1 .1 .1 .0 ∙ read (accepted c .before) .read-extract-table .kept .1 .1 .1 .1 .0)
-    (λ c. chosen c .select-under .kept .1 .1 .1 .1 .1 .1 .0 ∙ read (accepted c .before) .read-extract-table .kept .1 .1 .1 .1 .1 .0)
-    (λ c. chosen c .select-under .kept .1 .1 .1 .1 .1 .1 .1 .0 ∙ read (accepted c .before) .read-extract-table .kept .1 .1 .1 .1 .1 .1 .0)
-    (λ c. chosen c .select-under .kept .1 .1 .1 .1 .1 .1 .1 .1 .0)
-    (λ c. chosen c .select-under .kept .1 .1 .1 .1 .1 .1 .1 .1 .1 .0)
+    (λ c. chosen c .select-under .kept .1 .1 .1 .1 .1 .1 .1 .0 ∙ read (accepted c .before) .read-extract-table .kept .1 .1 .0)
+    (λ c. chosen c .select-under .kept .1 .1 .1 .1 .1 .1 .1 .1 .0 ∙ read (accepted c .before) .read-extract-table .kept .1 .1 .1 .0)
+    (λ c. chosen c .select-under .kept .1 .1 .1 .1 .1 .1 .1 .1 .1 .0 ∙ read (accepted c .before) .read-extract-table .kept .1 .1 .1 .1 .0)
+    (λ c. chosen c .select-under .kept .1 .1 .1 .1 .1 .1 .1 .1 .1 .1 .0 ∙ read (accepted c .before) .read-extract-table .kept .1 .1 .1 .1 .1 .0)
+    (λ c. chosen c .select-under .kept .1 .1 .1 .1 .1 .1 .1 .1 .1 .1 .1 .0 ∙ read (accepted c .before) .read-extract-table .kept .1 .1 .1 .1 .1 .1 .0)
+    (λ c. chosen c .select-under .kept .1 .1 .1 .1 .1 .1 .1 .1 .1 .1 .1 .1 .0)
+    (λ c. chosen c .select-under .kept .1 .1 .1 .1 .1 .1 .1 .1 .1 .1 .1 .1 .1 .0)
     returns-2)

@@ -39,6 +39,6 @@ select-under-spec =
     (λ c. answered c .answer .kept .1 .1 .1 .1 .0)
     (λ c. answered c .answer .kept .1 .1 .1 .1 .1 .0)
     (λ c. answered c .answer .kept .1 .1 .1 .1 .1 .1 .0)
-    (λ c. chosen c .select-table .kept .1 .1 .1 .1 .1 .0)
-    (λ c. chosen c .select-table .kept .1 .1 .1 .1 .1 .1 .0)
+    (λ c. chosen c .select-table .kept .1 .1 .1 .1 .1 .1 .1 .1 .1 .0)
+    (λ c. chosen c .select-table .kept .1 .1 .1 .1 .1 .1 .1 .1 .1 .1 .0)
     returns)
