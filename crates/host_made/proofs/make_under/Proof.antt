@@ -73,10 +73,10 @@ make-under-spec =
     (λ c. c .before .before .before .clear-bytes .kept .0)
     returns
     write-under-requires
-    (λ c. written c .write-under .kept .1 .1 .1 .1 .0 ∙ read (accepted c .before) .read-compiled .kept .1 .1 .1 .1 .0)
-    (λ c. written c .write-under .kept .1 .1 .1 .1 .1 .0 ∙ read (accepted c .before) .read-compiled .kept .1 .1 .1 .1 .1 .0)
-    (λ c. written c .write-under .kept .1 .1 .1 .1 .1 .1 .0 ∙ read (accepted c .before) .read-compiled .kept .1 .1 .1 .1 .1 .1 .0)
-    (λ c. written c .write-under .kept .1 .1 .1 .1 .1 .1 .1 .0 ∙ read (accepted c .before) .read-compiled .kept .1 .1 .1 .1 .1 .1 .1 .0)
-    (λ c. written c .write-under .kept .1 .1 .1 .1 .1 .1 .1 .1 .0 ∙ read (accepted c .before) .read-compiled .kept .1 .1 .1 .1 .1 .1 .1 .1 .0)
-    (λ c. written c .write-under .kept .1 .1 .1 .1 .1 .1 .1 .1 .1 .0)
+    (λ c. written c .write-under .kept .1 .1 .1 .1 .1 .1 .1 .1 .0 ∙ read (accepted c .before) .read-compiled .kept .1 .1 .1 .1 .0)
+    (λ c. written c .write-under .kept .1 .1 .1 .1 .1 .1 .1 .1 .1 .0 ∙ read (accepted c .before) .read-compiled .kept .1 .1 .1 .1 .1 .0)
+    (λ c. written c .write-under .kept .1 .1 .1 .1 .1 .1 .1 .1 .1 .1 .0 ∙ read (accepted c .before) .read-compiled .kept .1 .1 .1 .1 .1 .1 .0)
+    (λ c. written c .write-under .kept .1 .1 .1 .1 .1 .1 .1 .1 .1 .1 .1 .0 ∙ read (accepted c .before) .read-compiled .kept .1 .1 .1 .1 .1 .1 .1 .0)
+    (λ c. written c .write-under .kept .1 .1 .1 .1 .1 .1 .1 .1 .1 .1 .1 .1 .0 ∙ read (accepted c .before) .read-compiled .kept .1 .1 .1 .1 .1 .1 .1 .1 .0)
+    (λ c. written c .write-under .kept .1 .1 .1 .1 .1 .1 .1 .1 .1 .1 .1 .1 .1 .0)
     returns-2)

@@ -15,13 +15,16 @@ abbrev texts-before : tie.Else1 → tie.After-judge-texts
 texts-before c = c .before .before .before
 
 abbrev accepted-before : tie.After-read-compiled → tie.Else1
-accepted-before c = c .before .before .before .before .before .before
+accepted-before c = c .before .before .before .before .before .before .before
 
 abbrev read-before : tie.After-struct-known2 → tie.After-read-compiled
 read-before c = c .before .before .before .before .before .before .before .before .before .before .before
 
+abbrev lent-before : tie.After-list-rows-arg5 → tie.Else2
+lent-before c = c .before .before .before .before .before .before
+
 abbrev rows-before : tie.After-slice-known12 → tie.Else2
-rows-before c = c .before .before .before .before .before .before
+rows-before c = lent-before (c .before .before .before .before .before .before)
 
 returns : tie.Need-returns
 returns c =
@@ -30,7 +33,7 @@ returns c =
 
 read-compiled-requires : tie.Need-read-compiled-requires
 read-compiled-requires c κs =
-    let judge = texts-before (c .before .before .before .before .before) in
+    let judge = texts-before (c .before .before .before .before .before .before) in
     (judge .judge-texts .ensures .compiled, omega arith, start-before judge .pre .equal)
 
 returns-2 : tie.Need-returns-2
@@ -42,14 +45,15 @@ returns-2 c =
 
 slice-reshare-prefix-list-rows : tie.Need-slice-reshare-prefix-list-rows
 slice-reshare-prefix-list-rows c =
-    let read = read-before (c .before) in
+    let else2 = lent-before c in
+    let read = read-before (else2 .before) in
     let accepted = accepted-before read in
     let judge = texts-before accepted in
-    rows-rooms _ _ _ _ (judge .judge-texts .ensures) (accepted .if1 .left) _ _ _ (start-before judge .pre) _ (read .read-compiled .ensures) (c .if2 .left) .names
+    rows-rooms _ _ _ _ (judge .judge-texts .ensures) (accepted .if1 .left) _ _ _ (start-before judge .pre) _ (read .read-compiled .ensures) (else2 .if2 .left) .names
 
 slice-aggregate-list-rows : tie.Need-slice-aggregate-list-rows
 slice-aggregate-list-rows c =
-    let else2 = c .before in
+    let else2 = lent-before (c .before) in
     let read = read-before (else2 .before) in
     let accepted = accepted-before read in
     let judge = texts-before accepted in
@@ -57,7 +61,7 @@ slice-aggregate-list-rows c =
 
 slice-reshare-prefix-list-rows-2 : tie.Need-slice-reshare-prefix-list-rows-2
 slice-reshare-prefix-list-rows-2 c =
-    let else2 = c .before in
+    let else2 = lent-before (c .before) in
     let read = read-before (else2 .before) in
     let accepted = accepted-before read in
     let judge = texts-before accepted in
@@ -65,7 +69,7 @@ slice-reshare-prefix-list-rows-2 c =
 
 slice-aggregate-list-rows-2 : tie.Need-slice-aggregate-list-rows-2
 slice-aggregate-list-rows-2 c =
-    let else2 = c .before .before in
+    let else2 = lent-before (c .before .before) in
     let read = read-before (else2 .before) in
     let accepted = accepted-before read in
     let judge = texts-before accepted in
@@ -73,7 +77,7 @@ slice-aggregate-list-rows-2 c =
 
 slice-relend-prefix-list-rows : tie.Need-slice-relend-prefix-list-rows
 slice-relend-prefix-list-rows c =
-    let else2 = c .before .before in
+    let else2 = lent-before (c .before .before) in
     let read = read-before (else2 .before) in
     let accepted = accepted-before read in
     let judge = texts-before accepted in
@@ -81,7 +85,7 @@ slice-relend-prefix-list-rows c =
 
 slice-aggregate-list-rows-3 : tie.Need-slice-aggregate-list-rows-3
 slice-aggregate-list-rows-3 c =
-    let else2 = c .before .before .before in
+    let else2 = lent-before (c .before .before .before) in
     let read = read-before (else2 .before) in
     let accepted = accepted-before read in
     let judge = texts-before accepted in
@@ -89,7 +93,7 @@ slice-aggregate-list-rows-3 c =
 
 list-rows-requires : tie.Need-list-rows-requires
 list-rows-requires c κs =
-    let else2 = c .before .before .before in
+    let else2 = lent-before (c .before .before .before) in
     let read = read-before (else2 .before) in
     let accepted = accepted-before read in
     let judge = texts-before accepted in

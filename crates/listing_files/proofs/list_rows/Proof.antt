@@ -7,31 +7,41 @@ use native.Mathlib.Omega.{arith}
 use Rattle.listing_files.proofs.list_rows.Statement.{statement}
 use Rattle.listing_files.proofs.list_rows.Tie as tie
 
+-- the states that answers go back to
+abbrev start-before : tie.After-names → tie.Start
+start-before c = c .before .before .before .before .before .before .before .before
+
+abbrev noted-before : tie.After-names2 → tie.After-note-paths
+noted-before c = c .before .before .before .before .before
+
+abbrev names-before : tie.After-note-paths-arg → tie.After-names
+names-before c = c .before .before .before
+
 needed-set-requires : tie.Need-needed-set-requires
 needed-set-requires c κs =
-    let start = c .before .before .before .before .before .before .before .before in
+    let start = start-before c in
     (start .pre .shaped, compiled-few _ _ (start .pre .compiled))
 
 kept-count-requires : tie.Need-kept-count-requires
 kept-count-requires c κs =
-    let start = c .before .before .before .before .before .before .before .before .before in
+    let start = start-before (c .before) in
     record { columns = start .pre .kept; listed = start .pre .listed }
 
 note-paths-requires : tie.Need-note-paths-requires
 note-paths-requires c κs =
-    let start = c .before .before .before .before .before .before .before .before .before .before .before in
+    let start = start-before (names-before c) in
     record { shaped = start .pre .shaped; columns = start .pre .columns; cells = start .pre .cells; listed = start .pre .listed }
 
 slice-aggregate-name-sizes : tie.Need-slice-aggregate-name-sizes
-slice-aggregate-name-sizes c = sym (names-all _ _ (c .before .before .before .before .before .before .before .before .before .before .before .before .before .before .before .before .before .pre .compiled))
+slice-aggregate-name-sizes c = sym (names-all _ _ (start-before (names-before (noted-before c .before)) .pre .compiled))
 
 name-sizes-requires : tie.Need-name-sizes-requires
-name-sizes-requires c κs = names-all _ _ (c .before .before .before .before .before .before .before .before .before .before .before .before .before .before .before .before .before .before .pre .compiled)
+name-sizes-requires c κs = names-all _ _ (start-before (names-before (noted-before (c .before) .before)) .pre .compiled)
 
 returns : tie.Need-returns
 returns c =
     let counted = c .before .before .before .before in
-    let noted = counted .before .before .before .before in
+    let noted = noted-before (c .before .before .before) in
     let kept = noted .before .before in
     let found = kept .before in
     record {
