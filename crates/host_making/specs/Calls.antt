@@ -5,25 +5,19 @@ use mathlib.Core.Path.{_≡_, refl, sym, ap, subst, _∙_}
 use Prim.Native.Nat.{ℕ}
 use lib.ListN.{length}
 use Rattle.compiled_paths.specs.Paths.{pathsIn}
-use Rattle.cut_rows.specs.Cells.{all-cleared}
 use Rattle.host_laws.specs.Stages.{lentOf, madeUnder, bundle-accepted, make-unequal, make-refused, make-accepted}
 use Rattle.host_made.specs.Making.{UnderTexts}
-use Rattle.host_results.specs.Exits.{refusedBy, Exits, RefusedExit, same-exit, refused-exit}
+use Rattle.host_results.specs.Exits.{Exits, RefusedExit, same-exit, refused-exit}
 use Rattle.host_results.specs.declared.HostResult.{HostResult}
 use Rattle.host_texts.specs.Texts.{refusalOf, TextsJudged, none-refused, texts-accepted, texts-refused}
 use Rattle.host_texts.specs.declared.Texts.{Texts}
 use Rattle.host_texts.specs.declared.Told.{Told}
 use Rattle.library_spec.specs.Hosts.{makeExtract}
 use Rattle.row_columns.specs.ColumnLaws.{equal-columns}
-use Rattle.row_numbers.specs.Cells.{Cleared}
 use Rattle.schema_spec.specs.Records.{schemaIn}
-use Rattle.table_spec.specs.Columns.{Columns, sizesOf, equalSizes, columnsOf}
+use Rattle.table_spec.specs.Columns.{Columns, sizesOf, equalSizes}
 use Rattle.text_laws.specs.Tests.{passed}
 use Rattle.text_spec.specs.Refusals.{at, badRecord}
-
-pub all-refused : (number place : ℕ) (c d : Columns) (was out : List ℕ) (r : HostResult) → d ≡ columnsOf (sizesOf c) [] → Cleared was 0 out → r ≡ refusedBy number place
-    → RefusedExit number place (lentOf c was []) r d out []
-all-refused number place c d was out r e w f = record { result = f; columns-are = e; items-are = all-cleared was out w; counts-are = refl }
 
 -- what the later stages ask for
 pub under-texts : (schema bundle : List ℕ) (c : Columns) (t : Texts) → TextsJudged schema bundle t → (equal : Bool) → equal ≡ equalSizes (sizesOf c) → (u : Told) → u ≡ refusalOf equal (t .told) → u .number ≡ 0

@@ -1,37 +1,19 @@
 // Making an extract of three texts: columns of one length first (1), then the texts in turn, 18 last. On refusal every lent cell is 0.
 ghost use mathlib.Core.List.{[]};
 ghost use Rattle.host_laws.specs.Stages.{lentOf};
-ghost use Rattle.host_results.specs.Exits.{Exits, RefusedExit};
+ghost use Rattle.host_results.specs.Exits.{Exits};
 ghost use Rattle.library_spec.specs.Hosts.{makeExtract};
 ghost use Rattle.table_spec.specs.Columns.{columns};
 use column_sizes::equal_sizes;
 use compiled_paths::CompiledPaths;
 use compiled_schema::CompiledSchema;
 use host_made::make_under;
+use host_refusals::refuse_making;
 use host_results::HostResult;
-use host_texts::Told;
 use host_texts::judge_texts;
 use host_texts::refusal;
 use names::NameSet;
 use schema_entries::Entries;
-use table_cutting::clear_bytes;
-
-fn refuse(
-    number: u64,
-    place: u64,
-    numbers: &mut [u16],
-    names: &mut [u8],
-    parents: &mut [u16],
-    starts: &mut [u32],
-    lengths: &mut [u16],
-    out: &mut [u8],
-) -> HostResult
-    ensures { λ r. ⌜ RefusedExit number place (lentOf (columns (now (numbers .entry)) (now (names .entry)) (now (parents .entry)) (now (starts .entry)) (now (lengths .entry))) (now (out .entry)) []) r (columns (now (numbers .exit)) (now (names .exit)) (now (parents .exit)) (now (starts .exit)) (now (lengths .exit))) (now (out .exit)) [] ⌝ }
-{
-    row_columns::clear(numbers, names, parents, starts, lengths);
-    clear_bytes(out, 0);
-    host_results::refused(number, place)
-}
 
 // The texts are compiled once, and the journal is read once.
 pub fn make_extract(
@@ -57,16 +39,7 @@ pub fn make_extract(
     let texts = judge_texts(schema, bundle);
     let told = refusal(equal, texts.told);
     if told.number != 0 {
-        return refuse(
-            told.number,
-            told.place,
-            numbers,
-            names,
-            parents,
-            starts,
-            lengths,
-            out,
-        );
+        return refuse_making(told, numbers, names, parents, starts, lengths, out);
     }
     make_under(
         schema,

@@ -2,67 +2,33 @@
 use mathlib.Core.Bool.{Bool, true, false, cond, _&&_}
 use mathlib.Core.List.{List, []}
 use mathlib.Core.Path.{_≡_, refl, sym, ap, subst, _∙_}
-use Prim.Native.Nat.{ℕ, zero, suc}
-use borrow.Author.Tests.{eq-eqb, ne-eqb, eqb-true, eqb-false}
+use Prim.Native.Nat.{ℕ}
+use borrow.Author.Tests.{eqb-true, eqb-false}
 use lib.Dec.{leb, leb→le, eqb}
-use lib.ListN.{length}
-use Rattle.compiled_paths.specs.Columns.{bundleIn}
 use Rattle.compiled_paths.specs.Paths.{pathsIn}
-use Rattle.compiled_paths.specs.declared.CompiledPaths.{CompiledPaths}
 use Rattle.compiled_schema.specs.Compiled.{CompiledOf}
-use Rattle.cut_rows.specs.Cells.{all-cleared}
 use Rattle.host_chosen.specs.Choosing.{UnderSchema}
 use Rattle.host_laws.specs.Stages.{lentOf, chosenUnder, bundle-accepted, select-unequal, select-out, select-refused, select-accepted}
-use Rattle.host_results.specs.Exits.{refusedBy, Exits, RefusedExit, same-exit, refused-exit}
+use Rattle.host_refusals.specs.Refusals.{rangeOf, range-accepted}
+use Rattle.host_results.specs.Exits.{Exits, RefusedExit, same-exit, refused-exit}
 use Rattle.host_results.specs.declared.HostResult.{HostResult}
 use Rattle.host_texts.specs.Texts.{refusalOf, TextsJudged, none-refused, texts-accepted, texts-refused}
 use Rattle.host_texts.specs.declared.Texts.{Texts}
 use Rattle.host_texts.specs.declared.Told.{Told}
 use Rattle.library_spec.specs.Hosts.{bundlePaths, inRange, selectFrom}
 use Rattle.row_columns.specs.ColumnLaws.{equal-columns}
-use Rattle.row_numbers.specs.Cells.{Cleared}
 use Rattle.schema_spec.specs.Reading.{readSchema}
 use Rattle.schema_spec.specs.Records.{schemaIn}
-use Rattle.table_spec.specs.Columns.{Columns, sizesOf, equalSizes, columnsOf}
+use Rattle.select_table.specs.Tables.{paths-count}
+use Rattle.table_spec.specs.Columns.{Columns, sizesOf, equalSizes}
 use Rattle.text_laws.specs.Tests.{never, passed}
 use Rattle.text_spec.specs.Limits.{maxPaths}
 use Rattle.text_spec.specs.Refusals.{accepted, at, badRecord}
 
--- whether a place is in range, by the number of the texts' refusal and the number of paths
-abbrev pub rangeOf : ℕ → ℕ → ℕ → Bool
-rangeOf place number count = cond (eqb number 0) (leb place count) (leb place maxPaths)
-
-pub range-refused : (place number count : ℕ) → (number ≡ 0 → ⊥) → leb place maxPaths ≡ rangeOf place number count
-range-refused place number count n = sym (ap (λ (b : Bool). cond b (leb place count) (leb place maxPaths)) (ne-eqb number 0 n))
-
-pub range-accepted : (place number count : ℕ) → number ≡ 0 → leb place count ≡ rangeOf place number count
-range-accepted place number count e = sym (ap (λ (b : Bool). cond b (leb place count) (leb place maxPaths)) (eq-eqb number 0 e))
-
--- the tests of a call: columns of one length, then the place
-pub unequal-fails : (equal inside : Bool) → equal ≡ false → false ≡ (equal && inside)
-unequal-fails equal inside e = sym (ap (λ (b : Bool). b && inside) e)
-
-pub equal-passes : (equal inside : Bool) {b : Bool} → equal ≡ true → b ≡ inside → b ≡ (equal && inside)
-equal-passes equal inside e f = f ∙ sym (ap (λ (x : Bool). x && inside) e)
-
+-- both tests of a call
 both-pass : (equal inside : Bool) → (equal && inside) ≡ true → (equal ≡ true) × (inside ≡ true)
 both-pass true inside e = (refl, e)
 both-pass false inside e = never (cc)
-
--- as many paths as are counted
-paths-long : (axes tests conditions paths : List ℕ) (n i : ℕ) → length (bundleIn axes tests conditions paths n i) ≡ n
-unfolding bundleIn
-paths-long axes tests conditions paths zero i = refl
-paths-long axes tests conditions paths (suc n) i = ap suc (paths-long axes tests conditions paths n (suc i))
-
-paths-count : (c : CompiledPaths) → length (pathsIn c) ≡ c .count
-unfolding pathsIn
-paths-count c = paths-long (c .axes) (c .tests) (c .conditions) (c .paths) (c .count) 0
-
-pub all-refused : (number place : ℕ) (c d : Columns) (items counts items′ counts′ : List ℕ) (r : HostResult) → d ≡ columnsOf (sizesOf c) [] → Cleared items 0 items′ → Cleared counts 0 counts′
-    → r ≡ refusedBy number place → RefusedExit number place (lentOf c items counts) r d items′ counts′
-all-refused number place c d items counts items′ counts′ r e i m f =
-    record { result = f; columns-are = e; items-are = all-cleared items items′ i; counts-are = all-cleared counts counts′ m }
 
 module _ (schema bundle : List ℕ) (place : ℕ) (t : Texts) (J : TextsJudged schema bundle t) where
   -- the test of the place is the definition's

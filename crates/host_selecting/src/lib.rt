@@ -1,56 +1,20 @@
 // Selecting from an extract by two texts: 1 first (columns of unequal length, a place that the bundle does not have), then the texts in turn, 18
 // last. On refusal every lent cell is 0.
-ghost use mathlib.Core.Bool.{_&&_};
-ghost use mathlib.Core.Path.{_≡_};
 ghost use Rattle.host_laws.specs.Stages.{lentOf};
-ghost use Rattle.host_results.specs.Exits.{Exits, RefusedExit};
-ghost use Rattle.host_selecting.specs.Calls.{rangeOf};
+ghost use Rattle.host_results.specs.Exits.{Exits};
 ghost use Rattle.library_spec.specs.Hosts.{selectFrom};
 ghost use Rattle.table_spec.specs.Columns.{columns};
 use column_sizes::equal_sizes;
 use compiled_paths::CompiledPaths;
 use compiled_schema::CompiledSchema;
 use host_chosen::choose_under;
+use host_refusals::passes;
+use host_refusals::refuse_selecting;
 use host_results::HostResult;
 use host_texts::judge_texts;
 use host_texts::refusal;
-use limits::MAX_PATHS;
 use names::NameSet;
-use row_numbers::clear_counts_from;
-use row_numbers::clear_from;
 use schema_entries::Entries;
-
-fn refuse(
-    number: u64,
-    place: u64,
-    numbers: &mut [u16],
-    names: &mut [u8],
-    parents: &mut [u16],
-    starts: &mut [u32],
-    lengths: &mut [u16],
-    items: &mut [u16],
-    counts: &mut [u32],
-) -> HostResult
-    ensures { λ r. ⌜ RefusedExit number place (lentOf (columns (now (numbers .entry)) (now (names .entry)) (now (parents .entry)) (now (starts .entry)) (now (lengths .entry))) (now (items .entry)) (now (counts .entry))) r (columns (now (numbers .exit)) (now (names .exit)) (now (parents .exit)) (now (starts .exit)) (now (lengths .exit))) (now (items .exit)) (now (counts .exit)) ⌝ }
-{
-    row_columns::clear(numbers, names, parents, starts, lengths);
-    clear_from(items, 0);
-    clear_counts_from(counts, 0);
-    host_results::refused(number, place)
-}
-
-// Whether the columns are of one length, and the bundle has the place; of a bundle that is refused, whether some bundle has it.
-fn passes(equal: bool, place: usize, number: u64, count: usize) -> bool
-    ensures { λ r. ⌜ r ≡ (equal && rangeOf place number count) ⌝ }
-{
-    if !equal {
-        return false;
-    }
-    if number != 0 {
-        return place <= MAX_PATHS;
-    }
-    place <= count
-}
 
 // The texts are compiled once, and the extract is read once for all paths that are asked for.
 pub fn select_from(
@@ -79,9 +43,8 @@ pub fn select_from(
     let passed = passes(equal, place, texts.told.number, texts.paths.count);
     let told = refusal(passed, texts.told);
     if told.number != 0 {
-        return refuse(
-            told.number,
-            told.place,
+        return refuse_selecting(
+            told,
             numbers,
             names,
             parents,

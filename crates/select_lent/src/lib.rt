@@ -13,9 +13,8 @@ use compiled_paths::STEPS;
 use names::MAX_ELEMENTS;
 use select_table::select_table;
 use selected_answers::Selected;
-use selected_answers::refused;
+use selected_answers::bad_record;
 use tables::is_table_beside;
-use verdicts::BAD_RECORD;
 
 // Selects by compiled paths, `total` of them; `words` has for each element of the schema the names that it holds.
 pub fn select_lent<'a>(
@@ -40,10 +39,10 @@ pub fn select_lent<'a>(
     ensures { λ r. ⌜ ((s : Schema) → HeldWords (typesOf s) (now (words .entry)) → AnsweredAs (lentSelected s (pathsIn (lentPaths (now (axes .entry)) (now (tests .entry)) (now (conditions .entry)) (now (paths .entry)) total)) place (lentTable (now (numbers .entry)) (now (codes .entry)) (now (parents .entry)) (now (starts .entry)) (now (lengths .entry)) count) (now (lent .entry)) (length (now (items .entry))) (length (now (counts .entry)))) (length (now (items .entry))) (length (now (counts .entry))) r (now (items .exit)) (now (counts .exit))) ⌝ }
 {
     if total < place {
-        return refused(BAD_RECORD, 0, items, counts);
+        return bad_record(items, counts);
     }
     if !is_table_beside(numbers, codes, parents, starts, lengths, count, words, lent) {
-        return refused(BAD_RECORD, 0, items, counts);
+        return bad_record(items, counts);
     }
     select_table(
         axes,

@@ -17,8 +17,7 @@ use schema::Schema;
 use schema_entries::Entries;
 use select_lent::select_lent;
 use selected_answers::Selected;
-use selected_answers::refused;
-use verdicts::BAD_RECORD;
+use selected_answers::bad_record;
 
 // Selects by the texts in the records, each compiled once.
 fn select_texts(
@@ -82,7 +81,7 @@ pub fn select_nodes(
     ensures { λ r. ⌜ AnsweredAs (nodesSelected (recordWith (schema .bytes) (schema .len)) (recordWith (bundle .bytes) (bundle .len)) place (lentTable (now (numbers .entry)) (now (codes .entry)) (now (parents .entry)) (now (starts .entry)) (now (lengths .entry)) count) (now (lent .entry)) (length (now (items .entry))) (length (now (counts .entry)))) (length (now (items .entry))) (length (now (counts .entry))) r (now (items .exit)) (now (counts .exit)) ⌝ }
 {
     if !is_bundle_record(schema, bundle) {
-        return refused(BAD_RECORD, 0, items, counts);
+        return bad_record(items, counts);
     }
     let bytes = schema.bytes;
     let len = schema.len;

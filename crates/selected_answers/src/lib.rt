@@ -4,6 +4,7 @@ ghost use Rattle.library_spec.specs.Selections.{Selections};
 ghost use Rattle.selected_answers.specs.Answers.{RefusedBy, Written, inCells, AnsweredAs};
 use lent_cells::clear_numbers;
 use lent_cells::clear_places;
+use verdicts::BAD_RECORD;
 use verdicts::TOO_FEW_CELLS;
 
 // The number of the refusal and its place, or 0 and 0, and how many items and counts are answered.
@@ -26,6 +27,13 @@ pub fn refused(number: u64, place: u64, items: &mut [u16], counts: &mut [u32]) -
         items: 0,
         counts: 0,
     }
+}
+
+// Refusal 1.
+pub fn bad_record(items: &mut [u16], counts: &mut [u32]) -> Selected
+    ensures { λ r. ⌜ RefusedBy 1 0 (length (now (items .entry))) (length (now (counts .entry))) r (now (items .exit)) (now (counts .exit)) ⌝ }
+{
+    refused(BAD_RECORD, 0, items, counts)
 }
 
 // The answer of `n` items and `m` counts that are written as far as there is room; 18 where one of the outputs has too few cells.

@@ -15,7 +15,7 @@ abbrev lent : tie.After-refusal → Columns
 lent c = columns (start c .args .numbers .now) (start c .args .names .now) (start c .args .parents .now) (start c .args .starts .now) (start c .args .lengths .now)
 
 -- back from the two exits to the calls before them
-abbrev refused : tie.After-slice-known12 → tie.After-refuse
+abbrev refused : tie.After-slice-known12 → tie.After-refuse-making
 refused c = c .before .before .before .before .before .before .before .before .before .before .before .before
 
 abbrev made : tie.After-slice-known18 → tie.After-make-under
@@ -28,7 +28,7 @@ returns : tie.Need-returns
 returns c =
     let tested = refused c .before .before .before .before .before .before .before in
     let told = tested .before .before in
-    refused-call _ _ _ (lent told) (start told .args .out .now) _ (judged told .judge-texts .ensures) _ (judged told .before .equal-sizes .ensures) _ (told .refusal .ensures) (tested .if1 .taken) (refused c .refuse .ensures)
+    refused-call _ _ _ (lent told) (start told .args .out .now) _ (judged told .judge-texts .ensures) _ (judged told .before .equal-sizes .ensures) _ (told .refusal .ensures) (tested .if1 .taken) (refused c .refuse-making .ensures)
 
 make-under-requires : tie.Need-make-under-requires
 make-under-requires c κs =
@@ -50,12 +50,12 @@ make-extract-spec =
     (λ c κs. tt)
     (λ c κs. tt)
     (λ c κs. tt)
-    (λ c. refused c .refuse .kept .1 .1 .0)
-    (λ c. refused c .refuse .kept .1 .1 .1 .0)
-    (λ c. refused c .refuse .kept .1 .1 .1 .1 .0)
-    (λ c. refused c .refuse .kept .1 .1 .1 .1 .1 .0)
-    (λ c. refused c .refuse .kept .1 .1 .1 .1 .1 .1 .0)
-    (λ c. refused c .refuse .kept .1 .1 .1 .1 .1 .1 .1 .0)
+    (λ c. refused c .refuse-making .kept .1 .0)
+    (λ c. refused c .refuse-making .kept .1 .1 .0)
+    (λ c. refused c .refuse-making .kept .1 .1 .1 .0)
+    (λ c. refused c .refuse-making .kept .1 .1 .1 .1 .0)
+    (λ c. refused c .refuse-making .kept .1 .1 .1 .1 .1 .0)
+    (λ c. refused c .refuse-making .kept .1 .1 .1 .1 .1 .1 .0)
     returns
     make-under-requires
     (λ c. made c .make-under .kept .1 .1 .1 .1 .1 .1 .1 .1 .0)

@@ -15,7 +15,7 @@ abbrev lent : tie.After-refusal → Columns
 lent c = columns (start c .args .numbers .now) (start c .args .names .now) (start c .args .parents .now) (start c .args .starts .now) (start c .args .lengths .now)
 
 -- back from the two exits to the calls before them
-abbrev refused : tie.After-slice-known14 → tie.After-refuse
+abbrev refused : tie.After-slice-known14 → tie.After-refuse-selecting
 refused c = c .before .before .before .before .before .before .before .before .before .before .before .before .before .before
 
 abbrev chosen : tie.After-slice-known21 → tie.After-choose-under
@@ -29,7 +29,7 @@ returns c =
     let tested = refused c .before .before .before .before .before .before .before .before in
     let told = tested .before .before in
     let at = start told .args in
-    refused-call _ _ _ _ (lent told) (at .items .now) (at .counts .now) _ (passed told .before .judge-texts .ensures) _ (passed told .before .before .equal-sizes .ensures) _ (passed told .passes .ensures) _ (told .refusal .ensures) (tested .if1 .taken) (refused c .refuse .ensures)
+    refused-call _ _ _ _ (lent told) (at .items .now) (at .counts .now) _ (passed told .before .judge-texts .ensures) _ (passed told .before .before .equal-sizes .ensures) _ (passed told .passes .ensures) _ (told .refusal .ensures) (tested .if1 .taken) (refused c .refuse-selecting .ensures)
 
 choose-under-requires : tie.Need-choose-under-requires
 choose-under-requires c κs =
@@ -53,13 +53,13 @@ select-from-spec =
     (λ c κs. tt)
     (λ c κs. tt)
     (λ c κs. tt)
-    (λ c. refused c .refuse .kept .1 .1 .0)
-    (λ c. refused c .refuse .kept .1 .1 .1 .0)
-    (λ c. refused c .refuse .kept .1 .1 .1 .1 .0)
-    (λ c. refused c .refuse .kept .1 .1 .1 .1 .1 .0)
-    (λ c. refused c .refuse .kept .1 .1 .1 .1 .1 .1 .0)
-    (λ c. refused c .refuse .kept .1 .1 .1 .1 .1 .1 .1 .0)
-    (λ c. refused c .refuse .kept .1 .1 .1 .1 .1 .1 .1 .1 .0)
+    (λ c. refused c .refuse-selecting .kept .1 .0)
+    (λ c. refused c .refuse-selecting .kept .1 .1 .0)
+    (λ c. refused c .refuse-selecting .kept .1 .1 .1 .0)
+    (λ c. refused c .refuse-selecting .kept .1 .1 .1 .1 .0)
+    (λ c. refused c .refuse-selecting .kept .1 .1 .1 .1 .1 .0)
+    (λ c. refused c .refuse-selecting .kept .1 .1 .1 .1 .1 .1 .0)
+    (λ c. refused c .refuse-selecting .kept .1 .1 .1 .1 .1 .1 .1 .0)
     returns
     choose-under-requires
     (λ c. chosen c .choose-under .kept .1 .1 .1 .1 .1 .1 .1 .1 .0)

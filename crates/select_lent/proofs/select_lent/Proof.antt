@@ -15,12 +15,12 @@ abbrev start-before : tie.Else1 → tie.Start
 start-before c = c .before .before .before .before .before .before .before .before .before
 
 returns : tie.Need-returns
-returns c s held = no-place s _ _ _ _ _ _ _ _ _ (c .before .before .before .before .before .before .before .if1 .taken) (c .before .before .before .before .refused .ensures)
+returns c s held = no-place s _ _ _ _ _ _ _ _ _ (c .before .before .before .before .before .before .before .if1 .taken) (c .before .before .before .before .bad-record .ensures)
 
 returns-2 : tie.Need-returns-2
 returns-2 c s held =
     let told = c .before .before .before .before .before .before .before in
-    no-table s _ _ _ _ _ _ _ _ _ (told .before .before .if1 .left) _ _ (told .before .is-table-beside .ensures) held (not-true _ (told .if2 .taken)) (c .before .before .before .before .refused2 .ensures)
+    no-table s _ _ _ _ _ _ _ _ _ (told .before .before .if1 .left) _ _ (told .before .is-table-beside .ensures) held (not-true _ (told .if2 .taken)) (c .before .before .before .before .bad-record2 .ensures)
 
 -- the table passes: it has its cells, and its columns are those of rows
 inside : (c : tie.Else2) → (let a = start-before (c .before .before) .args in Lent (columns (now (a .numbers)) (now (a .codes)) (now (a .parents)) (now (a .starts)) (now (a .lengths))) (a .count))

@@ -36,7 +36,7 @@ bundle-room c =
 returns : tie.Need-returns
 returns c =
     let told = c .before .before .before .before .before .before .before in
-    not-records _ _ _ _ _ _ _ _ _ _ _ _ (sym (told .before .is-bundle-record .ensures) ∙ not-true _ (told .if1 .taken)) (c .before .before .before .before .refused .ensures)
+    not-records _ _ _ _ _ _ _ _ _ _ _ _ (sym (told .before .is-bundle-record .ensures) ∙ not-true _ (told .if1 .taken)) (c .before .before .before .before .bad-record .ensures)
 
 array-share-prefix-bytes : tie.Need-array-share-prefix-bytes
 array-share-prefix-bytes c = schema-room (c .before .before)

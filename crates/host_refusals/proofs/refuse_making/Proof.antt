@@ -1,20 +1,21 @@
--- `refuse` meets its contract: every cell cleared.
-use Rattle.host_making.specs.Calls.{all-refused}
-use Rattle.host_making.proofs.refuse.Statement.{statement}
-use Rattle.host_making.proofs.refuse.Tie as tie
+-- `refuse_making` meets its contract: every cell cleared.
+use mathlib.Core.List.{[]}
+use Rattle.host_refusals.specs.Refusals.{none-cleared, all-refused}
+use Rattle.host_refusals.proofs.refuse_making.Statement.{statement}
+use Rattle.host_refusals.proofs.refuse_making.Tie as tie
 use Rattle.table_spec.specs.Columns.{columns}
 
-abbrev cleared : tie.After-refused → tie.After-clear
+abbrev cleared : tie.After-result → tie.After-clear
 cleared c = c .before .before .before .before .before .before .before .before .before .before .before .before .before .before .before
 
 returns : tie.Need-returns
 returns c =
     let at = cleared c .before .before .before .before .before .before .before .before .before .before .before .before .args in
     let lent = columns (at .numbers .now) (at .names .now) (at .parents .now) (at .starts .now) (at .lengths .now) in
-    all-refused _ _ lent _ _ _ _ (cleared c .clear .ensures) (c .before .before .before .clear-bytes .ensures) (c .refused .ensures)
+    all-refused _ _ lent _ _ [] _ [] _ (cleared c .clear .ensures) (c .before .before .before .clear-bytes .ensures) none-cleared (c .result .ensures)
 
-pub refuse-spec : {M : Type 1} → statement M
-refuse-spec =
+pub refuse-making-spec : {M : Type 1} → statement M
+refuse-making-spec =
     tie.close
     (tie.spec
     (λ c κs. tt)

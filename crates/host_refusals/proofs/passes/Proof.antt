@@ -1,8 +1,8 @@
 -- `passes` meets its contract: by the columns, then by the number of the refusal.
 use borrow.Author.Tests.{not-true, not-false}
-use Rattle.host_selecting.specs.Calls.{rangeOf, range-refused, range-accepted, unequal-fails, equal-passes}
-use Rattle.host_selecting.proofs.passes.Statement.{statement}
-use Rattle.host_selecting.proofs.passes.Tie as tie
+use Rattle.host_refusals.specs.Refusals.{rangeOf, range-refused, range-accepted, unequal-fails, equal-passes}
+use Rattle.host_refusals.proofs.passes.Statement.{statement}
+use Rattle.host_refusals.proofs.passes.Tie as tie
 
 returns : tie.Need-returns
 returns c =

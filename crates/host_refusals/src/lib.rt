@@ -1,0 +1,69 @@
+// What a host's call is refused by before its last text is read: the tests of the call, and the way out, on which every lent cell is 0.
+ghost use mathlib.Core.Bool.{_&&_};
+ghost use mathlib.Core.List.{[]};
+ghost use mathlib.Core.Path.{_≡_};
+ghost use Rattle.host_laws.specs.Stages.{lentOf};
+ghost use Rattle.host_refusals.specs.Refusals.{rangeOf};
+ghost use Rattle.host_results.specs.Exits.{refusedBy, RefusedExit};
+ghost use Rattle.table_spec.specs.Columns.{columns};
+use host_results::HostResult;
+use host_texts::Told;
+use limits::MAX_PATHS;
+use row_numbers::clear_counts_from;
+use row_numbers::clear_from;
+use table_cutting::clear_bytes;
+
+// Whether the columns are of one length, and the bundle has the place; of a bundle that is refused, whether some bundle has it.
+pub fn passes(equal: bool, place: usize, number: u64, count: usize) -> bool
+    ensures { λ r. ⌜ r ≡ (equal && rangeOf place number count) ⌝ }
+{
+    if !equal {
+        return false;
+    }
+    if number != 0 {
+        return place <= MAX_PATHS;
+    }
+    place <= count
+}
+
+fn result(told: Told) -> HostResult
+    ensures { λ r. ⌜ r ≡ refusedBy (told .number) (told .place) ⌝ }
+{
+    host_results::refused(told.number, told.place)
+}
+
+// Refuses to make an extract.
+pub fn refuse_making(
+    told: Told,
+    numbers: &mut [u16],
+    names: &mut [u8],
+    parents: &mut [u16],
+    starts: &mut [u32],
+    lengths: &mut [u16],
+    out: &mut [u8],
+) -> HostResult
+    ensures { λ r. ⌜ RefusedExit (told .number) (told .place) (lentOf (columns (now (numbers .entry)) (now (names .entry)) (now (parents .entry)) (now (starts .entry)) (now (lengths .entry))) (now (out .entry)) []) r (columns (now (numbers .exit)) (now (names .exit)) (now (parents .exit)) (now (starts .exit)) (now (lengths .exit))) (now (out .exit)) [] ⌝ }
+{
+    row_columns::clear(numbers, names, parents, starts, lengths);
+    clear_bytes(out, 0);
+    result(told)
+}
+
+// Refuses to select from an extract.
+pub fn refuse_selecting(
+    told: Told,
+    numbers: &mut [u16],
+    names: &mut [u8],
+    parents: &mut [u16],
+    starts: &mut [u32],
+    lengths: &mut [u16],
+    items: &mut [u16],
+    counts: &mut [u32],
+) -> HostResult
+    ensures { λ r. ⌜ RefusedExit (told .number) (told .place) (lentOf (columns (now (numbers .entry)) (now (names .entry)) (now (parents .entry)) (now (starts .entry)) (now (lengths .entry))) (now (items .entry)) (now (counts .entry))) r (columns (now (numbers .exit)) (now (names .exit)) (now (parents .exit)) (now (starts .exit)) (now (lengths .exit))) (now (items .exit)) (now (counts .exit)) ⌝ }
+{
+    row_columns::clear(numbers, names, parents, starts, lengths);
+    clear_from(items, 0);
+    clear_counts_from(counts, 0);
+    result(told)
+}
