@@ -23,8 +23,9 @@ use Rattle.journal_laws.specs.Accepted.{accepted-well-formed}
 use Rattle.journal_spec.specs.Reading.{readJournal}
 use Rattle.kept_rows.specs.Kept.{inSet, keptMarks, KeptColumns}
 use Rattle.library_spec.specs.Calls.{inColumns, columnsAfter}
-use Rattle.library_spec.specs.Hosts.{HostAnswer, hostAnswer, extractOf}
+use Rattle.library_spec.specs.Hosts.{hostAnswer, extractOf}
 use Rattle.names.specs.declared.NameSet.{NameSet}
+use Rattle.needed_sets.specs.Needs.{NeededIn}
 use Rattle.path_spec.specs.Paths.{LocationPath}
 use Rattle.row_columns.specs.Columns.{EqualColumns}
 use Rattle.row_numbers.specs.Cells.{Cleared}
@@ -43,7 +44,6 @@ use Rattle.text_spec.specs.Calls.{inRoom, cellsAfter}
 use Rattle.text_spec.specs.Cells.{tooSmall}
 use Rattle.text_spec.specs.Limits.{maxJournalBytes}
 use Rattle.text_spec.specs.Refusals.{accepted, andThen, at, tooFewCells}
-use Rattle.type_steps.specs.Relations.{RelationsOf, Known, setIn}
 use Rattle.verdicts.specs.Verdicts.{verdict}
 use Rattle.verdicts.specs.declared.Verdict.{Verdict}
 use Rattle.written_tables.specs.Asked.{well-formed-alone, text-columns, kept-columns, codes-named}
@@ -56,10 +56,6 @@ pub record UnderTexts (schema : List ℕ) (t : CompiledSchema) (paths : Compiled
   pub made : CompiledOf schema (schemaIn schema) t
   pub shaped : Shaped paths
   pub equal : EqualColumns c
-
--- the set has the names that the paths need under each schema that has this compiled form
-pub record NeededIn (t : CompiledSchema) (paths : CompiledPaths) (x : NameSet) : Type 0 where
-  pub under : (s : Schema) → RelationsOf s (t .entries .«holds») (t .below) → t .count ≡ length s → (setIn s x ≡ needed (typesOf s) (pathsIn paths)) × Known s x
 
 -- the first rows of columns are rows whose extract can be written
 pub record FirstAsked (journal : List ℕ) (c : Columns) (n : ℕ) : Type 0 where

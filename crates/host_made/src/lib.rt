@@ -6,7 +6,7 @@ ghost use Prim.Native.Nat.{_≤_};
 ghost use lib.ListN.{length};
 ghost use Rattle.compiled_paths.specs.Paths.{lentPaths, pathsIn, Shaped};
 ghost use Rattle.host_laws.specs.Stages.{lentOf, madeUnder};
-ghost use Rattle.host_made.specs.Making.{NeededIn, AnswerAs, FirstAsked, WrittenUnder, UnderTexts};
+ghost use Rattle.host_made.specs.Making.{AnswerAs, FirstAsked, WrittenUnder, UnderTexts};
 ghost use Rattle.host_results.specs.Exits.{Exits};
 ghost use Rattle.schema_spec.specs.Records.{schemaIn};
 ghost use Rattle.table_spec.specs.Columns.{sizesOf, columns};
@@ -19,31 +19,9 @@ use extract_writing::write_kept;
 use host_results::HostResult;
 use journal_compiled::read_compiled;
 use limits::MAX_JOURNAL_BYTES;
-use names::MAX_ELEMENTS;
-use names::NameSet;
-use needed_names::needed_set;
-use schema_entries::Entries;
+use needed_sets::needed_under;
 use table_cutting::clear_bytes;
 use verdicts::TOO_FEW_CELLS;
-
-// The names that the paths need.
-fn needed_by<'a>(
-    compiled: CompiledSchema,
-    axes: &'a [u8; STEPS],
-    tests: &'a [u8; STEPS],
-    conditions: &'a [u16; CONDITION_STARTS],
-    paths: &'a [u8; PATH_STARTS],
-    total: usize,
-) -> NameSet
-    requires { ⌜ Shaped (lentPaths (now axes) (now tests) (now conditions) (now paths) total) × (compiled .count ≤ maxDeclarations) ⌝ }
-    ensures { λ r. ⌜ NeededIn compiled (lentPaths (now (axes .entry)) (now (tests .entry)) (now (conditions .entry)) (now (paths .entry)) total) r ⌝ }
-{
-    let count = compiled.count;
-    let entries: Entries = compiled.entries;
-    let holds: [NameSet; MAX_ELEMENTS] = entries.holds;
-    let below: [NameSet; MAX_ELEMENTS] = compiled.below;
-    needed_set(count, holds, below, axes, tests, conditions, paths, total)
-}
 
 // The result for rows in the columns and bytes in `room` cells; 18 where these are too few, and then no row is left.
 fn answer(
@@ -85,7 +63,7 @@ fn write_under<'a>(
     requires { ⌜ Shaped (lentPaths (now axes) (now tests) (now conditions) (now paths) total) × (compiled .count ≤ maxDeclarations) × FirstAsked (now journal) (columns (now numbers) (now names) (now parents) (now starts) (now lengths)) rows ⌝ }
     ensures { λ r. ⌜ WrittenUnder compiled (lentPaths (now (axes .entry)) (now (tests .entry)) (now (conditions .entry)) (now (paths .entry)) total) (now (journal .entry)) rows (columns (now (numbers .entry)) (now (names .entry)) (now (parents .entry)) (now (starts .entry)) (now (lengths .entry))) (columns (now (numbers .exit)) (now (names .exit)) (now (parents .exit)) (now (starts .exit)) (now (lengths .exit))) (now (out .entry)) (now (out .exit)) r ⌝ }
 {
-    let set = needed_by(compiled, axes, tests, conditions, paths, total);
+    let set = needed_under(compiled, axes, tests, conditions, paths, total);
     let bytes = write_kept(
         set,
         journal,

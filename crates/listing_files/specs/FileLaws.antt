@@ -184,7 +184,7 @@ module _ (schema bundle journal : List ℕ) where
                 let named : codesOf rows ≡ map (λ x. codeOf (x .name)) rows = codes-map rows in
                 let f = inSet (l .set) in
                 let m = keptMarks f (map (λ x. codeOf (x .name)) rows) (map (λ x. x .parent) rows) in
-                let passes = set-passes schema s read rows alone (l .set) (needed (typesOf s) paths) (compiled-needed schema s read (t .schema) (judged .compiled) (t .paths) (l .set) (l .set-needed) .0) in
+                let passes = set-passes schema s read rows alone (l .set) (needed (typesOf s) paths) (compiled-needed schema s read (t .schema) (judged .compiled) (t .paths) (l .set) (l .set-needed .under) .0) in
                 let size = marks-size (typesOf s) rows alone f (needed (typesOf s) paths) passes in
                 l .kept-is ∙ ap₂ (λ (x y : List ℕ). rank (keptMarks f x y) (length (keptMarks f x y))) (codes-are ∙ named) parents-are
                 ∙ ap (rank m) size ∙ picked-length m rows size ∙ sym (ap length (cut-picked (typesOf s) rows alone f (needed (typesOf s) paths) passes) ∙ length-map (picked m rows) (renumberedBy m))

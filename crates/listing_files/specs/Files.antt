@@ -10,7 +10,6 @@ use Rattle.compiled_paths.specs.declared.CompiledPaths.{CompiledPaths}
 use Rattle.compiled_schema.specs.Compiled.{CompiledOf}
 use Rattle.compiled_schema.specs.declared.CompiledSchema.{CompiledSchema}
 use Rattle.first_paths.specs.Firsts.{FirstPaths, selectedCount}
-use Rattle.inference_spec.specs.Needed.{needed}
 use Rattle.kept_rows.specs.Joined.{rank}
 use Rattle.kept_rows.specs.Kept.{inSet, keptMarks, KeptColumns}
 use Rattle.library_spec.specs.Listing.{header, listing}
@@ -18,19 +17,17 @@ use Rattle.listing_files.specs.declared.Listed.{Listed}
 use Rattle.listing_laws.specs.Rows.{rowLines}
 use Rattle.listing_lines.specs.Lines.{refusal, rowLine}
 use Rattle.names.specs.declared.NameSet.{NameSet}
+use Rattle.needed_sets.specs.Needs.{NeededIn}
 use Rattle.row_chains.specs.Chains.{chainAt, chainSize, NamesAt, SizePass}
 use Rattle.row_columns.specs.Columns.{EqualColumns}
 use Rattle.schema.specs.Judging.{declaredAt}
 use Rattle.schema_spec.specs.Machine.{parse}
 use Rattle.schema_spec.specs.Records.{schemaIn}
-use Rattle.schema_spec.specs.Schemas.{Schema}
-use Rattle.schema_spec.specs.Types.{typesOf}
 use Rattle.select.specs.Paths as select
 use Rattle.table_spec.specs.Columns.{Columns}
 use Rattle.text_laws.specs.Cells.{padded-length}
 use Rattle.text_spec.specs.Limits.{maxDeclarations, listingRows}
 use Rattle.text_spec.specs.Scans.{nameAt}
-use Rattle.type_steps.specs.Relations.{setIn, RelationsOf, Known}
 
 -- ---- definitions
 abbrev pub refusedBy : ℕ → ℕ → Listed
@@ -75,7 +72,7 @@ pub record ListedRows (schema : List ℕ) (t : CompiledSchema) (c : CompiledPath
   pub rows-are : r .rows ≡ length ps
   pub selected-is : r .selected ≡ selectedCount firsts
   pub set : NameSet
-  pub set-needed : (q : Schema) → RelationsOf q (t .entries .«holds») (t .below) → t .count ≡ length q → (setIn q set ≡ needed (typesOf q) (pathsIn c)) × Known q set
+  pub set-needed : NeededIn t c set
   pub kept-is : r .kept ≡ rank (keptMarks (inSet set) codes ps) (length (keptMarks (inSet set) codes ps))
   pub noted : FirstPaths ps codes (pathsIn c) firsts
   pub names-are : r .names ≡ t .names

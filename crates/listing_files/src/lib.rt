@@ -15,7 +15,7 @@ use listing_table::kept_count;
 use listing_table::note_paths;
 use names::MAX_ELEMENTS;
 use names::NameSet;
-use needed_names::needed_set;
+use needed_sets::needed_under;
 use row_chains::name_sizes;
 use schema_entries::Entries;
 
@@ -61,20 +61,8 @@ fn list_rows<'a>(
     requires { ⌜ RowsAsked (now schema) compiled (lentPaths (now axes) (now tests) (now conditions) (now paths) total) (now codes) (now parents) (now firsts) ⌝ }
     ensures { λ r. ⌜ ListedRows (now (schema .entry)) compiled (lentPaths (now (axes .entry)) (now (tests .entry)) (now (conditions .entry)) (now (paths .entry)) total) (now (codes .entry)) (now (parents .entry)) (now (firsts .exit)) r ⌝ }
 {
-    let entries: Entries = compiled.entries;
-    let holds: [NameSet; MAX_ELEMENTS] = entries.holds;
-    let below: [NameSet; MAX_ELEMENTS] = compiled.below;
     let names = compiled.names;
-    let set = needed_set(
-        compiled.count,
-        holds,
-        below,
-        axes,
-        tests,
-        conditions,
-        paths,
-        total,
-    );
+    let set = needed_under(compiled, axes, tests, conditions, paths, total);
     let kept = kept_count(set, codes, parents);
     note_paths(
         axes,

@@ -5,7 +5,7 @@ ghost use lib.ListN.{length};
 ghost use Rattle.compiled_paths.specs.Columns.{bundleIn};
 ghost use Rattle.compiled_paths.specs.Paths.{lentPaths, pathsIn, Shaped};
 ghost use Rattle.needed_names.specs.Bundles.{HasPaths};
-ghost use Rattle.inference_spec.specs.Needed.{needed, neededWord};
+ghost use Rattle.inference_spec.specs.Needed.{needed};
 ghost use Rattle.schema_spec.specs.Schemas.{Schema};
 ghost use Rattle.schema_spec.specs.Types.{typesOf};
 ghost use Rattle.text_spec.specs.Limits.{maxDeclarations};
@@ -71,22 +71,4 @@ pub fn needed_set<'a>(
     let all = known_names::names_of(holds, count);
     let whole = paths_needed(all, holds, below, axes, tests, conditions, paths, 0, total);
     whole.common(all)
-}
-
-// The same as 64 bits.
-pub fn needed_word<'a>(
-    count: usize,
-    holds: [NameSet; MAX_ELEMENTS],
-    below: [NameSet; MAX_ELEMENTS],
-    axes: &'a [u8; STEPS],
-    tests: &'a [u8; STEPS],
-    conditions: &'a [u16; CONDITION_STARTS],
-    paths: &'a [u8; PATH_STARTS],
-    total: usize,
-) -> u64
-    requires { ⌜ Shaped (lentPaths (now axes) (now tests) (now conditions) (now paths) total) × (count ≤ maxDeclarations) ⌝ }
-    ensures { λ r. ⌜ ((s : Schema) → RelationsOf s holds below → count ≡ length s → r ≡ neededWord (typesOf s) (pathsIn (lentPaths (now (axes .entry)) (now (tests .entry)) (now (conditions .entry)) (now (paths .entry)) total))) ⌝ }
-{
-    let set = needed_set(count, holds, below, axes, tests, conditions, paths, total);
-    set.to_word()
 }

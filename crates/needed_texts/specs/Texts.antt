@@ -10,20 +10,23 @@ use Rattle.compiled_paths.specs.Paths.{pathsIn, Shaped}
 use Rattle.compiled_schema.specs.Compiled.{CompiledOf}
 use Rattle.compiled_schema.specs.declared.CompiledSchema.{CompiledSchema}
 use Rattle.path_spec.specs.Reading.{readBundle}
-use Rattle.inference_spec.specs.Needed.{neededWord}
+use Rattle.inference_spec.specs.Needed.{needed, neededWord}
+use Rattle.names.specs.Sets.{setOf, everyName}
+use Rattle.names.specs.declared.NameSet.{NameSet}
+use Rattle.needed_names.specs.Words.{word-of-known}
+use Rattle.needed_sets.specs.Needs.{NeededIn}
 use Rattle.schema.specs.Judging.{declaredAt}
 use Rattle.schema_relations.specs.Compiled.{compiled-few, compiled-needed-word}
 use Rattle.schema_spec.specs.Machine.{parse}
+use Rattle.schema_spec.specs.Names.{wordOfSet}
 use Rattle.schema_spec.specs.Reading.{readSchema}
 use Rattle.schema_spec.specs.Records.{schemaIn}
-use Rattle.schema_spec.specs.Schemas.{Schema}
 use Rattle.schema_spec.specs.Types.{typesOf}
 use Rattle.text_laws.specs.Cells.{padded-length}
 use Rattle.text_spec.specs.Cells.{padded}
 use Rattle.text_spec.specs.Limits.{maxDeclarations}
 use Rattle.text_spec.specs.Refusals.{accepted, resultOr}
 use Rattle.text_spec.specs.Scans.{nameAt}
-use Rattle.type_steps.specs.Relations.{RelationsOf}
 
 -- the bits are those of the bundle in a text, under the schema in an accepted text
 unfoldable pub NeededBy : List ℕ → List ℕ → ℕ → Type 0
@@ -59,9 +62,9 @@ module _ (schema text : List ℕ) (t : CompiledSchema) (made : CompiledOf schema
   pub judged-shaped : Shaped (r .paths)
   judged-shaped = judged .under (schemaIn schema) (made .named) .shaped
 
-  pub judged-needed : (word : ℕ)
-      → ((q : Schema) → RelationsOf q (t .entries .«holds») (t .below) → t .count ≡ length q → word ≡ neededWord (typesOf q) (pathsIn (r .paths))) → NeededBy schema text word
-  unfolding NeededBy
-  judged-needed word h read =
-      compiled-needed-word schema (schemaIn schema) read t made (r .paths) word h
+  pub judged-needed : (x : NameSet) → NeededIn t (r .paths) x → (word : ℕ) → word ≡ wordOfSet everyName (setOf everyName x) → NeededBy schema text word
+  unfolding NeededBy neededWord typesOf
+  judged-needed x need word e read =
+      compiled-needed-word schema (schemaIn schema) read t made (r .paths) word
+      (λ q k n. let is = need .under q k n in e ∙ word-of-known q (k .small) x (needed (typesOf q) (pathsIn (r .paths))) (is .1) (is .0))
       ∙ ap (neededWord (typesOf (schemaIn schema))) (judged .under (schemaIn schema) (made .named) .compiled)

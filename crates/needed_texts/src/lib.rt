@@ -1,7 +1,7 @@
 // The names that a bundle text needs under a schema text, from the compiled forms of both.
 ghost use Rattle.needed_texts.specs.Texts.{NeededBy};
-use names::MAX_ELEMENTS;
 use names::NameSet;
+use needed_sets::needed_under;
 use schema_entries::Entries;
 
 // As 64 bits. Of a schema text that is refused nothing is said.
@@ -11,18 +11,14 @@ pub fn needed_by_texts(schema: &[u8], text: &[u8]) -> u64
     let compiled = compiled_schema::compile(schema);
     let count = compiled.count;
     let names = compiled.names;
-    let entries: Entries = compiled.entries;
-    let holds: [NameSet; MAX_ELEMENTS] = entries.holds;
-    let below: [NameSet; MAX_ELEMENTS] = compiled.below;
     let judged = bundle_judging::judge_bundle(schema, &names[..count], text);
-    needed_names::needed_word(
-        count,
-        holds,
-        below,
+    let set = needed_under(
+        compiled,
         &judged.paths.axes,
         &judged.paths.tests,
         &judged.paths.conditions,
         &judged.paths.paths,
         judged.paths.count,
-    )
+    );
+    set.to_word()
 }

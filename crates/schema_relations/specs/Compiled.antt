@@ -44,13 +44,13 @@ module _ (text : List ℕ) (s : Schema) (read : readSchema text ≡ accepted s) 
   compiled-names all h = h s (made .entries .held) (made .counted)
 
   module _ (bundle : CompiledPaths) where
-    -- `needed_names::needed_set`
+    -- `needed_sets::needed_under`
     pub compiled-needed : (r : NameSet)
         → ((q : Schema) → RelationsOf q (t .entries .«holds») (t .below) → t .count ≡ length q → (setIn q r ≡ needed (typesOf q) (pathsIn bundle)) × Known q r)
         → (setIn s r ≡ needed (typesOf s) (pathsIn bundle)) × Known s r
     compiled-needed r h = h s compiled-relations (made .counted)
 
-    -- `needed_names::needed_word`
+    -- its 64 bits
     pub compiled-needed-word : (word : ℕ)
         → ((q : Schema) → RelationsOf q (t .entries .«holds») (t .below) → t .count ≡ length q → word ≡ neededWord (typesOf q) (pathsIn bundle))
         → word ≡ neededWord (typesOf s) (pathsIn bundle)

@@ -1,6 +1,4 @@
 use Rattle.first_paths.specs.Firsts.{count-none, count-one}
-use borrow.Author.Needs.{needs}
-use native.Mathlib.Omega.{arith}
 use Rattle.first_paths.proofs.count_of.Statement.{statement}
 use Rattle.first_paths.proofs.count_of.Tie as tie
 

@@ -1,6 +1,4 @@
 use borrow.Author.Tests.{eq-eqb, ne-eqb}
-use borrow.Author.Needs.{needs}
-use native.Mathlib.Omega.{arith}
 use Rattle.first_paths.proofs.first_of.Statement.{statement}
 use Rattle.first_paths.proofs.first_of.Tie as tie
 

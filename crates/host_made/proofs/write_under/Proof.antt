@@ -5,7 +5,7 @@ use Rattle.host_made.proofs.write_under.Statement.{statement}
 use Rattle.host_made.proofs.write_under.Tie as tie
 
 -- The states that several needs go back to.
-abbrev start : tie.After-needed-by → tie.Start
+abbrev start : tie.After-needed-under → tie.Start
 start c = c .before .before .before .before .before .before .before .before
 
 abbrev answered : tie.After-slice-known12 → tie.After-answer
@@ -23,8 +23,8 @@ returns : tie.Need-returns
 returns c =
     let needed = written c .before .before .before .before .before .before .before in
     record {
-      set = needed .needed-by .result;
-      need = needed .needed-by .ensures;
+      set = needed .needed-under .result;
+      need = needed .needed-under .ensures;
       size = written c .write-kept .result;
       bytes = written c .write-kept .ensures;
       last = answered c .answer .ensures;

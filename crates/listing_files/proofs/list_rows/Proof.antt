@@ -3,13 +3,12 @@ use mathlib.Core.Path.{refl, sym, _∙_}
 use Rattle.listing_files.specs.Files.{names-all}
 use Rattle.schema_relations.specs.Compiled.{compiled-few}
 use borrow.Author.Needs.{needs}
-use native.Mathlib.Omega.{arith}
 use Rattle.listing_files.proofs.list_rows.Statement.{statement}
 use Rattle.listing_files.proofs.list_rows.Tie as tie
 
 -- the states that answers go back to
 abbrev start-before : tie.After-names → tie.Start
-start-before c = c .before .before .before .before .before .before .before .before
+start-before c = c .before .before .before .before .before
 
 abbrev noted-before : tie.After-names2 → tie.After-note-paths
 noted-before c = c .before .before .before .before .before
@@ -17,8 +16,8 @@ noted-before c = c .before .before .before .before .before
 abbrev names-before : tie.After-note-paths-arg → tie.After-names
 names-before c = c .before .before .before
 
-needed-set-requires : tie.Need-needed-set-requires
-needed-set-requires c κs =
+needed-under-requires : tie.Need-needed-under-requires
+needed-under-requires c κs =
     let start = start-before c in
     (start .pre .shaped, compiled-few _ _ (start .pre .compiled))
 
@@ -48,8 +47,8 @@ returns c =
       accepted = refl;
       rows-are = refl;
       selected-is = counted .selected-count .ensures;
-      set = found .needed-set .result;
-      set-needed = found .needed-set .ensures;
+      set = found .needed-under .result;
+      set-needed = found .needed-under .ensures;
       kept-is = kept .kept-count .ensures;
       noted = noted .note-paths .ensures;
       names-are = refl;
@@ -60,7 +59,7 @@ pub list-rows-spec : {M : Type 1} → statement M
 list-rows-spec =
     tie.close
     (tie.spec
-    needed-set-requires
+    needed-under-requires
     kept-count-requires
     note-paths-requires
     (λ c κs. search needs)

@@ -1,4 +1,3 @@
-use native.Mathlib.Omega.{arith}
 use mathlib.Core.Path.{sym}
 use Rattle.listing_table.specs.Tables.{scratch-size, kept-asked}
 use borrow.Author.Needs.{needs}

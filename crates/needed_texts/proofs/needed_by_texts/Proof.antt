@@ -1,19 +1,18 @@
 use Rattle.needed_texts.specs.Texts.{names-inside, names-taken, names-few, judged-shaped, judged-needed}
 use Rattle.schema_relations.specs.Compiled.{compiled-few}
 use borrow.Author.Needs.{needs}
-use native.Mathlib.Omega.{arith}
 use Rattle.needed_texts.proofs.needed_by_texts.Statement.{statement}
 use Rattle.needed_texts.proofs.needed_by_texts.Tie as tie
 
 -- the states that answers go back to
-abbrev judged-before : tie.After-needed-word-arg4 → tie.After-judge-bundle
+abbrev judged-before : tie.After-needed-under-arg4 → tie.After-judge-bundle
 judged-before c = c .before .before .before .before .before
 
 abbrev compile-before : tie.After-names2 → tie.After-compile
-compile-before c = c .before .before .before .before .before
+compile-before c = c .before .before
 
 array-share-prefix-names : tie.Need-array-share-prefix-names
-array-share-prefix-names c = names-inside _ _ (c .before .before .before .before .compile .ensures)
+array-share-prefix-names c = names-inside _ _ (c .before .compile .ensures)
 
 slice-aggregate-judge-bundle : tie.Need-slice-aggregate-judge-bundle
 slice-aggregate-judge-bundle c = names-taken _ _ (compile-before c .compile .ensures)
@@ -21,16 +20,17 @@ slice-aggregate-judge-bundle c = names-taken _ _ (compile-before c .compile .ens
 judge-bundle-requires : tie.Need-judge-bundle-requires
 judge-bundle-requires c κs = names-few _ _ (compile-before c .compile .ensures)
 
-needed-word-requires : tie.Need-needed-word-requires
-needed-word-requires c κs =
+needed-under-requires : tie.Need-needed-under-requires
+needed-under-requires c κs =
     let judged = judged-before c in
     let made = compile-before (judged .before) .compile .ensures in
     (judged-shaped _ _ _ made _ (judged .judge-bundle .ensures), compiled-few _ _ made)
 
 returns : tie.Need-returns
 returns c =
-    let judged = judged-before (c .before) in
-    judged-needed _ _ _ (compile-before (judged .before) .compile .ensures) _ (judged .judge-bundle .ensures) _ (c .needed-word .ensures)
+    let needed = c .before in
+    let judged = judged-before (needed .before) in
+    judged-needed _ _ _ (compile-before (judged .before) .compile .ensures) _ (judged .judge-bundle .ensures) _ (needed .needed-under .ensures) _ (c .to-word .ensures)
 
 pub needed-by-texts-spec : {M : Type 1} → statement M
 needed-by-texts-spec =
@@ -40,5 +40,6 @@ needed-by-texts-spec =
     array-share-prefix-names
     slice-aggregate-judge-bundle
     judge-bundle-requires
-    needed-word-requires
+    needed-under-requires
+    (λ c κs. search needs)
     returns)

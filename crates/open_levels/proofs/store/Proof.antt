@@ -1,6 +1,5 @@
 use denote.Ref.{now}
 use Rattle.open_levels.specs.LevelLaws.{store-stores}
-use native.Mathlib.Omega.{arith}
 use borrow.Author.Needs.{needs}
 use Rattle.open_levels.proofs.store.Statement.{statement}
 use Rattle.open_levels.proofs.store.Tie as tie

@@ -1,7 +1,6 @@
 -- `select_texts` meets its contract: both texts compiled, and the table judged by what they give.
 use Rattle.needed_texts.specs.Texts.{names-inside, names-taken, names-few, judged-shaped}
 use Rattle.select_records.specs.Records.{some-schema, texts-selected}
-use native.Mathlib.Omega.{arith}
 use borrow.Author.Needs.{needs}
 use Rattle.select_records.proofs.select_texts.Statement.{statement}
 use Rattle.select_records.proofs.select_texts.Tie as tie

@@ -1,0 +1,32 @@
+// The names that compiled paths need under a compiled schema.
+ghost use Prim.Native.Nat.{_≤_};
+ghost use Rattle.compiled_paths.specs.Paths.{lentPaths, Shaped};
+ghost use Rattle.needed_sets.specs.Needs.{NeededIn};
+ghost use Rattle.text_spec.specs.Limits.{maxDeclarations};
+use compiled_paths::CONDITION_STARTS;
+use compiled_paths::PATH_STARTS;
+use compiled_paths::STEPS;
+use compiled_schema::CompiledSchema;
+use names::MAX_ELEMENTS;
+use names::NameSet;
+use needed_names::needed_set;
+use schema_entries::Entries;
+
+// The names that `total` paths need, as a set of names of the schema alone.
+pub fn needed_under<'a>(
+    compiled: CompiledSchema,
+    axes: &'a [u8; STEPS],
+    tests: &'a [u8; STEPS],
+    conditions: &'a [u16; CONDITION_STARTS],
+    paths: &'a [u8; PATH_STARTS],
+    total: usize,
+) -> NameSet
+    requires { ⌜ Shaped (lentPaths (now axes) (now tests) (now conditions) (now paths) total) × (compiled .count ≤ maxDeclarations) ⌝ }
+    ensures { λ r. ⌜ NeededIn compiled (lentPaths (now (axes .entry)) (now (tests .entry)) (now (conditions .entry)) (now (paths .entry)) total) r ⌝ }
+{
+    let count = compiled.count;
+    let entries: Entries = compiled.entries;
+    let holds: [NameSet; MAX_ELEMENTS] = entries.holds;
+    let below: [NameSet; MAX_ELEMENTS] = compiled.below;
+    needed_set(count, holds, below, axes, tests, conditions, paths, total)
+}
