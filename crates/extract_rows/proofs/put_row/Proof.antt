@@ -1,7 +1,6 @@
 -- `put_row` meets its contract: no field of a row that is not marked, and that of an element or a text.
-use Rattle.extract_rows.specs.Rows.{row-skipped, element-room, element-put, text-asked, text-put}
+use Rattle.extract_rows.specs.Rows.{row-skipped, row-place, element-room, element-put, text-asked, text-put}
 use native.Mathlib.Omega.{arith}
-use borrow.Author.Needs.{needs}
 use Rattle.extract_rows.proofs.put_row.Statement.{statement}
 use Rattle.extract_rows.proofs.put_row.Tie as tie
 
@@ -56,31 +55,31 @@ put-row-spec =
     tie.close
     (tie.spec
     (λ c. row-skipped _ _ _ _ _ _ (c .before .before .before .before .before .before .before .before .pre) (c .if1 .taken))
-    (λ c. search needs)
-    (λ c. search needs)
-    (λ c. search needs)
-    (λ c. search needs)
+    (λ c. row-place (start c .pre) .halves)
+    (λ c. start (c .before) .pre .inside)
+    (λ c. row-place (start (c .before) .pre) .halves)
+    (λ c. row-place (start (c .before .before) .pre) .parents)
     (λ c. omega (arith, c .shared-slice-known8 .given (start (c .before .before) .args .r)))
     (λ c. omega (arith, c .shared-slice-known8 .given (start (c .before .before) .args .r)))
-    (λ c. let at = start (c .before .before .before) in omega (arith, at .pre .columns .above (at .args .r) (at .pre .inside)))
-    (λ c. search needs)
+    (λ c. let at = start (c .before .before .before) in at .pre .columns .above (at .args .r) (at .pre .inside))
+    (λ c. row-place (start (marked c) .pre) .names)
     (λ c. omega (arith, c .shared-slice-known10 .given (start (marked c) .args .r)))
     put-element-requires
-    (λ c. search needs)
-    (λ c. search needs)
+    (λ c. omega arith)
+    (λ c. c .before .out .given)
     returns-2
-    (λ c. search needs)
-    (λ c. search needs)
+    (λ c. row-place (text-start c .pre) .words)
+    (λ c. row-place (text-start (c .before) .pre) .starts)
     (λ c. omega (arith, c .shared-slice-known11 .given (text-start (c .before) .args .r)))
-    (λ c. search needs)
-    (λ c. search needs)
+    (λ c. row-place (text-start (c .before) .pre) .halves)
+    (λ c. row-place (text-start (c .before .before) .pre) .lengths)
     (λ c. omega (arith, c .shared-slice-known12 .given (text-start (c .before .before) .args .r)))
     (λ c. let r = text-start (c .before .before) .args .r in omega (arith, c .before .shared-slice-known11 .given r, c .shared-slice-known12 .given r))
-    (λ c. search needs)
-    (λ c. search needs)
+    (λ c. omega arith)
+    (λ c. omega arith)
     part-put-text-end
     put-text-requires
-    (λ c. search needs)
+    (λ c. omega arith)
     add-result-3
-    (λ c. search needs)
+    (λ c. c .before .out2 .given)
     returns-3)

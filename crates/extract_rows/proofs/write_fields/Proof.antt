@@ -17,6 +17,10 @@ Inv-loop text numbers names parents starts lengths marks out₀ at₀ r₀ out a
 abbrev μ-loop : tie.MeasureT-loop
 μ-loop text numbers names parents starts lengths marks out₀ at₀ r₀ out at r = length marks - r
 
+-- back from where a row's mark is handed over to the loop
+abbrev loop-before : tie.After-put-row-arg Inv-loop μ-loop → tie.At-loop Inv-loop μ-loop
+loop-before c = c .before .before .before
+
 loop-holds : tie.Need-loop-holds Inv-loop μ-loop
 loop-holds c =
     let h = c .before .before .before .before .before .before .before .before .pre in
@@ -24,13 +28,13 @@ loop-holds c =
 
 put-row-requires : tie.Need-put-row-requires Inv-loop μ-loop
 put-row-requires c κs =
-    let loop = c .before .before .before .loop in
+    let loop = loop-before c .loop in
     fields-row _ _ _ _ (loop .inv .1) (loop .r) _ _ (loop .inv .2) (omega arith)
 
 loop-again : tie.Need-loop-again Inv-loop μ-loop
 loop-again c =
     let called = c .before .before in
-    let loop = called .before .before .before .before .loop in
+    let loop = loop-before (called .before) .loop in
     (omega arith, loop .inv .1, fields-next _ _ _ _ (loop .inv .1) (loop .r) _ _ (loop .inv .2) (omega arith) _ _ (called .put-row .ensures))
 
 same-length : tie.Need-same-length Inv-loop μ-loop
