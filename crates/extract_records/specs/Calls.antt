@@ -20,15 +20,13 @@ use Rattle.text_spec.specs.Refusals.{Outcome, refused, at, badRecord, andThen}
 use Rattle.verdicts.specs.Verdicts.{refusedBy, verdict}
 use Rattle.verdicts.specs.declared.Verdict.{Verdict}
 
--- refused by 1, with the columns clear
-pub record TurnedBack (c d : Columns) (r : Verdict) : Type 0 where
-  pub answer : r ≡ refusedBy 1 0
-  pub clear : d ≡ columnsOf (sizesOf c) []
-
 -- what is stated of the answer
 pub record CallAs (o : Outcome (List Row)) (c d : Columns) (r : Verdict) : Type 0 where
   pub answer : r ≡ verdict o
   pub cells : d ≡ columnsAfter (sizesOf c) (λ rows. rows) o
+
+pub stated : {o : Outcome (List Row)} {c d : Columns} {r : Verdict} → CallAs o c d r → (r ≡ verdict o) × (d ≡ columnsAfter (sizesOf c) (λ rows. rows) o)
+stated call = (call .answer, call .cells)
 
 module _ (schema : TextRecord) (bs : List ℕ) (z : Sizes) where
   abbrev afterTests : Bool → Bool → Outcome (List Row)
@@ -47,16 +45,18 @@ module _ (schema : TextRecord) (bs : List ℕ) (z : Sizes) where
   read-outcome : passesSchema schema ≡ true → equalSizes z ≡ true → extractRead schema bs z ≡ outcome (schemaIn (textIn schema)) bs z
   read-outcome p e = by-tests true true p e
 
-refused-call : (o : Outcome (List Row)) (c d : Columns) (r : Verdict) → TurnedBack c d r → o ≡ refused (at badRecord 0) → CallAs o c d r
+-- refused by 1, with the columns clear
+refused-call : (o : Outcome (List Row)) (c d : Columns) (r : Verdict) → o ≡ refused (at badRecord 0) → r ≡ refusedBy 1 0 → d ≡ columnsOf (sizesOf c) [] → CallAs o c d r
 unfolding columnsAfter
-refused-call o c d r t e = record { answer = t .answer ∙ sym (ap verdict e); cells = t .clear ∙ sym (ap (columnsAfter (sizesOf c) (λ rows. rows)) e) }
+refused-call o c d r e answer clear = record { answer = answer ∙ sym (ap verdict e); cells = clear ∙ sym (ap (columnsAfter (sizesOf c) (λ rows. rows)) e) }
 
 module _ (schema : TextRecord) (bs : List ℕ) (c d : Columns) (r : Verdict) where
-  pub call-no-record : passesSchema schema ≡ false → TurnedBack c d r → CallAs (extractRead schema bs (sizesOf c)) c d r
-  call-no-record p t = refused-call _ c d r t (no-record schema bs (sizesOf c) p)
+  pub call-no-record : passesSchema schema ≡ false → r ≡ refusedBy 1 0 → d ≡ columnsOf (sizesOf c) [] → CallAs (extractRead schema bs (sizesOf c)) c d r
+  call-no-record p = refused-call _ c d r (no-record schema bs (sizesOf c) p)
 
-  pub call-no-columns : passesSchema schema ≡ true → equalSizes (sizesOf c) ≡ false → TurnedBack c d r → CallAs (extractRead schema bs (sizesOf c)) c d r
-  call-no-columns p e t = refused-call _ c d r t (no-columns schema bs (sizesOf c) p e)
+  pub call-no-columns : passesSchema schema ≡ true → equalSizes (sizesOf c) ≡ false → r ≡ refusedBy 1 0 → d ≡ columnsOf (sizesOf c) []
+      → CallAs (extractRead schema bs (sizesOf c)) c d r
+  call-no-columns p e = refused-call _ c d r (no-columns schema bs (sizesOf c) p e)
 
   pub call-read : passesSchema schema ≡ true → equalSizes (sizesOf c) ≡ true → (words : List ℕ) → HeldWords (typesOf (schemaIn (textIn schema))) words → TableRead bs words c d r
       → CallAs (extractRead schema bs (sizesOf c)) c d r

@@ -2,7 +2,9 @@
 use mathlib.Core.Bool.{Bool, true, false, cond}
 use mathlib.Core.List.{List, [], _∷_, _++_}
 use mathlib.Core.Path.{_≡_, refl, sym, ap, subst, _∙_}
-use Prim.Native.Nat.{ℕ, zero, suc, _+_, _-_, _<_, _≤_}
+use Prim.Native.Nat.{ℕ, zero, suc, _+_, _*_, _-_, _<_, _≤_}
+use mir.Syntax.{w64}
+use mir.Val.{Fits}
 use native.Mathlib.Numerals.{add-one}
 use native.Mathlib.Omega.{arith}
 use borrow.Author.Tests.{eq-eqb, ne-eqb, lt-ltb, le-ltb, ltb-true, ltb-false}
@@ -107,6 +109,29 @@ pub record RowPass (lent : List ℕ) (c : Columns) (mark r : ℕ) (out : List �
   pub columns : TextColumns lent c (length (c .numbers))
   pub inside : r < length (c .numbers)
   pub room : at + length (markedField lent c mark r) ≤ length out
+
+-- so the row stands in each column, and its place in bytes fits a word
+pub record RowPlace (c : Columns) (r : ℕ) : Type 0 where
+  pub names : r < length (c .names)
+  pub parents : r < length (c .parents)
+  pub starts : r < length (c .starts)
+  pub lengths : r < length (c .lengths)
+  pub halves : Fits w64 (r * 2)
+  pub words : Fits w64 (r * 4)
+
+pub row-place : {lent : List ℕ} {c : Columns} {mark r : ℕ} {out : List ℕ} {at : ℕ} → RowPass lent c mark r out at → RowPlace c r
+row-place h =
+    let z = h .columns .sizes in
+    let l = h .inside in
+    let f = h .columns .few in
+    record {
+      names = omega (arith, z .names);
+      parents = omega (arith, z .parents);
+      starts = omega (arith, z .starts);
+      lengths = omega (arith, z .lengths);
+      halves = omega arith;
+      words = omega arith;
+    }
 
 -- a list of bytes stored at a place, and the place after them
 pub record StoredAt (was : List ℕ) (at : ℕ) (xs : List ℕ) (n : ℕ) (out : List ℕ) : Type 0 where

@@ -56,10 +56,10 @@ pub fn read_journal(
         return verdicts::refused(BAD_RECORD, 0);
     }
     let bytes = schema.bytes;
-    let len = schema.len;
-    let compiled = compiled_schema::compile(&bytes[..len]);
+    let declared = &bytes[..schema.len];
+    let compiled = compiled_schema::compile(declared);
     read_compiled(
-        &bytes[..len],
+        declared,
         compiled,
         text,
         MAX_JOURNAL_BYTES,

@@ -12,7 +12,7 @@ use lib.Dec.{eqb, eqb→eq}
 use Rattle.table_passes.specs.Climbs.{Climbed, stopped, nowhere, climb}
 use Rattle.table_passes.specs.Codes.{fits-depth}
 use Rattle.table_passes.specs.Passes.{isTextCode, depthUnder, rootFits, rootCells, openAfter, codeAt, parentAt, fitsUnder, laterPass, rowsPass}
-use Rattle.table_rows.specs.Lent.{RootAt, rowFits}
+use Rattle.table_rows.specs.Lent.{Lent, RowLent, RootAt, rowFits}
 use Rattle.table_spec.specs.Columns.{Columns, cellsAt}
 use Rattle.text_laws.specs.Tests.{passed, and-cases}
 use Rattle.text_spec.specs.Limits.{maxDeclarations, maxDepth}
@@ -35,6 +35,20 @@ pub record Climbing (c : Columns) (row parent from among element depth : ℕ) : 
   pub deep : 0 < depth
   pub shallow : depth ≤ maxDepth
   pub rest : climb (eqb parent) (c .parents) element depth ≡ climb (eqb parent) (c .parents) from among
+
+-- the row that the climb is for stands in the columns, and so does the element that the climb has come to
+pub row-lent : (c : Columns) (count row parent from among element depth : ℕ) → Lent c count → 0 < row → row < count → Climbing c row parent from among element depth
+    → RowLent (c .numbers) (c .names) (c .starts) (c .lengths) row element
+row-lent c count row parent from among element depth lent later more k =
+    record {
+      later = later;
+      numbered = omega (arith, lent .numbered);
+      named = omega (arith, lent .named);
+      started = omega (arith, lent .started);
+      sized = omega (arith, lent .sized);
+      parented = omega (arith, lent .named, k .low);
+      isElement = k .isElement;
+    }
 
 root-parts : (number code parent start size : ℕ) → rootFits number code parent start size ≡ true → (code ≡ 0) × (parent ≡ 0)
 unfolding rootFits

@@ -1,7 +1,8 @@
 -- `put_row` meets its contract: no field of a row that is not marked, and that of an element or a text.
-use Rattle.extract_rows.specs.Rows.{row-skipped, element-room, element-put, text-asked, text-put}
+use Rattle.extract_rows.specs.Rows.{row-skipped, row-place, element-room, element-put, text-asked, text-put}
+use Rattle.cut_rows.specs.Rows.{table}
+use Rattle.table_spec.specs.Columns.{Columns}
 use native.Mathlib.Omega.{arith}
-use borrow.Author.Needs.{needs}
 use Rattle.extract_rows.proofs.put_row.Statement.{statement}
 use Rattle.extract_rows.proofs.put_row.Tie as tie
 
@@ -16,16 +17,22 @@ start c = c .before .before .before .before .before .before .before .before
 abbrev text-start : tie.Else2 → tie.Start
 text-start c = start (marked (c .before))
 
+-- what is lent
+abbrev lent : tie.Start → Columns
+lent c = table (c .args .numbers .now) (c .args .names .now) (c .args .parents .now) (c .args .starts .now) (c .args .lengths .now)
+
 put-element-requires : tie.Need-put-element-requires
 put-element-requires c κs =
     let row = marked (c .before .before) in
-    element-room _ _ _ _ _ _ (start row .pre) (row .if1 .left) (c .before .if2 .taken)
+    let at = start row in
+    element-room (at .args .text .now) (lent at) (at .args .mark) (at .args .r) (at .args .out .now) (at .args .at) (at .pre) (row .if1 .left) (c .before .if2 .taken)
 
 returns-2 : tie.Need-returns-2
 returns-2 c =
     let named = c .before .before .before .before in
     let row = marked (named .before) in
-    element-put _ _ _ _ _ _ (start row .pre) (row .if1 .left) (named .if2 .taken) _ (c .before .before .put-element .ensures)
+    let at = start row in
+    element-put (at .args .text .now) (lent at) (at .args .mark) (at .args .r) (at .args .out .now) (at .args .at) (at .pre) (row .if1 .left) (named .if2 .taken) _ (c .before .before .put-element .ensures)
 
 part-put-text-end : tie.Need-part-put-text-end
 part-put-text-end c =
@@ -37,7 +44,8 @@ put-text-requires : tie.Need-put-text-requires
 put-text-requires c κs =
     let named = c .before .before .before .before in
     let row = marked (named .before) in
-    text-asked _ _ _ _ _ _ (start row .pre) (row .if1 .left) (named .if2 .left)
+    let at = start row in
+    text-asked (at .args .text .now) (lent at) (at .args .mark) (at .args .r) (at .args .out .now) (at .args .at) (at .pre) (row .if1 .left) (named .if2 .left)
 
 add-result-3 : tie.Need-add-result-3
 add-result-3 c =
@@ -49,38 +57,39 @@ returns-3 : tie.Need-returns-3
 returns-3 c =
     let named = c .before .before .before .before .before .before .before in
     let row = marked (named .before) in
-    text-put _ _ _ _ _ _ (start row .pre) (row .if1 .left) (named .if2 .left) _ (c .before .before .put-text .ensures)
+    let at = start row in
+    text-put (at .args .text .now) (lent at) (at .args .mark) (at .args .r) (at .args .out .now) (at .args .at) (at .pre) (row .if1 .left) (named .if2 .left) _ (c .before .before .put-text .ensures)
 
 pub put-row-spec : {M : Type 1} → statement M
 put-row-spec =
     tie.close
     (tie.spec
     (λ c. row-skipped _ _ _ _ _ _ (c .before .before .before .before .before .before .before .before .pre) (c .if1 .taken))
-    (λ c. search needs)
-    (λ c. search needs)
-    (λ c. search needs)
-    (λ c. search needs)
+    (λ c. row-place (start c .pre) .halves)
+    (λ c. start (c .before) .pre .inside)
+    (λ c. row-place (start (c .before) .pre) .halves)
+    (λ c. row-place (start (c .before .before) .pre) .parents)
     (λ c. omega (arith, c .shared-slice-known8 .given (start (c .before .before) .args .r)))
     (λ c. omega (arith, c .shared-slice-known8 .given (start (c .before .before) .args .r)))
-    (λ c. let at = start (c .before .before .before) in omega (arith, at .pre .columns .above (at .args .r) (at .pre .inside)))
-    (λ c. search needs)
+    (λ c. let at = start (c .before .before .before) in at .pre .columns .above (at .args .r) (at .pre .inside))
+    (λ c. row-place (start (marked c) .pre) .names)
     (λ c. omega (arith, c .shared-slice-known10 .given (start (marked c) .args .r)))
     put-element-requires
-    (λ c. search needs)
-    (λ c. search needs)
+    (λ c. omega arith)
+    (λ c. c .before .out .given)
     returns-2
-    (λ c. search needs)
-    (λ c. search needs)
+    (λ c. row-place (text-start c .pre) .words)
+    (λ c. row-place (text-start (c .before) .pre) .starts)
     (λ c. omega (arith, c .shared-slice-known11 .given (text-start (c .before) .args .r)))
-    (λ c. search needs)
-    (λ c. search needs)
+    (λ c. row-place (text-start (c .before) .pre) .halves)
+    (λ c. row-place (text-start (c .before .before) .pre) .lengths)
     (λ c. omega (arith, c .shared-slice-known12 .given (text-start (c .before .before) .args .r)))
     (λ c. let r = text-start (c .before .before) .args .r in omega (arith, c .before .shared-slice-known11 .given r, c .shared-slice-known12 .given r))
-    (λ c. search needs)
-    (λ c. search needs)
+    (λ c. omega arith)
+    (λ c. omega arith)
     part-put-text-end
     put-text-requires
-    (λ c. search needs)
+    (λ c. omega arith)
     add-result-3
-    (λ c. search needs)
+    (λ c. c .before .out2 .given)
     returns-3)

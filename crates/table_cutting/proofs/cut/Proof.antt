@@ -1,28 +1,34 @@
 -- `cut` meets its contract: scratch for the rows that there are.
 use Rattle.table_cutting.specs.Cut.{scratch-room}
 use mathlib.Core.Path.{sym}
-use borrow.Author.Needs.{needs}
 use Rattle.table_cutting.proofs.cut.Statement.{statement}
 use Rattle.table_cutting.proofs.cut.Tie as tie
 
+abbrev start-before : tie.After-slice-known5 → tie.Start
+start-before c = c .before .before .before .before .before .before .before .before .before .before
+
+-- From the exit back to the call.
+abbrev call-before : tie.After-slice-known10 → tie.After-cut-into
+call-before c = c .before .before .before .before .before .before .before .before .before .before .before
+
 slice-aggregate-cut-into : tie.Need-slice-aggregate-cut-into
-slice-aggregate-cut-into c = sym (scratch-room _ _ (c .before .before .before .before .before .before .before .before .before .before .before .pre .0 .kept .few))
+slice-aggregate-cut-into c = sym (scratch-room _ _ (start-before (c .before) .pre .0 .kept .few))
 
 cut-into-requires : tie.Need-cut-into-requires
 cut-into-requires c κs =
-    let start = c .before .before .before .before .before .before .before .before .before .before .before .before .before .before .before .before in
+    let start = start-before (c .before .before .before .before .before .before) in
     record { rows = start .pre .0; scratch = scratch-room _ _ (start .pre .0 .kept .few); lent = start .pre .1 }
 
 pub cut-spec : {M : Type 1} → statement M
 cut-spec =
     tie.close
     (tie.spec
-    (λ c. search needs)
+    (λ c. start-before c .pre .0 .kept .few)
     slice-aggregate-cut-into
     cut-into-requires
-    (λ c. c .before .before .before .before .before .before .before .before .before .out-numbers .given)
-    (λ c. c .before .before .before .before .before .before .before .out-names .given)
-    (λ c. c .before .before .before .before .before .out-parents .given)
-    (λ c. c .before .before .before .out-starts .given)
-    (λ c. c .before .out-lengths .given)
-    (λ c. c .before .before .before .before .before .before .before .before .before .before .before .cut-into .ensures))
+    (λ c. call-before c .cut-into .kept .1 .1 .1 .1 .1 .1 .1 .0)
+    (λ c. call-before c .cut-into .kept .1 .1 .1 .1 .1 .1 .1 .1 .0)
+    (λ c. call-before c .cut-into .kept .1 .1 .1 .1 .1 .1 .1 .1 .1 .0)
+    (λ c. call-before c .cut-into .kept .1 .1 .1 .1 .1 .1 .1 .1 .1 .1 .0)
+    (λ c. call-before c .cut-into .kept .1 .1 .1 .1 .1 .1 .1 .1 .1 .1 .1 .0)
+    (λ c. call-before c .cut-into .ensures))
