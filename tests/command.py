@@ -231,7 +231,9 @@ def main():
         prefix, sanitized = os.path.join(work, "prefix"), os.path.join(work, "sanitized")
         make = ["make", "-s", "-C", ROOT, "LOZHYMET_LIB=" + archive]
         subprocess.run(make + ["BUILD=" + os.path.join(work, "build"), "PREFIX=" + prefix, "install"], check=True)
-        subprocess.run(make + ["BUILD=" + sanitized, "CFLAGS=-O1 -g -fsanitize=address,undefined -fno-sanitize-recover=all"], check=True)
+        # the command alone: what is installed was made with all the rest
+        sanitizers = "CFLAGS=-O1 -g -fsanitize=address,undefined -fno-sanitize-recover=all"
+        subprocess.run(make + ["BUILD=" + sanitized, sanitizers, os.path.join(sanitized, "lozhymet")], check=True)
         faults = count = 0
         for program in (os.path.join(prefix, "bin", "lozhymet"), os.path.join(sanitized, "lozhymet")):
             with tempfile.TemporaryDirectory() as folder:

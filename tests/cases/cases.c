@@ -1,4 +1,4 @@
-/* Runs cases through the functions for C of crates/test_functions: `cases NAME` reads what tests/NAME.py makes from standard input, and writes what is
+/* Runs cases through the functions for C of tests/functions: `cases NAME` reads what tests/NAME.py makes from standard input, and writes what is
    held to NAME.out. */
 #include "cases.h"
 

@@ -1,4 +1,4 @@
-/* The functions for C of crates/test_functions that the cases go through. A slice is a pointer and a length, a record its cells and its length. */
+/* The functions for C of tests/functions that the cases go through. A slice is a pointer and a length, a record its cells and its length. */
 #ifndef FUNCTIONS_H
 #define FUNCTIONS_H
 

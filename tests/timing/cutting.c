@@ -1,4 +1,4 @@
-/* Cutting a table of 60,000 rows, and the chain of one of its rows: the proved entries, through crates/test_functions, against plain C loops, each with
+/* Cutting a table of 60,000 rows, and the chain of one of its rows: the proved entries, through tests/functions, against plain C loops, each with
    the schema read (the proved ones compile its record) and the table judged. Both must give the same cells. */
 #include <stdint.h>
 #include <stdio.h>
@@ -7,7 +7,7 @@
 
 enum { ROWS = 60000, CHAIN = 4096, TIMES = 40 };
 
-/* what the functions of crates/test_functions answer */
+/* what the functions of tests/functions answer */
 struct outcome {
     uint64_t number, place, size, other;
 };

@@ -1,11 +1,11 @@
-/* Reading a journal through crates/test_functions (a slice is a pointer and a length), and the same call on the plain reading. */
+/* Reading a journal through tests/functions (a slice is a pointer and a length), and the same call on the plain reading. */
 #include <stddef.h>
 #include <stdlib.h>
 #include "plain_journal.h"
 
 enum { CELLS = 65535, LONGEST = 1048576 };
 
-/* what the functions of crates/test_functions answer */
+/* what the functions of tests/functions answer */
 struct outcome {
     uint64_t number, place, size, other;
 };

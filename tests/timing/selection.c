@@ -1,6 +1,6 @@
 /* The cost of selecting eight paths on 60,000 rows against plain C passes that do the same on the same columns, and the cost of needed names. The proved
    functions judge and compile the records of schema and bundle each time, and selecting judges the table; the plain passes do not. Links the archive of
-   crates/test_functions. Prints both times and the ratio; ends with 1 where the answers differ. */
+   tests/functions. Prints both times and the ratio; ends with 1 where the answers differ. */
 #include <stdio.h>
 #include <string.h>
 #include <time.h>

@@ -81,13 +81,8 @@ fn print_rows(
     }
 }
 
-fn main() {
-    let mut schema = [0u8; SCHEMA_BYTES];
-    let mut bundle = [0u8; BUNDLE_BYTES];
-    let mut journal = [0u8; JOURNAL_BYTES];
-    let s = read_file(b"schema.dtd", &mut schema);
-    let b = read_file(b"paths.txt", &mut bundle);
-    let j = read_file(b"journal.xml", &mut journal);
+// What the three texts give: a refusal alone, or the rows.
+fn print_listing(schema: &[u8], bundle: &[u8], journal: &[u8]) {
     let mut numbers = [0u16; LISTED_ROWS];
     let mut codes = [0u8; LISTED_ROWS];
     let mut parents = [0u16; LISTED_ROWS];
@@ -95,9 +90,9 @@ fn main() {
     let mut lengths = [0u16; LISTED_ROWS];
     let mut firsts = [0u8; LISTED_ROWS];
     let listed = list_files(
-        &schema[..s],
-        &bundle[..b],
-        &journal[..j],
+        schema,
+        bundle,
+        journal,
         &mut numbers,
         &mut codes,
         &mut parents,
@@ -111,11 +106,21 @@ fn main() {
     }
     let rows = listed.rows;
     print_rows(
-        &schema[..s],
+        schema,
         &numbers[..rows],
         &codes[..rows],
         &parents[..rows],
         &firsts[..rows],
         listed,
     );
+}
+
+fn main() {
+    let mut schema = [0u8; SCHEMA_BYTES];
+    let mut bundle = [0u8; BUNDLE_BYTES];
+    let mut journal = [0u8; JOURNAL_BYTES];
+    let s = read_file(b"schema.dtd", &mut schema);
+    let b = read_file(b"paths.txt", &mut bundle);
+    let j = read_file(b"journal.xml", &mut journal);
+    print_listing(&schema[..s], &bundle[..b], &journal[..j]);
 }

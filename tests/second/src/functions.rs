@@ -1,4 +1,4 @@
-//! The functions for C of the crate test_functions, called on lent cells with guard cells on both sides.
+//! The functions for C of tests/functions, called on lent cells with guard cells on both sides.
 use crate::cells::{Columns, Output};
 use crate::records::{Left, Lent, Record, Records, Table, BUNDLE_CELLS, SCHEMA_CELLS};
 

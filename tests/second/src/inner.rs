@@ -1,5 +1,5 @@
-//! Compares the public functions that take or hand back a record with the second implementation, through the functions for C of the crate
-//! test_functions: `inner SEED COUNT` on COUNT random inputs. An input is a schema, a bundle and a journal,
+//! Compares the public functions that take or hand back a record with the second implementation, through the functions for C of
+//! tests/functions: `inner SEED COUNT` on COUNT random inputs. An input is a schema, a bundle and a journal,
 //! each valid, nearly valid or damaged. All three are read and needed names taken; the table is cut to them, to larger sets and to others; extracts are
 //! written, damaged and read; every path selects on the whole journal, on the cut to a larger set and on the extract. Some records and tables are none
 //! that a reader hands back, and some outputs have too few cells. Results and every lent cell must be the same. What came how often is printed, and what
