@@ -1,14 +1,13 @@
 -- Reading, needed names and cutting on S and J: what each function says, hands back and leaves in lent outputs, on success and refused. Lent
 -- outputs are larger than the answers, so that the zeros show.
 use mathlib.Core.List.{List, [], _∷_, _++_}
-use mathlib.Core.Path.{refl}
 use Prim.Native.Nat.{ℕ}
 use Rattle.extract_spec.specs.Cases.Tables.{schemaS, journalJ, extractJ, noRows}
 use Rattle.library_spec.specs.Cases.Edges.{tableJ, twoTexts}
 use Rattle.library_spec.specs.Cases.Exits.{exit}
 use Rattle.library_spec.specs.Cases.Hosts.{bundleP, bundleT, undeclared, misfit, noExtract}
 use Rattle.library_spec.specs.Cases.Opened.{computing}
-use Rattle.library_spec.specs.Cases.Questions.{Text, readsSchema, readsBundle, readsJournal, givesNeeded, cutsTable, readsExtract, Answer, leaves, answerTo, Case, case, AllHold, zeros}
+use Rattle.library_spec.specs.Cases.Questions.{Text, readsSchema, readsBundle, readsJournal, givesNeeded, cutsTable, readsExtract, Answer, leaves, answerTo, Case, case, AllHold, zeros, answered}
 use Rattle.library_spec.specs.Records.{TextRecord, LentTable}
 use Rattle.table_spec.specs.Columns.{Columns, Sizes, allOfSize}
 use Rattle.text_spec.specs.Lists.{bytes}
@@ -81,7 +80,7 @@ records =
 
 pub records-hold : AllHold records
 unfolding computing answerTo records
-records-hold = refl
+records-hold = answered records
 
 -- ---- tables
 abbrev pub table : Columns → ℕ → LentTable
@@ -163,4 +162,4 @@ tables =
 
 pub tables-hold : AllHold tables
 unfolding computing answerTo tables
-tables-hold = refl
+tables-hold = answered tables

@@ -1,12 +1,11 @@
 -- Both sides of the limits that no other table of cases tries: names in paths, tags and models, tables, paths and bundles. The limits of lengths
 -- and nodes that are too large to compute with are laws (`Limits` of projection_laws).
 use mathlib.Core.List.{List, [], _∷_, _++_}
-use mathlib.Core.Path.{refl}
 use Prim.Native.Nat.{ℕ, zero, suc}
 use Rattle.extract_spec.specs.Cases.Tables.{schemaS, extractOfRoot}
 use Rattle.library_spec.specs.Cases.Exits.{exit}
 use Rattle.library_spec.specs.Cases.Opened.{computing}
-use Rattle.library_spec.specs.Cases.Questions.{Text, schemaRead, bundleRead, journalRead, tableLent, makes, taken, turnedBack, leaves, answerTo, Case, case, AllHold, copies, zeros, lend}
+use Rattle.library_spec.specs.Cases.Questions.{Text, schemaRead, bundleRead, journalRead, tableLent, makes, taken, turnedBack, leaves, answerTo, Case, case, AllHold, copies, zeros, lend, answered}
 use Rattle.table_spec.specs.Columns.{Columns}
 use Rattle.text_spec.specs.Lists.{bytes}
 
@@ -122,4 +121,4 @@ cases =
 
 pub all-hold : AllHold cases
 unfolding computing answerTo cases
-all-hold = refl
+all-hold = answered cases

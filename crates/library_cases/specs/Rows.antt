@@ -1,7 +1,6 @@
 -- Writing, selecting and single rows of S and J, and the entries over row structs: what each function says, hands back and leaves in lent
 -- outputs, on success and refused.
 use mathlib.Core.List.{List, [], _∷_, _++_}
-use mathlib.Core.Path.{refl}
 use Prim.Native.Nat.{ℕ}
 use Rattle.extract_spec.specs.Cases.Tables.{journalJ, extractJ}
 use Rattle.library_cases.specs.Calls.{recordS, recordT, oneCellShort, ofRefused, emptyRecord, table, lentJ, overcounted}
@@ -9,7 +8,7 @@ use Rattle.library_spec.specs.Cases.Edges.{twoTexts}
 use Rattle.library_spec.specs.Cases.Exits.{exit}
 use Rattle.library_spec.specs.Cases.Hosts.{misfit}
 use Rattle.library_spec.specs.Cases.Opened.{computing}
-use Rattle.library_spec.specs.Cases.Questions.{Text, writesExtract, selectsNodes, givesText, givesChain, readsJournalRows, cutsRows, selectsRows, Answer, leaves, answerTo, Case, case, AllHold, zeros}
+use Rattle.library_spec.specs.Cases.Questions.{Text, writesExtract, selectsNodes, givesText, givesChain, readsJournalRows, cutsRows, selectsRows, Answer, leaves, answerTo, Case, case, AllHold, zeros, answered}
 use Rattle.table_spec.specs.Rows.{Cells}
 use Rattle.text_spec.specs.Lists.{bytes}
 
@@ -74,7 +73,7 @@ cases =
 
 pub all-hold : AllHold cases
 unfolding computing answerTo cases
-all-hold = refl
+all-hold = answered cases
 
 -- ---- row structs: number, name, parent, start and length of each
 abbrev pub cellsOf : ℕ → ℕ → ℕ → ℕ → ℕ → Cells
@@ -105,4 +104,4 @@ structs =
 
 pub structs-hold : AllHold structs
 unfolding computing answerTo structs
-structs-hold = refl
+structs-hold = answered structs

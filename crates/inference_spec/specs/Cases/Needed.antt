@@ -150,7 +150,7 @@ cases =
 
 pub all-hold : map (λ c. namesNeeded (c .schema) (c .bundle)) cases ≡ map (λ c. c .names) cases
 unfolding computing cases
-all-hold = refl
+all-hold = refl {a = map (λ c. c .names) cases}
 
 -- before the last filter z is needed: it stands on a complete walk
 pub z-on-a-walk : anyOf (λ p. has (element 2) (neededBeforeFilter (typesOf (schemaIn schemaR)) p)) (pathsRead schemaR filtered) ≡ true

@@ -1,11 +1,10 @@
 -- Cases at the edges of the refusals, of refusal 1 and of content models; each axis and each kind of condition on J; listings.
 use mathlib.Core.List.{List, [], _∷_, _++_}
-use mathlib.Core.Path.{refl}
 use Prim.Native.Nat.{ℕ}
 use Prim.Native.String.{String}
 use Rattle.extract_spec.specs.Cases.Tables.{schemaS, journalJ}
 use Rattle.library_spec.specs.Cases.Opened.{computing}
-use Rattle.library_spec.specs.Cases.Questions.{Text, schemaRead, bundleRead, journalRead, tableLent, nodes, printed, taken, turnedBack, theNumbers, theBytes, answerTo, Case, case, AllHold, copies}
+use Rattle.library_spec.specs.Cases.Questions.{Text, schemaRead, bundleRead, journalRead, tableLent, nodes, printed, taken, turnedBack, theNumbers, theBytes, answerTo, Case, case, AllHold, copies, answered}
 use Rattle.library_spec.specs.Cases.Tried.{steps}
 use Rattle.table_spec.specs.Columns.{Columns}
 use Rattle.text_spec.specs.Lists.{bytes}
@@ -80,7 +79,7 @@ cases =
 
 pub all-hold : AllHold cases
 unfolding computing answerTo cases
-all-hold = refl
+all-hold = answered cases
 
 -- ---- selections: J's nodes are scan 0, plate 1, well 2, tile 3, focus 4, its text 5, and the tile 6 under plate
 abbrev pub selecting : String → List ℕ → Case
@@ -110,7 +109,7 @@ selections =
 
 pub selections-hold : AllHold selections
 unfolding computing answerTo selections
-selections-hold = refl
+selections-hold = answered selections
 
 -- ---- listings
 pub listings : List Case
@@ -130,4 +129,4 @@ listings =
 
 pub listings-hold : AllHold listings
 unfolding computing answerTo listings
-listings-hold = refl
+listings-hold = answered listings

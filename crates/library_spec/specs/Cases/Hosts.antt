@@ -1,12 +1,11 @@
 -- The two host functions on S and J: their results, the five columns, items and counts at exit. Columns, items and counts are lent larger than
 -- the answers, so that the zeros show.
 use mathlib.Core.List.{List, [], _∷_, _++_}
-use mathlib.Core.Path.{refl}
 use Prim.Native.Nat.{ℕ}
 use Rattle.extract_spec.specs.Cases.Tables.{schemaS, journalJ, extractP, extractJ, extractOfRoot, noRows}
 use Rattle.library_spec.specs.Cases.Exits.{exit}
 use Rattle.library_spec.specs.Cases.Opened.{computing}
-use Rattle.library_spec.specs.Cases.Questions.{Text, makes, selects, Answer, leaves, answerTo, Case, case, AllHold, zeros, lend}
+use Rattle.library_spec.specs.Cases.Questions.{Text, makes, selects, Answer, leaves, answerTo, Case, case, AllHold, zeros, lend, answered}
 use Rattle.library_spec.specs.Hosts.{Lent}
 use Rattle.text_spec.specs.Lists.{bytes}
 
@@ -135,8 +134,8 @@ selecting =
 
 pub making-holds : AllHold making
 unfolding computing answerTo making
-making-holds = refl
+making-holds = answered making
 
 pub selecting-holds : AllHold selecting
 unfolding computing answerTo selecting
-selecting-holds = refl
+selecting-holds = answered selecting

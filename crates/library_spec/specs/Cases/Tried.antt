@@ -1,12 +1,11 @@
 -- Document 01's cases: the paths tried on S and J, the two extracts in hex, the fourth row's numbers, the listing, and the pairs
 -- accepted and turned back. One table, one theorem.
 use mathlib.Core.List.{List, [], _∷_, _++_, map}
-use mathlib.Core.Path.{refl}
 use Prim.Native.Nat.{ℕ, zero, suc}
 use Prim.Native.String.{String}
 use Rattle.extract_spec.specs.Cases.Tables.{schemaS, journalJ}
 use Rattle.library_spec.specs.Cases.Opened.{computing}
-use Rattle.library_spec.specs.Cases.Questions.{Text, schemaRead, bundleRead, journalRead, names, nodes, rowsKept, extractMade, printed, taken, turnedBack, theNames, theNumbers, theBytes, answerTo, Case, case, AllHold, copies}
+use Rattle.library_spec.specs.Cases.Questions.{Text, schemaRead, bundleRead, journalRead, names, nodes, rowsKept, extractMade, printed, taken, turnedBack, theNames, theNumbers, theBytes, answerTo, Case, case, AllHold, copies, answered}
 use Rattle.library_spec.specs.Listing.{decimal}
 use Rattle.schema_spec.specs.Names.{Names, element, text}
 use Rattle.text_spec.specs.Lists.{bytes}
@@ -81,4 +80,4 @@ cases =
 
 pub all-hold : AllHold cases
 unfolding computing answerTo cases
-all-hold = refl
+all-hold = answered cases
