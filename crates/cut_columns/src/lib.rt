@@ -10,12 +10,12 @@ ghost use Rattle.table_spec.specs.Rows.{Cells};
 ghost use Rattle.text_spec.specs.Limits.{maxNodes};
 use cut_records::cut_table;
 use row_structs::CELLS;
-use row_structs::MAX_ROWS;
 use row_structs::RowColumns;
 use row_structs::TableAnswer;
 use row_structs::cell_of;
 use schema::Schema;
 use table_answers::refused_table;
+use table_limits::are_too_many;
 use verdicts::Verdict;
 
 // Cuts a table of no more rows than a table can have.
@@ -69,7 +69,7 @@ pub fn cut_columns(
 ) -> TableAnswer
     ensures { λ r. ⌜ ((rows : List Cells) → length rows ≡ count → Laid rows (columnsIn columns) → AnsweredFor (tableCutRows (recordWith (schema .bytes) (schema .len)) rows word room) room r) ⌝ }
 {
-    if count > MAX_ROWS {
+    if are_too_many(count) {
         return refused_table();
     }
     cut_laid(schema, columns, count, word, room)

@@ -11,7 +11,7 @@ use Rattle.content_fit.specs.Fillings.{Sized}
 use Rattle.element_words.specs.Names.{names-of}
 use Rattle.journal_events.specs.Events.{schemaCells, CellsOf}
 use Rattle.journal_judgement.specs.Judging.{outcome}
-use Rattle.journal_table.specs.Tables.{TableRead}
+use Rattle.journal_compiled.specs.Tables.{TableRead}
 use Rattle.library_spec.specs.Calls.{columnsAfter}
 use Rattle.name_words.specs.Words.{wordsOf, nameAt as wordsAt}
 use Rattle.schema_laws.specs.Accepted.{accepted-spelt, accepted-length, schemaIn-by, schemaIn-length}

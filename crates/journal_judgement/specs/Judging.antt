@@ -1,16 +1,17 @@
 -- Judging a journal into clear columns: the library's outcome for an accepted schema.
-use mathlib.Core.Bool.{Bool, true, false, cond}
+use mathlib.Core.Bool.{Bool, true, false, cond, _&&_}
 use mathlib.Core.List.{List, [], _∷_}
 use mathlib.Core.Path.{_≡_, sym, ap, _∙_}
 use Prim.Native.Nat.{ℕ, _≤_, _<_}
 use native.Mathlib.Omega.{arith}
-use lib.Dec.{ltb}
+use borrow.Author.Tests.{leb-false, le-leb}
+use lib.Dec.{ltb, leb, leb→le}
 use lib.ListN.{length}
 use Rattle.fault_keys.specs.Keys.{noKey}
 use Rattle.journal_events.specs.Events.{SchemaCells, CellsOf}
-use Rattle.journal_reader.specs.Journals.{JournalRead}
+use Rattle.journal_judgement.specs.Journals.{JournalRead}
 use Rattle.journal_reader_end.specs.declared.Found.{Found}
-use Rattle.journal_run_laws.specs.Findings.{KeyTells, accepts, refuses, read-empty}
+use Rattle.journal_run_laws.specs.Findings.{KeyTells, accepts, refuses, read-empty, read-over}
 use Rattle.journal_state.specs.Places.{noPlace}
 use Rattle.journal_spec.specs.Reading.{readJournal}
 use Rattle.journal_verdict.specs.Verdicts.{VerdictOf}
@@ -18,6 +19,7 @@ use Rattle.library_spec.specs.Calls.{inColumns, columnsAfter}
 use Rattle.schema_spec.specs.Schemas.{Schema}
 use Rattle.table_spec.specs.Columns.{Columns, Sizes, sizesOf, columnsOf}
 use Rattle.table_spec.specs.Rows.{Row}
+use Rattle.text_laws.specs.Tests.{and-cases, passed}
 use Rattle.text_spec.specs.Refusals.{Outcome, accepted, refused, andThen, at, badLength, tooFewCells}
 use Rattle.verdicts.specs.VerdictLaws.{number-some}
 use Rattle.verdicts.specs.Verdicts.{refusedBy, verdict}
@@ -42,13 +44,16 @@ judged-2 {c = c} text h e =
       held = λ s cells z n. absurd (omega (arith, ap (λ (v : Verdict). v .number) e, n));
     }
 
-pub empty-2 : (limit : ℕ) (text : List ℕ) → length text ≡ 0 → (s : Schema) → readJournal limit s text ≡ refused (at badLength 0)
-empty-2 limit [] e s = read-empty limit s
-empty-2 limit (b ∷ text) e s = absurd (omega arith)
+-- a text that is empty or past its limit
+pub outside-2 : (limit : ℕ) (text : List ℕ) → (leb 1 (length text) && leb (length text) limit) ≡ false → (s : Schema) → readJournal limit s text ≡ refused (at badLength 0)
+outside-2 limit [] e s = read-empty limit s
+outside-2 limit (b ∷ text) e s =
+    let n = length (b ∷ text) in
+    read-over limit s (b ∷ text) (leb-false n limit (sym (ap (λ (t : Bool). t && leb n limit) (le-leb 1 n (omega arith))) ∙ e))
 
 -- ---- a text within its limit
-pub filled : {n : ℕ} → (n ≡ 0 → ⊥) → 1 ≤ n
-filled h = omega arith
+pub within : (n limit : ℕ) → (leb 1 n && leb n limit) ≡ true → (1 ≤ n) × (n ≤ limit)
+within n limit e = let t = and-cases (leb 1 n) (leb n limit) (passed e) in (leb→le 1 n (t .0), leb→le n limit (t .1))
 
 pub within-places : {n limit : ℕ} → n ≤ limit → limit < noPlace → n < noPlace
 within-places a b = omega arith

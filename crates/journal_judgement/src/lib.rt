@@ -1,18 +1,144 @@
-// Judging a journal into clear columns: 2, and then what reading finds, 18 last.
+// A journal read and judged into clear columns, event by event, with the stack of open elements and the places as local cells: 2, and then what reading finds, 18 last.
+ghost use mathlib.Core.Path.{_≡_};
 ghost use Prim.Native.Nat.{_≤_, _<_};
+ghost use lib.ListN.{length};
 ghost use Rattle.content_fit.specs.Fillings.{Sized};
 ghost use Rattle.journal_events.specs.Events.{schemaCells};
+ghost use Rattle.journal_judgement.specs.Journals.{JournalRead};
 ghost use Rattle.journal_judgement.specs.Judging.{Judged};
+ghost use Rattle.journal_kinds.specs.Kinds.{KindTable};
+ghost use Rattle.journal_reader_loop.specs.Whole.{AllRead};
 ghost use Rattle.journal_state.specs.Places.{noPlace};
+ghost use Rattle.reader_state.specs.Reading.{Usable, started};
 ghost use Rattle.row_columns.specs.Columns.{EqualColumns};
 ghost use Rattle.table_spec.specs.Columns.{columns};
 ghost use Rattle.text_spec.specs.Limits.{maxDeclarations};
+use build_state::Build;
 use element_names::HASHES;
 use element_names::WORDS;
+use journal_reader_end::Found;
+use journal_state::Lex;
+use journal_state::NONE;
+use name_words::Name;
 use names::MAX_ELEMENTS;
+use open_levels::LEVELS;
+use reader_state::ReaderState;
 use schema_entries::MAX_CELLS;
 use verdicts::BAD_LENGTH;
 use verdicts::Verdict;
+
+// Each event of the text in turn. The contract is that of `journal_reader_loop::read_all`, which reads byte by byte over request R-4's step:
+// both leave what the definition's machine leaves.
+fn read_all(
+    text: &[u8],
+    table: &[u8; 256],
+    words: &[u64; WORDS],
+    hints: &[u8; HASHES],
+    count: usize,
+    kinds: &[u8; MAX_ELEMENTS],
+    firsts: &[u64; MAX_ELEMENTS],
+    lasts: &[u64; MAX_ELEMENTS],
+    nullables: &[bool; MAX_ELEMENTS],
+    elements: &[u8; MAX_CELLS],
+    predecessors: &[u64; MAX_CELLS],
+    sizes: &[usize; MAX_ELEMENTS],
+    levels: &mut [u64; LEVELS],
+    numbers: &mut [u16],
+    names: &mut [u8],
+    parents: &mut [u16],
+    starts: &mut [u32],
+    lengths: &mut [u16],
+    places: &mut [u32; 4],
+) -> ReaderState
+    requires { ⌜ Usable (now levels) (now places) (columns (now numbers) (now names) (now parents) (now starts) (now lengths)) started × KindTable (now table) × (length (now text) < noPlace) × Sized (now sizes) × (count ≤ maxDeclarations) ⌝ }
+    ensures { λ r. ⌜ AllRead (schemaCells (now (words .entry)) count (now (kinds .entry)) (now (firsts .entry)) (now (lasts .entry)) (now (nullables .entry)) (now (elements .entry)) (now (predecessors .entry)) (now (sizes .entry))) (now (text .entry)) (now (levels .entry)) (now (places .entry)) (columns (now (numbers .entry)) (now (names .entry)) (now (parents .entry)) (now (starts .entry)) (now (lengths .entry))) (now (levels .exit)) (now (places .exit)) (columns (now (numbers .exit)) (now (names .exit)) (now (parents .exit)) (now (starts .exit)) (now (lengths .exit))) r ⌝ }
+{
+    let mut x: ReaderState = reader_state::start();
+    while x.lex.place < text.len() {
+        let next = journal_event_step::read_on(
+            text,
+            table,
+            words,
+            hints,
+            count,
+            kinds,
+            firsts,
+            lasts,
+            nullables,
+            elements,
+            predecessors,
+            sizes,
+            levels,
+            numbers,
+            names,
+            parents,
+            starts,
+            lengths,
+            places,
+            x,
+        );
+        x = next;
+    }
+    x
+}
+
+// The whole journal: all events, then its end.
+fn read_journal(
+    text: &[u8],
+    words: &[u64; WORDS],
+    hints: &[u8; HASHES],
+    count: usize,
+    kinds: &[u8; MAX_ELEMENTS],
+    firsts: &[u64; MAX_ELEMENTS],
+    lasts: &[u64; MAX_ELEMENTS],
+    nullables: &[bool; MAX_ELEMENTS],
+    elements: &[u8; MAX_CELLS],
+    predecessors: &[u64; MAX_CELLS],
+    sizes: &[usize; MAX_ELEMENTS],
+    numbers: &mut [u16],
+    names: &mut [u8],
+    parents: &mut [u16],
+    starts: &mut [u32],
+    lengths: &mut [u16],
+) -> Found
+    requires { ⌜ (length (now text) < noPlace) × Sized (now sizes) × (count ≤ maxDeclarations) × EqualColumns (columns (now numbers) (now names) (now parents) (now starts) (now lengths)) ⌝ }
+    ensures { λ r. ⌜ JournalRead (schemaCells (now (words .entry)) count (now (kinds .entry)) (now (firsts .entry)) (now (lasts .entry)) (now (nullables .entry)) (now (elements .entry)) (now (predecessors .entry)) (now (sizes .entry))) (now (text .entry)) (columns (now (numbers .entry)) (now (names .entry)) (now (parents .entry)) (now (starts .entry)) (now (lengths .entry))) (columns (now (numbers .exit)) (now (names .exit)) (now (parents .exit)) (now (starts .exit)) (now (lengths .exit))) r ⌝ }
+{
+    let table = journal_kinds::all_kinds();
+    let mut levels = [0u64; LEVELS];
+    let mut places = [0u32, 0u32, NONE, NONE];
+    let x: ReaderState = read_all(
+        text,
+        &table,
+        words,
+        hints,
+        count,
+        kinds,
+        firsts,
+        lasts,
+        nullables,
+        elements,
+        predecessors,
+        sizes,
+        &mut levels,
+        numbers,
+        names,
+        parents,
+        starts,
+        lengths,
+        &mut places,
+    );
+    journal_reader_end::finish(
+        &mut levels,
+        numbers,
+        names,
+        parents,
+        starts,
+        lengths,
+        &mut places,
+        x,
+    )
+}
 
 // The verdict, with the rows in the columns, which are clear at first.
 pub fn judge(
@@ -39,13 +165,10 @@ pub fn judge(
 {
     let n = text.len();
     let size = numbers.len();
-    if n == 0 {
+    if !journal_lengths::length_fits(n, limit) {
         return verdicts::refused(BAD_LENGTH, 0);
     }
-    if limit < n {
-        return verdicts::refused(BAD_LENGTH, 0);
-    }
-    let found = journal_reader::read_journal(
+    let found = read_journal(
         text,
         words,
         hints,

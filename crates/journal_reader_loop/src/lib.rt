@@ -1,4 +1,4 @@
-// A journal read byte by byte, in one loop over the step (request R-4). `journal_event_loop::read_all` has the same contract.
+// A journal read byte by byte, in one loop over the step (request R-4). `journal_judgement::read_all` has the same contract.
 ghost use mathlib.Core.Path.{_≡_};
 ghost use Prim.Native.Nat.{_≤_, _<_};
 ghost use lib.ListN.{length};

@@ -1,4 +1,5 @@
 pub mod Locals
+pub mod Contexts
 pub mod Slots
 pub mod Calls
 pub mod Answers

@@ -6,31 +6,31 @@ use borrow.Author.Needs.{needs}
 use Rattle.bundle_reader.proofs.judge_under.Statement.{statement}
 use Rattle.bundle_reader.proofs.judge_under.Tie as tie
 
+-- the schema's judgement, from where it is known to have accepted so many elements
+abbrev judge-before : tie.After-count → tie.After-judge-into
+judge-before c = c .before .before .before .before
+
 array-share-prefix-names : tie.Need-array-share-prefix-names
 array-share-prefix-names c =
     let at-count = c .before in
-    let at-judge = at-count .before .before .before .before in
-    let few = under-few (at-judge .judge-into .ensures) (at-count .count .given .1) in
+    let few = under-few (judge-before at-count .judge-into .ensures) (at-count .count .given .1) in
     search needs
 
 slice-aggregate-judge-bundle : tie.Need-slice-aggregate-judge-bundle
 slice-aggregate-judge-bundle c =
     let at-count = c .before .before in
-    let at-judge = at-count .before .before .before .before in
-    let few = under-few (at-judge .judge-into .ensures) (at-count .count .given .1) in
+    let few = under-few (judge-before at-count .judge-into .ensures) (at-count .count .given .1) in
     sym (length-take-le _ _ (search needs))
 
 judge-bundle-requires : tie.Need-judge-bundle-requires
 judge-bundle-requires c κs =
     let at-count = c .before .before in
-    let at-judge = at-count .before .before .before .before in
-    take-few _ _ _ (under-few (at-judge .judge-into .ensures) (at-count .count .given .1))
+    take-few _ _ _ (under-few (judge-before at-count .judge-into .ensures) (at-count .count .given .1))
 
 returns : tie.Need-returns
 returns c =
     let at-count = c .before .before .before in
-    let at-judge = at-count .before .before .before .before in
-    c .judge-bundle .ensures .under _ (under-named (at-judge .judge-into .ensures) (at-count .count .given .1))
+    c .judge-bundle .ensures .under _ (under-named (judge-before at-count .judge-into .ensures) (at-count .count .given .1))
 
 returns-2 : tie.Need-returns-2
 returns-2 c =

@@ -1,5 +1,5 @@
 -- `cut_laid` meets its contract: what cutting answers in the first cells of columns of zeros.
-use mathlib.Core.Path.{_≡_}
+use mathlib.Core.Path.{_≡_, sym}
 use Prim.Native.Nat.{_≤_}
 use borrow.Author.Needs.{needs}
 use lib.ListN.{length}
@@ -13,8 +13,24 @@ use Rattle.cut_columns.proofs.cut_laid.Statement.{statement}
 use Rattle.cut_columns.proofs.cut_laid.Tie as tie
 
 -- the columns have a cell for each row, by their type
-columns-long : (c : tie.Start) → sizesOf (columnsIn (c .args .laid)) ≡ allOfSize cellCount
-columns-long c = sizes-of (columnsIn (c .args .laid)) (search needs) (search needs) (search needs) (search needs) (search needs)
+module _ (c : tie.Start) where
+  numbers-long : length (c .args .laid .numbers) ≡ cellCount
+  numbers-long = search needs
+
+  names-long : length (c .args .laid .names) ≡ cellCount
+  names-long = search needs
+
+  parents-long : length (c .args .laid .parents) ≡ cellCount
+  parents-long = search needs
+
+  starts-long : length (c .args .laid .starts) ≡ cellCount
+  starts-long = search needs
+
+  lengths-long : length (c .args .laid .lengths) ≡ cellCount
+  lengths-long = search needs
+
+  columns-long : sizesOf (columnsIn (c .args .laid)) ≡ allOfSize cellCount
+  columns-long = sizes-of (columnsIn (c .args .laid)) numbers-long names-long parents-long starts-long lengths-long
 
 -- back to the size that is lent from the first column of which a part is, and from there to the start
 abbrev told : tie.After-sizes2 → tie.After-cell-of
@@ -44,12 +60,12 @@ pub cut-laid-spec : {M : Type 1} → statement M
 cut-laid-spec =
     tie.close
     (tie.spec
-    (λ c κs. search needs)
-    (λ c. search needs)
-    (λ c. search needs)
-    (λ c. search needs)
-    (λ c. search needs)
-    (λ c. search needs)
+    (λ c κs. tt)
+    (λ c. sym (numbers-long (start (c .before))))
+    (λ c. sym (names-long (start (c .before .before))))
+    (λ c. sym (parents-long (start (c .before .before .before))))
+    (λ c. sym (starts-long (start (c .before .before .before .before))))
+    (λ c. sym (lengths-long (start (c .before .before .before .before .before))))
     (λ c. inside (told c))
     (λ c. sized (told (c .before)))
     (λ c. inside (told (c .before)))
@@ -60,5 +76,5 @@ cut-laid-spec =
     (λ c. sized (told (c .before .before .before .before)))
     (λ c. inside (told (c .before .before .before .before)))
     (λ c. sized (told (c .before .before .before .before .before)))
-    (λ c κs. search needs)
+    (λ c κs. tt)
     returns)

@@ -1,36 +1,46 @@
 -- `judge` meets its contract: 2, or what reading finds.
-use mathlib.Core.Path.{refl}
-use Rattle.journal_run_laws.specs.Findings.{read-over}
-use Rattle.journal_judgement.specs.Judging.{judged-2, empty-2, judged-within, within-places, filled}
+use mathlib.Core.Path.{refl, sym, _∙_}
+use Prim.Native.Nat.{_≤_}
+use borrow.Author.Tests.{not-true, not-false}
+use lib.ListN.{length}
+use Rattle.journal_judgement.specs.Judging.{judged-2, outside-2, judged-within, within, within-places}
 use Rattle.journal_judgement.proofs.judge.Statement.{statement}
 use Rattle.journal_judgement.proofs.judge.Tie as tie
 
-returns : tie.Need-returns
-returns c = judged-2 _ (empty-2 _ _ (c .before .if1 .taken)) (c .refused .ensures)
+-- from the text that is read back to the test of its length, and to the call
+abbrev test-of : tie.Else1 → tie.After-length-fits
+test-of c = c .before
 
-returns-2 : tie.Need-returns-2
-returns-2 c = judged-2 _ (λ s. read-over _ s _ (c .before .if2 .taken)) (c .refused2 .ensures)
+abbrev start-of : tie.After-length-fits → tie.Start
+start-of c = c .before .before .before .before .before .before .before
+
+fits : (c : tie.Else1) → (1 ≤ length (start-of (test-of c) .args .text .now)) × (length (start-of (test-of c) .args .text .now) ≤ start-of (test-of c) .args .limit)
+fits c = within _ _ (sym (test-of c .length-fits .ensures) ∙ not-false _ (c .if1 .left))
+
+returns : tie.Need-returns
+returns c =
+    let over = c .before in
+    judged-2 _ (outside-2 _ _ (sym (over .before .length-fits .ensures) ∙ not-true _ (over .if1 .taken))) (c .refused .ensures)
 
 read-journal-requires : tie.Need-read-journal-requires
 read-journal-requires c κs =
-    let second = c .before .before .before .before .before in
-    let start = second .before .before .before .before .before .before .before .before in
-    (within-places (second .if2 .left) (start .pre .2), start .pre .0, start .pre .1, start .pre .3)
+    let read = c .before .before .before .before .before in
+    let pre = start-of (test-of read) .pre in
+    (within-places (fits read .1) (pre .2), pre .0, pre .1, pre .3)
 
-returns-3 : tie.Need-returns-3
-returns-3 c =
-    let read = c .before .before .before .before .before .before .before .before .before .before .before in
-    let second = read .before .before .before .before .before .before in
-    judged-within (read .read-journal .ensures) (c .verdict-of .ensures) refl (filled (second .before .if1 .left)) (second .if2 .left)
+returns-2 : tie.Need-returns-2
+returns-2 c =
+    let done = c .before .before .before .before .before .before .before .before .before .before .before in
+    let read = done .before .before .before .before .before .before in
+    judged-within (done .read-journal .ensures) (c .verdict-of .ensures) refl (fits read .0) (fits read .1)
 
 pub judge-spec : {M : Type 1} → statement M
 judge-spec =
     tie.close
     (tie.spec
     (λ c κs. tt)
-    returns
     (λ c κs. tt)
-    returns-2
+    returns
     read-journal-requires
     (λ c κs. tt)
     (λ c. c .before .before .before .before .before .before .before .before .before .before .numbers .given)
@@ -38,4 +48,4 @@ judge-spec =
     (λ c. c .before .before .before .before .before .before .parents .given)
     (λ c. c .before .before .before .before .starts .given)
     (λ c. c .before .before .lengths .given)
-    returns-3)
+    returns-2)

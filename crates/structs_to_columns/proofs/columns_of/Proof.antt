@@ -65,6 +65,7 @@ use Rattle.structs_to_columns.proofs.columns_of.Code.Mir as body
 use Rattle.structs_to_columns.proofs.columns_of.Key.{name as #columns-of}
 use Rattle.structs_to_columns.proofs.columns_of.Statement as stated
 use Rattle.walk_laws.specs.Calls.{answered}
+use Rattle.walk_laws.specs.Contexts.{shuts, opens}
 use Rattle.walk_laws.specs.Locals.{allocated, rooms, dies, free-all}
 use Rattle.walk_laws.specs.Slots.{slotTy, zeros, Numbers, numbersVal, length-zeros, zeros-are, numbers-typed, numbers-field, repeat-zeros, store-elem, slot-apart, slot-whole}
 
@@ -176,14 +177,22 @@ module _ {M : Type 1} (𝓤 : URA M) (H : Heap 𝓤) (A : Atoms 𝓤) (W : Given
     abbrev Passed : List (Item 𝓤)
     Passed = Entry ++ ‵ (fat fullShare sliceR l₁ 0 (sliceVal (b, o) n)) ∷ []
 
+    -- what the first assignments leave alone
+    abbrev Waiting : List (Item 𝓤)
+    Waiting = Passed ++ rooms scratch ++ raw (⋆ 𝓤 H A Frame) ∷ []
+
     -- a share of the rows is looked into
     module _ (s : Share) where
       -- the rows' borrow, open
       abbrev Borrowed : List (Item 𝓤)
       Borrowed = ‵ (fobor κ q (arr-parts (shares T.the-row) n .part s ys b o)) ∷ ‵ (fshr-bor κ (λ p. arr-parts (shares T.the-row) n .part p ys b o)) ∷ ‵ (fres γ (codedHoleys T.the-row .code (heres T.the-row ys))) ∷ ‵ (at-slice T.the-row x (at .0)) ∷ []
 
+      -- what is left of a turn, and with it the right to free each local
+      abbrev Rest : List (Item 𝓤)
+      Rest = ‵ (row T.the-row s ys b o) ∷ rooms ((sliceR, l₁) ∷ (word, l₇) ∷ scratch) ++ Borrowed
+
       abbrev Others : List (Item 𝓤)
-      Others = ‵ (row T.the-row s ys b o) ∷ rooms ((sliceR, l₁) ∷ (word, l₇) ∷ scratch) ++ Borrowed ++ dies En
+      Others = Rest ++ dies En
 
       -- at the loop's test
       abbrev At : ℕ → RowColumns → List (Item 𝓤)
@@ -274,10 +283,10 @@ module _ {M : Type 1} (𝓤 : URA M) (H : Heap 𝓤) (A : Atoms 𝓤) (W : Given
       freed : (c : RowColumns) → Is Columns.the-row c (columnsVal c ∷ []) → Laid (map cellsIn ys) (columnsIn c)
           → ent 𝓤 (⋆ 𝓤 H A (‵ (fat fullShare Columns′.mir l₀ 0 (columnsVal c)) ∷ rooms (slots ++ copies) ++ raw (⋆ 𝓤 H A Others) ∷ [])) (Wp 𝓤 H C Λ En body.t-14 (atReturn 𝓤 H En Post))
       freed c is laid =
-          qed W (‵ (fat fullShare Columns′.mir l₀ 0 (columnsVal c)) ∷ rooms (slots ++ copies) ++ Others) ∵ exec ! C Λ En body.t-14 (atRet En Post) $
+          opens 𝓤 H A (‵ (fat fullShare Columns′.mir l₀ 0 (columnsVal c)) ∷ rooms (slots ++ copies)) Others (qed W (‵ (fat fullShare Columns′.mir l₀ 0 (columnsVal c)) ∷ rooms (slots ++ copies) ++ Others) ∵ exec ! C Λ En body.t-14 (atRet En Post) $
           move ! (11 ∷ 30 ∷ []) $ shuts-slice ! tt T.the-row s ys b o $ move ! (31 ∷ 30 ∷ []) $ fjoin ! $ move ! (31 ∷ 0 ∷ []) $ fjoin ! $ returns ! (look ! 2 refl) $ forget ! 2 refl $
           keep ! (2 ∷ 31 ∷ 13 ∷ 32 ∷ 3 ∷ 33 ∷ 4 ∷ 34 ∷ 5 ∷ 35 ∷ 6 ∷ 36 ∷ 7 ∷ 37 ∷ 14 ∷ 38 ∷ 15 ∷ 39 ∷ 16 ∷ 40 ∷ 17 ∷ 41 ∷ 18 ∷ 42 ∷ 19 ∷ 43 ∷ 20 ∷ 44 ∷ 21 ∷ 45 ∷ 22 ∷ 46 ∷ 23 ∷ 47 ∷ 24 ∷ 48 ∷ 25 ∷ 49 ∷ 26 ∷ 50 ∷ 27 ∷ 51 ∷ 28 ∷ 52 ∷ 29 ∷ 53 ∷ 30 ∷ 54 ∷ 8 ∷ 55 ∷ 9 ∷ 56 ∷ 10 ∷ 57 ∷ 11 ∷ 58 ∷ 12 ∷ 59 ∷ 1 ∷ 0 ∷ []) $
-          free-all ! En $ by ! (exits c is laid)
+          free-all ! En $ by ! (exits c is laid))
 
       -- before it the arrays are copied, and the copies put together
       made-columns : (c : RowColumns) → AllNumbers c → Laid (map cellsIn ys) (columnsIn c)
@@ -294,10 +303,10 @@ module _ {M : Type 1} (𝓤 : URA M) (H : Heap 𝓤) (A : Atoms 𝓤) (W : Given
           by ! (freed c (made c are) laid)
 
       copied : (c : RowColumns) → AllNumbers c → Laid (map cellsIn ys) (columnsIn c)
-          → ent 𝓤 (⋆ 𝓤 H A (Whole c ++ ‵ (row T.the-row s ys b o) ∷ rooms ((sliceR, l₁) ∷ (word, l₇) ∷ scratch) ++ Borrowed ++ raw (⋆ 𝓤 H A Frame) ∷ [])) (Wp 𝓤 H C Λ En body.t-8 (atReturn 𝓤 H En Post))
+          → ent 𝓤 (⋆ 𝓤 H A (Whole c ++ Rest ++ raw (⋆ 𝓤 H A Frame) ∷ [])) (Wp 𝓤 H C Λ En body.t-8 (atReturn 𝓤 H En Post))
       copied c are laid =
-          qed W (Whole c ++ ‵ (row T.the-row s ys b o) ∷ rooms ((sliceR, l₁) ∷ (word, l₇) ∷ scratch) ++ Borrowed ++ Frame) ∵
-          move ! (0 ∷ 1 ∷ 2 ∷ 3 ∷ 4 ∷ 28 ∷ 29 ∷ 30 ∷ 31 ∷ 32 ∷ 33 ∷ []) $ by ! (made-columns c are laid)
+          opens 𝓤 H A (Whole c ++ Rest) Frame (qed W (Whole c ++ Rest ++ Frame) ∵
+          move ! (0 ∷ 1 ∷ 2 ∷ 3 ∷ 4 ∷ 28 ∷ 29 ∷ 30 ∷ 31 ∷ 32 ∷ 33 ∷ []) $ by ! (shuts 𝓤 H A (Whole c ++ rooms ((Columns′.mir, l₀) ∷ copies)) Others (made-columns c are laid)))
 
       -- the turn that leaves the loop
       ends : (c : RowColumns) (X : SProp 𝓤) → Sized c → Laid (map cellsIn ys) (columnsIn c) → ent 𝓤 (⋆ 𝓤 H A (At n c)) (Wp 𝓤 H C Λ En body.turn-1 (afterTurn 𝓤 H X Left))
@@ -332,17 +341,17 @@ module _ {M : Type 1} (𝓤 : URA M) (H : Heap 𝓤) (A : Atoms 𝓤) (W : Given
           zeros-sized = record { numbers = length-zeros cellCount; names = length-zeros cellCount; parents = length-zeros cellCount; starts = length-zeros cellCount; lengths = length-zeros cellCount }
 
     -- the rows' borrow is opened
-    opened : ent 𝓤 (⋆ 𝓤 H A (Apart empty ++ ‵ (fat fullShare word l₇ 0 (vint w64 0)) ∷ Passed ++ rooms scratch ++ raw (⋆ 𝓤 H A Frame) ∷ [])) (Wp 𝓤 H C Λ En body.t-7 (atReturn 𝓤 H En Post))
+    opened : ent 𝓤 (⋆ 𝓤 H A (Apart empty ++ ‵ (fat fullShare word l₇ 0 (vint w64 0)) ∷ Waiting)) (Wp 𝓤 H C Λ En body.t-7 (atReturn 𝓤 H En Post))
     opened =
-        qed W (Apart empty ++ ‵ (fat fullShare word l₇ 0 (vint w64 0)) ∷ Passed ++ rooms scratch ++ raw (⋆ 𝓤 H A Frame) ∷ []) ∵ exec ! C Λ En body.t-7 (atRet En Post) $
+        qed W (Apart empty ++ ‵ (fat fullShare word l₇ 0 (vint w64 0)) ∷ Waiting) ∵ exec ! C Λ En body.t-7 (atRet En Post) $
         move ! (6 ∷ []) $ split ! $ move ! (1 ∷ []) $ drop ! $ move ! (7 ∷ []) $ fsplit ! $ move ! (1 ∷ []) $ drop ! $ fsplit ! $ move ! (1 ∷ []) $ fsplit ! $ move ! (1 ∷ 3 ∷ []) $
         looks-slice ! tt T.the-row (Is T.the-row) (shows 𝓤 H A T.the-row) (LL.vals T.the-type T′.the-laws) (LL.tells T.the-type T′.the-laws) (LL.copy T.the-type T′.the-copy 𝓤 H A W) ys b o (λ s.
         keep ! (0 ∷ 5 ∷ 6 ∷ 7 ∷ 8 ∷ 9 ∷ 10 ∷ 11 ∷ 12 ∷ 13 ∷ 14 ∷ 15 ∷ 16 ∷ 17 ∷ 18 ∷ 19 ∷ 20 ∷ 21 ∷ 22 ∷ 23 ∷ 24 ∷ 25 ∷ 26 ∷ 27 ∷ 1 ∷ 2 ∷ 3 ∷ 4 ∷ 28 ∷ []) $ by ! (loops s))
 
     -- the arrays are set to zeros
-    zeroed : ent 𝓤 (⋆ 𝓤 H A (rooms (slots ++ (word, l₇) ∷ []) ++ Passed ++ rooms scratch ++ raw (⋆ 𝓤 H A Frame) ∷ [])) (Wp 𝓤 H C Λ En body.t-1 (atReturn 𝓤 H En Post))
+    zeroed : ent 𝓤 (⋆ 𝓤 H A (rooms (slots ++ (word, l₇) ∷ []) ++ Waiting)) (Wp 𝓤 H C Λ En body.t-1 (atReturn 𝓤 H En Post))
     zeroed =
-        qed W (rooms (slots ++ (word, l₇) ∷ []) ++ raw (⋆ 𝓤 H A (Passed ++ rooms scratch ++ raw (⋆ 𝓤 H A Frame) ∷ [])) ∷ []) ∵ exec ! C Λ En body.t-1 (atRet En Post) $
+        shuts 𝓤 H A (rooms (slots ++ (word, l₇) ∷ [])) Waiting (qed W (rooms (slots ++ (word, l₇) ∷ []) ++ raw (⋆ 𝓤 H A Waiting) ∷ []) ∵ exec ! C Λ En body.t-1 (atRet En Post) $
         assigns ! (repeat-zeros ! cellCount (lit< tt)) (from ! (stop !)) (init ! 0 refl (numbers-typed 𝓤 H A W w16 cellCount (zeros cellCount) (zeros-are w16 cellCount (lit< tt)))) $
         assigns ! (repeat-zeros ! cellCount (lit< tt)) (from ! (stop !)) (init ! 1 refl (numbers-typed 𝓤 H A W w8 cellCount (zeros cellCount) (zeros-are w8 cellCount (lit< tt)))) $
         assigns ! (repeat-zeros ! cellCount (lit< tt)) (from ! (stop !)) (init ! 2 refl (numbers-typed 𝓤 H A W w16 cellCount (zeros cellCount) (zeros-are w16 cellCount (lit< tt)))) $
@@ -350,7 +359,7 @@ module _ {M : Type 1} (𝓤 : URA M) (H : Heap 𝓤) (A : Atoms 𝓤) (W : Given
         assigns ! (repeat-zeros ! cellCount (lit< tt)) (from ! (stop !)) (init ! 4 refl (numbers-typed 𝓤 H A W w16 cellCount (zeros cellCount) (zeros-are w16 cellCount (lit< tt)))) $
         assigns ! (of-opd ! (lit ! tt)) (from ! (stop !)) (init ! 5 refl (tt, record { fits = lit< tt })) $ move ! (4 ∷ []) $ slot-apart ! w16 cellCount (zeros cellCount) (zeros-are w16 cellCount (lit< tt)) $ move ! (4 ∷ []) $
         slot-apart ! w32 cellCount (zeros cellCount) (zeros-are w32 cellCount (lit< tt)) $ move ! (4 ∷ []) $ slot-apart ! w16 cellCount (zeros cellCount) (zeros-are w16 cellCount (lit< tt)) $ move ! (4 ∷ []) $ slot-apart ! w8 cellCount (zeros cellCount) (zeros-are w8 cellCount (lit< tt)) $ move ! (4 ∷ []) $
-        slot-apart ! w16 cellCount (zeros cellCount) (zeros-are w16 cellCount (lit< tt)) $ by ! opened
+        slot-apart ! w16 cellCount (zeros cellCount) (zeros-are w16 cellCount (lit< tt)) $ by ! (opens 𝓤 H A (Apart empty ++ ‵ (fat fullShare word l₇ 0 (vint w64 0)) ∷ []) Waiting opened))
 
     -- the parameter is stored
     begun : Seq (Go {0}) W (allocated En Entry) (params′ En (sliceVal (b, o) n ∷ []) (runs C Λ En body.t-1 (atRet En Post)))
@@ -358,7 +367,7 @@ module _ {M : Type 1} (𝓤 : URA M) (H : Heap 𝓤) (A : Atoms 𝓤) (W : Given
         params1 ! $
         pass1 ! (init ! 54 refl (tt, (tt, (record { fits = g .0 }, tt)))) $ pass0 ! $
         keep ! (52 ∷ 50 ∷ 48 ∷ 46 ∷ 44 ∷ 42 ∷ 58 ∷ 59 ∷ 54 ∷ 40 ∷ 38 ∷ 36 ∷ 34 ∷ 32 ∷ 30 ∷ 28 ∷ 26 ∷ 24 ∷ 22 ∷ 20 ∷ 18 ∷ 16 ∷ 14 ∷ 12 ∷ 10 ∷ 56 ∷ 8 ∷ 6 ∷ 4 ∷ 2 ∷ 0 ∷ 57 ∷ 55 ∷ 53 ∷ 51 ∷ 49 ∷ 47 ∷ 45 ∷ 43 ∷ 41 ∷ 39 ∷ 37 ∷ 35 ∷ 33 ∷ 31 ∷ 29 ∷ 27 ∷ 25 ∷ 23 ∷ 21 ∷ 19 ∷ 17 ∷ 15 ∷ 13 ∷ 11 ∷ 9 ∷ 7 ∷ 5 ∷ 3 ∷ 1 ∷ []) $
-        by ! zeroed
+        by ! (shuts 𝓤 H A (rooms (slots ++ (word, l₇) ∷ []) ++ Passed ++ rooms scratch) Frame zeroed)
 
   walk : (𝓣 : Tables 𝓤 H) → Triple 𝓤 (𝓣 .C #cell-of) (CellOf 𝓤 H A mem run) → ent 𝓤 (onEntry 𝓤 H A f.signature (κ, tt) (q, tt) (x, tt) at) (WpFn 𝓤 H (𝓣 .C) (𝓣 .Λ) code.function (sliceVal (b, o) n ∷ []) Post)
   walk 𝓣 known =

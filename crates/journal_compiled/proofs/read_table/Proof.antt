@@ -1,8 +1,8 @@
 -- `read_table` meets its contract: the columns hold the rows, or are clear.
 use mathlib.Core.Path.{_∙_}
-use Rattle.journal_table.specs.Tables.{cleared-equal, table-kept, table-cleared}
-use Rattle.journal_table.proofs.read_table.Statement.{statement}
-use Rattle.journal_table.proofs.read_table.Tie as tie
+use Rattle.journal_compiled.specs.Tables.{cleared-equal, table-kept, table-cleared}
+use Rattle.journal_compiled.proofs.read_table.Statement.{statement}
+use Rattle.journal_compiled.proofs.read_table.Tie as tie
 
 -- The states that several needs go back to: what is judged, from where its verdict is known; the columns cleared before it; the start.
 abbrev judged : tie.After-struct-known → tie.After-judge

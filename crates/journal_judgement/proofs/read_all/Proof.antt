@@ -2,11 +2,11 @@
 use mathlib.Core.Path.{_≡_, refl, _∙_}
 use Prim.Native.Nat.{_-_}
 use lib.ListN.{length}
-use Rattle.journal_event_loop.specs.Events.{EventsRead, no-event-read, event-more, events-all}
+use Rattle.journal_judgement.specs.Events.{EventsRead, no-event-read, event-more, events-all}
 use Rattle.journal_event_step.specs.Points.{fewer-left}
 use Rattle.journal_events.specs.Events.{schemaCells}
-use Rattle.journal_event_loop.proofs.read_all.Statement.{statement}
-use Rattle.journal_event_loop.proofs.read_all.Tie as tie
+use Rattle.journal_judgement.proofs.read_all.Statement.{statement}
+use Rattle.journal_judgement.proofs.read_all.Tie as tie
 use Rattle.table_spec.specs.Columns.{columns}
 
 abbrev Inv-loop : tie.InvT-loop
