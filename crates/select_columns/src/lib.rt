@@ -8,13 +8,12 @@ ghost use Rattle.schema_records.specs.Records.{recordWith};
 ghost use Rattle.selected_answers.specs.Answers.{AnsweredAs};
 ghost use Rattle.table_spec.specs.Rows.{Cells};
 use bundle_reader::Bundle;
-use row_structs::MAX_ROWS;
 use row_structs::RowColumns;
 use schema::Schema;
 use select_records::select_nodes;
 use selected_answers::Selected;
-use selected_answers::refused;
-use verdicts::BAD_RECORD;
+use selected_answers::bad_record;
+use table_limits::are_too_many;
 
 // Selects on a table of so many row structs, of which no more are laid in the columns than a table can have.
 pub fn select_columns(
@@ -29,8 +28,8 @@ pub fn select_columns(
 ) -> Selected
     ensures { λ r. ⌜ ((rows : List Cells) → length rows ≡ count → Laid rows (columnsIn columns) → AnsweredAs (nodesSelectedRows (recordWith (schema .bytes) (schema .len)) (recordWith (bundle .bytes) (bundle .len)) place rows (now (lent .entry)) (length (now (items .entry))) (length (now (counts .entry)))) (length (now (items .entry))) (length (now (counts .entry))) r (now (items .exit)) (now (counts .exit))) ⌝ }
 {
-    if count > MAX_ROWS {
-        return refused(BAD_RECORD, 0, items, counts);
+    if are_too_many(count) {
+        return bad_record(items, counts);
     }
     let numbers = columns.numbers;
     let names = columns.names;
