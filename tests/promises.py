@@ -3,7 +3,7 @@
 
 - In the tables of docs/PROMISES.md each name of the column 'Met by' is declared in a file of the column 'File', and each such file exists.
 - Each `pub fn` that another crate calls stands in such a table, beside its crate's source.
-- The functions of the table 'Public functions' are those that the crate library has or passes on, and none of them has a `requires`.
+- The functions of the table 'Public functions' are those that the crate lozhymet passes on, and none of them has a `requires`.
 - Every crate folder is listed in crates.txt and described in docs/ARCHITECTURE.md, and each module that is named there exists.
 """
 import os
@@ -77,16 +77,16 @@ def contract(text, name):
 
 
 def public_functions(promises):
-    """Faults of the table 'Public functions' against what the crate library has or passes on."""
+    """Faults of the table 'Public functions' against what lozhymet passes on."""
     table = promises.split("## Public functions")[1].split("\n\n")[1]
     heads = {}
     for _, met, file in rows(table):
         for name in QUOTED.findall(met):
             found = [contract(read(f), name) for f in QUOTED.findall(file) if f.endswith(".rt")]
             heads.update((name, head) for head in found if head)
-    passed = set(re.findall(r'^pub (?:use \w+::|extern "C" fn )([a-z]\w*)', sources("library"), re.M))
+    passed = set(re.findall(r"^pub use \w+::([a-z]\w*);", sources("lozhymet"), re.M))
     for name in sorted(set(heads) ^ passed):
-        yield "%s stands in one of the crate library and the table of public functions, and not in the other" % name
+        yield "%s stands in one of lozhymet and the table of public functions, and not in the other" % name
     for name, head in heads.items():
         if re.search(r"^    requires \{", head, re.M):
             yield "the public function %s has a requires" % name

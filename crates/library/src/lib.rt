@@ -1,6 +1,4 @@
-// The public library in one crate: every function that another project calls. The two that a C host calls stand here: a slice is a pointer and a
-// length, what is lent is `&mut`, and the result goes out by value. Each other is proved in the crate that it comes from. None has a `requires`;
-// docs/PROMISES.md lists what each is equal to. A caller names the types by the crates that declare them.
+// The two functions that a C host calls. A slice is a pointer and a length, what is lent is `&mut`, and the result goes out by value.
 ghost use mathlib.Core.List.{[]};
 ghost use Rattle.host_laws.specs.Stages.{lentOf};
 ghost use Rattle.host_results.specs.Exits.{Exits};
@@ -9,34 +7,6 @@ ghost use Rattle.table_spec.specs.Columns.{columns};
 use host_making::make_extract;
 use host_results::HostResult;
 use host_selecting::select_from;
-
-// Schemas and bundles: texts read into records, and refusal 1 for a record.
-pub use bundle_reader::read_bundle;
-pub use bundle_tests::is_bundle_record;
-pub use schema_reader::is_schema_record;
-pub use schema_reader::read_schema;
-
-// The needed names of a bundle, as 64 bits.
-pub use needed_records::needed_names;
-
-// Tables in lent columns: a journal read into them, a cut, the text and the chain of a row.
-pub use chain_records::row_chain;
-pub use cut_records::cut_table;
-pub use journal_records::read_journal;
-pub use row_text::row_text;
-pub use row_text::row_text_place;
-
-// Extracts written and read.
-pub use extract_records::read_extract;
-pub use extract_writer::write_extract;
-
-// Selecting on a table.
-pub use select_records::select_nodes;
-
-// The same over lent row structs.
-pub use cut_structs::cut_table_rows;
-pub use journal_structs::read_journal_rows;
-pub use select_structs::select_nodes_rows;
 
 // Makes the extract of a journal for a bundle under a schema: the journal's table in the five columns, the extract in `out`.
 #[no_mangle]
