@@ -8,8 +8,8 @@ use lib.Dec.{eqb}
 use lib.ListN.{length, getD, take, replicate, length-append, length-replicate}
 use lib.Seq.{length-take-le}
 use Rattle.library_spec.specs.Listing.{decimal, lineFeed, header}
-use Rattle.listing_files.specs.Files.{LinesFit}
-use Rattle.listing_files.specs.declared.Listed.{Listed}
+use Rattle.listed_files.specs.Files.{LinesFit}
+use Rattle.listed_files.specs.declared.Listed.{Listed}
 use Rattle.listing_lines.specs.Lines.{refusal, lineOf, rowLine, RowPass}
 use Rattle.row_chains.specs.Chains.{chainAt, chain-length}
 use Rattle.text_spec.specs.Limits.{listingRows}

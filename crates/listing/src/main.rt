@@ -6,7 +6,7 @@ use limits::LISTED_BYTES;
 use limits::LISTED_ROWS;
 use limits::MAX_BUNDLE_BYTES;
 use limits::MAX_SCHEMA_BYTES;
-use listing_files::Listed;
+use listed_files::Listed;
 use listing_files::list_files;
 use listing_headers::put_header;
 use listing_lines::put_row;

@@ -1,7 +1,6 @@
 // The three files of a listing, read once: what is refused, or what the header and the lines are made of.
-ghost use mathlib.Core.Path.{_≡_};
 ghost use Rattle.compiled_paths.specs.Paths.{lentPaths};
-ghost use Rattle.listing_files.specs.Files.{refusedBy, RowsAsked, ListedRows, FilesLent, ListsAs};
+ghost use Rattle.listed_files.specs.Files.{RowsAsked, ListedRows, FilesLent, ListsAs};
 ghost use Rattle.table_spec.specs.Columns.{columns};
 use compiled_paths::CONDITION_STARTS;
 use compiled_paths::PATH_STARTS;
@@ -11,6 +10,8 @@ use first_paths::selected_count;
 use host_texts::judge_texts;
 use journal_compiled::read_compiled;
 use limits::LISTED_BYTES;
+use listed_files::Listed;
+use listed_files::refused;
 use listing_table::kept_count;
 use listing_table::note_paths;
 use names::MAX_ELEMENTS;
@@ -18,32 +19,7 @@ use names::NameSet;
 use needed_sets::needed_under;
 use row_chains::name_sizes;
 use schema_entries::Entries;
-
-pub struct Listed {
-    // the refusal's number and place, 0 and 0 for none
-    pub number: u64,
-    pub place: u64,
-    pub selected: usize,
-    pub kept: usize,
-    pub rows: usize,
-    // where the elements' names stand in the schema, and how long they are
-    pub names: [usize; MAX_ELEMENTS],
-    pub sizes: [usize; MAX_ELEMENTS],
-}
-
-fn refused(number: u64, place: u64) -> Listed
-    ensures { λ r. ⌜ r ≡ refusedBy number place ⌝ }
-{
-    Listed {
-        number,
-        place,
-        selected: 0,
-        kept: 0,
-        rows: 0,
-        names: [0; MAX_ELEMENTS],
-        sizes: [0; MAX_ELEMENTS],
-    }
-}
+use verdicts::Verdict;
 
 // What is listed of the rows of a journal.
 fn list_rows<'a>(
@@ -109,7 +85,7 @@ pub fn list_files(
     if told.number != 0 {
         return refused(told.number, told.place);
     }
-    let verdict = read_compiled(
+    let verdict: Verdict = read_compiled(
         schema,
         texts.schema,
         journal,

@@ -13,7 +13,7 @@ use Rattle.first_paths.specs.Firsts.{FirstPaths, selectedCount}
 use Rattle.kept_rows.specs.Joined.{rank}
 use Rattle.kept_rows.specs.Kept.{inSet, keptMarks, KeptColumns}
 use Rattle.library_spec.specs.Listing.{header, listing}
-use Rattle.listing_files.specs.declared.Listed.{Listed}
+use Rattle.listed_files.specs.declared.Listed.{Listed}
 use Rattle.listing_laws.specs.Rows.{rowLines}
 use Rattle.listing_lines.specs.Lines.{refusal, rowLine}
 use Rattle.names.specs.declared.NameSet.{NameSet}

@@ -26,8 +26,8 @@ use Rattle.library_spec.specs.Calls.{inColumns}
 use Rattle.library_spec.specs.Chains.{chain}
 use Rattle.library_spec.specs.Hosts.{bundlePaths}
 use Rattle.library_spec.specs.Listing.{header, listing}
-use Rattle.listing_files.specs.Files.{refusedBy, printedOf, LinesFit, ListsAs, FilesLent, RowsAsked, ListedRows}
-use Rattle.listing_files.specs.declared.Listed.{Listed}
+use Rattle.listed_files.specs.Files.{refusedBy, printedOf, LinesFit, ListsAs, FilesLent, RowsAsked, ListedRows}
+use Rattle.listed_files.specs.declared.Listed.{Listed}
 use Rattle.listing_laws.specs.Files.{texts-refused, journal-refused, journal-lists}
 use Rattle.listing_laws.specs.Rows.{rowLines, listed-by-rows}
 use Rattle.listing_laws.specs.Sizes.{chain-short}
