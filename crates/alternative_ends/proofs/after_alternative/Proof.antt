@@ -4,6 +4,13 @@ use borrow.Author.Needs.{needs}
 use Rattle.alternative_ends.proofs.after_alternative.Statement.{statement}
 use Rattle.alternative_ends.proofs.after_alternative.Tie as tie
 
+-- the states that answers go back to
+abbrev else1-before : tie.Else3 → tie.Else1
+else1-before c = c .before .before .before .before
+
+abbrev else3-before : tie.After-spell → tie.Else3
+else3-before c = c .before .before
+
 returns : tie.Need-returns
 returns c =
     record { says = follow-end _ _ (c .if1 .taken) }
@@ -18,11 +25,15 @@ returns-3 c =
 
 returns-4 : tie.Need-returns-4
 returns-4 c =
-    record { says = follow-more _ _ (c .before .before .before .before .before .before .before .before .before .if1 .left) (c .before .before .before .before .before .if3 .left) (c .before .before .before .spell .ensures) (c .before .j .given .1) }
+    let spelt = c .before .before .before in
+    let else3 = else3-before spelt in
+    record { says = follow-more _ _ (else1-before else3 .if1 .left) (else3 .if3 .left) (spelt .spell .ensures) (c .before .j .given .1) }
 
 returns-5 : tie.Need-returns-5
 returns-5 c =
-    record { says = follow-stops _ _ (c .before .before .before .before .before .before .before .before .before .if1 .left) (c .before .before .before .before .before .if3 .left) (c .before .before .before .spell .ensures) (c .before .j2 .given .1) }
+    let spelt = c .before .before .before in
+    let else3 = else3-before spelt in
+    record { says = follow-stops _ _ (else1-before else3 .if1 .left) (else3 .if3 .left) (spelt .spell .ensures) (c .before .j2 .given .1) }
 
 pub after-alternative-spec : {M : Type 1} → statement M
 after-alternative-spec =

@@ -6,6 +6,10 @@ use borrow.Author.Needs.{needs}
 use Rattle.bundle.proofs.judge_names.Statement.{statement}
 use Rattle.bundle.proofs.judge_names.Tie as tie
 
+-- the states that answers go back to
+abbrev start-before : tie.After-fill → tie.Start
+start-before c = c .before .before .before .before .before .before .before .before .before
+
 fill-requires : tie.Need-fill-requires
 fill-requires c κs =
     let start = c .before .before .before .before .before .before .before .before in
@@ -13,15 +17,15 @@ fill-requires c κs =
 
 returns : tie.Need-returns
 returns c =
-    let at-fill = c .before .before in
-    let start = at-fill .before .before .before .before .before .before .before .before .before in
-    judge-lost (start .pre .1) (map (nameAt (start .args .schema .now)) (start .args .names .now)) (at-fill .fill .ensures) (c .refused .ensures) (c .before .if1 .taken)
+    let filled = c .before .before in
+    let start = start-before filled in
+    judge-lost (start .pre .1) (map (nameAt (start .args .schema .now)) (start .args .names .now)) (filled .fill .ensures) (c .refused .ensures) (c .before .if1 .taken)
 
 returns-2 : tie.Need-returns-2
 returns-2 c =
-    let at-fill = c .before .before in
-    let start = at-fill .before .before .before .before .before .before .before .before .before in
-    judge-known (start .pre .1) (map (nameAt (start .args .schema .now)) (start .args .names .now)) (at-fill .fill .ensures) (few-names (start .args .schema .now) (start .args .names .now) (start .pre .0)) (c .before .if1 .left)
+    let filled = c .before .before in
+    let start = start-before filled in
+    judge-known (start .pre .1) (map (nameAt (start .args .schema .now)) (start .args .names .now)) (filled .fill .ensures) (few-names (start .args .schema .now) (start .args .names .now) (start .pre .0)) (c .before .if1 .left)
 
 pub judge-names-spec : {M : Type 1} → statement M
 judge-names-spec =

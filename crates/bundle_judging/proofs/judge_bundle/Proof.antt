@@ -6,6 +6,10 @@ use borrow.Author.Needs.{needs}
 use Rattle.bundle_judging.proofs.judge_bundle.Statement.{statement}
 use Rattle.bundle_judging.proofs.judge_bundle.Tie as tie
 
+-- the states that answers go back to
+abbrev start-before : tie.Else1 → tie.Start
+start-before c = c .before .before .before .before
+
 returns : tie.Need-returns
 returns c =
     let start = c .before .before .before .before .before in
@@ -13,20 +17,20 @@ returns c =
 
 returns-2 : tie.Need-returns-2
 returns-2 c =
-    let start = c .before .before .before .before .before .before in
+    let start = start-before (c .before .before) in
     judge-long (map (nameAt (start .args .schema .now)) (start .args .names .now)) (start .args .text .now) (c .refused2 .ensures) (c .before .if2 .taken)
 
 returns-3 : tie.Need-returns-3
 returns-3 c =
-    let at-if2 = c .before .before .before in
-    let start = at-if2 .before .before .before .before .before in
-    judge-foreign (map (nameAt (start .args .schema .now)) (start .args .names .now)) (start .args .text .now) (at-if2 .before .if1 .left) (at-if2 .if2 .left) (c .before .before .first-foreign .ensures) (c .refused3 .ensures) (c .before .if3 .taken)
+    let else2 = c .before .before .before in
+    let start = start-before (else2 .before) in
+    judge-foreign (map (nameAt (start .args .schema .now)) (start .args .names .now)) (start .args .text .now) (else2 .before .if1 .left) (else2 .if2 .left) (c .before .before .first-foreign .ensures) (c .refused3 .ensures) (c .before .if3 .taken)
 
 judge-paths-requires : tie.Need-judge-paths-requires
 judge-paths-requires c κs =
-    let at-if2 = c .before .before in
-    let start = at-if2 .before .before .before .before .before in
-    (start .pre, readable (map (nameAt (start .args .schema .now)) (start .args .names .now)) (start .args .text .now) (at-if2 .before .if1 .left) (at-if2 .if2 .left) (c .before .first-foreign .ensures) (c .if3 .left))
+    let else2 = c .before .before in
+    let start = start-before (else2 .before) in
+    (start .pre, readable (map (nameAt (start .args .schema .now)) (start .args .names .now)) (start .args .text .now) (else2 .before .if1 .left) (else2 .if2 .left) (c .before .first-foreign .ensures) (c .if3 .left))
 
 pub judge-bundle-spec : {M : Type 1} → statement M
 judge-bundle-spec =

@@ -6,6 +6,10 @@ use borrow.Author.Needs.{needs}
 use Rattle.path_axes.proofs.axis.Statement.{statement}
 use Rattle.path_axes.proofs.axis.Tie as tie
 
+-- the states that answers go back to
+abbrev else1-before : tie.Else4 → tie.Else1
+else1-before c = c .before .before .before .before
+
 returns : tie.Need-returns
 returns c =
     axis-end beginStep _ _ (λ x. refl) (c .if1 .taken)
@@ -24,15 +28,15 @@ returns-4 c =
 
 returns-5 : tie.Need-returns-5
 returns-5 c =
-    first-parent _ _ (c .before .before .before .before .before .before .before .if1 .left) (c .before .before .if5 .taken) (c .rest2 .ensures)
+    first-parent _ _ (else1-before (c .before .before .before) .if1 .left) (c .before .before .if5 .taken) (c .rest2 .ensures)
 
 returns-6 : tie.Need-returns-6
 returns-6 c =
-    first-self _ _ (c .before .before .before .before .before .before .before .before .if1 .left) (c .before .before .if6 .taken) (c .rest3 .ensures)
+    first-self _ _ (else1-before (c .before .before .before .before) .if1 .left) (c .before .before .if6 .taken) (c .rest3 .ensures)
 
 returns-7 : tie.Need-returns-7
 returns-7 c =
-    first-not _ _ (c .before .before .before .before .before .before .if1 .left) (c .before .before .before .before .if2 .left) (c .before .before .before .if3 .left) (c .before .before .if4 .left) (c .before .if5 .left) (c .if6 .left)
+    first-not _ _ (else1-before (c .before .before) .if1 .left) (c .before .before .before .before .if2 .left) (c .before .before .before .if3 .left) (c .before .before .if4 .left) (c .before .if5 .left) (c .if6 .left)
 
 pub axis-spec : {M : Type 1} → statement M
 axis-spec =

@@ -5,17 +5,26 @@ use borrow.Author.Needs.{needs}
 use Rattle.path_axes.proofs.either.Statement.{statement}
 use Rattle.path_axes.proofs.either.Tie as tie
 
+-- the states that answers go back to
+abbrev start-before : tie.After-spell → tie.Start
+start-before c = c .before .before .before
+
 or-self-requires : tie.Need-or-self-requires
 or-self-requires c κs =
-    (spelt-end (c .before .before .before .spell .ensures) (c .before .j .given .1) .1, c .before .before .before .before .before .before .pre .2)
+    let spelt = c .before .before .before in
+    (spelt-end (spelt .spell .ensures) (c .before .j .given .1) .1, start-before spelt .pre .2)
 
 returns : tie.Need-returns
 returns c =
-    both-past (c .before .before .before .before .before .before .before .args .axis) (c .before .before .before .before .spell .ensures) (c .before .before .before .before .before .before .before .pre .1) (c .before .before .j .given .1) (c .or-self .ensures)
+    let spelt = c .before .before .before .before in
+    let start = start-before spelt in
+    both-past (start .args .axis) (spelt .spell .ensures) (start .pre .1) (c .before .before .j .given .1) (c .or-self .ensures)
 
 returns-2 : tie.Need-returns-2
 returns-2 c =
-    both-fail (c .before .before .before .before .before .before .args .axis) (c .before .before .before .spell .ensures) (c .before .before .before .before .before .before .pre .1) (c .before .j2 .given .1)
+    let spelt = c .before .before .before in
+    let start = start-before spelt in
+    both-fail (start .args .axis) (spelt .spell .ensures) (start .pre .1) (c .before .j2 .given .1)
 
 pub either-spec : {M : Type 1} → statement M
 either-spec =

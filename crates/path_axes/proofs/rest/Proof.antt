@@ -4,13 +4,21 @@ use borrow.Author.Needs.{needs}
 use Rattle.path_axes.proofs.rest.Statement.{statement}
 use Rattle.path_axes.proofs.rest.Tie as tie
 
+-- the states that answers go back to
+abbrev start-before : tie.After-spell → tie.Start
+start-before c = c .before .before .before
+
 returns : tie.Need-returns
 returns c =
-    rest-past (c .before .before .before .before .before .before .args .axis) (c .before .before .before .spell .ensures) (c .before .before .before .before .before .before .pre .1) (c .before .before .before .before .before .before .pre .2) (c .before .j .given .1)
+    let spelt = c .before .before .before in
+    let start = start-before spelt in
+    rest-past (start .args .axis) (spelt .spell .ensures) (start .pre .1) (start .pre .2) (c .before .j .given .1)
 
 returns-2 : tie.Need-returns-2
 returns-2 c =
-    rest-fail (c .before .before .before .before .before .before .args .axis) (c .before .before .before .spell .ensures) (c .before .before .before .before .before .before .pre .1) (c .before .j2 .given .1)
+    let spelt = c .before .before .before in
+    let start = start-before spelt in
+    rest-fail (start .args .axis) (spelt .spell .ensures) (start .pre .1) (c .before .j2 .given .1)
 
 pub rest-spec : {M : Type 1} → statement M
 rest-spec =

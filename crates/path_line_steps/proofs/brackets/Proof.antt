@@ -5,17 +5,32 @@ use borrow.Author.Needs.{needs}
 use Rattle.path_line_steps.proofs.brackets.Statement.{statement}
 use Rattle.path_line_steps.proofs.brackets.Tie as tie
 
+-- the states that answers go back to
+abbrev start-before : tie.After-stands → tie.Start
+start-before c = c .before .before .before .before
+
+abbrev then1-before : tie.After-condition-arg2 → tie.Then1
+then1-before c = c .before .before
+
 condition-requires : tie.Need-condition-requires
 condition-requires c κs =
-    let h = c .before .before .before .stands .ensures .here (c .before .before .if1 .taken) .0 in let l = c .before .before .before .before .before .before .before .pre .2 in let g = c .before .before .before .before .before .before .before .pre .3 in (omega arith, c .before .before .before .before .before .before .before .pre .1, omega arith, omega arith)
+    let then1 = then1-before c in
+    let start = start-before (then1 .before) in
+    let h = then1 .before .stands .ensures .here (then1 .if1 .taken) .0 in
+    let l = start .pre .2 in
+    let g = start .pre .3 in
+    (omega arith, start .pre .1, omega arith, omega arith)
 
 returns : tie.Need-returns
 returns c =
-    brackets-some (c .before .before .before .before .before .before .before .before .stands .ensures) (c .before .before .before .before .before .before .before .if1 .taken) (c .before .before .before .before .condition .ensures)
+    let made = c .before .before .before .before in
+    let then1 = then1-before (made .before) in
+    brackets-some (then1 .before .stands .ensures) (then1 .if1 .taken) (made .condition .ensures)
 
 returns-2 : tie.Need-returns-2
 returns-2 c =
-    brackets-none (c .before .stands .ensures) (c .before .before .before .before .before .pre .0) (c .before .before .before .before .before .pre .2) (c .before .before .before .before .before .pre .3) (c .if1 .left)
+    let start = start-before (c .before) in
+    brackets-none (c .before .stands .ensures) (start .pre .0) (start .pre .2) (start .pre .3) (c .if1 .left)
 
 pub brackets-spec : {M : Type 1} → statement M
 brackets-spec =

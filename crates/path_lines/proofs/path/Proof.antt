@@ -16,23 +16,27 @@ abbrev μ-loop : tie.MeasureT-loop
 μ-loop s at outers₀ conditions₀ k cells₀ n ways₀ m i₀ steps₀ count₀ many₀ over₀ outers conditions cells ways i steps count many over =
     length s - i
 
--- ---- the states that answers look back at
+-- ---- the states that answers go back to
 -- the call, from a turn of the loop
-abbrev start-of : tie.At-loop Inv-loop μ-loop → tie.Start Inv-loop μ-loop
-start-of c = c .before .before .before .before .before .before
+abbrev start-before : tie.At-loop Inv-loop μ-loop → tie.Start Inv-loop μ-loop
+start-before c = c .before .before .before .before .before .before
 
 -- the turn in which a step was read
-abbrev turn-of : tie.After-written-step Inv-loop μ-loop → tie.At-loop Inv-loop μ-loop
-turn-of c = c .before .before .before .before
+abbrev turn-before : tie.After-written-step Inv-loop μ-loop → tie.At-loop Inv-loop μ-loop
+turn-before c = c .before .before .before .before
 
 -- the step's reading, once it is known to be past
-abbrev step-of : tie.After-p Inv-loop μ-loop → tie.After-written-step Inv-loop μ-loop
-step-of c = c .before .before .before .before .before .before .before .before
+abbrev step-before : tie.After-p Inv-loop μ-loop → tie.After-written-step Inv-loop μ-loop
+step-before c = c .before .before .before .before .before .before .before .before
+
+-- the step's reading, once it is known to fail
+abbrev failed-before : tie.After-known-told Inv-loop μ-loop → tie.After-written-step Inv-loop μ-loop
+failed-before c = c .before .before .before .before .before .before .before .before .before
 
 module _ (c : tie.At-loop Inv-loop μ-loop) where
   -- the columns have their lengths
-  sizes : (length (c .loop .outers) ≡ length (start-of c .args .outers .now)) × (length (c .loop .conditions) ≡ length (start-of c .args .conditions .now))
-      × (length (c .loop .cells) ≡ length (start-of c .args .cells .now)) × (length (c .loop .ways) ≡ length (start-of c .args .ways .now))
+  sizes : (length (c .loop .outers) ≡ length (start-before c .args .outers .now)) × (length (c .loop .conditions) ≡ length (start-before c .args .conditions .now))
+      × (length (c .loop .cells) ≡ length (start-before c .args .cells .now)) × (length (c .loop .ways) ≡ length (start-before c .args .ways .now))
   sizes = steps-size (c .loop .inv .noted)
 
 -- once it is known what follows the step
@@ -47,13 +51,13 @@ module _ (c : tie.After-after-step Inv-loop μ-loop) where
   at-past = at-either .before .before
 
   abbrev at-step : tie.After-written-step Inv-loop μ-loop
-  at-step = step-of at-past
+  at-step = step-before at-past
 
   abbrev at-turn : tie.At-loop Inv-loop μ-loop
-  at-turn = turn-of at-step
+  at-turn = turn-before at-step
 
   abbrev at-start : tie.Start Inv-loop μ-loop
-  at-start = start-of at-turn
+  at-start = start-before at-turn
 
   -- the columns still have their lengths
   lengths : (length (at-step .written-step .last .1 .1 .0) ≡ length (at-start .args .outers .now))
@@ -73,31 +77,31 @@ loop-holds c =
 written-step-requires : tie.Need-written-step-requires Inv-loop μ-loop
 written-step-requires c κs =
     let turn = c .before .before .before in
-    (turn .loop .inv .high, start-of turn .pre .1, turn .loop .inv .few, turn .loop .inv .few-ways)
+    (turn .loop .inv .high, start-before turn .pre .1, turn .loop .inv .few, turn .loop .inv .few-ways)
 
 same-length : tie.Need-same-length Inv-loop μ-loop
-same-length c = let l = sizes (turn-of (c .before .before .before .before .before .before .before .before .before)) .0 in search needs
+same-length c = let l = sizes (turn-before (failed-before c)) .0 in search needs
 
 same-length-2 : tie.Need-same-length-2 Inv-loop μ-loop
-same-length-2 c = let l = sizes (turn-of (c .before .before .before .before .before .before .before .before .before)) .1 in search needs
+same-length-2 c = let l = sizes (turn-before (failed-before c)) .1 in search needs
 
 same-length-3 : tie.Need-same-length-3 Inv-loop μ-loop
-same-length-3 c = let l = sizes (turn-of (c .before .before .before .before .before .before .before .before .before)) .2 in search needs
+same-length-3 c = let l = sizes (turn-before (failed-before c)) .2 in search needs
 
 same-length-4 : tie.Need-same-length-4 Inv-loop μ-loop
-same-length-4 c = let l = sizes (turn-of (c .before .before .before .before .before .before .before .before .before)) .3 in search needs
+same-length-4 c = let l = sizes (turn-before (failed-before c)) .3 in search needs
 
 returns : tie.Need-returns Inv-loop μ-loop
 returns c =
-    let step = c .before .before .before .before .before .before .before .before .before in
-    upto-fails (turn-of step .loop .inv) (start-of (turn-of step) .pre .0) (step .written-step .ensures) (c .before .j .given .1)
+    let step = failed-before c in
+    upto-fails (turn-before step .loop .inv) (start-before (turn-before step) .pre .0) (step .written-step .ensures) (c .before .j .given .1)
 
 add-steps : tie.Need-add-steps Inv-loop μ-loop
 add-steps c =
-    let turn = turn-of (step-of (c .before .before)) in
+    let turn = turn-before (step-before (c .before .before)) in
     let f = turn .loop .inv .few-steps in
     let h = turn .loop .inv .high in
-    let l = start-of turn .pre .1 in
+    let l = start-before turn .pre .1 in
     search needs
 
 same-length-5 : tie.Need-same-length-5 Inv-loop μ-loop

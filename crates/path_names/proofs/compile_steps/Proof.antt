@@ -16,6 +16,13 @@ Inv-loop schema names text cells at axes₀ tests₀ lost least₀ i₀ axes tes
 abbrev μ-loop : tie.MeasureT-loop
 μ-loop schema names text cells at axes₀ tests₀ lost least₀ i₀ axes tests least i = length cells - i
 
+-- the states that answers go back to
+abbrev start-before : tie.At-loop Inv-loop μ-loop → tie.Start Inv-loop μ-loop
+start-before c = c .before .before .before .before .before .before .before
+
+abbrev loop-before : tie.After-compile-test Inv-loop μ-loop → tie.At-loop Inv-loop μ-loop
+loop-before c = c .before .before .before
+
 loop-holds : tie.Need-loop-holds Inv-loop μ-loop
 loop-holds c =
     let args = c .before .before .before .before .before .before .args in (
@@ -25,22 +32,21 @@ loop-holds c =
 
 add-k : tie.Need-add-k Inv-loop μ-loop
 add-k c =
-    let start = c .before .before .before .before .before .before .before .before .before .before in
-    let room = start .pre .1 in
+    let room = start-before (loop-before c) .pre .1 in
     omega arith
 
 slice-write-axes : tie.Need-slice-write-axes Inv-loop μ-loop
 slice-write-axes c =
-    let at-loop = c .before .before .before in
-    let start = at-loop .before .before .before .before .before .before .before in
+    let at-loop = loop-before c in
+    let start = start-before at-loop in
     let room = start .pre .1 in
     let z = compiled-sizes (at-loop .loop .inv .1) .0 in
     omega arith
 
 slice-write-tests : tie.Need-slice-write-tests Inv-loop μ-loop
 slice-write-tests c =
-    let at-loop = c .before .before .before in
-    let start = at-loop .before .before .before .before .before .before .before in
+    let at-loop = loop-before c in
+    let start = start-before at-loop in
     let room = start .pre .1 in
     let same = start .pre .2 in
     let z = compiled-sizes (at-loop .loop .inv .1) .1 in
@@ -48,8 +54,8 @@ slice-write-tests c =
 
 loop-again : tie.Need-loop-again Inv-loop μ-loop
 loop-again c =
-    let at-loop = c .before .before .before .before in
-    let args = at-loop .before .before .before .before .before .before .before .args in
+    let at-loop = loop-before (c .before) in
+    let args = start-before at-loop .args in
     let l = at-loop .loop in
     let h = c .before .before .before .loop-test .taken in (
       omega arith,
@@ -66,7 +72,7 @@ same-length-2 c =
 
 returns : tie.Need-returns Inv-loop μ-loop
 returns c =
-    let args = c .before .before .before .before .before .before .before .before .args in
+    let args = start-before (c .before) .args in
     let l = c .before .loop in
     compiled-all (map (nameAt (args .schema .now)) (args .names .now)) (args .text .now) (args .cells .now) (args .at) (args .axes .now) (args .tests .now) (args .lost) (l .axes) (l .tests) (l .least) (l .i) (l .inv .1) (l .inv .0) (c .loop-test .left)
 

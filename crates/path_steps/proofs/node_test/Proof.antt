@@ -6,6 +6,13 @@ use borrow.Author.Needs.{needs}
 use Rattle.path_steps.proofs.node_test.Statement.{statement}
 use Rattle.path_steps.proofs.node_test.Tie as tie
 
+-- the states that answers go back to
+abbrev else1-before : tie.Else2 → tie.Else1
+else1-before c = c .before .before .before
+
+abbrev named-before : tie.After-j2 → tie.After-name-end
+named-before c = c .before .before
+
 returns : tie.Need-returns
 returns c =
     due-end _ _ (c .if1 .taken)
@@ -16,23 +23,35 @@ returns-2 c =
 
 name-end-requires : tie.Need-name-end-requires
 name-end-requires c κs =
-    (c .before .before .before .if1 .left, sym (c .before .starts-name .ensures) ∙ not-false _ (c .if2 .left))
+    (else1-before c .if1 .left, sym (c .before .starts-name .ensures) ∙ not-false _ (c .if2 .left))
 
 returns-3 : tie.Need-returns-3
 returns-3 c =
-    due-last (c .before .before .before .before .before .before .before .before .if1 .left) (sym (c .before .before .before .before .before .before .starts-name .ensures) ∙ not-false _ (c .before .before .before .before .before .if2 .left)) (c .before .before .before .before .name-end .ensures) (c .before .before .j2 .given .1) (c .if3 .taken)
+    let past = c .before .before in
+    let named = named-before past in
+    let begun = named .before in
+    due-last (else1-before begun .if1 .left) (sym (begun .before .starts-name .ensures) ∙ not-false _ (begun .if2 .left)) (named .name-end .ensures) (past .j2 .given .1) (c .if3 .taken)
 
 returns-4 : tie.Need-returns-4
 returns-4 c =
-    due-called (c .before .before .before .before .before .before .before .before .before .before .before .if1 .left) (sym (c .before .before .before .before .before .before .before .before .before .starts-name .ensures) ∙ not-false _ (c .before .before .before .before .before .before .before .before .if2 .left)) (c .before .before .before .before .before .before .before .name-end .ensures) (c .before .before .before .before .before .j2 .given .1) (c .call .ensures)
+    let past = c .before .before .before .before .before in
+    let named = named-before past in
+    let begun = named .before in
+    due-called (else1-before begun .if1 .left) (sym (begun .before .starts-name .ensures) ∙ not-false _ (begun .if2 .left)) (named .name-end .ensures) (past .j2 .given .1) (c .call .ensures)
 
 returns-5 : tie.Need-returns-5
 returns-5 c =
-    due-long (c .before .before .before .before .before .before .before .if1 .left) (sym (c .before .before .before .before .before .starts-name .ensures) ∙ not-false _ (c .before .before .before .before .if2 .left)) (c .before .before .before .name-end .ensures) (c .before .j .given .1)
+    let named = c .before .before .before in
+    let begun = named .before in
+    due-long (else1-before begun .if1 .left) (sym (begun .before .starts-name .ensures) ∙ not-false _ (begun .if2 .left)) (named .name-end .ensures) (c .before .j .given .1)
 
 returns-6 : tie.Need-returns-6
 returns-6 c =
-    due-named (c .before .before .before .before .before .before .before .before .before .before .if1 .left) (sym (c .before .before .before .before .before .before .before .before .starts-name .ensures) ∙ not-false _ (c .before .before .before .before .before .before .before .if2 .left)) (c .before .before .before .before .before .before .name-end .ensures) (c .before .before .before .before .j2 .given .1) (c .before .before .if3 .left) (c .if4 .left)
+    let else3 = c .before .before in
+    let past = else3 .before .before in
+    let named = named-before past in
+    let begun = named .before in
+    due-named (else1-before begun .if1 .left) (sym (begun .before .starts-name .ensures) ∙ not-false _ (begun .if2 .left)) (named .name-end .ensures) (past .j2 .given .1) (else3 .if3 .left) (c .if4 .left)
 
 pub node-test-spec : {M : Type 1} → statement M
 node-test-spec =
