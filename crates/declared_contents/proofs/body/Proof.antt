@@ -4,24 +4,28 @@ use borrow.Author.Needs.{needs}
 use Rattle.declared_contents.proofs.body.Statement.{statement}
 use Rattle.declared_contents.proofs.body.Tie as tie
 
+-- the states that answers go back to
+abbrev content-before : tie.After-p → tie.After-content
+content-before c = c .before .before .before .before .before .before
+
 skip-requires : tie.Need-skip-requires
 skip-requires c κs =
     let at-p = c .before in
-    let at-content = at-p .before .before .before .before .before .before in
+    let at-content = content-before at-p in
     content-high (at-content .content .ensures) (at-p .p .given .1)
 
 returns : tie.Need-returns
 returns c =
     let at-skip = c .before in
     let at-p = at-skip .before .before in
-    let at-content = at-p .before .before .before .before .before .before in
+    let at-content = content-before at-p in
     record { says = body-end (at-content .content .ensures) (at-p .p .given .1) (at-skip .skip .ensures) (c .if1 .taken) }
 
 returns-2 : tie.Need-returns-2
 returns-2 c =
     let at-skip = c .before .before .before in
     let at-p = at-skip .before .before in
-    let at-content = at-p .before .before .before .before .before .before in
+    let at-content = content-before at-p in
     body-close (at-content .content .ensures) (at-p .p .given .1) (at-skip .skip .ensures) (c .before .before .if1 .left) (c .if2 .taken)
 
 returns-3 : tie.Need-returns-3
@@ -33,7 +37,7 @@ returns-4 : tie.Need-returns-4
 returns-4 c =
     let at-skip = c .before .before .before in
     let at-p = at-skip .before .before in
-    let at-content = at-p .before .before .before .before .before .before in
+    let at-content = content-before at-p in
     record { says = body-not (at-content .content .ensures) (at-p .p .given .1) (at-skip .skip .ensures) (c .before .before .if1 .left) (c .if2 .left) }
 
 pub body-spec : {M : Type 1} → statement M

@@ -19,17 +19,21 @@ Inv-loop s names i₀ i =
 abbrev μ-loop : tie.MeasureT-loop
 μ-loop s names i₀ i = length names - i
 
+-- the states that answers go back to
+abbrev start-before : tie.At-loop Inv-loop μ-loop → tie.Start Inv-loop μ-loop
+start-before c = c .before .before .before
+
 loop-holds : tie.Need-loop-holds Inv-loop μ-loop
 loop-holds c = (search needs, refl)
 
 slice-aggregate-find : tie.Need-slice-aggregate-find Inv-loop μ-loop
 slice-aggregate-find c =
-    sym (length-take-le (c .before .before .before .loop .i) (c .before .before .before .before .before .before .args .names .now) (omega arith))
+    sym (length-take-le (c .before .before .before .loop .i) (start-before (c .before .before .before) .args .names .now) (omega arith))
 
 returns : tie.Need-returns Inv-loop μ-loop
 returns c =
     let l = c .before .before .before .before .before .loop in
-    let g = c .before .before .before .before .before .before .before .before .args in
+    let g = start-before (c .before .before .before .before .before) .args in
     let h = c .before .before .before .before .loop-test .taken in
     sym (l .inv .1 ∙ twice-here (g .s .now) (g .names .now) (l .i) h
     (among-found (g .s .now) (g .names .now) _ (l .i) (getD (g .names .now) (l .i) 0) (omega arith) refl (c .before .find .ensures) (c .if1 .taken)))
@@ -37,7 +41,7 @@ returns c =
 loop-again : tie.Need-loop-again Inv-loop μ-loop
 loop-again c =
     let l = c .before .before .before .before .before .loop in
-    let g = c .before .before .before .before .before .before .before .before .args in
+    let g = start-before (c .before .before .before .before .before) .args in
     let h = c .before .before .before .before .loop-test .taken in (
       search needs,
       l .inv .1 ∙ twice-later (g .s .now) (g .names .now) (l .i) h
@@ -47,7 +51,7 @@ loop-again c =
 returns-2 : tie.Need-returns-2 Inv-loop μ-loop
 returns-2 c =
     let l = c .before .loop in
-    let g = c .before .before .before .before .args in
+    let g = start-before (c .before) .args in
     sym (l .inv .1 ∙ twice-never (g .s .now) (g .names .now) (l .i) (c .loop-test .left))
 
 pub twice-spec : {M : Type 1} → statement M

@@ -8,6 +8,13 @@ use borrow.Author.Needs.{needs}
 use Rattle.element_entries.proofs.element_entry.Statement.{statement}
 use Rattle.element_entries.proofs.element_entry.Tie as tie
 
+-- the states that answers go back to
+abbrev start-before : tie.After-declaration → tie.Start
+start-before c = c .before .before .before .before .before .before .before
+
+abbrev declaration-before : tie.After-p → tie.After-declaration
+declaration-before c = c .before .before .before .before .before
+
 declaration-requires : tie.Need-declaration-requires
 declaration-requires c κs =
     let start = c .before .before .before .before .before .before in
@@ -16,8 +23,8 @@ declaration-requires c κs =
 add-m : tie.Need-add-m
 add-m c =
     let at-p = c .before in
-    let at-declaration = at-p .before .before .before .before .before in
-    let start = at-declaration .before .before .before .before .before .before .before in
+    let at-declaration = declaration-before at-p in
+    let start = start-before at-declaration in
     let read = at-declaration .declaration .ensures in
     let within = entry-within (start .pre .0) read (at-p .p .given .1) (start .pre .1) in
     search needs
@@ -25,8 +32,8 @@ add-m c =
 mul-model : tie.Need-mul-model
 mul-model c =
     let at-p = c .before in
-    let at-declaration = at-p .before .before .before .before .before in
-    let start = at-declaration .before .before .before .before .before .before .before in
+    let at-declaration = declaration-before at-p in
+    let start = start-before at-declaration in
     let read = at-declaration .declaration .ensures in
     let within = entry-within (start .pre .0) read (at-p .p .given .1) (start .pre .1) in
     search needs
@@ -34,8 +41,8 @@ mul-model c =
 part-model-end : tie.Need-part-model-end
 part-model-end c =
     let at-p = c .before in
-    let at-declaration = at-p .before .before .before .before .before in
-    let start = at-declaration .before .before .before .before .before .before .before in
+    let at-declaration = declaration-before at-p in
+    let start = start-before at-declaration in
     let read = at-declaration .declaration .ensures in
     let within = entry-within (start .pre .0) read (at-p .p .given .1) (start .pre .1) in
     search needs
@@ -43,8 +50,8 @@ part-model-end c =
 copy-elements-requires : tie.Need-copy-elements-requires
 copy-elements-requires c κs =
     let at-p = c .before .before .before in
-    let at-declaration = at-p .before .before .before .before .before in
-    let start = at-declaration .before .before .before .before .before .before .before in
+    let at-declaration = declaration-before at-p in
+    let start = start-before at-declaration in
     let read = at-declaration .declaration .ensures in
     let few = entry-few (start .pre .0) read (at-p .p .given .1) in
     let size = entry-length (start .pre .0) read (at-p .p .given .1) (start .pre .1) _ refl in
@@ -54,16 +61,16 @@ copy-elements-requires c κs =
 skip-requires : tie.Need-skip-requires
 skip-requires c κs =
     let at-p = c .before .before .before .before .before .before .before .before in
-    let at-declaration = at-p .before .before .before .before .before in
-    let start = at-declaration .before .before .before .before .before .before .before in
+    let at-declaration = declaration-before at-p in
+    let start = start-before at-declaration in
     let read = at-declaration .declaration .ensures in
     entry-high (start .pre .0) read (at-p .p .given .1)
 
 returns : tie.Need-returns
 returns c =
     let at-p = c .before .before .before .before .before .before .before .before .before .before in
-    let at-declaration = at-p .before .before .before .before .before in
-    let start = at-declaration .before .before .before .before .before .before .before in
+    let at-declaration = declaration-before at-p in
+    let start = start-before at-declaration in
     let read = at-declaration .declaration .ensures in
     entry-made (start .pre .0) read (at-p .p .given .1) (start .pre .1) _ refl (start .pre .3) (start .pre .2) (c .before .before .before .before .before .before .copy-elements .ensures)
     (c .before .before .before .kind-of .ensures) (c .before .before .held .ensures) (c .before .skip .ensures) (c .entry-of .ensures)
@@ -71,7 +78,7 @@ returns c =
 returns-2 : tie.Need-returns-2
 returns-2 c =
     let at-declaration = c .before .before .before .before .before .before .before in
-    let start = at-declaration .before .before .before .before .before .before .before in
+    let start = start-before at-declaration in
     absurd (entry-fails (start .pre .0) (at-declaration .declaration .ensures) (c .before .before .enum-told .given .1))
 
 pub element-entry-spec : {M : Type 1} → statement M

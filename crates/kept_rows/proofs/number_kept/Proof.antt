@@ -15,21 +15,25 @@ Inv-loop names parents positions₀ table n₀ r₀ positions n r = (0 < r) × K
 abbrev μ-loop : tie.MeasureT-loop
 μ-loop names parents positions₀ table n₀ r₀ positions n r = length positions₀ - r
 
+-- the states that answers go back to
+abbrev start-before : tie.After-code-marks Inv-loop μ-loop → tie.Start Inv-loop μ-loop
+start-before c = c .before .before .before .before
+
 returns : tie.Need-returns Inv-loop μ-loop
-returns c = numbered-none _ _ _ _ (c .before .before .before .before .before .pre) (c .if1 .taken)
+returns c = numbered-none _ _ _ _ (start-before (c .before) .pre) (c .if1 .taken)
 
 cast-n : tie.Need-cast-n Inv-loop μ-loop
 cast-n c = omega (arith, c .shared-slice-known3 .given 0)
 
 array-read-n : tie.Need-array-read-n Inv-loop μ-loop
-array-read-n c = omega (arith, c .before .before .before .before .before .before .pre .columns .coded 0)
+array-read-n c = omega (arith, start-before (c .before .before) .pre .columns .coded 0)
 
 cast-n-2 : tie.Need-cast-n-2 Inv-loop μ-loop
-cast-n-2 c = omega (arith, code-mark-small _ _ _ (c .before .before .code-marks .ensures) (c .before .before .before .before .before .before .pre .columns .coded 0))
+cast-n-2 c = omega (arith, code-mark-small _ _ _ (c .before .before .code-marks .ensures) (start-before (c .before .before) .pre .columns .coded 0))
 
 loop-holds : tie.Need-loop-holds Inv-loop μ-loop
 loop-holds c =
-    let h = c .before .before .before .before .before .before .pre in
+    let h = start-before (c .before .before) .pre in
     let e = table-marks _ _ (c .before .before .code-marks .ensures) in
     (omega arith, pass-first _ _ _ _ h, e, numbering-begun _ _ _ _ h _ e (omega arith))
 

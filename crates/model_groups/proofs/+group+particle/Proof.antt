@@ -98,6 +98,9 @@ module _ {t : ℕ} where
   abbrev particle-before : AtRead t → AtParticle t
   particle-before c = c .before .before .before .before .before .before
 
+  abbrev stopped-before : group-lts.After-known-told (group-claims t) (group-at t) group.Post group-Inv-loop group-μ-loop → AtParticle t
+  stopped-before c = c .before .before .before .before .before .before .before
+
   abbrev join-before : AtFollow t → group-lts.After-join (group-claims t) (group-at t) group.Post group-Inv-loop group-μ-loop
   join-before c = c .before .before .before
 
@@ -122,14 +125,14 @@ module _ (t : ℕ) where
       (g, (at-loop .loop .inv .read .high, start .pre .1 .1, at-loop .loop .inv .read .few, omega arith))
 
   group-same-length : group-lts.Need-same-length (group-claims t) (group-at t) group.Post group-Inv-loop group-μ-loop
-  group-same-length c = let l = group-length (loop-before (c .before .before .before .before .before .before .before) .loop .inv) in search needs
+  group-same-length c = let l = group-length (loop-before (stopped-before c) .loop .inv) in search needs
 
   group-same-length-2 : group-lts.Need-same-length-2 (group-claims t) (group-at t) group.Post group-Inv-loop group-μ-loop
-  group-same-length-2 c = let l = group-links (loop-before (c .before .before .before .before .before .before .before) .loop .inv) in search needs
+  group-same-length-2 c = let l = group-links (loop-before (stopped-before c) .loop .inv) in search needs
 
   group-returns : group-lts.Need-returns (group-claims t) (group-at t) group.Post group-Inv-loop group-μ-loop
   group-returns c =
-      let at-particle = c .before .before .before .before .before .before .before in
+      let at-particle = stopped-before c in
       let at-loop = loop-before at-particle in
       record { says = group-fails (at-loop .loop .inv) (group-args at-loop .pre .1 .3) (at-particle .particle .ensures) (c .before .j .given .1) }
 
@@ -224,6 +227,9 @@ abbrev AtOpen : ℕ → Type 0
 AtOpen t = particle-lts.Else4 (particle-claims t) (particle-at t) particle.Post
 
 module _ {t : ℕ} where
+  abbrev open-before : particle-lts.After-group (particle-claims t) (particle-at t) particle.Post → AtOpen t
+  open-before c = c .before .before .before
+
   abbrev no-name-before : AtOpen t → particle-lts.Else2 (particle-claims t) (particle-at t) particle.Post
   no-name-before c = c .before .before .before
 
@@ -251,7 +257,7 @@ module _ (t : ℕ) where
   particle-indicated-requires : particle-lts.Need-indicated-requires (particle-claims t) (particle-at t) particle.Post
   particle-indicated-requires c κs =
       let at-group = c .before .before .before .before .before .before .before .before in
-      let at-open = at-group .before .before .before in
+      let at-open = open-before at-group in
       open-high (skip-before at-open .skip .ensures) (byte-before at-open .if1 .left) (sym (no-name-before at-open .before .starts-name .ensures) ∙ no-name-before at-open .if2 .left) (at-open .before .if3 .left) (particle-args at-open .args .depth) (omega (arith, at-open .if4 .left)) (at-group .group .ensures) _ (c .before .before .p .given .1)
 
   particle-same-length-4 : particle-lts.Need-same-length-4 (particle-claims t) (particle-at t) particle.Post
@@ -261,13 +267,13 @@ module _ (t : ℕ) where
   particle-returns-5 c =
       let at-p = c .before .before .before .before .before in
       let at-group = at-p .before .before .before .before .before .before in
-      let at-open = at-group .before .before .before in
+      let at-open = open-before at-group in
       open-reads (skip-before at-open .skip .ensures) (byte-before at-open .if1 .left) (sym (no-name-before at-open .before .starts-name .ensures) ∙ no-name-before at-open .if2 .left) (at-open .before .if3 .left) (particle-args at-open .args .depth) (omega (arith, at-open .if4 .left)) (at-group .group .ensures) (at-p .p .given .1) (c .before .before .indicated .ensures)
 
   particle-returns-6 : particle-lts.Need-returns-6 (particle-claims t) (particle-at t) particle.Post
   particle-returns-6 c =
       let at-group = c .before .before .before .before .before .before .before in
-      let at-open = at-group .before .before .before in
+      let at-open = open-before at-group in
       record { says = open-fails (skip-before at-open .skip .ensures) (byte-before at-open .if1 .left) (sym (no-name-before at-open .before .starts-name .ensures) ∙ no-name-before at-open .if2 .left) (at-open .before .if3 .left) (particle-args at-open .args .depth) (omega (arith, at-open .if4 .left)) (at-group .group .ensures) (c .before .j .given .1) }
 
 pub +group+particle-spec : {M : Type 1} → statement M

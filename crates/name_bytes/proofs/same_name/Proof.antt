@@ -17,39 +17,66 @@ Inv-loop t p end s q i₀ j₀ i j =
 abbrev μ-loop : tie.MeasureT-loop
 μ-loop t p end s q i₀ j₀ i j = end - i
 
+-- the states that answers go back to
+abbrev start-before : tie.At-loop Inv-loop μ-loop → tie.Start Inv-loop μ-loop
+start-before c = c .before .before .before
+
+abbrev loop-before : tie.After-shared-slice-known4 Inv-loop μ-loop → tie.At-loop Inv-loop μ-loop
+loop-before c = c .before .before .before .before
+
 loop-holds : tie.Need-loop-holds Inv-loop μ-loop
 loop-holds c = (c .before .before .pre, refl)
 
 returns : tie.Need-returns Inv-loop μ-loop
-returns c = let l = c .before .before .loop in
+returns c =
+    let at = c .before .before in
+    let args = start-before at .args in
+    let l = at .loop in
     let z = l .inv .0 in
-    names-differ (c .before .before .before .before .before .args .t .now) (l .i) (c .before .before .before .before .before .args .s .now) (l .j) (omega arith) (λ h e. omega (arith, c .if1 .taken)) ∙ sym (l .inv .1)
+    names-differ (args .t .now) (l .i) (args .s .now) (l .j) (omega arith) (λ h e. omega (arith, c .if1 .taken)) ∙ sym (l .inv .1)
 
 shared-slice-read-if2 : tie.Need-shared-slice-read-if2 Inv-loop μ-loop
-shared-slice-read-if2 c = let z = c .before .before .before .loop .inv .0 in
-    let h = name-goes-on (c .before .before .before .before .before .before .args .t .now) (c .before .before .before .loop .i) (c .before .before .before .before .before .before .args .s .now) (c .before .before .before .loop .j) (omega arith) .0 in
+shared-slice-read-if2 c =
+    let at = c .before .before .before in
+    let args = start-before at .args in
+    let l = at .loop in
+    let z = l .inv .0 in
+    let h = name-goes-on (args .t .now) (l .i) (args .s .now) (l .j) (omega arith) .0 in
     search needs
 
 returns-2 : tie.Need-returns-2 Inv-loop μ-loop
-returns-2 c = let l = c .before .before .before .before .before .loop in
+returns-2 c =
+    let at = loop-before (c .before) in
+    let args = start-before at .args in
+    let l = at .loop in
     let z = l .inv .0 in
-    names-differ (c .before .before .before .before .before .before .before .before .args .t .now) (l .i) (c .before .before .before .before .before .before .before .before .args .s .now) (l .j) (omega arith) (λ h e. c .if2 .taken e) ∙ sym (l .inv .1)
+    names-differ (args .t .now) (l .i) (args .s .now) (l .j) (omega arith) (λ h e. c .if2 .taken e) ∙ sym (l .inv .1)
 
 add-i : tie.Need-add-i Inv-loop μ-loop
-add-i c = let z = c .before .before .before .before .before .loop .inv .0 in
-    let h = name-goes-on (c .before .before .before .before .before .before .before .before .args .t .now) (c .before .before .before .before .before .loop .i) (c .before .before .before .before .before .before .before .before .args .s .now) (c .before .before .before .before .before .loop .j) (omega arith) .0 in
+add-i c =
+    let at = loop-before (c .before) in
+    let args = start-before at .args in
+    let l = at .loop in
+    let z = l .inv .0 in
+    let h = name-goes-on (args .t .now) (l .i) (args .s .now) (l .j) (omega arith) .0 in
     search needs
 
 loop-again : tie.Need-loop-again Inv-loop μ-loop
-loop-again c = let l = c .before .before .before .before .before .loop in
+loop-again c =
+    let at = loop-before (c .before) in
+    let args = start-before at .args in
+    let l = at .loop in
     let z = l .inv .0 in
-    let h = name-goes-on (c .before .before .before .before .before .before .before .before .args .t .now) (l .i) (c .before .before .before .before .before .before .before .before .args .s .now) (l .j) (omega arith) .1 in
-    (omega arith, l .inv .1 ∙ names-agree (c .before .before .before .before .before .before .before .before .args .t .now) (l .i) (c .before .before .before .before .before .before .before .before .args .s .now) (l .j) (omega arith) (c .before .before .before .if1 .left) (c .if2 .left))
+    let h = name-goes-on (args .t .now) (l .i) (args .s .now) (l .j) (omega arith) .1 in
+    (omega arith, l .inv .1 ∙ names-agree (args .t .now) (l .i) (args .s .now) (l .j) (omega arith) (c .before .before .before .if1 .left) (c .if2 .left))
 
 returns-3 : tie.Need-returns-3 Inv-loop μ-loop
-returns-3 c = let l = c .before .before .loop in
+returns-3 c =
+    let at = c .before .before in
+    let args = start-before at .args in
+    let l = at .loop in
     let z = l .inv .0 in
-    names-ended (c .before .before .before .before .before .args .t .now) (l .i) (c .before .before .before .before .before .args .s .now) (l .j) (omega arith) (c .name-byte .ensures) ∙ sym (l .inv .1)
+    names-ended (args .t .now) (l .i) (args .s .now) (l .j) (omega arith) (c .name-byte .ensures) ∙ sym (l .inv .1)
 
 pub same-name-spec : {M : Type 1} → statement M
 same-name-spec =

@@ -12,25 +12,32 @@ Inv-loop numbers marks out₀ at n₀ r₀ out n r = Appending marks numbers out
 abbrev μ-loop : tie.MeasureT-loop
 μ-loop numbers marks out₀ at n₀ r₀ out n r = length marks - r
 
+-- the states that answers go back to
+abbrev start-before : tie.At-loop Inv-loop μ-loop → tie.Start Inv-loop μ-loop
+start-before c = c .before .before .before .before
+
+abbrev loop-before : tie.After-shared-slice-known4 Inv-loop μ-loop → tie.At-loop Inv-loop μ-loop
+loop-before c = c .before .before .before .before .before .before .before
+
 loop-holds : tie.Need-loop-holds Inv-loop μ-loop
 loop-holds c = appending-none _ _ _ _
 
 mul-put : tie.Need-mul-put Inv-loop μ-loop
-mul-put c = omega (arith, c .before .before .before .before .before .before .pre .size)
+mul-put c = omega (arith, start-before (c .before .before) .pre .size)
 
 shared-slice-read-put : tie.Need-shared-slice-read-put Inv-loop μ-loop
-shared-slice-read-put c = omega (arith, c .before .before .before .before .before .before .before .pre .size)
+shared-slice-read-put c = omega (arith, start-before (c .before .before .before) .pre .size)
 
 cast-n : tie.Need-cast-n Inv-loop μ-loop
-cast-n c = omega (arith, mark-small _ (c .before .before .before .before .before .before .before .before .before .before .before .pre .marked) (c .before .before .before .before .before .before .before .loop .r) (omega arith))
+cast-n c = omega (arith, mark-small _ (start-before (loop-before c) .pre .marked) (loop-before c .loop .r) (omega arith))
 
 add-n : tie.Need-add-n Inv-loop μ-loop
-add-n c = omega (arith, mark-small _ (c .before .before .before .before .before .before .before .before .before .before .before .pre .marked) (c .before .before .before .before .before .before .before .loop .r) (omega arith), c .before .before .before .before .before .before .before .loop .inv .few, c .before .before .before .before .before .before .before .before .before .before .before .pre .few, c .before .before .before .before .before .before .before .before .before .before .before .pre .low)
+add-n c = omega (arith, mark-small _ (start-before (loop-before c) .pre .marked) (loop-before c .loop .r) (omega arith), loop-before c .loop .inv .few, start-before (loop-before c) .pre .few, start-before (loop-before c) .pre .low)
 
 loop-again : tie.Need-loop-again Inv-loop μ-loop
 loop-again c =
-    let at = c .before .before .before .before .before .before .before .loop in
-    appending-next _ _ _ _ (c .before .before .before .before .before .before .before .before .before .before .before .pre) (at .r) (at .n) (at .out) (at .inv) (omega arith) _ (c .before .before .before .put .ensures)
+    let at = loop-before c .loop in
+    appending-next _ _ _ _ (start-before (loop-before c) .pre) (at .r) (at .n) (at .out) (at .inv) (omega arith) _ (c .before .before .before .put .ensures)
 
 returns : tie.Need-returns Inv-loop μ-loop
 returns c =

@@ -24,6 +24,13 @@ abbrev μ-loop : tie.MeasureT-loop
 μ-loop s uses count kinds₀ sizes₀ firsts₀ lasts₀ nullables₀ elements₀ predecessors₀ holds₀ at₀ n₀ d₀ kinds sizes firsts lasts nullables elements predecessors holds at n d =
     count - d
 
+-- the states that answers go back to
+abbrev start-before : tie.At-loop Inv-loop μ-loop → tie.Start Inv-loop μ-loop
+start-before c = c .before .before .before .before .before
+
+abbrev test-before : tie.After-predecessors2 Inv-loop μ-loop → tie.In-loop Inv-loop μ-loop
+test-before c = c .before .before .before .before .before
+
 -- ---- the element at hand is below the limit, so its cells have places
 small : (c : tie.In-loop Inv-loop μ-loop) → c .before .loop .d < maxDeclarations
 small c = let few = c .before .loop .inv .1 in omega arith
@@ -53,10 +60,10 @@ further a = omega arith
 
 -- the same store into each column
 array-write : tie.Need-array-write-kinds Inv-loop μ-loop
-array-write c = small (c .before .before .before .before .before)
+array-write c = small (test-before c)
 
 mul-write : tie.Need-mul-sizes Inv-loop μ-loop
-mul-write c = at-word (small (c .before .before .before .before .before))
+mul-write c = at-word (small (test-before c))
 
 -- ---- the answers
 loop-holds : tie.Need-loop-holds Inv-loop μ-loop
@@ -72,7 +79,7 @@ loop-holds c =
 element-entry-requires : tie.Need-element-entry-requires Inv-loop μ-loop
 element-entry-requires c κs =
     let at = c .before .before .before .loop in
-    let start = c .before .before .before .before .before .before .before .before in
+    let start = start-before (c .before .before .before) in
     let many = start .pre .1 in
     let clear = at .inv .3 .clear (at .d) (omega arith) (omega arith) in (
       at .inv .2,
@@ -89,8 +96,8 @@ add-n c =
 loop-again : tie.Need-loop-again Inv-loop μ-loop
 loop-again c =
     let made = c .before .before .before .before .element-entry in
-    let at = c .before .before .before .before .before .before .before .before .loop in
-    let start = c .before .before .before .before .before .before .before .before .before .before .before .before .before in
+    let at = test-before (c .before .before) .before .loop in
+    let start = start-before (test-before (c .before .before) .before) in
     let many : maxModelNames * at .d + maxModelNames - maxModelNames * at .d ≡ maxModelNames = omega arith in (
       omega arith,
       at .inv .1,
@@ -111,7 +118,7 @@ loop-again c =
 returns : tie.Need-returns Inv-loop μ-loop
 returns c =
     let at = c .before .loop in
-    let start = c .before .before .before .before .before .before in
+    let start = start-before (c .before) in
     let many = start .pre .1 in
     filled-all (schemaIn (start .args .s .now)) (at .d) _ (omega arith) (at .inv .3)
 
@@ -142,10 +149,10 @@ all-entries-spec =
     mul-write
     array-write
     array-write
-    (λ c. at-set (small (c .before .before .before .before .before .before)))
-    (λ c. small (c .before .before .before .before .before .before))
+    (λ c. at-set (small (test-before (c .before))))
+    (λ c. small (test-before (c .before)))
     add-n
-    (λ c. at-next (small (c .before .before .before .before .before .before .before)))
+    (λ c. at-next (small (test-before (c .before .before))))
     (λ c. search needs)
     loop-again
     returns)

@@ -15,27 +15,35 @@ Inv-loop s names₀ uses₀ size i₀ d₀ n₀ over₀ unused₀ names uses i d
 abbrev μ-loop : tie.MeasureT-loop
 μ-loop s names₀ uses₀ size i₀ d₀ n₀ over₀ unused₀ names uses i d n over unused = length s - i
 
--- ---- the states that answers look back at
+-- the states that answers go back to
 -- the call, from a turn of the loop
-abbrev start-of : tie.At-loop Inv-loop μ-loop → tie.Start Inv-loop μ-loop
-start-of c = c .before .before .before .before .before
+abbrev start-before : tie.At-loop Inv-loop μ-loop → tie.Start Inv-loop μ-loop
+start-before c = c .before .before .before .before .before
 
 -- the test of the turn in which a declaration was read
-abbrev test-of : tie.After-declaration Inv-loop μ-loop → tie.In-loop Inv-loop μ-loop
-test-of c = c .before .before .before
+abbrev test-before : tie.After-declaration Inv-loop μ-loop → tie.In-loop Inv-loop μ-loop
+test-before c = c .before .before .before
 
 -- the declaration's reading, once it is known to be past
-abbrev declaration-of : tie.After-p Inv-loop μ-loop → tie.After-declaration Inv-loop μ-loop
-declaration-of c = c .before .before .before .before .before
+abbrev declaration-before : tie.After-p Inv-loop μ-loop → tie.After-declaration Inv-loop μ-loop
+declaration-before c = c .before .before .before .before .before
 
 -- that it is past, from the noting of its name
-abbrev past-of : tie.After-note Inv-loop μ-loop → tie.After-p Inv-loop μ-loop
-past-of c = c .before .before .before
+abbrev past-before : tie.After-note Inv-loop μ-loop → tie.After-p Inv-loop μ-loop
+past-before c = c .before .before .before
+
+-- the same, from where it is known to depart
+abbrev departing-before : tie.After-known-told Inv-loop μ-loop → tie.After-declaration Inv-loop μ-loop
+departing-before c = c .before .before .before .before .before .before
+
+-- the noting, from the end of the turn
+abbrev note-before : tie.After-skip2 Inv-loop μ-loop → tie.After-note Inv-loop μ-loop
+note-before c = c .before .before .before .before .before
 
 -- the columns have their lengths
-sizes : (c : tie.At-loop Inv-loop μ-loop) → (length (c .loop .names) ≡ length (start-of c .args .names .now))
-    × (length (c .loop .uses) ≡ length (start-of c .args .uses .now))
-sizes c = (c .loop .inv .0 .room ∙ sym (start-of c .pre .0), c .loop .inv .0 .room-uses ∙ sym (start-of c .pre .1))
+sizes : (c : tie.At-loop Inv-loop μ-loop) → (length (c .loop .names) ≡ length (start-before c .args .names .now))
+    × (length (c .loop .uses) ≡ length (start-before c .args .uses .now))
+sizes c = (c .loop .inv .0 .room ∙ sym (start-before c .pre .0), c .loop .inv .0 .room-uses ∙ sym (start-before c .pre .1))
 
 -- ---- the answers
 loop-holds : tie.Need-loop-holds Inv-loop μ-loop
@@ -52,37 +60,37 @@ declaration-requires c κs =
     (test .loop-test .taken, test .before .loop .inv .0 .few-uses, test .before .loop .inv .0 .no-blank)
 
 same-length : tie.Need-same-length Inv-loop μ-loop
-same-length c = let l = sizes (test-of (c .before .before .before .before .before .before) .before) .0 in search needs
+same-length c = let l = sizes (test-before (departing-before c) .before) .0 in search needs
 
 same-length-2 : tie.Need-same-length-2 Inv-loop μ-loop
-same-length-2 c = let l = sizes (test-of (c .before .before .before .before .before .before) .before) .1 in search needs
+same-length-2 c = let l = sizes (test-before (departing-before c) .before) .1 in search needs
 
 returns : tie.Need-returns Inv-loop μ-loop
 returns c =
-    let read = c .before .before .before .before .before .before in
-    record { says = all-fail (test-of read .before .loop .inv .0) (test-of read .loop-test .taken) (read .declaration .ensures) (c .before .j .given .1) }
+    let read = departing-before c in
+    record { says = all-fail (test-before read .before .loop .inv .0) (test-before read .loop-test .taken) (read .declaration .ensures) (c .before .j .given .1) }
 
 over-limit-requires : tie.Need-over-limit-requires Inv-loop μ-loop
 over-limit-requires c κs =
     let past = c .before .before .before .before .before .before in
-    let read = declaration-of past in
-    all-known (test-of read .before .loop .inv .0) (test-of read .loop-test .taken) (read .declaration .ensures) (past .p .given .1) .0
+    let read = declaration-before past in
+    all-known (test-before read .before .loop .inv .0) (test-before read .loop-test .taken) (read .declaration .ensures) (past .p .given .1) .0
 
 add-d : tie.Need-add-d Inv-loop μ-loop
-add-d c = let f = test-of (declaration-of (past-of (c .before .before .before .before))) .before .loop .inv .0 .few in search needs
+add-d c = let f = test-before (declaration-before (past-before (c .before .before .before .before))) .before .loop .inv .0 .few in search needs
 
 skip-requires-2 : tie.Need-skip-requires-2 Inv-loop μ-loop
 skip-requires-2 c κs =
     let past = c .before .before .before .before .before .before .before in
-    let read = declaration-of past in
-    all-known (test-of read .before .loop .inv .0) (test-of read .loop-test .taken) (read .declaration .ensures) (past .p .given .1) .1
+    let read = declaration-before past in
+    all-known (test-before read .before .loop .inv .0) (test-before read .loop-test .taken) (read .declaration .ensures) (past .p .given .1) .1
 
 loop-less : tie.Need-loop-less Inv-loop μ-loop
 loop-less c =
-    let noted = c .before .before .before .before .before in
-    let past = past-of noted in
-    let read = declaration-of past in
-    let x = all-next (test-of read .before .loop .inv .0) (test-of read .loop-test .taken) (read .declaration .ensures) (past .p .given .1)
+    let noted = note-before c in
+    let past = past-before noted in
+    let read = declaration-before past in
+    let x = all-next (test-before read .before .loop .inv .0) (test-before read .loop-test .taken) (read .declaration .ensures) (past .p .given .1)
     (noted .note .ensures) (c .before .over-limit .ensures) (c .skip2 .ensures) in
     let y = x .0 in
     let z = x .1 .high in
@@ -90,10 +98,10 @@ loop-less c =
 
 loop-again : tie.Need-loop-again Inv-loop μ-loop
 loop-again c =
-    let noted = c .before .before .before .before .before in
-    let past = past-of noted in
-    let read = declaration-of past in (
-      all-next (test-of read .before .loop .inv .0) (test-of read .loop-test .taken) (read .declaration .ensures) (past .p .given .1)
+    let noted = note-before c in
+    let past = past-before noted in
+    let read = declaration-before past in (
+      all-next (test-before read .before .loop .inv .0) (test-before read .loop-test .taken) (read .declaration .ensures) (past .p .given .1)
           (noted .note .ensures) (c .before .over-limit .ensures) (c .skip2 .ensures) .1,
       search needs,
     )
