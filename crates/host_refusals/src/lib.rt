@@ -26,6 +26,7 @@ pub fn passes(equal: bool, place: usize, number: u64, count: usize) -> bool
     place <= count
 }
 
+// What goes out of a refused call.
 fn result(told: Told) -> HostResult
     ensures { λ r. ⌜ r ≡ refusedBy (told .number) (told .place) ⌝ }
 {
