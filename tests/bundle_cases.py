@@ -6,11 +6,12 @@ outcome that the case itself gives. Then each limit on both sides, undeclared na
 same. What is compiled of an accepted one is worked out here from document 01 alone, by regular expressions: for each path its steps, for each
 step the steps in its brackets, and of each step the axis, with a mark at the last of an alternative, and the test."""
 import itertools
-import json
 import os
 import random
 import re
 import sys
+
+from vector_cases import cases
 
 HERE = os.path.dirname(os.path.abspath(__file__))
 CASES = os.path.join(HERE, "cases", "bundle_cases")
@@ -19,11 +20,6 @@ AXES = ["self", "child", "descendant", "descendant-or-self", "parent", "ancestor
 WRITTEN, LAST = 128, 8
 TESTS = {"node()": 254, "text()": 255}
 SCHEMA = "<!ELEMENT a (b|c|%s)*><!ELEMENT b (#PCDATA)><!ELEMENT c EMPTY><!ELEMENT %s EMPTY>" % ("n" * 31, "n" * 31)
-
-
-def vectors():
-    with open(os.path.join(HERE, "vectors", "edge.jsonl"), encoding="utf-8") as f:
-        return [json.loads(line) for line in f]
 
 
 def declared(schema):
@@ -127,16 +123,15 @@ def text_case(text, schema):
 
 def main():
     read, written, last = b"", "", None
-    for case in vectors():
-        if case["does"] == "bundle":
-            schema, bundle = case["texts"]
-            if schema != last:
-                read += text_case(schema, True)
-                last = schema
-            read += text_case(bundle, False)
-            written += accepted(schema, bundle) if case["gives"].startswith("ok") else case["gives"]
-            if case["gives"].startswith("ok") and case["gives"] != "ok %d\n" % bundle.count("\n"):
-                sys.exit("bundle_cases: a case of tests/vectors has another number of paths")
+    for case in cases(85, "bundle"):
+        schema, bundle = case["texts"]
+        if schema != last:
+            read += text_case(schema, True)
+            last = schema
+        read += text_case(bundle, False)
+        written += accepted(schema, bundle) if case["gives"].startswith("ok") else case["gives"]
+        if case["gives"].startswith("ok") and case["gives"] != "ok %d\n" % bundle.count("\n"):
+            sys.exit("bundle_cases: a case of tests/vectors has another number of paths")
     read += text_case(SCHEMA, True)
     for bundle, outcome in limits():
         read += text_case(bundle, False)

@@ -7,7 +7,6 @@ stands over a copy of the definitions. A case that disagrees is an error of the 
     tests/definitions.py            every case
     tests/definitions.py WORD..     the cases whose names have one of the words
 """
-import json
 import os
 import re
 import shutil
@@ -15,12 +14,12 @@ import subprocess
 import sys
 import tempfile
 
+from vector_cases import cases as vector_cases
+
 HERE = os.path.dirname(os.path.abspath(__file__))
 CRATES = os.path.join(HERE, "..", "crates")
 SPECS = ["text_spec", "schema_spec", "table_spec", "journal_spec", "path_spec", "inference_spec", "extract_spec", "library_spec"]
 JOURNAL_LIMIT = 1048576
-
-VECTORS = ["edge.jsonl", "more.jsonl"]
 
 # A case that is not evaluated, with the reason.
 NOT_EVALUATED = {
@@ -40,16 +39,18 @@ use Rattle.library_spec.specs.Cases.Opened.{computing}
 use Rattle.extract_spec.specs.Cut.{cut}
 use Rattle.extract_spec.specs.Reading.{readExtract}
 use Rattle.inference_spec.specs.Needed.{needed, neededByPath, neededWord}
+use Rattle.library_spec.specs.Calls.{extractRead}
 use Rattle.library_spec.specs.Hosts.{extractOf}
 use Rattle.library_spec.specs.Listing.{listing}
-use Rattle.library_spec.specs.Records.{tableBeside}
+use Rattle.library_spec.specs.Records.{recordOf, schemaHeld, tableBeside}
 use Rattle.schema_spec.specs.Names.{codeOf, wordOfSet}
 use Rattle.schema_spec.specs.Reading.{readSchema}
-use Rattle.schema_spec.specs.Records.{schemaIn}
+use Rattle.schema_spec.specs.Records.{normal, schemaIn}
 use Rattle.schema_spec.specs.Types.{Types, typesOf}
 use Rattle.table_spec.specs.Rows.{Row}
 use Rattle.text_spec.specs.Calls.{handed, inRoom}
 use Rattle.text_spec.specs.Cells.{tooSmall}
+use Rattle.text_spec.specs.Limits.{maxSchemaBytes}
 use Rattle.text_spec.specs.Lists.{bytes}
 use Rattle.text_spec.specs.Refusals.{Outcome, accepted, refused, andThen, numberOf}
 
@@ -119,6 +120,12 @@ def decimals(lines):
     return [[int(word) for word in line.split()] for line in lines]
 
 
+def sizes(cells):
+    """How many cells each column has: one number for all, or five."""
+    numbers, names, parents, starts, lengths = cells * 5 if len(cells) == 1 else cells
+    return "record { numbers = %d; names = %d; parents = %d; starts = %d; lengths = %d }" % (numbers, names, parents, starts, lengths)
+
+
 def expected(case):
     """What the case gives, as a value of Seen."""
     does, gives = case["does"], case["gives"]
@@ -128,7 +135,7 @@ def expected(case):
     if lines[0].startswith("refused"):
         words = lines[0].split()
         return "no %s %s" % (words[1], words[3])
-    if does in ("schema", "bundle", "table"):
+    if does in ("schema", "bundle", "table", "schema-record"):
         return lists([[int(lines[0].split()[1])]])
     if does in ("journal", "read-extract"):
         return lists(decimals(filter(None, lines[1:])))
@@ -158,6 +165,10 @@ def asked(case):
         return "seen same (selections %s %s %s)" % tuple(t)
     if does == "extract":
         return "seen same (extracts %s %s %s)" % tuple(t)
+    if does == "schema-record":
+        return "seen counted (handed (schemaHeld (record { cells = %s; size = %d })) (λ s. accepted s))" % (t[0], limits[0])
+    if does == "read-extract" and limits:
+        return "seen (map rowButStart) (extractRead (recordOf maxSchemaBytes (normal %s)) %s (%s))" % (t[0], t[1], sizes(limits[1:]))
     if does == "read-extract":
         return "seen (map rowButStart) (readExtract (typesOf (schemaIn %s)) %s)" % (t[0], t[1])
     if does == "listing":
@@ -211,10 +222,7 @@ def evaluate(cases):
 
 
 def main():
-    cases = []
-    for name in VECTORS:
-        with open(os.path.join(HERE, "vectors", name)) as lines:
-            cases += [json.loads(line) for line in lines]
+    cases = vector_cases(930)
     words = sys.argv[1:]
     cases = [c for c in cases if not words or any(word in c["case"] for word in words)]
     chosen = [c for c in cases if c["case"] not in NOT_EVALUATED]

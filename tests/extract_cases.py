@@ -2,26 +2,27 @@
 """Writes tests/cases/extract_cases.in and extract_cases.out. With --check it compares instead.
 
 First the cases of tests/vectors that read an extract, each with the outcome that the case itself gives; then extracts at the limits of depth 64 and
-65 and of a text of 4,096 and 4,097 bytes. A case is the lengths of the schema and of the extract, two bytes each, and the two texts. It is read into
-columns of 64 cells and of 4; after the outcome stand the number, the name, the parent and the length in each cell."""
-import json
+65 and of a text of 4,096 and 4,097 bytes. A case is the lengths of the schema, of the extract and of the five columns, two bytes each, and
+the two texts. It is read into columns of 64 cells and of 4, or of the cells that the case lends; after the outcome stand the number, the name, the
+parent and the length in each cell, `-` where a column is shorter than the longest."""
 import os
 import struct
 import sys
 
+from vector_cases import cases
+
 HERE = os.path.dirname(os.path.abspath(__file__))
 CASES = os.path.join(HERE, "cases", "extract_cases")
 TEXTS = 32
+# the cells of each column, for a case that does not say how many are lent
+EACH = [[64] * 5, [4] * 5]
 
 
 def vectors():
-    for name in ("edge", "more"):
-        with open(os.path.join(HERE, "vectors", name + ".jsonl"), encoding="utf-8") as f:
-            for line in f:
-                case = json.loads(line)
-                if case["does"] == "read-extract":
-                    outcome, *rows = case["gives"].rstrip("\n").split("\n")
-                    yield case["texts"][0], case["texts"][1].encode("latin-1"), outcome, rows
+    for case in cases(85, "read-extract"):
+        outcome, *rows = case["gives"].rstrip("\n").split("\n")
+        lent = case["limits"][1:]
+        yield case["texts"][0], case["texts"][1].encode("latin-1"), outcome, rows, [lent] if lent else EACH
 
 
 def field(tag, value):
@@ -41,24 +42,27 @@ def limits():
         numbers = range(depth)
         extract = b"".join(element(i, max(i - 1, 0), 0) for i in numbers) + count(depth)
         rows = ["%d 0 %d 0" % (i, max(i - 1, 0)) for i in numbers]
-        yield "<!ELEMENT a (a?)>", extract, *(("ok 64", rows) if depth == 64 else ("refused 17 at 0", []))
+        yield "<!ELEMENT a (a?)>", extract, *(("ok 64", rows) if depth == 64 else ("refused 17 at 0", [])), EACH
     for size in (1, 4096, 4097):
         extract = element(0, 0, 0) + field(2, struct.pack(">HH", 9, 0) + b"x" * size) + count(2)
         rows = ["0 0 0 0", "9 %d 0 %d" % (TEXTS, size)]
-        yield "<!ELEMENT a (#PCDATA)>", extract, *(("ok 2", rows) if size <= 4096 else ("refused 17 at 0", []))
+        yield "<!ELEMENT a (#PCDATA)>", extract, *(("ok 2", rows) if size <= 4096 else ("refused 17 at 0", [])), EACH
 
 
-def answer(outcome, rows, cells):
-    if cells < len(rows):
+def answer(outcome, rows, lent):
+    if lent[0] < len(rows):
         outcome, rows = "refused 18 at 0", []
-    return "\n".join([outcome, *(row + " " for row in rows + ["0 0 0 0"] * (cells - len(rows)))]) + "\n"
+    lines = [row.split() for row in rows] + [["0"] * 4] * (max(lent) - len(rows))
+    shown = [lent[k] for k in (0, 1, 2, 4)]
+    return outcome + "\n" + "".join(" ".join(cell if i < size else "-" for cell, size in zip(line, shown)) + " \n" for i, line in enumerate(lines))
 
 
 def main():
     stdin, stdout = b"", ""
-    for schema, extract, outcome, rows in [*vectors(), *limits()]:
-        stdin += struct.pack(">2H", len(schema), len(extract)) + schema.encode("latin-1") + extract
-        stdout += answer(outcome, rows, 64) + answer(outcome, rows, 4)
+    for schema, extract, outcome, rows, columns in [*vectors(), *limits()]:
+        for lent in columns:
+            stdin += struct.pack(">7H", len(schema), len(extract), *lent) + schema.encode("latin-1") + extract
+            stdout += answer(outcome, rows, lent)
     for name, made in ((".in", stdin), (".out", stdout.encode())):
         path = CASES + name
         if "--check" in sys.argv:

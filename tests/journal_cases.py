@@ -6,10 +6,11 @@ the limits of nodes, bytes, depth, texts and names on both sides, and what is re
 length (2 bytes), how it is read (0: the public entry, 1: within a limit), the column with a cell more (0: none), the limit, the cells lent
 (4 bytes each) and the number of pieces (2), then the schema and the pieces. A piece is how many bytes it gives (4), its own length (2) and its
 own bytes, which are taken again and again. Of more than 100 rows only the last is written."""
-import json
 import os
 import struct
 import sys
+
+from vector_cases import cases as vector_cases
 
 HERE = os.path.dirname(os.path.abspath(__file__))
 CASES = os.path.join(HERE, "cases", "journal_cases")
@@ -36,14 +37,10 @@ def rows(*cells):
 
 def vectors():
     """A schema, the pieces of a journal, the limit of its length, the cells lent and what is written."""
-    for name in ("edge", "more"):
-        with open(os.path.join(HERE, "vectors", name + ".jsonl"), encoding="utf-8") as f:
-            for line in f:
-                case = json.loads(line)
-                if case["does"] == "journal":
-                    schema, journal = case["texts"]
-                    limit, lent = (case["limits"] + [LONGEST, LENT][len(case["limits"]):])[:2]
-                    yield schema, [once(journal)], limit, lent, case["gives"]
+    for case in vector_cases(178, "journal"):
+        schema, journal = case["texts"]
+        limit, lent = (case["limits"] + [LONGEST, LENT][len(case["limits"]):])[:2]
+        yield schema, [once(journal)], limit, lent, case["gives"]
 
 
 def nodes():

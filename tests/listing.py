@@ -1,17 +1,21 @@
 #!/usr/bin/env python3
 """The program `listing` in folders of its own: the listing cases of tests/vectors, a refusal of each number that it can give, and both sides of its
 limits. LISTING is the program, target/bin/listing unless set."""
-import json
 import os
 import subprocess
 import sys
 import tempfile
+
+from vector_cases import cases as vector_cases
 
 HERE = os.path.dirname(os.path.abspath(__file__))
 FILES = ("schema.dtd", "paths.txt", "journal.xml")
 WIDE = "<!ELEMENT a (b*)><!ELEMENT b EMPTY>"
 S = "<!ELEMENT scan (plate*)><!ELEMENT plate (well|tile)*><!ELEMENT well (tile*)><!ELEMENT tile (focus?)><!ELEMENT focus (#PCDATA)>"
 J = "<scan><plate><well><tile><focus>12</focus></tile></well><tile/></plate></scan>"
+# 512 bytes and a line feed, which select the root: two steps with conditions of 196 bytes each, and seven without
+HELD = "self::scan[%s]" % " or ".join(["self::scan/self::scan/self::scan/self::scan"] * 4)
+PATH_512 = HELD + "/" + HELD + "/descendant-or-self::scan" * 3 + "/self::scan" * 4 + "\n"
 P = "child::plate[child::well]/child::tile\ndescendant::tile/parent::well\n"
 
 # three texts, None for a missing file, and what is printed
@@ -25,7 +29,9 @@ CASES = [
     ("no file", (None, None, None), "refused 2 at 0\n"),
     ("8,192 bytes of schema", ("<!ELEMENT a EMPTY>" + " " * 8174, "self::a\n", "<a/>"), "selected 1 kept 1 of 1\n0 1 /a\n"),
     ("2, 8,193 bytes of schema", ("<!ELEMENT a EMPTY>" + " " * 8175, "self::a\n", "<a/>"), "refused 2 at 0\n"),
-    ("2, 4,105 bytes of paths", (S, "self::scan\n" * 374, J), "refused 2 at 0\n"),
+    ("4,104 bytes of paths", (S, PATH_512 * 8, J), "selected 1 kept 1 of 7\n0 1 /scan\n"),
+    ("2, 4,105 bytes of paths", (S, PATH_512 * 8 + "s", J), "refused 2 at 0\n"),
+    ("2, 4,114 bytes of paths", (S, "self::scan\n" * 374, J), "refused 2 at 0\n"),
     ("3, in the schema", (S + "\r", P, J), "refused 3 at %d\n" % len(S)),
     ("3, in the paths", (S, P + "\x7f", J), "refused 3 at %d\n" % len(P)),
     ("3, in the journal", (S, P, J + "\xff"), "refused 3 at %d\n" % len(J)),
@@ -53,32 +59,25 @@ CASES = [
 ]
 
 
-def vectors():
-    for name in ("edge.jsonl", "more.jsonl"):
-        with open(os.path.join(HERE, "vectors", name)) as f:
-            for case in map(json.loads, f):
-                if case["does"] == "listing":
-                    yield case["case"], case["texts"], case["gives"]
-
-
 def printed(program, texts):
     with tempfile.TemporaryDirectory() as folder:
         for name, text in zip(FILES, texts):
             if text is not None:
                 with open(os.path.join(folder, name), "wb") as f:
                     f.write(text.encode("latin-1"))
-        return subprocess.run([program], cwd=folder, stdin=subprocess.DEVNULL, stdout=subprocess.PIPE).stdout.decode("latin-1")
+        run = subprocess.run([program], cwd=folder, stdin=subprocess.DEVNULL, stdout=subprocess.PIPE, stderr=subprocess.STDOUT)
+        return run.stdout.decode("latin-1"), run.returncode
 
 
 def main():
     program = os.path.abspath(os.environ.get("LISTING", os.path.join(HERE, "..", "target", "bin", "listing")))
-    cases = CASES + list(vectors())
+    cases = CASES + [(case["case"], case["texts"], case["gives"]) for case in vector_cases(62, "listing")]
     wrong = 0
     for name, texts, gives in cases:
-        got = printed(program, texts)
-        if got != gives:
+        got, status = printed(program, texts)
+        if got != gives or status != 0:
             wrong += 1
-            print("listing: %s prints %r, not %r" % (name, got[:200], gives[:200]))
+            print("listing: %s prints %r and exits with %d, not %r and 0" % (name, got[:200], status, gives[:200]))
     if wrong:
         sys.exit("listing: %d of %d cases differ" % (wrong, len(cases)))
     print("listing: all %d cases print what is expected" % len(cases))

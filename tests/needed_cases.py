@@ -3,27 +3,19 @@
 
 The cases of tests/vectors that ask for needed names: the schema (128 is added to the first byte of its length), its bundle, and each path of the
 bundle as a bundle of its own. The case gives the names of the bundle and those of each path."""
-import json
 import os
 import sys
+
+from vector_cases import cases
 
 HERE = os.path.dirname(os.path.abspath(__file__))
 CASES = os.path.join(HERE, "cases", "needed_cases")
 
 
-def cases():
-    for name in ("edge", "more"):
-        with open(os.path.join(HERE, "vectors", name + ".jsonl"), encoding="utf-8") as f:
-            for line in f:
-                case = json.loads(line)
-                if case["does"] == "needed":
-                    yield case
-
-
 def main():
     read, written = b"", ""
     schema = None
-    for case in cases():
+    for case in cases(190, "needed"):
         texts = [text.encode("latin-1") for text in case["texts"]]
         if texts[0] != schema:
             schema = texts[0]

@@ -1,15 +1,18 @@
 #!/usr/bin/env python3
 """Writes tests/cases/schema_cases.in and schema_cases.out. With --check it compares instead.
 
-First the schema cases of tests/vectors: each text after its length in two bytes, and the outcome that the case itself gives. Then texts of
+First the schema cases of tests/vectors: each text after its length in two bytes, and the outcome that the case itself gives; the
+cells of records after an empty text with 128 added, their number and the record's length. Then texts of
 which the tables are shown, too (128 is added to the first byte): those of these cases that are accepted, the schemas of other cases, and
 models made by a generator that always gives the same. What their tables say is worked out here from document 01 alone: models become
 regular expressions, 'below' is found by search."""
-import json
 import os
 import random
 import re
+import struct
 import sys
+
+from vector_cases import cases
 
 HERE = os.path.dirname(os.path.abspath(__file__))
 CASES = os.path.join(HERE, "cases", "schema_cases")
@@ -18,17 +21,10 @@ BLANK = r"[ \t\n]"
 TRIED = 5
 
 
-def vectors():
-    with open(os.path.join(HERE, "vectors", "edge.jsonl"), encoding="utf-8") as f:
-        return [json.loads(line) for line in f]
-
-
 def shown():
     """Accepted schemas, each once."""
-    for case in vectors():
-        if case["does"] == "schema" and case["gives"].startswith("ok"):
-            yield case["texts"][0]
-        elif case["does"] in ("needed", "select", "extract") and not case["gives"].startswith("refused"):
+    for case in cases(480, "schema", "needed", "select", "extract"):
+        if not case["gives"].startswith("refused"):
             yield case["texts"][0]
     yield from made()
 
@@ -99,10 +95,13 @@ def tables(text):
 
 def main():
     read, written = b"", ""
-    for case in vectors():
-        if case["does"] == "schema":
-            read += len(case["texts"][0]).to_bytes(2, "big") + case["texts"][0].encode("latin-1")
-            written += case["gives"]
+    for case in cases(75, "schema"):
+        read += len(case["texts"][0]).to_bytes(2, "big") + case["texts"][0].encode("latin-1")
+        written += case["gives"]
+    for case in cases(2, "schema-record"):
+        cells, (size,) = case["texts"][0], case["limits"]
+        read += struct.pack(">3H", 2 ** 15, len(cells), size) + cells.encode("latin-1")
+        written += case["gives"]
     for text in dict.fromkeys(shown()):
         read += (2 ** 15 + len(text)).to_bytes(2, "big") + text.encode("latin-1")
         written += "ok %d\n" % len(declarations(text)) + tables(text)

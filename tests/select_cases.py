@@ -6,25 +6,22 @@ schema, the bundle and the journal, and how many calls follow), the three texts,
 bundle, and how many cells are lent for items and for counts. The calls: all paths, with the cells that they take and with more; each path
 alone; a place past the last path; one cell too few for the items, and for the counts. What is written for a call is the refusal's number and
 place, how many items and counts are answered, and then every cell that was lent. All but the refusals is what the case itself gives."""
-import json
 import os
 import struct
 import sys
+
+from vector_cases import cases
 
 HERE = os.path.dirname(os.path.abspath(__file__))
 CASES = os.path.join(HERE, "cases", "select_cases")
 
 
 def vectors():
-    for name in ("edge", "more"):
-        with open(os.path.join(HERE, "vectors", name + ".jsonl"), encoding="utf-8") as f:
-            for line in f:
-                case = json.loads(line)
-                if case["does"] == "select":
-                    paths = [[int(n) for n in path.split()] for path in case["gives"].splitlines()]
-                    texts = [text.encode("latin-1") for text in case["texts"]]
-                    assert len(paths) == texts[1].count(b"\n"), case["case"]
-                    yield texts, paths
+    for case in cases(170, "select"):
+        paths = [[int(n) for n in path.split()] for path in case["gives"].splitlines()]
+        texts = [text.encode("latin-1") for text in case["texts"]]
+        assert len(paths) == texts[1].count(b"\n"), case["case"]
+        yield texts, paths
 
 
 def calls(paths):

@@ -6,10 +6,11 @@ text of 4,096 and 4,097 bytes, columns of more cells than rows, and a count abov
 the schema, of the table, of the columns and of the text, a row's position, how often the table is judged), then the schema, the columns' cells
 row by row, and the text. What is written after the outcome is the text of the row at that position: refused, an element, or where its text
 starts and its length; and the length of the part that is handed back."""
-import json
 import os
 import struct
 import sys
+
+from vector_cases import cases
 
 HERE = os.path.dirname(os.path.abspath(__file__))
 CASES = os.path.join(HERE, "cases", "table_cases")
@@ -17,14 +18,10 @@ TEXTS = 32
 
 
 def vectors():
-    for name in ("edge", "more"):
-        with open(os.path.join(HERE, "vectors", name + ".jsonl"), encoding="utf-8") as f:
-            for line in f:
-                case = json.loads(line)
-                if case["does"] == "table":
-                    schema, table, text = case["texts"]
-                    rows = [tuple(int(n) for n in row.split()) for row in table.split("\n") if row]
-                    yield schema, rows, len(rows), text, case["gives"].startswith("ok")
+    for case in cases(36, "table"):
+        schema, table, text = case["texts"]
+        rows = [tuple(int(n) for n in row.split()) for row in table.split("\n") if row]
+        yield schema, rows, len(rows), text, case["gives"].startswith("ok")
 
 
 def nested(depth):

@@ -56,18 +56,22 @@ void table_cases(struct text input) {
     while (input.len) table_case(&input);
 }
 
-/* ---- extracts: the lengths of the schema and of the extract, two bytes each, and the two. Each is read into columns of 64 cells and of 4, and every
-   cell is shown */
+/* ---- extracts: the lengths of the schema, of the extract and of the five columns, two bytes each, and the two texts. Every lent cell is shown */
 
-static void extract_into(size_t cells, struct text extract) {
-    fill_columns(&table, cells);
-    show_outcome(test_read_extract(HANDED(schema), GIVEN(extract), LENT(&table)));
-    check_columns(&table);
-    for (size_t i = 0; i < cells; i++) {
-        show_number(table.numbers[i]);
-        show_number(table.names[i]);
-        show_number(table.parents[i]);
-        show_number(table.lengths[i]);
+static void show_cell(int column, size_t i, uint64_t cell) {
+    if (i < table.lens[column]) show_number(cell);
+    else printf("- ");
+}
+
+static void show_cells(void) {
+    size_t longest = 0;
+    for (int k = 0; k < COLUMNS; k++)
+        if (longest < table.lens[k]) longest = table.lens[k];
+    for (size_t i = 0; i < longest; i++) {
+        show_cell(NUMBERS, i, table.numbers[i]);
+        show_cell(NAMES, i, table.names[i]);
+        show_cell(PARENTS, i, table.parents[i]);
+        show_cell(LENGTHS, i, table.lengths[i]);
         printf("\n");
     }
 }
@@ -75,10 +79,13 @@ static void extract_into(size_t cells, struct text extract) {
 void extract_cases(struct text input) {
     while (input.len) {
         size_t schema_len = take_number(&input, 2), len = take_number(&input, 2);
+        fill_columns(&table, 0);
+        for (int k = 0; k < COLUMNS; k++) table.lens[k] = take_number(&input, 2);
         read_schema(&schema, take(&input, schema_len));
         struct text extract = take(&input, len);
-        extract_into(64, extract);
-        extract_into(4, extract);
+        show_outcome(test_read_extract(HANDED(schema), GIVEN(extract), LENT(&table)));
+        check_columns(&table);
+        show_cells();
     }
 }
 

@@ -17,7 +17,8 @@ static struct text take_text(struct text *input, int *marked) {
     return take(input, head % (1 << 15));
 }
 
-/* ---- schemas: of a marked one the compiled form is shown, too */
+/* ---- schemas: of a marked one the compiled form is shown, too. After a text of no bytes that is marked come the cells of a record: their number and the
+   record's length, two bytes each */
 
 static void show_fit(struct text schema, size_t element, const uint8_t *children, size_t len) {
     printf("%d", test_fits(GIVEN(schema), element, children, len));
@@ -54,10 +55,20 @@ static void show_schema(struct text text) {
     printf("\n");
 }
 
+static void show_record(struct text cells, size_t len) {
+    if (test_is_schema_record(GIVEN(cells), len)) show_schema((struct text){ cells.bytes, len });
+    else printf("refused 1 at 0\n");
+}
+
 void schema_cases(struct text input) {
     while (input.len) {
         int marked;
         struct text text = take_text(&input, &marked);
+        if (marked && !text.len) {
+            size_t cells = take_number(&input, 2), len = take_number(&input, 2);
+            show_record(take(&input, cells), len);
+            continue;
+        }
         show_schema(text);
         if (marked) show_elements(text);
     }

@@ -3,7 +3,6 @@
 LOZHYMET_LIB is the archive, that of the proved library unless set. Needs gcc."""
 import collections
 import ctypes
-import json
 import os
 import re
 import subprocess
@@ -11,10 +10,15 @@ import sys
 import tempfile
 
 ROOT = os.path.join(os.path.dirname(os.path.abspath(__file__)), "..", "..")
+sys.path.insert(0, os.path.join(ROOT, "tests"))
+from vector_cases import cases as vector_cases  # noqa: E402
+
 WIDTHS = [ctypes.c_uint16, ctypes.c_uint8, ctypes.c_uint16, ctypes.c_uint32, ctypes.c_uint16]
 MISSPELT = b"<"  # a journal that is refused by 11 at 0, so that a schema and a bundle that are accepted show
 NO_ROWS = bytes([3, 0, 2, 0, 0])
 ANY = b"self::node()\n"
+# of the cases so many are shown by the two functions, at the least
+SHOWN = 700
 MAX_JOURNAL, MAX_LISTED_BYTES, MAX_LISTED_ROWS = 1048576, 32768, 4096
 
 
@@ -36,14 +40,15 @@ class Library:
         self.made.host_make_extract.restype = self.made.host_select.restype = Result
 
     def call(self, function, inputs, rows, outputs):
-        """The columns' rows and the other outputs; raises what is refused."""
-        columns = [(width * max(rows, 1))() for width in WIDTHS]
+        """The columns' rows and the other outputs; raises what is refused. `rows` are the cells of each column, or of all."""
+        lent = [rows] * len(WIDTHS) if isinstance(rows, int) else rows
+        columns = [(width * max(size, 1))() for width, size in zip(WIDTHS, lent)]
         cells = [((width * max(size, 1))(), size) for width, size in outputs]
         words = []
         for given in inputs:
             words += [ctypes.c_size_t(given)] if isinstance(given, int) else [ctypes.c_char_p(given), ctypes.c_size_t(len(given))]
-        for column in columns:
-            words += [column, ctypes.c_size_t(rows)]
+        for column, size in zip(columns, lent):
+            words += [column, ctypes.c_size_t(size)]
         for cell, size in cells:
             words += [cell, ctypes.c_size_t(size)]
         r = function(*words)
@@ -56,9 +61,9 @@ class Library:
         table, (extract,) = self.call(self.made.host_make_extract, [schema, bundle, journal], rows, [(ctypes.c_uint8, 2 * len(journal) + 5)])
         return table, bytes(extract)
 
-    def select(self, schema, bundle, place, extract):
+    def select(self, schema, bundle, place, extract, lent=None):
         rows = min(len(extract) // 8, 65535)
-        return self.call(self.made.host_select, [schema, bundle, place, extract], rows, [(ctypes.c_uint16, 8 * rows), (ctypes.c_uint32, 8)])
+        return self.call(self.made.host_select, [schema, bundle, place, extract], lent or rows, [(ctypes.c_uint16, 8 * rows), (ctypes.c_uint32, 8)])
 
     def accepts(self, schema, bundle):
         """Raises what is refused of the two."""
@@ -108,7 +113,7 @@ def outcome(library, case):
     """What the case gives, or None where the two functions do not show it."""
     does, limits = case["does"], case["limits"]
     texts = [t.encode("latin-1") for t in case["texts"]]
-    if does in ("needed", "table") or (limits and limits[0] != MAX_JOURNAL):
+    if does in ("needed", "table", "schema-record") or (limits and limits[0] != MAX_JOURNAL):
         return None
     if does == "schema":
         library.accepts(texts[0], ANY)
@@ -119,7 +124,7 @@ def outcome(library, case):
     if does == "journal":
         return lines(library.make(texts[0], ANY, texts[1], limits[1] if limits else None)[0], range(5))
     if does == "read-extract":
-        return lines(library.select(texts[0], ANY, 0, texts[1])[0], (0, 1, 2, 4))
+        return lines(library.select(texts[0], ANY, 0, texts[1], limits[1:])[0], (0, 1, 2, 4))
     if does == "listing":
         return listing(library, *texts)
     extract = library.make(*texts)[1]
@@ -130,7 +135,7 @@ def outcome(library, case):
 
 def main():
     archive = os.environ.get("LOZHYMET_LIB", os.path.join(ROOT, "target", "staticlib", "liblibrary.a"))
-    cases = [json.loads(line) for name in ("edge.jsonl", "more.jsonl") for line in open(os.path.join(ROOT, "tests", "vectors", name))]
+    cases = vector_cases(930)
     ran, left, wrong = collections.Counter(), collections.Counter(), 0
     with tempfile.TemporaryDirectory() as folder:
         library = Library(archive, folder)
@@ -146,6 +151,8 @@ def main():
             if gives != case["gives"]:
                 wrong += 1
                 print("vectors: %s gives %r, not %r" % (case["case"], gives[:200], case["gives"][:200]))
+    if sum(ran.values()) < SHOWN:
+        sys.exit("vectors: the two functions show %d cases, and at least %d are wanted" % (sum(ran.values()), SHOWN))
     if wrong:
         sys.exit("vectors: %d of %d cases differ" % (wrong, sum(ran.values())))
     print("vectors: %d cases agree through the two functions for C (%s); not shown by them: %s" % (

@@ -1,7 +1,6 @@
 #!/usr/bin/env python3
 """The second implementation: builds it with rustc, fails where an outcome differs from that of a case of tests/vectors, then tries demand 3 on
 random schemas, bundles and journals. run.py [SEED COUNT]."""
-import json
 import os
 import struct
 import subprocess
@@ -9,7 +8,8 @@ import sys
 import tempfile
 
 HERE = os.path.dirname(os.path.abspath(__file__))
-VECTORS = os.path.join(HERE, "..", "vectors")
+sys.path.insert(0, os.path.join(HERE, ".."))
+from vector_cases import cases as vector_cases  # noqa: E402
 
 
 def build(folder):
@@ -25,7 +25,7 @@ def encoded(case):
 
 
 def main():
-    cases = [json.loads(line) for name in ("edge.jsonl", "more.jsonl") for line in open(os.path.join(VECTORS, name))]
+    cases = vector_cases(930)
     with tempfile.TemporaryDirectory() as folder:
         program = build(folder)
         answer = subprocess.run([program], input=b"".join(map(encoded, cases)), stdout=subprocess.PIPE, check=True).stdout

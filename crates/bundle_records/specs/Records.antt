@@ -2,7 +2,7 @@
 -- library's test.
 use mathlib.Core.Bool.{Bool, true, false, cond, _&&_}
 use mathlib.Core.List.{List}
-use mathlib.Core.Option.{Option, none, some}
+use mathlib.Core.Option.{none, some}
 use mathlib.Core.Path.{_≡_, refl, sym, ap, ap₂, _∙_}
 use Prim.Native.Nat.{ℕ}
 use lib.ListN.{take}
@@ -14,17 +14,12 @@ use Rattle.path_spec.specs.Reading.{readBundle}
 use Rattle.library_spec.specs.Calls.{recordAfter, bundleRead}
 use Rattle.library_spec.specs.Records.{TextRecord, recordOf, passesSchema, passesBundle, schemaHeld}
 use Rattle.schema_reader.specs.Records.{passesRecord}
-use Rattle.schema_records.specs.Records.{recordWith}
+use Rattle.schema_records.specs.Records.{recordWith, refusalIn}
 use Rattle.schema_spec.specs.Records.{schemaIn, recordBy}
 use Rattle.schema_spec.specs.Schemas.{Schema}
 use Rattle.text_spec.specs.Calls.{tested, handed}
 use Rattle.text_spec.specs.Limits.{maxBundleBytes}
-use Rattle.text_spec.specs.Refusals.{Refusal, Outcome, accepted, refused, andThen}
-
--- the refusal that an outcome gives
-abbrev pub refusalIn : {A : Type 0} → Outcome A → Option Refusal
-refusalIn (accepted a) = none
-refusalIn (refused f) = some f
+use Rattle.text_spec.specs.Refusals.{Outcome, accepted, refused, andThen}
 
 module _ (cells : List ℕ) (size : ℕ) (text : List ℕ) where
   abbrev schema : Schema

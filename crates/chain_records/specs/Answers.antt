@@ -5,7 +5,7 @@ use mathlib.Core.Path.{_≡_}
 use Prim.Native.Nat.{ℕ}
 use lib.Dec.{leb}
 use lib.ListN.{take}
-use Rattle.handed_chains.specs.Answers.{AnsweredBytes, chainHeld}
+use Rattle.handed_chains.specs.Answers.{chainHeld}
 use Rattle.held_tables.specs.Calls.{record-refused, record-held}
 use Rattle.library_spec.specs.Calls.{rowChain}
 use Rattle.library_spec.specs.Records.{TextRecord, LentTable, textIn, passesSchema}
@@ -18,6 +18,7 @@ use Rattle.text_spec.specs.Cells.{padded}
 use Rattle.text_spec.specs.Limits.{maxSchemaBytes}
 use Rattle.text_spec.specs.Lists.{sameBytes}
 use Rattle.text_spec.specs.Refusals.{accepted, refused, at, badRecord}
+use Rattle.verdicts.specs.Verdicts.{AnsweredBytes}
 use Rattle.verdicts.specs.declared.Verdict.{Verdict}
 
 module _ (schema : TextRecord) (t : LentTable) (position size : ℕ) where

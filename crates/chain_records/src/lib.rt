@@ -1,9 +1,9 @@
 // The chain of tags of a row of a table that is handed in with a schema's record, in lent bytes.
 ghost use lib.ListN.{length};
-ghost use Rattle.handed_chains.specs.Answers.{AnsweredBytes};
 ghost use Rattle.library_spec.specs.Calls.{rowChain};
 ghost use Rattle.schema_records.specs.Records.{recordWith};
 ghost use Rattle.tables.specs.Handed.{lentTable};
+ghost use Rattle.verdicts.specs.Verdicts.{AnsweredBytes};
 use handed_chains::chain_lent;
 use lent_chains::refuse;
 use schema::Schema;

@@ -6,7 +6,7 @@ use mathlib.Core.Path.{_≡_, refl, sym, ap, ap₂, subst, _∙_}
 use Prim.Native.Nat.{ℕ, _<_, _≤_}
 use native.Mathlib.Omega.{arith}
 use lib.ListN.{length}
-use Rattle.cut_laws.specs.Answers.{AnsweredIn}
+use Rattle.cut_laws.specs.Answers.{AnsweredTable}
 use Rattle.extract_spec.specs.Cut.{kept, renumbered, cutFrom, cut, cutToWord}
 use Rattle.laid_tables.specs.Tables.{same-held, none-held, held-few}
 use Rattle.library_spec.specs.Calls.{inColumns, columnsAfter, tableCut, tableCutRows, tableOfCells}
@@ -131,7 +131,7 @@ module _ (schema : TextRecord) (word : ℕ) where
       unfolding tableCutRows
       fitting-structs = fitting (tableOfCells rows) n
 
-      pub cut-for : AnsweredIn (tableCut schema given word (partSizes k)) (partSizes k) v (columns numbers names parents starts lengths)
+      pub cut-for : AnsweredTable (tableCut schema given word (partSizes k)) (partSizes k) v (columns numbers names parents starts lengths)
           → AnsweredFor (tableCutRows schema rows word n) n
           (record { verdict = v; columns = record { numbers = front k numbers; names = front k names; parents = front k parents; starts = front k starts; lengths = front k lengths } })
       cut-for w =

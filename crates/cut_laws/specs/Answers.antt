@@ -47,7 +47,7 @@ use Rattle.verdicts.specs.declared.Verdict.{Verdict}
 
 -- ---- definitions
 -- a table answered in lent columns: the verdict, and the columns at exit
-pub record AnsweredIn (o : Outcome (List Row)) (z : Sizes) (r : Verdict) (x : Columns) : Type 0 where
+pub record AnsweredTable (o : Outcome (List Row)) (z : Sizes) (r : Verdict) (x : Columns) : Type 0 where
   pub answer : r ≡ verdict o
   pub cells : x ≡ columnsAfter z (λ rows. rows) o
 
@@ -143,7 +143,7 @@ module _ (s : Types) (rows : List Row) (ok : T (wellFormed s rows)) (f : ℕ →
       pick true = refl
       pick false = refl
 
-  cut-answers : (o : Columns) (r : Verdict) (x : Columns) → CutFirst f (columnsIn rows) o r x → AnsweredIn (inColumns (sizesOf o) (cut set rows)) (sizesOf o) r x
+  cut-answers : (o : Columns) (r : Verdict) (x : Columns) → CutFirst f (columnsIn rows) o r x → AnsweredTable (inColumns (sizesOf o) (cut set rows)) (sizesOf o) r x
   cut-answers o r x w =
       let n : w .count ≡ length (cut set rows) = w .cells .count ∙ cut-count in
       record {
@@ -156,7 +156,7 @@ unfoldable pub cutHeld : Schema → LentTable → ℕ → Sizes → Outcome (Lis
 cutHeld s t word z = handed (tableHeld s t) (λ rows. tested (equalSizes z) (inColumns z (cutToWord (typesOf s) word rows)))
 
 -- nothing is answered but a refusal by 1
-pub refused-1 : {o : Outcome (List Row)} {z : Sizes} {r : Verdict} {x : Columns} → o ≡ refused (at badRecord 0) → r ≡ refusedBy 1 0 → x ≡ columnsOf z [] → AnsweredIn o z r x
+pub refused-1 : {o : Outcome (List Row)} {z : Sizes} {r : Verdict} {x : Columns} → o ≡ refused (at badRecord 0) → r ≡ refusedBy 1 0 → x ≡ columnsOf z [] → AnsweredTable o z r x
 unfolding columnsAfter
 refused-1 e v c = rw e (record { answer = v; cells = c })
 
@@ -182,7 +182,7 @@ module _ (s : Schema) (t : LentTable) (o : Columns) (held : isHeld s t ≡ true)
   cut-asked = holds-cuttable s t (found .0) (found .1) o (sizes-equal o equal)
 
   pub cut-found : (word : ℕ) (set : NameSet) → (setIn s set ≡ setOfWord (namesOf s) word) × Known s set → (r : Verdict) (x : Columns)
-      → CutFirst (inSet set) (firstCells (t .count) (t .columns)) o r x → AnsweredIn (cutHeld s t word (sizesOf o)) (sizesOf o) r x
+      → CutFirst (inSet set) (firstCells (t .count) (t .columns)) o r x → AnsweredTable (cutHeld s t word (sizesOf o)) (sizesOf o) r x
   unfolding cutToWord typesOf
   cut-found word set (same, known) r x w =
       rw (by-sizes s t word (sizesOf o) held true equal)
@@ -195,6 +195,6 @@ module _ (schema : TextRecord) (t : LentTable) (word : ℕ) (z : Sizes) where
   unfolding tableCut
   no-record e = record-refused schema _ e
 
-  pub by-record : passesSchema schema ≡ true → (r : Verdict) (x : Columns) → AnsweredIn (cutHeld (schemaIn (textIn schema)) t word z) z r x → AnsweredIn (tableCut schema t word z) z r x
+  pub by-record : passesSchema schema ≡ true → (r : Verdict) (x : Columns) → AnsweredTable (cutHeld (schemaIn (textIn schema)) t word z) z r x → AnsweredTable (tableCut schema t word z) z r x
   unfolding tableCut cutHeld
   by-record e r x w = rw (record-held schema _ e) w

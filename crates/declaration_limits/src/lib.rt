@@ -3,8 +3,7 @@ ghost use mathlib.Core.Path.{_≡_};
 ghost use Prim.Native.Nat.{_≤_};
 ghost use lib.ListN.{getD};
 ghost use Rattle.declaration_limits.specs.Limits.{overLimit};
-use models::MAX_POSITIONS;
-use names::MAX_ELEMENTS;
+use schema::Schema;
 
 // The cell k, or 0 where there is none.
 fn cell(cells: &[usize], k: usize) -> usize
@@ -32,11 +31,11 @@ pub fn over_limit(
     if over < size {
         return over;
     }
-    if MAX_ELEMENTS <= d {
+    if Schema::MAX_DECLARATIONS <= d {
         return i;
     }
-    if MAX_POSITIONS < m - n {
-        return cell(uses, n + MAX_POSITIONS);
+    if Schema::MAX_MODEL_NAMES < m - n {
+        return cell(uses, n + Schema::MAX_MODEL_NAMES);
     }
     size
 }

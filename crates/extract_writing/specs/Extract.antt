@@ -34,7 +34,7 @@ unfoldable pub inLentBytes : ℕ → List ℕ → List ℕ
 inLentBytes size xs = cellsAfter size (λ x. x) (inRoom (tooSmall size xs) xs)
 
 -- n is their number
-pub record AnsweredIn (was xs : List ℕ) (n : ℕ) (out : List ℕ) : Type 0 where
+pub record BytesWritten (was xs : List ℕ) (n : ℕ) (out : List ℕ) : Type 0 where
   pub size : n ≡ length xs
   pub cells : out ≡ inLentBytes (length was) xs
 
@@ -45,12 +45,12 @@ pub record ExtractPass (lent : List ℕ) (c : Columns) (m : List ℕ) : Type 0 w
   pub size : length m ≡ length (c .numbers)
 
 -- ---- laws
-pub short-bytes : (was xs : List ℕ) (n : ℕ) (out : List ℕ) → n ≡ length xs → length was < n → Cleared was 0 out → AnsweredIn was xs n out
+pub short-bytes : (was xs : List ℕ) (n : ℕ) (out : List ℕ) → n ≡ length xs → length was < n → Cleared was 0 out → BytesWritten was xs n out
 unfolding inLentBytes
 short-bytes was xs n out e l w =
     record { size = e; cells = sets-cleared was [] out 0 refl (omega arith) w ∙ sym (ap (λ (b : Bool). cellsAfter (length was) (λ x. x) (inRoom b xs)) (lt-ltb (length was) (length xs) (omega arith))) }
 
-pub whole-bytes : (was xs : List ℕ) (n : ℕ) (mid out : List ℕ) → n ≡ length xs → n ≤ length was → mid ≡ stored was 0 xs → Cleared mid n out → AnsweredIn was xs n out
+pub whole-bytes : (was xs : List ℕ) (n : ℕ) (mid out : List ℕ) → n ≡ length xs → n ≤ length was → mid ≡ stored was 0 xs → Cleared mid n out → BytesWritten was xs n out
 unfolding inLentBytes stored
 whole-bytes was xs n mid out e l q w =
     record {
@@ -121,8 +121,8 @@ every-row lent c k h l =
     rw (all-marked k (length (c .numbers)) l)
     (record { columns = h; marked = only-marks (length (c .numbers)) (λ r. true); size = marks-length (length (c .numbers)) (λ r. true) })
 
-pub answered-same : (lent : List ℕ) (c : Columns) (m k was : List ℕ) (n : ℕ) (out : List ℕ) → m ≡ k → AnsweredIn was (extractIn lent c m) n out → AnsweredIn was (extractIn lent c k) n out
-answered-same lent c m k was n out e w = subst (λ (x : List ℕ). AnsweredIn was (extractIn lent c x) n out) e w
+pub answered-same : (lent : List ℕ) (c : Columns) (m k was : List ℕ) (n : ℕ) (out : List ℕ) → m ≡ k → BytesWritten was (extractIn lent c m) n out → BytesWritten was (extractIn lent c k) n out
+answered-same lent c m k was n out e w = subst (λ (x : List ℕ). BytesWritten was (extractIn lent c x) n out) e w
 
 -- scratch that has a cell for each row
 pub record KeptExtract (lent : List ℕ) (c : Columns) (scratch : List ℕ) : Type 0 where

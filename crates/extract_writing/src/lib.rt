@@ -4,7 +4,7 @@ ghost use mathlib.Core.Bool.{true};
 ghost use lib.ListN.{length};
 ghost use Rattle.cut_rows.specs.Rows.{table};
 ghost use Rattle.extract_rows.specs.Rows.{TextColumns};
-ghost use Rattle.extract_writing.specs.Extract.{extractIn, AnsweredIn, ExtractPass, KeptExtract};
+ghost use Rattle.extract_writing.specs.Extract.{extractIn, BytesWritten, ExtractPass, KeptExtract};
 ghost use Rattle.kept_rows.specs.Kept.{inSet, keptMarks, KeptColumns};
 ghost use Rattle.marks.specs.Columns.{marks};
 use axis_passes::MARKED;
@@ -30,7 +30,7 @@ fn write_marked(
     out: &mut [u8],
 ) -> usize
     requires { ⌜ ExtractPass (now text) (table (now numbers) (now names) (now parents) (now starts) (now lengths)) (now kept) ⌝ }
-    ensures { λ n. ⌜ AnsweredIn (now (out .entry)) (extractIn (now (text .entry)) (table (now (numbers .entry)) (now (names .entry)) (now (parents .entry)) (now (starts .entry)) (now (lengths .entry))) (now (kept .entry))) n (now (out .exit)) ⌝ }
+    ensures { λ n. ⌜ BytesWritten (now (out .entry)) (extractIn (now (text .entry)) (table (now (numbers .entry)) (now (names .entry)) (now (parents .entry)) (now (starts .entry)) (now (lengths .entry))) (now (kept .entry))) n (now (out .exit)) ⌝ }
 {
     let measured = measure(names, lengths, kept);
     let size = measured.bytes + COUNT_BYTES;
@@ -55,7 +55,7 @@ pub fn write_table(
     out: &mut [u8],
 ) -> usize
     requires { ⌜ TextColumns (now text) (table (now numbers) (now names) (now parents) (now starts) (now lengths)) (length (now numbers)) ⌝ }
-    ensures { λ n. ⌜ AnsweredIn (now (out .entry)) (extractIn (now (text .entry)) (table (now (numbers .entry)) (now (names .entry)) (now (parents .entry)) (now (starts .entry)) (now (lengths .entry))) (marks (length (now (numbers .entry))) (λ r. true))) n (now (out .exit)) ⌝ }
+    ensures { λ n. ⌜ BytesWritten (now (out .entry)) (extractIn (now (text .entry)) (table (now (numbers .entry)) (now (names .entry)) (now (parents .entry)) (now (starts .entry)) (now (lengths .entry))) (marks (length (now (numbers .entry))) (λ r. true))) n (now (out .exit)) ⌝ }
 {
     let every = [MARKED; MAX_NODES];
     let count = numbers.len();
@@ -84,7 +84,7 @@ fn write_kept_into(
     out: &mut [u8],
 ) -> usize
     requires { ⌜ KeptExtract (now text) (table (now numbers) (now names) (now parents) (now starts) (now lengths)) (now kept) ⌝ }
-    ensures { λ n. ⌜ AnsweredIn (now (out .entry)) (extractIn (now (text .entry)) (table (now (numbers .entry)) (now (names .entry)) (now (parents .entry)) (now (starts .entry)) (now (lengths .entry))) (keptMarks (inSet set) (now (names .entry)) (now (parents .entry)))) n (now (out .exit)) ⌝ }
+    ensures { λ n. ⌜ BytesWritten (now (out .entry)) (extractIn (now (text .entry)) (table (now (numbers .entry)) (now (names .entry)) (now (parents .entry)) (now (starts .entry)) (now (lengths .entry))) (keptMarks (inSet set) (now (names .entry)) (now (parents .entry)))) n (now (out .exit)) ⌝ }
 {
     mark_kept(set, names, parents, kept);
     write_marked(
@@ -111,7 +111,7 @@ pub fn write_kept(
     out: &mut [u8],
 ) -> usize
     requires { ⌜ TextColumns (now text) (table (now numbers) (now names) (now parents) (now starts) (now lengths)) (length (now numbers)) × KeptColumns (now names) (now parents) ⌝ }
-    ensures { λ n. ⌜ AnsweredIn (now (out .entry)) (extractIn (now (text .entry)) (table (now (numbers .entry)) (now (names .entry)) (now (parents .entry)) (now (starts .entry)) (now (lengths .entry))) (keptMarks (inSet set) (now (names .entry)) (now (parents .entry)))) n (now (out .exit)) ⌝ }
+    ensures { λ n. ⌜ BytesWritten (now (out .entry)) (extractIn (now (text .entry)) (table (now (numbers .entry)) (now (names .entry)) (now (parents .entry)) (now (starts .entry)) (now (lengths .entry))) (keptMarks (inSet set) (now (names .entry)) (now (parents .entry)))) n (now (out .exit)) ⌝ }
 {
     let mut kept = [UNMARKED; MAX_NODES];
     let count = numbers.len();

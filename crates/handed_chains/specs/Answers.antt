@@ -17,7 +17,7 @@ use Rattle.library_spec.specs.Chains.{chain}
 use Rattle.library_spec.specs.Records.{LentTable, tableHeld}
 use Rattle.row_chain_laws.specs.Names.{compiled-names}
 use Rattle.row_chain_laws.specs.Nodes.{node-chain}
-use Rattle.lent_chains.specs.Answers.{chainOutcome, Answered}
+use Rattle.lent_chains.specs.Answers.{chainOutcome, AnsweredChain}
 use Rattle.row_chains.specs.Chains.{chainAt, NamesAt, SizePass}
 use Rattle.lent_chains.specs.declared.ChainAnswer.{ChainAnswer}
 use Rattle.lent_chains.specs.declared.ChainAnswer.the-variants.{Written, TooFewCells}
@@ -36,15 +36,10 @@ use Rattle.text_spec.specs.Calls.{handed, inRoom, cellsAfter}
 use Rattle.text_spec.specs.Cells.{padded, tooSmall}
 use Rattle.text_spec.specs.Refusals.{Outcome, accepted, refused, andThen, at, badRecord, tooFewCells}
 use Rattle.text_spec.specs.Scans.{nameAt}
-use Rattle.verdicts.specs.Verdicts.{refusedBy, answeredOf, verdict}
+use Rattle.verdicts.specs.Verdicts.{refusedBy, answeredOf, verdict, AnsweredBytes}
 use Rattle.verdicts.specs.declared.Verdict.{Verdict}
 
 -- ---- definitions
--- bytes answered in lent cells: the verdict, and the cells at exit
-pub record AnsweredBytes (o : Outcome (List ℕ)) (size : ℕ) (r : Verdict) (x : List ℕ) : Type 0 where
-  pub answer : r ≡ verdict o
-  pub cells : x ≡ cellsAfter size (λ w. w) o
-
 -- how many bytes each of the names at places of a text has
 abbrev pub sizesAt : List ℕ → List ℕ → List ℕ
 sizesAt text names = map (λ p. length (nameAt text p)) names
@@ -70,12 +65,12 @@ module _ (text places codes ps : List ℕ) (count position : ℕ) (sizes : List 
   pub sized-pass : Chainable text places codes ps count position → NamesAt text places sizes × SizePass sizes (take count codes) (take count ps) position
   sized-pass h = rw e (h .names, h .rows)
 
-  pub sized-chain : (size : ℕ) (a : ChainAnswer) (out : List ℕ) → Answered (chainAt text places sizes (take count codes) (take count ps) position) size a out
-      → Answered (chainIn text places codes ps count position) size a out
-  sized-chain size a out h = subst (λ (z : List ℕ). Answered (chainAt text places z (take count codes) (take count ps) position) size a out) e h
+  pub sized-chain : (size : ℕ) (a : ChainAnswer) (out : List ℕ) → AnsweredChain (chainAt text places sizes (take count codes) (take count ps) position) size a out
+      → AnsweredChain (chainIn text places codes ps count position) size a out
+  sized-chain size a out h = subst (λ (z : List ℕ). AnsweredChain (chainAt text places z (take count codes) (take count ps) position) size a out) e h
 
 -- ---- the verdict of a chain in lent cells
-module _ {w : List ℕ} {size : ℕ} {a : ChainAnswer} {out : List ℕ} (h : Answered w size a out) where
+module _ {w : List ℕ} {size : ℕ} {a : ChainAnswer} {out : List ℕ} (h : AnsweredChain w size a out) where
   pub written : {r : Verdict} (n : ℕ) → a ≡ Written n → r ≡ answeredOf n → AnsweredBytes (inRoom (tooSmall size w) w) size r out
   written {r} n e v = record { answer = v ∙ pick (tooSmall size w) (ap chainOutcome (sym e) ∙ h .outcome); cells = h .cells }
     where

@@ -1,13 +1,14 @@
 // The chain of tags of a row of a table that is handed in under a schema's text, in lent bytes.
 ghost use mathlib.Core.Path.{_≡_};
 ghost use lib.ListN.{length};
-ghost use Rattle.handed_chains.specs.Answers.{chainIn, Chainable, AnsweredBytes, chainHeld};
+ghost use Rattle.handed_chains.specs.Answers.{chainIn, Chainable, chainHeld};
 ghost use Rattle.schema_spec.specs.Reading.{readSchema};
 ghost use Rattle.schema_spec.specs.Records.{schemaIn};
 ghost use Rattle.tables.specs.Handed.{lentTable};
 ghost use Rattle.text_spec.specs.Calls.{inRoom};
 ghost use Rattle.text_spec.specs.Cells.{tooSmall};
 ghost use Rattle.text_spec.specs.Refusals.{accepted};
+ghost use Rattle.verdicts.specs.Verdicts.{AnsweredBytes};
 use compiled_schema::compile;
 use held_words::held_words;
 use lent_chains::ChainAnswer;

@@ -5,7 +5,7 @@ use mathlib.Core.Path.{_≡_, refl, sym, subst, _∙_}
 use Prim.Native.Nat.{ℕ}
 use borrow.Author.Tests.{not-true, not-false}
 use lib.Dec.{T}
-use Rattle.cut_laws.specs.Answers.{Cuttable, CutFirst, AnsweredIn, cutHeld, refused-1, no-table, no-sizes, cut-asked, cut-found}
+use Rattle.cut_laws.specs.Answers.{Cuttable, CutFirst, AnsweredTable, cutHeld, refused-1, no-table, no-sizes, cut-asked, cut-found}
 use Rattle.held_tables.specs.Rows.{firstCells}
 use Rattle.kept_rows.specs.Kept.{inSet}
 use Rattle.library_spec.specs.Records.{LentTable}
@@ -24,7 +24,7 @@ both-pass true b e = (refl, e)
 both-pass false b e = absurd (subst T (sym e) tt)
 
 module _ (s : Schema) (t : LentTable) (o : Columns) (held r : Bool) (table : held ≡ isHeld s t) (may : r ≡ (held && equalSizes (sizesOf o))) where
-  pub not-cut : not r ≡ true → (word : ℕ) (v : Verdict) (x : Columns) → v ≡ refusedBy 1 0 → x ≡ columnsOf (sizesOf o) [] → AnsweredIn (cutHeld s t word (sizesOf o)) (sizesOf o) v x
+  pub not-cut : not r ≡ true → (word : ℕ) (v : Verdict) (x : Columns) → v ≡ refusedBy 1 0 → x ≡ columnsOf (sizesOf o) [] → AnsweredTable (cutHeld s t word (sizesOf o)) (sizesOf o) v x
   not-cut n word v x a b = refused-1 (by held (sym table) (sym may ∙ not-true r n)) a b
     where
       by : (h : Bool) → isHeld s t ≡ h → (h && equalSizes (sizesOf o)) ≡ false → cutHeld s t word (sizesOf o) ≡ refused (at badRecord 0)
@@ -39,5 +39,5 @@ module _ (s : Schema) (t : LentTable) (o : Columns) (held r : Bool) (table : hel
     may-be-cut = cut-asked s t o (sym table ∙ both .0) (both .1)
 
     pub cut-answered : (word : ℕ) (set : NameSet) → (setIn s set ≡ setOfWord (namesOf s) word) × Known s set → (v : Verdict) (x : Columns)
-        → CutFirst (inSet set) (firstCells (t .count) (t .columns)) o v x → AnsweredIn (cutHeld s t word (sizesOf o)) (sizesOf o) v x
+        → CutFirst (inSet set) (firstCells (t .count) (t .columns)) o v x → AnsweredTable (cutHeld s t word (sizesOf o)) (sizesOf o) v x
     cut-answered word set k v x w = cut-found s t o (sym table ∙ both .0) (both .1) word set k v x w

@@ -33,7 +33,7 @@ use Rattle.schema_spec.specs.Schemas.{Schema}
 use Rattle.schema_spec.specs.Types.{Types, typesOf}
 use Rattle.select.specs.Paths as select
 use Rattle.select_table.specs.Tables.{RowsIn, rowsSelected}
-use Rattle.selected_answers.specs.Answers.{inCells, AnsweredAs}
+use Rattle.selected_answers.specs.Answers.{inCells, AnsweredSelections}
 use Rattle.selected_answers.specs.declared.Selected.{Selected}
 use Rattle.selected_rows.specs.Selected.{codesOf}
 use Rattle.selected_rows.specs.Tested.{tested-columns}
@@ -78,7 +78,7 @@ pub record LastAs (n : ℕ) (a : Selected) (c d : Columns) (r : HostResult) : Ty
 pub record SelectedUnder (paths : CompiledPaths) (place n : ℕ) (c d : Columns) (items counts items′ counts′ : List ℕ) (r : HostResult) : Type 0 where
   pub selected : Selected
   pub answer : (s : Types) (text : List ℕ) (rows : List Row) → RowsIn s rows (firstOf c n .numbers) (firstOf c n .names) (firstOf c n .parents)
-      → AnsweredAs (rowsSelected text rows place (pathsIn paths) (length items) (length counts)) (length items) (length counts) selected items′ counts′
+      → AnsweredSelections (rowsSelected text rows place (pathsIn paths) (length items) (length counts)) (length items) (length counts) selected items′ counts′
   pub last : LastAs n selected c d r
 
 -- ---- the last test
@@ -148,7 +148,7 @@ module _ (schema : List ℕ) (s : Schema) (read : readSchema schema ≡ accepted
         same-exit (staged-by (readExtract (typesOf s) extract) (sizesOf c) n d w (chosenOf (pathsIn paths) place extract (length items) (length counts)))
         (pick (tooSmall (length items) (chosen .items) || tooSmall (length counts) (chosen .counts)) (u .answer (typesOf s) extract rows rows-in))
       where
-        pick : (y : Bool) → AnsweredAs (inRoom y chosen) (length items) (length counts) (u .selected) items′ counts′
+        pick : (y : Bool) → AnsweredSelections (inRoom y chosen) (length items) (length counts) (u .selected) items′ counts′
             → Exits (inRoom y (hostAnswer rows (chosen .items) (chosen .counts))) (lentOf c items counts) r e items′ counts′
         pick true a =
             let h = u .last .short (λ z. omega (arith, ap (λ (x : Selected). x .number) (a .answer), z)) in

@@ -13,7 +13,7 @@ use Rattle.compiled_schema.specs.Compiled.{CompiledOf}
 use Rattle.compiled_schema.specs.declared.CompiledSchema.{CompiledSchema}
 use Rattle.cut_rows.specs.Cells.{all-cleared}
 use Rattle.extract_rows.specs.Rows.{TextColumns}
-use Rattle.extract_writing.specs.Extract.{extractIn, inLentBytes, AnsweredIn}
+use Rattle.extract_writing.specs.Extract.{extractIn, inLentBytes, BytesWritten}
 use Rattle.host_columns.specs.Rows.{firstOf, Rooms, RowsRead, refused-exit-by, staged-by, sizes-after, first-columns, rooms}
 use Rattle.host_laws.specs.Stages.{lentOf, madeOf, madeUnder}
 use Rattle.host_results.specs.Exits.{refusedBy, answeredOf, Exits, refused-exit, answered-exit, same-exit}
@@ -73,7 +73,7 @@ pub record WrittenUnder (t : CompiledSchema) (paths : CompiledPaths) (journal : 
   pub set : NameSet
   pub need : NeededIn t paths set
   pub size : ℕ
-  pub bytes : AnsweredIn was (extractIn journal (firstOf c n) (keptMarks (inSet set) (firstOf c n .names) (firstOf c n .parents))) size out
+  pub bytes : BytesWritten was (extractIn journal (firstOf c n) (keptMarks (inSet set) (firstOf c n .names) (firstOf c n .parents))) size out
   pub last : AnswerAs n size (length out) c d r
 
 -- ---- the last test
@@ -130,8 +130,8 @@ module _ (schema : List ℕ) (s : Schema) (read : readSchema schema ≡ accepted
     abbrev bytes : List ℕ
     bytes = extractOf s (pathsIn paths) journal rows
 
-    stored : AnsweredIn was bytes (u .size) out
-    stored = subst (λ (y : List ℕ). AnsweredIn was y (u .size) out) (bytes-needed t made paths (u .set) (u .need)) (u .bytes)
+    stored : BytesWritten was bytes (u .size) out
+    stored = subst (λ (y : List ℕ). BytesWritten was y (u .size) out) (bytes-needed t made paths (u .set) (u .need)) (u .bytes)
 
     room-out : length out ≡ length was
     unfolding inLentBytes

@@ -5,3 +5,4 @@ pub mod Conditions
 pub mod Lexer
 pub mod Builder
 pub mod Reading
+pub mod Cases

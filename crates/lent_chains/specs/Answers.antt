@@ -22,7 +22,7 @@ chainOutcome (Written n) = accepted n
 chainOutcome TooFewCells = refused (at tooFewCells 0)
 
 -- a chain in so many lent cells: the outcome, with its number of bytes, and the cells
-pub record Answered (chain : List ℕ) (size : ℕ) (r : ChainAnswer) (out : List ℕ) : Type 0 where
+pub record AnsweredChain (chain : List ℕ) (size : ℕ) (r : ChainAnswer) (out : List ℕ) : Type 0 where
   pub outcome : chainOutcome r ≡ andThen (inRoom (tooSmall size chain) chain) (λ w. accepted (length w))
   pub cells : out ≡ cellsAfter size (λ w. w) (inRoom (tooSmall size chain) chain)
 
@@ -42,7 +42,7 @@ appended-sets was w l =
     nothing-before k = omega arith
 
 module _ (chain was out : List ℕ) where
-  answered-18 : length was < length chain → Cleared was 0 out → Answered chain (length was) TooFewCells out
+  answered-18 : length was < length chain → Cleared was 0 out → AnsweredChain chain (length was) TooFewCells out
   answered-18 l c =
       let short : tooSmall (length was) chain ≡ true = lt-ltb (length was) (length chain) l in
       let nothing : Appended was 0 [] 0 was = record { long = refl; count = refl; kept = λ k b. refl; cells = λ k b h. absurd (omega arith) } in
@@ -52,7 +52,7 @@ module _ (chain was out : List ℕ) where
       }
 
   answered-chain : (mid : List ℕ) (n : ℕ) → length chain ≤ length was → n ≡ length chain → mid ≡ sets was 0 chain → Cleared mid n out
-      → Answered chain (length was) (Written n) out
+      → AnsweredChain chain (length was) (Written n) out
   answered-chain mid n l e m c =
       let room : tooSmall (length was) chain ≡ false = le-ltb (length was) (length chain) l in
       let noted : Appended was 0 chain n mid = rw (e, m) (appended-sets was chain l) in
@@ -63,10 +63,10 @@ module _ (chain was out : List ℕ) where
 
 -- the same by the measured size of the chain of a row
 module _ (text starts sizes codes ps : List ℕ) (row k : ℕ) (named : NamesAt text starts sizes) (measured : k ≡ chainSize sizes codes ps row) (was out : List ℕ) where
-  pub answered-short : length was < k → Cleared was 0 out → Answered (chainAt text starts sizes codes ps row) (length was) TooFewCells out
+  pub answered-short : length was < k → Cleared was 0 out → AnsweredChain (chainAt text starts sizes codes ps row) (length was) TooFewCells out
   answered-short l c = answered-18 (chainAt text starts sizes codes ps row) was out (omega (arith, chain-length text starts sizes codes ps named row)) c
 
   pub answered-whole : (mid : List ℕ) (n : ℕ) → k ≤ length was → Chained text starts sizes codes ps row was n mid → Cleared mid n out
-      → Answered (chainAt text starts sizes codes ps row) (length was) (Written n) out
+      → AnsweredChain (chainAt text starts sizes codes ps row) (length was) (Written n) out
   answered-whole mid n l w c =
       answered-chain (chainAt text starts sizes codes ps row) was out mid n (omega (arith, chain-length text starts sizes codes ps named row)) (w .counted) (w .written) c

@@ -4,7 +4,7 @@ ghost use mathlib.Core.List.{[]};
 ghost use mathlib.Core.Path.{_≡_};
 ghost use lib.Dec.{ltb};
 ghost use lib.ListN.{length};
-ghost use Rattle.lent_chains.specs.Answers.{Answered};
+ghost use Rattle.lent_chains.specs.Answers.{AnsweredChain};
 ghost use Rattle.row_chains.specs.Chains.{chainAt, NamesAt, SizePass};
 ghost use Rattle.text_spec.specs.Cells.{padded};
 ghost use Rattle.verdicts.specs.Verdicts.{refusedBy};
@@ -31,7 +31,7 @@ pub fn put_chain(
     out: &mut [u8],
 ) -> ChainAnswer
     requires { ⌜ NamesAt (now text) (now starts) (now sizes) × SizePass (now sizes) (now codes) (now parents) row ⌝ }
-    ensures { λ r. ⌜ Answered (chainAt (now (text .entry)) (now (starts .entry)) (now (sizes .entry)) (now (codes .entry)) (now (parents .entry)) row) (length (now (out .entry))) r (now (out .exit)) ⌝ }
+    ensures { λ r. ⌜ AnsweredChain (chainAt (now (text .entry)) (now (starts .entry)) (now (sizes .entry)) (now (codes .entry)) (now (parents .entry)) row) (length (now (out .entry))) r (now (out .exit)) ⌝ }
 {
     let size = chain_size(sizes, codes, parents, row);
     if out.len() < size {

@@ -7,12 +7,12 @@ use native.Mathlib.Omega.{arith}
 use borrow.Author.Tests.{lt-ltb, le-ltb}
 use lib.ListN.{length}
 use Rattle.cut_rows.specs.Cells.{all-cleared}
-use Rattle.extract_writing.specs.Extract.{inLentBytes, AnsweredIn}
+use Rattle.extract_writing.specs.Extract.{inLentBytes, BytesWritten}
 use Rattle.row_numbers.specs.Cells.{Cleared}
 use Rattle.text_spec.specs.Calls.{inRoom, cellsAfter}
 use Rattle.text_spec.specs.Cells.{tooSmall}
 use Rattle.text_spec.specs.Refusals.{Outcome, refused, at, badRecord}
-use Rattle.verdicts.specs.Verdicts.{refusedBy, answeredOf, verdict}
+use Rattle.verdicts.specs.Verdicts.{refusedBy, answeredOf, verdict, AnsweredBytes}
 use Rattle.verdicts.specs.declared.Verdict.{Verdict}
 
 -- ---- definitions
@@ -20,26 +20,21 @@ use Rattle.verdicts.specs.declared.Verdict.{Verdict}
 abbrev pub inBytes : ℕ → List ℕ → Outcome (List ℕ)
 inBytes size xs = inRoom (tooSmall size xs) xs
 
--- an outcome is answered so, in so many lent bytes
-pub record AnsweredAs (o : Outcome (List ℕ)) (size : ℕ) (r : Verdict) (out : List ℕ) : Type 0 where
-  pub answer : r ≡ verdict o
-  pub cells : out ≡ cellsAfter size (λ x. x) o
-
 -- ---- laws
-pub same-answer : {o p : Outcome (List ℕ)} (size : ℕ) (r : Verdict) (out : List ℕ) → o ≡ p → AnsweredAs o size r out → AnsweredAs p size r out
-same-answer size r out e h = subst (λ (x : Outcome (List ℕ)). AnsweredAs x size r out) e h
+pub same-answer : {o p : Outcome (List ℕ)} (size : ℕ) (r : Verdict) (out : List ℕ) → o ≡ p → AnsweredBytes o size r out → AnsweredBytes p size r out
+same-answer size r out e h = subst (λ (x : Outcome (List ℕ)). AnsweredBytes x size r out) e h
 
-pub refused-by-1 : (was out : List ℕ) (r : Verdict) → Cleared was 0 out → r ≡ refusedBy 1 0 → AnsweredAs (refused (at badRecord 0)) (length was) r out
+pub refused-by-1 : (was out : List ℕ) (r : Verdict) → Cleared was 0 out → r ≡ refusedBy 1 0 → AnsweredBytes (refused (at badRecord 0)) (length was) r out
 refused-by-1 was out r c e = record { answer = e; cells = all-cleared was out c }
 
 -- the bytes, or 18
-module _ (was xs : List ℕ) (n : ℕ) (out : List ℕ) (w : AnsweredIn was xs n out) (r : Verdict) where
-  pub too-few : length was < n → r ≡ refusedBy 18 0 → AnsweredAs (inBytes (length was) xs) (length was) r out
+module _ (was xs : List ℕ) (n : ℕ) (out : List ℕ) (w : BytesWritten was xs n out) (r : Verdict) where
+  pub too-few : length was < n → r ≡ refusedBy 18 0 → AnsweredBytes (inBytes (length was) xs) (length was) r out
   unfolding inLentBytes
   too-few l e =
       record { answer = e ∙ sym (ap (λ (b : Bool). verdict (inRoom b xs)) (lt-ltb (length was) (length xs) (omega (arith, w .size)))); cells = w .cells }
 
-  pub enough : n ≤ length was → r ≡ answeredOf n → AnsweredAs (inBytes (length was) xs) (length was) r out
+  pub enough : n ≤ length was → r ≡ answeredOf n → AnsweredBytes (inBytes (length was) xs) (length was) r out
   unfolding inLentBytes
   enough l e =
       record {

@@ -4,9 +4,10 @@ ghost use lib.ListN.{length};
 ghost use Rattle.cut_rows.specs.Rows.{table};
 ghost use Rattle.extract_rows.specs.Rows.{TextColumns};
 ghost use Rattle.extract_writing.specs.Extract.{extractIn};
-ghost use Rattle.lent_extracts.specs.Answers.{inBytes, AnsweredAs};
+ghost use Rattle.lent_extracts.specs.Answers.{inBytes};
 ghost use Rattle.marks.specs.Columns.{marks};
 ghost use Rattle.text_spec.specs.Refusals.{refused, at, badRecord};
+ghost use Rattle.verdicts.specs.Verdicts.{AnsweredBytes};
 use extract_writing::write_table;
 use table_cutting::clear_bytes;
 use verdicts::BAD_RECORD;
@@ -15,7 +16,7 @@ use verdicts::Verdict;
 
 // Refusal 1, with no byte written.
 pub fn refuse(out: &mut [u8]) -> Verdict
-    ensures { λ r. ⌜ AnsweredAs (refused (at badRecord 0)) (length (now (out .entry))) r (now (out .exit)) ⌝ }
+    ensures { λ r. ⌜ AnsweredBytes (refused (at badRecord 0)) (length (now (out .entry))) r (now (out .exit)) ⌝ }
 {
     clear_bytes(out, 0);
     verdicts::refused(BAD_RECORD, 0)
@@ -32,7 +33,7 @@ pub fn write_in_room(
     out: &mut [u8],
 ) -> Verdict
     requires { ⌜ TextColumns (now text) (table (now numbers) (now codes) (now parents) (now starts) (now lengths)) (length (now numbers)) ⌝ }
-    ensures { λ r. ⌜ AnsweredAs (inBytes (length (now (out .entry))) (extractIn (now (text .entry)) (table (now (numbers .entry)) (now (codes .entry)) (now (parents .entry)) (now (starts .entry)) (now (lengths .entry))) (marks (length (now (numbers .entry))) (λ r. true)))) (length (now (out .entry))) r (now (out .exit)) ⌝ }
+    ensures { λ r. ⌜ AnsweredBytes (inBytes (length (now (out .entry))) (extractIn (now (text .entry)) (table (now (numbers .entry)) (now (codes .entry)) (now (parents .entry)) (now (starts .entry)) (now (lengths .entry))) (marks (length (now (numbers .entry))) (λ r. true)))) (length (now (out .entry))) r (now (out .exit)) ⌝ }
 {
     let room = out.len();
     let size = write_table(text, numbers, codes, parents, starts, lengths, out);

@@ -2,14 +2,16 @@
 -- outputs are larger than the answers, so that the zeros show.
 use mathlib.Core.List.{List, [], _∷_, _++_}
 use Prim.Native.Nat.{ℕ}
+use Prim.Native.String.{String}
 use Rattle.extract_spec.specs.Cases.Tables.{schemaS, journalJ, extractJ, noRows}
 use Rattle.library_spec.specs.Cases.Edges.{tableJ, twoTexts}
 use Rattle.library_spec.specs.Cases.Exits.{exit}
 use Rattle.library_spec.specs.Cases.Hosts.{bundleP, bundleT, undeclared, misfit, noExtract}
 use Rattle.library_spec.specs.Cases.Opened.{computing}
-use Rattle.library_spec.specs.Cases.Questions.{Text, readsSchema, readsBundle, readsJournal, givesNeeded, cutsTable, readsExtract, Answer, leaves, answerTo, Case, case, AllHold, zeros, answered}
+use Rattle.library_spec.specs.Cases.Questions.{Text, readsSchema, readsBundle, readsJournal, givesNeeded, cutsTable, readsExtract, Answer, leaves, answerTo, Case, AllHold, zeros}
 use Rattle.library_spec.specs.Records.{TextRecord, LentTable}
 use Rattle.table_spec.specs.Columns.{Columns, Sizes, allOfSize}
+use Rattle.text_spec.specs.Cases.{case, answered, copies, joined}
 use Rattle.text_spec.specs.Lists.{bytes}
 
 -- ---- records: a text, and zeros up to 8,192 cells for a schema and 4,104 for a bundle
@@ -45,6 +47,24 @@ ofRefused = textRecord (bytes "<!ELEMENT a EMPTY><!ELEMENT a EMPTY>") 36 8156
 abbrev pub emptyRecord : TextRecord
 emptyRecord = textRecord [] 0 8192
 
+-- A schema of 8,192 bytes, which fills the cells of its record: names of 31 bytes, three declarations of 64 names with 2,092 bytes each, and one of
+-- 42 names and of 16 with an indicator, with 1,916 bytes.
+abbrev pub longName : String → Text
+longName last = copies 30 (bytes "n") ++ bytes last
+
+abbrev pub longNames : ℕ → Text
+longNames n = joined n (bytes "|") (longName "a")
+
+abbrev pub declaring : String → Text → Text
+declaring last names = bytes "<!ELEMENT " ++ (longName last ++ (bytes " (" ++ (names ++ bytes ")>")))
+
+abbrev pub fullText : Text
+fullText =
+    declaring "a" (longNames 64)
+    ++ (declaring "b" (longNames 64)
+    ++ (declaring "c" (longNames 64)
+    ++ declaring "d" (longNames 42 ++ copies 16 (bytes "|" ++ (longName "a" ++ bytes "?")))))
+
 -- what is handed back, or nothing of it
 abbrev pub back : List ℕ → List ℕ → Answer
 back size cells = leaves (exit 0 0 (size ∷ cells ∷ []))
@@ -70,6 +90,9 @@ records =
     ∷ case (readsBundle oneCellLong bundleT) (noRecord 4104 1 0)
     ∷ case (readsBundle ofRefused bundleT) (noRecord 4104 1 0)
     ∷ case (readsBundle emptyRecord bundleT) (noRecord 4104 1 0)
+    -- all cells full, and a size past them
+    ∷ case (readsBundle (textRecord fullText 8192 0) (bytes "self::node()\n")) (back (13 ∷ []) (bytes "self::node()\n" ++ zeros 4091))
+    ∷ case (readsBundle (textRecord fullText 8193 0) (bytes "self::node()\n")) (noRecord 4104 1 0)
     -- needed names: bits 0, 1, 3 and 4; bits 0 to 4 and 36; a name that this schema lacks is 1
     ∷ case (givesNeeded recordS recordP) (leaves (exit 0 0 ((27 ∷ []) ∷ [])))
     ∷ case (givesNeeded recordS recordT) (leaves (exit 0 0 ((68719476767 ∷ []) ∷ [])))
@@ -157,6 +180,7 @@ tables =
     ∷ case (readsExtract recordS noExtract (allOfSize 0)) (noColumns (allOfSize 0) 17 0)
     ∷ case (readsExtract recordS [] (allOfSize 9)) (noColumns (allOfSize 9) 2 0)
     ∷ case (readsExtract recordS extractJ oneLess) (noColumns oneLess 1 0)
+    ∷ case (readsExtract recordS noExtract oneLess) (noColumns oneLess 1 0)
     ∷ case (readsExtract withCellPast extractJ (allOfSize 9)) (noColumns (allOfSize 9) 1 0)
     ∷ []
 

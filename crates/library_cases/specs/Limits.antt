@@ -1,12 +1,13 @@
--- Both sides of the limits that no other table of cases tries: names in paths, tags and models, tables, paths and bundles. The limits of lengths
+-- Both sides of the limits that no other table of cases tries: names in paths, tags and models, tables, paths and bundles, records. The limits of lengths
 -- and nodes that are too large to compute with are laws (`Limits` of projection_laws).
 use mathlib.Core.List.{List, [], _∷_, _++_}
 use Prim.Native.Nat.{ℕ, zero, suc}
 use Rattle.extract_spec.specs.Cases.Tables.{schemaS, extractOfRoot}
 use Rattle.library_spec.specs.Cases.Exits.{exit}
 use Rattle.library_spec.specs.Cases.Opened.{computing}
-use Rattle.library_spec.specs.Cases.Questions.{Text, schemaRead, bundleRead, journalRead, tableLent, makes, taken, turnedBack, leaves, answerTo, Case, case, AllHold, copies, zeros, lend, answered}
+use Rattle.library_spec.specs.Cases.Questions.{Text, schemaRead, bundleRead, journalRead, tableLent, makes, says, leaves, answerTo, Case, AllHold, zeros, lend}
 use Rattle.table_spec.specs.Columns.{Columns}
+use Rattle.text_spec.specs.Cases.{case, answered, taken, turnedBack, copies}
 use Rattle.text_spec.specs.Lists.{bytes}
 
 -- ---- names of 31 and 32 bytes
@@ -39,20 +40,6 @@ path513 =
     copies 7 (onward (bytes "self::"))
     ++ (copies 3 (onward (bytes "parent::")) ++ (copies 2 (onward (bytes "child::")) ++ (bytes "ancestor-or-self::" ++ (name 31 ++ bytes "\n"))))
 
--- ---- so many of a text, parted by another: alternatives of a condition, steps of one, names of a model
-abbrev pub joined : ℕ → Text → Text → Text
-joined zero between w = []
-joined (suc n) between w = w ++ copies n (between ++ w)
-
-abbrev pub alternatives : ℕ → Text
-alternatives n = bytes "self::scan[" ++ (joined n (bytes " or ") (bytes "self::scan") ++ bytes "]\n")
-
-abbrev pub steps : ℕ → Text
-steps n = bytes "self::scan[" ++ (joined n (bytes "/") (bytes "self::scan") ++ bytes "]\n")
-
-abbrev pub modelNames : ℕ → Text
-modelNames n = bytes "<!ELEMENT a (" ++ (joined n (bytes "|") (bytes "a") ++ bytes ")>")
-
 -- ---- tables: a chain of so many rows of an element that holds itself, and one text row at its end
 abbrev pub from : ℕ → ℕ → List ℕ
 from k zero = []
@@ -83,37 +70,30 @@ textOf number next size =
 
 pub cases : List Case
 cases =
-    case (bundleRead schemaN (step 31)) taken
-    ∷ case (bundleRead schemaN (step 32)) (turnedBack 8 37)
-    ∷ case (journalRead schemaN (tag 31)) taken
-    ∷ case (journalRead schemaN (tag 32)) (turnedBack 11 1)
-    ∷ case (schemaRead schemaN) taken
-    -- 64 and 65 names in a model: the 65th stands after `<!ELEMENT a (` and 64 of two bytes
-    ∷ case (schemaRead (modelNames 64)) taken
-    ∷ case (schemaRead (modelNames 65)) (turnedBack 5 141)
+    case (bundleRead schemaN (step 31)) (says taken)
+    ∷ case (bundleRead schemaN (step 32)) (says (turnedBack 8 37))
+    ∷ case (journalRead schemaN (tag 31)) (says taken)
+    ∷ case (journalRead schemaN (tag 32)) (says (turnedBack 11 1))
+    ∷ case (schemaRead schemaN) (says taken)
     -- 8 and 9 paths, of 512 bytes: 4,104 bytes with their line feeds, and one more
-    ∷ case (bundleRead schemaN (copies 8 path512)) taken
-    ∷ case (bundleRead schemaN (copies 8 path512 ++ bytes "s")) (turnedBack 2 0)
-    ∷ case (bundleRead schemaN (step 31 ++ path513)) (turnedBack 9 38)
-    ∷ case (bundleRead schemaS (copies 8 (bytes "self::scan\n"))) taken
-    ∷ case (bundleRead schemaS (copies 9 (bytes "self::scan\n"))) (turnedBack 9 88)
-    ∷ case (bundleRead schemaS (alternatives 4)) taken
-    ∷ case (bundleRead schemaS (bytes "self::scan\n" ++ alternatives 5)) (turnedBack 9 11)
-    ∷ case (bundleRead schemaS (steps 4)) taken
-    ∷ case (bundleRead schemaS (bytes "self::scan\n" ++ steps 5)) (turnedBack 9 11)
+    ∷ case (bundleRead schemaN (copies 8 path512)) (says taken)
+    ∷ case (bundleRead schemaN (copies 8 path512 ++ bytes "s")) (says (turnedBack 2 0))
+    ∷ case (bundleRead schemaN (step 31 ++ path513)) (says (turnedBack 9 38))
+    ∷ case (bundleRead schemaS (copies 8 (bytes "self::scan\n"))) (says taken)
+    ∷ case (bundleRead schemaS (copies 9 (bytes "self::scan\n"))) (says (turnedBack 9 88))
     -- "depth is at most 64": elements only
-    ∷ case (tableLent schemaAT (chain 63) 64 []) taken
-    ∷ case (tableLent schemaAT (chain 64) 65 []) (turnedBack 1 0)
-    ∷ case (tableLent schemaAT (chainToText 63) 65 (bytes "x")) taken
-    ∷ case (tableLent schemaAT (chainToText 64) 66 (bytes "x")) (turnedBack 1 0)
+    ∷ case (tableLent schemaAT (chain 63) 64 []) (says taken)
+    ∷ case (tableLent schemaAT (chain 64) 65 []) (says (turnedBack 1 0))
+    ∷ case (tableLent schemaAT (chainToText 63) 65 (bytes "x")) (says taken)
+    ∷ case (tableLent schemaAT (chainToText 64) 66 (bytes "x")) (says (turnedBack 1 0))
     -- "a text row has length 1 to 4,096"; "later numbers rise, to 65,534 at most"
-    ∷ case (tableLent schemaAT (textOf 1 2 4096) 3 (copies 4097 (bytes "x"))) taken
-    ∷ case (tableLent schemaAT (textOf 1 2 4097) 3 (copies 4097 (bytes "x"))) (turnedBack 1 0)
-    ∷ case (tableLent schemaAT (textOf 1 2 1) 3 (bytes "x")) taken
-    ∷ case (tableLent schemaAT (textOf 1 2 0) 3 (bytes "x")) (turnedBack 1 0)
-    ∷ case (tableLent schemaAT (textOf 65533 65534 1) 3 (bytes "x")) taken
-    ∷ case (tableLent schemaAT (textOf 65534 65535 1) 3 (bytes "x")) (turnedBack 1 0)
-    ∷ case (tableLent schemaAT (textOf 2 2 1) 3 (bytes "x")) (turnedBack 1 0)
+    ∷ case (tableLent schemaAT (textOf 1 2 4096) 3 (copies 4097 (bytes "x"))) (says taken)
+    ∷ case (tableLent schemaAT (textOf 1 2 4097) 3 (copies 4097 (bytes "x"))) (says (turnedBack 1 0))
+    ∷ case (tableLent schemaAT (textOf 1 2 1) 3 (bytes "x")) (says taken)
+    ∷ case (tableLent schemaAT (textOf 1 2 0) 3 (bytes "x")) (says (turnedBack 1 0))
+    ∷ case (tableLent schemaAT (textOf 65533 65534 1) 3 (bytes "x")) (says taken)
+    ∷ case (tableLent schemaAT (textOf 65534 65535 1) 3 (bytes "x")) (says (turnedBack 1 0))
+    ∷ case (tableLent schemaAT (textOf 2 2 1) 3 (bytes "x")) (says (turnedBack 1 0))
     -- a host's journal of 40,000 bytes, more than `listing` reads
     ∷ case (makes (bytes "<!ELEMENT a EMPTY>") (bytes "self::a\n") (copies 39996 (bytes " ") ++ bytes "<a/>") (lend 1 13 0))
     (leaves (exit 0 0 ((1 ∷ 13 ∷ 0 ∷ []) ∷ zeros 1 ∷ zeros 1 ∷ zeros 1 ∷ zeros 1 ∷ zeros 1 ∷ extractOfRoot ∷ [] ∷ [])))

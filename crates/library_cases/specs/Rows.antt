@@ -8,8 +8,9 @@ use Rattle.library_spec.specs.Cases.Edges.{twoTexts}
 use Rattle.library_spec.specs.Cases.Exits.{exit}
 use Rattle.library_spec.specs.Cases.Hosts.{misfit}
 use Rattle.library_spec.specs.Cases.Opened.{computing}
-use Rattle.library_spec.specs.Cases.Questions.{Text, writesExtract, selectsNodes, givesText, givesChain, readsJournalRows, cutsRows, selectsRows, Answer, leaves, answerTo, Case, case, AllHold, zeros, answered}
+use Rattle.library_spec.specs.Cases.Questions.{Text, writesExtract, selectsNodes, givesText, givesChain, readsJournalRows, cutsRows, selectsRows, Answer, leaves, answerTo, Case, AllHold, zeros}
 use Rattle.table_spec.specs.Rows.{Cells}
+use Rattle.text_spec.specs.Cases.{case, answered}
 use Rattle.text_spec.specs.Lists.{bytes}
 
 -- Of a text beside a table only the ranges of text rows are judged: here 32 bytes that fail 3, then `12`.

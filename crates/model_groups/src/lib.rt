@@ -4,15 +4,15 @@ ghost use Prim.Native.Nat.{_≤_, _<_};
 ghost use lib.ListN.{length};
 ghost use Rattle.particles.specs.Readings.{ReadsParticle, ReadsGroup};
 ghost use Rattle.text_spec.specs.Limits.{maxGroups};
-use limits::MAX_GROUPS;
 use models::Ends;
 use particles::Follow;
 use particles::Part;
 use particles::PartOutcome;
 use particles::UNPARTED;
+use schema::Schema;
 
 // The groups around the innermost one that may be open.
-const DEEPEST: usize = MAX_GROUPS - 1;
+const DEEPEST: usize = Schema::MAX_GROUPS - 1;
 
 // Past a particle that is due at `at`, after blanks, in a group with `depth` groups around it. The places of its names are noted from n on.
 fn particle(

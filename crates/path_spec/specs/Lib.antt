@@ -4,3 +4,4 @@ pub mod Machine
 pub mod Reading
 pub mod Conditions
 pub mod Selection
+pub mod Cases

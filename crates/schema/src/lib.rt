@@ -18,8 +18,6 @@ impl Schema {
 
     pub const MAX_GROUPS: usize = limits::MAX_GROUPS;
 
-    pub const MAX_NAME_BYTES: usize = limits::MAX_NAME_BYTES;
-
     // The schema that the reader hands back on refusal.
     pub fn empty() -> Self
         ensures { λ r. ⌜ r ≡ emptySchema ⌝ }

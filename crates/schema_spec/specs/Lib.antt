@@ -9,3 +9,4 @@ pub mod Types
 pub mod Reading
 pub mod Conditions
 pub mod Records
+pub mod Cases

@@ -14,7 +14,7 @@ use Rattle.path_spec.specs.Paths.{LocationPath}
 use Rattle.row_struct_laws.specs.Answers.{cellCount}
 use Rattle.row_structs.specs.Structs.{Laid}
 use Rattle.schema_spec.specs.Schemas.{Schema}
-use Rattle.selected_answers.specs.Answers.{AnsweredAs, RefusedBy, refused-as}
+use Rattle.selected_answers.specs.Answers.{AnsweredSelections, RefusedBy, refused-as}
 use Rattle.selected_answers.specs.declared.Selected.{Selected}
 use Rattle.table_spec.specs.Columns.{Columns, allOfSize, sizesOf}
 use Rattle.table_spec.specs.Rows.{Row, Cells}
@@ -65,20 +65,20 @@ module _ (schema bundle : TextRecord) (place : ℕ) (lent : List ℕ) (items cou
   module _ (rows : List Cells) (r : Selected) (x y : List ℕ) where
     -- as many as a table can have, laid in columns
     pub selected-laid : (c : Columns) (count : ℕ) → sizesOf c ≡ allOfSize cellCount → length rows ≡ count → Laid rows c → count ≤ maxNodes
-        → AnsweredAs (nodesSelected schema bundle place (record { columns = c; count = count }) lent items counts) items counts r x y
-        → AnsweredAs (nodesSelectedRows schema bundle place rows lent items counts) items counts r x y
+        → AnsweredSelections (nodesSelected schema bundle place (record { columns = c; count = count }) lent items counts) items counts r x y
+        → AnsweredSelections (nodesSelectedRows schema bundle place rows lent items counts) items counts r x y
     unfolding nodesSelectedRows
     selected-laid c count sizes long laid few =
         let t : LentTable = record { columns = c; count = count } in
-        subst (λ (o : Outcome Selections). AnsweredAs o items counts r x y)
+        subst (λ (o : Outcome Selections). AnsweredSelections o items counts r x y)
         (called t ∙ same-by (schemaHeld schema) (λ s. tableBeside s lent t) (λ s. tableBeside s lent (tableOfCells rows)) (λ s. same-beside c count sizes rows long laid few s lent)
         ∙ sym (called (tableOfCells rows)))
 
     -- more than a table can have
-    pub selected-many : maxNodes < length rows → RefusedBy 1 0 items counts r x y → AnsweredAs (nodesSelectedRows schema bundle place rows lent items counts) items counts r x y
+    pub selected-many : maxNodes < length rows → RefusedBy 1 0 items counts r x y → AnsweredSelections (nodesSelectedRows schema bundle place rows lent items counts) items counts r x y
     unfolding nodesSelectedRows
     selected-many many h =
-        subst (λ (o : Outcome Selections). AnsweredAs o items counts r x y)
+        subst (λ (o : Outcome Selections). AnsweredSelections o items counts r x y)
         (sym (called (tableOfCells rows) ∙ same-by (schemaHeld schema) (λ s. tableBeside s lent (tableOfCells rows)) (λ s. none) (λ s. none-beside s (tableOfCells rows) many lent)
         ∙ none-by (schemaHeld schema)))
         (refused-as (at badRecord 0) items counts r x y h)

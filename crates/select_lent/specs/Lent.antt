@@ -18,7 +18,7 @@ use Rattle.schema_spec.specs.Schemas.{Schema}
 use Rattle.schema_spec.specs.Types.{typesOf}
 use Rattle.select.specs.Paths.{Columns}
 use Rattle.select_table.specs.Tables.{RowsIn, rowsSelected, paths-count}
-use Rattle.selected_answers.specs.Answers.{AnsweredAs, RefusedBy, refused-as}
+use Rattle.selected_answers.specs.Answers.{AnsweredSelections, RefusedBy, refused-as}
 use Rattle.selected_answers.specs.declared.Selected.{Selected}
 use Rattle.table_passes.specs.Codes.{HeldWords}
 use Rattle.table_rows.specs.Lent.{Lent}
@@ -88,7 +88,7 @@ module _ (words lent : List ℕ) (t : LentTable) (b : Bool) (tests : TestsTable 
 
 module _ (s : Schema) (c : CompiledPaths) (place : ℕ) (t : LentTable) (lent : List ℕ) (i n : ℕ) (r : Selected) (items counts : List ℕ) where
   abbrev Answer : Type 0
-  Answer = AnsweredAs (lentSelected s (pathsIn c) place t lent i n) i n r items counts
+  Answer = AnsweredSelections (lentSelected s (pathsIn c) place t lent i n) i n r items counts
 
   rest : Option (List Row) → Outcome Selections
   rest o = handed o (λ rows. rowsSelected lent rows place (pathsIn c) i n)
@@ -105,7 +105,7 @@ module _ (s : Schema) (c : CompiledPaths) (place : ℕ) (t : LentTable) (lent : 
 
     pub no-table : (words : List ℕ) (b : Bool) → TestsTable words lent t b → HeldWords (typesOf s) words → b ≡ false → RefusedBy 1 0 i n r items counts → Answer
     unfolding isBeside rest
-    no-table words b tests held e h = subst (λ (o : Outcome Selections). AnsweredAs o i n r items counts) (sym (ap rest gone) ∙ placed) (refused-as (at badRecord 0) i n r items counts h)
+    no-table words b tests held e h = subst (λ (o : Outcome Selections). AnsweredSelections o i n r items counts) (sym (ap rest gone) ∙ placed) (refused-as (at badRecord 0) i n r items counts h)
       where
         by : (o : Option (List Row)) → not (isNone o) ≡ false → o ≡ none
         by none q = refl
@@ -116,7 +116,7 @@ module _ (s : Schema) (c : CompiledPaths) (place : ℕ) (t : LentTable) (lent : 
 
     pub table-selected : (words : List ℕ) (b : Bool) → TestsTable words lent t b → HeldWords (typesOf s) words → b ≡ true
         → ((rows : List Row) → RowsIn (typesOf s) rows (take (t .count) (t .columns .numbers)) (take (t .count) (t .columns .names)) (take (t .count) (t .columns .parents))
-        → AnsweredAs (rowsSelected lent rows place (pathsIn c) i n) i n r items counts) → Answer
+        → AnsweredSelections (rowsSelected lent rows place (pathsIn c) i n) i n r items counts) → Answer
     unfolding rest
     table-selected words b tests held e h =
         let f = found-rows s lent t (sym (tests s held) ∙ e) in
@@ -128,4 +128,4 @@ module _ (s : Schema) (c : CompiledPaths) (place : ℕ) (t : LentTable) (lent : 
           named = sym (lent-codes t (f .rows) (f .are));
           parented = sym (lent-parents t (f .rows) (f .are));
         } in
-        subst (λ (o : Outcome Selections). AnsweredAs o i n r items counts) (sym (ap rest (f .found)) ∙ placed) (h (f .rows) w)
+        subst (λ (o : Outcome Selections). AnsweredSelections o i n r items counts) (sym (ap rest (f .found)) ∙ placed) (h (f .rows) w)

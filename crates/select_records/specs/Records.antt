@@ -25,7 +25,7 @@ use Rattle.schema_spec.specs.Records.{schemaIn}
 use Rattle.schema_spec.specs.Schemas.{Schema}
 use Rattle.schema_spec.specs.Types.{typesOf}
 use Rattle.select_lent.specs.Lent.{SomeSchema, lentSelected}
-use Rattle.selected_answers.specs.Answers.{AnsweredAs, RefusedBy, refused-as}
+use Rattle.selected_answers.specs.Answers.{AnsweredSelections, RefusedBy, refused-as}
 use Rattle.selected_answers.specs.declared.Selected.{Selected}
 use Rattle.table_passes.specs.Codes.{HeldWords}
 use Rattle.text_spec.specs.Calls.{tested, handed}
@@ -70,7 +70,7 @@ module _ (cells : List ℕ) (size : ℕ) (bundle : List ℕ) (n : ℕ) where
 
 module _ (cells : List ℕ) (size : ℕ) (bundle : List ℕ) (n place : ℕ) (t : LentTable) (lent : List ℕ) (i k : ℕ) (r : Selected) (items counts : List ℕ) where
   abbrev pub Answer : Type 0
-  Answer = AnsweredAs (nodesSelected (recordWith cells size) (recordWith bundle n) place t lent i k) i k r items counts
+  Answer = AnsweredSelections (nodesSelected (recordWith cells size) (recordWith bundle n) place t lent i k) i k r items counts
 
   -- the outcome by the test of both
   by-test : nodesSelected (recordWith cells size) (recordWith bundle n) place t lent i k
@@ -82,7 +82,7 @@ module _ (cells : List ℕ) (size : ℕ) (bundle : List ℕ) (n place : ℕ) (t 
   not-records e h = rw (by-test, e) (refused-as (at badRecord 0) i k r items counts h)
 
   pub both-records : bothPass cells size bundle n ≡ true
-      → AnsweredAs (lentSelected (schema cells size bundle n) (paths cells size bundle n) place t lent i k) i k r items counts → Answer
+      → AnsweredSelections (lentSelected (schema cells size bundle n) (paths cells size bundle n) place t lent i k) i k r items counts → Answer
   both-records e h = rw (by-test, e) h
 
 -- ---- the texts, compiled
@@ -94,7 +94,7 @@ module _ (text : List ℕ) (t : CompiledSchema) (made : CompiledOf text (schemaI
   some-schema = record { schema = schemaIn text; held = schema-words }
 
   pub texts-selected : (bundle : List ℕ) (j : Judged) → JudgedUnder (namesAt text t) bundle j → (place : ℕ) (table : LentTable) (lent : List ℕ) (i k : ℕ) (r : Selected) (items counts : List ℕ)
-      → ((s : Schema) → HeldWords (typesOf s) words → AnsweredAs (lentSelected s (pathsIn (j .paths)) place table lent i k) i k r items counts)
-      → AnsweredAs (lentSelected (schemaIn text) (resultOr [] (readBundle (schemaIn text) bundle)) place table lent i k) i k r items counts
+      → ((s : Schema) → HeldWords (typesOf s) words → AnsweredSelections (lentSelected s (pathsIn (j .paths)) place table lent i k) i k r items counts)
+      → AnsweredSelections (lentSelected (schemaIn text) (resultOr [] (readBundle (schemaIn text) bundle)) place table lent i k) i k r items counts
   texts-selected bundle j under place table lent i k r items counts h =
       rw (← under .under (schemaIn text) (made .named) .compiled) (h (schemaIn text) schema-words)

@@ -6,7 +6,7 @@ ghost use Rattle.path_spec.specs.Reading.{readBundle};
 ghost use Rattle.schema_records.specs.Records.{recordWith};
 ghost use Rattle.schema_spec.specs.Records.{schemaIn};
 ghost use Rattle.select_lent.specs.Lent.{lentSelected};
-ghost use Rattle.selected_answers.specs.Answers.{AnsweredAs};
+ghost use Rattle.selected_answers.specs.Answers.{AnsweredSelections};
 ghost use Rattle.tables.specs.Handed.{lentTable};
 ghost use Rattle.text_spec.specs.Refusals.{resultOr};
 use bundle_reader::Bundle;
@@ -34,7 +34,7 @@ fn select_texts(
     items: &mut [u16],
     counts: &mut [u32],
 ) -> Selected
-    ensures { λ r. ⌜ AnsweredAs (lentSelected (schemaIn (now (schema .entry))) (resultOr [] (readBundle (schemaIn (now (schema .entry))) (now (text .entry)))) place (lentTable (now (numbers .entry)) (now (codes .entry)) (now (parents .entry)) (now (starts .entry)) (now (lengths .entry)) count) (now (lent .entry)) (length (now (items .entry))) (length (now (counts .entry)))) (length (now (items .entry))) (length (now (counts .entry))) r (now (items .exit)) (now (counts .exit)) ⌝ }
+    ensures { λ r. ⌜ AnsweredSelections (lentSelected (schemaIn (now (schema .entry))) (resultOr [] (readBundle (schemaIn (now (schema .entry))) (now (text .entry)))) place (lentTable (now (numbers .entry)) (now (codes .entry)) (now (parents .entry)) (now (starts .entry)) (now (lengths .entry)) count) (now (lent .entry)) (length (now (items .entry))) (length (now (counts .entry)))) (length (now (items .entry))) (length (now (counts .entry))) r (now (items .exit)) (now (counts .exit)) ⌝ }
 {
     let compiled = compiled_schema::compile(schema);
     let elements = compiled.count;
@@ -78,7 +78,7 @@ pub fn select_nodes(
     items: &mut [u16],
     counts: &mut [u32],
 ) -> Selected
-    ensures { λ r. ⌜ AnsweredAs (nodesSelected (recordWith (schema .bytes) (schema .len)) (recordWith (bundle .bytes) (bundle .len)) place (lentTable (now (numbers .entry)) (now (codes .entry)) (now (parents .entry)) (now (starts .entry)) (now (lengths .entry)) count) (now (lent .entry)) (length (now (items .entry))) (length (now (counts .entry)))) (length (now (items .entry))) (length (now (counts .entry))) r (now (items .exit)) (now (counts .exit)) ⌝ }
+    ensures { λ r. ⌜ AnsweredSelections (nodesSelected (recordWith (schema .bytes) (schema .len)) (recordWith (bundle .bytes) (bundle .len)) place (lentTable (now (numbers .entry)) (now (codes .entry)) (now (parents .entry)) (now (starts .entry)) (now (lengths .entry)) count) (now (lent .entry)) (length (now (items .entry))) (length (now (counts .entry)))) (length (now (items .entry))) (length (now (counts .entry))) r (now (items .exit)) (now (counts .exit)) ⌝ }
 {
     if !is_bundle_record(schema, bundle) {
         return bad_record(items, counts);

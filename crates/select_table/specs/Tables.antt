@@ -17,7 +17,7 @@ use Rattle.path_spec.specs.Selection.{selectRows}
 use Rattle.schema_spec.specs.Types.{Types}
 use Rattle.select.specs.Paths.{pathsFrom, Columns}
 use Rattle.select_paths.specs.Joined.{AllPass, itemsOf, countsOf, JoinedAs}
-use Rattle.selected_answers.specs.Answers.{inCells, AnsweredAs, Written}
+use Rattle.selected_answers.specs.Answers.{inCells, AnsweredSelections, Written}
 use Rattle.selected_answers.specs.declared.Selected.{Selected}
 use Rattle.selected_rows.specs.Asked.{asked-range, all-asked, items-selected, counts-of-selected}
 use Rattle.selected_rows.specs.Selected.{codesOf, NamesCoded}
@@ -124,8 +124,8 @@ module _ (c : CompiledPaths) (place : ℕ) (numbers codes ps : List ℕ) where
           }
 
       pub asked-answered : (r : Selected) (x y : List ℕ)
-          → ((a : Selections) → Written a n (end - first) items counts → AnsweredAs (inCells (length items) (length counts) a) (length items) (length counts) r x y)
-          → AnsweredAs (rowsSelected text rows place (pathsIn c) (length items₀) (length counts₀)) (length items₀) (length counts₀) r x y
+          → ((a : Selections) → Written a n (end - first) items counts → AnsweredSelections (inCells (length items) (length counts) a) (length items) (length counts) r x y)
+          → AnsweredSelections (rowsSelected text rows place (pathsIn c) (length items₀) (length counts₀)) (length items₀) (length counts₀) r x y
       asked-answered r x y h =
           let items-long : length items ≡ length items₀ = ap length (j .items-are) ∙ padded-length (length items₀) _ in
           let counts-long : length counts ≡ length counts₀ = ap length (j .counts-are) ∙ padded-length (length counts₀) _ in

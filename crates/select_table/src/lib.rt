@@ -6,7 +6,7 @@ ghost use Rattle.compiled_paths.specs.Paths.{Shaped, lentPaths, pathsIn};
 ghost use Rattle.schema_spec.specs.Types.{Types};
 ghost use Rattle.select.specs.Paths.{Columns};
 ghost use Rattle.select_table.specs.Tables.{AskedPass, RowsIn, rowsSelected};
-ghost use Rattle.selected_answers.specs.Answers.{AnsweredAs};
+ghost use Rattle.selected_answers.specs.Answers.{AnsweredSelections};
 ghost use Rattle.table_spec.specs.Rows.{Row};
 use asked_paths::first_asked;
 use asked_paths::past_asked;
@@ -37,7 +37,7 @@ fn select_into<'a>(
     next: &mut [u8],
 ) -> Selected
     requires { ⌜ AskedPass (lentPaths (now axes) (now tests) (now conditions) (now paths) count) place (now numbers) (now codes) (now parents) (now marks) (now held) (now steps) (now next) ⌝ }
-    ensures { λ r. ⌜ ((s : Types) (text : List ℕ) (rows : List Row) → RowsIn s rows (now (numbers .entry)) (now (codes .entry)) (now (parents .entry)) → AnsweredAs (rowsSelected text rows place (pathsIn (lentPaths (now (axes .entry)) (now (tests .entry)) (now (conditions .entry)) (now (paths .entry)) count)) (length (now (items .entry))) (length (now (counts .entry)))) (length (now (items .entry))) (length (now (counts .entry))) r (now (items .exit)) (now (counts .exit))) ⌝ }
+    ensures { λ r. ⌜ ((s : Types) (text : List ℕ) (rows : List Row) → RowsIn s rows (now (numbers .entry)) (now (codes .entry)) (now (parents .entry)) → AnsweredSelections (rowsSelected text rows place (pathsIn (lentPaths (now (axes .entry)) (now (tests .entry)) (now (conditions .entry)) (now (paths .entry)) count)) (length (now (items .entry))) (length (now (counts .entry)))) (length (now (items .entry))) (length (now (counts .entry))) r (now (items .exit)) (now (counts .exit))) ⌝ }
 {
     let first = first_asked(place);
     let end = past_asked(place, count);
@@ -76,7 +76,7 @@ pub fn select_table<'a>(
     counts: &mut [u32],
 ) -> Selected
     requires { ⌜ Shaped (lentPaths (now axes) (now tests) (now conditions) (now paths) count) × (place ≤ count) × Columns (now numbers) (now codes) (now parents) ⌝ }
-    ensures { λ r. ⌜ ((s : Types) (text : List ℕ) (rows : List Row) → RowsIn s rows (now (numbers .entry)) (now (codes .entry)) (now (parents .entry)) → AnsweredAs (rowsSelected text rows place (pathsIn (lentPaths (now (axes .entry)) (now (tests .entry)) (now (conditions .entry)) (now (paths .entry)) count)) (length (now (items .entry))) (length (now (counts .entry)))) (length (now (items .entry))) (length (now (counts .entry))) r (now (items .exit)) (now (counts .exit))) ⌝ }
+    ensures { λ r. ⌜ ((s : Types) (text : List ℕ) (rows : List Row) → RowsIn s rows (now (numbers .entry)) (now (codes .entry)) (now (parents .entry)) → AnsweredSelections (rowsSelected text rows place (pathsIn (lentPaths (now (axes .entry)) (now (tests .entry)) (now (conditions .entry)) (now (paths .entry)) count)) (length (now (items .entry))) (length (now (counts .entry)))) (length (now (items .entry))) (length (now (counts .entry))) r (now (items .exit)) (now (counts .exit))) ⌝ }
 {
     let mut marks = [0u8; MAX_NODES];
     let mut held = [0u8; MAX_NODES];

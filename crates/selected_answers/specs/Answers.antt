@@ -23,7 +23,7 @@ abbrev pub inCells : ℕ → ℕ → Selections → Outcome Selections
 inCells items counts a = inRoom (tooSmall items (a .items) || tooSmall counts (a .counts)) a
 
 -- an outcome is answered so, in so many cells
-pub record AnsweredAs (o : Outcome Selections) (i n : ℕ) (r : Selected) (items counts : List ℕ) : Type 0 where
+pub record AnsweredSelections (o : Outcome Selections) (i n : ℕ) (r : Selected) (items counts : List ℕ) : Type 0 where
   pub answer : r ≡ selected o
   pub items-are : items ≡ cellsAfter i (λ a. a .items) o
   pub counts-are : counts ≡ cellsAfter n (λ a. a .counts) o
@@ -42,24 +42,24 @@ pub record Written (a : Selections) (n m : ℕ) (items counts : List ℕ) : Type
   pub counts-are : counts ≡ padded (length counts) (a .counts)
 
 -- ---- laws
-pub refused-as : (f : Refusal) (i n : ℕ) (r : Selected) (items counts : List ℕ) → RefusedBy (numberOf (f .reason)) (f .place) i n r items counts → AnsweredAs (refused f) i n r items counts
+pub refused-as : (f : Refusal) (i n : ℕ) (r : Selected) (items counts : List ℕ) → RefusedBy (numberOf (f .reason)) (f .place) i n r items counts → AnsweredSelections (refused f) i n r items counts
 refused-as f i n r items counts h = record { answer = h .answer; items-are = h .items-are; counts-are = h .counts-are }
 
 module _ (a : Selections) (n m : ℕ) (items counts : List ℕ) (w : Written a n m items counts) (r : Selected) where
   module _ (x y : List ℕ) (h : RefusedBy 18 0 (length items) (length counts) r x y) where
-    pub short-items : length items < n → AnsweredAs (inCells (length items) (length counts) a) (length items) (length counts) r x y
+    pub short-items : length items < n → AnsweredSelections (inCells (length items) (length counts) a) (length items) (length counts) r x y
     short-items l =
         let few = lt-ltb (length items) (length (a .items)) (omega (arith, w .items-long)) in
         rw few (refused-as (at tooFewCells 0) (length items) (length counts) r x y h)
 
-    pub short-counts : n ≤ length items → length counts < m → AnsweredAs (inCells (length items) (length counts) a) (length items) (length counts) r x y
+    pub short-counts : n ≤ length items → length counts < m → AnsweredSelections (inCells (length items) (length counts) a) (length items) (length counts) r x y
     short-counts k l =
         let enough = le-ltb (length items) (length (a .items)) (omega (arith, w .items-long)) in
         let few = lt-ltb (length counts) (length (a .counts)) (omega (arith, w .counts-long)) in
         rw (enough, few) (refused-as (at tooFewCells 0) (length items) (length counts) r x y h)
 
   pub all-answered : r ≡ record { number = 0; place = 0; items = n; counts = m } → n ≤ length items → m ≤ length counts
-      → AnsweredAs (inCells (length items) (length counts) a) (length items) (length counts) r items counts
+      → AnsweredSelections (inCells (length items) (length counts) a) (length items) (length counts) r items counts
   all-answered e k l =
       let items-fit = le-ltb (length items) (length (a .items)) (omega (arith, w .items-long)) in
       let counts-fit = le-ltb (length counts) (length (a .counts)) (omega (arith, w .counts-long)) in

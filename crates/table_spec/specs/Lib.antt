@@ -3,3 +3,4 @@ pub mod Columns
 pub mod Nodes
 pub mod Tables
 pub mod Conditions
+pub mod Cases

@@ -7,3 +7,4 @@ pub mod Cells
 pub mod Machines
 pub mod Scans
 pub mod Calls
+pub mod Cases

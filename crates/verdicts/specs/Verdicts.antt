@@ -1,7 +1,9 @@
 -- An outcome as three numbers: those of the refusal and its place, or 0 and 0, and how many cells are answered.
 use mathlib.Core.List.{List}
+use mathlib.Core.Path.{_≡_}
 use Prim.Native.Nat.{ℕ}
 use lib.ListN.{length}
+use Rattle.text_spec.specs.Calls.{cellsAfter}
 use Rattle.text_spec.specs.Refusals.{Outcome, accepted, refused, numberOf}
 use Rattle.verdicts.specs.declared.Verdict.{Verdict}
 
@@ -14,3 +16,8 @@ answeredOf size = record { number = 0; place = 0; size = size }
 abbrev pub verdict : {A : Type 0} → Outcome (List A) → Verdict
 verdict (accepted xs) = answeredOf (length xs)
 verdict (refused f) = refusedBy (numberOf (f .reason)) (f .place)
+
+-- bytes answered in so many lent cells: the verdict, and the cells at exit
+pub record AnsweredBytes (o : Outcome (List ℕ)) (size : ℕ) (r : Verdict) (out : List ℕ) : Type 0 where
+  pub answer : r ≡ verdict o
+  pub cells : out ≡ cellsAfter size (λ w. w) o

@@ -8,6 +8,8 @@ mod journal;
 mod listing;
 mod needed;
 mod random;
+#[allow(dead_code)]
+mod records;
 mod schema;
 mod table;
 mod text;
@@ -45,6 +47,10 @@ fn outcome(does: &str, texts: &[Vec<u8>], limits: &[usize]) -> Result<Vec<u8>, R
     if does == "listing" {
         return listing::listing(&texts[0], &texts[1], &texts[2]);
     }
+    if does == "schema-record" {
+        let record = records::Record { bytes: texts[0].clone(), len: limits[0] };
+        return Ok(format!("ok {}\n", records::schema_held(&record)?.names.len()).into_bytes());
+    }
     let s = read_schema(&texts[0])?;
     let journal_limit = limits.first().copied().unwrap_or(MAX_JOURNAL);
     match does {
@@ -76,7 +82,17 @@ fn outcome(does: &str, texts: &[Vec<u8>], limits: &[usize]) -> Result<Vec<u8>, R
             let bytes = extract::write_extract(&kept, &texts[2]);
             Ok([format!("ok {} {}\n", kept.len(), bytes.len()).into_bytes(), bytes].concat())
         }
-        "read-extract" => Ok(lines(&extract::read_extract(&s, &texts[1])?, |r| vec![r.number, r.name.code() as usize, r.parent, r.size])),
+        "read-extract" => {
+            let lent = limits.get(1..).unwrap_or_default();
+            if lent.iter().any(|&n| n != lent[0]) {
+                return Err(refused(1, 0));
+            }
+            let rows = extract::read_extract(&s, &texts[1])?;
+            if lent.first().is_some_and(|&n| n < rows.len()) {
+                return Err(refused(18, 0));
+            }
+            Ok(lines(&rows, |r| vec![r.number, r.name.code() as usize, r.parent, r.size]))
+        }
         "table" => match table(&texts[1]) {
             Some(rows) if table::well_formed(&s, &rows) && table::texts_inside(&rows, &texts[2]) => Ok(format!("ok {}\n", rows.len()).into_bytes()),
             _ => Err(refused(1, 0)),

@@ -52,7 +52,7 @@ fn normal(s: &Schema) -> Vec<u8> {
     (0..s.names.len()).flat_map(|e| format!("<!ELEMENT {} {}>", String::from_utf8_lossy(&s.names[e]), content(e)).into_bytes()).collect()
 }
 
-fn schema_held(record: &Record) -> Result<Schema, Refused> {
+pub fn schema_held(record: &Record) -> Result<Schema, Refused> {
     let text = record.text()?;
     read_schema(text).ok().filter(|s| normal(s) == text).ok_or(NO_RECORD)
 }

@@ -10,6 +10,7 @@ use Rattle.schema_spec.specs.Names.{element}
 use Rattle.schema_spec.specs.Records.{schemaIn}
 use Rattle.schema_spec.specs.Types.{Types, typesOf}
 use Rattle.table_spec.specs.Rows.{Row, elementRow, textRow}
+use Rattle.text_spec.specs.Cases.{Case, case, AllHold, answered}
 use Rattle.text_spec.specs.Lists.{bytes}
 use Rattle.text_spec.specs.Refusals.{Outcome, accepted, refused, at, badLength, badExtract}
 
@@ -103,14 +104,6 @@ unfolding computing
 rows-in-extract = refl
 
 -- ---- reading
--- an extract and what reading it under S gives
-pub record Case : Type 0 where
-  pub extract : List ℕ
-  pub outcome : Outcome (List Row)
-
-abbrev pub case : List ℕ → Outcome (List Row) → Case
-case extract outcome = record { extract = extract; outcome = outcome }
-
 -- the root, and a plate of the number given in two bytes
 abbrev pub rootAndPlate : ℕ → ℕ → List ℕ
 rootAndPlate high low =
@@ -118,7 +111,8 @@ rootAndPlate high low =
     ∷ 0x01 ∷ 0x00 ∷ 0x05 ∷ high ∷ low ∷ 0x00 ∷ 0x00 ∷ 0x01
     ∷ 0x03 ∷ 0x00 ∷ 0x02 ∷ 0x00 ∷ 0x02 ∷ []
 
-pub cases : List Case
+-- an extract, and what reading it under S gives
+pub cases : List (Case (List ℕ) (Outcome (List Row)))
 cases =
     -- a text starts at its bytes in the extract
     case extractJ (accepted (rowsJ 47))
@@ -133,6 +127,6 @@ cases =
     ∷ case (rootAndPlate 0xFF 0xFF) (refused (at badExtract 0))
     ∷ []
 
-pub all-hold : map (λ c. readExtract typesS (c .extract)) cases ≡ map (λ c. c .outcome) cases
+pub all-hold : AllHold (readExtract typesS) cases
 unfolding computing cases
-all-hold = refl
+all-hold = answered cases

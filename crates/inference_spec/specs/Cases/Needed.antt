@@ -11,6 +11,7 @@ use Rattle.path_spec.specs.Reading.{readBundle}
 use Rattle.schema_spec.specs.Names.{Names, element, has}
 use Rattle.schema_spec.specs.Records.{schemaIn}
 use Rattle.schema_spec.specs.Types.{typesOf}
+use Rattle.text_spec.specs.Cases.{Case, case, AllHold, answered}
 use Rattle.text_spec.specs.Lists.{bytes, anyOf}
 use Rattle.text_spec.specs.Refusals.{resultOr}
 
@@ -22,14 +23,13 @@ pathsRead schema bundle = resultOr [] (readBundle (schemaIn schema) bundle)
 abbrev pub namesNeeded : List ℕ → List ℕ → Names
 namesNeeded schema bundle = needed (typesOf (schemaIn schema)) (pathsRead schema bundle)
 
--- a schema, a bundle, and what it needs
-pub record Case : Type 0 where
+-- a schema text and a bundle, and the elements that it needs
+pub record Question : Type 0 where
   pub schema : List ℕ
   pub bundle : List ℕ
-  pub names : Names
 
-abbrev pub case : List ℕ → List ℕ → List ℕ → Case
-case schema bundle elements = record { schema = schema; bundle = bundle; names = map element elements }
+abbrev pub asked : List ℕ → List ℕ → List ℕ → Case Question Names
+asked schema bundle elements = case (record { schema = schema; bundle = bundle }) (map element elements)
 
 -- the elements, in the order in which each of these schemas declares them
 abbrev pub r : ℕ
@@ -74,10 +74,10 @@ abbrev pub filtered : List ℕ
 filtered = bytes "descendant::node()[child::q]/child::a/ancestor::z\n"
 
 -- the elements that a path needs
-abbrev pub needs : List ℕ → String → List ℕ → Case
-needs s p elements = case s (bytes p) elements
+abbrev pub needs : List ℕ → String → List ℕ → Case Question Names
+needs s p elements = asked s (bytes p) elements
 
-pub cases : List Case
+pub cases : List (Case Question Names)
 cases =
     -- ancestor and ancestor-or-self: "those in K above T"
     needs schemaX "child::x/child::a/ancestor::node()\n" (r ∷ x ∷ a ∷ [])
@@ -143,14 +143,14 @@ cases =
     ∷ needs schemaX "child::node()[child::a/parent::node()]/child::q\n" (r ∷ x ∷ a ∷ q ∷ [])
     ∷ needs schemaOther "child::node()[child::node()]/child::q\n" (r ∷ x ∷ a ∷ q ∷ [])
     -- the last filter drops z, element 2
-    ∷ case schemaR filtered (0 ∷ 4 ∷ 5 ∷ 6 ∷ [])
+    ∷ asked schemaR filtered (0 ∷ 4 ∷ 5 ∷ 6 ∷ [])
     -- "A bundle's needed names are the union", after the last filter of each: z stays dropped beside m, element 1
-    ∷ case schemaR (filtered ++ bytes "child::m\n") (0 ∷ 1 ∷ 4 ∷ 5 ∷ 6 ∷ [])
+    ∷ asked schemaR (filtered ++ bytes "child::m\n") (0 ∷ 1 ∷ 4 ∷ 5 ∷ 6 ∷ [])
     ∷ []
 
-pub all-hold : map (λ c. namesNeeded (c .schema) (c .bundle)) cases ≡ map (λ c. c .names) cases
+pub all-hold : AllHold (λ q. namesNeeded (q .schema) (q .bundle)) cases
 unfolding computing cases
-all-hold = refl {a = map (λ c. c .names) cases}
+all-hold = answered cases
 
 -- before the last filter z is needed: it stands on a complete walk
 pub z-on-a-walk : anyOf (λ p. has (element 2) (neededBeforeFilter (typesOf (schemaIn schemaR)) p)) (pathsRead schemaR filtered) ≡ true

@@ -1,21 +1,13 @@
--- Cases at the edges of the refusals, of refusal 1 and of content models; each axis and each kind of condition on J; listings.
+-- Cases of refusal 1 on tables; each axis and each kind of condition on J; listings.
 use mathlib.Core.List.{List, [], _∷_, _++_}
 use Prim.Native.Nat.{ℕ}
 use Prim.Native.String.{String}
 use Rattle.extract_spec.specs.Cases.Tables.{schemaS, journalJ}
 use Rattle.library_spec.specs.Cases.Opened.{computing}
-use Rattle.library_spec.specs.Cases.Questions.{Text, schemaRead, bundleRead, journalRead, tableLent, nodes, printed, taken, turnedBack, theNumbers, theBytes, answerTo, Case, case, AllHold, copies, answered}
-use Rattle.library_spec.specs.Cases.Tried.{steps}
+use Rattle.library_spec.specs.Cases.Questions.{tableLent, nodes, printed, says, theNumbers, theBytes, answerTo, Case, AllHold}
 use Rattle.table_spec.specs.Columns.{Columns}
+use Rattle.text_spec.specs.Cases.{case, answered, taken, turnedBack}
 use Rattle.text_spec.specs.Lists.{bytes}
-
--- an element that may hold all three kinds of content
-abbrev pub schemaA : Text
-schemaA = bytes "<!ELEMENT a (a|b|t)*><!ELEMENT b EMPTY><!ELEMENT t (#PCDATA)>"
-
--- an element with a model of two empty ones
-abbrev pub modelOf : String → Text
-modelOf model = bytes "<!ELEMENT a " ++ (bytes model ++ bytes "><!ELEMENT b EMPTY><!ELEMENT c EMPTY>")
 
 -- the table of J, with a second text row under its focus or without
 abbrev pub tableJ : Columns
@@ -40,41 +32,9 @@ twoTexts =
 
 pub cases : List Case
 cases =
-    -- 4: inside a keyword, after a name of 31 bytes, at a mixed separator
-    case (schemaRead (bytes "<!ATTLIST a>")) (turnedBack 4 2)
-    ∷ case (schemaRead (bytes "<!ELEMENT a (" ++ (copies 32 (bytes "n") ++ bytes ")>"))) (turnedBack 4 44)
-    ∷ case (schemaRead (bytes "<!ELEMENT a (a|b,c)>x")) (turnedBack 4 16)
-    -- 8 before 9 before 10
-    ∷ case (bundleRead schemaS (bytes "self::zz\n" ++ (steps 17 ++ bytes "x"))) (turnedBack 8 196)
-    ∷ case (bundleRead schemaS (bytes "self::zz\n" ++ steps 17)) (turnedBack 9 9)
-    ∷ case (bundleRead schemaS (bytes "self::zz\n" ++ steps 16)) (turnedBack 10 6)
-    -- 11: the second `]` of three
-    ∷ case (journalRead schemaA (bytes "<a>]]]></a>")) (turnedBack 11 4)
-    -- 13: depth 65, though the end comes early
-    ∷ case (journalRead schemaA (copies 65 (bytes "<a>"))) (turnedBack 13 192)
-    ∷ case (journalRead schemaA (copies 64 (bytes "<a>"))) (turnedBack 12 192)
-    -- 14 before 15
-    ∷ case (journalRead schemaA (bytes "<a><b>x<c/></b></a>")) (turnedBack 14 7)
-    -- 15: an outer element before an inner one
-    ∷ case (journalRead schemaA (bytes "<a><b> </b>x</a>")) (turnedBack 15 0)
-    -- 16: a long text
-    ∷ case (journalRead schemaA (bytes "<a><t>" ++ (copies 4096 (bytes "x") ++ bytes "</t></a>"))) taken
-    ∷ case (journalRead schemaA (bytes "<a><t>" ++ (copies 4097 (bytes "x") ++ bytes "</t></a>"))) (turnedBack 16 6)
     -- 1: a second text row
-    ∷ case (tableLent schemaS tableJ 7 journalJ) taken
-    ∷ case (tableLent schemaS twoTexts 8 journalJ) (turnedBack 1 0)
-    -- 15: `?`, `+`, `|` and `,`, each on both sides
-    ∷ case (journalRead (modelOf "(b?)") (bytes "<a/>")) taken
-    ∷ case (journalRead (modelOf "(b?)") (bytes "<a><b/></a>")) taken
-    ∷ case (journalRead (modelOf "(b?)") (bytes "<a><b/><b/></a>")) (turnedBack 15 0)
-    ∷ case (journalRead (modelOf "(b+)") (bytes "<a><b/><b/></a>")) taken
-    ∷ case (journalRead (modelOf "(b+)") (bytes "<a/>")) (turnedBack 15 0)
-    ∷ case (journalRead (modelOf "(b*)") (bytes "<a/>")) taken
-    ∷ case (journalRead (modelOf "(b*)") (bytes "<a><b/><b/></a>")) taken
-    ∷ case (journalRead (modelOf "(b|c)") (bytes "<a><c/></a>")) taken
-    ∷ case (journalRead (modelOf "(b|c)") (bytes "<a><b/><c/></a>")) (turnedBack 15 0)
-    ∷ case (journalRead (modelOf "(b,c)") (bytes "<a><b/><c/></a>")) taken
-    ∷ case (journalRead (modelOf "(b,c)") (bytes "<a><c/><b/></a>")) (turnedBack 15 0)
+    case (tableLent schemaS tableJ 7 journalJ) (says taken)
+    ∷ case (tableLent schemaS twoTexts 8 journalJ) (says (turnedBack 1 0))
     ∷ []
 
 pub all-hold : AllHold cases

@@ -5,8 +5,9 @@ use Prim.Native.Nat.{ℕ}
 use Rattle.extract_spec.specs.Cases.Tables.{schemaS, journalJ, extractP, extractJ, extractOfRoot, noRows}
 use Rattle.library_spec.specs.Cases.Exits.{exit}
 use Rattle.library_spec.specs.Cases.Opened.{computing}
-use Rattle.library_spec.specs.Cases.Questions.{Text, makes, selects, Answer, leaves, answerTo, Case, case, AllHold, zeros, lend, answered}
+use Rattle.library_spec.specs.Cases.Questions.{Text, makes, selects, Answer, leaves, answerTo, Case, AllHold, zeros, lend}
 use Rattle.library_spec.specs.Hosts.{Lent}
+use Rattle.text_spec.specs.Cases.{case, answered}
 use Rattle.text_spec.specs.Lists.{bytes}
 
 -- Making. The fourth path of document 01: it needs scan, plate, tile and focus, and of J's rows 0, 1 and 6 are kept.

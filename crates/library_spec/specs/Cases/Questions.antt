@@ -1,7 +1,6 @@
 -- What a case asks of the definitions, and what they answer.
-use mathlib.Core.List.{List, [], _∷_, _++_, map}
-use mathlib.Core.Path.{_≡_, refl}
-use Prim.Native.Nat.{ℕ, zero, suc}
+use mathlib.Core.List.{List, [], _∷_, map}
+use Prim.Native.Nat.{ℕ}
 use Rattle.journal_spec.specs.Reading.{readJournal}
 use Rattle.path_spec.specs.Paths.{LocationPath}
 use Rattle.path_spec.specs.Reading.{readBundle}
@@ -21,8 +20,10 @@ use Rattle.schema_spec.specs.Types.{typesOf}
 use Rattle.table_spec.specs.Columns.{Columns, Sizes, allOfSize}
 use Rattle.table_spec.specs.Rows.{Row, Cells}
 use Rattle.text_spec.specs.Calls.{handed}
+use Rattle.text_spec.specs.Cases as cases
+use Rattle.text_spec.specs.Cases.{Judgement, judgementOf, copies}
 use Rattle.text_spec.specs.Limits.{maxJournalBytes}
-use Rattle.text_spec.specs.Refusals.{Outcome, accepted, refused, resultOr, numberOf}
+use Rattle.text_spec.specs.Refusals.{accepted, resultOr}
 
 abbrev pub Text : Type 0
 Text = List ℕ
@@ -62,27 +63,22 @@ pub data Question : Type 0 where
   selectsRows : TextRecord → TextRecord → ℕ → List Cells → Text → ℕ → ℕ → Question
 
 pub data Answer : Type 0 where
-  taken : Answer
-  -- the refusal's number and place
-  turnedBack : ℕ → ℕ → Answer
+  -- of a text, or of a table
+  says : Judgement → Answer
   theNames : Names → Answer
   theNumbers : List (List ℕ) → Answer
   theBytes : List ℕ → Answer
   -- what a call says and leaves
   leaves : Exit → Answer
 
-abbrev pub said : {A : Type 0} → Outcome A → Answer
-said (accepted a) = taken
-said (refused f) = turnedBack (numberOf (f .reason)) (f .place)
-
 abbrev pub rowsRead : Text → Text → List Row
 rowsRead schema journal = resultOr [] (readJournal maxJournalBytes (schemaIn schema) journal)
 
 unfoldable pub answerTo : Question → Answer
-answerTo (schemaRead s) = said (readSchema s)
-answerTo (bundleRead s b) = said (readBundle (schemaIn s) b)
-answerTo (journalRead s j) = said (readJournal maxJournalBytes (schemaIn s) j)
-answerTo (tableLent s c n lent) = said (handed (tableBeside (schemaIn s) lent (record { columns = c; count = n })) (λ rows. accepted rows))
+answerTo (schemaRead s) = says (judgementOf (readSchema s))
+answerTo (bundleRead s b) = says (judgementOf (readBundle (schemaIn s) b))
+answerTo (journalRead s j) = says (judgementOf (readJournal maxJournalBytes (schemaIn s) j))
+answerTo (tableLent s c n lent) = says (judgementOf (handed (tableBeside (schemaIn s) lent (record { columns = c; count = n })) (λ rows. accepted rows)))
 answerTo (names s b) = theNames (namesNeeded s b)
 answerTo (nodes s b j) = theNumbers (map (selectRows j (rowsRead s j)) (pathsRead s b))
 answerTo (rowsKept s b j) = theNumbers (map (λ r. r .number) (cut (needed (typesOf (schemaIn s)) (pathsRead s b)) (rowsRead s j)) ∷ [])
@@ -105,25 +101,11 @@ answerTo (readsJournalRows s j n) = leaves (structsExit n (calls.journalReadRows
 answerTo (cutsRows s rows word n) = leaves (structsExit n (calls.tableCutRows s rows word n))
 answerTo (selectsRows s b place rows lent items counts) = leaves (selectionsExit items counts (calls.nodesSelectedRows s b place rows lent items counts))
 
-pub record Case : Type 0 where
-  pub question : Question
-  pub answer : Answer
+abbrev pub Case : Type 0
+Case = cases.Case Question Answer
 
-abbrev pub case : Question → Answer → Case
-case q a = record { question = q; answer = a }
-
--- every case of a table holds
 abbrev pub AllHold : List Case → Type 0
-AllHold cases = map (λ c. answerTo (c .question)) cases ≡ map (λ c. c .answer) cases
-
--- shown by the answers: with `refl` alone each is computed twice
-pub answered : (cases : List Case) → map (λ c. c .answer) cases ≡ map (λ c. c .answer) cases
-answered cases = refl
-
--- so many copies of a text
-abbrev pub copies : ℕ → Text → Text
-copies zero w = []
-copies (suc n) w = w ++ copies n w
+AllHold cs = cases.AllHold answerTo cs
 
 abbrev pub zeros : ℕ → List ℕ
 zeros n = copies n (0 ∷ [])

@@ -5,9 +5,11 @@ use Prim.Native.Nat.{ℕ, zero, suc}
 use Prim.Native.String.{String}
 use Rattle.extract_spec.specs.Cases.Tables.{schemaS, journalJ}
 use Rattle.library_spec.specs.Cases.Opened.{computing}
-use Rattle.library_spec.specs.Cases.Questions.{Text, schemaRead, bundleRead, journalRead, names, nodes, rowsKept, extractMade, printed, taken, turnedBack, theNames, theNumbers, theBytes, answerTo, Case, case, AllHold, copies, answered}
+use Rattle.library_spec.specs.Cases.Questions.{Text, schemaRead, bundleRead, journalRead, names, nodes, rowsKept, extractMade, printed, says, theNames, theNumbers, theBytes, answerTo, Case, AllHold}
 use Rattle.library_spec.specs.Listing.{decimal}
+use Rattle.path_spec.specs.Cases.Bundles.{steps}
 use Rattle.schema_spec.specs.Names.{Names, element, text}
+use Rattle.text_spec.specs.Cases.{case, answered, taken, turnedBack, copies}
 use Rattle.text_spec.specs.Lists.{bytes}
 
 -- the elements of S
@@ -35,16 +37,12 @@ abbrev pub declarations : ℕ → ℕ → Text
 declarations zero k = []
 declarations (suc n) k = bytes "<!ELEMENT e" ++ (decimal k ++ (bytes " EMPTY>" ++ declarations n (suc k)))
 
--- a model in so many parentheses, a journal of such a depth, a path of so many steps, a name of so many bytes
+-- a model in so many parentheses, a journal of such a depth, a name of so many bytes
 abbrev pub parentheses : ℕ → Text
 parentheses n = bytes "<!ELEMENT a " ++ (copies n (bytes "(") ++ (bytes "a" ++ (copies n (bytes ")") ++ bytes ">")))
 
 abbrev pub depth : ℕ → Text
 depth n = copies n (bytes "<a>") ++ copies n (bytes "</a>")
-
-abbrev pub steps : ℕ → Text
-steps zero = bytes "\n"
-steps (suc n) = bytes "self::scan" ++ (copies n (bytes "/self::scan") ++ bytes "\n")
 
 abbrev pub nameOfBytes : ℕ → Text
 nameOfBytes n = bytes "<!ELEMENT " ++ (copies n (bytes "n") ++ bytes " EMPTY>")
@@ -66,16 +64,16 @@ cases =
     ∷ case (rowsKept schemaS (bytes "child::plate/child::tile[child::focus]\n") journalJ) (theNumbers ((0 ∷ 1 ∷ 6 ∷ []) ∷ []))
     ∷ case (printed schemaS (bytes "child::plate[child::well]/child::tile\ndescendant::tile/parent::well\n") journalJ)
     (theBytes (bytes "selected 2 kept 5 of 7\n2 2 /scan/plate/well\n6 1 /scan/plate/tile\n"))
-    ∷ case (schemaRead (declarations 32 0)) taken
-    ∷ case (schemaRead (declarations 33 0)) (turnedBack 5 630)
-    ∷ case (schemaRead (parentheses 8)) taken
-    ∷ case (schemaRead (parentheses 9)) (turnedBack 4 20)
-    ∷ case (journalRead (bytes "<!ELEMENT a (a*)>") (depth 64)) taken
-    ∷ case (journalRead (bytes "<!ELEMENT a (a*)>") (depth 65)) (turnedBack 13 192)
-    ∷ case (bundleRead schemaS (steps 16)) taken
-    ∷ case (bundleRead schemaS (steps 17)) (turnedBack 9 0)
-    ∷ case (schemaRead (nameOfBytes 31)) taken
-    ∷ case (schemaRead (nameOfBytes 32)) (turnedBack 4 41)
+    ∷ case (schemaRead (declarations 32 0)) (says taken)
+    ∷ case (schemaRead (declarations 33 0)) (says (turnedBack 5 630))
+    ∷ case (schemaRead (parentheses 8)) (says taken)
+    ∷ case (schemaRead (parentheses 9)) (says (turnedBack 4 20))
+    ∷ case (journalRead (bytes "<!ELEMENT a (a*)>") (depth 64)) (says taken)
+    ∷ case (journalRead (bytes "<!ELEMENT a (a*)>") (depth 65)) (says (turnedBack 13 192))
+    ∷ case (bundleRead schemaS (steps 16)) (says taken)
+    ∷ case (bundleRead schemaS (steps 17)) (says (turnedBack 9 0))
+    ∷ case (schemaRead (nameOfBytes 31)) (says taken)
+    ∷ case (schemaRead (nameOfBytes 32)) (says (turnedBack 4 41))
     ∷ [])))))))))
 
 pub all-hold : AllHold cases

@@ -57,7 +57,7 @@ use Rattle.select_columns.proofs.select_columns as e₂
 use Rattle.select_columns.proofs.select_columns.Met as e₂-thm
 use Rattle.select_columns.proofs.select_columns.Symbol as e₂-def
 use Rattle.select_columns.proofs.select_columns.Symbol.{name as #select-columns}
-use Rattle.selected_answers.specs.Answers.{AnsweredAs}
+use Rattle.selected_answers.specs.Answers.{AnsweredSelections}
 use Rattle.selected_answers.proofs.Selected as Answer
 use Rattle.selected_answers.proofs.Selected.Laws as Answer′
 use Rattle.selected_answers.specs.declared.Selected.{Selected}
@@ -137,7 +137,7 @@ module _ {M : Type 1} (𝓤 : URA M) (H : Heap 𝓤) (A : Atoms 𝓤) (W : Given
   -- what is to be answered for rows with these cells
   abbrev Answered : List Cells → Selected → List ℕ → List ℕ → Type 0
   Answered rows r items counts =
-      AnsweredAs (nodesSelectedRows (recordWith (sc .bytes) (sc .len)) (recordWith (bu .bytes) (bu .len)) p rows (x₁ .now) (length (x₂ .now)) (length (x₃ .now))) (length (x₂ .now)) (length (x₃ .now)) r items counts
+      AnsweredSelections (nodesSelectedRows (recordWith (sc .bytes) (sc .len)) (recordWith (bu .bytes) (bu .len)) p rows (x₁ .now) (length (x₂ .now)) (length (x₃ .now))) (length (x₂ .now)) (length (x₃ .now)) r items counts
 
   abbrev Found : RowColumns → Selected → List ℕ → List ℕ → Type 0
   Found c r items counts = (rows : List Cells) → length rows ≡ n → Laid rows (columnsIn c) → Answered rows r items counts

@@ -1,0 +1,19 @@
+"""The cases of tests/vectors, for the scripts that run them. Each script says how many it wants at the least, so that a file or a kind of case
+that is lost shows as a failure and not as a run without cases."""
+import glob
+import json
+import os
+import sys
+
+FOLDER = os.path.join(os.path.dirname(os.path.abspath(__file__)), "vectors")
+
+
+def cases(least, *kinds):
+    """The cases of these kinds, of all where none is named, in the order of their files."""
+    found = []
+    for path in sorted(glob.glob(os.path.join(FOLDER, "*.jsonl"))):
+        with open(path, encoding="utf-8") as lines:
+            found += [case for case in map(json.loads, lines) if not kinds or case["does"] in kinds]
+    if len(found) < least:
+        sys.exit("vectors: %d cases of %s, and at least %d are wanted" % (len(found), ", ".join(kinds) or "any kind", least))
+    return found
