@@ -7,7 +7,7 @@ use native.Mathlib.Omega.{arith}
 use lib.ListN.{length, getD, replicate, length-replicate}
 use Rattle.compiled_paths.specs.Columns.{axisNumber, plainIn}
 use Rattle.compiled_paths.specs.Sizes.{allSteps}
-use Rattle.marks.specs.Columns.{union}
+use Rattle.row_marks.specs.Columns.{union}
 use Rattle.marks.specs.Passes.{fill-marks}
 use Rattle.marks.specs.Selection.{inverseMarks, alternativeMarks}
 use Rattle.path_spec.specs.Paths.{WrittenAxis, along, PlainStep}

@@ -2,11 +2,11 @@
 ghost use mathlib.Core.Path.{_≡_};
 ghost use Rattle.alternative_passes.specs.Alternatives.{AlternativePass};
 ghost use Rattle.compiled_paths.specs.Columns.{plainIn};
-ghost use Rattle.marks.specs.Columns.{union};
+ghost use Rattle.row_marks.specs.Columns.{union};
 ghost use Rattle.marks.specs.Selection.{alternativeMarks};
 ghost use Rattle.step_passes.specs.Tests.{namesIn};
-use axis_passes::MARKED;
-use axis_passes::fill;
+use row_marks::MARKED;
+use row_marks::fill;
 use compiled_paths::STEPS;
 use compiled_paths::axis_number;
 use mark_sets::unite;

@@ -1,35 +1,9 @@
-// Columns of marks, a mark for each row of a table: filled, copied, and one pass for each axis down.
+// One pass over columns of marks for each axis down.
 ghost use mathlib.Core.Path.{_≡_};
-ghost use lib.ListN.{length, replicate};
 ghost use Rattle.marks.specs.Parents.{imageMarks};
 ghost use Rattle.marks.specs.Passes.{AxisPass};
 ghost use Rattle.path_spec.specs.Paths.{child, descendant, descendantOrSelf};
-
-pub const UNMARKED: u8 = 0;
-
-pub const MARKED: u8 = 1;
-
-// Every cell gets the same byte.
-pub fn fill(out: &mut [u8], byte: u8)
-    ensures { λ _. ⌜ now (out .exit) ≡ replicate (length (now (out .entry))) byte ⌝ }
-{
-    let mut r = 0;
-    while r < out.len() {
-        out[r] = byte;
-        r += 1;
-    }
-}
-
-pub fn copy(from: &[u8], out: &mut [u8])
-    requires { ⌜ length (now from) ≡ length (now out) ⌝ }
-    ensures { λ _. ⌜ now (out .exit) ≡ now (from .entry) ⌝ }
-{
-    let mut r = 0;
-    while r < out.len() {
-        out[r] = from[r];
-        r += 1;
-    }
-}
+use row_marks::UNMARKED;
 
 pub fn children(parents: &[u16], from: &[u8], out: &mut [u8])
     requires { ⌜ AxisPass (now parents) (now from) (now out) ⌝ }

@@ -3,11 +3,11 @@ use mathlib.Core.Bool.{Bool, true, false, cond, _&&_, _||_}
 use mathlib.Core.List.{List, [], _∷_, _++_, List·Memᴰ as In, List·Memᴰ·append-cases as append-cases, Memᴰ·append-left as append-left, Memᴰ·append-right as append-right}
 use mathlib.Core.Logic.{⊎-elim}
 use mathlib.Core.Path.{_≡_, refl, sym, ap, ap₂, _∙_}
-use Prim.Native.Nat.{ℕ, _+_, _-_}
+use Prim.Native.Nat.{ℕ}
 use borrow.Author.Tests.{ne-eqb}
 use lib.Dec.{eqb}
 use Rattle.names.specs.SetLaws.{has-filter, has-setOf, setOf-in}
-use Rattle.names.specs.Sets.{member, setOf}
+use Rattle.names.specs.Sets.{member, setOf, setIn}
 use Rattle.names.specs.declared.NameSet.{NameSet}
 use Rattle.path_spec.specs.Paths.{Axis, self, child, descendant, descendantOrSelf, parent, ancestor, ancestorOrSelf, Step}
 use Rattle.inference_spec.specs.Needed.{linked, between, complete, need}
@@ -17,11 +17,9 @@ use Rattle.schema_spec.specs.Names.{Name, Names, sameName, has, within, namesOf
 use Rattle.schema_spec.specs.Schemas.{Schema}
 use Rattle.schema_spec.specs.Types.{Types, holds, typesOf, isBelow}
 use Rattle.text_laws.specs.Lists.{filter-cong, memberless}
-use Rattle.text_laws.specs.Tests.{or-left, or-right, or-cases, true-of, failed}
+use Rattle.text_laws.specs.Tests.{or-left, or-right, or-cases, true-of, failed, same-test}
 use Rattle.text_spec.specs.Lists.{anyOf, filterBy, gather}
 use Rattle.compiled_paths.specs.Columns.{axisOf}
-use Rattle.type_steps.specs.Relations.{setIn}
-use Rattle.text_laws.specs.Tests.{same-test}
 use Rattle.back_steps.specs.Needs.{RelatedTo, leading, StepNeeds, NeedsOf}
 use Rattle.back_steps.specs.declared.Needs.{Needs}
 

@@ -1,14 +1,14 @@
 // One step back: the names of a type from which walks go on to the last step, and what these walks need.
 ghost use mathlib.Core.List.{_++_};
 ghost use mathlib.Core.Path.{_≡_};
-ghost use Prim.Native.Nat.{_+_};
-ghost use Rattle.inference_spec.specs.Needed.{between, complete, need};
+ghost use Rattle.inference_spec.specs.Needed.{between, complete};
 ghost use Rattle.inference_spec.specs.Types.{allBelow, allAbove, unionOf};
 ghost use Rattle.schema_spec.specs.Names.{Names, namesOf, within};
 ghost use Rattle.schema_spec.specs.Schemas.{Schema};
 ghost use Rattle.schema_spec.specs.Types.{typesOf};
 ghost use Rattle.compiled_paths.specs.Columns.{axisOf};
-ghost use Rattle.type_steps.specs.Relations.{RelationsOf, setIn};
+ghost use Rattle.type_steps.specs.Relations.{RelationsOf};
+ghost use Rattle.names.specs.Sets.{setIn};
 ghost use Rattle.back_steps.specs.Needs.{RelatedTo, leading, StepNeeds};
 use compiled_paths::ANCESTOR;
 use compiled_paths::ANCESTOR_OR_SELF;

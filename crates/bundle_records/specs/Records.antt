@@ -4,21 +4,27 @@ use mathlib.Core.Bool.{Bool, true, false, cond, _&&_}
 use mathlib.Core.List.{List}
 use mathlib.Core.Option.{none, some}
 use mathlib.Core.Path.{_≡_, refl, sym, ap, ap₂, _∙_}
-use Prim.Native.Nat.{ℕ}
+use Prim.Native.Nat.{ℕ, _≤_}
+use lib.Dec.{leb, leb→le}
 use lib.ListN.{take}
 use Rattle.bundle.specs.Judging.{sized}
 use Rattle.bundle_reader.specs.Records.{outcomeOf, ReadAs, passesBundleRecord}
 use Rattle.bundle_reader.specs.declared.BundleRead.{BundleRead}
 use Rattle.path_spec.specs.Paths.{LocationPath}
-use Rattle.path_spec.specs.Reading.{readBundle}
+use Rattle.path_spec.specs.Reading.{readBundle, isBundleRecord}
 use Rattle.library_spec.specs.Calls.{recordAfter, bundleRead}
-use Rattle.library_spec.specs.Records.{TextRecord, recordOf, passesSchema, passesBundle, schemaHeld}
+use Rattle.library_spec.specs.Records.{passesSchema, passesBundle, schemaHeld}
+use Rattle.text_spec.specs.Records.{TextRecord, recordOf}
 use Rattle.schema_reader.specs.Records.{passesRecord}
+use Rattle.schema_reader.specs.Sizes.{record-low}
 use Rattle.schema_records.specs.Records.{recordWith, refusalIn}
 use Rattle.schema_spec.specs.Records.{schemaIn, recordBy}
 use Rattle.schema_spec.specs.Schemas.{Schema}
 use Rattle.text_spec.specs.Calls.{tested, handed}
-use Rattle.text_spec.specs.Limits.{maxBundleBytes}
+use Rattle.text_laws.specs.Tests.{and-cases, passed, true-of}
+use Rattle.text_spec.specs.Cells.{padded}
+use Rattle.text_spec.specs.Limits.{maxSchemaBytes, maxBundleBytes}
+use Rattle.text_spec.specs.Lists.{sameBytes}
 use Rattle.text_spec.specs.Refusals.{Outcome, accepted, refused, andThen}
 
 module _ (cells : List ℕ) (size : ℕ) (text : List ℕ) where
@@ -73,3 +79,14 @@ pub passes-both : (cells : List ℕ) (size : ℕ) (bundle : List ℕ) (n : ℕ)
     ≡ (passesSchema (recordWith cells size) && passesBundle (schemaIn (take size cells)) (recordWith bundle n))
 unfolding passesSchema passesBundle
 passes-both cells size bundle n = refl
+
+-- Where both records pass, each text lies within its cells.
+module _ (cells : List ℕ) (size : ℕ) (bundle : List ℕ) (n : ℕ) (both : (passesRecord cells size && passesBundleRecord (schemaIn (take size cells)) bundle n) ≡ true) where
+  pub schema-size : size ≤ maxSchemaBytes
+  schema-size = record-low cells size (true-of (passesRecord cells size) (and-cases (passesRecord cells size) (passesBundleRecord (schemaIn (take size cells)) bundle n) (passed both) .0))
+
+  pub bundle-size : n ≤ maxBundleBytes
+  bundle-size =
+      leb→le n maxBundleBytes
+      (and-cases (leb n maxBundleBytes) (sameBytes bundle (padded maxBundleBytes (take n bundle)))
+      (and-cases (leb n maxBundleBytes && sameBytes bundle (padded maxBundleBytes (take n bundle))) (isBundleRecord (schemaIn (take size cells)) (take n bundle)) (and-cases (passesRecord cells size) (passesBundleRecord (schemaIn (take size cells)) bundle n) (passed both) .1) .0) .0)

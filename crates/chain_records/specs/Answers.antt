@@ -8,7 +8,8 @@ use lib.ListN.{take}
 use Rattle.handed_chains.specs.Answers.{chainHeld}
 use Rattle.held_tables.specs.Calls.{record-refused, record-held}
 use Rattle.library_spec.specs.Calls.{rowChain}
-use Rattle.library_spec.specs.Records.{TextRecord, LentTable, textIn, passesSchema}
+use Rattle.library_spec.specs.Records.{LentTable, passesSchema}
+use Rattle.text_spec.specs.Records.{TextRecord, textIn}
 use Rattle.schema_laws.specs.Records.{record-accepted}
 use Rattle.schema_reader.specs.Records.{passesRecord}
 use Rattle.schema_spec.specs.Reading.{readSchema}

@@ -6,9 +6,8 @@ use Prim.Native.Nat.{ℕ, suc, _+_, _-_, _<_, _≤_}
 use native.Mathlib.Omega.{arith}
 use borrow.Author.Tests.{eq-eqb, ne-eqb, ltb-true, ltb-false}
 use lib.Dec.{T, eqb, leb, ltb, eqb→eq, eqb-refl, leb→le, le→leb}
-use lib.ListN.{getD}
 use Rattle.compiled_paths.specs.Columns.{testOf}
-use Rattle.marks.specs.Columns.{mark, marks}
+use Rattle.row_marks.specs.Columns.{mark, marks}
 use Rattle.marks.specs.Passes.{rangeMarks}
 use Rattle.marks.specs.Selection.{testMarks}
 use Rattle.path_spec.specs.Paths.{NodeTest, named, anyNode, anyText}
@@ -23,10 +22,6 @@ nameWithCode c = cond (ltb c maxDeclarations) (element c) (text (c - maxDeclarat
 
 abbrev pub namesIn : List ℕ → List Name
 namesIn codes = map nameWithCode codes
-
--- a column of codes that names can have
-abbrev pub Coded : List ℕ → Type 0
-Coded codes = (r : ℕ) → getD codes r 0 < maxDeclarations + maxDeclarations
 
 -- the codes that pass a test are those of a range
 abbrev pub InRange : ℕ → ℕ → NodeTest ℕ → Type 0

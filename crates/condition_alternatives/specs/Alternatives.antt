@@ -8,7 +8,7 @@ use lib.ListN.{length, replicate}
 use Rattle.alternative_passes.specs.Alternatives.{AlternativePass}
 use Rattle.compiled_paths.specs.Columns.{firstSize, first-size-fits, first-size-some, plainIn, alternativesIn, alternatives-none, alternatives-next as first-alternative}
 use Rattle.compiled_paths.specs.Sizes.{allSteps}
-use Rattle.marks.specs.Columns.{union}
+use Rattle.row_marks.specs.Columns.{union}
 use Rattle.marks.specs.Passes.{fill-marks}
 use Rattle.marks.specs.Selection.{noMarks, alternativeMarks, alternativesMarks}
 use Rattle.step_passes.specs.Steps.{TableColumns, MarkColumn, marks-column, union-column}

@@ -6,8 +6,8 @@ ghost use Rattle.compiled_paths.specs.Columns.{alternativesIn};
 ghost use Rattle.marks.specs.Selection.{noMarks, alternativesMarks};
 ghost use Rattle.step_passes.specs.Tests.{namesIn};
 use alternative_passes::alternative;
-use axis_passes::UNMARKED;
-use axis_passes::fill;
+use row_marks::UNMARKED;
+use row_marks::fill;
 use compiled_paths::STEPS;
 use compiled_paths::first_size;
 

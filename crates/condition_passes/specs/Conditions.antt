@@ -7,7 +7,7 @@ use native.Mathlib.Omega.{arith}
 use lib.ListN.{length}
 use Rattle.condition_alternatives.specs.Alternatives.{ConditionPass}
 use Rattle.compiled_paths.specs.Columns.{alternativesIn, conditionIn, condition-none, condition-some}
-use Rattle.marks.specs.Columns.{isMarked, union, intersection, marks-cong, marks-marked, no-row-marked}
+use Rattle.row_marks.specs.Columns.{isMarked, union, intersection, marks-cong, marks-marked, no-row-marked}
 use Rattle.marks.specs.Passes.{SameLength}
 use Rattle.marks.specs.Roots.{intersection-none}
 use Rattle.marks.specs.Selection.{noMarks, allMarks, alternativeMarks, alternativesMarks, conditionMarks}

@@ -2,7 +2,7 @@
 ghost use mathlib.Core.Path.{_≡_};
 ghost use Rattle.compiled_paths.specs.Columns.{conditionIn};
 ghost use Rattle.condition_passes.specs.Conditions.{KeepPass};
-ghost use Rattle.marks.specs.Columns.{intersection};
+ghost use Rattle.row_marks.specs.Columns.{intersection};
 ghost use Rattle.marks.specs.Selection.{conditionMarks};
 ghost use Rattle.step_passes.specs.Tests.{namesIn};
 use compiled_paths::STEPS;

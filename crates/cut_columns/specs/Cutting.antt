@@ -10,7 +10,8 @@ use Rattle.cut_laws.specs.Answers.{AnsweredTable}
 use Rattle.extract_spec.specs.Cut.{kept, renumbered, cutFrom, cut, cutToWord}
 use Rattle.laid_tables.specs.Tables.{same-held, none-held, held-few}
 use Rattle.library_spec.specs.Calls.{inColumns, columnsAfter, tableCut, tableCutRows, tableOfCells}
-use Rattle.library_spec.specs.Records.{TextRecord, LentTable, schemaHeld, tableHeld}
+use Rattle.library_spec.specs.Records.{LentTable, schemaHeld, tableHeld}
+use Rattle.text_spec.specs.Records.{TextRecord}
 use Rattle.row_struct_laws.specs.Answers.{Fitting, cellCount, partSizes, front, equal-sizes, room-fitting, room-same, part-sizes, in-front}
 use Rattle.row_structs.specs.Structs.{cellOf, Laid, AnsweredFor}
 use Rattle.row_structs.specs.declared.TableAnswer.{TableAnswer}

@@ -2,13 +2,13 @@
 use mathlib.Core.Bool.{Bool, true, false, cond}
 use mathlib.Core.List.{List, [], _∷_, map}
 use mathlib.Core.Path.{_≡_, refl, sym, ap, ap₂, subst, _∙_}
-use Prim.Native.Nat.{ℕ, _+_, _-_, _≤_}
+use Prim.Native.Nat.{ℕ, _+_, _-_}
 use native.Mathlib.Omega.{arith}
 use borrow.Author.Tests.{lt-ltb, le-ltb}
 use lib.Dec.{T, ltb}
 use lib.ListN.{length, getD, take, length-map}
 use lib.Seq.{length-take-le}
-use Rattle.cut_rows.specs.Rows.{table, OfLength, keptColumns}
+use Rattle.cut_rows.specs.Rows.{table, OfLength}
 use Rattle.extract_spec.specs.Cut.{cut, cutToWord}
 use Rattle.held_tables.specs.Calls.{Holds, table-holds, record-refused, record-held, table-refused, table-held}
 use Rattle.held_tables.specs.Rows.{firstCells, held-columns}
@@ -16,11 +16,12 @@ use Rattle.kept_rows.specs.Joined.{rank}
 use Rattle.kept_rows.specs.Kept.{inSet, keptMarks}
 use Rattle.lent_tables.specs.Selecting.{lent-coded, lent-cells, lent-columns}
 use Rattle.library_spec.specs.Calls.{inColumns, columnsAfter, tableCut}
-use Rattle.library_spec.specs.Records.{TextRecord, LentTable, textIn, tableHeld, passesSchema}
-use Rattle.marks.specs.Columns.{picked}
+use Rattle.library_spec.specs.Records.{LentTable, tableHeld, passesSchema}
+use Rattle.text_spec.specs.Records.{TextRecord, textIn}
+use Rattle.row_marks.specs.Columns.{picked}
 use Rattle.name_codes.specs.Codes.{nameOfCode}
 use Rattle.names.specs.SetLaws.{in-setOf, setOf-in}
-use Rattle.names.specs.Sets.{member, setOf}
+use Rattle.names.specs.Sets.{member, setIn}
 use Rattle.names.specs.declared.NameSet.{NameSet}
 use Rattle.row_columns.specs.ColumnLaws.{equal-columns}
 use Rattle.schema_laws.specs.Names.{has-in, in-has}
@@ -28,7 +29,7 @@ use Rattle.schema_spec.specs.Names.{Name, Names, element, text, codeOf, has, na
 use Rattle.schema_spec.specs.Records.{schemaIn}
 use Rattle.schema_spec.specs.Schemas.{Schema}
 use Rattle.schema_spec.specs.Types.{Types, typesOf}
-use Rattle.selected_rows.specs.Selected.{HasCode, NamesCoded}
+use Rattle.table_laws.specs.Codes.{HasCode, NamesCoded}
 use Rattle.table_cutting.specs.Cut.{answered, paddedColumns, TableColumns, CutAs}
 use Rattle.table_extracts.specs.Cut.{columnsIn, PassesFor, renumberedBy, parents-first, cut-picked, marks-size, cut-columns}
 use Rattle.table_extracts.specs.Picked.{picked-length}
@@ -41,7 +42,7 @@ use Rattle.text_laws.specs.Tests.{passed, same-test}
 use Rattle.text_spec.specs.Calls.{tested, handed}
 use Rattle.text_spec.specs.Limits.{maxDeclarations}
 use Rattle.text_spec.specs.Refusals.{Outcome, accepted, refused, at, badRecord, tooFewCells}
-use Rattle.type_steps.specs.Relations.{Known, setIn}
+use Rattle.type_steps.specs.Relations.{Known}
 use Rattle.verdicts.specs.Verdicts.{refusedBy, answeredOf, verdict}
 use Rattle.verdicts.specs.declared.Verdict.{Verdict}
 

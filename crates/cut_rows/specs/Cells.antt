@@ -1,16 +1,16 @@
 -- The cells of the kept rows in a lent column: one after the other, and then zeros.
-use mathlib.Core.Bool.{Bool, true, false, cond}
+use mathlib.Core.Bool.{true, false}
 use mathlib.Core.List.{List, [], _∷_, _++_}
-use mathlib.Core.Path.{_≡_, refl, sym, ap, ap₂, subst, _∙_}
-use Prim.Native.Nat.{ℕ, zero, suc, _+_, _-_, _<_, _≤_}
+use mathlib.Core.Path.{_≡_, refl, sym, ap, subst, _∙_}
+use Prim.Native.Nat.{ℕ, _+_, _≤_}
 use native.Mathlib.Omega.{arith}
-use lib.ListN.{length, getD, set, take, drop, List·getD-append, List·getD-eq-default}
-use lib.Seq.{ext-getD, sets, sets-eq, length-sets}
+use lib.ListN.{length, getD, set, drop, List·getD-append}
+use lib.Seq.{sets, sets-eq, length-sets}
 use Rattle.kept_rows.specs.Joined.{joined, rank, joined-none, joined-marked, joined-unmarked, joined-length}
-use Rattle.marks.specs.Columns.{isMarked}
+use Rattle.row_marks.specs.Columns.{isMarked}
 pub use Rattle.lent_cells.specs.Cells.{all-cleared}
 use Rattle.lent_cells.specs.Cells.{Cleared}
-use Rattle.row_numbers.specs.Cells.{appended-cleared}
+use Rattle.lent_cells.specs.Appended.{appended-cleared}
 use Rattle.text_laws.specs.Cells.{sets-append}
 use Rattle.text_spec.specs.Cells.{padded}
 

@@ -9,7 +9,7 @@ use lib.Dec.{eqb}
 use lib.ListN.{length, getD, set}
 use Rattle.kept_rows.specs.Joined.{rank, total-marked, total-rises}
 use Rattle.kept_rows.specs.Positions.{positionOf, positions, positions-at, position-marked, position-unmarked, marked-position}
-use Rattle.marks.specs.Columns.{isMarked, marks, marks-length}
+use Rattle.row_marks.specs.Columns.{isMarked, marks, marks-length}
 use Rattle.cut_rows.specs.Cells.{cellsBefore, Noted, noted-none, noted-unmarked, noted-marked, noted-length}
 use Rattle.table_spec.specs.Columns.{Columns}
 use Rattle.text_laws.specs.Tests.{cond-yes, cond-no}

@@ -6,11 +6,11 @@ use mathlib.Core.Path.{_≡_, refl, sym, ap, _∙_}
 use Prim.Native.Nat.{ℕ}
 use Rattle.extract_spec.specs.Reading.{readExtract}
 use Rattle.extract_table.specs.Tables.{outcome, TableRead}
-use Rattle.extract_table.specs.Words.{ReadWords, read-words}
+use Rattle.extract_table.specs.Words.{read-words}
 use Rattle.library_spec.specs.Calls.{inColumns, columnsAfter, extractRead}
-use Rattle.library_spec.specs.Records.{TextRecord, textIn, schemaHeld, passesSchema}
+use Rattle.library_spec.specs.Records.{schemaHeld, passesSchema}
+use Rattle.text_spec.specs.Records.{TextRecord, textIn}
 use Rattle.schema_spec.specs.Records.{schemaIn}
-use Rattle.schema_spec.specs.Schemas.{Schema}
 use Rattle.schema_spec.specs.Types.{typesOf}
 use Rattle.table_passes.specs.Codes.{HeldWords}
 use Rattle.table_spec.specs.Columns.{Columns, Sizes, sizesOf, equalSizes, columnsOf}

@@ -1,8 +1,8 @@
 -- How many bytes and rows the marked rows of a table have: measured before they are written.
 use mathlib.Core.Bool.{Bool, true, false, cond}
 use mathlib.Core.List.{List}
-use mathlib.Core.Path.{_≡_, refl, sym, ap, subst, _∙_}
-use Prim.Native.Nat.{ℕ, suc, _+_, _*_, _<_, _≤_}
+use mathlib.Core.Path.{_≡_, sym, ap, _∙_}
+use Prim.Native.Nat.{ℕ, _+_, _*_, _<_, _≤_}
 use native.Mathlib.Numerals.{add-one}
 use native.Mathlib.Omega.{arith}
 use borrow.Author.Tests.{eq-eqb, ne-eqb}
@@ -11,7 +11,7 @@ use lib.ListN.{length, getD}
 use Rattle.extract_rows.specs.Rows.{fieldSize}
 use Rattle.kept_rows.specs.Joined.{total, rank, total-none}
 use Rattle.kept_rows.specs.Positions.{rank-bound}
-use Rattle.marks.specs.Columns.{mark, isMarked, OnlyMarks, mark-at}
+use Rattle.row_marks.specs.Columns.{mark, isMarked, OnlyMarks, mark-at}
 use Rattle.text_spec.specs.Limits.{maxDeclarations, maxNodes}
 
 abbrev pub sizesIn : List ℕ → List ℕ → ℕ → ℕ

@@ -1,6 +1,6 @@
 -- The fields of the marked rows of a table in columns, with the text beside it.
 use mathlib.Core.Bool.{Bool, true, false, cond}
-use mathlib.Core.List.{List, [], _∷_, _++_}
+use mathlib.Core.List.{List, [], _++_}
 use mathlib.Core.Path.{_≡_, refl, sym, ap, subst, _∙_}
 use Prim.Native.Nat.{ℕ, zero, suc, _+_, _*_, _-_, _<_, _≤_}
 use mir.Syntax.{w64}
@@ -13,8 +13,8 @@ use lib.ListN.{length, getD, take, drop, length-append, length-drop}
 use lib.Seq.{length-take-le}
 use Rattle.cut_rows.specs.Rows.{OfLength}
 use Rattle.extract_fields.specs.Fields.{stored, stored-after, stored-length, stored-nothing}
-use Rattle.kept_rows.specs.Joined.{joined, joined-none, joined-length}
-use Rattle.marks.specs.Columns.{isMarked}
+use Rattle.kept_rows.specs.Joined.{joined, joined-none}
+use Rattle.row_marks.specs.Columns.{isMarked}
 use Rattle.name_codes.specs.Codes.{nameOfCode}
 use Rattle.name_codes.specs.Laws.{element-of-code, text-of-code}
 use Rattle.extract_spec.specs.Fields.{rowField}

@@ -5,7 +5,7 @@ ghost use Rattle.cut_rows.specs.Rows.{table};
 ghost use Rattle.extract_rows.specs.Measure.{markedSize, MeasurePass, MeasuredAs};
 ghost use Rattle.extract_rows.specs.Rows.{fieldAt, markedField, fieldSize, RowPass, StoredAt, FieldsPass};
 ghost use Rattle.kept_rows.specs.Joined.{joined};
-use axis_passes::MARKED;
+use row_marks::MARKED;
 use extract_fields::ELEMENT_BYTES;
 use extract_fields::TEXT_HEAD_BYTES;
 use extract_fields::put_element;

@@ -12,8 +12,9 @@ use Rattle.extract_spec.specs.Fields.{writeExtract}
 use Rattle.extract_writing.specs.Extract.{extractIn}
 use Rattle.lent_extracts.specs.Answers.{inBytes}
 use Rattle.library_spec.specs.Calls.{extractWritten}
-use Rattle.library_spec.specs.Records.{TextRecord, LentTable, textIn, schemaHeld, rowsLent, tableBeside, passesSchema}
-use Rattle.marks.specs.Columns.{marks}
+use Rattle.library_spec.specs.Records.{LentTable, schemaHeld, rowsLent, tableBeside, passesSchema}
+use Rattle.text_spec.specs.Records.{TextRecord, textIn}
+use Rattle.row_marks.specs.Columns.{marks}
 use Rattle.schema_spec.specs.Records.{schemaIn}
 use Rattle.schema_spec.specs.Schemas.{Schema}
 use Rattle.schema_spec.specs.Types.{typesOf}

@@ -1,29 +1,27 @@
 -- The extract of the marked rows of a table in columns: their fields, taken in the whole table, and then the count.
-use mathlib.Core.Bool.{Bool, true, false, cond}
-use mathlib.Core.List.{List, [], _∷_, _++_}
-use mathlib.Core.Path.{_≡_, refl, sym, ap, ap₂, subst, _∙_}
-use Prim.Native.Nat.{ℕ, zero, suc, _+_, _*_, _<_, _≤_}
+use mathlib.Core.Bool.{Bool, true, false}
+use mathlib.Core.List.{List, [], _++_}
+use mathlib.Core.Path.{_≡_, refl, sym, ap, subst, _∙_}
+use Prim.Native.Nat.{ℕ, _+_, _*_, _<_, _≤_}
 use native.Mathlib.Omega.{arith}
 use borrow.Author.Tests.{lt-ltb, le-ltb, ltb-true, ltb-false}
 use lib.Dec.{ltb}
 use lib.ListN.{length, getD, take, replicate, length-append, length-replicate, getD-replicate}
-use lib.Seq.{ext-getD, length-take-le, getD-take}
+use lib.Seq.{length-take-le, getD-take}
 use Rattle.cut_rows.specs.Cells.{sets-cleared}
-use Rattle.cut_rows.specs.Rows.{OfLength}
 use Rattle.extract_fields.specs.Fields.{stored, stored-after, stored-length}
 use Rattle.extract_rows.specs.Measure.{MeasurePass, MeasuredAs}
 use Rattle.extract_rows.specs.Rows.{fieldAt, size-element, size-text, field-length, sizeAt, TextColumns, StoredAt, FieldsPass}
-use Rattle.kept_rows.specs.Joined.{joined, rank, total, joined-length, total-bound}
+use Rattle.kept_rows.specs.Joined.{joined, rank, joined-length, total-bound}
 use Rattle.kept_rows.specs.Kept.{isKept, keptMarks, KeptColumns, KeptPass}
-use Rattle.kept_rows.specs.Positions.{rank-bound}
-use Rattle.marks.specs.Columns.{OnlyMarks, marks, only-marks, marks-length, marks-by-rows}
+use Rattle.row_marks.specs.Columns.{OnlyMarks, marks, only-marks, marks-length, marks-by-rows}
 use Rattle.extract_spec.specs.Fields.{countTag, twoBytes, field}
-use Rattle.row_numbers.specs.Cells.{Cleared}
+use Rattle.lent_cells.specs.Cells.{Cleared}
 use Rattle.table_spec.specs.Columns.{Columns}
 use Rattle.text_spec.specs.Calls.{inRoom, cellsAfter}
-use Rattle.text_spec.specs.Cells.{padded, tooSmall}
-use Rattle.text_spec.specs.Limits.{maxDeclarations, maxNodes}
-use Rattle.text_spec.specs.Refusals.{Outcome, accepted, refused, at, tooFewCells}
+use Rattle.text_spec.specs.Cells.{tooSmall}
+use Rattle.text_spec.specs.Limits.{maxDeclarations}
+use Rattle.text_spec.specs.Refusals.{at}
 
 -- ---- definitions
 unfoldable pub extractIn : List ℕ → Columns → List ℕ → List ℕ

@@ -1,18 +1,18 @@
 -- The first path that marks a row, by its place counted from 1.
 use mathlib.Core.Bool.{Bool, true, false, cond}
 use mathlib.Core.List.{List, [], _∷_, map}
-use mathlib.Core.Path.{_≡_, refl, sym, ap, subst, _∙_}
+use mathlib.Core.Path.{_≡_, refl, sym, ap, _∙_}
 use Prim.Native.Nat.{ℕ, zero, suc, _+_, _-_, _≤_, _<_}
 use native.Mathlib.Numerals.{add-one}
 use native.Mathlib.Omega.{arith}
 use borrow.Author.Tests.{eq-eqb, ne-eqb}
-use lib.Dec.{eqb, eqb→eq}
+use lib.Dec.{eqb}
 use lib.ListN.{length, getD, set, drop, replicate, length-set, length-replicate, getD-replicate}
 use lib.Seq.{drop-cons, drop-length}
-use Rattle.compiled_paths.specs.Columns.{bundleIn, bundle-next, bundle-none}
+use Rattle.compiled_paths.specs.Columns.{bundle-next, bundle-none}
 use Rattle.compiled_paths.specs.Paths.{pathsIn, Shaped}
 use Rattle.compiled_paths.specs.declared.CompiledPaths.{CompiledPaths}
-use Rattle.marks.specs.Columns.{isMarked}
+use Rattle.row_marks.specs.Columns.{isMarked}
 use Rattle.marks.specs.Selection.{pathMarks}
 use Rattle.path_spec.specs.Paths.{LocationPath}
 use Rattle.select.specs.Paths.{pathIn, pathsFrom}

@@ -8,8 +8,8 @@ use lib.Bits.{bitOr}
 use lib.Dec.{eqb}
 use lib.ListN.{length, getD}
 use Rattle.foreign_bytes.specs.Foreign.{foreignBefore}
-use Rattle.marks.specs.Columns.{mark, mark-test}
-use Rattle.marks.specs.Forward.{or-marks}
+use Rattle.row_marks.specs.Columns.{mark, mark-test}
+use Rattle.row_marks.specs.Loops.{or-marks}
 use Rattle.text_spec.specs.Bytes.{isForeign}
 use Rattle.text_spec.specs.Lists.{anyBelow}
 

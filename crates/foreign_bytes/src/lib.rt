@@ -2,7 +2,7 @@
 ghost use mathlib.Core.Path.{_≡_};
 ghost use lib.ListN.{length};
 ghost use Rattle.foreign_bytes.specs.Foreign.{foreignBefore};
-ghost use Rattle.marks.specs.Columns.{mark};
+ghost use Rattle.row_marks.specs.Columns.{mark};
 ghost use Rattle.text_spec.specs.Bytes.{isForeign};
 
 const PASSES: u8 = 0;

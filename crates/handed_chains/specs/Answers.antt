@@ -7,12 +7,13 @@ use Prim.Native.Nat.{ℕ, _<_, _≤_}
 use native.Mathlib.Omega.{arith}
 use borrow.Author.Tests.{not-true, not-false, ltb-true, ltb-false}
 use lib.Dec.{T, ltb}
-use lib.ListN.{length, getElem?, take, length-map}
+use lib.ListN.{length, getElem?, take}
 use lib.Seq.{length-take-le}
 use Rattle.compiled_schema.specs.Compiled.{CompiledOf}
 use Rattle.compiled_schema.specs.declared.CompiledSchema.{CompiledSchema}
 use Rattle.held_tables.specs.Calls.{Holds, table-holds, table-refused, table-held}
-use Rattle.lent_tables.specs.Selecting.{lent-codes, lent-parents, lent-cells, lent-columns, codes-map}
+use Rattle.lent_tables.specs.Selecting.{lent-codes, lent-parents, lent-cells, lent-columns}
+use Rattle.table_laws.specs.Columns.{codes-map}
 use Rattle.library_spec.specs.Chains.{chain}
 use Rattle.library_spec.specs.Records.{LentTable, tableHeld}
 use Rattle.row_chain_laws.specs.Names.{compiled-names}
@@ -21,7 +22,6 @@ use Rattle.lent_chains.specs.Answers.{chainOutcome, AnsweredChain}
 use Rattle.row_chains.specs.Chains.{chainAt, NamesAt, SizePass}
 use Rattle.lent_chains.specs.declared.ChainAnswer.{ChainAnswer}
 use Rattle.lent_chains.specs.declared.ChainAnswer.the-variants.{Written, TooFewCells}
-use Rattle.schema_spec.specs.Names.{codeOf}
 use Rattle.schema_spec.specs.Reading.{readSchema}
 use Rattle.schema_spec.specs.Schemas.{Schema}
 use Rattle.schema_spec.specs.Types.{typesOf}
@@ -29,10 +29,9 @@ use Rattle.table_laws.specs.Parents.{nodes-placed}
 use Rattle.table_laws.specs.Places.{at-bound, at-some}
 use Rattle.table_spec.specs.Nodes.{Node, nodesOf}
 use Rattle.table_spec.specs.Rows.{Row}
-use Rattle.table_rows.specs.Lent.{Lent}
 use Rattle.tables.specs.Handed.{isHeld}
 use Rattle.text_laws.specs.Tests.{never}
-use Rattle.text_spec.specs.Calls.{handed, inRoom, cellsAfter}
+use Rattle.text_spec.specs.Calls.{handed, inRoom}
 use Rattle.text_spec.specs.Cells.{padded, tooSmall}
 use Rattle.text_spec.specs.Refusals.{Outcome, accepted, refused, andThen, at, badRecord, tooFewCells}
 use Rattle.text_spec.specs.Scans.{nameAt}

@@ -12,10 +12,11 @@ use Rattle.library_spec.specs.Records.{LentTable}
 use Rattle.names.specs.declared.NameSet.{NameSet}
 use Rattle.schema_spec.specs.Names.{namesOf, setOfWord}
 use Rattle.schema_spec.specs.Schemas.{Schema}
-use Rattle.table_spec.specs.Columns.{Columns, Sizes, equalSizes, sizesOf, columnsOf}
+use Rattle.table_spec.specs.Columns.{Columns, equalSizes, sizesOf, columnsOf}
 use Rattle.tables.specs.Handed.{isHeld}
 use Rattle.text_spec.specs.Refusals.{refused, at, badRecord}
-use Rattle.type_steps.specs.Relations.{Known, setIn}
+use Rattle.type_steps.specs.Relations.{Known}
+use Rattle.names.specs.Sets.{setIn}
 use Rattle.verdicts.specs.Verdicts.{refusedBy}
 use Rattle.verdicts.specs.declared.Verdict.{Verdict}
 

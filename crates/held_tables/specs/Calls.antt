@@ -4,7 +4,8 @@ use mathlib.Core.List.{List}
 use mathlib.Core.Option.{Option, none, some}
 use mathlib.Core.Path.{_≡_, refl, ap, subst}
 use lib.Dec.{T}
-use Rattle.library_spec.specs.Records.{TextRecord, LentTable, textIn, schemaHeld, rowsLent, keptIf, tableHeld, passesSchema}
+use Rattle.library_spec.specs.Records.{LentTable, schemaHeld, rowsLent, keptIf, tableHeld, passesSchema}
+use Rattle.text_spec.specs.Records.{TextRecord, textIn}
 use Rattle.schema_spec.specs.Records.{schemaIn}
 use Rattle.schema_spec.specs.Schemas.{Schema}
 use Rattle.schema_spec.specs.Types.{typesOf}

@@ -5,7 +5,8 @@ use Prim.Native.Nat.{ℕ}
 use lib.ListN.{take}
 use Rattle.cut_rows.specs.Rows.{table, columns-equal}
 use Rattle.held_tables.specs.Calls.{Holds}
-use Rattle.lent_tables.specs.Selecting.{lent-numbers, lent-codes, lent-parents, lent-starts, lent-lengths, codes-map}
+use Rattle.lent_tables.specs.Selecting.{lent-numbers, lent-codes, lent-parents, lent-starts, lent-lengths}
+use Rattle.table_laws.specs.Columns.{codes-map}
 use Rattle.library_spec.specs.Records.{LentTable}
 use Rattle.schema_spec.specs.Schemas.{Schema}
 use Rattle.table_extracts.specs.Cut.{columnsIn}

@@ -1,7 +1,7 @@
 -- Selecting from an extract under an accepted schema and bundle: what each stage leaves, and that together they are the library's outcome.
 use mathlib.Core.Bool.{Bool, true, false, _||_}
 use mathlib.Core.List.{List, [], _∷_}
-use mathlib.Core.Path.{_≡_, refl, sym, ap, subst, _∙_}
+use mathlib.Core.Path.{_≡_, refl, ap, _∙_}
 use Prim.Native.Nat.{ℕ, _≤_}
 use native.Mathlib.Omega.{arith}
 use lib.Dec.{T}
@@ -22,29 +22,25 @@ use Rattle.host_results.specs.declared.HostResult.{HostResult}
 use Rattle.library_spec.specs.Calls.{inColumns, columnsAfter}
 use Rattle.library_spec.specs.Hosts.{hostAnswer}
 use Rattle.library_spec.specs.Selections.{askedPaths, Selections, selections}
-use Rattle.marks.specs.Selection.{parentsOf, numbersOf}
+use Rattle.table_laws.specs.Columns.{codesOf, tested-columns, TestedColumns}
 use Rattle.row_columns.specs.Columns.{EqualColumns}
-use Rattle.row_numbers.specs.Cells.{Cleared}
+use Rattle.lent_cells.specs.Cells.{Cleared}
 use Rattle.schema_laws.specs.Accepted.{schemaIn-length}
 use Rattle.schema_spec.specs.Names.{codeOf}
 use Rattle.schema_spec.specs.Reading.{readSchema}
 use Rattle.schema_spec.specs.Records.{schemaIn}
 use Rattle.schema_spec.specs.Schemas.{Schema}
 use Rattle.schema_spec.specs.Types.{Types, typesOf}
-use Rattle.select.specs.Paths as select
 use Rattle.select_table.specs.Tables.{RowsIn, rowsSelected}
-use Rattle.selected_answers.specs.Answers.{inCells, AnsweredSelections}
+use Rattle.selected_answers.specs.Answers.{AnsweredSelections}
 use Rattle.selected_answers.specs.declared.Selected.{Selected}
-use Rattle.selected_rows.specs.Selected.{codesOf}
-use Rattle.selected_rows.specs.Tested.{tested-columns}
 use Rattle.table_extracts.specs.Cut.{columnsIn}
-use Rattle.table_passes.specs.Codes.{HeldWords}
 use Rattle.table_spec.specs.Columns.{Columns, Sizes, sizesOf, columnsOf}
 use Rattle.table_spec.specs.Rows.{Row}
 use Rattle.table_spec.specs.Tables.{wellFormed}
-use Rattle.text_spec.specs.Calls.{inRoom, cellsAfter}
+use Rattle.text_spec.specs.Calls.{inRoom}
 use Rattle.text_spec.specs.Cells.{tooSmall}
-use Rattle.text_spec.specs.Refusals.{Outcome, accepted, refused, andThen, at, tooFewCells}
+use Rattle.text_spec.specs.Refusals.{accepted, andThen, at, tooFewCells}
 use Rattle.verdicts.specs.Verdicts.{verdict}
 use Rattle.verdicts.specs.declared.Verdict.{Verdict}
 use Rattle.written_tables.specs.Asked.{well-formed-alone}
@@ -67,7 +63,7 @@ pub record WordsIn (t : CompiledSchema) (words : List ℕ) : Type 0 where
 -- the first rows of columns are rows on which paths select
 pub record RowsAsked (c : Columns) (n : ℕ) : Type 0 where
   pub rooms : Rooms c n
-  pub columns : select.Columns (firstOf c n .numbers) (firstOf c n .names) (firstOf c n .parents)
+  pub columns : TestedColumns (firstOf c n .numbers) (firstOf c n .names) (firstOf c n .parents)
 
 -- the last test
 pub record LastAs (n : ℕ) (a : Selected) (c d : Columns) (r : HostResult) : Type 0 where

@@ -21,8 +21,8 @@ use held_words::held_words;
 use host_results::HostResult;
 use names::MAX_ELEMENTS;
 use names::NameSet;
-use row_numbers::clear_counts_from;
-use row_numbers::clear_from;
+use lent_cells::clear_places;
+use lent_cells::clear_numbers;
 use schema_entries::Entries;
 use select_table::select_table;
 use selected_answers::Selected;
@@ -115,8 +115,8 @@ pub fn choose_under<'a>(
     let words = words_of(compiled);
     let verdict = read_extract_table(extract, &words, numbers, names, parents, starts, lengths);
     if verdict.number != 0 {
-        clear_from(items, 0);
-        clear_counts_from(counts, 0);
+        clear_numbers(items, 0);
+        clear_places(counts, 0);
         return host_results::refused(verdict.number, verdict.place);
     }
     select_under(

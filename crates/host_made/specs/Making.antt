@@ -28,7 +28,7 @@ use Rattle.names.specs.declared.NameSet.{NameSet}
 use Rattle.needed_sets.specs.Needs.{NeededIn}
 use Rattle.path_spec.specs.Paths.{LocationPath}
 use Rattle.row_columns.specs.Columns.{EqualColumns}
-use Rattle.row_numbers.specs.Cells.{Cleared}
+use Rattle.lent_cells.specs.Cells.{Cleared}
 use Rattle.schema_relations.specs.Compiled.{compiled-needed}
 use Rattle.schema_spec.specs.Reading.{readSchema}
 use Rattle.schema_spec.specs.Records.{schemaIn}

@@ -9,8 +9,8 @@ ghost use Rattle.table_spec.specs.Columns.{columns};
 use host_results::HostResult;
 use host_texts::Told;
 use limits::MAX_PATHS;
-use row_numbers::clear_counts_from;
-use row_numbers::clear_from;
+use lent_cells::clear_places;
+use lent_cells::clear_numbers;
 use table_cutting::clear_bytes;
 
 // Whether the columns are of one length, and the bundle has the place; of a bundle that is refused, whether some bundle has it.
@@ -64,7 +64,7 @@ pub fn refuse_selecting(
     ensures { λ r. ⌜ RefusedExit (told .number) (told .place) (lentOf (columns (now (numbers .entry)) (now (names .entry)) (now (parents .entry)) (now (starts .entry)) (now (lengths .entry))) (now (items .entry)) (now (counts .entry))) r (columns (now (numbers .exit)) (now (names .exit)) (now (parents .exit)) (now (starts .exit)) (now (lengths .exit))) (now (items .exit)) (now (counts .exit)) ⌝ }
 {
     row_columns::clear(numbers, names, parents, starts, lengths);
-    clear_from(items, 0);
-    clear_counts_from(counts, 0);
+    clear_numbers(items, 0);
+    clear_places(counts, 0);
     result(told)
 }

@@ -15,7 +15,7 @@ use Rattle.compiled_schema.specs.declared.JudgedSchema.{JudgedSchema}
 use Rattle.host_texts.specs.declared.Texts.{Texts}
 use Rattle.host_texts.specs.declared.Told.{Told}
 use Rattle.library_spec.specs.Hosts.{bundlePaths}
-use Rattle.needed_texts.specs.Texts.{namesAt}
+use Rattle.compiled_schema.specs.Places.{namesAt}
 use Rattle.path_spec.specs.Paths.{LocationPath}
 use Rattle.path_spec.specs.Reading.{readBundle}
 use Rattle.schema.specs.Judging as first

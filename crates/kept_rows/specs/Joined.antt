@@ -1,13 +1,13 @@
 -- What stands at the marked rows of a column, joined row by row, and how many rows are marked before a row.
 use mathlib.Core.Bool.{Bool, true, false, cond}
-use mathlib.Core.List.{List, [], _∷_, _++_, append-nil}
-use mathlib.Core.Path.{_≡_, refl, sym, ap, ap₂, _∙_}
+use mathlib.Core.List.{List, [], _++_, append-nil}
+use mathlib.Core.Path.{_≡_, refl, ap, ap₂, _∙_}
 use Prim.Native.Nat.{ℕ, zero, suc, _+_, _*_, _<_, _≤_}
 use native.Mathlib.Nat.{suc-mul}
 use native.Mathlib.Numerals.{add-one}
 use native.Mathlib.Omega.{arith}
 use lib.ListN.{length, length-append}
-use Rattle.marks.specs.Columns.{mark, isMarked}
+use Rattle.row_marks.specs.Columns.{isMarked}
 
 -- ---- definitions
 module _ {A : Type 0} (f : ℕ → List A) (m : List ℕ) where

@@ -2,15 +2,15 @@
 use mathlib.Core.Bool.{Bool, true, false, cond, not, _&&_, and-false}
 use mathlib.Core.List.{List, [], _∷_}
 use mathlib.Core.Path.{_≡_, refl, sym, ap, ap₂, subst, _∙_}
-use Prim.Native.Nat.{ℕ, zero, suc, _+_, _*_, _<_, _≤_}
+use Prim.Native.Nat.{ℕ, zero, suc, _+_, _<_, _≤_}
 use native.Mathlib.Omega.{arith}
-use borrow.Author.Tests.{eq-eqb, ne-eqb, eqb-true, eqb-false}
+use borrow.Author.Tests.{eq-eqb, ne-eqb, eqb-true}
 use lib.Dec.{eqb}
 use lib.ListN.{length, getD, set}
-use Rattle.kept_rows.specs.Joined.{total, rank, total-none, total-marked, total-unmarked, total-bound}
+use Rattle.kept_rows.specs.Joined.{rank, total-none, total-marked, total-unmarked, total-bound}
 use Rattle.kept_rows.specs.Kept.{isKept, keptMarks, kept-root, kept-later, KeptPass, codeCount, code-mark, forward-first}
-use Rattle.marks.specs.Columns.{mark, isMarked, marks, mark-test, marks-length, marks-marked}
-use Rattle.marks.specs.Forward.{Forward, forward-none, forward-next, forward-all}
+use Rattle.row_marks.specs.Columns.{isMarked, marks, mark-test, marks-length, marks-marked}
+use Rattle.row_marks.specs.Loops.{Forward, forward-none, forward-next, forward-all}
 use Rattle.text_spec.specs.Limits.{maxNodes}
 
 -- ---- definitions

@@ -11,7 +11,7 @@ use Rattle.row_chains.specs.Chains.{chainAt, chainSize, NamesAt, Chained, chain
 use Rattle.lent_chains.specs.declared.ChainAnswer.{ChainAnswer}
 use Rattle.lent_chains.specs.declared.ChainAnswer.the-variants.{Written, TooFewCells}
 use Rattle.lent_cells.specs.Cells.{Cleared}
-use Rattle.row_numbers.specs.Cells.{Appended, appended-cleared}
+use Rattle.lent_cells.specs.Appended.{Appended, appended-cleared}
 use Rattle.text_spec.specs.Calls.{inRoom, cellsAfter}
 use Rattle.text_spec.specs.Cells.{tooSmall}
 use Rattle.text_spec.specs.Refusals.{Outcome, accepted, refused, at, andThen, tooFewCells}

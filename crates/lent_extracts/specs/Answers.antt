@@ -8,8 +8,8 @@ use borrow.Author.Tests.{lt-ltb, le-ltb}
 use lib.ListN.{length}
 use Rattle.cut_rows.specs.Cells.{all-cleared}
 use Rattle.extract_writing.specs.Extract.{inLentBytes, BytesWritten}
-use Rattle.row_numbers.specs.Cells.{Cleared}
-use Rattle.text_spec.specs.Calls.{inRoom, cellsAfter}
+use Rattle.lent_cells.specs.Cells.{Cleared}
+use Rattle.text_spec.specs.Calls.{inRoom}
 use Rattle.text_spec.specs.Cells.{tooSmall}
 use Rattle.text_spec.specs.Refusals.{Outcome, refused, at, badRecord}
 use Rattle.verdicts.specs.Verdicts.{refusedBy, answeredOf, verdict, AnsweredBytes}

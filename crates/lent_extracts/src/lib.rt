@@ -5,7 +5,7 @@ ghost use Rattle.cut_rows.specs.Rows.{table};
 ghost use Rattle.extract_rows.specs.Rows.{TextColumns};
 ghost use Rattle.extract_writing.specs.Extract.{extractIn};
 ghost use Rattle.lent_extracts.specs.Answers.{inBytes};
-ghost use Rattle.marks.specs.Columns.{marks};
+ghost use Rattle.row_marks.specs.Columns.{marks};
 ghost use Rattle.text_spec.specs.Refusals.{refused, at, badRecord};
 ghost use Rattle.verdicts.specs.Verdicts.{AnsweredBytes};
 use extract_writing::write_table;

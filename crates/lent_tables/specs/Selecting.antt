@@ -9,14 +9,12 @@ use borrow.Author.Tests.{ltb-false}
 use lib.Dec.{T, ltb}
 use lib.ListN.{length, getD, take, drop}
 use lib.Seq.{drop-cons}
-use Rattle.marks.specs.Selection.{parentsOf, numbersOf}
+use Rattle.table_laws.specs.Columns.{parentsOf, numbersOf, codesOf, tested-columns, TestedColumns}
 use Rattle.library_spec.specs.Records.{LentTable, rowsLent}
 use Rattle.schema_spec.specs.Names.{Name, element, text, codeOf, nameOfCode}
 use Rattle.schema_spec.specs.Schemas.{Schema}
 use Rattle.schema_spec.specs.Types.{typesOf}
-use Rattle.select.specs.Paths as select
-use Rattle.selected_rows.specs.Selected.{codesOf, NamesCoded}
-use Rattle.selected_rows.specs.Tested.{cells-coded, tested-columns}
+use Rattle.table_laws.specs.Codes.{NamesCoded, cells-coded}
 use Rattle.table_laws.specs.Places.{none-some}
 use Rattle.table_rows.specs.Lent.{Lent}
 use Rattle.table_spec.specs.Columns.{Columns, cellsAt, cellsFrom}
@@ -76,10 +74,6 @@ column-from c f xs h (suc n) i rows l e =
         subst (λ (x : List Row). map f x ≡ take (suc n) (drop i xs)) z
         (ap₂ (λ (x : ℕ) (l : List ℕ). x ∷ l) (h i r p) (g rs q) ∙ sym (ap (take (suc n)) (drop-cons xs i 0 (omega arith))))
 
-pub codes-map : (rows : List Row) → codesOf rows ≡ map (λ r. codeOf (r .name)) rows
-codes-map [] = refl
-codes-map (r ∷ rows) = ap (λ (l : List ℕ). codeOf (r .name) ∷ l) (codes-map rows)
-
 module _ (t : LentTable) (rows : List Row) (held : rowsLent t ≡ some rows) where
   sizes-fit : sizesFit t ≡ true
   sizes-fit = by (sizesFit t) refl held
@@ -126,6 +120,6 @@ module _ (t : LentTable) (rows : List Row) (held : rowsLent t ≡ some rows) whe
 
   -- the columns up to the count are as selecting asks
   pub lent-columns : (s : Schema) → T (wellFormed (typesOf s) rows)
-      → select.Columns (take (t .count) (t .columns .numbers)) (take (t .count) (t .columns .names)) (take (t .count) (t .columns .parents))
+      → TestedColumns (take (t .count) (t .columns .numbers)) (take (t .count) (t .columns .names)) (take (t .count) (t .columns .parents))
   lent-columns s ok =
       rw (← lent-numbers, ← lent-codes, ← lent-parents) (tested-columns (typesOf s) rows ok lent-coded)

@@ -9,7 +9,8 @@ use Rattle.library_spec.specs.Cases.Exits.{exit}
 use Rattle.library_spec.specs.Cases.Hosts.{bundleP, bundleT, undeclared, misfit, noExtract}
 use Rattle.library_spec.specs.Cases.Opened.{computing}
 use Rattle.library_spec.specs.Cases.Questions.{Text, readsSchema, readsBundle, readsJournal, givesNeeded, cutsTable, readsExtract, Answer, leaves, answerTo, Case, AllHold, zeros}
-use Rattle.library_spec.specs.Records.{TextRecord, LentTable}
+use Rattle.library_spec.specs.Records.{LentTable}
+use Rattle.text_spec.specs.Records.{TextRecord}
 use Rattle.table_spec.specs.Columns.{Columns, Sizes, allOfSize}
 use Rattle.text_spec.specs.Cases.{case, answered, copies, joined}
 use Rattle.text_spec.specs.Lists.{bytes}

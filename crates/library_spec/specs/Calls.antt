@@ -12,7 +12,8 @@ use Rattle.extract_spec.specs.Fields.{writeExtract}
 use Rattle.extract_spec.specs.Reading.{readExtract}
 use Rattle.inference_spec.specs.Needed.{neededWord}
 use Rattle.library_spec.specs.Chains.{chain}
-use Rattle.library_spec.specs.Records.{TextRecord, recordOf, schemaHeld, bundleHeld, LentTable, tableHeld, tableBeside}
+use Rattle.library_spec.specs.Records.{schemaHeld, bundleHeld, LentTable, tableHeld, tableBeside}
+use Rattle.text_spec.specs.Records.{TextRecord, recordOf}
 use Rattle.library_spec.specs.Selections.{askedPaths, Selections, selections}
 use Rattle.schema_spec.specs.Names.{Name, element, text}
 use Rattle.schema_spec.specs.Reading.{readSchema}

@@ -19,7 +19,8 @@ use Rattle.library_spec.specs.Calls.{RowText, textOfRow}
 use Rattle.library_spec.specs.Chains.{chain}
 use Rattle.library_spec.specs.Hosts.{HostAnswer, hostAnswer, Lent, extractOf}
 use Rattle.library_spec.specs.Listing.{FilesRead, nodeLine, header, refusedLine}
-use Rattle.library_spec.specs.Records.{TextRecord, recordOf, LentTable}
+use Rattle.library_spec.specs.Records.{LentTable}
+use Rattle.text_spec.specs.Records.{TextRecord, recordOf}
 use Rattle.library_spec.specs.Selections.{askedPaths, Selections, selections}
 use Rattle.schema_spec.specs.Conditions.{SchemaApplies, SchemaGives}
 use Rattle.schema_spec.specs.Records.{normal}

@@ -4,7 +4,7 @@ use mathlib.Core.List.{List, []}
 use mathlib.Core.Option.{Option, none, some}
 use Prim.Native.Nat.{ℕ}
 use lib.Dec.{leb}
-use lib.ListN.{length, take}
+use lib.ListN.{length}
 use Rattle.path_spec.specs.Paths.{LocationPath}
 use Rattle.path_spec.specs.Reading.{readBundle, isBundleRecord}
 use Rattle.schema_spec.specs.Records.{schemaIn, isSchemaRecord}
@@ -13,25 +13,9 @@ use Rattle.schema_spec.specs.Types.{typesOf}
 use Rattle.table_spec.specs.Columns.{Columns, sizesOf, equalSizes, cellsFrom}
 use Rattle.table_spec.specs.Rows.{Row, rowsOf}
 use Rattle.table_spec.specs.Tables.{wellFormed, wellFormedWith}
-use Rattle.text_spec.specs.Cells.{padded}
 use Rattle.text_spec.specs.Limits.{maxSchemaBytes, maxBundleBytes}
-use Rattle.text_spec.specs.Lists.{sameBytes}
+use Rattle.text_spec.specs.Records.{TextRecord, textIn, isRecord}
 use Rattle.text_spec.specs.Refusals.{resultOr}
-
--- A record is a text in cells of a fixed number, with its length; the cells past it are 0.
-pub record TextRecord : Type 0 where
-  pub cells : List ℕ
-  pub size : ℕ
-
-abbrev pub textIn : TextRecord → List ℕ
-textIn r = take (r .size) (r .cells)
-
-abbrev pub recordOf : ℕ → List ℕ → TextRecord
-recordOf limit text = record { cells = padded limit text; size = length text }
-
--- the cells are those of the text in the record
-abbrev pub isRecord : ℕ → TextRecord → Bool
-isRecord limit r = leb (r .size) limit && sameBytes (r .cells) (padded limit (textIn r))
 
 -- "A record handed in is one that its reader can't produce": the schema's, and the bundle's under the schema handed in with it
 unfoldable pub passesSchema : TextRecord → Bool

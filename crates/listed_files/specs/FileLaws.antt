@@ -21,7 +21,7 @@ use Rattle.journal_laws.specs.Accepted.{accepted-well-formed}
 use Rattle.journal_spec.specs.Reading.{readJournal}
 use Rattle.kept_rows.specs.Joined.{rank}
 use Rattle.kept_rows.specs.Kept.{inSet, keptMarks, KeptColumns}
-use Rattle.lent_tables.specs.Selecting.{codes-map}
+use Rattle.table_laws.specs.Columns.{codes-map, parentsOf, numbersOf, codesOf, tested-columns}
 use Rattle.library_spec.specs.Calls.{inColumns}
 use Rattle.library_spec.specs.Chains.{chain}
 use Rattle.library_spec.specs.Hosts.{bundlePaths}
@@ -32,8 +32,7 @@ use Rattle.listing_laws.specs.Files.{texts-refused, journal-refused, journal-li
 use Rattle.listing_laws.specs.Rows.{rowLines, listed-by-rows}
 use Rattle.listing_laws.specs.Sizes.{chain-short}
 use Rattle.listing_lines.specs.Lines.{refusal, rowLine}
-use Rattle.marks.specs.Columns.{picked}
-use Rattle.marks.specs.Selection.{parentsOf, numbersOf}
+use Rattle.row_marks.specs.Columns.{picked}
 use Rattle.path_spec.specs.Paths.{LocationPath}
 use Rattle.row_chain_laws.specs.Names.{compiled-names}
 use Rattle.row_chain_laws.specs.Nodes.{node-chain}
@@ -44,8 +43,7 @@ use Rattle.schema_spec.specs.Reading.{readSchema}
 use Rattle.schema_spec.specs.Records.{schemaIn}
 use Rattle.schema_spec.specs.Schemas.{Schema}
 use Rattle.schema_spec.specs.Types.{typesOf}
-use Rattle.selected_rows.specs.Selected.{codesOf, NamesCoded}
-use Rattle.selected_rows.specs.Tested.{tested-columns}
+use Rattle.table_laws.specs.Codes.{NamesCoded}
 use Rattle.table_extracts.specs.Cut.{columnsIn, renumberedBy, cut-picked, marks-size}
 use Rattle.table_extracts.specs.Picked.{picked-length}
 use Rattle.table_laws.specs.Parents.{NodeAt, nodes-placed}

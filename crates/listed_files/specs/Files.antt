@@ -2,7 +2,7 @@
 use mathlib.Core.Bool.{cond}
 use mathlib.Core.List.{List, _++_, map}
 use mathlib.Core.Path.{_≡_, ap, _∙_}
-use Prim.Native.Nat.{ℕ, _+_, _≤_, _<_}
+use Prim.Native.Nat.{ℕ, _≤_, _<_}
 use lib.Dec.{eqb}
 use lib.ListN.{length, take, replicate}
 use Rattle.compiled_paths.specs.Paths.{pathsIn, Shaped}
@@ -23,7 +23,7 @@ use Rattle.row_columns.specs.Columns.{EqualColumns}
 use Rattle.schema.specs.Judging.{declaredAt}
 use Rattle.schema_spec.specs.Machine.{parse}
 use Rattle.schema_spec.specs.Records.{schemaIn}
-use Rattle.select.specs.Paths as select
+use Rattle.table_laws.specs.Columns.{TestedColumns}
 use Rattle.table_spec.specs.Columns.{Columns}
 use Rattle.text_laws.specs.Cells.{padded-length}
 use Rattle.text_spec.specs.Limits.{maxDeclarations, listingRows}
@@ -62,7 +62,7 @@ pub record RowsAsked (schema : List ℕ) (t : CompiledSchema) (c : CompiledPaths
   pub compiled : CompiledOf schema (schemaIn schema) t
   pub shaped : Shaped c
   pub kept : KeptColumns codes ps
-  pub columns : select.Columns ps codes ps
+  pub columns : TestedColumns ps codes ps
   pub cells : length firsts ≡ length ps
   pub listed : length ps ≤ listingRows
 

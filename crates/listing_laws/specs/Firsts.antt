@@ -2,20 +2,22 @@
 use mathlib.Core.Bool.{Bool, true, false, cond, not, _||_}
 use mathlib.Core.List.{List, [], _∷_, map}
 use mathlib.Core.Path.{_≡_, refl, sym, ap, ap₂, _∙_}
-use Prim.Native.Nat.{ℕ, zero, suc, _<_}
+use Prim.Native.Nat.{ℕ, suc, _<_}
 use native.Mathlib.Omega.{arith}
 use borrow.Author.Tests.{ne-eqb}
 use lib.Dec.{T, eqb}
 use lib.ListN.{length, getD}
 use Rattle.first_paths.specs.Firsts.{firstMarked, columnsFor}
 use Rattle.library_spec.specs.Listing.{isIn, firstSelecting}
-use Rattle.listing_laws.specs.Numbers.{Rising, numbers-rise, in-picked}
-use Rattle.marks.specs.Columns.{isMarked}
-use Rattle.marks.specs.Selection.{pathMarks, parentsOf, numbersOf}
+use Rattle.listing_laws.specs.Numbers.{numbers-rise, in-picked}
+use Rattle.row_marks.specs.Columns.{isMarked}
+use Rattle.marks.specs.Selection.{pathMarks}
+use Rattle.table_laws.specs.Columns.{parentsOf, numbersOf, codesOf}
 use Rattle.path_spec.specs.Paths.{LocationPath}
 use Rattle.path_spec.specs.Selection.{select, selectRows}
 use Rattle.schema_spec.specs.Types.{Types}
-use Rattle.selected_rows.specs.Selected.{codesOf, NamesCoded, marked-selected}
+use Rattle.selected_rows.specs.Selected.{marked-selected}
+use Rattle.table_laws.specs.Codes.{NamesCoded}
 use Rattle.step_passes.specs.Tests.{namesIn}
 use Rattle.table_laws.specs.WellFormed.{table-means}
 use Rattle.table_spec.specs.Nodes.{nodesOf}

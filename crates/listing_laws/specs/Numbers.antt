@@ -1,19 +1,18 @@
 -- Numbers that rise: a number is among those of the marked rows exactly if its row is marked.
 use mathlib.Core.Bool.{Bool, true, false, cond, _||_}
-use mathlib.Core.List.{List, [], _∷_, map}
-use mathlib.Core.Path.{_≡_, refl, sym, ap, _∙_}
+use mathlib.Core.List.{List, [], _∷_}
+use mathlib.Core.Path.{_≡_, refl, ap, _∙_}
 use Prim.Native.Nat.{ℕ, zero, suc, _≤_, _<_}
 use native.Mathlib.Omega.{arith}
 use borrow.Author.Tests.{eq-eqb, ne-eqb}
 use lib.Dec.{eqb}
 use lib.ListN.{length, getD}
 use Rattle.library_spec.specs.Listing.{isIn}
-use Rattle.marks.specs.Columns.{isMarked, picked}
-use Rattle.marks.specs.Selection.{numbersOf}
+use Rattle.row_marks.specs.Columns.{isMarked, picked}
+use Rattle.table_laws.specs.Columns.{numbersOf}
 use Rattle.schema_spec.specs.Types.{Types}
 use Rattle.table_spec.specs.Conditions.{RowAt, WellFormed}
 use Rattle.table_spec.specs.Rows.{Row}
-use Rattle.text_spec.specs.Lists.{anyOf}
 
 -- each number is above those before it, and none is below k
 pub data Rising : ℕ → List ℕ → Type 0 where

@@ -9,16 +9,16 @@ use lib.Dec.{T, eqb}
 use lib.ListN.{length, getD, getElem?, length-map}
 use Rattle.first_paths.specs.Firsts.{firstMarked, columnsFor, FirstPaths, selectedCount}
 use Rattle.library_spec.specs.Chains.{chain}
-use Rattle.library_spec.specs.Listing.{ListingData, isIn, selectedNodes, firstSelecting, listingLine, header, headerOf, listed}
+use Rattle.library_spec.specs.Listing.{ListingData, isIn, firstSelecting, listingLine, header, headerOf, listed}
 use Rattle.listing_laws.specs.Firsts.{some-selects, first-selects}
 use Rattle.listing_lines.specs.Lines.{lineOf, rowLine}
-use Rattle.marks.specs.Selection.{parentsOf, numbersOf}
+use Rattle.table_laws.specs.Columns.{parentsOf, numbersOf, codesOf}
 use Rattle.path_spec.specs.Paths.{LocationPath}
 use Rattle.path_spec.specs.Selection.{select}
 use Rattle.row_chain_laws.specs.Nodes.{cell-of}
 use Rattle.schema_spec.specs.Schemas.{Schema}
 use Rattle.schema_spec.specs.Types.{Types}
-use Rattle.selected_rows.specs.Selected.{codesOf, NamesCoded}
+use Rattle.table_laws.specs.Codes.{NamesCoded}
 use Rattle.table_laws.specs.Parents.{NodeAt, nodes-numbered}
 use Rattle.table_laws.specs.Places.{at-bound}
 use Rattle.table_spec.specs.Nodes.{Node, nodeNumber, nodesOf}

@@ -2,14 +2,14 @@
 use mathlib.Core.Bool.{_&&_}
 use mathlib.Core.List.{List, [], _∷_, _++_, map}
 use mathlib.Core.Option.{Option, none, some}
-use mathlib.Core.Path.{_≡_, refl, sym, ap, subst, _∙_}
-use Prim.Native.Nat.{ℕ, zero, suc, _+_, _*_, _≤_, _<_}
+use mathlib.Core.Path.{_≡_, refl, sym, ap, subst}
+use Prim.Native.Nat.{ℕ, zero, suc, _*_, _≤_, _<_}
 use native.Mathlib.Omega.{arith}
 use lib.Dec.{T, leb, leb→le}
 use lib.ListN.{length, getD, getElem?, length-append, length-map}
 use Rattle.library_spec.specs.Chains.{tag, chain}
-use Rattle.marks.specs.Parents.{by-parents}
-use Rattle.marks.specs.Selection.{parentsOf}
+use Rattle.row_marks.specs.Ancestors.{by-parents}
+use Rattle.table_laws.specs.Columns.{parentsOf}
 use Rattle.projection_laws.specs.Documents.{Valid}
 use Rattle.projection_laws.specs.Rows.{rows-valid}
 use Rattle.row_chain_laws.specs.Nodes.{at-map, cell-of}
@@ -21,7 +21,7 @@ use Rattle.schema_spec.specs.Types.{typesOf, holds}
 use Rattle.table_laws.specs.Parents.{NodeAt, ChildOf, child-of, Placed, nodes-placed, nodes-named}
 use Rattle.table_laws.specs.Places.{at-bound, at-some, at-in}
 use Rattle.table_laws.specs.WellFormed.{table-means}
-use Rattle.table_spec.specs.Conditions.{RowAt, DepthAt, root-depth, element-depth, text-depth, WellFormed}
+use Rattle.table_spec.specs.Conditions.{RowAt, DepthAt, root-depth, element-depth, text-depth}
 use Rattle.table_spec.specs.Nodes.{Node, top, under, nameOf, isTop, deeper, depthOf, nodesOf}
 use Rattle.table_spec.specs.Rows.{Row}
 use Rattle.table_spec.specs.Tables.{wellFormed}

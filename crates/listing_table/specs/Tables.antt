@@ -1,15 +1,15 @@
 -- What is asked of the columns of a journal's table that `listing` reads.
 use mathlib.Core.List.{List}
-use mathlib.Core.Path.{_≡_, sym, _∙_}
-use Prim.Native.Nat.{ℕ, _≤_, _<_}
+use mathlib.Core.Path.{_≡_}
+use Prim.Native.Nat.{ℕ, _≤_}
 use native.Mathlib.Omega.{arith}
-use lib.ListN.{length, getD, take, replicate, length-replicate}
+use lib.ListN.{length, take, replicate, length-replicate}
 use lib.Seq.{length-take-le}
 use Rattle.compiled_paths.specs.Paths.{pathsIn, Shaped}
 use Rattle.compiled_paths.specs.declared.CompiledPaths.{CompiledPaths}
 use Rattle.first_paths.specs.Firsts.{FirstsPass, FirstPaths}
 use Rattle.kept_rows.specs.Kept.{KeptColumns, KeptPass}
-use Rattle.select.specs.Paths.{Columns}
+use Rattle.table_laws.specs.Columns.{TestedColumns}
 use Rattle.text_spec.specs.Limits.{listingRows}
 
 pub record KeptAsked (codes ps : List ℕ) : Type 0 where
@@ -18,7 +18,7 @@ pub record KeptAsked (codes ps : List ℕ) : Type 0 where
 
 pub record PathsAsked (c : CompiledPaths) (codes ps firsts : List ℕ) : Type 0 where
   pub shaped : Shaped c
-  pub columns : Columns ps codes ps
+  pub columns : TestedColumns ps codes ps
   pub cells : length firsts ≡ length ps
   pub listed : length ps ≤ listingRows
 

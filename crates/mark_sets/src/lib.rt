@@ -3,11 +3,11 @@ ghost use mathlib.Core.Bool.{_&&_};
 ghost use mathlib.Core.Path.{_≡_};
 ghost use lib.Dec.{leb};
 ghost use lib.ListN.{length};
-ghost use Rattle.marks.specs.Columns.{mark, isMarked, OnlyMarks, union, intersection};
+ghost use Rattle.row_marks.specs.Columns.{mark, isMarked, OnlyMarks, union, intersection};
 ghost use Rattle.marks.specs.Passes.{SameLength, FilterPass, rangeMarks};
 ghost use Rattle.text_spec.specs.Lists.{anyBelow};
-use axis_passes::MARKED;
-use axis_passes::UNMARKED;
+use row_marks::MARKED;
+use row_marks::UNMARKED;
 
 // Some row is marked. There is no test in the loop, so that the compiler vectorises it.
 pub fn any_marked(marks: &[u8]) -> bool

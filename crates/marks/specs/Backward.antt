@@ -10,9 +10,10 @@ use lib.Bits.{bitOr}
 use lib.Dec.{T, eqb, leb, eqb→eq, eqb-refl, leb→le}
 use lib.ListN.{length, getD, set, length-set}
 use lib.Seq.{getD-set-same, getD-set-other}
-use Rattle.marks.specs.Columns.{RowSet, mark, marks, marks-length, marks-at, marks-by-rows}
-use Rattle.marks.specs.Forward.{or-marks}
-use Rattle.marks.specs.Parents.{parentOf, ancestorsOf, rowOnAxis, image, image-cong, isIn, root-parent, later-parent, root-ancestors, later-ancestors, by-parents, is-in, in-is}
+use Rattle.row_marks.specs.Columns.{RowSet, mark, marks, marks-length, marks-at, marks-by-rows}
+use Rattle.row_marks.specs.Loops.{or-marks}
+use Rattle.marks.specs.Parents.{rowOnAxis, image, image-cong}
+use Rattle.row_marks.specs.Ancestors.{parentOf, ancestorsOf, isIn, root-parent, later-parent, root-ancestors, later-ancestors, by-parents, is-in, in-is}
 use Rattle.path_spec.specs.Paths.{parent, ancestor, ancestorOrSelf}
 use Rattle.table_laws.specs.Parents.{ParentsBefore}
 use Rattle.text_laws.specs.Searches.{below-any, any-below, any-never, any-from, any-from-all}

@@ -1,53 +1,17 @@
 -- Passes from the first row to the last, for the axes that lead down: what they leave behind them, and what they find at a row.
-use mathlib.Core.Bool.{Bool, true, false, _&&_, _||_, or-false}
+use mathlib.Core.Bool.{Bool, false, _||_, or-false}
 use mathlib.Core.List.{List, [], _∷_, List·Memᴰ as In, List·Memᴰ·cases-cons as cases-cons}
 use mathlib.Core.Logic.{⊎-elim}
-use mathlib.Core.Path.{_≡_, refl, sym, ap, subst, _∙_}
-use Prim.Native.Nat.{ℕ, _+_, _<_, _≤_}
+use mathlib.Core.Path.{_≡_, sym, ap, subst, _∙_}
+use Prim.Native.Nat.{ℕ, _<_}
 use native.Mathlib.Omega.{arith}
-use lib.Bits.{bitOr, bitAnd}
-use lib.ListN.{length, getD, set, length-set}
-use lib.Seq.{ext-getD}
-use Rattle.marks.specs.Columns.{RowSet, mark}
-use Rattle.marks.specs.Parents.{parentOf, ancestorsOf, rowOnAxis, image, root-parent, later-parent, root-ancestors, later-ancestors, by-parents, any-member}
+use lib.ListN.{length, getD}
+use Rattle.row_marks.specs.Columns.{RowSet}
+use Rattle.marks.specs.Parents.{rowOnAxis, image, any-member}
+use Rattle.row_marks.specs.Ancestors.{parentOf, ancestorsOf, root-parent, later-parent, root-ancestors, later-ancestors, by-parents}
 use Rattle.path_spec.specs.Paths.{self, child, descendant, descendantOrSelf}
 use Rattle.table_laws.specs.Parents.{ParentsBefore}
-use Rattle.text_laws.specs.Loops.{Passed, passed-first, passed-next}
 use Rattle.text_spec.specs.Lists.{anyOf}
-
--- ---- a pass with r rows behind it: they have what they should, the others what they had
-pub record Forward (goal was : List ℕ) (r : ℕ) (out : List ℕ) : Type 0 where
-  pub within : r ≤ length was
-  pub size : length out ≡ length was
-  pub rows : Passed (λ k x. x ≡ getD goal k 0) 0 was r out
-
-module _ (goal was : List ℕ) where
-  pub forward-none : Forward goal was 0 was
-  forward-none = record { within = omega arith; size = refl; rows = passed-first (λ k x. x ≡ getD goal k 0) 0 was }
-
-  pub forward-next : (r : ℕ) (out : List ℕ) (x : ℕ) → Forward goal was r out → r < length out → x ≡ getD goal r 0 → Forward goal was (r + 1) (set out r x)
-  forward-next r out x w l e =
-      record {
-        within = omega (arith, w .size);
-        size = length-set out r x ∙ w .size;
-        rows = passed-next (λ k y. y ≡ getD goal k 0) 0 was r out x l (w .rows) e;
-      }
-
-  pub forward-all : (r : ℕ) (out : List ℕ) → length was ≡ length goal → Forward goal was r out → length out ≤ r → out ≡ goal
-  forward-all r out e w h = ext-getD 0 out goal (w .size ∙ e) (λ k l. w .rows .done k (omega arith))
-
--- ---- marks as numbers
-pub or-marks : (a b : Bool) → bitOr (mark a) (mark b) ≡ mark (a || b)
-or-marks true true = refl
-or-marks true false = refl
-or-marks false true = refl
-or-marks false false = refl
-
-pub and-marks : (a b : Bool) → bitAnd (mark a) (mark b) ≡ mark (a && b)
-and-marks true true = refl
-and-marks true false = refl
-and-marks false true = refl
-and-marks false false = refl
 
 -- ---- the axes down, row by row
 module _ (ps : List ℕ) (before : ParentsBefore ps) where

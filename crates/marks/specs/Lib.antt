@@ -1,4 +1,3 @@
-pub mod Columns
 pub mod Parents
 pub mod Forward
 pub mod Backward

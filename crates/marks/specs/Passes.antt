@@ -1,7 +1,7 @@
 -- What each pass over the columns of a table asks, and what it finds at a row.
 use mathlib.Core.Bool.{Bool, false, _&&_, _||_, and-false}
 use mathlib.Core.List.{List}
-use mathlib.Core.Path.{_≡_, refl, sym, ap, subst, _∙_}
+use mathlib.Core.Path.{_≡_, refl, sym, ap, _∙_}
 use Prim.Native.Nat.{ℕ, suc, _+_, _-_, _<_, _≤_}
 use native.Mathlib.Numerals.{add-one}
 use native.Mathlib.Omega.{arith}
@@ -11,8 +11,9 @@ use lib.Dec.{eqb, leb}
 use lib.ListN.{length, getD, set, length-set, replicate, length-replicate, getD-replicate}
 use lib.Seq.{ext-getD, getD-set-same}
 use Rattle.marks.specs.Backward.{propagated, propagated-none, propagated-all, propagated-own, propagated-next, ancestor-step, ancestor-or-self-step}
-use Rattle.marks.specs.Columns.{RowSet, mark, isMarked, marks, OnlyMarks, union, intersection, mark-test, marks-length, marks-at, marks-marked, marks-cong, mark-at}
-use Rattle.marks.specs.Forward.{Forward, forward-next, forward-all, or-marks, and-marks, image-self, child-root, child-later, descendant-root, descendant-later, descendant-or-self-root, descendant-or-self-later}
+use Rattle.row_marks.specs.Columns.{RowSet, mark, isMarked, marks, OnlyMarks, union, intersection, mark-test, marks-length, marks-at, marks-marked, marks-cong, mark-at}
+use Rattle.marks.specs.Forward.{image-self, child-root, child-later, descendant-root, descendant-later, descendant-or-self-root, descendant-or-self-later}
+use Rattle.row_marks.specs.Loops.{Forward, forward-next, forward-all, or-marks, and-marks}
 use Rattle.marks.specs.Parents.{image, imageMarks}
 use Rattle.path_spec.specs.Paths.{Axis, self, child, descendant, descendantOrSelf, parent, ancestor, ancestorOrSelf}
 use Rattle.table_laws.specs.Parents.{ParentsBefore}
@@ -57,11 +58,6 @@ unfolding imageMarks
 image-at a ps m r l = marks-at (length ps) (image a ps (isMarked m)) r l
 
 -- ---- columns row by row: a pass and its turn at row r
-pub fill-next : (was : List ℕ) (byte r : ℕ) (out : List ℕ) → Forward (replicate (length was) byte) was r out → r < length out
-    → Forward (replicate (length was) byte) was (r + 1) (set out r byte)
-fill-next was byte r out w l =
-    forward-next (replicate (length was) byte) was r out byte w l (sym (getD-replicate (length was) r byte 0 (omega (arith, w .size))))
-
 module _ (m was : List ℕ) (h : SameLength m was) where
   pub union-length : length was ≡ length (union was m)
   unfolding union

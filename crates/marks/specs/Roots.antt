@@ -10,9 +10,10 @@ use borrow.Author.Tests.{eq-eqb, ne-eqb}
 use lib.Dec.{T, eqb, eqb→eq}
 use lib.ListN.{length, getD}
 use Rattle.marks.specs.Backward.{ancestor-or-self-split}
-use Rattle.marks.specs.Columns.{RowSet, isMarked, marks, intersection, marks-length, marks-cong, marks-marked}
+use Rattle.row_marks.specs.Columns.{RowSet, isMarked, marks, intersection, marks-length, marks-cong, marks-marked}
 use Rattle.marks.specs.Forward.{image-self, child-root, child-later, descendant-root, descendant-later, descendant-or-self-root, descendant-or-self-later}
-use Rattle.marks.specs.Parents.{parentOf, ancestorsOf, isIn, rowOnAxis, image, imageMarks, image-cong, root-parent, root-ancestors, by-parents}
+use Rattle.marks.specs.Parents.{rowOnAxis, image, imageMarks, image-cong}
+use Rattle.row_marks.specs.Ancestors.{parentOf, ancestorsOf, isIn, root-parent, root-ancestors, by-parents}
 use Rattle.marks.specs.Selection.{rootMarks, noMarks, writtenMarks, testMarks, conditionMarks, stepMarks, stepsMarks}
 use Rattle.path_spec.specs.Paths.{Axis, self, child, descendant, descendantOrSelf, parent, ancestor, ancestorOrSelf, WrittenAxis, along, WrittenStep, Condition}
 use Rattle.schema_spec.specs.Names.{Name}

@@ -4,13 +4,12 @@ use mathlib.Core.List.{List, [], _∷_, map}
 use Prim.Native.Nat.{ℕ}
 use lib.Dec.{eqb}
 use lib.ListN.{length}
-use Rattle.marks.specs.Columns.{mark, marks, union, intersection, picked}
+use Rattle.row_marks.specs.Columns.{mark, marks, union, intersection, picked}
 use Rattle.marks.specs.Parents.{imageMarks}
 use Rattle.path_laws.specs.Inverses.{inverse}
 use Rattle.path_spec.specs.Paths.{WrittenAxis, along, NodeTest, WrittenStep, PlainStep, Condition, unconditional, alternatives, Start, rootElement, LocationPath}
 use Rattle.path_spec.specs.Selection.{passes}
 use Rattle.schema_spec.specs.Names.{Name}
-use Rattle.table_spec.specs.Rows.{Row}
 
 -- the rows on a written axis from the marked ones, and those from which it leads to a marked one
 abbrev pub writtenMarks : WrittenAxis → List ℕ → List ℕ → List ℕ
@@ -66,12 +65,3 @@ pathMarks ps ns p = stepsMarks ps ns (p .steps) (startMarks (p .start) (length p
 -- the numbers that a path selects on the columns of a table
 unfoldable pub selectColumns : List ℕ → List Name → List ℕ → LocationPath ℕ → List ℕ
 selectColumns ps ns numbers p = picked (pathMarks ps ns p) numbers
-
-abbrev pub parentsOf : List Row → List ℕ
-parentsOf rows = map (λ r. r .parent) rows
-
-abbrev pub namesOf : List Row → List Name
-namesOf rows = map (λ r. r .name) rows
-
-abbrev pub numbersOf : List Row → List ℕ
-numbersOf rows = map (λ r. r .number) rows

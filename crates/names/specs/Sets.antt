@@ -18,6 +18,10 @@ member s (text e) = hasBit (s .texts) e
 unfoldable pub setOf : Names → NameSet → Names
 setOf names s = filterBy (member s) names
 
+-- those names of the schema that are in the set, in their order
+abbrev pub setIn : Schema → NameSet → Names
+setIn s x = setOf (namesOf s) x
+
 -- the set of no name
 abbrev pub nothing : NameSet
 nothing = record { elements = 0; texts = 0 }

@@ -12,7 +12,8 @@ use Rattle.schema_spec.specs.Names.{Names, namesOf}
 use Rattle.schema_spec.specs.Schemas.{Schema}
 use Rattle.schema_spec.specs.Types.{typesOf}
 use Rattle.text_spec.specs.Lists.{anyOf, gather, isEmpty}
-use Rattle.type_steps.specs.Relations.{setIn, envIn}
+use Rattle.type_steps.specs.Relations.{envIn}
+use Rattle.names.specs.Sets.{setIn}
 use Rattle.type_steps.specs.declared.Inferred.{Inferred}
 
 -- one name, in the context k cut to it and above it

@@ -9,7 +9,7 @@ use Rattle.inference_spec.specs.Types.{cutTo}
 use Rattle.schema_spec.specs.Names.{Name, Names}
 use Rattle.schema_spec.specs.Schemas.{Schema}
 use Rattle.schema_spec.specs.Types.{typesOf}
-use Rattle.type_steps.specs.Relations.{setIn}
+use Rattle.names.specs.Sets.{setIn}
 
 -- the condition q keeps a name, in the context k cut to it and above it
 abbrev pub keepsIn : Schema → NameSet → Condition ℕ → Name → Bool

@@ -3,7 +3,7 @@ use mathlib.Core.Bool.{Bool, true, false, _&&_, _||_, and-true}
 use mathlib.Core.List.{List, [], _∷_, List·Memᴰ as In}
 use mathlib.Core.Logic.{⊎-elim}
 use mathlib.Core.Path.{_≡_, refl, sym, ap, ap₂, subst, _∙_}
-use Prim.Native.Nat.{ℕ, _+_, _-_, _<_, _≤_}
+use Prim.Native.Nat.{ℕ, _+_, _<_, _≤_}
 use native.Mathlib.Omega.{arith}
 use borrow.Author.Tests.{lt-ltb, le-ltb}
 use lib.Dec.{T, eqb, ltb, eqb→eq, eqb-refl, ltb→lt, lt→ltb}
@@ -14,7 +14,7 @@ use Rattle.name_codes.specs.Codes.{nameOfCode}
 use Rattle.name_codes.specs.Laws.{code-below, same-name-code, name-of-its-code}
 use Rattle.needed_conditions.specs.Conditions.{keepsIn, wantsIn}
 use Rattle.names.specs.SetLaws.{setOf-in, in-setOf, schema-every}
-use Rattle.names.specs.Sets.{member, setOf, everyName}
+use Rattle.names.specs.Sets.{member, setOf, everyName, setIn}
 use Rattle.names.specs.declared.NameSet.{NameSet}
 use Rattle.path_spec.specs.Paths.{Condition, unconditional, alternatives}
 use Rattle.schema_laws.specs.Names.{same-name, has-in, in-has}
@@ -24,7 +24,7 @@ use Rattle.text_laws.specs.Lists.{any-in, in-any, filter-cong, filter-filter, i
 use Rattle.text_laws.specs.Tests.{passed, false-of, or-left, or-right, or-cases, and-intro, and-cases, decided, same-test}
 use Rattle.text_spec.specs.Lists.{anyOf, filterBy, gather}
 use Rattle.text_spec.specs.Limits.{maxDeclarations}
-use Rattle.type_steps.specs.Relations.{Known, setIn}
+use Rattle.type_steps.specs.Relations.{Known}
 use Rattle.text_laws.specs.Searches.{one-more}
 
 -- ---- a condition in columns

@@ -14,7 +14,7 @@ use Rattle.schema_spec.specs.Names.{Names, namesOf, within}
 use Rattle.schema_spec.specs.Schemas.{Schema}
 use Rattle.schema_spec.specs.Types.{typesOf}
 use Rattle.text_spec.specs.Lists.{gather}
-use Rattle.type_steps.specs.Relations.{setIn}
+use Rattle.names.specs.Sets.{setIn}
 
 module _ (axes tests conditions paths : List ℕ) where
   -- n paths from i on

@@ -20,7 +20,7 @@ use Rattle.schema_spec.specs.Names.{Names, namesOf, within}
 use Rattle.schema_spec.specs.Schemas.{Schema}
 use Rattle.schema_spec.specs.Types.{typesOf}
 use Rattle.text_spec.specs.Lists.{gather}
-use Rattle.type_steps.specs.Relations.{setIn}
+use Rattle.names.specs.Sets.{setIn}
 
 module _ (axes tests conditions : List ℕ) where
   pub condition-steps : (k n first size : ℕ) → HasWrittenSteps axes tests conditions k n → first ≡ startAt conditions k → size ≡ sizeAt conditions k → HasSteps axes tests first size

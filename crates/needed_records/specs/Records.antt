@@ -3,14 +3,14 @@ use mathlib.Core.Bool.{Bool, true, false, cond, _&&_}
 use mathlib.Core.List.{List, []}
 use mathlib.Core.Option.{none, some}
 use mathlib.Core.Path.{_≡_, refl, sym, ap, _∙_}
-use Prim.Native.Nat.{ℕ, _≤_}
-use lib.Dec.{T, leb, leb→le}
+use Prim.Native.Nat.{ℕ}
+use lib.Dec.{T, leb}
 use lib.ListN.{take}
 use Rattle.bundle_reader.specs.Records.{passesBundleRecord}
 use Rattle.needed_records.specs.declared.Needed.{Needed}
 use Rattle.needed_records.specs.declared.Needed.the-variants.{Names, BadRecord}
 use Rattle.needed_texts.specs.Texts.{NeededBy}
-use Rattle.path_spec.specs.Reading.{readBundle, isBundleRecord}
+use Rattle.path_spec.specs.Reading.{readBundle}
 use Rattle.inference_spec.specs.Needed.{neededWord}
 use Rattle.library_spec.specs.Calls.{neededNames}
 use Rattle.library_spec.specs.Records.{schemaHeld, bundleHeld, passesSchema, passesBundle}
@@ -23,7 +23,7 @@ use Rattle.schema_spec.specs.Types.{typesOf}
 use Rattle.text_laws.specs.Tests.{and-cases, passed, failed, true-of}
 use Rattle.text_spec.specs.Calls.{handed}
 use Rattle.text_spec.specs.Cells.{padded}
-use Rattle.text_spec.specs.Limits.{maxSchemaBytes, maxBundleBytes}
+use Rattle.text_spec.specs.Limits.{maxSchemaBytes}
 use Rattle.text_spec.specs.Lists.{sameBytes}
 use Rattle.text_spec.specs.Refusals.{Outcome, accepted, refused, at, badRecord, resultOr}
 
@@ -69,18 +69,6 @@ module _ (cells : List ℕ) (size : ℕ) (bundle : List ℕ) (n : ℕ) where
 
     second : T (passesBundleRecord schema bundle n)
     second = and-cases (passesRecord cells size) (passesBundleRecord schema bundle n) (passed both) .1
-
-    pub schema-size : size ≤ maxSchemaBytes
-    schema-size =
-        leb→le size maxSchemaBytes
-        (and-cases (leb size maxSchemaBytes) (sameBytes cells (padded maxSchemaBytes (take size cells)))
-        (and-cases (leb size maxSchemaBytes && sameBytes cells (padded maxSchemaBytes (take size cells))) (isSchemaRecord (take size cells)) first .0) .0)
-
-    pub bundle-size : n ≤ maxBundleBytes
-    bundle-size =
-        leb→le n maxBundleBytes
-        (and-cases (leb n maxBundleBytes) (sameBytes bundle (padded maxBundleBytes (take n bundle)))
-        (and-cases (leb n maxBundleBytes && sameBytes bundle (padded maxBundleBytes (take n bundle))) (isBundleRecord schema (take n bundle)) second .0) .0)
 
     pub both-records : (w : ℕ) → NeededBy (take size cells) (take n bundle) w → outcomeOf (Names w) ≡ neededNames (recordWith cells size) (recordWith bundle n)
     unfolding NeededBy outcome under

@@ -4,7 +4,7 @@ use mathlib.Core.List.{List, [], _∷_, _++_}
 use mathlib.Core.Path.{_≡_, refl, sym, ap, ap₂, subst, _∙_}
 use Prim.Native.Nat.{ℕ, suc, _+_, _-_}
 use lib.ListN.{getD}
-use Rattle.names.specs.Sets.{member}
+use Rattle.names.specs.Sets.{member, setIn}
 use Rattle.names.specs.declared.NameSet.{NameSet}
 use Rattle.path_spec.specs.Paths.{Step, expandFrom}
 use Rattle.path_spec.specs.Selection.{passes}
@@ -16,7 +16,6 @@ use Rattle.schema_spec.specs.Types.{Types, typesOf}
 use Rattle.text_laws.specs.Lists.{filter-filter}
 use Rattle.text_spec.specs.Lists.{filterBy, gather}
 use Rattle.compiled_paths.specs.Columns.{axisOf, axisNumber, testOf, plainIn, plain-next}
-use Rattle.type_steps.specs.Relations.{setIn}
 use Rattle.back_steps.specs.Laws.{setIn-within, empty-setIn, needs-step}
 use Rattle.back_steps.specs.Needs.{StepNeeds, NeedsOf}
 use Rattle.back_steps.specs.declared.Needs.{Needs}

@@ -21,7 +21,8 @@ use Rattle.extract_spec.specs.Reading.{readExtract}
 use Rattle.library_spec.specs.Calls.{schemaRead, bundleRead, journalRead, neededNames, tableCut, extractWritten, extractRead, nodesSelected, rowText, rowChain}
 use Rattle.library_spec.specs.Chains.{chain}
 use Rattle.library_spec.specs.Conditions.{SchemaJudged, BundleJudged, JournalJudged, ExtractJudged, SchemaRecord, BundleRecord, EqualSizes, TableHanded, TableBeside, ReadsSchema, ReadsBundle, ReadsJournal, GivesNeeded, CutsTable, WritesExtract, ReadsExtract, TooFewSelections, SelectsNodes, GivesText, GivesChain}
-use Rattle.library_spec.specs.Records.{TextRecord, schemaHeld, bundleHeld, LentTable, tableHeld, tableBeside}
+use Rattle.library_spec.specs.Records.{schemaHeld, bundleHeld, LentTable, tableHeld, tableBeside}
+use Rattle.text_spec.specs.Records.{TextRecord}
 use Rattle.library_spec.specs.Selections.{askedPaths, Selections, selections}
 use Rattle.schema_reading_laws.specs.Reading.{schema-read, schema-read-once}
 use Rattle.schema_spec.specs.Reading.{readSchema}

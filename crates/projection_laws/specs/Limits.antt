@@ -22,7 +22,8 @@ use Rattle.path_spec.specs.Reading.{readBundle}
 use Rattle.library_spec.specs.Calls.{inColumns, journalRead}
 use Rattle.library_spec.specs.Hosts.{Lent, hostAnswer, inLent, extractOf, makeExtract}
 use Rattle.library_spec.specs.Listing.{FilesRead, judgeFiles, listingData, refusedLine, listed, listing}
-use Rattle.library_spec.specs.Records.{TextRecord, schemaHeld}
+use Rattle.library_spec.specs.Records.{schemaHeld}
+use Rattle.text_spec.specs.Records.{TextRecord}
 use Rattle.schema_reading_laws.specs.Reading.{schema-read}
 use Rattle.schema_spec.specs.Conditions.{SchemaApplies, SchemaGives}
 use Rattle.schema_spec.specs.Conditions as schemas

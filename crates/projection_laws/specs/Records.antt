@@ -12,7 +12,8 @@ use Rattle.path_spec.specs.Paths.{LocationPath}
 use Rattle.path_spec.specs.Reading.{bundleRefusals, readBundle, isBundleRecord}
 use Rattle.projection_laws.specs.Handed.{chosen-if}
 use Rattle.library_spec.specs.Conditions.{SchemaTaken, BundleTaken, SchemaRecord, of-schema, BundleRecord, of-bundle}
-use Rattle.library_spec.specs.Records.{TextRecord, textIn, recordOf, isRecord, passesSchema, passesBundle, schemaHeld, bundleHeld}
+use Rattle.library_spec.specs.Records.{passesSchema, passesBundle, schemaHeld, bundleHeld}
+use Rattle.text_spec.specs.Records.{TextRecord, textIn, recordOf, isRecord}
 use Rattle.schema_laws.specs.Accepted.{accepted-spelt}
 use Rattle.schema_laws.specs.Records.{normal-accepted, producible-record, record-accepted}
 use Rattle.schema_reading_laws.specs.Reading.{schema-read, schema-read-once}

@@ -17,7 +17,8 @@ use Rattle.extract_spec.specs.Fields.{elementTag, textTag, countTag, twoBytes, 
 use Rattle.inference_spec.specs.Needed.{needed}
 use Rattle.library_spec.specs.Conditions.{SchemaTaken, JournalTaken, of-schema, WritesExtract, Makes}
 use Rattle.library_spec.specs.Hosts.{HostAnswer, Lent, extractOf}
-use Rattle.library_spec.specs.Records.{TextRecord, LentTable}
+use Rattle.library_spec.specs.Records.{LentTable}
+use Rattle.text_spec.specs.Records.{TextRecord}
 use Rattle.schema_laws.specs.Accepted.{accepted-element, accepted-held}
 use Rattle.schema_reading_laws.specs.Reading.{schema-read-once}
 use Rattle.schema_spec.specs.Names.{Name, element, text, isText, namesOf}

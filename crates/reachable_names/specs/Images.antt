@@ -11,13 +11,13 @@ use lib.ListN.{length, getD}
 use Rattle.closures.specs.Relations.{relates}
 use Rattle.name_codes.specs.Laws.{single-list}
 use Rattle.names.specs.SetLaws.{nothing-in}
-use Rattle.names.specs.Sets.{member, nothing}
+use Rattle.names.specs.Sets.{member, nothing, setIn}
 use Rattle.names.specs.declared.NameSet.{NameSet}
 use Rattle.reachable_names.specs.Reached.{HeldInside}
 use Rattle.schema_laws.specs.Names.{same-equal, same-name, element-in}
 use Rattle.schema_spec.specs.Names.{Name, element, sameName}
 use Rattle.schema_spec.specs.Schemas.{Schema}
-use Rattle.type_steps.specs.Relations.{RelationsOf, setIn}
+use Rattle.type_steps.specs.Relations.{RelationsOf}
 use Rattle.text_laws.specs.Loops.{Passed}
 use Rattle.text_laws.specs.Tests.{same-test}
 

@@ -9,7 +9,7 @@ use lib.Dec.{T}
 use lib.ListN.{length}
 use Rattle.closures.specs.Relations.{relates, Reachable, one, more}
 use Rattle.names.specs.SetLaws.{setOf-in, in-setOf}
-use Rattle.names.specs.Sets.{member, setOf}
+use Rattle.names.specs.Sets.{member, setOf, setIn}
 use Rattle.names.specs.declared.NameSet.{NameSet}
 use Rattle.back_steps.specs.Laws.{within-member}
 use Rattle.inference_spec.specs.Needed.{fromRoot}
@@ -23,7 +23,6 @@ use Rattle.schema_spec.specs.Types.{holds, typesOf}
 use Rattle.text_laws.specs.Lists.{filter-filter}
 use Rattle.text_laws.specs.Tests.{and-intro, and-cases, same-test}
 use Rattle.text_spec.specs.Limits.{maxDeclarations}
-use Rattle.type_steps.specs.Relations.{setIn}
 
 -- what each element holds inside the set m
 abbrev pub HeldInside : Schema → NameSet → List NameSet → Type 0

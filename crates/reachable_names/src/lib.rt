@@ -5,12 +5,12 @@ ghost use mathlib.Core.Path.{_≡_};
 ghost use Prim.Native.Nat.{ℕ, _<_};
 ghost use lib.ListN.{length};
 ghost use Rattle.closures.specs.Relations.{relates};
-ghost use Rattle.names.specs.Sets.{member};
+ghost use Rattle.names.specs.Sets.{member, setIn};
 ghost use Rattle.inference_spec.specs.Needed.{fromRoot};
 ghost use Rattle.schema_spec.specs.Names.{Name, Names, element, namesOf, within};
 ghost use Rattle.schema_spec.specs.Schemas.{Schema};
 ghost use Rattle.schema_spec.specs.Types.{typesOf};
-ghost use Rattle.type_steps.specs.Relations.{RelationsOf, setIn};
+ghost use Rattle.type_steps.specs.Relations.{RelationsOf};
 use names::MAX_ELEMENTS;
 use names::NameSet;
 

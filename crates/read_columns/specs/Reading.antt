@@ -7,7 +7,8 @@ use Prim.Native.Nat.{ℕ}
 use native.Mathlib.Omega.{arith}
 use Rattle.journal_spec.specs.Reading.{readJournal}
 use Rattle.library_spec.specs.Calls.{inColumns, columnsAfter, journalRead, journalReadRows}
-use Rattle.library_spec.specs.Records.{TextRecord, schemaHeld}
+use Rattle.library_spec.specs.Records.{schemaHeld}
+use Rattle.text_spec.specs.Records.{TextRecord}
 use Rattle.projection_laws.specs.Limits.{accepted-within}
 use Rattle.row_struct_laws.specs.Answers.{Fitting, partSizes, front, equal-sizes, room-fitting, room-same, part-sizes, in-front}
 use Rattle.row_structs.specs.Structs.{cellOf, AnsweredFor}

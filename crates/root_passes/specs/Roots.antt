@@ -9,7 +9,7 @@ use lib.Dec.{eqb}
 use lib.ListN.{length, getD, set, length-set, replicate}
 use lib.Seq.{getD-set-same, getD-set-other}
 use Rattle.compiled_paths.specs.Columns.{axisOf, testOf}
-use Rattle.marks.specs.Columns.{RowSet, mark, marks, intersection, marks-length, marks-at, marks-by-rows}
+use Rattle.row_marks.specs.Columns.{RowSet, mark, marks, intersection, marks-length, marks-at, marks-by-rows}
 use Rattle.marks.specs.Parents.{imageMarks}
 use Rattle.marks.specs.Passes.{fill-marks}
 use Rattle.marks.specs.Roots.{rootImage, root-image-marks}

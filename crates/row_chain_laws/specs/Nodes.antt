@@ -8,7 +8,7 @@ use lib.Dec.{T}
 use lib.ListN.{length, getD, getElem?, length-map}
 use Rattle.compiled_schema.specs.Compiled.{CompiledOf}
 use Rattle.compiled_schema.specs.declared.CompiledSchema.{CompiledSchema}
-use Rattle.marks.specs.Parents.{by-parents}
+use Rattle.row_marks.specs.Ancestors.{by-parents}
 use Rattle.library_spec.specs.Chains.{tag, chain}
 use Rattle.row_chain_laws.specs.Names.{link-tag}
 use Rattle.row_chains.specs.Chains.{linkAt, chainAt, chain-root, chain-later}

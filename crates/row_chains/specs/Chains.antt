@@ -8,7 +8,7 @@ use borrow.Author.Tests.{lt-ltb, le-ltb, ltb-true}
 use lib.Dec.{ltb}
 use lib.ListN.{length, getD, drop, length-append, length-take, length-drop}
 use lib.Seq.{sets, length-sets}
-use Rattle.marks.specs.Parents.{ancestorsOf, root-ancestors, later-ancestors}
+use Rattle.row_marks.specs.Ancestors.{ancestorsOf, root-ancestors, later-ancestors}
 use Rattle.table_laws.specs.Parents.{ParentsBefore}
 use Rattle.text_laws.specs.Cells.{sets-append}
 use Rattle.text_spec.specs.Limits.{maxDeclarations, maxNodes, maxSchemaBytes}

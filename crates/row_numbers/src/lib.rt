@@ -1,8 +1,9 @@
-// The numbers of marked rows, written one after the other into lent cells, and counts; past them zeros. Counts are wider than numbers: a path
+// The numbers of marked rows, written one after the other into lent cells, and counts. Counts are wider than numbers: a path
 // may select more nodes than the largest number (D25).
 ghost use mathlib.Core.Path.{_≡_};
-ghost use Rattle.marks.specs.Columns.{picked};
-ghost use Rattle.row_numbers.specs.Cells.{written, Cleared, AppendPass, Appended};
+ghost use Rattle.row_marks.specs.Columns.{picked};
+ghost use Rattle.row_numbers.specs.Cells.{AppendPass};
+ghost use Rattle.lent_cells.specs.Appended.{written, Appended};
 
 // Writes a cell, if it is there.
 pub fn put(out: &mut [u16], n: usize, number: u16)
@@ -28,13 +29,6 @@ pub fn append(numbers: &[u16], marks: &[u8], out: &mut [u16], at: usize) -> usiz
     n
 }
 
-// Clears the cells from `n` on.
-pub fn clear_from(out: &mut [u16], n: usize)
-    ensures { λ _. ⌜ Cleared (now (out .entry)) n (now (out .exit)) ⌝ }
-{
-    lent_cells::clear_numbers(out, n);
-}
-
 // Writes a count, if its cell is there.
 pub fn put_count(counts: &mut [u32], n: usize, count: u32)
     ensures { λ _. ⌜ now (counts .exit) ≡ written (now (counts .entry)) n count ⌝ }
@@ -42,11 +36,4 @@ pub fn put_count(counts: &mut [u32], n: usize, count: u32)
     if n < counts.len() {
         counts[n] = count;
     }
-}
-
-// Clears the cells of counts from `n` on.
-pub fn clear_counts_from(counts: &mut [u32], n: usize)
-    ensures { λ _. ⌜ Cleared (now (counts .entry)) n (now (counts .exit)) ⌝ }
-{
-    lent_cells::clear_places(counts, n);
 }

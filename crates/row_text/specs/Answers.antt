@@ -1,5 +1,5 @@
 -- The answer of the text of a row, and that it is the library's outcome.
-use mathlib.Core.Bool.{Bool, true, false, cond, not, _&&_}
+use mathlib.Core.Bool.{Bool, true, false, cond, not}
 use mathlib.Core.List.{List}
 use mathlib.Core.Logic.{⊎-elim}
 use mathlib.Core.Option.{Option, none, some}
@@ -7,16 +7,16 @@ use mathlib.Core.Path.{_≡_, refl, sym, ap, subst, _∙_}
 use Prim.Native.Nat.{ℕ, _+_, _-_, _<_, _≤_}
 use native.Mathlib.Omega.{arith}
 use borrow.Author.Tests.{le-leb, lt-leb}
-use lib.Dec.{T, leb, leb→le}
+use lib.Dec.{T, leb}
 use lib.ListN.{length, getD, getElem?, take, drop}
 use Rattle.library_spec.specs.Calls.{textOfRow, noText, textAt, rowText, partAfter}
 use Rattle.library_spec.specs.Calls as Calls
-use Rattle.library_spec.specs.Records.{TextRecord, LentTable, textIn, schemaHeld, rowsLent, keptIf, tableBeside, passesSchema}
+use Rattle.library_spec.specs.Records.{LentTable, schemaHeld, rowsLent, keptIf, tableBeside, passesSchema}
+use Rattle.text_spec.specs.Records.{TextRecord, textIn}
 use Rattle.row_text.specs.declared.RowText.{RowText}
 use Rattle.row_text.specs.declared.RowText.the-variants.{Refused, Element, Text}
-use Rattle.schema_reader.specs.Records.{passesRecord}
 use Rattle.schema_spec.specs.Names.{Name, element, text, isText, codeOf}
-use Rattle.schema_spec.specs.Records.{schemaIn, isSchemaRecord}
+use Rattle.schema_spec.specs.Records.{schemaIn}
 use Rattle.schema_spec.specs.Schemas.{Schema}
 use Rattle.schema_spec.specs.Types.{typesOf}
 use Rattle.table_laws.specs.Places.{at-some, at-bound, at-in}
@@ -31,11 +31,9 @@ use Rattle.table_spec.specs.Tables.{wellFormedWith}
 use Rattle.table_rows.specs.Lent.{Lent}
 use Rattle.tables.specs.Handed.{isBeside, sizesFit, fit-lent}
 use Rattle.text_laws.specs.Searches.{below-or-past}
-use Rattle.text_laws.specs.Tests.{never, passed, and-cases}
+use Rattle.text_laws.specs.Tests.{never, passed}
 use Rattle.text_spec.specs.Calls.{handed}
-use Rattle.text_spec.specs.Cells.{padded}
-use Rattle.text_spec.specs.Limits.{maxSchemaBytes}
-use Rattle.text_spec.specs.Lists.{isNone, sameBytes}
+use Rattle.text_spec.specs.Lists.{isNone}
 use Rattle.text_spec.specs.Refusals.{Outcome, accepted, refused, at, badRecord}
 
 -- ---- definitions
@@ -192,12 +190,6 @@ beside-lent z lent t e = pick (sizesFit t) refl e
         → Lent (t .columns) (t .count)
     pick true q f = fit-lent t q
     pick false q f = never (cc)
-
--- ---- what the code's tests say
-pub record-low : (cells : List ℕ) (size : ℕ) → passesRecord cells size ≡ true → size ≤ maxSchemaBytes
-record-low cells size e =
-    let c₀ = and-cases (leb size maxSchemaBytes && sameBytes cells (padded maxSchemaBytes (take size cells))) (isSchemaRecord (take size cells)) (passed e) in
-    leb→le _ _ (and-cases (leb size maxSchemaBytes) (sameBytes cells (padded maxSchemaBytes (take size cells))) (c₀ .0) .0)
 
 -- the part of a text, by the answer
 module _ (lent : List ℕ) (r : RowText) (o : Outcome Calls.RowText) (is : outcomeOf r ≡ o) where

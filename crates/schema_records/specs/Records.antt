@@ -4,7 +4,8 @@ use mathlib.Core.Option.{Option, none, some}
 use mathlib.Core.Path.{_≡_, refl, ap, ap₂, _∙_}
 use Prim.Native.Nat.{ℕ}
 use Rattle.library_spec.specs.Calls.{recordAfter, schemaRead}
-use Rattle.library_spec.specs.Records.{TextRecord, recordOf, passesSchema}
+use Rattle.library_spec.specs.Records.{passesSchema}
+use Rattle.text_spec.specs.Records.{TextRecord, recordOf}
 use Rattle.schema.specs.Judging.{outcomeOf, sized}
 use Rattle.schema_reader.specs.Records.{ReadAs, passesRecord}
 use Rattle.schema_reader.specs.declared.SchemaRead.{SchemaRead}

@@ -1,8 +1,7 @@
 -- The columns of a compiled schema are what the code of needed names asks for: the relations of the schema, its number of elements, its names.
 use mathlib.Core.List.{List}
 use mathlib.Core.Path.{_≡_}
-use Prim.Native.Nat.{ℕ, _≤_}
-use native.Mathlib.Omega.{arith}
+use Prim.Native.Nat.{ℕ}
 use lib.ListN.{length}
 use Rattle.closures.specs.Schemas.{RelationOf}
 use Rattle.compiled_paths.specs.Paths.{pathsIn}
@@ -11,21 +10,13 @@ use Rattle.compiled_schema.specs.Compiled.{CompiledOf}
 use Rattle.compiled_schema.specs.declared.CompiledSchema.{CompiledSchema}
 use Rattle.names.specs.declared.NameSet.{NameSet}
 use Rattle.inference_spec.specs.Needed.{needed, neededWord}
-use Rattle.schema_laws.specs.Accepted.{accepted-length, accepted-filled, accepted-closed, schemaIn-length}
+use Rattle.schema_laws.specs.Accepted.{accepted-length, accepted-filled, accepted-closed}
 use Rattle.schema_spec.specs.Reading.{readSchema}
-use Rattle.schema_spec.specs.Records.{schemaIn}
 use Rattle.schema_spec.specs.Schemas.{Schema}
 use Rattle.schema_spec.specs.Types.{holds, typesOf}
-use Rattle.text_spec.specs.Limits.{maxDeclarations}
 use Rattle.text_spec.specs.Refusals.{accepted}
-use Rattle.type_steps.specs.Relations.{RelationsOf, NamesOf, Known, setIn}
-
--- whatever the text, there are no more elements than a schema may have
-pub compiled-few : (text : List ℕ) (t : CompiledSchema) → CompiledOf text (schemaIn text) t → t .count ≤ maxDeclarations
-compiled-few text t made =
-    let few = schemaIn-length text in
-    let n = made .counted in
-    omega arith
+use Rattle.type_steps.specs.Relations.{RelationsOf, NamesOf, Known}
+use Rattle.names.specs.Sets.{setIn}
 
 module _ (text : List ℕ) (s : Schema) (read : readSchema text ≡ accepted s) (t : CompiledSchema) (made : CompiledOf text s t) where
   -- the relations of the schema

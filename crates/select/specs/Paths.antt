@@ -2,20 +2,21 @@
 use mathlib.Core.Bool.{Bool, true, false, cond}
 use mathlib.Core.List.{List, [], _∷_}
 use mathlib.Core.Path.{_≡_, refl, sym, _∙_}
-use Prim.Native.Nat.{ℕ, zero, suc, _*_, _<_, _≤_}
+use Prim.Native.Nat.{ℕ, zero, suc, _*_, _≤_}
 use native.Mathlib.Omega.{arith}
 use lib.Dec.{eqb}
 use lib.ListN.{length}
 use Rattle.compiled_paths.specs.Columns.{stepsIn, sizeAt, startAt, pathAt, bundleIn}
 use Rattle.compiled_paths.specs.declared.CompiledPaths.{CompiledPaths}
-use Rattle.marks.specs.Columns.{picked}
+use Rattle.row_marks.specs.Columns.{picked}
 use Rattle.marks.specs.Selection.{stepsMarks, pathMarks, rootMarks, selectColumns}
 use Rattle.path_spec.specs.Paths.{LocationPath}
-use Rattle.row_numbers.specs.Cells.{AppendPass, Appended}
+use Rattle.row_numbers.specs.Cells.{AppendPass}
+use Rattle.lent_cells.specs.Appended.{Appended}
 use Rattle.selection.specs.Steps.{PathRanges, PathPass, root-column}
 use Rattle.step_passes.specs.Steps.{MarkColumn}
-use Rattle.step_passes.specs.Tests.{namesIn, Coded}
-use Rattle.table_laws.specs.Parents.{ParentsBefore}
+use Rattle.step_passes.specs.Tests.{namesIn}
+use Rattle.table_laws.specs.Columns.{TestedColumns}
 use Rattle.text_spec.specs.Limits.{maxNodes, maxPaths}
 use Rattle.written_steps.specs.Steps.{Scratch, step-column}
 
@@ -26,18 +27,11 @@ pathIn c i = pathAt (c .axes) (c .tests) (c .conditions) (c .paths) i
 abbrev pub pathsFrom : CompiledPaths → ℕ → ℕ → List (LocationPath ℕ)
 pathsFrom c n i = bundleIn (c .axes) (c .tests) (c .conditions) (c .paths) n i
 
--- ---- what selecting asks
--- the columns of a table, which may be empty
-pub record Columns (numbers codes ps : List ℕ) : Type 0 where
-  pub before : ParentsBefore ps
-  pub coded : Coded codes
-  pub names-size : length codes ≡ length ps
-  pub numbers-size : length numbers ≡ length ps
-  pub few : length ps ≤ maxNodes
 
+-- ---- what selecting asks
 pub record OnePass (conditions paths : List ℕ) (i : ℕ) (numbers codes ps : List ℕ) (at : ℕ) (m held steps next : List ℕ) : Type 0 where
   pub ranges : PathRanges conditions paths i
-  pub columns : Columns numbers codes ps
+  pub columns : TestedColumns numbers codes ps
   pub low : at ≤ maxPaths * maxNodes
   pub room : length m ≡ length ps
   pub scratch : Scratch ps held steps next

@@ -1,7 +1,7 @@
 // The numbers that one compiled path selects on a table in columns, in lent cells.
 ghost use Rattle.compiled_paths.specs.Columns.{pathAt};
 ghost use Rattle.marks.specs.Selection.{selectColumns};
-ghost use Rattle.row_numbers.specs.Cells.{Appended};
+ghost use Rattle.lent_cells.specs.Appended.{Appended};
 ghost use Rattle.select.specs.Paths.{OnePass};
 ghost use Rattle.step_passes.specs.Tests.{namesIn};
 use compiled_paths::CONDITION_STARTS;

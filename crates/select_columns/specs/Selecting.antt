@@ -8,7 +8,8 @@ use lib.Dec.{leb}
 use lib.ListN.{length}
 use Rattle.laid_tables.specs.Tables.{same-beside, none-beside}
 use Rattle.library_spec.specs.Calls.{nodesSelected, nodesSelectedRows, tableOfCells}
-use Rattle.library_spec.specs.Records.{TextRecord, LentTable, schemaHeld, bundleHeld, tableBeside}
+use Rattle.library_spec.specs.Records.{LentTable, schemaHeld, bundleHeld, tableBeside}
+use Rattle.text_spec.specs.Records.{TextRecord}
 use Rattle.library_spec.specs.Selections.{askedPaths, Selections, selections}
 use Rattle.path_spec.specs.Paths.{LocationPath}
 use Rattle.row_struct_laws.specs.Answers.{cellCount}

@@ -16,7 +16,7 @@ use Rattle.library_spec.specs.Selections.{Selections}
 use Rattle.path_spec.specs.Paths.{LocationPath}
 use Rattle.schema_spec.specs.Schemas.{Schema}
 use Rattle.schema_spec.specs.Types.{typesOf}
-use Rattle.select.specs.Paths.{Columns}
+use Rattle.table_laws.specs.Columns.{TestedColumns}
 use Rattle.select_table.specs.Tables.{RowsIn, rowsSelected, paths-count}
 use Rattle.selected_answers.specs.Answers.{AnsweredSelections, RefusedBy, refused-as}
 use Rattle.selected_answers.specs.declared.Selected.{Selected}
@@ -83,7 +83,7 @@ module _ (words lent : List ℕ) (t : LentTable) (b : Bool) (tests : TestsTable 
   pub beside-inside : Lent (t .columns) (t .count)
   beside-inside = let f = beside in lent-cells t (f .rows) (f .are)
 
-  pub beside-columns : Columns (take (t .count) (t .columns .numbers)) (take (t .count) (t .columns .names)) (take (t .count) (t .columns .parents))
+  pub beside-columns : TestedColumns (take (t .count) (t .columns .numbers)) (take (t .count) (t .columns .names)) (take (t .count) (t .columns .parents))
   beside-columns = let f = beside in lent-columns t (f .rows) (f .are) (some-schema .schema) (f .passes)
 
 module _ (s : Schema) (c : CompiledPaths) (place : ℕ) (t : LentTable) (lent : List ℕ) (i n : ℕ) (r : Selected) (items counts : List ℕ) where

@@ -9,8 +9,10 @@ use Rattle.compiled_paths.specs.Paths.{Shaped}
 use Rattle.compiled_paths.specs.declared.CompiledPaths.{CompiledPaths}
 use Rattle.marks.specs.Selection.{selectColumns}
 use Rattle.path_spec.specs.Paths.{LocationPath}
-use Rattle.row_numbers.specs.Cells.{written, Appended, Cleared, appended-appended, appended-cleared, appended-one}
-use Rattle.select.specs.Paths.{pathIn, pathsFrom, Columns, OnePass, selected-few}
+use Rattle.lent_cells.specs.Appended.{written, Appended, appended-appended, appended-cleared, appended-one}
+use Rattle.lent_cells.specs.Cells.{Cleared}
+use Rattle.select.specs.Paths.{pathIn, pathsFrom, OnePass, selected-few}
+use Rattle.table_laws.specs.Columns.{TestedColumns}
 use Rattle.selection.specs.Steps.{path-ranges}
 use Rattle.step_passes.specs.Tests.{namesIn}
 use Rattle.text_spec.specs.Cells.{padded}
@@ -22,7 +24,7 @@ pub record AllPass (c : CompiledPaths) (first end : ℕ) (numbers codes ps m hel
   pub shaped : Shaped c
   pub order : first ≤ end
   pub inside : end ≤ c .count
-  pub columns : Columns numbers codes ps
+  pub columns : TestedColumns numbers codes ps
   pub room : length m ≡ length ps
   pub scratch : Scratch ps held steps next
 
@@ -116,10 +118,10 @@ module _ (c : CompiledPaths) (first end : ℕ) (numbers codes ps items₀ counts
       pub one-count : p - n ≡ length (selectColumns ps (namesIn codes) numbers (pathIn c i))
       one-count = omega (arith, a .count)
 
-      pub one-fits : Columns numbers codes ps → p - n ≤ maxNodes
+      pub one-fits : TestedColumns numbers codes ps → p - n ≤ maxNodes
       one-fits h = omega (arith, one-count, selected-few ps codes numbers (pathIn c i), h .numbers-size, h .few)
 
-      pub paths-next : Columns numbers codes ps → (y m′ held′ steps′ next′ : List ℕ) → i < end → y ≡ written counts (i - first) (p - n)
+      pub paths-next : TestedColumns numbers codes ps → (y m′ held′ steps′ next′ : List ℕ) → i < end → y ≡ written counts (i - first) (p - n)
           → length m′ ≡ length m → length held′ ≡ length held → length steps′ ≡ length steps → length next′ ≡ length next
           → PathsSoFar c first end numbers codes ps items₀ counts₀ (i + 1) p x y m′ held′ steps′ next′
       paths-next h y m′ held′ steps′ next′ l e u v s t =

@@ -4,8 +4,8 @@ ghost use Rattle.select_paths.specs.Joined.{AllPass, JoinedAs};
 use compiled_paths::CONDITION_STARTS;
 use compiled_paths::PATH_STARTS;
 use compiled_paths::STEPS;
-use row_numbers::clear_counts_from;
-use row_numbers::clear_from;
+use lent_cells::clear_places;
+use lent_cells::clear_numbers;
 use row_numbers::put_count;
 use select::select_one;
 
@@ -54,7 +54,7 @@ pub fn select_paths<'a>(
         n = m;
         i += 1;
     }
-    clear_from(items, n);
-    clear_counts_from(counts, end - first);
+    clear_numbers(items, n);
+    clear_places(counts, end - first);
     n
 }

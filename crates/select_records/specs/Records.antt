@@ -15,7 +15,7 @@ use Rattle.held_words.specs.Words.{WordsOf, words-held}
 use Rattle.library_spec.specs.Calls.{nodesSelected}
 use Rattle.library_spec.specs.Records.{LentTable, schemaHeld, bundleHeld, passesSchema, passesBundle}
 use Rattle.library_spec.specs.Selections.{Selections}
-use Rattle.needed_texts.specs.Texts.{namesAt}
+use Rattle.compiled_schema.specs.Places.{namesAt}
 use Rattle.path_spec.specs.Paths.{LocationPath}
 use Rattle.path_spec.specs.Reading.{readBundle}
 use Rattle.schema_laws.specs.Accepted.{schemaIn-length}

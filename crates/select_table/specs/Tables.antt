@@ -11,16 +11,16 @@ use Rattle.compiled_paths.specs.Columns.{bundleIn}
 use Rattle.compiled_paths.specs.Paths.{Shaped, lentPaths, pathsIn}
 use Rattle.compiled_paths.specs.declared.CompiledPaths.{CompiledPaths}
 use Rattle.library_spec.specs.Selections.{askedPaths, Selections, selections}
-use Rattle.marks.specs.Selection.{parentsOf, numbersOf}
+use Rattle.table_laws.specs.Columns.{parentsOf, numbersOf, codesOf, TestedColumns}
 use Rattle.path_spec.specs.Paths.{LocationPath}
 use Rattle.path_spec.specs.Selection.{selectRows}
 use Rattle.schema_spec.specs.Types.{Types}
-use Rattle.select.specs.Paths.{pathsFrom, Columns}
+use Rattle.select.specs.Paths.{pathsFrom}
 use Rattle.select_paths.specs.Joined.{AllPass, itemsOf, countsOf, JoinedAs}
 use Rattle.selected_answers.specs.Answers.{inCells, AnsweredSelections, Written}
 use Rattle.selected_answers.specs.declared.Selected.{Selected}
 use Rattle.selected_rows.specs.Asked.{asked-range, all-asked, items-selected, counts-of-selected}
-use Rattle.selected_rows.specs.Selected.{codesOf, NamesCoded}
+use Rattle.table_laws.specs.Codes.{NamesCoded}
 use Rattle.table_spec.specs.Rows.{Row}
 use Rattle.table_spec.specs.Tables.{wellFormed}
 use Rattle.text_laws.specs.Cells.{padded-length}
@@ -45,7 +45,7 @@ rowsSelected text rows place ps items counts = inCells items counts (selections 
 pub record AskedPass (c : CompiledPaths) (place : ℕ) (numbers codes ps m held steps next : List ℕ) : Type 0 where
   pub shaped : Shaped c
   pub inside : place ≤ c .count
-  pub columns : Columns numbers codes ps
+  pub columns : TestedColumns numbers codes ps
   pub room : length m ≡ length ps
   pub scratch : Scratch ps held steps next
 
@@ -67,7 +67,7 @@ paths-count c = paths-long c (c .count) 0
 pub scratch-long : (n k x : ℕ) → n ≤ k → n ≡ length (take n (replicate k x))
 scratch-long n k x l = sym (length-take-le n (replicate k x) (omega (arith, length-replicate k x)))
 
-pub with-scratch : (c : CompiledPaths) (place : ℕ) (numbers codes ps : List ℕ) → Shaped c × (place ≤ c .count) × Columns numbers codes ps
+pub with-scratch : (c : CompiledPaths) (place : ℕ) (numbers codes ps : List ℕ) → Shaped c × (place ≤ c .count) × TestedColumns numbers codes ps
     → AskedPass c place numbers codes ps (take (length ps) (replicate maxNodes 0)) (take (length ps) (replicate maxNodes 0)) (take (length ps) (replicate maxNodes 0)) (take (length ps) (replicate maxNodes 0))
 with-scratch c place numbers codes ps h =
     let room = sym (scratch-long (length ps) maxNodes 0 (h .2 .few)) in

@@ -4,7 +4,7 @@ ghost use Prim.Native.Nat.{ℕ, _≤_};
 ghost use lib.ListN.{length};
 ghost use Rattle.compiled_paths.specs.Paths.{Shaped, lentPaths, pathsIn};
 ghost use Rattle.schema_spec.specs.Types.{Types};
-ghost use Rattle.select.specs.Paths.{Columns};
+ghost use Rattle.table_laws.specs.Columns.{TestedColumns};
 ghost use Rattle.select_table.specs.Tables.{AskedPass, RowsIn, rowsSelected};
 ghost use Rattle.selected_answers.specs.Answers.{AnsweredSelections};
 ghost use Rattle.table_spec.specs.Rows.{Row};
@@ -75,7 +75,7 @@ pub fn select_table<'a>(
     items: &mut [u16],
     counts: &mut [u32],
 ) -> Selected
-    requires { ⌜ Shaped (lentPaths (now axes) (now tests) (now conditions) (now paths) count) × (place ≤ count) × Columns (now numbers) (now codes) (now parents) ⌝ }
+    requires { ⌜ Shaped (lentPaths (now axes) (now tests) (now conditions) (now paths) count) × (place ≤ count) × TestedColumns (now numbers) (now codes) (now parents) ⌝ }
     ensures { λ r. ⌜ ((s : Types) (text : List ℕ) (rows : List Row) → RowsIn s rows (now (numbers .entry)) (now (codes .entry)) (now (parents .entry)) → AnsweredSelections (rowsSelected text rows place (pathsIn (lentPaths (now (axes .entry)) (now (tests .entry)) (now (conditions .entry)) (now (paths .entry)) count)) (length (now (items .entry))) (length (now (counts .entry)))) (length (now (items .entry))) (length (now (counts .entry))) r (now (items .exit)) (now (counts .exit))) ⌝ }
 {
     let mut marks = [0u8; MAX_NODES];

@@ -9,14 +9,16 @@ use lib.ListN.{length, getElem?}
 use Rattle.compiled_paths.specs.Columns.{bundleIn}
 use Rattle.compiled_paths.specs.Paths.{pathsIn}
 use Rattle.compiled_paths.specs.declared.CompiledPaths.{CompiledPaths}
-use Rattle.marks.specs.Selection.{selectColumns, parentsOf, numbersOf}
+use Rattle.marks.specs.Selection.{selectColumns}
+use Rattle.table_laws.specs.Columns.{parentsOf, numbersOf, codesOf}
 use Rattle.path_spec.specs.Paths.{LocationPath}
 use Rattle.path_spec.specs.Selection.{selectRows}
 use Rattle.library_spec.specs.Selections.{askedPaths, selections}
 use Rattle.schema_spec.specs.Types.{Types}
 use Rattle.select.specs.Paths.{pathIn, pathsFrom}
 use Rattle.select_paths.specs.Joined.{itemsOf, countsOf}
-use Rattle.selected_rows.specs.Selected.{codesOf, NamesCoded, marked-selected}
+use Rattle.selected_rows.specs.Selected.{marked-selected}
+use Rattle.table_laws.specs.Codes.{NamesCoded}
 use Rattle.step_passes.specs.Tests.{namesIn}
 use Rattle.table_spec.specs.Rows.{Row}
 use Rattle.table_spec.specs.Tables.{wellFormed}

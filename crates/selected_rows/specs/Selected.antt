@@ -1,28 +1,26 @@
 -- The rows that the code marks on the columns of a well-formed table are those that the path selects, in document order.
-use mathlib.Core.List.{List, [], _∷_, map, List·Memᴰ as In, List·Memᴰ·head as here, List·Memᴰ·tail as there}
+use mathlib.Core.List.{List, [], _∷_, List·Memᴰ·head as here, List·Memᴰ·tail as there}
 use mathlib.Core.Path.{_≡_, refl, sym, ap, _∙_}
-use Prim.Native.Nat.{ℕ, zero, suc, _+_, _-_, _<_}
+use Prim.Native.Nat.{ℕ, _+_, _-_}
 use native.Mathlib.Omega.{arith}
 use borrow.Author.Tests.{lt-ltb, le-ltb}
 use lib.Dec.{T}
 use mathlib.Core.Bool.{Bool, cond}
-use Rattle.marks.specs.Columns.{picked}
-use Rattle.marks.specs.Selection.{pathMarks, selectColumns, parentsOf, namesOf, numbersOf}
+use Rattle.row_marks.specs.Columns.{picked}
+use Rattle.marks.specs.Selection.{pathMarks, selectColumns}
+use Rattle.table_laws.specs.Columns.{parentsOf, namesOf, numbersOf, codesOf}
 use Rattle.path_spec.specs.Paths.{LocationPath}
 use Rattle.path_spec.specs.Selection.{selectRows}
 use Rattle.schema_spec.specs.Names.{Name, element, text, codeOf}
 use Rattle.schema_spec.specs.Types.{Types}
 use Rattle.selection_laws.specs.Paths.{select-columns}
-use Rattle.code_ranges.specs.Tests.{nameWithCode, namesIn, Coded}
+use Rattle.code_ranges.specs.Tests.{nameWithCode, namesIn}
+use Rattle.table_laws.specs.Codes.{HasCode, NamesCoded}
 use Rattle.table_spec.specs.Rows.{Row}
 use Rattle.table_spec.specs.Tables.{wellFormed}
 use Rattle.text_spec.specs.Limits.{maxDeclarations}
 
 -- ---- names and their codes
-abbrev pub HasCode : Name → Type 0
-HasCode (element e) = e < maxDeclarations
-HasCode (text e) = e < maxDeclarations
-
 name-of-code : (n : Name) → HasCode n → nameWithCode (codeOf n) ≡ n
 unfolding nameWithCode
 name-of-code (element e) h = ap (λ (b : Bool). cond b (element e) (text (e - maxDeclarations))) (lt-ltb e maxDeclarations h)
@@ -30,29 +28,11 @@ name-of-code (text e) h =
     let z : maxDeclarations + e - maxDeclarations ≡ e = omega arith in
     ap (λ (b : Bool). cond b (element (maxDeclarations + e)) (text (maxDeclarations + e - maxDeclarations))) (le-ltb (maxDeclarations + e) maxDeclarations (omega arith)) ∙ ap text z
 
-code-small : (n : Name) → HasCode n → codeOf n < maxDeclarations + maxDeclarations
-code-small (element e) h = omega arith
-code-small (text e) h = omega arith
-
--- the column of the rows' names
-abbrev pub codesOf : List Row → List ℕ
-codesOf rows = map codeOf (namesOf rows)
-
--- each row's name is one that a code can stand for
-abbrev pub NamesCoded : List Row → Type 0
-NamesCoded rows = (r : Row) → In r rows → HasCode (r .name)
-
 names-decoded : (rows : List Row) → NamesCoded rows → namesIn (codesOf rows) ≡ namesOf rows
 names-decoded [] h = refl
 names-decoded (r ∷ rows) h =
     ap (λ (n : Name). n ∷ namesIn (codesOf rows)) (name-of-code (r .name) (h r (here refl)))
     ∙ ap (λ (l : List Name). r .name ∷ l) (names-decoded rows (λ q i. h q (there i)))
-
-pub codes-small : (rows : List Row) → NamesCoded rows → Coded (codesOf rows)
-codes-small [] h zero = omega arith
-codes-small [] h (suc k) = omega arith
-codes-small (r ∷ rows) h zero = code-small (r .name) (h r (here refl))
-codes-small (r ∷ rows) h (suc k) = codes-small rows (λ q i. h q (there i)) k
 
 -- the numbers at the rows that the path's column marks are what the path selects, whatever text is lent
 pub marked-selected : (s : Types) (lent : List ℕ) (rows : List Row) (p : LocationPath ℕ) → T (wellFormed s rows) → NamesCoded rows

@@ -11,7 +11,7 @@ use Rattle.compiled_paths.specs.Columns.{stepAt, stepsIn, pathAt}
 use Rattle.compiled_paths.specs.Paths.{AtMost, Shaped}
 use Rattle.compiled_paths.specs.Sizes.{writtenSteps, allSteps}
 use Rattle.compiled_paths.specs.declared.CompiledPaths.{CompiledPaths}
-use Rattle.marks.specs.Columns.{isMarked, no-row-marked}
+use Rattle.row_marks.specs.Columns.{isMarked, no-row-marked}
 use Rattle.marks.specs.Roots.{steps-none}
 use Rattle.marks.specs.Selection.{noMarks, stepMarks, stepsMarks, rootMarks, pathMarks}
 use Rattle.step_passes.specs.Steps.{TableColumns, MarkColumn, marks-column}

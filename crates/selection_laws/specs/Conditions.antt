@@ -4,7 +4,7 @@ use mathlib.Core.List.{List, [], _∷_, map}
 use mathlib.Core.Path.{_≡_, refl, sym, ap, _∙_}
 use Prim.Native.Nat.{ℕ}
 use lib.ListN.{length}
-use Rattle.marks.specs.Columns.{marks, union, intersection, picked}
+use Rattle.row_marks.specs.Columns.{marks, union, intersection, picked}
 use Rattle.marks.specs.Parents.{imageMarks}
 use Rattle.marks.specs.Selection.{inverseMarks, noMarks, testMarks, alternativeMarks, alternativesMarks, conditionMarks}
 use Rattle.path_laws.specs.Inverses.{inverse, inverse-axis}

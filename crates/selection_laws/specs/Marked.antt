@@ -7,7 +7,7 @@ use Prim.Native.Nat.{ℕ, zero, suc}
 use native.Mathlib.Omega.{arith}
 use lib.Dec.{eqb}
 use lib.ListN.{length, getD, getElem?, length-map}
-use Rattle.marks.specs.Columns.{RowSet, mark, isMarked, marks, union, intersection, picked, mark-test, marks-length, marks-marked}
+use Rattle.row_marks.specs.Columns.{RowSet, mark, isMarked, marks, union, intersection, picked, mark-test, marks-length, marks-marked}
 use Rattle.marks.specs.Parents.{rowOnAxis, image, imageMarks}
 use Rattle.marks.specs.Selection.{testMarks}
 use Rattle.path_spec.specs.Paths.{Axis, NodeTest}

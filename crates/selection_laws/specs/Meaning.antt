@@ -7,7 +7,7 @@ use Prim.Native.Nat.{ℕ, _<_}
 use native.Mathlib.Omega.{arith}
 use lib.Dec.{T}
 use lib.ListN.{length}
-use Rattle.marks.specs.Columns.{isMarked, marks-marked}
+use Rattle.row_marks.specs.Columns.{isMarked, marks-marked}
 use Rattle.marks.specs.Parents.{rowOnAxis, image, imageMarks}
 use Rattle.marks.specs.Selection.{conditionMarks}
 use Rattle.path_laws.specs.Selection.{test-on-axis, on-axis-test, test-holds, holds-test}

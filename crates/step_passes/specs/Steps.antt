@@ -6,14 +6,15 @@ use Prim.Native.Nat.{ℕ, _<_}
 use lib.ListN.{length, replicate}
 use Rattle.code_ranges.specs.Tests.{InRange, range-test}
 use Rattle.compiled_paths.specs.Columns.{axisOf, testOf}
-use Rattle.marks.specs.Columns.{RowSet, isMarked, marks, OnlyMarks, union, intersection, marks-length, only-marks, no-row-marked}
+use Rattle.row_marks.specs.Columns.{RowSet, isMarked, marks, OnlyMarks, union, intersection, marks-length, only-marks, no-row-marked}
 use Rattle.marks.specs.Parents.{imageMarks}
 use Rattle.marks.specs.Passes.{AxisPass, SameLength, FilterPass, self-image, rangeMarks, fill-marks}
 use Rattle.marks.specs.Roots.{image-none}
 use Rattle.marks.specs.Selection.{noMarks, testMarks}
 use Rattle.path_laws.specs.Inverses.{inverse}
 use Rattle.path_spec.specs.Paths.{Axis, self}
-use Rattle.step_passes.specs.Tests.{namesIn, Coded}
+use Rattle.step_passes.specs.Tests.{namesIn}
+use Rattle.table_laws.specs.Columns.{Coded}
 use Rattle.table_laws.specs.Parents.{ParentsBefore}
 use Rattle.text_spec.specs.Lists.{anyBelow}
 

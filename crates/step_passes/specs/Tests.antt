@@ -1,2 +1,3 @@
 -- The names of codes.
-pub use Rattle.code_ranges.specs.Tests.{nameWithCode, namesIn, Coded}
+pub use Rattle.code_ranges.specs.Tests.{nameWithCode, namesIn}
+pub use Rattle.table_laws.specs.Columns.{Coded}

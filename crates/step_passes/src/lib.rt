@@ -1,18 +1,18 @@
 // One step of a compiled path for all rows at once: forward along its axis, and back along the inverse axis.
 ghost use mathlib.Core.Path.{_≡_};
 ghost use Rattle.compiled_paths.specs.Columns.{axisOf, testOf};
-ghost use Rattle.marks.specs.Columns.{intersection};
+ghost use Rattle.row_marks.specs.Columns.{intersection};
 ghost use Rattle.marks.specs.Parents.{imageMarks};
 ghost use Rattle.marks.specs.Passes.{AxisPass};
 ghost use Rattle.marks.specs.Selection.{testMarks};
 ghost use Rattle.step_passes.specs.Steps.{forwardMarks, backwardMarks, StepPass, TestPass};
 ghost use Rattle.step_passes.specs.Tests.{namesIn};
-use axis_passes::UNMARKED;
+use row_marks::UNMARKED;
 use axis_passes::children;
-use axis_passes::copy;
+use row_marks::copy;
 use axis_passes::descendants;
 use axis_passes::descendants_or_self;
-use axis_passes::fill;
+use row_marks::fill;
 use code_ranges::code_range;
 use compiled_paths::ANCESTOR;
 use compiled_paths::ANCESTOR_OR_SELF;

@@ -4,7 +4,7 @@ use mathlib.Core.List.{List, []}
 use mathlib.Core.Logic.{⊎-elim}
 use mathlib.Core.Path.{_≡_, sym, ap, ap₂, subst, _∙_}
 use native.Mathlib.Nat.{eq-or-lt-of-le}
-use Prim.Native.Nat.{ℕ, _-_, _<_, _≤_}
+use Prim.Native.Nat.{ℕ, _<_, _≤_}
 use native.Mathlib.Omega.{arith}
 use borrow.Author.Tests.{lt-ltb, le-ltb}
 use lib.Dec.{T, eqb, ltb}
@@ -13,7 +13,7 @@ use lib.Seq.{length-take-le}
 use Rattle.kept_rows.specs.Joined.{rank}
 use Rattle.kept_rows.specs.Kept.{isKept, keptMarks, KeptColumns, kept-later}
 use Rattle.kept_rows.specs.Positions.{Numbered as Counted, nonzero-position, positions, positions-length, positions-at}
-use Rattle.marks.specs.Columns.{isMarked, marks, marks-length, marks-marked, marks-cong}
+use Rattle.row_marks.specs.Columns.{isMarked, marks, marks-length, marks-marked, marks-cong}
 use Rattle.lent_cells.specs.Cells.{all-cleared}
 use Rattle.lent_cells.specs.Columns.{ClearedFrom}
 use Rattle.cut_rows.specs.Cells.{noted-cleared}

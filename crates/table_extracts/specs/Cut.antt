@@ -1,21 +1,19 @@
 -- On the columns of a well-formed table the code keeps the rows that `cut` keeps, and renumbers parents as `cut` does.
 use mathlib.Core.Bool.{Bool, true, false, cond, _&&_}
 use mathlib.Core.List.{List, [], _∷_, _++_, map, append-assoc, List·Memᴰ as In}
-use mathlib.Core.Logic.{⊎-elim}
 use mathlib.Core.Option.{Option, some}
-use mathlib.Core.Path.{_≡_, refl, sym, ap, ap₂, subst, _∙_}
+use mathlib.Core.Path.{_≡_, refl, sym, ap, ap₂, _∙_}
 use Prim.Native.Nat.{ℕ, zero, suc, _+_, _<_, _≤_}
-use native.Mathlib.Nat.{eq-or-lt-of-le}
 use native.Mathlib.Omega.{arith}
 use lib.Dec.{T}
-use lib.ListN.{length, getD, getElem?, take, length-map, length-append}
+use lib.ListN.{length, getD, getElem?, length-map, length-append}
 use lib.Seq.{take-append-le}
 use Rattle.cut_rows.specs.Cells.{cellsBefore}
 use Rattle.cut_rows.specs.Rows.{table, columns-equal, keptColumns}
 use Rattle.kept_rows.specs.Joined.{rank}
 use Rattle.kept_rows.specs.Kept.{isKept, keptMarks, kept-root, kept-later}
-use Rattle.marks.specs.Columns.{mark, marks, picked, marks-by-rows}
-use Rattle.marks.specs.Parents.{by-parents}
+use Rattle.row_marks.specs.Columns.{mark, picked, marks-by-rows}
+use Rattle.row_marks.specs.Ancestors.{by-parents}
 use Rattle.extract_spec.specs.Cut.{kept, renumbered, cutFrom, cut}
 use Rattle.schema_spec.specs.Names.{Name, Names, codeOf, has}
 use Rattle.schema_spec.specs.Types.{Types}

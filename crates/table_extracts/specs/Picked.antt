@@ -2,14 +2,14 @@
 use mathlib.Core.Bool.{Bool, true, false, cond}
 use mathlib.Core.List.{List, [], _∷_, _++_, map, append-assoc, append-nil}
 use mathlib.Core.Option.{some}
-use mathlib.Core.Path.{_≡_, refl, sym, ap, ap₂, subst, _∙_}
-use Prim.Native.Nat.{ℕ, zero, suc, _+_, _<_, _≤_}
+use mathlib.Core.Path.{_≡_, refl, sym, ap, _∙_}
+use Prim.Native.Nat.{ℕ, zero, suc, _+_}
 use native.Mathlib.Omega.{arith}
 use lib.Dec.{eqb}
-use lib.ListN.{length, getD, getElem?, take}
+use lib.ListN.{length, getElem?, take}
 use lib.Seq.{take-nil}
 use Rattle.kept_rows.specs.Joined.{joined, total, rank}
-use Rattle.marks.specs.Columns.{mark, isMarked, picked, mark-test}
+use Rattle.row_marks.specs.Columns.{mark, isMarked, picked, mark-test}
 use Rattle.table_laws.specs.Places.{none-some}
 use Rattle.text_laws.specs.Tests.{never}
 use Rattle.text_spec.specs.Lists.{gather, filterBy}

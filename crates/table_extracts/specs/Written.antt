@@ -1,10 +1,10 @@
 -- The extract of a table, and that of a cut table, by the columns of the whole table: a field has its parent's number, which cutting keeps.
-use mathlib.Core.Bool.{Bool, true, false, cond, _&&_}
+use mathlib.Core.Bool.{Bool, true, _&&_}
 use mathlib.Core.List.{List, [], _∷_, _++_, map, List·Memᴰ as In}
 use mathlib.Core.Logic.{⊎-elim}
 use mathlib.Core.Option.{Option, some}
-use mathlib.Core.Path.{_≡_, refl, sym, ap, ap₂, subst, _∙_}
-use Prim.Native.Nat.{ℕ, zero, suc, _<_, _≤_}
+use mathlib.Core.Path.{_≡_, refl, sym, ap, ap₂, _∙_}
+use Prim.Native.Nat.{ℕ, _<_}
 use native.Mathlib.Nat.{eq-or-lt-of-le}
 use native.Mathlib.Omega.{arith}
 use lib.Dec.{T}
@@ -13,7 +13,7 @@ use Rattle.extract_rows.specs.Rows.{fieldAt}
 use Rattle.extract_writing.specs.Extract.{extractIn}
 use Rattle.kept_rows.specs.Joined.{joined, rank}
 use Rattle.kept_rows.specs.Kept.{isKept, keptMarks, kept-later}
-use Rattle.marks.specs.Columns.{isMarked, marks, picked, marks-length, marks-marked}
+use Rattle.row_marks.specs.Columns.{isMarked, marks, picked, marks-length, marks-marked}
 use Rattle.name_codes.specs.Codes.{nameOfCode}
 use Rattle.extract_spec.specs.Cut.{cut}
 use Rattle.extract_spec.specs.Fields.{countTag, twoBytes, field, rowField, numberAt, fieldOf, writeExtract}

@@ -4,3 +4,6 @@ pub mod Fits
 pub mod RowNodes
 pub mod WellFormed
 pub mod Parents
+pub mod Codes
+pub mod Limits
+pub mod Columns

@@ -7,4 +7,5 @@ pub mod Cells
 pub mod Machines
 pub mod Scans
 pub mod Calls
+pub mod Records
 pub mod Cases

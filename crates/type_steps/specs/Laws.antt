@@ -11,7 +11,7 @@ use lib.ListN.{length}
 use Rattle.closures.specs.Schemas.{holds-relating, below-relating, relatedFrom-filter, relatedTo-filter}
 use Rattle.closures.specs.Relations.{relatedFrom, relatedTo}
 use Rattle.names.specs.SetLaws.{setOf-in, setOf-union, setOf-common, schema-every, every-element, nothing-in}
-use Rattle.names.specs.Sets.{member, setOf, everyName}
+use Rattle.names.specs.Sets.{member, setOf, everyName, setIn}
 use Rattle.names.specs.declared.NameSet.{NameSet}
 use Rattle.path_spec.specs.Paths.{Axis, self, child, descendant, descendantOrSelf, parent, ancestor, ancestorOrSelf, NodeTest, named, anyNode, anyText}
 use Rattle.path_spec.specs.Selection.{passes}
@@ -25,7 +25,7 @@ use Rattle.text_laws.specs.Tests.{or-left, or-right, or-cases, and-intro, and-c
 use Rattle.text_spec.specs.Limits.{maxDeclarations}
 use Rattle.text_spec.specs.Lists.{filterBy}
 use Rattle.compiled_paths.specs.Columns.{axisOf, testOf}
-use Rattle.type_steps.specs.Relations.{RelationsOf, NamesOf, Known, setIn}
+use Rattle.type_steps.specs.Relations.{RelationsOf, NamesOf, Known}
 
 -- ---- tests
 pub test-named : (t : ℕ) → (t ≡ 254 → ⊥) → (t ≡ 255 → ⊥) → testOf t ≡ named t

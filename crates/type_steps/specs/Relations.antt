@@ -5,11 +5,11 @@ use Prim.Native.Nat.{_<_, _≤_}
 use lib.Dec.{T}
 use lib.ListN.{length}
 use Rattle.closures.specs.Schemas.{RelationOf}
-use Rattle.names.specs.Sets.{member, setOf}
+use Rattle.names.specs.Sets.{member, setIn}
 use Rattle.names.specs.declared.NameSet.{NameSet}
 use Rattle.inference_spec.specs.Types.{Env, env}
 use Rattle.schema_laws.specs.Closure.{Closed}
-use Rattle.schema_spec.specs.Names.{Name, Names, has, namesOf}
+use Rattle.schema_spec.specs.Names.{Name, has, namesOf}
 use Rattle.schema_spec.specs.Schemas.{Schema}
 use Rattle.schema_spec.specs.Types.{holds, typesOf, isBelow}
 use Rattle.text_spec.specs.Limits.{maxDeclarations}
@@ -30,10 +30,6 @@ NamesOf s all = (n : Name) → member all n ≡ has n (namesOf s)
 -- the set has only names of the schema
 abbrev pub Known : Schema → NameSet → Type 0
 Known s x = (n : Name) → T (member x n) → List·Memᴰ n (namesOf s)
-
--- those names of the schema that are in the set, in their order
-abbrev pub setIn : Schema → NameSet → Names
-setIn s x = setOf (namesOf s) x
 
 abbrev pub envIn : Schema → Inferred → Env
 envIn s e = env (setIn s (e .types)) (setIn s (e .context))

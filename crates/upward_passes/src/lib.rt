@@ -6,9 +6,9 @@ ghost use Rattle.marks.specs.Parents.{imageMarks};
 ghost use Rattle.marks.specs.Passes.{AxisPass};
 ghost use Rattle.path_spec.specs.Paths.{parent, ancestor, ancestorOrSelf};
 ghost use Rattle.upward_passes.specs.Turns.{ParentInside};
-use axis_passes::UNMARKED;
-use axis_passes::copy;
-use axis_passes::fill;
+use row_marks::UNMARKED;
+use row_marks::copy;
+use row_marks::fill;
 
 // The last row that a pass takes: row 0 has no parent.
 const LAST_TAKEN: usize = 1;

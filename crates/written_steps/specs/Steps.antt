@@ -8,7 +8,7 @@ use Rattle.compiled_paths.specs.Columns.{axisNumber, sizeAt, startAt, condition
 use Rattle.compiled_paths.specs.Paths.{AtMost}
 use Rattle.compiled_paths.specs.Sizes.{writtenSteps, allSteps}
 use Rattle.condition_passes.specs.Conditions.{KeepPass}
-use Rattle.marks.specs.Columns.{intersection}
+use Rattle.row_marks.specs.Columns.{intersection}
 use Rattle.marks.specs.Selection.{conditionMarks, stepMarks, rootMarks}
 use Rattle.root_passes.specs.Roots.{FirstPass}
 use Rattle.step_passes.specs.Steps.{forwardMarks, TableColumns, MarkColumn, StepPass, intersection-column, forward-column}

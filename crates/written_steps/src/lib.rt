@@ -3,7 +3,7 @@ ghost use mathlib.Core.Path.{_≡_};
 ghost use Prim.Native.Nat.{_-_};
 ghost use lib.ListN.{length};
 ghost use Rattle.compiled_paths.specs.Columns.{sizeAt, startAt, conditionIn, stepAt};
-ghost use Rattle.marks.specs.Columns.{intersection};
+ghost use Rattle.row_marks.specs.Columns.{intersection};
 ghost use Rattle.marks.specs.Selection.{conditionMarks, stepMarks, rootMarks};
 ghost use Rattle.step_passes.specs.Tests.{namesIn};
 ghost use Rattle.written_steps.specs.Steps.{StepAtPass, FirstAtPass};

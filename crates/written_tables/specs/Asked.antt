@@ -1,11 +1,10 @@
 -- The columns of a table that is well formed beside its text are what writing its extract asks for.
 use mathlib.Core.List.{List, [], _∷_, map, List·Memᴰ as In, List·Memᴰ·head as here, List·Memᴰ·tail as there}
-use mathlib.Core.Path.{_≡_, refl, sym, subst}
+use mathlib.Core.Path.{refl, sym, subst}
 use Prim.Native.Nat.{ℕ, zero, suc, _+_, _<_, _≤_}
 use native.Mathlib.Omega.{arith}
 use lib.Dec.{T}
 use lib.ListN.{length, getD, length-map}
-use mathlib.Core.Bool.{_&&_}
 use Rattle.extract_rows.specs.Rows.{TextColumns}
 use Rattle.kept_rows.specs.Kept.{codeCount, KeptColumns}
 use Rattle.name_codes.specs.Laws.{code-below, name-of-its-code}
@@ -13,8 +12,8 @@ use Rattle.names.specs.SetLaws.{element-every, text-every}
 use Rattle.names.specs.Sets.{everyName}
 use Rattle.schema_spec.specs.Names.{Name, element, text, isText, codeOf}
 use Rattle.schema_spec.specs.Types.{Types}
-use Rattle.selected_rows.specs.Selected.{HasCode, NamesCoded}
-use Rattle.selected_rows.specs.Tested.{tested-columns}
+use Rattle.table_laws.specs.Codes.{HasCode, NamesCoded}
+use Rattle.table_laws.specs.Limits.{rows-few as few-rows}
 use Rattle.table_extracts.specs.Cut.{columnsIn, getD-map, parents-first}
 use Rattle.table_extracts.specs.Written.{CodesNamed}
 use Rattle.table_laws.specs.Fits.{cellsFit, all-cells}
@@ -25,7 +24,7 @@ use Rattle.table_spec.specs.Conditions.{TextCells, of-element, of-text}
 use Rattle.table_spec.specs.Rows.{Row}
 use Rattle.table_spec.specs.Tables.{wellFormed, wellFormedWith, textInside}
 use Rattle.text_laws.specs.Lists.{all-in}
-use Rattle.text_laws.specs.Tests.{never, and-cases}
+use Rattle.text_laws.specs.Tests.{and-cases}
 use Rattle.text_spec.specs.Limits.{maxDeclarations, maxNodes, maxTextBytes}
 use Rattle.text_spec.specs.Lists.{allOf}
 
@@ -61,7 +60,7 @@ module _ (s : Types) (lent : List ℕ) (rows : List Row) (ok : T (wellFormedWith
   alone = well-formed-alone s lent rows ok
 
   pub rows-few : length rows ≤ maxNodes
-  rows-few = omega (arith, tested-columns s rows alone coded .few, length-map rows (λ r. r .parent))
+  rows-few = few-rows s rows alone
 
   -- what holds of each text row holds of its cells
   at-texts : (P : ℕ → ℕ → Type 0) → ((r : Row) → In r rows → T (isText (r .name)) → P (r .start) (r .size)) → (k : ℕ) → k < length rows → maxDeclarations ≤ getD (columnsIn rows .names) k 0
@@ -96,5 +95,5 @@ module _ (s : Types) (lent : List ℕ) (rows : List Row) (ok : T (wellFormedWith
         before = nodes-placed s [] rows alone .before;
         coded = codes-low rows coded;
         size = omega (arith, length-map rows (λ r. codeOf (r .name)), length-map rows (λ r. r .parent));
-        few = tested-columns s rows alone coded .few;
+        few = omega (arith, few-rows s rows alone, length-map rows (λ r. r .parent));
       }

@@ -1,5 +1,4 @@
 -- The rows of a table that is well formed under an accepted schema have that schema's names; a set of its names passes them by their codes.
-use mathlib.Core.Bool.{Bool}
 use mathlib.Core.List.{List, List·Memᴰ as In}
 use mathlib.Core.Logic.{⊎-elim}
 use mathlib.Core.Path.{_≡_, sym, ap, subst, _∙_}
@@ -7,21 +6,20 @@ use Prim.Native.Nat.{ℕ}
 use lib.Dec.{T}
 use Rattle.kept_rows.specs.Kept.{inSet}
 use Rattle.names.specs.SetLaws.{has-setOf}
-use Rattle.names.specs.Sets.{member}
+use Rattle.names.specs.Sets.{member, setIn}
 use Rattle.names.specs.declared.NameSet.{NameSet}
 use Rattle.schema_laws.specs.Accepted.{accepted-filled, accepted-held, accepted-element, accepted-text}
 use Rattle.schema_laws.specs.Names.{element-in}
-use Rattle.schema_spec.specs.Names.{Name, Names, element, text as textName, codeOf, has, namesOf}
+use Rattle.schema_spec.specs.Names.{Name, Names, element, text as textName, has, namesOf}
 use Rattle.schema_spec.specs.Reading.{readSchema}
 use Rattle.schema_spec.specs.Schemas.{Schema}
 use Rattle.schema_spec.specs.Types.{typesOf}
-use Rattle.selected_rows.specs.Selected.{HasCode, NamesCoded}
+use Rattle.table_laws.specs.Codes.{HasCode, NamesCoded}
 use Rattle.table_extracts.specs.Cut.{PassesFor}
 use Rattle.table_laws.specs.Fits.{row-held}
 use Rattle.table_spec.specs.Rows.{Row}
 use Rattle.table_spec.specs.Tables.{wellFormed}
 use Rattle.text_spec.specs.Refusals.{accepted}
-use Rattle.type_steps.specs.Relations.{setIn}
 use Rattle.written_tables.specs.Asked.{codes-named}
 
 module _ (schema : List ℕ) (s : Schema) (read : readSchema schema ≡ accepted s) where

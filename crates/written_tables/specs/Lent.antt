@@ -13,14 +13,13 @@ use Rattle.library_spec.specs.Records.{LentTable, rowsLent, keptIf, tableBeside
 use Rattle.schema_spec.specs.Names.{codeOf}
 use Rattle.schema_spec.specs.Schemas.{Schema}
 use Rattle.schema_spec.specs.Types.{typesOf}
-use Rattle.selected_rows.specs.Selected.{NamesCoded}
-use Rattle.selected_rows.specs.Tested.{cells-coded}
+use Rattle.table_laws.specs.Codes.{NamesCoded, cells-coded}
 use Rattle.table_extracts.specs.Cut.{columnsIn, getD-map}
 use Rattle.table_laws.specs.Places.{at-some}
 use Rattle.table_passes.specs.Lines.{Stands}
 use Rattle.table_passes.specs.Tables.{StandFrom, rows-stand}
 use Rattle.table_rows.specs.Lent.{Lent}
-use Rattle.table_spec.specs.Columns.{Columns, cellsFrom}
+use Rattle.table_spec.specs.Columns.{cellsFrom}
 use Rattle.table_spec.specs.Conditions.{RowAt}
 use Rattle.table_spec.specs.Rows.{Row, Cells, rowsOf}
 use Rattle.table_spec.specs.Tables.{wellFormedWith}

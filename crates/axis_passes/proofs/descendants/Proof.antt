@@ -2,7 +2,7 @@ use Prim.Native.Nat.{_-_, _<_}
 use lib.ListN.{length}
 use Rattle.marks.specs.Parents.{imageMarks}
 use Rattle.marks.specs.Passes.{AxisPass, descendants-begun, descendants-next, forward-image}
-use Rattle.marks.specs.Forward.{Forward}
+use Rattle.row_marks.specs.Loops.{Forward}
 use Rattle.path_spec.specs.Paths.{descendant}
 use borrow.Author.Needs.{needs}
 use native.Mathlib.Omega.{arith}

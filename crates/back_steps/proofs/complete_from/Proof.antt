@@ -2,7 +2,7 @@
 use borrow.Author.Needs.{needs}
 use Rattle.back_steps.specs.Laws.{related-leading}
 use Rattle.compiled_paths.specs.Columns.{axisOf}
-use Rattle.type_steps.specs.Relations.{setIn}
+use Rattle.names.specs.Sets.{setIn}
 use Rattle.back_steps.proofs.complete_from.Statement.{statement}
 use Rattle.back_steps.proofs.complete_from.Tie as tie
 

@@ -1,7 +1,7 @@
 -- `back_steps::inner_names` meets its contract.
 use borrow.Author.Needs.{needs}
 use Rattle.back_steps.specs.Laws.{within-inner}
-use Rattle.type_steps.specs.Relations.{setIn}
+use Rattle.names.specs.Sets.{setIn}
 use Rattle.back_steps.proofs.inner_names.Statement.{statement}
 use Rattle.back_steps.proofs.inner_names.Tie as tie
 

@@ -4,7 +4,7 @@ use borrow.Author.Needs.{needs}
 use Rattle.path_spec.specs.Paths.{descendant, descendantOrSelf}
 use Rattle.back_steps.specs.Laws.{between-along, none-between, empty-setIn}
 use Rattle.compiled_paths.specs.Columns.{axisOf}
-use Rattle.type_steps.specs.Relations.{setIn}
+use Rattle.names.specs.Sets.{setIn}
 use Rattle.back_steps.proofs.names_between.Statement.{statement}
 use Rattle.back_steps.proofs.names_between.Tie as tie
 

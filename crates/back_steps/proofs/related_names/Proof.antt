@@ -5,7 +5,7 @@ use Rattle.path_spec.specs.Paths.{self, child, descendant, descendantOrSelf, pa
 use Rattle.back_steps.specs.Laws.{holding-related, allAbove-related, descendantOrSelf-related, heldBy-related, allBelow-related, ancestorOrSelf-related, self-related, related-along}
 use Rattle.type_steps.specs.Laws.{axis-self}
 use Rattle.compiled_paths.specs.Columns.{axisOf}
-use Rattle.type_steps.specs.Relations.{setIn}
+use Rattle.names.specs.Sets.{setIn}
 use Rattle.back_steps.proofs.related_names.Statement.{statement}
 use Rattle.back_steps.proofs.related_names.Tie as tie
 

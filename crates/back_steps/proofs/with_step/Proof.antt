@@ -6,7 +6,7 @@ use Rattle.back_steps.specs.Laws.{setIn-within}
 use Rattle.inference_spec.specs.Needed.{between}
 use Rattle.schema_spec.specs.Types.{typesOf}
 use Rattle.compiled_paths.specs.Columns.{axisOf}
-use Rattle.type_steps.specs.Relations.{setIn}
+use Rattle.names.specs.Sets.{setIn}
 use Rattle.back_steps.proofs.with_step.Statement.{statement}
 use Rattle.back_steps.proofs.with_step.Tie as tie
 

@@ -6,7 +6,7 @@ use lib.ListN.{length}
 use borrow.Author.Tests.{not-true, not-false}
 use lib.Seq.{length-take-le}
 use Rattle.bundle_reader.proofs.Records.{read-no-schema, read-judged}
-use Rattle.bundle_reader.specs.Sizes.{schema-size}
+use Rattle.schema_reader.specs.Sizes.{record-low}
 use Rattle.schema_reader.specs.Records.{passesRecord}
 use Rattle.text_spec.specs.Limits.{maxSchemaBytes}
 use native.Mathlib.Omega.{arith}
@@ -25,7 +25,7 @@ inside : (c : tie.Else1) → start (c .before) .args .schema .len ≤ length (st
 inside c =
     let schema = start (c .before) .args .schema in
     let room : length (schema .bytes) ≡ maxSchemaBytes = search needs in
-    omega (arith, schema-size (schema .bytes) (schema .len) (passes c))
+    omega (arith, record-low (schema .bytes) (schema .len) (passes c))
 
 returns : tie.Need-returns
 returns c =

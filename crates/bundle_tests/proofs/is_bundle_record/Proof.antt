@@ -2,7 +2,7 @@
 use mathlib.Core.Path.{sym, _∙_}
 use lib.ListN.{take}
 use borrow.Author.Tests.{not-true, not-false}
-use Rattle.bundle_reader.specs.Sizes.{schema-size}
+use Rattle.schema_reader.specs.Sizes.{record-low}
 use Rattle.bundle_tests.proofs.Records.{text-low, test-no-schema, test-no-text, test-text}
 use Rattle.schema_reader.specs.Records.{passesRecord}
 use Rattle.schema_spec.specs.Records.{schemaIn}
@@ -23,7 +23,7 @@ returns-2 c =
 accepts-text-requires : tie.Need-accepts-text-requires
 accepts-text-requires c κs =
     let start = c .before .before .before .before .args in (
-      schema-size (start .schema .bytes) (start .schema .len) (sym (c .before .before .before .is-schema-record .ensures) ∙ not-false _ (c .before .before .if1 .left)),
+      record-low (start .schema .bytes) (start .schema .len) (sym (c .before .before .before .is-schema-record .ensures) ∙ not-false _ (c .before .before .if1 .left)),
       text-low (start .bundle .bytes) (start .bundle .len) (sym (c .before .holds-text .ensures) ∙ not-false _ (c .if2 .left)),
     )
 

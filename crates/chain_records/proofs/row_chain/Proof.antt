@@ -7,7 +7,7 @@ use lib.ListN.{length}
 use lib.Seq.{length-take-le}
 use Rattle.chain_records.specs.Answers.{no-record, by-record, record-read}
 use Rattle.handed_chains.specs.Answers.{refused-1}
-use Rattle.row_text.specs.Answers.{record-low}
+use Rattle.schema_reader.specs.Sizes.{record-low}
 use Rattle.schema_reader.specs.Records.{passesRecord}
 use Rattle.schema_records.specs.Records.{passes-schema}
 use Rattle.text_spec.specs.Limits.{maxSchemaBytes}

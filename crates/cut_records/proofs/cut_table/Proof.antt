@@ -2,7 +2,7 @@
 use mathlib.Core.Path.{sym, _∙_}
 use borrow.Author.Tests.{not-true, not-false}
 use Rattle.cut_laws.specs.Answers.{refused-1, no-record, by-record}
-use Rattle.row_text.specs.Answers.{record-low}
+use Rattle.schema_reader.specs.Sizes.{record-low}
 use Rattle.schema_records.specs.Records.{passes-schema}
 use borrow.Author.Needs.{needs}
 use Rattle.cut_records.proofs.cut_table.Statement.{statement}

@@ -4,9 +4,10 @@ use mathlib.Core.Bool.{true}
 use mathlib.Core.Logic.{⊎-elim}
 use mathlib.Core.Path.{_≡_, sym, _∙_}
 use Rattle.extract_records.specs.Calls.{stated, call-no-record, call-no-columns, call-read}
-use Rattle.library_spec.specs.Records.{TextRecord, passesSchema}
+use Rattle.library_spec.specs.Records.{passesSchema}
+use Rattle.text_spec.specs.Records.{TextRecord}
 use Rattle.row_columns.specs.ColumnLaws.{equal-columns}
-use Rattle.row_text.specs.Answers.{record-low}
+use Rattle.schema_reader.specs.Sizes.{record-low}
 use Rattle.schema_records.specs.Records.{recordWith, passes-schema}
 use Rattle.table_spec.specs.Columns.{Columns, columns}
 use Rattle.text_laws.specs.Tests.{passed}

@@ -8,8 +8,10 @@ use mathlib.Core.Path.{_≡_, sym, _∙_}
 use Prim.Native.Nat.{ℕ}
 use Rattle.extract_writer.specs.Outcomes.{no-record, no-table, table-columns, table-written}
 use Rattle.lent_extracts.specs.Answers.{same-answer}
-use Rattle.library_spec.specs.Records.{TextRecord, LentTable, textIn, passesSchema}
-use Rattle.row_text.specs.Answers.{beside-lent, record-low}
+use Rattle.library_spec.specs.Records.{LentTable, passesSchema}
+use Rattle.text_spec.specs.Records.{TextRecord, textIn}
+use Rattle.row_text.specs.Answers.{beside-lent}
+use Rattle.schema_reader.specs.Sizes.{record-low}
 use Rattle.schema_records.specs.Records.{recordWith, passes-schema}
 use Rattle.schema_spec.specs.Records.{schemaIn}
 use Rattle.schema_spec.specs.Schemas.{Schema}

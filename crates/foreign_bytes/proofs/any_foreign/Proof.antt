@@ -4,7 +4,7 @@ use Prim.Native.Nat.{_-_, _≤_}
 use borrow.Author.Needs.{needs}
 use native.Mathlib.Omega.{arith}
 use lib.ListN.{length}
-use Rattle.marks.specs.Columns.{mark}
+use Rattle.row_marks.specs.Columns.{mark}
 use Rattle.foreign_bytes.proofs.Foreign.{none-before, one-more, all-before}
 use Rattle.foreign_bytes.specs.Foreign.{foreignBefore}
 use Rattle.foreign_bytes.proofs.any_foreign.Statement.{statement}

@@ -42,7 +42,7 @@ returns c =
     let was = read known .read-extract-table .ensures in
     λ schema taken made.
     let held = words-read schema _ made _ (told known .words-of .ensures) in
-    refused-chosen _ _ (lent known) _ _ (was .answer _ held) (was .cells _ held) (paths-at known) (at .place) (refused c .if1 .taken) _ (c .refused .ensures) _ _ _ _ (c .before .before .before .before .before .before .before .clear-from .ensures) (c .before .before .before .clear-counts-from .ensures)
+    refused-chosen _ _ (lent known) _ _ (was .answer _ held) (was .cells _ held) (paths-at known) (at .place) (refused c .if1 .taken) _ (c .refused .ensures) _ _ _ _ (c .before .before .before .before .before .before .before .clear-numbers .ensures) (c .before .before .before .clear-places .ensures)
 
 select-under-requires : tie.Need-select-under-requires
 select-under-requires c κs =
@@ -78,8 +78,8 @@ choose-under-spec =
     (λ c. read (refused c .before) .read-extract-table .kept .1 .1 .1 .1 .0)
     (λ c. read (refused c .before) .read-extract-table .kept .1 .1 .1 .1 .1 .0)
     (λ c. read (refused c .before) .read-extract-table .kept .1 .1 .1 .1 .1 .1 .0)
-    (λ c. c .before .before .before .before .before .before .before .clear-from .kept .0)
-    (λ c. c .before .before .before .clear-counts-from .kept .0)
+    (λ c. c .before .before .before .before .before .before .before .clear-numbers .kept .0)
+    (λ c. c .before .before .before .clear-places .kept .0)
     returns
     select-under-requires
     (λ c. chosen c .select-under .kept .1 .1 .1 .1 .1 .1 .1 .0 ∙ read (accepted c .before) .read-extract-table .kept .1 .1 .0)

@@ -4,7 +4,7 @@ use mathlib.Core.Path.{_∙_}
 use native.Mathlib.Omega.{arith}
 use Rattle.host_made.specs.Making.{refused-made, first-asked, made-exit}
 use Rattle.host_columns.specs.Rows.{rows-read}
-use Rattle.schema_relations.specs.Compiled.{compiled-few}
+use Rattle.compiled_schema.specs.Places.{compiled-few}
 use Rattle.table_spec.specs.Columns.{Columns, columns}
 use Rattle.host_made.proofs.make_under.Statement.{statement}
 use Rattle.host_made.proofs.make_under.Tie as tie

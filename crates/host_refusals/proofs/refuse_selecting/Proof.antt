@@ -11,7 +11,7 @@ returns : tie.Need-returns
 returns c =
     let at = cleared c .before .before .before .before .before .before .before .before .before .before .before .before .before .args in
     let lent = columns (at .numbers .now) (at .names .now) (at .parents .now) (at .starts .now) (at .lengths .now) in
-    all-refused _ _ lent _ _ _ _ _ _ (cleared c .clear .ensures) (c .before .before .before .before .before .before .before .clear-from .ensures) (c .before .before .before .clear-counts-from .ensures) (c .result .ensures)
+    all-refused _ _ lent _ _ _ _ _ _ (cleared c .clear .ensures) (c .before .before .before .before .before .before .before .clear-numbers .ensures) (c .before .before .before .clear-places .ensures) (c .result .ensures)
 
 pub refuse-selecting-spec : {M : Type 1} → statement M
 refuse-selecting-spec =
@@ -26,6 +26,6 @@ refuse-selecting-spec =
     (λ c. cleared c .clear .kept .1 .1 .0)
     (λ c. cleared c .clear .kept .1 .1 .1 .0)
     (λ c. cleared c .clear .kept .1 .1 .1 .1 .0)
-    (λ c. c .before .before .before .before .before .before .before .clear-from .kept .0)
-    (λ c. c .before .before .before .clear-counts-from .kept .0)
+    (λ c. c .before .before .before .before .before .before .before .clear-numbers .kept .0)
+    (λ c. c .before .before .before .clear-places .kept .0)
     returns)

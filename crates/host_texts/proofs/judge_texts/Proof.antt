@@ -1,7 +1,7 @@
 -- `judge_texts` meets its contract: the schema refused, or the bundle judged under it.
 use borrow.Author.Needs.{needs}
 use Rattle.host_texts.specs.Texts.{schema-turned-back, bundle-judged}
-use Rattle.needed_texts.specs.Texts.{names-inside, names-taken, names-few}
+use Rattle.compiled_schema.specs.Places.{names-inside, names-taken, names-few}
 use Rattle.host_texts.proofs.judge_texts.Statement.{statement}
 use Rattle.host_texts.proofs.judge_texts.Tie as tie
 

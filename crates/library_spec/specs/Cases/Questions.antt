@@ -2,7 +2,6 @@
 use mathlib.Core.List.{List, [], _∷_, map}
 use Prim.Native.Nat.{ℕ}
 use Rattle.journal_spec.specs.Reading.{readJournal}
-use Rattle.path_spec.specs.Paths.{LocationPath}
 use Rattle.path_spec.specs.Reading.{readBundle}
 use Rattle.path_spec.specs.Selection.{selectRows}
 use Rattle.library_spec.specs.Cases.Exits.{Exit, hostExit, recordExit, rowsExit, structsExit, wordExit, bytesExit, selectionsExit, textExit}
@@ -12,7 +11,8 @@ use Rattle.inference_spec.specs.Needed.{needed}
 use Rattle.library_spec.specs.Calls as calls
 use Rattle.library_spec.specs.Hosts.{Lent, extractOf, makeExtract, selectFrom}
 use Rattle.library_spec.specs.Listing.{listing}
-use Rattle.library_spec.specs.Records.{TextRecord, LentTable, tableBeside}
+use Rattle.library_spec.specs.Records.{LentTable, tableBeside}
+use Rattle.text_spec.specs.Records.{TextRecord}
 use Rattle.schema_spec.specs.Names.{Names}
 use Rattle.schema_spec.specs.Reading.{readSchema}
 use Rattle.schema_spec.specs.Records.{schemaIn}

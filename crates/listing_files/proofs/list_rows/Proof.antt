@@ -1,7 +1,7 @@
 -- `list_rows` meets its contract: the needed names, the rows kept, the first paths, the names.
 use mathlib.Core.Path.{refl, sym, _∙_}
 use Rattle.listed_files.specs.Files.{names-all}
-use Rattle.schema_relations.specs.Compiled.{compiled-few}
+use Rattle.compiled_schema.specs.Places.{compiled-few}
 use borrow.Author.Needs.{needs}
 use Rattle.listing_files.proofs.list_rows.Statement.{statement}
 use Rattle.listing_files.proofs.list_rows.Tie as tie

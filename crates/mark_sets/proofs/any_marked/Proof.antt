@@ -1,7 +1,7 @@
 use mathlib.Core.Path.{_≡_}
 use Prim.Native.Nat.{_-_, _≤_}
 use lib.ListN.{length}
-use Rattle.marks.specs.Columns.{mark, isMarked}
+use Rattle.row_marks.specs.Columns.{mark, isMarked}
 use Rattle.marks.specs.Passes.{some-none, some-next, some-all}
 use Rattle.text_spec.specs.Lists.{anyBelow}
 use borrow.Author.Needs.{needs}

@@ -1,7 +1,7 @@
 use Prim.Native.Nat.{_-_}
 use lib.ListN.{length}
-use Rattle.marks.specs.Columns.{intersection}
-use Rattle.marks.specs.Forward.{Forward, forward-none, forward-all}
+use Rattle.row_marks.specs.Columns.{intersection}
+use Rattle.row_marks.specs.Loops.{Forward, forward-none, forward-all}
 use Rattle.marks.specs.Passes.{rangeMarks, filter-next, filter-length}
 use borrow.Author.Needs.{needs}
 use native.Mathlib.Omega.{arith}

@@ -1,8 +1,8 @@
 use Prim.Native.Nat.{_-_}
 use lib.ListN.{length}
-use Rattle.marks.specs.Columns.{intersection}
+use Rattle.row_marks.specs.Columns.{intersection}
 use Rattle.marks.specs.Passes.{intersection-next, intersection-length}
-use Rattle.marks.specs.Forward.{Forward, forward-none, forward-all}
+use Rattle.row_marks.specs.Loops.{Forward, forward-none, forward-all}
 use borrow.Author.Needs.{needs}
 use native.Mathlib.Omega.{arith}
 use Rattle.mark_sets.proofs.intersect.Statement.{statement}

@@ -1,8 +1,8 @@
 use Prim.Native.Nat.{_-_}
 use lib.ListN.{length}
-use Rattle.marks.specs.Columns.{union}
+use Rattle.row_marks.specs.Columns.{union}
 use Rattle.marks.specs.Passes.{union-next, union-length}
-use Rattle.marks.specs.Forward.{Forward, forward-none, forward-all}
+use Rattle.row_marks.specs.Loops.{Forward, forward-none, forward-all}
 use borrow.Author.Needs.{needs}
 use native.Mathlib.Omega.{arith}
 use Rattle.mark_sets.proofs.unite.Statement.{statement}

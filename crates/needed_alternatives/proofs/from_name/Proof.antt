@@ -6,7 +6,7 @@ use Rattle.name_codes.specs.Codes.{nameOfCode}
 use Rattle.inference_spec.specs.Types.{env, cutTo}
 use Rattle.schema_spec.specs.Names.{Names}
 use Rattle.schema_spec.specs.Types.{typesOf}
-use Rattle.type_steps.specs.Relations.{setIn}
+use Rattle.names.specs.Sets.{setIn}
 use Rattle.needed_alternatives.proofs.from_name.Statement.{statement}
 use Rattle.needed_alternatives.proofs.from_name.Tie as tie
 

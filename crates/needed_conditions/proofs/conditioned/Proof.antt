@@ -4,7 +4,8 @@ use Rattle.compiled_paths.specs.Columns.{conditionIn}
 use Rattle.needed_conditions.specs.Conditions.{keepsIn}
 use Rattle.needed_conditions.specs.Laws.{kept-filter}
 use Rattle.type_steps.specs.Laws.{narrow-parts}
-use Rattle.type_steps.specs.Relations.{setIn, envIn}
+use Rattle.type_steps.specs.Relations.{envIn}
+use Rattle.names.specs.Sets.{setIn}
 use Rattle.needed_conditions.proofs.conditioned.Statement.{statement}
 use Rattle.needed_conditions.proofs.conditioned.Tie as tie
 

@@ -6,7 +6,7 @@ use Rattle.path_spec.specs.Paths.{unconditional, expand}
 use Rattle.inference_spec.specs.Needed.{keepsName, wantsNames, need, fromRoot, neededBeforeFilter, neededByPath}
 use Rattle.inference_spec.specs.Types.{Env, env}
 use Rattle.schema_spec.specs.Types.{typesOf}
-use Rattle.type_steps.specs.Relations.{setIn}
+use Rattle.names.specs.Sets.{setIn}
 use Rattle.needed_paths.proofs.path_needed.Statement.{statement}
 use Rattle.needed_paths.proofs.path_needed.Tie as tie
 

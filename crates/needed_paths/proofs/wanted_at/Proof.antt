@@ -7,7 +7,7 @@ use Rattle.needed_paths.specs.Laws.{condition-steps, condition-range}
 use Rattle.path_spec.specs.Paths.{Condition}
 use Rattle.schema_spec.specs.Names.{namesOf, within}
 use Rattle.text_spec.specs.Lists.{gather}
-use Rattle.type_steps.specs.Relations.{setIn}
+use Rattle.names.specs.Sets.{setIn}
 use Rattle.needed_paths.proofs.wanted_at.Statement.{statement}
 use Rattle.needed_paths.proofs.wanted_at.Tie as tie
 

@@ -4,7 +4,8 @@ use Prim.Native.Nat.{_≤_}
 use borrow.Author.Tests.{not-true, not-false}
 use lib.ListN.{length}
 use lib.Seq.{length-take-le}
-use Rattle.needed_records.specs.Records.{not-records, schema-size, bundle-size, both-records}
+use Rattle.needed_records.specs.Records.{not-records, both-records}
+use Rattle.bundle_records.specs.Records.{schema-size, bundle-size}
 use Rattle.text_spec.specs.Limits.{maxSchemaBytes, maxBundleBytes}
 use borrow.Author.Needs.{needs}
 use native.Mathlib.Omega.{arith}

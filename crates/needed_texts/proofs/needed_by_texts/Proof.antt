@@ -1,5 +1,6 @@
-use Rattle.needed_texts.specs.Texts.{names-inside, names-taken, names-few, judged-shaped, judged-needed}
-use Rattle.schema_relations.specs.Compiled.{compiled-few}
+use Rattle.needed_texts.specs.Texts.{judged-needed}
+use Rattle.bundle_records.specs.Compiled.{judged-shaped}
+use Rattle.compiled_schema.specs.Places.{names-inside, names-taken, names-few, compiled-few}
 use borrow.Author.Needs.{needs}
 use Rattle.needed_texts.proofs.needed_by_texts.Statement.{statement}
 use Rattle.needed_texts.proofs.needed_by_texts.Tie as tie

@@ -1,7 +1,7 @@
 use Prim.Native.Nat.{_-_}
 use lib.ListN.{length}
-use Rattle.marks.specs.Columns.{marks}
-use Rattle.marks.specs.Forward.{Forward, forward-none, forward-next, forward-all}
+use Rattle.row_marks.specs.Columns.{marks}
+use Rattle.row_marks.specs.Loops.{Forward, forward-none, forward-next, forward-all}
 use Rattle.root_passes.specs.Roots.{atRoot, at-root-row, at-root-length, children-set}
 use borrow.Author.Needs.{needs}
 use native.Mathlib.Omega.{arith}

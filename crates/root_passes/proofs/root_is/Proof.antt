@@ -1,7 +1,6 @@
 use mathlib.Core.Path.{sym, ap}
 use borrow.Author.Tests.{eq-eqb, ne-eqb}
-use native.Mathlib.Omega.{arith}
-use Rattle.marks.specs.Columns.{mark}
+use Rattle.row_marks.specs.Columns.{mark}
 use Rattle.root_passes.proofs.root_is.Statement.{statement}
 use Rattle.root_passes.proofs.root_is.Tie as tie
 

@@ -2,7 +2,8 @@
 use borrow.Author.Needs.{needs}
 use borrow.Author.Tests.{not-true, not-false}
 use mathlib.Core.Path.{sym, ap, _∙_}
-use Rattle.row_text.specs.Answers.{outcomeOf, no-record, no-table, row-found, beside-lent, record-low}
+use Rattle.row_text.specs.Answers.{outcomeOf, no-record, no-table, row-found, beside-lent}
+use Rattle.schema_reader.specs.Sizes.{record-low}
 use Rattle.schema_records.specs.Records.{passes-schema}
 use Rattle.row_text.proofs.row_text_place.Statement.{statement}
 use Rattle.row_text.proofs.row_text_place.Tie as tie

@@ -4,7 +4,7 @@ use lib.ListN.{length}
 use lib.Seq.{length-take-le}
 use Rattle.held_words.specs.Words.{words-held}
 use Rattle.schema_laws.specs.Accepted.{schemaIn-length}
-use Rattle.schema_relations.specs.Compiled.{compiled-few}
+use Rattle.compiled_schema.specs.Places.{compiled-few}
 use Rattle.text_spec.specs.Limits.{maxSchemaBytes}
 use native.Mathlib.Omega.{arith}
 use borrow.Author.Needs.{needs}

@@ -17,8 +17,8 @@ abbrev μ-loop : tie.MeasureT-loop
 abbrev in-loop-before : tie.After-select-one Inv-loop μ-loop → tie.In-loop Inv-loop μ-loop
 in-loop-before c = c .before .before .before .before .before .before
 
-abbrev clear-from-before : tie.After-slice-known14 Inv-loop μ-loop → tie.After-clear-from Inv-loop μ-loop
-clear-from-before c = c .before .before .before .before .before .before
+abbrev clear-numbers-before : tie.After-slice-known14 Inv-loop μ-loop → tie.After-clear-numbers Inv-loop μ-loop
+clear-numbers-before c = c .before .before .before .before .before .before
 
 abbrev start-before : tie.After-slice-known6 Inv-loop μ-loop → tie.Start Inv-loop μ-loop
 start-before c = c .before .before .before .before .before .before .before .before .before
@@ -78,15 +78,15 @@ loop-again c =
     (after-select-one .select-one .ensures) ((start-before-2 turn) .pre .columns) _ _ _ _ _ (in-loop .loop-test .taken) (c .before .before .put-count .ensures)
     (after-held .before .before .marks .given) (after-held .held .given) (after-steps .steps .given) (after-next .next .given)
 
-sub-clear-counts-from : tie.Need-sub-clear-counts-from Inv-loop μ-loop
-sub-clear-counts-from c = omega (arith, (start-before-2 (c .before .before .before .before .before .before)) .pre .order)
+sub-clear-places : tie.Need-sub-clear-places Inv-loop μ-loop
+sub-clear-places c = omega (arith, (start-before-2 (c .before .before .before .before .before .before)) .pre .order)
 
 returns : tie.Need-returns Inv-loop μ-loop
 returns c =
-    let after-clear-from = clear-from-before c in
-    let at = after-clear-from .before .before .before .loop in
+    let after-clear-numbers = clear-numbers-before c in
+    let at = after-clear-numbers .before .before .before .loop in
     paths-all _ _ _ _ _ _ _ _ (at .i) (at .n) (at .items) (at .counts) (at .marks) (at .held) (at .steps) (at .next) (at .inv) (omega arith) _ _
-    (after-clear-from .clear-from .ensures) (c .before .before .clear-counts-from .ensures)
+    (after-clear-numbers .clear-numbers .ensures) (c .before .before .clear-places .ensures)
 
 pub select-paths-spec : {M : Type 1} → statement M
 select-paths-spec =
@@ -104,7 +104,7 @@ select-paths-spec =
     (λ c. search needs)
     loop-again
     (λ c κs. search needs)
-    sub-clear-counts-from
+    sub-clear-places
     (λ c κs. search needs)
     (λ c. search needs)
     (λ c. search needs)

@@ -5,7 +5,7 @@ use Prim.Native.Nat.{_≤_}
 use borrow.Author.Tests.{not-true, not-false}
 use lib.ListN.{length}
 use lib.Seq.{length-take-le}
-use Rattle.needed_records.specs.Records.{schema-size, bundle-size}
+use Rattle.bundle_records.specs.Records.{schema-size, bundle-size}
 use Rattle.select_records.specs.Records.{bothPass as BothPass, not-records, both-records}
 use Rattle.text_spec.specs.Limits.{maxSchemaBytes, maxBundleBytes}
 use native.Mathlib.Omega.{arith}

@@ -1,5 +1,6 @@
 -- `select_texts` meets its contract: both texts compiled, and the table judged by what they give.
-use Rattle.needed_texts.specs.Texts.{names-inside, names-taken, names-few, judged-shaped}
+use Rattle.bundle_records.specs.Compiled.{judged-shaped}
+use Rattle.compiled_schema.specs.Places.{names-inside, names-taken, names-few}
 use Rattle.select_records.specs.Records.{some-schema, texts-selected}
 use borrow.Author.Needs.{needs}
 use Rattle.select_records.proofs.select_texts.Statement.{statement}

@@ -1,7 +1,7 @@
 -- `type_steps::cut_to` meets its contract.
 use borrow.Author.Needs.{needs}
 use Rattle.type_steps.specs.Laws.{near-cutTo}
-use Rattle.type_steps.specs.Relations.{setIn}
+use Rattle.names.specs.Sets.{setIn}
 use Rattle.type_steps.proofs.cut_to.Statement.{statement}
 use Rattle.type_steps.proofs.cut_to.Tie as tie
 

@@ -6,7 +6,8 @@ use Rattle.inference_spec.specs.Types.{Env, narrow}
 use Rattle.schema_spec.specs.Types.{typesOf}
 use Rattle.type_steps.specs.Laws.{narrow-parts, tested-filter}
 use Rattle.compiled_paths.specs.Columns.{testOf}
-use Rattle.type_steps.specs.Relations.{setIn, envIn}
+use Rattle.type_steps.specs.Relations.{envIn}
+use Rattle.names.specs.Sets.{setIn}
 use Rattle.type_steps.proofs.step.Statement.{statement}
 use Rattle.type_steps.proofs.step.Tie as tie
 

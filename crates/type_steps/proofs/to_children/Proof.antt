@@ -2,7 +2,7 @@
 use borrow.Author.Needs.{needs}
 use Rattle.type_steps.specs.Laws.{move-child, tested-filter}
 use Rattle.compiled_paths.specs.Columns.{testOf}
-use Rattle.type_steps.specs.Relations.{setIn}
+use Rattle.names.specs.Sets.{setIn}
 use Rattle.type_steps.proofs.to_children.Statement.{statement}
 use Rattle.type_steps.proofs.to_children.Tie as tie
 

@@ -1,7 +1,7 @@
 -- `type_steps::to_descendants` meets its contract.
 use borrow.Author.Needs.{needs}
 use Rattle.type_steps.specs.Laws.{move-descendant}
-use Rattle.type_steps.specs.Relations.{setIn}
+use Rattle.names.specs.Sets.{setIn}
 use Rattle.type_steps.proofs.to_descendants.Statement.{statement}
 use Rattle.type_steps.proofs.to_descendants.Tie as tie
 

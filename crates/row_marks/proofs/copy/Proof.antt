@@ -1,11 +1,11 @@
 use mathlib.Core.Path.{refl, sym}
 use Prim.Native.Nat.{_-_}
 use lib.ListN.{length}
-use Rattle.marks.specs.Forward.{Forward, forward-none, forward-next, forward-all}
+use Rattle.row_marks.specs.Loops.{Forward, forward-none, forward-next, forward-all}
 use borrow.Author.Needs.{needs}
 use native.Mathlib.Omega.{arith}
-use Rattle.axis_passes.proofs.copy.Statement.{statement}
-use Rattle.axis_passes.proofs.copy.Tie as tie
+use Rattle.row_marks.proofs.copy.Statement.{statement}
+use Rattle.row_marks.proofs.copy.Tie as tie
 
 abbrev Inv-loop : tie.InvT-loop
 Inv-loop from out₀ r₀ out r = Forward from out₀ r out

@@ -1,12 +1,11 @@
 use mathlib.Core.Path.{sym}
 use Prim.Native.Nat.{_-_}
 use lib.ListN.{length, replicate, length-replicate}
-use Rattle.marks.specs.Passes.{fill-next}
-use Rattle.marks.specs.Forward.{Forward, forward-none, forward-all}
+use Rattle.row_marks.specs.Loops.{Forward, forward-none, forward-all, fill-next}
 use borrow.Author.Needs.{needs}
 use native.Mathlib.Omega.{arith}
-use Rattle.axis_passes.proofs.fill.Statement.{statement}
-use Rattle.axis_passes.proofs.fill.Tie as tie
+use Rattle.row_marks.proofs.fill.Statement.{statement}
+use Rattle.row_marks.proofs.fill.Tie as tie
 
 abbrev Inv-loop : tie.InvT-loop
 Inv-loop out₀ byte r₀ out r = Forward (replicate (length out₀) byte) out₀ r out

@@ -1,26 +1,26 @@
--- The columns of a table that passes refusal 1 are as selecting asks.
+-- Names that have a code, and rows whose names have one: those that lent cells can hold.
 use mathlib.Core.Bool.{Bool, true, false, cond}
-use mathlib.Core.List.{List, [], _∷_, List·Memᴰ·cases-cons as cases-cons}
+use mathlib.Core.List.{List, [], _∷_, List·Memᴰ as In, List·Memᴰ·cases-cons as cases-cons}
 use mathlib.Core.Logic.{⊎-elim}
 use mathlib.Core.Option.{Option, none, some}
-use mathlib.Core.Path.{_≡_, refl, sym, subst, _∙_}
-use Prim.Native.Nat.{ℕ, zero, suc, _+_, _-_, _<_, _≤_}
+use mathlib.Core.Path.{_≡_, refl, sym, subst}
+use Prim.Native.Nat.{ℕ, _+_, _-_, _<_, _≤_}
 use native.Mathlib.Omega.{arith}
 use borrow.Author.Tests.{ltb-true, ltb-false}
-use lib.Dec.{T, ltb}
-use lib.ListN.{length, length-map}
-use Rattle.marks.specs.Selection.{parentsOf, namesOf, numbersOf}
-use Rattle.schema_spec.specs.Names.{Name, element, text, codeOf, nameOfCode}
-use Rattle.schema_spec.specs.Types.{Types}
-use Rattle.select.specs.Paths.{Columns}
-use Rattle.selected_rows.specs.Selected.{HasCode, NamesCoded, codesOf, codes-small}
-use Rattle.table_laws.specs.Parents.{nodes-placed}
-use Rattle.table_laws.specs.Places.{none-some, at-bound, at-some}
-use Rattle.table_laws.specs.WellFormed.{table-means}
-use Rattle.table_spec.specs.Conditions.{RowAt, WellFormed}
+use lib.Dec.{ltb}
+use Rattle.schema_spec.specs.Names.{Name, element, text, nameOfCode}
+use Rattle.table_laws.specs.Places.{none-some}
 use Rattle.table_spec.specs.Rows.{Row, row, Cells, rowWith, rowOf, consOf, rowsOf}
-use Rattle.table_spec.specs.Tables.{wellFormed}
-use Rattle.text_spec.specs.Limits.{maxDeclarations, maxNodes}
+use Rattle.text_spec.specs.Limits.{maxDeclarations}
+
+-- ---- definitions
+abbrev pub HasCode : Name → Type 0
+HasCode (element e) = e < maxDeclarations
+HasCode (text e) = e < maxDeclarations
+
+-- each row's name is one that a code can stand for
+abbrev pub NamesCoded : List Row → Type 0
+NamesCoded rows = (r : Row) → In r rows → HasCode (r .name)
 
 -- ---- names that come from codes
 code-name : (c : ℕ) (n : Name) → nameOfCode c ≡ some n → HasCode n
@@ -62,33 +62,3 @@ cells-coded (c ∷ cs) rows e = by (rowOf c) (rowsOf cs) refl (λ rs q. cells-co
         let z : r ∷ rs ≡ rows = cc in
         subst NamesCoded z
         (λ x i. ⊎-elim (λ y. subst (λ (w : Row). HasCode (w .name)) (sym y) (cell-name c r p)) (λ j. h rs q x j) (cases-cons i))
-
--- ---- as many rows as there can be nodes
-number-at-least : (s : Types) (rows : List Row) → WellFormed s rows → (i : ℕ) (r : Row) → RowAt rows i r → i ≤ r .number
-number-at-least s rows w zero r a = omega arith
-number-at-least s rows w (suc i) r a =
-    let b = at-bound rows (suc i) r a in
-    let q = at-some rows i (omega arith) in
-    let l = w .laterRow i (q .0) r (q .1) a .rises in
-    let h = number-at-least s rows w i (q .0) (q .1) in
-    omega arith
-
-rows-few : (s : Types) (rows : List Row) → WellFormed s rows → length rows ≤ maxNodes
-rows-few s [] w = omega arith
-rows-few s (x ∷ []) w = omega arith
-rows-few s (x ∷ y ∷ rs) w =
-    let q = at-some (x ∷ y ∷ rs) (length rs) (omega arith) in
-    let r = at-some (x ∷ y ∷ rs) (suc (length rs)) (omega arith) in
-    let l = w .laterRow (length rs) (q .0) (r .0) (q .1) (r .1) .small in
-    let h = number-at-least s (x ∷ y ∷ rs) w (suc (length rs)) (r .0) (r .1) in
-    omega arith
-
-pub tested-columns : (s : Types) (rows : List Row) → T (wellFormed s rows) → NamesCoded rows → Columns (numbersOf rows) (codesOf rows) (parentsOf rows)
-tested-columns s rows ok coded =
-    record {
-      before = nodes-placed s [] rows ok .before;
-      coded = codes-small rows coded;
-      names-size = length-map (namesOf rows) codeOf ∙ length-map rows (λ r. r .name) ∙ sym (length-map rows (λ r. r .parent));
-      numbers-size = length-map rows (λ r. r .number) ∙ sym (length-map rows (λ r. r .parent));
-      few = omega (arith, length-map rows (λ r. r .parent), rows-few s rows (table-means s rows ok));
-    }

@@ -1,0 +1,3 @@
+pub mod Columns
+pub mod Ancestors
+pub mod Loops
