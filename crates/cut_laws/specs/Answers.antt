@@ -31,8 +31,8 @@ use Rattle.schema_spec.specs.Schemas.{Schema}
 use Rattle.schema_spec.specs.Types.{Types, typesOf}
 use Rattle.table_laws.specs.Codes.{HasCode, NamesCoded}
 use Rattle.table_cutting.specs.Cut.{answered, paddedColumns, TableColumns, CutAs}
-use Rattle.table_extracts.specs.Cut.{columnsIn, PassesFor, renumberedBy, parents-first, cut-picked, marks-size, cut-columns}
-use Rattle.table_extracts.specs.Picked.{picked-length}
+use Rattle.kept_laws.specs.Cut.{columnsIn, PassesFor, renumberedBy, parents-first, cut-picked, marks-size, cut-columns}
+use Rattle.kept_laws.specs.Picked.{picked-length}
 use Rattle.table_rows.specs.Lent.{Lent}
 use Rattle.table_spec.specs.Columns.{Columns, Sizes, sizesOf, equalSizes, columnsOf}
 use Rattle.table_spec.specs.Rows.{Row}

@@ -19,7 +19,7 @@ use Rattle.schema_spec.specs.Records.{schemaIn}
 use Rattle.schema_spec.specs.Schemas.{Schema}
 use Rattle.schema_spec.specs.Types.{typesOf}
 use Rattle.table_extracts.specs.Written.{table-extract}
-use Rattle.table_extracts.specs.Cut.{columnsIn}
+use Rattle.kept_laws.specs.Cut.{columnsIn}
 use Rattle.table_spec.specs.Columns.{Columns}
 use Rattle.table_spec.specs.Rows.{Row}
 use Rattle.table_spec.specs.Tables.{wellFormedWith}
@@ -28,8 +28,10 @@ use Rattle.text_laws.specs.Tests.{never}
 use Rattle.text_spec.specs.Calls.{handed}
 use Rattle.text_spec.specs.Lists.{isNone}
 use Rattle.text_spec.specs.Refusals.{Outcome, refused, at, badRecord}
-use Rattle.written_tables.specs.Asked.{text-columns, codes-named, well-formed-alone}
-use Rattle.written_tables.specs.Lent.{held-coded, held-columns, beside-held}
+use Rattle.written_tables.specs.Asked.{text-columns}
+use Rattle.table_laws.specs.WellFormed.{well-formed-alone}
+use Rattle.kept_laws.specs.Codes.{codes-named}
+use Rattle.lent_tables.specs.Held.{held-coded, held-columns, beside-held}
 
 -- ---- the rows of a table beside a text
 module _ (s : Schema) (lent : List ℕ) (t : LentTable) (beside : isBeside s lent t ≡ true) where

@@ -9,7 +9,7 @@ use Rattle.lent_tables.specs.Selecting.{lent-numbers, lent-codes, lent-parents,
 use Rattle.table_laws.specs.Columns.{codes-map}
 use Rattle.library_spec.specs.Records.{LentTable}
 use Rattle.schema_spec.specs.Schemas.{Schema}
-use Rattle.table_extracts.specs.Cut.{columnsIn}
+use Rattle.kept_laws.specs.Cut.{columnsIn}
 use Rattle.table_spec.specs.Columns.{Columns}
 use Rattle.table_spec.specs.Rows.{Row}
 

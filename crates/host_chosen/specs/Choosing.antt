@@ -34,7 +34,7 @@ use Rattle.schema_spec.specs.Types.{Types, typesOf}
 use Rattle.select_table.specs.Tables.{RowsIn, rowsSelected}
 use Rattle.selected_answers.specs.Answers.{AnsweredSelections}
 use Rattle.selected_answers.specs.declared.Selected.{Selected}
-use Rattle.table_extracts.specs.Cut.{columnsIn}
+use Rattle.kept_laws.specs.Cut.{columnsIn}
 use Rattle.table_spec.specs.Columns.{Columns, Sizes, sizesOf, columnsOf}
 use Rattle.table_spec.specs.Rows.{Row}
 use Rattle.table_spec.specs.Tables.{wellFormed}
@@ -43,8 +43,8 @@ use Rattle.text_spec.specs.Cells.{tooSmall}
 use Rattle.text_spec.specs.Refusals.{accepted, andThen, at, tooFewCells}
 use Rattle.verdicts.specs.Verdicts.{verdict}
 use Rattle.verdicts.specs.declared.Verdict.{Verdict}
-use Rattle.written_tables.specs.Asked.{well-formed-alone}
-use Rattle.written_tables.specs.Known.{rows-coded}
+use Rattle.table_laws.specs.WellFormed.{well-formed-alone}
+use Rattle.kept_laws.specs.Known.{rows-coded}
 
 -- ---- what is asked, and what each stage leaves
 -- an accepted schema's compiled form and compiled paths, a place that they have, columns of one length

@@ -15,7 +15,7 @@ use Rattle.library_spec.specs.Calls.{inColumns, columnsAfter}
 use Rattle.library_spec.specs.Hosts.{HostAnswer}
 use Rattle.row_columns.specs.Columns.{EqualColumns}
 use Rattle.schema_spec.specs.Names.{codeOf}
-use Rattle.table_extracts.specs.Cut.{columnsIn}
+use Rattle.kept_laws.specs.Cut.{columnsIn}
 use Rattle.table_spec.specs.Columns.{Columns, Sizes, sizesOf, columnsOf}
 use Rattle.table_spec.specs.Rows.{Row}
 use Rattle.text_laws.specs.Cells.{padded-length, padded-take}

@@ -34,7 +34,7 @@ use Rattle.schema_spec.specs.Reading.{readSchema}
 use Rattle.schema_spec.specs.Records.{schemaIn}
 use Rattle.schema_spec.specs.Schemas.{Schema}
 use Rattle.schema_spec.specs.Types.{typesOf}
-use Rattle.table_extracts.specs.Cut.{columnsIn}
+use Rattle.kept_laws.specs.Cut.{columnsIn}
 use Rattle.table_extracts.specs.Written.{cut-extract}
 use Rattle.table_spec.specs.Columns.{Columns, Sizes, sizesOf, columnsOf}
 use Rattle.table_spec.specs.Rows.{Row}
@@ -46,8 +46,10 @@ use Rattle.text_spec.specs.Limits.{maxJournalBytes}
 use Rattle.text_spec.specs.Refusals.{accepted, andThen, at, tooFewCells}
 use Rattle.verdicts.specs.Verdicts.{verdict}
 use Rattle.verdicts.specs.declared.Verdict.{Verdict}
-use Rattle.written_tables.specs.Asked.{well-formed-alone, text-columns, kept-columns, codes-named}
-use Rattle.written_tables.specs.Known.{rows-coded, set-passes}
+use Rattle.written_tables.specs.Asked.{text-columns}
+use Rattle.table_laws.specs.WellFormed.{well-formed-alone}
+use Rattle.kept_laws.specs.Codes.{kept-columns, codes-named}
+use Rattle.kept_laws.specs.Known.{rows-coded, set-passes}
 
 -- ---- what is asked, and what each stage leaves
 -- an accepted schema and compiled paths, with columns of one length

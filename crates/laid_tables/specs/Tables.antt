@@ -23,8 +23,8 @@ use Rattle.tables.specs.Handed.{isHeld}
 use Rattle.text_laws.specs.Tests.{true-of}
 use Rattle.text_spec.specs.Limits.{maxNodes}
 use Rattle.text_spec.specs.Lists.{isNone}
-use Rattle.written_tables.specs.Asked.{well-formed-alone}
-use Rattle.written_tables.specs.Lent.{beside-held, held-size}
+use Rattle.table_laws.specs.WellFormed.{well-formed-alone}
+use Rattle.lent_tables.specs.Held.{beside-held, held-size}
 
 -- ---- the rows in columns of one size
 rows-lent : (t : LentTable) (n : ℕ) → sizesOf (t .columns) ≡ allOfSize n → t .count ≤ n → rowsLent t ≡ rowsOf (cellsFrom (t .columns) 0 (t .count))

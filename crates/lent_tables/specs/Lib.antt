@@ -1,1 +1,2 @@
 pub mod Selecting
+pub mod Held

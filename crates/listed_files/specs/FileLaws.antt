@@ -44,8 +44,8 @@ use Rattle.schema_spec.specs.Records.{schemaIn}
 use Rattle.schema_spec.specs.Schemas.{Schema}
 use Rattle.schema_spec.specs.Types.{typesOf}
 use Rattle.table_laws.specs.Codes.{NamesCoded}
-use Rattle.table_extracts.specs.Cut.{columnsIn, renumberedBy, cut-picked, marks-size}
-use Rattle.table_extracts.specs.Picked.{picked-length}
+use Rattle.kept_laws.specs.Cut.{columnsIn, renumberedBy, cut-picked, marks-size}
+use Rattle.kept_laws.specs.Picked.{picked-length}
 use Rattle.table_laws.specs.Parents.{NodeAt, nodes-placed}
 use Rattle.table_laws.specs.Places.{at-some}
 use Rattle.table_spec.specs.Columns.{Columns, sizesOf}
@@ -57,8 +57,9 @@ use Rattle.text_spec.specs.Limits.{listingJournalBytes, listingRows}
 use Rattle.text_spec.specs.Refusals.{Outcome, accepted, andThen}
 use Rattle.text_spec.specs.Scans.{nameAt}
 use Rattle.verdicts.specs.declared.Verdict.{Verdict}
-use Rattle.written_tables.specs.Asked.{well-formed-alone, kept-columns}
-use Rattle.written_tables.specs.Known.{rows-coded, set-passes}
+use Rattle.table_laws.specs.WellFormed.{well-formed-alone}
+use Rattle.kept_laws.specs.Codes.{kept-columns}
+use Rattle.kept_laws.specs.Known.{rows-coded, set-passes}
 
 -- what a test that fails gives
 by-failure : {A : Type 0} (b : Bool) (x y : A) → b ≡ false → y ≡ cond b x y

@@ -1,3 +1,1 @@
-pub mod Picked
-pub mod Cut
 pub mod Written

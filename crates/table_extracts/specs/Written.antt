@@ -1,6 +1,6 @@
 -- The extract of a table, and that of a cut table, by the columns of the whole table: a field has its parent's number, which cutting keeps.
 use mathlib.Core.Bool.{Bool, true, _&&_}
-use mathlib.Core.List.{List, [], _∷_, _++_, map, List·Memᴰ as In}
+use mathlib.Core.List.{List, [], _∷_, _++_, map}
 use mathlib.Core.Logic.{⊎-elim}
 use mathlib.Core.Option.{Option, some}
 use mathlib.Core.Path.{_≡_, refl, sym, ap, ap₂, _∙_}
@@ -19,18 +19,15 @@ use Rattle.extract_spec.specs.Cut.{cut}
 use Rattle.extract_spec.specs.Fields.{countTag, twoBytes, field, rowField, numberAt, fieldOf, writeExtract}
 use Rattle.schema_spec.specs.Names.{Name, Names, codeOf}
 use Rattle.schema_spec.specs.Types.{Types}
-use Rattle.table_extracts.specs.Cut.{columnsIn, PassesFor, renumberedBy, getD-map, at-mapped, parents-first, cut-picked, marks-size}
-use Rattle.table_extracts.specs.Picked.{joined-picked, picked-length, picked-at}
+use Rattle.kept_laws.specs.Cut.{columnsIn, PassesFor, renumberedBy, getD-map, at-mapped, parents-first, cut-picked, marks-size}
+use Rattle.kept_laws.specs.Picked.{joined-picked, picked-length, picked-at}
 use Rattle.table_laws.specs.Parents.{nodes-placed}
 use Rattle.table_laws.specs.Places.{at-bound, at-some, at-in}
 use Rattle.table_spec.specs.Rows.{Row, textOf}
 use Rattle.table_spec.specs.Tables.{wellFormed}
 use Rattle.text_laws.specs.Tests.{passed, true-of, and-cases}
 use Rattle.text_spec.specs.Lists.{gather, part}
-
--- each row's name is that of its code
-abbrev pub CodesNamed : List Row → Type 0
-CodesNamed rows = (r : Row) → In r rows → nameOfCode (codeOf (r .name)) ≡ r .name
+use Rattle.kept_laws.specs.Codes.{CodesNamed}
 
 gather-mapped : {A B C : Type 0} (g : B → List C) (h : A → B) (xs : List A) → gather (λ x. g (h x)) xs ≡ gather g (map h xs)
 gather-mapped g h [] = refl

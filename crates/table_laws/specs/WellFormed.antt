@@ -324,3 +324,8 @@ well-formed-beside s lent rows = (means, tests)
     tests w =
         and-intro (wellFormed s rows) (allOf (textInside lent) rows) (table-tests s rows (w .table))
         (in-all (textInside lent) rows (λ r i. inside-tests lent r (λ u. (w .inside r i u, w .passes r i u))))
+
+-- a table that is well formed beside a text is so without it
+pub well-formed-alone : (s : Types) (lent : List ℕ) (rows : List Row) → T (wellFormedWith s lent rows) → T (wellFormed s rows)
+unfolding wellFormedWith
+well-formed-alone s lent rows ok = and-cases (wellFormed s rows) (allOf (textInside lent) rows) ok .0

@@ -1,59 +1,34 @@
 -- The columns of a table that is well formed beside its text are what writing its extract asks for.
-use mathlib.Core.List.{List, [], _∷_, map, List·Memᴰ as In, List·Memᴰ·head as here, List·Memᴰ·tail as there}
-use mathlib.Core.Path.{refl, sym, subst}
-use Prim.Native.Nat.{ℕ, zero, suc, _+_, _<_, _≤_}
+use mathlib.Core.List.{List, List·Memᴰ as In}
+use mathlib.Core.Path.{refl, subst}
+use Prim.Native.Nat.{ℕ, _+_, _<_, _≤_}
 use native.Mathlib.Omega.{arith}
 use lib.Dec.{T}
 use lib.ListN.{length, getD, length-map}
 use Rattle.extract_rows.specs.Rows.{TextColumns}
-use Rattle.kept_rows.specs.Kept.{codeCount, KeptColumns}
-use Rattle.name_codes.specs.Laws.{code-below, name-of-its-code}
-use Rattle.names.specs.SetLaws.{element-every, text-every}
-use Rattle.names.specs.Sets.{everyName}
 use Rattle.schema_spec.specs.Names.{Name, element, text, isText, codeOf}
 use Rattle.schema_spec.specs.Types.{Types}
 use Rattle.table_laws.specs.Codes.{HasCode, NamesCoded}
 use Rattle.table_laws.specs.Limits.{rows-few as few-rows}
-use Rattle.table_extracts.specs.Cut.{columnsIn, getD-map, parents-first}
-use Rattle.table_extracts.specs.Written.{CodesNamed}
+use Rattle.kept_laws.specs.Cut.{columnsIn, getD-map, parents-first}
 use Rattle.table_laws.specs.Fits.{cellsFit, all-cells}
-use Rattle.table_laws.specs.Parents.{nodes-placed}
 use Rattle.table_laws.specs.Places.{at-some, at-in}
-use Rattle.table_laws.specs.WellFormed.{cells-mean, well-formed-beside}
+use Rattle.table_laws.specs.WellFormed.{cells-mean, well-formed-beside, well-formed-alone}
 use Rattle.table_spec.specs.Conditions.{TextCells, of-element, of-text}
 use Rattle.table_spec.specs.Rows.{Row}
-use Rattle.table_spec.specs.Tables.{wellFormed, wellFormedWith, textInside}
+use Rattle.table_spec.specs.Tables.{wellFormed, wellFormedWith}
 use Rattle.text_laws.specs.Lists.{all-in}
-use Rattle.text_laws.specs.Tests.{and-cases}
 use Rattle.text_spec.specs.Limits.{maxDeclarations, maxNodes, maxTextBytes}
-use Rattle.text_spec.specs.Lists.{allOf}
 
 -- ---- names that codes stand for
-name-every : (n : Name) → HasCode n → In n everyName
-name-every (element e) h = element-every e h
-name-every (text e) h = text-every e h
-
 -- the code of a text's name
 text-coded : (n : Name) → HasCode n → maxDeclarations ≤ codeOf n → T (isText n)
 text-coded (element e) h l = absurd (omega arith)
 text-coded (text e) h l = tt
 
-pub codes-named : (rows : List Row) → NamesCoded rows → CodesNamed rows
-codes-named rows coded r i = sym (name-of-its-code (r .name) (name-every (r .name) (coded r i)))
-
-codes-low : (rows : List Row) → NamesCoded rows → (k : ℕ) → getD (map (λ r. codeOf (r .name)) rows) k 0 < codeCount
-codes-low [] h zero = omega arith
-codes-low [] h (suc k) = omega arith
-codes-low (r ∷ rows) h zero = code-below (r .name) (name-every (r .name) (h r (here refl)))
-codes-low (r ∷ rows) h (suc k) = codes-low rows (λ q i. h q (there i)) k
-
 text-short : (r : Row) → TextCells r → T (isText (r .name)) → r .size ≤ maxTextBytes
 text-short r (of-element {e = e} q a b) t = absurd (subst (λ (n : Name). T (isText n)) q t)
 text-short r (of-text q a b) t = b
-
-pub well-formed-alone : (s : Types) (lent : List ℕ) (rows : List Row) → T (wellFormedWith s lent rows) → T (wellFormed s rows)
-unfolding wellFormedWith
-well-formed-alone s lent rows ok = and-cases (wellFormed s rows) (allOf (textInside lent) rows) ok .0
 
 module _ (s : Types) (lent : List ℕ) (rows : List Row) (ok : T (wellFormedWith s lent rows)) (coded : NamesCoded rows) where
   alone : T (wellFormed s rows)
@@ -87,13 +62,4 @@ module _ (s : Types) (lent : List ℕ) (rows : List Row) (ok : T (wellFormedWith
         above = λ k l. let b = parents-first s rows alone k l in omega arith;
         inside = at-texts (λ a n. a + n ≤ length lent) (well-formed-beside s lent rows .0 ok .inside);
         short = at-texts (λ a n. n ≤ maxTextBytes) (λ r i t. text-short r (cells-mean (r .name) r refl (all-in cellsFit (all-cells s rows alone) i)) t);
-      }
-
-  pub kept-columns : KeptColumns (columnsIn rows .names) (columnsIn rows .parents)
-  kept-columns =
-      record {
-        before = nodes-placed s [] rows alone .before;
-        coded = codes-low rows coded;
-        size = omega (arith, length-map rows (λ r. codeOf (r .name)), length-map rows (λ r. r .parent));
-        few = omega (arith, few-rows s rows alone, length-map rows (λ r. r .parent));
       }

@@ -17,7 +17,7 @@ use Rattle.row_marks.specs.Ancestors.{by-parents}
 use Rattle.extract_spec.specs.Cut.{kept, renumbered, cutFrom, cut}
 use Rattle.schema_spec.specs.Names.{Name, Names, codeOf, has}
 use Rattle.schema_spec.specs.Types.{Types}
-use Rattle.table_extracts.specs.Picked.{joined-picked, gather-map, tested, tested-rank}
+use Rattle.kept_laws.specs.Picked.{joined-picked, gather-map, tested, tested-rank}
 use Rattle.table_laws.specs.Fits.{rooted}
 use Rattle.table_laws.specs.Parents.{NodeAt, ChildOf, child-of, Placed, nodes-placed, nodes-named}
 use Rattle.table_laws.specs.Places.{none-some, at-bound, at-some, at-in}

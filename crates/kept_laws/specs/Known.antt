@@ -15,12 +15,12 @@ use Rattle.schema_spec.specs.Reading.{readSchema}
 use Rattle.schema_spec.specs.Schemas.{Schema}
 use Rattle.schema_spec.specs.Types.{typesOf}
 use Rattle.table_laws.specs.Codes.{HasCode, NamesCoded}
-use Rattle.table_extracts.specs.Cut.{PassesFor}
+use Rattle.kept_laws.specs.Cut.{PassesFor}
 use Rattle.table_laws.specs.Fits.{row-held}
 use Rattle.table_spec.specs.Rows.{Row}
 use Rattle.table_spec.specs.Tables.{wellFormed}
 use Rattle.text_spec.specs.Refusals.{accepted}
-use Rattle.written_tables.specs.Asked.{codes-named}
+use Rattle.kept_laws.specs.Codes.{codes-named}
 
 module _ (schema : List ℕ) (s : Schema) (read : readSchema schema ≡ accepted s) where
   -- the root's name, or one that some name holds

@@ -14,7 +14,7 @@ use Rattle.schema_spec.specs.Names.{codeOf}
 use Rattle.schema_spec.specs.Schemas.{Schema}
 use Rattle.schema_spec.specs.Types.{typesOf}
 use Rattle.table_laws.specs.Codes.{NamesCoded, cells-coded}
-use Rattle.table_extracts.specs.Cut.{columnsIn, getD-map}
+use Rattle.kept_laws.specs.Cut.{columnsIn, getD-map}
 use Rattle.table_laws.specs.Places.{at-some}
 use Rattle.table_passes.specs.Lines.{Stands}
 use Rattle.table_passes.specs.Tables.{StandFrom, rows-stand}

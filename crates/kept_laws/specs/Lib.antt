@@ -1,0 +1,4 @@
+pub mod Picked
+pub mod Cut
+pub mod Codes
+pub mod Known
