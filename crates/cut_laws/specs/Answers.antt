@@ -21,7 +21,7 @@ use Rattle.text_spec.specs.Records.{TextRecord, textIn}
 use Rattle.row_marks.specs.Columns.{picked}
 use Rattle.name_codes.specs.Codes.{nameOfCode}
 use Rattle.names.specs.SetLaws.{in-setOf, setOf-in}
-use Rattle.names.specs.Sets.{member, setIn}
+use Rattle.names.specs.Sets.{member, setIn, Known}
 use Rattle.names.specs.declared.NameSet.{NameSet}
 use Rattle.row_columns.specs.ColumnLaws.{equal-columns}
 use Rattle.schema_laws.specs.Names.{has-in, in-has}
@@ -42,7 +42,6 @@ use Rattle.text_laws.specs.Tests.{passed, same-test}
 use Rattle.text_spec.specs.Calls.{tested, handed}
 use Rattle.text_spec.specs.Limits.{maxDeclarations}
 use Rattle.text_spec.specs.Refusals.{Outcome, accepted, refused, at, badRecord, tooFewCells}
-use Rattle.type_steps.specs.Relations.{Known}
 use Rattle.verdicts.specs.Verdicts.{refusedBy, answeredOf, verdict}
 use Rattle.verdicts.specs.declared.Verdict.{Verdict}
 

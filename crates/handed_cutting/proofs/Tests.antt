@@ -15,8 +15,7 @@ use Rattle.schema_spec.specs.Schemas.{Schema}
 use Rattle.table_spec.specs.Columns.{Columns, equalSizes, sizesOf, columnsOf}
 use Rattle.tables.specs.Handed.{isHeld}
 use Rattle.text_spec.specs.Refusals.{refused, at, badRecord}
-use Rattle.type_steps.specs.Relations.{Known}
-use Rattle.names.specs.Sets.{setIn}
+use Rattle.names.specs.Sets.{Known, setIn}
 use Rattle.verdicts.specs.Verdicts.{refusedBy}
 use Rattle.verdicts.specs.declared.Verdict.{Verdict}
 

@@ -5,12 +5,11 @@ ghost use Prim.Native.Nat.{_<_, _≤_};
 ghost use lib.ListN.{length};
 ghost use Rattle.closures.specs.Schemas.{RelationOf};
 ghost use Rattle.known_names.specs.Known.{ofElement};
-ghost use Rattle.names.specs.Sets.{member, setIn};
+ghost use Rattle.names.specs.Sets.{member, setIn, NamesOf, Known};
 ghost use Rattle.schema_spec.specs.Names.{Name, namesOf, setOfWord};
 ghost use Rattle.schema_spec.specs.Schemas.{Schema};
 ghost use Rattle.schema_spec.specs.Types.{holds};
 ghost use Rattle.text_spec.specs.Limits.{maxDeclarations};
-ghost use Rattle.type_steps.specs.Relations.{NamesOf, Known};
 use names::MAX_ELEMENTS;
 use names::NameSet;
 

@@ -1,5 +1,5 @@
 -- Sets handed in and back as 64 bits: what two words must hold, and that this is right for the names of a schema.
-use mathlib.Core.Bool.{Bool, false, _&&_, _||_, or-false}
+use mathlib.Core.Bool.{Bool, false, _&&_, or-false}
 use mathlib.Core.List.{List·Memᴰ as In}
 use mathlib.Core.Logic.{_⊎_, inl, inr, ⊎-elim}
 use mathlib.Core.Path.{_≡_, refl, sym, ap, ap₂, subst, _∙_}

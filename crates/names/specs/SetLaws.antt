@@ -2,19 +2,19 @@
 use mathlib.Core.Bool.{Bool, true, false, not, _&&_, _||_, and-true}
 use mathlib.Core.List.{[], _∷_, List·Memᴰ as In, List·Memᴰ·head as here}
 use mathlib.Core.Logic.{_↔_, ⊎-elim}
-use mathlib.Core.Path.{_≡_, refl, sym, ap₂, subst, _∙_}
+use mathlib.Core.Path.{_≡_, refl, sym, ap, ap₂, subst, _∙_}
 use Prim.Native.Nat.{ℕ, zero, suc, _≤_, _<_}
 use native.Mathlib.Omega.{arith}
 use lib.Dec.{T}
 use lib.ListN.{length}
 use Rattle.names.specs.declared.NameSet.{NameSet}
-use Rattle.names.specs.Sets.{member, setOf, nothing, largest, everyName, overlap}
+use Rattle.names.specs.Sets.{member, setOf, setIn, NamesOf, Known, nothing, largest, everyName, overlap}
 use Rattle.schema_laws.specs.Names.{has-in, in-has, element-in, in-element, text-in, in-text}
 use Rattle.schema_laws.specs.Words.{Coded, schema-coded}
 use Rattle.schema_spec.specs.Names.{Name, Names, element, text, sameName, has, within, namesOf}
 use Rattle.schema_spec.specs.Schemas.{Schema, contentAt, isPcdata}
 use Rattle.text_laws.specs.Lists.{in-filter, filter-in, filter-cong, filter-filter, member-fills}
-use Rattle.text_laws.specs.Tests.{or-left, or-right, or-cases, and-intro, and-cases, failed, false-of, same-test}
+use Rattle.text_laws.specs.Tests.{or-left, or-right, or-cases, and-intro, and-cases, failed, false-of, true-of, same-test}
 use Rattle.text_spec.specs.Limits.{maxDeclarations}
 use Rattle.text_spec.specs.Lists.{filterBy, isEmpty, anyBelow}
 use Rattle.words.specs.Bits.{bit-none}
@@ -151,3 +151,13 @@ unfolding overlap
 text-overlap s t e l p q =
     or-right (anyBelow 64 (λ i. member s (element i) && member t (element i))) (anyBelow 64 (λ i. member s (text i) && member t (text i)))
     (any-below 64 (λ i. member s (text i) && member t (text i)) e l (and-intro (member s (text e)) (member t (text e)) p q))
+
+-- ---- a set cut to the names of a schema
+pub common-known : (s : Schema) (all h g : NameSet) → NamesOf s all → ((n : Name) → member g n ≡ (member h n && member all n)) → Known s g
+common-known s all h g are common n t = has-in n (namesOf s) (subst T (are n) (and-cases (member h n) (member all n) (subst T (common n) t) .1))
+
+pub common-setIn : (s : Schema) (all h g : NameSet) → NamesOf s all → ((n : Name) → member g n ≡ (member h n && member all n)) → setIn s g ≡ setIn s h
+unfolding setOf
+common-setIn s all h g are common =
+    filter-cong (member g) (member h) (namesOf s)
+    (λ n i. common n ∙ ap (λ (b : Bool). member h n && b) (are n ∙ true-of (has n (namesOf s)) (in-has i)) ∙ and-true (member h n))

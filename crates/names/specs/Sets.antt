@@ -1,10 +1,12 @@
 -- What a `NameSet` means: which names are in it, and the set of names that it is, among some names.
 use mathlib.Core.Bool.{Bool, _&&_, _||_}
-use mathlib.Core.List.{[], _∷_}
+use mathlib.Core.List.{[], _∷_, List·Memᴰ}
+use mathlib.Core.Path.{_≡_}
 use Prim.Native.Nat.{ℕ, zero, suc}
+use lib.Dec.{T}
 use Rattle.names.specs.declared.NameSet.{NameSet}
 use Rattle.schema_spec.specs.Models.{pcdata}
-use Rattle.schema_spec.specs.Names.{Name, Names, element, text, namesOf, hasBit}
+use Rattle.schema_spec.specs.Names.{Name, Names, element, text, has, namesOf, hasBit}
 use Rattle.schema_spec.specs.Schemas.{Schema}
 use Rattle.text_spec.specs.Limits.{maxDeclarations}
 use Rattle.text_spec.specs.Lists.{filterBy, anyBelow}
@@ -21,6 +23,14 @@ setOf names s = filterBy (member s) names
 -- those names of the schema that are in the set, in their order
 abbrev pub setIn : Schema → NameSet → Names
 setIn s x = setOf (namesOf s) x
+
+-- the set has exactly the names of the schema
+abbrev pub NamesOf : Schema → NameSet → Type 0
+NamesOf s all = (n : Name) → member all n ≡ has n (namesOf s)
+
+-- the set has only names of the schema
+abbrev pub Known : Schema → NameSet → Type 0
+Known s x = (n : Name) → T (member x n) → List·Memᴰ n (namesOf s)
 
 -- the set of no name
 abbrev pub nothing : NameSet

@@ -8,7 +8,7 @@ use lib.Dec.{T}
 use lib.ListN.{length}
 use Rattle.compiled_paths.specs.Columns.{firstSize, first-size-fits, first-size-some, plainIn, alternativesIn, alternatives-next}
 use Rattle.names.specs.SetLaws.{setOf-in, in-setOf, schema-every, every-element, every-text, overlap-some, element-overlap, text-overlap}
-use Rattle.names.specs.Sets.{member, overlap, setIn}
+use Rattle.names.specs.Sets.{member, overlap, setIn, NamesOf}
 use Rattle.names.specs.declared.NameSet.{NameSet}
 use Rattle.needed_alternatives.specs.Alternatives.{endsSome, anyEndsSome, needOfAll}
 use Rattle.path_spec.specs.Paths.{PlainStep, expand}
@@ -23,7 +23,6 @@ use Rattle.text_laws.specs.Lists.{member-fills}
 use Rattle.text_laws.specs.Tests.{not-intro, same-test}
 use Rattle.text_spec.specs.Limits.{maxDeclarations}
 use Rattle.text_spec.specs.Lists.{isEmpty}
-use Rattle.type_steps.specs.Relations.{NamesOf}
 
 module _ (s : Schema) where
   -- a set overlaps with all names exactly if it has one of them

@@ -6,8 +6,8 @@ ghost use Rattle.needed_alternatives.specs.Alternatives.{FromName, endsS
 ghost use Rattle.plain_steps.specs.Columns.{HasSteps};
 ghost use Rattle.schema_spec.specs.Names.{namesOf, within};
 ghost use Rattle.schema_spec.specs.Schemas.{Schema};
-ghost use Rattle.type_steps.specs.Relations.{RelationsOf, NamesOf, envIn};
-ghost use Rattle.names.specs.Sets.{setIn};
+ghost use Rattle.type_steps.specs.Relations.{RelationsOf, envIn};
+ghost use Rattle.names.specs.Sets.{NamesOf, setIn};
 use back_steps::together;
 use compiled_paths::first_size;
 use names::MAX_ELEMENTS;

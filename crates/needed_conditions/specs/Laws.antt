@@ -14,7 +14,7 @@ use Rattle.name_codes.specs.Codes.{nameOfCode}
 use Rattle.name_codes.specs.Laws.{code-below, same-name-code, name-of-its-code}
 use Rattle.needed_conditions.specs.Conditions.{keepsIn, wantsIn}
 use Rattle.names.specs.SetLaws.{setOf-in, in-setOf, schema-every}
-use Rattle.names.specs.Sets.{member, setOf, everyName, setIn}
+use Rattle.names.specs.Sets.{member, setOf, everyName, setIn, Known}
 use Rattle.names.specs.declared.NameSet.{NameSet}
 use Rattle.path_spec.specs.Paths.{Condition, unconditional, alternatives}
 use Rattle.schema_laws.specs.Names.{same-name, has-in, in-has}
@@ -24,7 +24,6 @@ use Rattle.text_laws.specs.Lists.{any-in, in-any, filter-cong, filter-filter, i
 use Rattle.text_laws.specs.Tests.{passed, false-of, or-left, or-right, or-cases, and-intro, and-cases, decided, same-test}
 use Rattle.text_spec.specs.Lists.{anyOf, filterBy, gather}
 use Rattle.text_spec.specs.Limits.{maxDeclarations}
-use Rattle.type_steps.specs.Relations.{Known}
 use Rattle.text_laws.specs.Searches.{one-more}
 
 -- ---- a condition in columns

@@ -7,13 +7,12 @@ use Rattle.compiled_paths.specs.Paths.{Shaped}
 use Rattle.compiled_paths.specs.Sizes.{writtenSteps, allSteps}
 use Rattle.compiled_paths.specs.declared.CompiledPaths.{CompiledPaths}
 use Rattle.names.specs.Encoding.{handed-back}
-use Rattle.names.specs.Sets.{setOf, everyName, setIn}
+use Rattle.names.specs.Sets.{setOf, everyName, setIn, Known}
 use Rattle.names.specs.declared.NameSet.{NameSet}
 use Rattle.needed_names.specs.Bundles.{HasPaths}
 use Rattle.schema_spec.specs.Names.{Names, wordOfSet, namesOf}
 use Rattle.schema_spec.specs.Schemas.{Schema}
 use Rattle.text_spec.specs.Limits.{maxDeclarations, maxPaths}
-use Rattle.type_steps.specs.Relations.{Known}
 
 pub word-of-known : (s : Schema) → length s ≤ maxDeclarations → (x : NameSet) (l : Names) → Known s x → setIn s x ≡ l → wordOfSet everyName (setOf everyName x) ≡ wordOfSet (namesOf s) l
 word-of-known s small x l only e = handed-back s small x only ∙ ap (wordOfSet (namesOf s)) e

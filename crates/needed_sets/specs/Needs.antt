@@ -8,8 +8,8 @@ use Rattle.inference_spec.specs.Needed.{needed}
 use Rattle.names.specs.declared.NameSet.{NameSet}
 use Rattle.schema_spec.specs.Schemas.{Schema}
 use Rattle.schema_spec.specs.Types.{typesOf}
-use Rattle.type_steps.specs.Relations.{RelationsOf, Known}
-use Rattle.names.specs.Sets.{setIn}
+use Rattle.type_steps.specs.Relations.{RelationsOf}
+use Rattle.names.specs.Sets.{Known, setIn}
 
 -- the set has the names that the paths need under each schema that has this compiled form, and no other
 pub record NeededIn (t : CompiledSchema) (paths : CompiledPaths) (x : NameSet) : Type 0 where

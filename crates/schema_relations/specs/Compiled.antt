@@ -15,8 +15,8 @@ use Rattle.schema_spec.specs.Reading.{readSchema}
 use Rattle.schema_spec.specs.Schemas.{Schema}
 use Rattle.schema_spec.specs.Types.{holds, typesOf}
 use Rattle.text_spec.specs.Refusals.{accepted}
-use Rattle.type_steps.specs.Relations.{RelationsOf, NamesOf, Known}
-use Rattle.names.specs.Sets.{setIn}
+use Rattle.type_steps.specs.Relations.{RelationsOf}
+use Rattle.names.specs.Sets.{NamesOf, Known, setIn}
 
 module _ (text : List ℕ) (s : Schema) (read : readSchema text ≡ accepted s) (t : CompiledSchema) (made : CompiledOf text s t) where
   -- the relations of the schema

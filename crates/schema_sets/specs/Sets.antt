@@ -6,7 +6,7 @@ use Rattle.schema_spec.specs.Schemas.{Schema}
 use Rattle.schema_spec.specs.Types.{typesOf}
 use Rattle.table_passes.specs.Codes.{HeldWords}
 use Rattle.text_spec.specs.Limits.{maxDeclarations}
-use Rattle.type_steps.specs.Relations.{NamesOf}
+use Rattle.names.specs.Sets.{NamesOf}
 
 -- the names that each element holds, and all names
 pub record SetsOf (s : Schema) (x : SchemaSets) : Type 0 where

@@ -21,11 +21,11 @@ use Rattle.schema_spec.specs.Names.{Name, Names, element, text, sameName, has, 
 use Rattle.schema_spec.specs.Schemas.{Schema}
 use Rattle.schema_spec.specs.Types.{Types, holds, typesOf, isBelow}
 use Rattle.text_laws.specs.Lists.{in-filter, filter-in, filter-cong, filter-filter}
-use Rattle.text_laws.specs.Tests.{or-left, or-right, or-cases, and-intro, and-cases, true-of, same-test}
+use Rattle.text_laws.specs.Tests.{or-left, or-right, or-cases, and-intro, and-cases, same-test}
 use Rattle.text_spec.specs.Limits.{maxDeclarations}
 use Rattle.text_spec.specs.Lists.{filterBy}
 use Rattle.compiled_paths.specs.Columns.{axisOf, testOf}
-use Rattle.type_steps.specs.Relations.{RelationsOf, NamesOf, Known}
+use Rattle.type_steps.specs.Relations.{RelationsOf}
 
 -- ---- tests
 pub test-named : (t : ℕ) → (t ≡ 254 → ⊥) → (t ≡ 255 → ⊥) → testOf t ≡ named t
@@ -152,13 +152,3 @@ module _ (s : Schema) where
 pub axis-self : (c : ℕ) → (c ≡ 1 → ⊥) → (c ≡ 2 → ⊥) → (c ≡ 3 → ⊥) → (c ≡ 4 → ⊥) → (c ≡ 5 → ⊥) → (c ≡ 6 → ⊥) → axisOf c ≡ self
 unfolding axisOf
 axis-self c h1 h2 h3 h4 h5 h6 = rw (ne-eqb c 1 h1, ne-eqb c 2 h2, ne-eqb c 3 h3, ne-eqb c 4 h4, ne-eqb c 5 h5, ne-eqb c 6 h6)
-
--- ---- a set cut to the names of a schema
-pub common-known : (s : Schema) (all h g : NameSet) → NamesOf s all → ((n : Name) → member g n ≡ (member h n && member all n)) → Known s g
-common-known s all h g are common n t = has-in n (namesOf s) (subst T (are n) (and-cases (member h n) (member all n) (subst T (common n) t) .1))
-
-pub common-setIn : (s : Schema) (all h g : NameSet) → NamesOf s all → ((n : Name) → member g n ≡ (member h n && member all n)) → setIn s g ≡ setIn s h
-unfolding setOf
-common-setIn s all h g are common =
-    filter-cong (member g) (member h) (namesOf s)
-    (λ n i. common n ∙ ap (λ (b : Bool). member h n && b) (are n ∙ true-of (has n (namesOf s)) (in-has i)) ∙ and-true (member h n))

@@ -1,15 +1,12 @@
 -- What relations belong to a schema, and the names, the type and the context that words stand for.
-use mathlib.Core.List.{List, List·Memᴰ}
-use mathlib.Core.Path.{_≡_}
+use mathlib.Core.List.{List}
 use Prim.Native.Nat.{_<_, _≤_}
-use lib.Dec.{T}
 use lib.ListN.{length}
 use Rattle.closures.specs.Schemas.{RelationOf}
-use Rattle.names.specs.Sets.{member, setIn}
+use Rattle.names.specs.Sets.{setIn}
 use Rattle.names.specs.declared.NameSet.{NameSet}
 use Rattle.inference_spec.specs.Types.{Env, env}
 use Rattle.schema_laws.specs.Closure.{Closed}
-use Rattle.schema_spec.specs.Names.{Name, has, namesOf}
 use Rattle.schema_spec.specs.Schemas.{Schema}
 use Rattle.schema_spec.specs.Types.{holds, typesOf, isBelow}
 use Rattle.text_spec.specs.Limits.{maxDeclarations}
@@ -22,14 +19,6 @@ pub record RelationsOf (s : Schema) (held beneath : List NameSet) : Type 0 where
   pub closed : Closed s
   pub holding : RelationOf (holds s) held
   pub below : RelationOf (isBelow (typesOf s)) beneath
-
--- the set has exactly the names of the schema
-abbrev pub NamesOf : Schema → NameSet → Type 0
-NamesOf s all = (n : Name) → member all n ≡ has n (namesOf s)
-
--- the set has only names of the schema
-abbrev pub Known : Schema → NameSet → Type 0
-Known s x = (n : Name) → T (member x n) → List·Memᴰ n (namesOf s)
 
 abbrev pub envIn : Schema → Inferred → Env
 envIn s e = env (setIn s (e .types)) (setIn s (e .context))

@@ -2,7 +2,7 @@
 use mathlib.Core.Path.{_∙_}
 use borrow.Author.Needs.{needs}
 use Rattle.names.specs.Encoding.{handed-in}
-use Rattle.type_steps.specs.Laws.{common-known, common-setIn}
+use Rattle.names.specs.SetLaws.{common-known, common-setIn}
 use Rattle.known_names.proofs.handed_in.Statement.{statement}
 use Rattle.known_names.proofs.handed_in.Tie as tie
 

@@ -6,12 +6,12 @@ use Prim.Native.Nat.{_≤_, _-_}
 use lib.Dec.{ltb}
 use Rattle.compiled_paths.specs.Columns.{alternativesIn}
 use Rattle.path_spec.specs.Paths.{alternatives}
-use Rattle.names.specs.Sets.{member}
+use Rattle.names.specs.Sets.{member, NamesOf}
 use Rattle.needed_conditions.specs.Conditions.{keepsIn}
 use Rattle.needed_conditions.specs.Laws.{kept-none, kept-one-more, kept-all}
 use Rattle.schema_spec.specs.Names.{Name, codeOf, namesOf}
 use Rattle.schema_spec.specs.Schemas.{Schema}
-use Rattle.type_steps.specs.Relations.{RelationsOf, NamesOf}
+use Rattle.type_steps.specs.Relations.{RelationsOf}
 use borrow.Author.Needs.{needs}
 use native.Mathlib.Omega.{arith}
 use Rattle.needed_conditions.proofs.kept_by_some.Statement.{statement}

@@ -4,13 +4,13 @@ use mathlib.Core.Path.{_≡_}
 use Prim.Native.Nat.{_≤_, _-_}
 use Rattle.compiled_paths.specs.Columns.{alternativesIn}
 use Rattle.path_spec.specs.Paths.{alternatives}
-use Rattle.names.specs.Sets.{member, setIn}
+use Rattle.names.specs.Sets.{member, setIn, Known}
 use Rattle.needed_conditions.specs.Conditions.{wantsIn}
 use Rattle.needed_conditions.specs.Laws.{wantedBelow, wanted-none, wanted-one-more, wanted-gather}
 use Rattle.schema_spec.specs.Names.{Name, namesOf}
 use Rattle.schema_spec.specs.Schemas.{Schema}
-use Rattle.type_steps.specs.Laws.{common-known, common-setIn}
-use Rattle.type_steps.specs.Relations.{RelationsOf, Known}
+use Rattle.names.specs.SetLaws.{common-known, common-setIn}
+use Rattle.type_steps.specs.Relations.{RelationsOf}
 use borrow.Author.Needs.{needs}
 use native.Mathlib.Omega.{arith}
 use Rattle.needed_conditions.proofs.wanted_by_some.Statement.{statement}

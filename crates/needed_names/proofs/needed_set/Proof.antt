@@ -8,7 +8,7 @@ use Rattle.compiled_paths.specs.Paths.{pathsIn}
 use Rattle.compiled_paths.specs.Sizes.{writtenSteps, allSteps}
 use Rattle.needed_names.specs.Words.{shaped-paths}
 use Rattle.text_spec.specs.Limits.{maxPaths}
-use Rattle.type_steps.specs.Laws.{common-known, common-setIn}
+use Rattle.names.specs.SetLaws.{common-known, common-setIn}
 use Rattle.needed_names.proofs.needed_set.Statement.{statement}
 use Rattle.needed_names.proofs.needed_set.Tie as tie
 
