@@ -1,9 +1,8 @@
 // The chain of tags of a row of a table that is handed in with a schema's record, in lent bytes.
-ghost use lib.ListN.{length};
 ghost use Rattle.library_spec.specs.Calls.{rowChain};
 ghost use Rattle.schema_records.specs.Records.{recordWith};
-ghost use Rattle.tables.specs.Handed.{lentTable};
-ghost use Rattle.verdicts.specs.Verdicts.{AnsweredBytes};
+ghost use Rattle.tables.specs.Handed.{entryTable};
+ghost use Rattle.verdicts.specs.Verdicts.{AnsweredSlice};
 use handed_chains::chain_lent;
 use lent_chains::refuse;
 use schema::Schema;
@@ -22,7 +21,7 @@ pub fn row_chain(
     position: usize,
     out: &mut [u8],
 ) -> Verdict
-    ensures { λ r. ⌜ AnsweredBytes (rowChain (recordWith (schema .bytes) (schema .len)) (lentTable (now (numbers .entry)) (now (codes .entry)) (now (parents .entry)) (now (starts .entry)) (now (lengths .entry)) count) position (length (now (out .entry)))) (length (now (out .entry))) r (now (out .exit)) ⌝ }
+    ensures { λ r. ⌜ AnsweredSlice (rowChain (recordWith (schema .bytes) (schema .len)) (entryTable numbers codes parents starts lengths count) position) r out ⌝ }
 {
     if !is_schema_record(schema) {
         return refuse(out);

@@ -6,7 +6,7 @@ ghost use mathlib.Core.Path.{_≡_};
 ghost use Prim.Native.Nat.{ℕ, _≤_, _<_};
 ghost use lib.Dec.{ltb};
 ghost use Rattle.schema_entries.specs.Columns.{cellsAt, endsAt};
-ghost use Rattle.content_fit.specs.Fillings.{stateIn, isChildren, StateOf, Found, ModelsOf, Sized, advancedTo};
+ghost use Rattle.content_fit.specs.Fillings.{stateIn, isChildren, StateOf, Found, ModelsOf, Sized, advancedTo, EntryModels};
 ghost use Rattle.fitting.specs.Steps.{Stepped};
 ghost use Rattle.journal_spec.specs.Builder.{Filling, withChild, fitsAtEnd};
 ghost use Rattle.schema_spec.specs.Schemas.{Schema};
@@ -111,7 +111,7 @@ fn advanced(
     e: usize,
 ) -> FillingState
     requires { ⌜ (e < maxDeclarations) × Sized (now sizes) ⌝ }
-    ensures { λ r. ⌜ ((s : Schema) (o : Option ℕ) (x : Filling) → isChildren (f .kind) ≡ true → ModelsOf s (now (firsts .entry)) (now (lasts .entry)) (now (nullables .entry)) (now (elements .entry)) (now (predecessors .entry)) (now (sizes .entry)) → Found s o e → StateOf s f x → StateOf s r (withChild o x)) ⌝ }
+    ensures { λ r. ⌜ ((s : Schema) (o : Option ℕ) (x : Filling) → isChildren (f .kind) ≡ true → EntryModels s firsts lasts nullables elements predecessors sizes → Found s o e → StateOf s f x → StateOf s r (withChild o x)) ⌝ }
 {
     let p = (f.element % ELEMENTS) as usize;
     let n = sizes[p];
@@ -152,7 +152,7 @@ pub fn with_child(
     e: usize,
 ) -> FillingState
     requires { ⌜ Sized (now sizes) ⌝ }
-    ensures { λ r. ⌜ ((s : Schema) (o : Option ℕ) (x : Filling) → ModelsOf s (now (firsts .entry)) (now (lasts .entry)) (now (nullables .entry)) (now (elements .entry)) (now (predecessors .entry)) (now (sizes .entry)) → Found s o e → StateOf s f x → StateOf s r (withChild o x)) ⌝ }
+    ensures { λ r. ⌜ ((s : Schema) (o : Option ℕ) (x : Filling) → EntryModels s firsts lasts nullables elements predecessors sizes → Found s o e → StateOf s f x → StateOf s r (withChild o x)) ⌝ }
 {
     if f.kind == UNJUDGED {
         return f;

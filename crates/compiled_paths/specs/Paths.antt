@@ -7,10 +7,15 @@ use Rattle.compiled_paths.specs.Sizes.{writtenSteps, allSteps}
 use Rattle.compiled_paths.specs.declared.CompiledPaths.{CompiledPaths}
 use Rattle.path_spec.specs.Paths.{LocationPath}
 use Rattle.text_spec.specs.Limits.{maxPaths}
+use denote.Ref.{now}
+use Rattle.lent_cells.specs.Ends.{Slice}
 
 -- compiled paths by their columns and their count, as they are lent
 abbrev pub lentPaths : List ℕ → List ℕ → List ℕ → List ℕ → ℕ → CompiledPaths
 lentPaths axes tests conditions paths count = record { count = count; paths = paths; conditions = conditions; axes = axes; tests = tests }
+
+abbrev pub entryPaths : Slice → Slice → Slice → Slice → ℕ → CompiledPaths
+entryPaths axes tests conditions paths count = lentPaths (now (axes .entry)) (now (tests .entry)) (now (conditions .entry)) (now (paths .entry)) count
 
 unfoldable pub pathsIn : CompiledPaths → List (LocationPath ℕ)
 pathsIn c = bundleIn (c .axes) (c .tests) (c .conditions) (c .paths) (c .count) 0

@@ -17,6 +17,8 @@ use Rattle.schema_elements.specs.Entries.{kindOf, childrenKind}
 use Rattle.schema_spec.specs.Models.{Particle, children}
 use Rattle.schema_spec.specs.Schemas.{Schema, contentAt}
 use Rattle.text_spec.specs.Limits.{maxDeclarations, maxModelNames}
+use denote.Ref.{now}
+use Rattle.lent_cells.specs.Ends.{SliceOf, Slice}
 
 -- the numbers of the kinds beyond those of a schema's contents
 abbrev pub amidKind : ℕ
@@ -88,3 +90,8 @@ pub record ModelsOf (s : Schema) (firsts lasts : List ℕ) (nullables : List Boo
   pub few : length s ≤ maxDeclarations
   pub automata : (a : ℕ) → a < length s → (p : Particle ℕ) → contentAt s a ≡ children p
       → AutomatonOf p (endsAt firsts lasts nullables a) (cellsAt a (getD sizes a 0) elements) (cellsAt a (getD sizes a 0) predecessors)
+
+-- the same of columns that are lent
+abbrev pub EntryModels : Schema → Slice → Slice → SliceOf Bool → Slice → Slice → Slice → Type 0
+EntryModels s firsts lasts nullables elements predecessors sizes =
+    ModelsOf s (now (firsts .entry)) (now (lasts .entry)) (now (nullables .entry)) (now (elements .entry)) (now (predecessors .entry)) (now (sizes .entry))

@@ -3,9 +3,9 @@ ghost use mathlib.Core.Bool.{cond, _&&_};
 ghost use mathlib.Core.List.{[]};
 ghost use mathlib.Core.Path.{_≡_};
 ghost use lib.Dec.{ltb};
-ghost use Rattle.cut_rows.specs.Rows.{table};
-ghost use Rattle.table_spec.specs.Columns.{equalSizes, sizesOf, columnsOf};
+ghost use Rattle.table_spec.specs.Columns.{equalSizes, columnsOf};
 ghost use Rattle.verdicts.specs.Verdicts.{refusedBy, answeredOf};
+ghost use Rattle.lent_cells.specs.Ends.{exitColumns, entrySizes};
 use column_sizes::equal_sizes;
 use verdicts::BAD_RECORD;
 use verdicts::TOO_FEW_CELLS;
@@ -36,7 +36,7 @@ pub fn refuse(
     out_starts: &mut [u32],
     out_lengths: &mut [u16],
 ) -> Verdict
-    ensures { λ r. ⌜ (r ≡ refusedBy 1 0) × (table (now («out_numbers» .exit)) (now («out_names» .exit)) (now («out_parents» .exit)) (now («out_starts» .exit)) (now («out_lengths» .exit)) ≡ columnsOf (sizesOf (table (now («out_numbers» .entry)) (now («out_names» .entry)) (now («out_parents» .entry)) (now («out_starts» .entry)) (now («out_lengths» .entry)))) []) ⌝ }
+    ensures { λ r. ⌜ (r ≡ refusedBy 1 0) × (exitColumns «out_numbers» «out_names» «out_parents» «out_starts» «out_lengths» ≡ columnsOf (entrySizes «out_numbers» «out_names» «out_parents» «out_starts» «out_lengths») []) ⌝ }
 {
     row_columns::clear(out_numbers, out_names, out_parents, out_starts, out_lengths);
     verdicts::refused(BAD_RECORD, 0)

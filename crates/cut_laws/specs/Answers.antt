@@ -44,12 +44,18 @@ use Rattle.text_spec.specs.Limits.{maxDeclarations}
 use Rattle.text_spec.specs.Refusals.{Outcome, accepted, refused, at, badRecord, tooFewCells}
 use Rattle.verdicts.specs.Verdicts.{refusedBy, answeredOf, verdict}
 use Rattle.verdicts.specs.declared.Verdict.{Verdict}
+use Rattle.lent_cells.specs.Ends.{Slice, entrySizes, exitColumns}
 
 -- ---- definitions
 -- a table answered in lent columns: the verdict, and the columns at exit
 pub record AnsweredTable (o : Outcome (List Row)) (z : Sizes) (r : Verdict) (x : Columns) : Type 0 where
   pub answer : r ≡ verdict o
   pub cells : x ≡ columnsAfter z (λ rows. rows) o
+
+-- a call that is lent five columns, by its outcome for so many cells of each
+abbrev pub AnsweredColumns : (Sizes → Outcome (List Row)) → Verdict → Slice → Slice → Slice → Slice → Slice → Type 0
+AnsweredColumns call r numbers names parents starts lengths =
+    AnsweredTable (call (entrySizes numbers names parents starts lengths)) (entrySizes numbers names parents starts lengths) r (exitColumns numbers names parents starts lengths)
 
 -- what cutting asks of a table that has passed refusal 1, and of the columns that are lent for the answer
 pub record Cuttable (t : LentTable) (o : Columns) : Type 0 where

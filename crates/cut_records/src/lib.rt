@@ -1,10 +1,8 @@
 // Cutting a table that is handed in to the names of 64 bits, into other lent columns.
-ghost use Rattle.cut_laws.specs.Answers.{AnsweredTable};
-ghost use Rattle.cut_rows.specs.Rows.{table};
+ghost use Rattle.cut_laws.specs.Answers.{AnsweredColumns};
 ghost use Rattle.library_spec.specs.Calls.{tableCut};
 ghost use Rattle.schema_records.specs.Records.{recordWith};
-ghost use Rattle.table_spec.specs.Columns.{sizesOf};
-ghost use Rattle.tables.specs.Handed.{lentTable};
+ghost use Rattle.tables.specs.Handed.{entryTable};
 use cut_answers::refuse;
 use handed_cutting::cut_lent;
 use schema::Schema;
@@ -28,7 +26,7 @@ pub fn cut_table(
     out_starts: &mut [u32],
     out_lengths: &mut [u16],
 ) -> Verdict
-    ensures { λ r. ⌜ AnsweredTable (tableCut (recordWith (schema .bytes) (schema .len)) (lentTable (now (numbers .entry)) (now (codes .entry)) (now (parents .entry)) (now (starts .entry)) (now (lengths .entry)) count) word (sizesOf (table (now («out_numbers» .entry)) (now («out_names» .entry)) (now («out_parents» .entry)) (now («out_starts» .entry)) (now («out_lengths» .entry))))) (sizesOf (table (now («out_numbers» .entry)) (now («out_names» .entry)) (now («out_parents» .entry)) (now («out_starts» .entry)) (now («out_lengths» .entry)))) r (table (now («out_numbers» .exit)) (now («out_names» .exit)) (now («out_parents» .exit)) (now («out_starts» .exit)) (now («out_lengths» .exit))) ⌝ }
+    ensures { λ r. ⌜ AnsweredColumns (tableCut (recordWith (schema .bytes) (schema .len)) (entryTable numbers codes parents starts lengths count) word) r «out_numbers» «out_names» «out_parents» «out_starts» «out_lengths» ⌝ }
 {
     if !is_schema_record(schema) {
         return refuse(out_numbers, out_names, out_parents, out_starts, out_lengths);

@@ -13,6 +13,8 @@ use Rattle.row_marks.specs.Columns.{isMarked, marks, marks-length}
 use Rattle.cut_rows.specs.Cells.{cellsBefore, Noted, noted-none, noted-unmarked, noted-marked, noted-length}
 use Rattle.table_spec.specs.Columns.{Columns}
 use Rattle.text_laws.specs.Tests.{cond-yes, cond-no}
+use Rattle.lent_cells.specs.Ends.{Slice, entryColumns, exitColumns}
+use denote.Ref.{now}
 pub use Rattle.lent_cells.specs.Columns.{table}
 
 -- ---- definitions
@@ -102,6 +104,12 @@ pub record RowsNoted (m : List ℕ) (c o : Columns) (r : ℕ) (x : Columns) : Ty
   pub parents : Noted (λ q. rank m (getD (c .parents) q 0)) m (o .parents) r (x .parents)
   pub starts : Noted (λ q. getD (c .starts) q 0) m (o .starts) r (x .starts)
   pub lengths : Noted (λ q. getD (c .lengths) q 0) m (o .lengths) r (x .lengths)
+
+-- the same of lent slices
+abbrev pub RowsNotedIn : Slice → Slice → Slice → Slice → Slice → Slice → Slice → Slice → Slice → Slice → Slice → Type 0
+RowsNotedIn positions numbers names parents starts lengths numbers₂ names₂ parents₂ starts₂ lengths₂ =
+    RowsNoted (markedBy (now (positions .entry))) (entryColumns numbers names parents starts lengths) (entryColumns numbers₂ names₂ parents₂ starts₂ lengths₂)
+    (length (now (positions .entry))) (exitColumns numbers₂ names₂ parents₂ starts₂ lengths₂)
 
 pub rows-none : (m : List ℕ) (c o : Columns) → RowsNoted m c o 0 o
 rows-none m c o =

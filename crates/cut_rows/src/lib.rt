@@ -1,7 +1,7 @@
 // The rows of a table that have a position, written into other columns, parents renumbered.
 ghost use mathlib.Core.Path.{_≡_};
-ghost use lib.ListN.{length};
-ghost use Rattle.cut_rows.specs.Rows.{table, markedBy, rowAdded, RowPass, CutPass, RowsNoted};
+ghost use Rattle.cut_rows.specs.Rows.{table, rowAdded, RowPass, CutPass, RowsNotedIn};
+ghost use Rattle.lent_cells.specs.Ends.{exitColumns, entryColumns};
 use kept_rows::NOT_KEPT;
 
 // Writes row `r` at its position, if it has one; its parent's row becomes that row's position.
@@ -20,7 +20,7 @@ fn cut_row(
     r: usize,
 )
     requires { ⌜ RowPass (now positions) (table (now numbers) (now names) (now parents) (now starts) (now lengths)) (table (now «out_numbers») (now «out_names») (now «out_parents») (now «out_starts») (now «out_lengths»)) r ⌝ }
-    ensures { λ _. ⌜ table (now («out_numbers» .exit)) (now («out_names» .exit)) (now («out_parents» .exit)) (now («out_starts» .exit)) (now («out_lengths» .exit)) ≡ rowAdded (now (positions .entry)) (table (now (numbers .entry)) (now (names .entry)) (now (parents .entry)) (now (starts .entry)) (now (lengths .entry))) r (table (now («out_numbers» .entry)) (now («out_names» .entry)) (now («out_parents» .entry)) (now («out_starts» .entry)) (now («out_lengths» .entry))) ⌝ }
+    ensures { λ _. ⌜ exitColumns «out_numbers» «out_names» «out_parents» «out_starts» «out_lengths» ≡ rowAdded (now (positions .entry)) (entryColumns numbers names parents starts lengths) r (entryColumns «out_numbers» «out_names» «out_parents» «out_starts» «out_lengths») ⌝ }
 {
     let x = positions[r];
     if x == NOT_KEPT {
@@ -50,7 +50,7 @@ pub fn write_rows(
     out_lengths: &mut [u16],
 )
     requires { ⌜ CutPass (now positions) (table (now numbers) (now names) (now parents) (now starts) (now lengths)) (table (now «out_numbers») (now «out_names») (now «out_parents») (now «out_starts») (now «out_lengths»)) ⌝ }
-    ensures { λ _. ⌜ RowsNoted (markedBy (now (positions .entry))) (table (now (numbers .entry)) (now (names .entry)) (now (parents .entry)) (now (starts .entry)) (now (lengths .entry))) (table (now («out_numbers» .entry)) (now («out_names» .entry)) (now («out_parents» .entry)) (now («out_starts» .entry)) (now («out_lengths» .entry))) (length (now (positions .entry))) (table (now («out_numbers» .exit)) (now («out_names» .exit)) (now («out_parents» .exit)) (now («out_starts» .exit)) (now («out_lengths» .exit))) ⌝ }
+    ensures { λ _. ⌜ RowsNotedIn positions numbers names parents starts lengths «out_numbers» «out_names» «out_parents» «out_starts» «out_lengths» ⌝ }
 {
     let mut r = 0;
     while r < positions.len() {

@@ -3,7 +3,8 @@ ghost use mathlib.Core.List.{[]};
 ghost use Rattle.extract_reader.specs.Whole.{Begun, RowsRead};
 ghost use Rattle.extract_steps.specs.Reads.{Hold};
 ghost use Rattle.row_columns.specs.Columns.{EqualColumns};
-ghost use Rattle.table_spec.specs.Columns.{sizesOf, columns};
+ghost use Rattle.table_spec.specs.Columns.{columns};
+ghost use Rattle.lent_cells.specs.Ends.{exitColumns, entrySizes};
 use extract_steps::Progress;
 use extract_steps::read_row;
 use field_reader::First;
@@ -65,7 +66,7 @@ pub fn read_rows(
     lengths: &mut [u16],
 ) -> RowsFound
     requires { ⌜ EqualColumns (columns (now numbers) (now names) (now parents) (now starts) (now lengths)) × Hold (columns (now numbers) (now names) (now parents) (now starts) (now lengths)) [] ⌝ }
-    ensures { λ r. ⌜ RowsRead (now (extract .entry)) (now (words .entry)) (sizesOf (columns (now (numbers .entry)) (now (names .entry)) (now (parents .entry)) (now (starts .entry)) (now (lengths .entry)))) (columns (now (numbers .exit)) (now (names .exit)) (now (parents .exit)) (now (starts .exit)) (now (lengths .exit))) r ⌝ }
+    ensures { λ r. ⌜ RowsRead (now (extract .entry)) (now (words .entry)) (entrySizes numbers names parents starts lengths) (exitColumns numbers names parents starts lengths) r ⌝ }
 {
     let mut levels = [0u64; MAX_DEPTH];
     let mut x: Progress = begin(extract);

@@ -2,8 +2,8 @@
 ghost use mathlib.Core.Path.{_≡_};
 ghost use Rattle.library_spec.specs.Calls.{extractRead, columnsAfter};
 ghost use Rattle.schema_records.specs.Records.{recordWith};
-ghost use Rattle.table_spec.specs.Columns.{sizesOf, columns};
 ghost use Rattle.verdicts.specs.Verdicts.{verdict};
+ghost use Rattle.lent_cells.specs.Ends.{exitColumns, entrySizes};
 use column_sizes::equal_sizes;
 use extract_table::read_extract_table;
 use schema::Schema;
@@ -21,8 +21,8 @@ pub fn read_extract(
     starts: &mut [u32],
     lengths: &mut [u16],
 ) -> Verdict
-    ensures { λ r. ⌜ r ≡ verdict (extractRead (recordWith (schema .bytes) (schema .len)) (now (extract .entry)) (sizesOf (columns (now (numbers .entry)) (now (names .entry)) (now (parents .entry)) (now (starts .entry)) (now (lengths .entry))))) ⌝ }
-    ensures { λ r. ⌜ columns (now (numbers .exit)) (now (names .exit)) (now (parents .exit)) (now (starts .exit)) (now (lengths .exit)) ≡ columnsAfter (sizesOf (columns (now (numbers .entry)) (now (names .entry)) (now (parents .entry)) (now (starts .entry)) (now (lengths .entry)))) (λ rows. rows) (extractRead (recordWith (schema .bytes) (schema .len)) (now (extract .entry)) (sizesOf (columns (now (numbers .entry)) (now (names .entry)) (now (parents .entry)) (now (starts .entry)) (now (lengths .entry))))) ⌝ }
+    ensures { λ r. ⌜ r ≡ verdict (extractRead (recordWith (schema .bytes) (schema .len)) (now (extract .entry)) (entrySizes numbers names parents starts lengths)) ⌝ }
+    ensures { λ r. ⌜ exitColumns numbers names parents starts lengths ≡ columnsAfter (entrySizes numbers names parents starts lengths) (λ rows. rows) (extractRead (recordWith (schema .bytes) (schema .len)) (now (extract .entry)) (entrySizes numbers names parents starts lengths)) ⌝ }
 {
     if is_schema_record(schema) {
         if equal_sizes(

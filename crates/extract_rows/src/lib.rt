@@ -5,6 +5,7 @@ ghost use Rattle.cut_rows.specs.Rows.{table};
 ghost use Rattle.extract_rows.specs.Measure.{markedSize, MeasurePass, MeasuredAs};
 ghost use Rattle.extract_rows.specs.Rows.{fieldAt, markedField, fieldSize, RowPass, StoredAt, FieldsPass};
 ghost use Rattle.kept_rows.specs.Joined.{joined};
+ghost use Rattle.lent_cells.specs.Ends.{entryColumns};
 use row_marks::MARKED;
 use extract_fields::ELEMENT_BYTES;
 use extract_fields::TEXT_HEAD_BYTES;
@@ -69,7 +70,7 @@ fn put_row(
     at: usize,
 ) -> usize
     requires { ⌜ RowPass (now text) (table (now numbers) (now names) (now parents) (now starts) (now lengths)) mark r (now out) at ⌝ }
-    ensures { λ n. ⌜ StoredAt (now (out .entry)) at (markedField (now (text .entry)) (table (now (numbers .entry)) (now (names .entry)) (now (parents .entry)) (now (starts .entry)) (now (lengths .entry))) mark r) n (now (out .exit)) ⌝ }
+    ensures { λ n. ⌜ StoredAt (now (out .entry)) at (markedField (now (text .entry)) (entryColumns numbers names parents starts lengths) mark r) n (now (out .exit)) ⌝ }
 {
     if mark != MARKED {
         return at;
@@ -101,7 +102,7 @@ pub fn write_fields(
     out: &mut [u8],
 ) -> usize
     requires { ⌜ FieldsPass (now text) (table (now numbers) (now names) (now parents) (now starts) (now lengths)) (now marks) (now out) ⌝ }
-    ensures { λ n. ⌜ StoredAt (now (out .entry)) 0 (joined (fieldAt (now (text .entry)) (table (now (numbers .entry)) (now (names .entry)) (now (parents .entry)) (now (starts .entry)) (now (lengths .entry)))) (now (marks .entry)) (length (now (marks .entry)))) n (now (out .exit)) ⌝ }
+    ensures { λ n. ⌜ StoredAt (now (out .entry)) 0 (joined (fieldAt (now (text .entry)) (entryColumns numbers names parents starts lengths)) (now (marks .entry)) (length (now (marks .entry)))) n (now (out .exit)) ⌝ }
 {
     let mut at = 0;
     let mut r = 0;

@@ -4,6 +4,7 @@ ghost use Rattle.extract_steps.specs.Reads.{Reads, ReadOn};
 ghost use Rattle.field_rows.specs.Steps.{rowCells};
 ghost use Rattle.row_columns.specs.Columns.{EqualColumns, withRow};
 ghost use Rattle.table_spec.specs.Columns.{columns};
+ghost use Rattle.lent_cells.specs.Ends.{exitColumns, entryColumns};
 use field_rows::FieldRow;
 use field_rows::FieldStep;
 use field_rows::step;
@@ -29,7 +30,7 @@ fn put_row(
     row: FieldRow,
 )
     requires { ⌜ EqualColumns (columns (now numbers) (now names) (now parents) (now starts) (now lengths)) ⌝ }
-    ensures { λ _. ⌜ columns (now (numbers .exit)) (now (names .exit)) (now (parents .exit)) (now (starts .exit)) (now (lengths .exit)) ≡ withRow (columns (now (numbers .entry)) (now (names .entry)) (now (parents .entry)) (now (starts .entry)) (now (lengths .entry))) n (rowCells row) ⌝ }
+    ensures { λ _. ⌜ exitColumns numbers names parents starts lengths ≡ withRow (entryColumns numbers names parents starts lengths) n (rowCells row) ⌝ }
 {
     if n < numbers.len() {
         numbers[n] = row.number;
@@ -53,7 +54,7 @@ pub fn read_row(
     carried: Carried,
 ) -> Progress
     requires { ⌜ Reads (now extract) (now words) (now levels) (columns (now numbers) (now names) (now parents) (now starts) (now lengths)) carried ⌝ }
-    ensures { λ p. ⌜ ReadOn (now (extract .entry)) (now (words .entry)) (carried .at) (now (levels .exit)) (columns (now (numbers .exit)) (now (names .exit)) (now (parents .exit)) (now (starts .exit)) (now (lengths .exit))) p ⌝ }
+    ensures { λ p. ⌜ ReadOn (now (extract .entry)) (now (words .entry)) (carried .at) (now (levels .exit)) (exitColumns numbers names parents starts lengths) p ⌝ }
 {
     match step(extract, words, levels, carried) {
         FieldStep::Wrong => Progress {

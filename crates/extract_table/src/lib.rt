@@ -4,6 +4,7 @@ ghost use Rattle.extract_steps.specs.Reads.{Hold};
 ghost use Rattle.extract_table.specs.Tables.{Judged, TableRead};
 ghost use Rattle.row_columns.specs.Columns.{EqualColumns};
 ghost use Rattle.table_spec.specs.Columns.{columns};
+ghost use Rattle.lent_cells.specs.Ends.{exitColumns, entryColumns};
 use extract_reader::RowsFound;
 use extract_verdicts::verdict_of;
 use names::MAX_ELEMENTS;
@@ -21,7 +22,7 @@ fn judge(
     lengths: &mut [u16],
 ) -> Verdict
     requires { ⌜ EqualColumns (columns (now numbers) (now names) (now parents) (now starts) (now lengths)) × Hold (columns (now numbers) (now names) (now parents) (now starts) (now lengths)) [] ⌝ }
-    ensures { λ r. ⌜ Judged (now (extract .entry)) (now (words .entry)) (columns (now (numbers .entry)) (now (names .entry)) (now (parents .entry)) (now (starts .entry)) (now (lengths .entry))) (columns (now (numbers .exit)) (now (names .exit)) (now (parents .exit)) (now (starts .exit)) (now (lengths .exit))) r ⌝ }
+    ensures { λ r. ⌜ Judged (now (extract .entry)) (now (words .entry)) (entryColumns numbers names parents starts lengths) (exitColumns numbers names parents starts lengths) r ⌝ }
 {
     let size = numbers.len();
     if extract.len() == 0 {
@@ -50,7 +51,7 @@ pub fn read_extract_table(
     lengths: &mut [u16],
 ) -> Verdict
     requires { ⌜ EqualColumns (columns (now numbers) (now names) (now parents) (now starts) (now lengths)) ⌝ }
-    ensures { λ r. ⌜ TableRead (now (extract .entry)) (now (words .entry)) (columns (now (numbers .entry)) (now (names .entry)) (now (parents .entry)) (now (starts .entry)) (now (lengths .entry))) (columns (now (numbers .exit)) (now (names .exit)) (now (parents .exit)) (now (starts .exit)) (now (lengths .exit))) r ⌝ }
+    ensures { λ r. ⌜ TableRead (now (extract .entry)) (now (words .entry)) (entryColumns numbers names parents starts lengths) (exitColumns numbers names parents starts lengths) r ⌝ }
 {
     row_columns::clear(numbers, names, parents, starts, lengths);
     let verdict = judge(extract, words, numbers, names, parents, starts, lengths);

@@ -10,7 +10,7 @@ use Rattle.cut_rows.specs.Rows.{table}
 use Rattle.extract_rows.specs.Rows.{TextColumns}
 use Rattle.extract_spec.specs.Fields.{writeExtract}
 use Rattle.extract_writing.specs.Extract.{extractIn}
-use Rattle.lent_extracts.specs.Answers.{inBytes}
+use Rattle.verdicts.specs.Verdicts.{inBytes}
 use Rattle.library_spec.specs.Calls.{extractWritten}
 use Rattle.library_spec.specs.Records.{LentTable, schemaHeld, rowsLent, tableBeside, passesSchema}
 use Rattle.text_spec.specs.Records.{TextRecord, textIn}

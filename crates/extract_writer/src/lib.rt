@@ -1,9 +1,8 @@
 // Writing the extract of a table that is handed in, beside the text that is lent with it.
-ghost use lib.ListN.{length};
 ghost use Rattle.library_spec.specs.Calls.{extractWritten};
 ghost use Rattle.schema_records.specs.Records.{recordWith};
-ghost use Rattle.tables.specs.Handed.{lentTable};
-ghost use Rattle.verdicts.specs.Verdicts.{AnsweredBytes};
+ghost use Rattle.tables.specs.Handed.{entryTable};
+ghost use Rattle.verdicts.specs.Verdicts.{AnsweredSlice};
 use lent_extracts::refuse;
 use lent_extracts::write_in_room;
 use schema::Schema;
@@ -24,7 +23,7 @@ pub fn write_extract(
     lent: &[u8],
     out: &mut [u8],
 ) -> Verdict
-    ensures { λ r. ⌜ AnsweredBytes (extractWritten (recordWith (schema .bytes) (schema .len)) (lentTable (now (numbers .entry)) (now (codes .entry)) (now (parents .entry)) (now (starts .entry)) (now (lengths .entry)) count) (now (lent .entry)) (length (now (out .entry)))) (length (now (out .entry))) r (now (out .exit)) ⌝ }
+    ensures { λ r. ⌜ AnsweredSlice (extractWritten (recordWith (schema .bytes) (schema .len)) (entryTable numbers codes parents starts lengths count) (now (lent .entry))) r out ⌝ }
 {
     if !is_schema_record(schema) {
         return refuse(out);

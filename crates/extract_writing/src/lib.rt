@@ -7,6 +7,7 @@ ghost use Rattle.extract_rows.specs.Rows.{TextColumns};
 ghost use Rattle.extract_writing.specs.Extract.{extractIn, BytesWritten, ExtractPass, KeptExtract};
 ghost use Rattle.kept_rows.specs.Kept.{inSet, keptMarks, KeptColumns};
 ghost use Rattle.row_marks.specs.Columns.{marks};
+ghost use Rattle.lent_cells.specs.Ends.{entryColumns};
 use row_marks::MARKED;
 use row_marks::UNMARKED;
 use extract_fields::COUNT_BYTES;
@@ -30,7 +31,7 @@ fn write_marked(
     out: &mut [u8],
 ) -> usize
     requires { ⌜ ExtractPass (now text) (table (now numbers) (now names) (now parents) (now starts) (now lengths)) (now kept) ⌝ }
-    ensures { λ n. ⌜ BytesWritten (now (out .entry)) (extractIn (now (text .entry)) (table (now (numbers .entry)) (now (names .entry)) (now (parents .entry)) (now (starts .entry)) (now (lengths .entry))) (now (kept .entry))) n (now (out .exit)) ⌝ }
+    ensures { λ n. ⌜ BytesWritten (now (out .entry)) (extractIn (now (text .entry)) (entryColumns numbers names parents starts lengths) (now (kept .entry))) n (now (out .exit)) ⌝ }
 {
     let measured = measure(names, lengths, kept);
     let size = measured.bytes + COUNT_BYTES;
@@ -55,7 +56,7 @@ pub fn write_table(
     out: &mut [u8],
 ) -> usize
     requires { ⌜ TextColumns (now text) (table (now numbers) (now names) (now parents) (now starts) (now lengths)) (length (now numbers)) ⌝ }
-    ensures { λ n. ⌜ BytesWritten (now (out .entry)) (extractIn (now (text .entry)) (table (now (numbers .entry)) (now (names .entry)) (now (parents .entry)) (now (starts .entry)) (now (lengths .entry))) (marks (length (now (numbers .entry))) (λ r. true))) n (now (out .exit)) ⌝ }
+    ensures { λ n. ⌜ BytesWritten (now (out .entry)) (extractIn (now (text .entry)) (entryColumns numbers names parents starts lengths) (marks (length (now (numbers .entry))) (λ r. true))) n (now (out .exit)) ⌝ }
 {
     let every = [MARKED; MAX_NODES];
     let count = numbers.len();
@@ -84,7 +85,7 @@ fn write_kept_into(
     out: &mut [u8],
 ) -> usize
     requires { ⌜ KeptExtract (now text) (table (now numbers) (now names) (now parents) (now starts) (now lengths)) (now kept) ⌝ }
-    ensures { λ n. ⌜ BytesWritten (now (out .entry)) (extractIn (now (text .entry)) (table (now (numbers .entry)) (now (names .entry)) (now (parents .entry)) (now (starts .entry)) (now (lengths .entry))) (keptMarks (inSet set) (now (names .entry)) (now (parents .entry)))) n (now (out .exit)) ⌝ }
+    ensures { λ n. ⌜ BytesWritten (now (out .entry)) (extractIn (now (text .entry)) (entryColumns numbers names parents starts lengths) (keptMarks (inSet set) (now (names .entry)) (now (parents .entry)))) n (now (out .exit)) ⌝ }
 {
     mark_kept(set, names, parents, kept);
     write_marked(
@@ -111,7 +112,7 @@ pub fn write_kept(
     out: &mut [u8],
 ) -> usize
     requires { ⌜ TextColumns (now text) (table (now numbers) (now names) (now parents) (now starts) (now lengths)) (length (now numbers)) × KeptColumns (now names) (now parents) ⌝ }
-    ensures { λ n. ⌜ BytesWritten (now (out .entry)) (extractIn (now (text .entry)) (table (now (numbers .entry)) (now (names .entry)) (now (parents .entry)) (now (starts .entry)) (now (lengths .entry))) (keptMarks (inSet set) (now (names .entry)) (now (parents .entry)))) n (now (out .exit)) ⌝ }
+    ensures { λ n. ⌜ BytesWritten (now (out .entry)) (extractIn (now (text .entry)) (entryColumns numbers names parents starts lengths) (keptMarks (inSet set) (now (names .entry)) (now (parents .entry)))) n (now (out .exit)) ⌝ }
 {
     let mut kept = [UNMARKED; MAX_NODES];
     let count = numbers.len();

@@ -1,7 +1,7 @@
 // For each row of a table the place in the bundle, counted from 1, of the first path that selects it; 0 where none does.
 ghost use mathlib.Core.Path.{_≡_};
 ghost use lib.ListN.{length};
-ghost use Rattle.compiled_paths.specs.Paths.{lentPaths, pathsIn};
+ghost use Rattle.compiled_paths.specs.Paths.{lentPaths, pathsIn, entryPaths};
 ghost use Rattle.first_paths.specs.Firsts.{firstOf, Noted, FirstsPass, FirstPaths, countOf, selectedCount};
 use row_marks::MARKED;
 use row_marks::UNMARKED;
@@ -55,7 +55,7 @@ pub fn first_paths<'a>(
     next: &mut [u8],
 )
     requires { ⌜ FirstsPass (lentPaths (now axes) (now tests) (now conditions) (now paths) total) (now parents) (now codes) (now firsts) (now marks) (now held) (now steps) (now next) ⌝ }
-    ensures { λ _. ⌜ FirstPaths (now (parents .entry)) (now (codes .entry)) (pathsIn (lentPaths (now (axes .entry)) (now (tests .entry)) (now (conditions .entry)) (now (paths .entry)) total)) (now (firsts .exit)) ⌝ }
+    ensures { λ _. ⌜ FirstPaths (now (parents .entry)) (now (codes .entry)) (pathsIn (entryPaths axes tests conditions paths total)) (now (firsts .exit)) ⌝ }
 {
     fill(firsts, NO_PATH);
     let mut i = 0;

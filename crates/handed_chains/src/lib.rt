@@ -1,14 +1,11 @@
 // The chain of tags of a row of a table that is handed in under a schema's text, in lent bytes.
 ghost use mathlib.Core.Path.{_≡_};
-ghost use lib.ListN.{length};
 ghost use Rattle.handed_chains.specs.Answers.{chainIn, Chainable, chainHeld};
 ghost use Rattle.schema_spec.specs.Reading.{readSchema};
 ghost use Rattle.schema_spec.specs.Records.{schemaIn};
-ghost use Rattle.tables.specs.Handed.{lentTable};
-ghost use Rattle.text_spec.specs.Calls.{inRoom};
-ghost use Rattle.text_spec.specs.Cells.{tooSmall};
+ghost use Rattle.tables.specs.Handed.{entryTable};
 ghost use Rattle.text_spec.specs.Refusals.{accepted};
-ghost use Rattle.verdicts.specs.Verdicts.{AnsweredBytes};
+ghost use Rattle.verdicts.specs.Verdicts.{AnsweredSlice, inBytes};
 use compiled_schema::compile;
 use held_words::held_words;
 use lent_chains::ChainAnswer;
@@ -33,7 +30,7 @@ fn chain_first(
     out: &mut [u8],
 ) -> Verdict
     requires { ⌜ Chainable (now text) (now names) (now codes) (now parents) count position ⌝ }
-    ensures { λ r. ⌜ AnsweredBytes (inRoom (tooSmall (length (now (out .entry))) (chainIn (now (text .entry)) (now (names .entry)) (now (codes .entry)) (now (parents .entry)) count position)) (chainIn (now (text .entry)) (now (names .entry)) (now (codes .entry)) (now (parents .entry)) count position)) (length (now (out .entry))) r (now (out .exit)) ⌝ }
+    ensures { λ r. ⌜ AnsweredSlice (λ n. inBytes n (chainIn (now (text .entry)) (now (names .entry)) (now (codes .entry)) (now (parents .entry)) count position)) r out ⌝ }
 {
     let mut sizes = [0usize; MAX_ELEMENTS];
     name_sizes(text, names, &mut sizes);
@@ -64,7 +61,7 @@ pub fn chain_lent(
     out: &mut [u8],
 ) -> Verdict
     requires { ⌜ readSchema (now text) ≡ accepted (schemaIn (now text)) ⌝ }
-    ensures { λ r. ⌜ AnsweredBytes (chainHeld (schemaIn (now (text .entry))) (lentTable (now (numbers .entry)) (now (codes .entry)) (now (parents .entry)) (now (starts .entry)) (now (lengths .entry)) count) position (length (now (out .entry)))) (length (now (out .entry))) r (now (out .exit)) ⌝ }
+    ensures { λ r. ⌜ AnsweredSlice (chainHeld (schemaIn (now (text .entry))) (entryTable numbers codes parents starts lengths count) position) r out ⌝ }
 {
     let compiled = compile(text);
     let names = compiled.names;

@@ -1,10 +1,8 @@
 // Cutting a table that is handed in, under the schema of some sets.
-ghost use Rattle.cut_laws.specs.Answers.{AnsweredTable, cutHeld};
-ghost use Rattle.cut_rows.specs.Rows.{table};
+ghost use Rattle.cut_laws.specs.Answers.{cutHeld, AnsweredColumns};
 ghost use Rattle.schema_sets.specs.Sets.{SetsOf, OfSchema};
 ghost use Rattle.schema_spec.specs.Schemas.{Schema as Elements};
-ghost use Rattle.table_spec.specs.Columns.{sizesOf};
-ghost use Rattle.tables.specs.Handed.{lentTable};
+ghost use Rattle.tables.specs.Handed.{entryTable};
 use cut_answers::may_cut;
 use cut_answers::refuse;
 use known_names::handed_in;
@@ -31,7 +29,7 @@ pub fn cut_lent(
     out_lengths: &mut [u16],
 ) -> Verdict
     requires { ⌜ OfSchema sets ⌝ }
-    ensures { λ r. ⌜ ((s : Elements) → SetsOf s sets → AnsweredTable (cutHeld s (lentTable (now (numbers .entry)) (now (codes .entry)) (now (parents .entry)) (now (starts .entry)) (now (lengths .entry)) count) word (sizesOf (table (now («out_numbers» .entry)) (now («out_names» .entry)) (now («out_parents» .entry)) (now («out_starts» .entry)) (now («out_lengths» .entry))))) (sizesOf (table (now («out_numbers» .entry)) (now («out_names» .entry)) (now («out_parents» .entry)) (now («out_starts» .entry)) (now («out_lengths» .entry)))) r (table (now («out_numbers» .exit)) (now («out_names» .exit)) (now («out_parents» .exit)) (now («out_starts» .exit)) (now («out_lengths» .exit)))) ⌝ }
+    ensures { λ r. ⌜ ((s : Elements) → SetsOf s sets → AnsweredColumns (cutHeld s (entryTable numbers codes parents starts lengths count) word) r «out_numbers» «out_names» «out_parents» «out_starts» «out_lengths») ⌝ }
 {
     let words = sets.words;
     let all: NameSet = sets.all;

@@ -16,8 +16,8 @@ use Rattle.extract_table.specs.Words.{ReadWords, read-words}
 use Rattle.held_words.specs.Words.{WordsOf, words-held}
 use Rattle.host_columns.specs.Rows.{firstOf, Rooms, RowsRead, refused-exit-by, staged-by, sizes-after, first-columns, rooms}
 use Rattle.host_laws.specs.Extracts.{read-well-formed}
-use Rattle.host_laws.specs.Stages.{lentOf, chosenOf, chosenUnder}
-use Rattle.host_results.specs.Exits.{refusedBy, answeredOf, Exits, refused-exit, answered-exit, same-exit}
+use Rattle.host_laws.specs.Stages.{chosenOf, chosenUnder}
+use Rattle.host_results.specs.Exits.{lentOf, refusedBy, answeredOf, Exits, refused-exit, answered-exit, same-exit}
 use Rattle.host_results.specs.declared.HostResult.{HostResult}
 use Rattle.library_spec.specs.Calls.{inColumns, columnsAfter}
 use Rattle.library_spec.specs.Hosts.{hostAnswer}
@@ -45,6 +45,10 @@ use Rattle.verdicts.specs.Verdicts.{verdict}
 use Rattle.verdicts.specs.declared.Verdict.{Verdict}
 use Rattle.table_laws.specs.WellFormed.{well-formed-alone}
 use Rattle.kept_laws.specs.Known.{rows-coded}
+
+-- of every accepted schema that the compiled one stands for
+abbrev pub UnderSchema : CompiledSchema → (Schema → Type 0) → Type 0
+UnderSchema compiled holds = (schema : List ℕ) → readSchema schema ≡ accepted (schemaIn schema) → CompiledOf schema (schemaIn schema) compiled → holds (schemaIn schema)
 
 -- ---- what is asked, and what each stage leaves
 -- an accepted schema's compiled form and compiled paths, a place that they have, columns of one length

@@ -1,17 +1,12 @@
 // Selecting from an extract under an accepted schema and bundle, both compiled: the extract's rows in the lent columns, and the numbers that the
 // paths asked for select on them.
-ghost use mathlib.Core.List.{List};
-ghost use mathlib.Core.Path.{_≡_};
-ghost use Prim.Native.Nat.{ℕ, _≤_};
-ghost use Rattle.compiled_paths.specs.Paths.{lentPaths, pathsIn, Shaped};
-ghost use Rattle.compiled_schema.specs.Compiled.{CompiledOf};
+ghost use Prim.Native.Nat.{_≤_};
+ghost use Rattle.compiled_paths.specs.Paths.{lentPaths, pathsIn, Shaped, entryPaths};
 ghost use Rattle.host_chosen.specs.Choosing.{SelectedUnder, RowsAsked, UnderSchema, WordsIn, LastAs};
-ghost use Rattle.host_laws.specs.Stages.{lentOf, chosenUnder};
-ghost use Rattle.host_results.specs.Exits.{Exits};
-ghost use Rattle.schema_spec.specs.Reading.{readSchema};
-ghost use Rattle.schema_spec.specs.Records.{schemaIn};
+ghost use Rattle.host_laws.specs.Stages.{chosenUnder};
+ghost use Rattle.host_results.specs.Exits.{SelectingExits};
 ghost use Rattle.table_spec.specs.Columns.{columns};
-ghost use Rattle.text_spec.specs.Refusals.{accepted};
+ghost use Rattle.lent_cells.specs.Ends.{exitColumns, entryColumns};
 use compiled_paths::CONDITION_STARTS;
 use compiled_paths::PATH_STARTS;
 use compiled_paths::STEPS;
@@ -46,7 +41,7 @@ fn answer(
     starts: &mut [u32],
     lengths: &mut [u16],
 ) -> HostResult
-    ensures { λ r. ⌜ LastAs rows selected (columns (now (numbers .entry)) (now (names .entry)) (now (parents .entry)) (now (starts .entry)) (now (lengths .entry))) (columns (now (numbers .exit)) (now (names .exit)) (now (parents .exit)) (now (starts .exit)) (now (lengths .exit))) r ⌝ }
+    ensures { λ r. ⌜ LastAs rows selected (entryColumns numbers names parents starts lengths) (exitColumns numbers names parents starts lengths) r ⌝ }
 {
     if selected.number != 0 {
         row_columns::clear(numbers, names, parents, starts, lengths);
@@ -73,7 +68,7 @@ fn select_under<'a>(
     counts: &mut [u32],
 ) -> HostResult
     requires { ⌜ Shaped (lentPaths (now axes) (now tests) (now conditions) (now paths) total) × (place ≤ total) × RowsAsked (columns (now numbers) (now names) (now parents) (now starts) (now lengths)) rows ⌝ }
-    ensures { λ r. ⌜ SelectedUnder (lentPaths (now (axes .entry)) (now (tests .entry)) (now (conditions .entry)) (now (paths .entry)) total) place rows (columns (now (numbers .entry)) (now (names .entry)) (now (parents .entry)) (now (starts .entry)) (now (lengths .entry))) (columns (now (numbers .exit)) (now (names .exit)) (now (parents .exit)) (now (starts .exit)) (now (lengths .exit))) (now (items .entry)) (now (counts .entry)) (now (items .exit)) (now (counts .exit)) r ⌝ }
+    ensures { λ r. ⌜ SelectedUnder (entryPaths axes tests conditions paths total) place rows (entryColumns numbers names parents starts lengths) (exitColumns numbers names parents starts lengths) (now (items .entry)) (now (counts .entry)) (now (items .exit)) (now (counts .exit)) r ⌝ }
 {
     let selected = select_table(
         axes,
@@ -110,7 +105,7 @@ pub fn choose_under<'a>(
     counts: &mut [u32],
 ) -> HostResult
     requires { ⌜ UnderSchema compiled (lentPaths (now axes) (now tests) (now conditions) (now paths) total) place (columns (now numbers) (now names) (now parents) (now starts) (now lengths)) ⌝ }
-    ensures { λ r. ⌜ ((schema : List ℕ) → readSchema schema ≡ accepted (schemaIn schema) → CompiledOf schema (schemaIn schema) compiled → Exits (chosenUnder (schemaIn schema) (pathsIn (lentPaths (now (axes .entry)) (now (tests .entry)) (now (conditions .entry)) (now (paths .entry)) total)) place (now (extract .entry)) (lentOf (columns (now (numbers .entry)) (now (names .entry)) (now (parents .entry)) (now (starts .entry)) (now (lengths .entry))) (now (items .entry)) (now (counts .entry)))) (lentOf (columns (now (numbers .entry)) (now (names .entry)) (now (parents .entry)) (now (starts .entry)) (now (lengths .entry))) (now (items .entry)) (now (counts .entry))) r (columns (now (numbers .exit)) (now (names .exit)) (now (parents .exit)) (now (starts .exit)) (now (lengths .exit))) (now (items .exit)) (now (counts .exit))) ⌝ }
+    ensures { λ r. ⌜ UnderSchema compiled (λ s. SelectingExits (chosenUnder s (pathsIn (entryPaths axes tests conditions paths total)) place (now (extract .entry))) r numbers names parents starts lengths items counts) ⌝ }
 {
     let words = words_of(compiled);
     let verdict = read_extract_table(extract, &words, numbers, names, parents, starts, lengths);

@@ -8,8 +8,7 @@ use borrow.Author.Tests.{le-ltb, ltb-false}
 use lib.Dec.{ltb}
 use lib.ListN.{length, take, length-map}
 use Rattle.cut_rows.specs.Rows.{table, columns-equal}
-use Rattle.host_laws.specs.Stages.{lentOf}
-use Rattle.host_results.specs.Exits.{refusedBy, Exits, refused-exit, same-exit}
+use Rattle.host_results.specs.Exits.{lentOf, refusedBy, Exits, refused-exit, same-exit}
 use Rattle.host_results.specs.declared.HostResult.{HostResult}
 use Rattle.library_spec.specs.Calls.{inColumns, columnsAfter}
 use Rattle.library_spec.specs.Hosts.{HostAnswer}

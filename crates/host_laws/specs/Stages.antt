@@ -1,32 +1,27 @@
 -- The two host functions stage by stage: 1, the schema and the bundle, then the journal or the extract with its rows in columns, 18.
 use mathlib.Core.Bool.{Bool, true, false, _&&_, _||_, or-false}
 use mathlib.Core.List.{List, []}
-use mathlib.Core.Path.{_≡_, refl, sym, ap, _∙_}
+use mathlib.Core.Path.{_≡_, refl, ap, _∙_}
 use Prim.Native.Nat.{ℕ}
-use lib.ListN.{length}
 use Rattle.extract_spec.specs.Reading.{readExtract}
 use Rattle.journal_spec.specs.Reading.{readJournal}
 use Rattle.library_spec.specs.Calls.{inColumns}
 use Rattle.library_spec.specs.Hosts.{HostAnswer, hostAnswer, Lent, inLent, extractOf, makeExtract, bundlePaths, inRange, selectFrom}
-use Rattle.library_spec.specs.Selections.{askedPaths, Selections, selections}
+use Rattle.library_spec.specs.Selections.{askedPaths, selections}
 use Rattle.path_spec.specs.Paths.{LocationPath}
 use Rattle.path_spec.specs.Reading.{readBundle}
 use Rattle.schema_spec.specs.Reading.{readSchema}
 use Rattle.schema_spec.specs.Records.{schemaIn}
 use Rattle.schema_spec.specs.Schemas.{Schema}
 use Rattle.schema_spec.specs.Types.{typesOf}
-use Rattle.table_spec.specs.Columns.{Columns, Sizes, sizesOf, equalSizes}
+use Rattle.table_spec.specs.Columns.{Sizes, equalSizes}
 use Rattle.table_spec.specs.Rows.{Row}
 use Rattle.text_laws.specs.Tests.{never}
 use Rattle.text_spec.specs.Calls.{tested, inRoom}
 use Rattle.text_spec.specs.Cells.{tooSmall}
-use Rattle.text_spec.specs.Limits.{maxJournalBytes, maxPaths}
-use Rattle.text_spec.specs.Refusals.{Refusal, Outcome, accepted, refused, andThen, at, badRecord, tooFewCells, resultOr}
+use Rattle.text_spec.specs.Limits.{maxJournalBytes}
+use Rattle.text_spec.specs.Refusals.{Refusal, Outcome, accepted, refused, andThen, at, badRecord, resultOr}
 
--- ---- definitions
--- what is lent: columns, cells for items, cells for counts
-abbrev pub lentOf : Columns → List ℕ → List ℕ → Lent
-lentOf c items counts = record { columns = sizesOf c; items = length items; counts = length counts }
 
 -- the answer for rows that the columns have room for: 18 by items and counts
 abbrev pub inItems : ℕ → ℕ → List Row → List ℕ → List ℕ → Outcome HostAnswer

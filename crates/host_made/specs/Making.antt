@@ -15,8 +15,8 @@ use Rattle.cut_rows.specs.Cells.{all-cleared}
 use Rattle.extract_rows.specs.Rows.{TextColumns}
 use Rattle.extract_writing.specs.Extract.{extractIn, inLentBytes, BytesWritten}
 use Rattle.host_columns.specs.Rows.{firstOf, Rooms, RowsRead, refused-exit-by, staged-by, sizes-after, first-columns, rooms}
-use Rattle.host_laws.specs.Stages.{lentOf, madeOf, madeUnder}
-use Rattle.host_results.specs.Exits.{refusedBy, answeredOf, Exits, refused-exit, answered-exit, same-exit}
+use Rattle.host_laws.specs.Stages.{madeOf, madeUnder}
+use Rattle.host_results.specs.Exits.{lentOf, refusedBy, answeredOf, Exits, refused-exit, answered-exit, same-exit}
 use Rattle.host_results.specs.declared.HostResult.{HostResult}
 use Rattle.inference_spec.specs.Needed.{needed}
 use Rattle.journal_laws.specs.Accepted.{accepted-well-formed}

@@ -1,16 +1,14 @@
 // Making an extract under an accepted schema and bundle, both compiled: the journal's rows in the lent columns, and the bytes of those that the
 // bundle needs.
-ghost use mathlib.Core.List.{[]};
-ghost use mathlib.Core.Path.{_≡_};
 ghost use Prim.Native.Nat.{_≤_};
-ghost use lib.ListN.{length};
-ghost use Rattle.compiled_paths.specs.Paths.{lentPaths, pathsIn, Shaped};
-ghost use Rattle.host_laws.specs.Stages.{lentOf, madeUnder};
+ghost use Rattle.compiled_paths.specs.Paths.{lentPaths, pathsIn, Shaped, entryPaths};
+ghost use Rattle.host_laws.specs.Stages.{madeUnder};
+ghost use Rattle.host_results.specs.Exits.{MakingExits};
 ghost use Rattle.host_made.specs.Making.{AnswerAs, FirstAsked, WrittenUnder, UnderTexts};
-ghost use Rattle.host_results.specs.Exits.{Exits};
 ghost use Rattle.schema_spec.specs.Records.{schemaIn};
-ghost use Rattle.table_spec.specs.Columns.{sizesOf, columns};
+ghost use Rattle.table_spec.specs.Columns.{columns};
 ghost use Rattle.text_spec.specs.Limits.{maxDeclarations};
+ghost use Rattle.lent_cells.specs.Ends.{exitColumns, entryColumns};
 use compiled_paths::CONDITION_STARTS;
 use compiled_paths::PATH_STARTS;
 use compiled_paths::STEPS;
@@ -34,7 +32,7 @@ fn answer(
     starts: &mut [u32],
     lengths: &mut [u16],
 ) -> HostResult
-    ensures { λ r. ⌜ AnswerAs rows bytes room (columns (now (numbers .entry)) (now (names .entry)) (now (parents .entry)) (now (starts .entry)) (now (lengths .entry))) (columns (now (numbers .exit)) (now (names .exit)) (now (parents .exit)) (now (starts .exit)) (now (lengths .exit))) r ⌝ }
+    ensures { λ r. ⌜ AnswerAs rows bytes room (entryColumns numbers names parents starts lengths) (exitColumns numbers names parents starts lengths) r ⌝ }
 {
     if room < bytes {
         row_columns::clear(numbers, names, parents, starts, lengths);
@@ -61,7 +59,7 @@ fn write_under<'a>(
     out: &mut [u8],
 ) -> HostResult
     requires { ⌜ Shaped (lentPaths (now axes) (now tests) (now conditions) (now paths) total) × (compiled .count ≤ maxDeclarations) × FirstAsked (now journal) (columns (now numbers) (now names) (now parents) (now starts) (now lengths)) rows ⌝ }
-    ensures { λ r. ⌜ WrittenUnder compiled (lentPaths (now (axes .entry)) (now (tests .entry)) (now (conditions .entry)) (now (paths .entry)) total) (now (journal .entry)) rows (columns (now (numbers .entry)) (now (names .entry)) (now (parents .entry)) (now (starts .entry)) (now (lengths .entry))) (columns (now (numbers .exit)) (now (names .exit)) (now (parents .exit)) (now (starts .exit)) (now (lengths .exit))) (now (out .entry)) (now (out .exit)) r ⌝ }
+    ensures { λ r. ⌜ WrittenUnder compiled (entryPaths axes tests conditions paths total) (now (journal .entry)) rows (entryColumns numbers names parents starts lengths) (exitColumns numbers names parents starts lengths) (now (out .entry)) (now (out .exit)) r ⌝ }
 {
     let set = needed_under(compiled, axes, tests, conditions, paths, total);
     let bytes = write_kept(
@@ -96,7 +94,7 @@ pub fn make_under<'a>(
     out: &mut [u8],
 ) -> HostResult
     requires { ⌜ UnderTexts (now schema) compiled (lentPaths (now axes) (now tests) (now conditions) (now paths) total) (columns (now numbers) (now names) (now parents) (now starts) (now lengths)) ⌝ }
-    ensures { λ r. ⌜ Exits (madeUnder (schemaIn (now (schema .entry))) (pathsIn (lentPaths (now (axes .entry)) (now (tests .entry)) (now (conditions .entry)) (now (paths .entry)) total)) (now (journal .entry)) (sizesOf (columns (now (numbers .entry)) (now (names .entry)) (now (parents .entry)) (now (starts .entry)) (now (lengths .entry)))) (length (now (out .entry)))) (lentOf (columns (now (numbers .entry)) (now (names .entry)) (now (parents .entry)) (now (starts .entry)) (now (lengths .entry))) (now (out .entry)) []) r (columns (now (numbers .exit)) (now (names .exit)) (now (parents .exit)) (now (starts .exit)) (now (lengths .exit))) (now (out .exit)) [] ⌝ }
+    ensures { λ r. ⌜ MakingExits (λ l. madeUnder (schemaIn (now (schema .entry))) (pathsIn (entryPaths axes tests conditions paths total)) (now (journal .entry)) (l .columns) (l .items)) r numbers names parents starts lengths out ⌝ }
 {
     let verdict = read_compiled(
         schema,

@@ -5,9 +5,9 @@ use mathlib.Core.Path.{_≡_, refl, sym, ap, subst, _∙_}
 use Prim.Native.Nat.{ℕ}
 use lib.ListN.{length}
 use Rattle.compiled_paths.specs.Paths.{pathsIn}
-use Rattle.host_laws.specs.Stages.{lentOf, madeUnder, bundle-accepted, make-unequal, make-refused, make-accepted}
+use Rattle.host_laws.specs.Stages.{madeUnder, bundle-accepted, make-unequal, make-refused, make-accepted}
+use Rattle.host_results.specs.Exits.{lentOf, Exits, RefusedExit, same-exit, refused-exit}
 use Rattle.host_made.specs.Making.{UnderTexts}
-use Rattle.host_results.specs.Exits.{Exits, RefusedExit, same-exit, refused-exit}
 use Rattle.host_results.specs.declared.HostResult.{HostResult}
 use Rattle.host_texts.specs.Texts.{refusalOf, TextsJudged, none-refused, texts-accepted, texts-refused}
 use Rattle.host_texts.specs.declared.Texts.{Texts}

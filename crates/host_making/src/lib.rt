@@ -1,9 +1,6 @@
 // Making an extract of three texts: columns of one length first (1), then the texts in turn, 18 last. On refusal every lent cell is 0.
-ghost use mathlib.Core.List.{[]};
-ghost use Rattle.host_laws.specs.Stages.{lentOf};
-ghost use Rattle.host_results.specs.Exits.{Exits};
+ghost use Rattle.host_results.specs.Exits.{MakingExits};
 ghost use Rattle.library_spec.specs.Hosts.{makeExtract};
-ghost use Rattle.table_spec.specs.Columns.{columns};
 use column_sizes::equal_sizes;
 use compiled_paths::CompiledPaths;
 use compiled_schema::CompiledSchema;
@@ -27,7 +24,7 @@ pub fn make_extract(
     lengths: &mut [u16],
     out: &mut [u8],
 ) -> HostResult
-    ensures { λ r. ⌜ Exits (makeExtract (now (schema .entry)) (now (bundle .entry)) (now (journal .entry)) (lentOf (columns (now (numbers .entry)) (now (names .entry)) (now (parents .entry)) (now (starts .entry)) (now (lengths .entry))) (now (out .entry)) [])) (lentOf (columns (now (numbers .entry)) (now (names .entry)) (now (parents .entry)) (now (starts .entry)) (now (lengths .entry))) (now (out .entry)) []) r (columns (now (numbers .exit)) (now (names .exit)) (now (parents .exit)) (now (starts .exit)) (now (lengths .exit))) (now (out .exit)) [] ⌝ }
+    ensures { λ r. ⌜ MakingExits (makeExtract (now (schema .entry)) (now (bundle .entry)) (now (journal .entry))) r numbers names parents starts lengths out ⌝ }
 {
     let equal = equal_sizes(
         numbers.len(),

@@ -5,8 +5,7 @@ use mathlib.Core.Path.{_≡_, refl, sym, ap, _∙_}
 use Prim.Native.Nat.{ℕ}
 use borrow.Author.Tests.{eq-eqb, ne-eqb}
 use lib.Dec.{leb, eqb}
-use Rattle.host_laws.specs.Stages.{lentOf}
-use Rattle.host_results.specs.Exits.{refusedBy, RefusedExit}
+use Rattle.host_results.specs.Exits.{lentOf, refusedBy, RefusedExit}
 use Rattle.host_results.specs.declared.HostResult.{HostResult}
 use Rattle.lent_cells.specs.Cells.{Cleared, all-cleared}
 use Rattle.table_spec.specs.Columns.{Columns, sizesOf, columnsOf}

@@ -2,10 +2,9 @@
 ghost use mathlib.Core.Bool.{_&&_};
 ghost use mathlib.Core.List.{[]};
 ghost use mathlib.Core.Path.{_≡_};
-ghost use Rattle.host_laws.specs.Stages.{lentOf};
+ghost use Rattle.host_results.specs.Exits.{lentOf, refusedBy, RefusedExit};
 ghost use Rattle.host_refusals.specs.Refusals.{rangeOf};
-ghost use Rattle.host_results.specs.Exits.{refusedBy, RefusedExit};
-ghost use Rattle.table_spec.specs.Columns.{columns};
+ghost use Rattle.lent_cells.specs.Ends.{exitColumns, entryColumns};
 use host_results::HostResult;
 use host_texts::Told;
 use limits::MAX_PATHS;
@@ -43,7 +42,7 @@ pub fn refuse_making(
     lengths: &mut [u16],
     out: &mut [u8],
 ) -> HostResult
-    ensures { λ r. ⌜ RefusedExit (told .number) (told .place) (lentOf (columns (now (numbers .entry)) (now (names .entry)) (now (parents .entry)) (now (starts .entry)) (now (lengths .entry))) (now (out .entry)) []) r (columns (now (numbers .exit)) (now (names .exit)) (now (parents .exit)) (now (starts .exit)) (now (lengths .exit))) (now (out .exit)) [] ⌝ }
+    ensures { λ r. ⌜ RefusedExit (told .number) (told .place) (lentOf (entryColumns numbers names parents starts lengths) (now (out .entry)) []) r (exitColumns numbers names parents starts lengths) (now (out .exit)) [] ⌝ }
 {
     row_columns::clear(numbers, names, parents, starts, lengths);
     clear_bytes(out, 0);
@@ -61,7 +60,7 @@ pub fn refuse_selecting(
     items: &mut [u16],
     counts: &mut [u32],
 ) -> HostResult
-    ensures { λ r. ⌜ RefusedExit (told .number) (told .place) (lentOf (columns (now (numbers .entry)) (now (names .entry)) (now (parents .entry)) (now (starts .entry)) (now (lengths .entry))) (now (items .entry)) (now (counts .entry))) r (columns (now (numbers .exit)) (now (names .exit)) (now (parents .exit)) (now (starts .exit)) (now (lengths .exit))) (now (items .exit)) (now (counts .exit)) ⌝ }
+    ensures { λ r. ⌜ RefusedExit (told .number) (told .place) (lentOf (entryColumns numbers names parents starts lengths) (now (items .entry)) (now (counts .entry))) r (exitColumns numbers names parents starts lengths) (now (items .exit)) (now (counts .exit)) ⌝ }
 {
     row_columns::clear(numbers, names, parents, starts, lengths);
     clear_numbers(items, 0);

@@ -1,15 +1,17 @@
 -- The outcome of a host function: its result as numbers, and what it leaves in the lent columns and cells.
 use mathlib.Core.List.{List, []}
-use mathlib.Core.Path.{_≡_, refl, sym, ap, subst, _∙_}
+use mathlib.Core.Path.{_≡_, sym, ap, subst, _∙_}
 use Prim.Native.Nat.{ℕ}
 use lib.ListN.{length}
 use Rattle.host_results.specs.declared.HostResult.{HostResult}
 use Rattle.library_spec.specs.Calls.{columnsAfter}
 use Rattle.library_spec.specs.Hosts.{HostAnswer, Lent, Result, resultOf}
-use Rattle.table_spec.specs.Columns.{Columns, columnsOf}
+use Rattle.table_spec.specs.Columns.{Columns, columnsOf, sizesOf}
 use Rattle.text_spec.specs.Calls.{cellsAfter}
 use Rattle.text_spec.specs.Cells.{padded}
 use Rattle.text_spec.specs.Refusals.{Refusal, Outcome, accepted, refused, numberOf}
+use Rattle.lent_cells.specs.Ends.{Slice, entryColumns, exitColumns}
+use denote.Ref.{now}
 
 -- ---- definitions
 abbrev pub refusedBy : ℕ → ℕ → HostResult
@@ -22,12 +24,27 @@ answeredOf rows items counts = record { number = 0; place = 0; rows = rows; item
 abbrev pub resultIn : HostResult → Result
 resultIn r = record { number = r .number; place = r .place; rows = r .rows; items = r .items; counts = r .counts }
 
+-- how much is lent
+abbrev pub lentOf : Columns → List ℕ → List ℕ → Lent
+lentOf c items counts = record { columns = sizesOf c; items = length items; counts = length counts }
+
 -- an outcome goes out so, where so much is lent
 pub record Exits (o : Outcome HostAnswer) (l : Lent) (r : HostResult) (columns : Columns) (items counts : List ℕ) : Type 0 where
   pub result : resultIn r ≡ resultOf o
   pub columns-are : columns ≡ columnsAfter (l .columns) (λ a. a .rows) o
   pub items-are : items ≡ cellsAfter (l .items) (λ a. a .items) o
   pub counts-are : counts ≡ cellsAfter (l .counts) (λ a. a .counts) o
+
+-- the same of lent slices: for a call that makes an extract, with its bytes as items and no counts, and for one that selects
+abbrev pub MakingExits : (Lent → Outcome HostAnswer) → HostResult → Slice → Slice → Slice → Slice → Slice → Slice → Type 0
+MakingExits call r numbers names parents starts lengths out =
+    let l = lentOf (entryColumns numbers names parents starts lengths) (now (out .entry)) [] in
+    Exits (call l) l r (exitColumns numbers names parents starts lengths) (now (out .exit)) []
+
+abbrev pub SelectingExits : (Lent → Outcome HostAnswer) → HostResult → Slice → Slice → Slice → Slice → Slice → Slice → Slice → Type 0
+SelectingExits call r numbers names parents starts lengths items counts =
+    let l = lentOf (entryColumns numbers names parents starts lengths) (now (items .entry)) (now (counts .entry)) in
+    Exits (call l) l r (exitColumns numbers names parents starts lengths) (now (items .exit)) (now (counts .exit))
 
 -- a refusal goes out so: every lent cell is 0
 pub record RefusedExit (number place : ℕ) (l : Lent) (r : HostResult) (columns : Columns) (items counts : List ℕ) : Type 0 where

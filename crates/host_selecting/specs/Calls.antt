@@ -1,6 +1,6 @@
 -- The call that selects from an extract, by its stages.
 use mathlib.Core.Bool.{Bool, true, false, cond, _&&_}
-use mathlib.Core.List.{List, []}
+use mathlib.Core.List.{List}
 use mathlib.Core.Path.{_≡_, refl, sym, ap, subst, _∙_}
 use Prim.Native.Nat.{ℕ}
 use borrow.Author.Tests.{eqb-true, eqb-false}
@@ -8,9 +8,9 @@ use lib.Dec.{leb, leb→le, eqb}
 use Rattle.compiled_paths.specs.Paths.{pathsIn}
 use Rattle.compiled_schema.specs.Compiled.{CompiledOf}
 use Rattle.host_chosen.specs.Choosing.{UnderSchema}
-use Rattle.host_laws.specs.Stages.{lentOf, chosenUnder, bundle-accepted, select-unequal, select-out, select-refused, select-accepted}
+use Rattle.host_laws.specs.Stages.{chosenUnder, bundle-accepted, select-unequal, select-out, select-refused, select-accepted}
+use Rattle.host_results.specs.Exits.{lentOf, Exits, RefusedExit, same-exit, refused-exit}
 use Rattle.host_refusals.specs.Refusals.{rangeOf, range-accepted}
-use Rattle.host_results.specs.Exits.{Exits, RefusedExit, same-exit, refused-exit}
 use Rattle.host_results.specs.declared.HostResult.{HostResult}
 use Rattle.host_texts.specs.Texts.{refusalOf, TextsJudged, none-refused, texts-accepted, texts-refused}
 use Rattle.host_texts.specs.declared.Texts.{Texts}

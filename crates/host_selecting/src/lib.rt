@@ -1,9 +1,7 @@
 // Selecting from an extract by two texts: 1 first (columns of unequal length, a place that the bundle does not have), then the texts in turn, 18
 // last. On refusal every lent cell is 0.
-ghost use Rattle.host_laws.specs.Stages.{lentOf};
-ghost use Rattle.host_results.specs.Exits.{Exits};
+ghost use Rattle.host_results.specs.Exits.{SelectingExits};
 ghost use Rattle.library_spec.specs.Hosts.{selectFrom};
-ghost use Rattle.table_spec.specs.Columns.{columns};
 use column_sizes::equal_sizes;
 use compiled_paths::CompiledPaths;
 use compiled_schema::CompiledSchema;
@@ -30,7 +28,7 @@ pub fn select_from(
     items: &mut [u16],
     counts: &mut [u32],
 ) -> HostResult
-    ensures { λ r. ⌜ Exits (selectFrom (now (schema .entry)) (now (bundle .entry)) place (now (extract .entry)) (lentOf (columns (now (numbers .entry)) (now (names .entry)) (now (parents .entry)) (now (starts .entry)) (now (lengths .entry))) (now (items .entry)) (now (counts .entry)))) (lentOf (columns (now (numbers .entry)) (now (names .entry)) (now (parents .entry)) (now (starts .entry)) (now (lengths .entry))) (now (items .entry)) (now (counts .entry))) r (columns (now (numbers .exit)) (now (names .exit)) (now (parents .exit)) (now (starts .exit)) (now (lengths .exit))) (now (items .exit)) (now (counts .exit)) ⌝ }
+    ensures { λ r. ⌜ SelectingExits (selectFrom (now (schema .entry)) (now (bundle .entry)) place (now (extract .entry))) r numbers names parents starts lengths items counts ⌝ }
 {
     let equal = equal_sizes(
         numbers.len(),

@@ -1,10 +1,9 @@
 -- Events by their numbers, and the laws of an event: nothing is judged once nesting is broken, and an empty tag is a start tag and its end.
-use mathlib.Core.Bool.{Bool, true, false, true≢false, cond}
+use mathlib.Core.Bool.{Bool, true, false, cond}
 use mathlib.Core.List.{List}
 use mathlib.Core.Path.{_≡_, refl, sym, ap, subst, _∙_}
-use Prim.Native.Nat.{ℕ, _+_, _≤_, _<_}
+use Prim.Native.Nat.{ℕ, _≤_}
 use native.Mathlib.Omega.{arith}
-use borrow.Author.Tests.{leb-true}
 use lib.Dec.{eqb, leb}
 use Rattle.build_laws.specs.Ends.{end-none, end-keeps-rows}
 use Rattle.build_laws.specs.Starts.{isInnermost}
@@ -12,12 +11,18 @@ use Rattle.build_state.specs.State.{judgedFrom, Safe, Built, Rows, Leaves, Safe
 use Rattle.build_laws.specs.StateLaws.{leaves-kept, leaves-as, rows-as}
 use Rattle.build_state.specs.declared.Build.{Build}
 use Rattle.build_state.specs.declared.BuildStep.{BuildStep}
-use Rattle.fault_keys.specs.Keys.{noKey}
-use Rattle.journal_spec.specs.Builder.{Building, onStart, onEnd, onUnbroken, onEvent}
+use Rattle.journal_spec.specs.Builder.{Building, onEnd, onUnbroken, onEvent}
 use Rattle.journal_spec.specs.Lexer.{Event, starts, empties, ends}
 use Rattle.schema_spec.specs.Schemas.{Schema}
 use Rattle.table_spec.specs.Rows.{Row}
 use Rattle.text_spec.specs.Lists.{isNone}
+use Rattle.name_words.specs.declared.Name.{Name}
+use Rattle.name_words.specs.Words.{Spells}
+use Rattle.lent_cells.specs.Ends.{SliceOf, Slice}
+use Rattle.element_names.specs.Names.{NamesOf}
+use Rattle.content_fit.specs.Fillings.{KindsOf, ModelsOf, EntryModels}
+use lib.ListN.{length}
+use denote.Ref.{now}
 
 -- a start tag or an empty tag; a tag, by the number of its event
 abbrev pub startEvent : Bool → List ℕ → ℕ → Event
@@ -74,3 +79,24 @@ pub ends-leaves : {s : Schema} {levels : List ℕ} {m r : Build} {b : Building} 
     → e ≡ ends n k → Built s levels m b → Built s levels r (onEnd n k b) → Leaves s levels m b x (onEvent s e b)
 ends-leaves {s} {levels} {m} {r} {b} {e} n k x u q c f w v =
     leaves-as q (event-judged s e b u ∙ ap (λ (y : Event). onUnbroken s y b) f) (leaves-kept {x = step r noRow} c (end-keeps-rows n k b) v)
+
+-- ---- tags, as contracts say it
+-- the element that an empty tag has begun is closed at once
+abbrev pub ClosesBegun : Slice → Slice → SliceOf Bool → Slice → BuildStep → BuildStep → Type 0
+ClosesBegun firsts lasts nullables levels begun r =
+    (s : Schema) (m : Build) (b c : Building) (n : List ℕ) (k : ℕ) (elements predecessors sizes : List ℕ)
+    → ModelsOf s (now (firsts .entry)) (now (lasts .entry)) (now (nullables .entry)) elements predecessors sizes → (isNone (c .broken) ≡ true → isInnermost (c .opens) n ≡ true)
+    → Leaves s (now (levels .entry)) m b begun c → Leaves s (now (levels .entry)) m b r (closedAfter n k c)
+
+-- a tag after the columns of a schema that it asks for: a start tag where nesting is not broken, and any tag
+abbrev pub StartBy : (List ℕ → Event) → Slice → ℕ → Slice → Slice → Slice → SliceOf Bool → Slice → Slice → Slice → Slice → Build → Name → BuildStep → Type 0
+StartBy event words count kinds firsts lasts nullables elements predecessors sizes levels m name r =
+    (s : Schema) (b : Building) (n : List ℕ) → NamesOf s (now (words .entry)) → count ≡ length s → KindsOf s (now (kinds .entry))
+    → EntryModels s firsts lasts nullables elements predecessors sizes → Spells name n → isNone (b .broken) ≡ true → Built s (now (levels .entry)) m b
+    → Leaves s (now (levels .exit)) m b r (onUnbroken s (event n) b)
+
+abbrev pub TagBy : (List ℕ → Event) → Slice → ℕ → Slice → Slice → Slice → SliceOf Bool → Slice → Slice → Slice → Slice → Build → Name → BuildStep → Type 0
+TagBy event words count kinds firsts lasts nullables elements predecessors sizes levels m name r =
+    (s : Schema) (b : Building) (n : List ℕ) → NamesOf s (now (words .entry)) → count ≡ length s → KindsOf s (now (kinds .entry))
+    → EntryModels s firsts lasts nullables elements predecessors sizes → Spells name n → Built s (now (levels .entry)) m b
+    → Leaves s (now (levels .exit)) m b r (onEvent s (event n) b)

@@ -1,22 +1,16 @@
 // Events of a journal turned into open elements, content and rows: refusals 12 to 16.
-ghost use mathlib.Core.Bool.{true};
-ghost use mathlib.Core.List.{List};
 ghost use mathlib.Core.Path.{_≡_};
-ghost use Prim.Native.Nat.{ℕ, _≤_, _<_};
+ghost use Prim.Native.Nat.{_≤_, _<_};
 ghost use lib.ListN.{length};
-ghost use Rattle.build_laws.specs.Starts.{isInnermost};
 ghost use Rattle.build_state.specs.State.{judgedFrom, Safe, Built, Leaves, SafeStep};
-ghost use Rattle.content_fit.specs.Fillings.{KindsOf, ModelsOf, Sized};
-ghost use Rattle.element_names.specs.Names.{NamesOf};
+ghost use Rattle.content_fit.specs.Fillings.{Sized};
 ghost use Rattle.fault_keys.specs.Keys.{placeLimit};
-ghost use Rattle.journal_builder.specs.Events.{startEvent, tagEvent, closedAfter};
-ghost use Rattle.journal_spec.specs.Builder.{Building, onUnbroken, onEvent};
+ghost use Rattle.journal_builder.specs.Events.{startEvent, tagEvent, ClosesBegun, StartBy, TagBy};
+ghost use Rattle.journal_spec.specs.Builder.{Building, onEvent};
 ghost use Rattle.journal_spec.specs.Lexer.{run, runs};
 ghost use Rattle.journal_state.specs.Places.{placeOr};
-ghost use Rattle.name_words.specs.Words.{Spells};
 ghost use Rattle.schema_spec.specs.Schemas.{Schema};
 ghost use Rattle.text_spec.specs.Limits.{maxDeclarations};
-ghost use Rattle.text_spec.specs.Lists.{isNone};
 use build_state::Build;
 use build_state::BuildStep;
 use element_names::HASHES;
@@ -38,7 +32,7 @@ fn closed(
     begun: BuildStep,
 ) -> BuildStep
     requires { ⌜ Safe (now levels) (begun .build) × (judgedFrom ≤ begun .build .fault → 0 < begun .build .depth) ⌝ }
-    ensures { λ r. ⌜ Safe (now (levels .entry)) (r .build) × (r .build .count ≡ begun .build .count) × ((s : Schema) (m : Build) (b c : Building) (n : List ℕ) (k : ℕ) (elements predecessors sizes : List ℕ) → ModelsOf s (now (firsts .entry)) (now (lasts .entry)) (now (nullables .entry)) elements predecessors sizes → (isNone (c .broken) ≡ true → isInnermost (c .opens) n ≡ true) → Leaves s (now (levels .entry)) m b begun c → Leaves s (now (levels .entry)) m b r (closedAfter n k c)) ⌝ }
+    ensures { λ r. ⌜ Safe (now (levels .entry)) (r .build) × (r .build .count ≡ begun .build .count) × ClosesBegun firsts lasts nullables levels begun r ⌝ }
 {
     let m = begun.build;
     let row: RowCells = begun.row;
@@ -68,7 +62,7 @@ fn start_tag(
     at: u32,
 ) -> BuildStep
     requires { ⌜ Safe (now levels) m × Sized (now sizes) × (m .count < placeLimit) × (count ≤ maxDeclarations) ⌝ }
-    ensures { λ r. ⌜ SafeStep (now (levels .exit)) m r × ((s : Schema) (b : Building) (n : List ℕ) → NamesOf s (now (words .entry)) → count ≡ length s → KindsOf s (now (kinds .entry)) → ModelsOf s (now (firsts .entry)) (now (lasts .entry)) (now (nullables .entry)) (now (elements .entry)) (now (predecessors .entry)) (now (sizes .entry)) → Spells name n → isNone (b .broken) ≡ true → Built s (now (levels .entry)) m b → Leaves s (now (levels .exit)) m b r (onUnbroken s (startEvent empty n at) b)) ⌝ }
+    ensures { λ r. ⌜ SafeStep (now (levels .exit)) m r × StartBy (λ n. startEvent empty n at) words count kinds firsts lasts nullables elements predecessors sizes levels m name r ⌝ }
 {
     let e = element_names::find(words, hints, count, name);
     let begun = journal_starts::on_start(
@@ -110,7 +104,7 @@ pub fn on_tag(
     at: u32,
 ) -> BuildStep
     requires { ⌜ Safe (now levels) m × Sized (now sizes) × (m .count < placeLimit) × (count ≤ maxDeclarations) ⌝ }
-    ensures { λ r. ⌜ SafeStep (now (levels .exit)) m r × ((s : Schema) (b : Building) (n : List ℕ) → NamesOf s (now (words .entry)) → count ≡ length s → KindsOf s (now (kinds .entry)) → ModelsOf s (now (firsts .entry)) (now (lasts .entry)) (now (nullables .entry)) (now (elements .entry)) (now (predecessors .entry)) (now (sizes .entry)) → Spells name n → Built s (now (levels .entry)) m b → Leaves s (now (levels .exit)) m b r (onEvent s (tagEvent event n at) b)) ⌝ }
+    ensures { λ r. ⌜ SafeStep (now (levels .exit)) m r × TagBy (λ n. tagEvent event n at) words count kinds firsts lasts nullables elements predecessors sizes levels m name r ⌝ }
 {
     if !build_state::is_judged(m) {
         return build_state::without_row(m);

@@ -4,12 +4,13 @@ ghost use Rattle.compiled_schema.specs.Compiled.{CompiledOf};
 ghost use Rattle.content_fit.specs.Fillings.{Sized};
 ghost use Rattle.journal_compiled.specs.Compiled.{CompiledRead};
 ghost use Rattle.journal_compiled.specs.Tables.{TableRead};
-ghost use Rattle.journal_events.specs.Events.{schemaCells};
+ghost use Rattle.journal_events.specs.Events.{entrySchema};
 ghost use Rattle.journal_state.specs.Places.{noPlace};
 ghost use Rattle.row_columns.specs.Columns.{EqualColumns};
 ghost use Rattle.schema_spec.specs.Records.{schemaIn};
 ghost use Rattle.table_spec.specs.Columns.{columns};
 ghost use Rattle.text_spec.specs.Limits.{maxDeclarations};
+ghost use Rattle.lent_cells.specs.Ends.{exitColumns, entryColumns};
 use compiled_schema::CompiledSchema;
 use element_names::HASHES;
 use element_names::WORDS;
@@ -39,7 +40,7 @@ fn read_table(
     lengths: &mut [u16],
 ) -> Verdict
     requires { ⌜ Sized (now sizes) × (count ≤ maxDeclarations) × (limit < noPlace) × EqualColumns (columns (now numbers) (now names) (now parents) (now starts) (now lengths)) ⌝ }
-    ensures { λ r. ⌜ TableRead (schemaCells (now (words .entry)) count (now (kinds .entry)) (now (firsts .entry)) (now (lasts .entry)) (now (nullables .entry)) (now (elements .entry)) (now (predecessors .entry)) (now (sizes .entry))) (now (text .entry)) limit (columns (now (numbers .entry)) (now (names .entry)) (now (parents .entry)) (now (starts .entry)) (now (lengths .entry))) (columns (now (numbers .exit)) (now (names .exit)) (now (parents .exit)) (now (starts .exit)) (now (lengths .exit))) r ⌝ }
+    ensures { λ r. ⌜ TableRead (entrySchema words count kinds firsts lasts nullables elements predecessors sizes) (now (text .entry)) limit (entryColumns numbers names parents starts lengths) (exitColumns numbers names parents starts lengths) r ⌝ }
 {
     row_columns::clear(numbers, names, parents, starts, lengths);
     let verdict = journal_judgement::judge(
@@ -81,7 +82,7 @@ pub fn read_compiled(
     lengths: &mut [u16],
 ) -> Verdict
     requires { ⌜ CompiledOf (now schema) (schemaIn (now schema)) compiled × (limit < noPlace) × EqualColumns (columns (now numbers) (now names) (now parents) (now starts) (now lengths)) ⌝ }
-    ensures { λ r. ⌜ CompiledRead (now (schema .entry)) (now (text .entry)) limit (columns (now (numbers .entry)) (now (names .entry)) (now (parents .entry)) (now (starts .entry)) (now (lengths .entry))) (columns (now (numbers .exit)) (now (names .exit)) (now (parents .exit)) (now (starts .exit)) (now (lengths .exit))) r ⌝ }
+    ensures { λ r. ⌜ CompiledRead (now (schema .entry)) (now (text .entry)) limit (entryColumns numbers names parents starts lengths) (exitColumns numbers names parents starts lengths) r ⌝ }
 {
     let count = compiled.count;
     let places = compiled.names;

@@ -7,9 +7,8 @@ ghost use lib.Dec.{eqb};
 ghost use lib.ListN.{length};
 ghost use Rattle.build_laws.specs.Starts.{isInnermost};
 ghost use Rattle.build_state.specs.State.{Safe, Built, Leaves, SafeStep, outsideBy};
-ghost use Rattle.content_fit.specs.Fillings.{ModelsOf};
 ghost use Rattle.fault_keys.specs.Keys.{placeLimit};
-ghost use Rattle.journal_spec.specs.Builder.{Building, onEnd, onRun};
+ghost use Rattle.journal_spec.specs.Builder.{Building, onRun};
 ghost use Rattle.journal_spec.specs.Lexer.{run};
 ghost use Rattle.journal_state.specs.Places.{placeOr};
 ghost use Rattle.name_words.specs.Words.{Spells};
@@ -17,6 +16,7 @@ ghost use Rattle.schema_elements.specs.Entries.{pcdataKind};
 ghost use Rattle.schema_spec.specs.Schemas.{Schema};
 ghost use Rattle.text_spec.specs.Limits.{maxDeclarations, maxDepth};
 ghost use Rattle.text_spec.specs.Lists.{isNone};
+ghost use Rattle.build_laws.specs.Tags.{Closes, Ends};
 use build_state::Build;
 use build_state::BuildStep;
 use content_fit::PCDATA;
@@ -36,7 +36,7 @@ pub fn close(
     m: Build,
 ) -> Build
     requires { ⌜ (0 < m .depth) × (m .depth ≤ maxDepth) ⌝ }
-    ensures { λ r. ⌜ (r .depth ≤ m .depth) × (r .count ≡ m .count) × ((s : Schema) (b : Building) (n : List ℕ) (k : ℕ) (elements predecessors sizes : List ℕ) → ModelsOf s (now (firsts .entry)) (now (lasts .entry)) (now (nullables .entry)) elements predecessors sizes → isInnermost (b .opens) n ≡ true → isNone (b .broken) ≡ true → Built s (now (levels .entry)) m b → Built s (now (levels .entry)) r (onEnd n k b)) ⌝ }
+    ensures { λ r. ⌜ (r .depth ≤ m .depth) × (r .count ≡ m .count) × Closes firsts lasts nullables levels m r ⌝ }
 {
     let level = open_levels::load(levels, m.depth);
     let filling = level.filling;
@@ -65,7 +65,7 @@ pub fn on_end(
     at: u32,
 ) -> Build
     requires { ⌜ m .depth ≤ maxDepth ⌝ }
-    ensures { λ r. ⌜ (r .depth ≤ m .depth) × (r .count ≡ m .count) × ((s : Schema) (b : Building) (n : List ℕ) (elements predecessors sizes : List ℕ) → ModelsOf s (now (firsts .entry)) (now (lasts .entry)) (now (nullables .entry)) elements predecessors sizes → Spells name n → isNone (b .broken) ≡ true → Built s (now (levels .entry)) m b → Built s (now (levels .entry)) r (onEnd n at b)) ⌝ }
+    ensures { λ r. ⌜ (r .depth ≤ m .depth) × (r .count ≡ m .count) × Ends firsts lasts nullables levels name at m r ⌝ }
 {
     let d = m.depth;
     if d == 0 {

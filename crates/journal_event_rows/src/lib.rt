@@ -6,10 +6,11 @@ ghost use Rattle.build_state.specs.State.{Safe};
 ghost use Rattle.content_fit.specs.Fillings.{Sized};
 ghost use Rattle.fault_keys.specs.Keys.{placeLimit};
 ghost use Rattle.journal_event_rows.specs.Events.{EventRead};
-ghost use Rattle.journal_events.specs.Events.{schemaCells};
+ghost use Rattle.journal_events.specs.Events.{entrySchema};
 ghost use Rattle.row_columns.specs.Columns.{EqualColumns};
 ghost use Rattle.table_spec.specs.Columns.{columns};
 ghost use Rattle.text_spec.specs.Limits.{maxDeclarations};
+ghost use Rattle.lent_cells.specs.Ends.{exitColumns, entryColumns};
 use build_state::Build;
 use build_state::BuildStep;
 use element_names::HASHES;
@@ -43,7 +44,7 @@ pub fn read_event(
     m: Build,
 ) -> Build
     requires { ⌜ Safe (now levels) m × Sized (now sizes) × (m .count < placeLimit) × (count ≤ maxDeclarations) × (length (now places) ≡ 4) × EqualColumns (columns (now numbers) (now names) (now parents) (now starts) (now lengths)) ⌝ }
-    ensures { λ r. ⌜ EventRead (schemaCells (now (words .entry)) count (now (kinds .entry)) (now (firsts .entry)) (now (lasts .entry)) (now (nullables .entry)) (now (elements .entry)) (now (predecessors .entry)) (now (sizes .entry))) (now (levels .entry)) (now (places .entry)) (columns (now (numbers .entry)) (now (names .entry)) (now (parents .entry)) (now (starts .entry)) (now (lengths .entry))) l m (now (levels .exit)) (columns (now (numbers .exit)) (now (names .exit)) (now (parents .exit)) (now (starts .exit)) (now (lengths .exit))) r ⌝ }
+    ensures { λ r. ⌜ EventRead (entrySchema words count kinds firsts lasts nullables elements predecessors sizes) (now (levels .entry)) (now (places .entry)) (entryColumns numbers names parents starts lengths) l m (now (levels .exit)) (exitColumns numbers names parents starts lengths) r ⌝ }
 {
     let before = m.count;
     let x: BuildStep = journal_events::on_event(

@@ -21,6 +21,8 @@ use Rattle.reader_state.specs.Reading.{Usable}
 use Rattle.reader_state.specs.declared.ReaderState.{ReaderState}
 use Rattle.schema_spec.specs.Schemas.{Schema}
 use Rattle.table_spec.specs.Columns.{Columns, Sizes, columnsOf}
+use Rattle.lent_cells.specs.Ends.{Slice, entryColumns, exitColumns}
+use denote.Ref.{now}
 
 -- the reading stands on the definition's way through the text
 pub record Point (s : Schema) (z : Sizes) (text levels places : List ℕ) (c : Columns) (x : ReaderState) : Type 0 where
@@ -38,6 +40,11 @@ pub record ReadOn (t : SchemaCells) (text levels places : List ℕ) (c : Columns
   pub inside : y .lex .place ≤ length text
   pub further : x .lex .place < y .lex .place
   pub read : (s : Schema) (z : Sizes) → CellsOf s t → Point s z text levels places c x → Point s z text after q d y
+
+-- the same of lent slices
+abbrev pub ReadOnIn : SchemaCells → Slice → Slice → Slice → Slice → Slice → Slice → Slice → Slice → ReaderState → ReaderState → Type 0
+ReadOnIn t text levels places numbers names parents starts lengths x y =
+    ReadOn t (now (text .entry)) (now (levels .entry)) (now (places .entry)) (entryColumns numbers names parents starts lengths) x (now (levels .exit)) (now (places .exit)) (exitColumns numbers names parents starts lengths) y
 
 pub read-on : {t : SchemaCells} {text levels places after q : List ℕ} {c d : Columns} {x : ReaderState} {l : Lex} {r : Build} → Usable levels places c x
     → Onward text (x .lex) places l q → EventRead t levels q c l (x .build) after d r

@@ -1,11 +1,10 @@
 // A journal read up to an event, in loops for the modes that last.
-ghost use mathlib.Core.Path.{_≡_};
 ghost use Prim.Native.Nat.{_≤_, _<_};
 ghost use lib.ListN.{length};
 ghost use Rattle.content_fit.specs.Fillings.{Sized};
 ghost use Rattle.journal_event_step.specs.Onward.{Onward};
-ghost use Rattle.journal_event_step.specs.Points.{ReadOn};
-ghost use Rattle.journal_events.specs.Events.{schemaCells};
+ghost use Rattle.journal_event_step.specs.Points.{ReadOnIn};
+ghost use Rattle.journal_events.specs.Events.{entrySchema};
 ghost use Rattle.journal_kinds.specs.Kinds.{KindTable};
 ghost use Rattle.journal_loop_laws.specs.Advance.{Ready};
 ghost use Rattle.journal_state.specs.Places.{noPlace};
@@ -60,7 +59,7 @@ pub fn read_on(
     x: ReaderState,
 ) -> ReaderState
     requires { ⌜ Usable (now levels) (now places) (columns (now numbers) (now names) (now parents) (now starts) (now lengths)) x × KindTable (now table) × (length (now text) < noPlace) × (x .lex .place < length (now text)) × Sized (now sizes) × (count ≤ maxDeclarations) ⌝ }
-    ensures { λ r. ⌜ ReadOn (schemaCells (now (words .entry)) count (now (kinds .entry)) (now (firsts .entry)) (now (lasts .entry)) (now (nullables .entry)) (now (elements .entry)) (now (predecessors .entry)) (now (sizes .entry))) (now (text .entry)) (now (levels .entry)) (now (places .entry)) (columns (now (numbers .entry)) (now (names .entry)) (now (parents .entry)) (now (starts .entry)) (now (lengths .entry))) x (now (levels .exit)) (now (places .exit)) (columns (now (numbers .exit)) (now (names .exit)) (now (parents .exit)) (now (starts .exit)) (now (lengths .exit))) r ⌝ }
+    ensures { λ r. ⌜ ReadOnIn (entrySchema words count kinds firsts lasts nullables elements predecessors sizes) text levels places numbers names parents starts lengths x r ⌝ }
 {
     let l: Lex = x.lex;
     let m: Build = x.build;

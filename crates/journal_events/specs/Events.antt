@@ -3,8 +3,7 @@ use mathlib.Core.Bool.{Bool, true, false, cond, true≢false}
 use mathlib.Core.List.{List}
 use mathlib.Core.Logic.{_⊎_, inl, inr}
 use mathlib.Core.Path.{_≡_, refl, sym, ap, subst, _∙_}
-use Prim.Native.Nat.{ℕ, zero, suc, _-_, _≤_, _<_}
-use native.Mathlib.Omega.{arith}
+use Prim.Native.Nat.{ℕ, zero, suc, _-_, _≤_}
 use borrow.Author.Tests.{eqb-true}
 use lib.Dec.{eqb}
 use lib.ListN.{length}
@@ -25,6 +24,8 @@ use Rattle.name_words.specs.Words.{Spells}
 use Rattle.name_words.specs.declared.Name.{Name}
 use Rattle.schema_spec.specs.Schemas.{Schema}
 use Rattle.text_spec.specs.Limits.{maxDeclarations}
+use denote.Ref.{now}
+use Rattle.lent_cells.specs.Ends.{SliceOf, Slice}
 
 -- the columns of a compiled schema that reading a journal asks for
 pub record SchemaCells : Type 0 where
@@ -51,6 +52,11 @@ schemaCells words count kinds firsts lasts nullables elements predecessors sizes
       predecessors = predecessors;
       sizes = sizes;
     }
+
+abbrev pub entrySchema : Slice → ℕ → Slice → Slice → Slice → SliceOf Bool → Slice → Slice → Slice → SchemaCells
+entrySchema words count kinds firsts lasts nullables elements predecessors sizes =
+    schemaCells (now (words .entry)) count (now (kinds .entry)) (now (firsts .entry)) (now (lasts .entry)) (now (nullables .entry)) (now (elements .entry))
+    (now (predecessors .entry)) (now (sizes .entry))
 
 -- they are those of a schema
 pub record CellsOf (s : Schema) (t : SchemaCells) : Type 0 where

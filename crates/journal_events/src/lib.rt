@@ -3,10 +3,10 @@ ghost use mathlib.Core.Logic.{_⊎_};
 ghost use mathlib.Core.Path.{_≡_};
 ghost use Prim.Native.Nat.{_-_, _≤_, _<_};
 ghost use lib.ListN.{length};
-ghost use Rattle.build_state.specs.State.{Safe, SafeStep};
+ghost use Rattle.build_state.specs.State.{Safe};
 ghost use Rattle.content_fit.specs.Fillings.{Sized};
 ghost use Rattle.fault_keys.specs.Keys.{placeLimit};
-ghost use Rattle.journal_events.specs.Events.{SchemaCells, schemaCells, isDataEvent, EventLeaves};
+ghost use Rattle.journal_events.specs.Events.{SchemaCells, isDataEvent, EventLeaves, entrySchema};
 ghost use Rattle.text_spec.specs.Limits.{maxDeclarations};
 use build_state::Build;
 use build_state::BuildStep;
@@ -69,7 +69,7 @@ pub fn on_event(
     m: Build,
 ) -> BuildStep
     requires { ⌜ Safe (now levels) m × Sized (now sizes) × (m .count < placeLimit) × (count ≤ maxDeclarations) × (length (now places) ≡ 4) ⌝ }
-    ensures { λ r. ⌜ EventLeaves (schemaCells (now (words .entry)) count (now (kinds .entry)) (now (firsts .entry)) (now (lasts .entry)) (now (nullables .entry)) (now (elements .entry)) (now (predecessors .entry)) (now (sizes .entry))) (now (levels .entry)) (now (places .entry)) l m (now (levels .exit)) r ⌝ }
+    ensures { λ r. ⌜ EventLeaves (entrySchema words count kinds firsts lasts nullables elements predecessors sizes) (now (levels .entry)) (now (places .entry)) l m (now (levels .exit)) r ⌝ }
 {
     let event = l.event;
     if is_data_event(event) {

@@ -1,18 +1,18 @@
 // A journal read and judged into clear columns, event by event, with the stack of open elements and the places as local cells: 2, and then what reading finds, 18 last.
-ghost use mathlib.Core.Path.{_≡_};
 ghost use Prim.Native.Nat.{_≤_, _<_};
 ghost use lib.ListN.{length};
 ghost use Rattle.content_fit.specs.Fillings.{Sized};
-ghost use Rattle.journal_events.specs.Events.{schemaCells};
+ghost use Rattle.journal_events.specs.Events.{entrySchema};
 ghost use Rattle.journal_judgement.specs.Journals.{JournalRead};
 ghost use Rattle.journal_judgement.specs.Judging.{Judged};
 ghost use Rattle.journal_kinds.specs.Kinds.{KindTable};
-ghost use Rattle.journal_reader_loop.specs.Whole.{AllRead};
+ghost use Rattle.journal_reader_loop.specs.Whole.{AllReadIn};
 ghost use Rattle.journal_state.specs.Places.{noPlace};
 ghost use Rattle.reader_state.specs.Reading.{Usable, started};
 ghost use Rattle.row_columns.specs.Columns.{EqualColumns};
 ghost use Rattle.table_spec.specs.Columns.{columns};
 ghost use Rattle.text_spec.specs.Limits.{maxDeclarations};
+ghost use Rattle.lent_cells.specs.Ends.{exitColumns, entryColumns};
 use build_state::Build;
 use element_names::HASHES;
 use element_names::WORDS;
@@ -51,7 +51,7 @@ fn read_all(
     places: &mut [u32; 4],
 ) -> ReaderState
     requires { ⌜ Usable (now levels) (now places) (columns (now numbers) (now names) (now parents) (now starts) (now lengths)) started × KindTable (now table) × (length (now text) < noPlace) × Sized (now sizes) × (count ≤ maxDeclarations) ⌝ }
-    ensures { λ r. ⌜ AllRead (schemaCells (now (words .entry)) count (now (kinds .entry)) (now (firsts .entry)) (now (lasts .entry)) (now (nullables .entry)) (now (elements .entry)) (now (predecessors .entry)) (now (sizes .entry))) (now (text .entry)) (now (levels .entry)) (now (places .entry)) (columns (now (numbers .entry)) (now (names .entry)) (now (parents .entry)) (now (starts .entry)) (now (lengths .entry))) (now (levels .exit)) (now (places .exit)) (columns (now (numbers .exit)) (now (names .exit)) (now (parents .exit)) (now (starts .exit)) (now (lengths .exit))) r ⌝ }
+    ensures { λ r. ⌜ AllReadIn (entrySchema words count kinds firsts lasts nullables elements predecessors sizes) text levels places numbers names parents starts lengths r ⌝ }
 {
     let mut x: ReaderState = reader_state::start();
     while x.lex.place < text.len() {
@@ -102,7 +102,7 @@ fn read_journal(
     lengths: &mut [u16],
 ) -> Found
     requires { ⌜ (length (now text) < noPlace) × Sized (now sizes) × (count ≤ maxDeclarations) × EqualColumns (columns (now numbers) (now names) (now parents) (now starts) (now lengths)) ⌝ }
-    ensures { λ r. ⌜ JournalRead (schemaCells (now (words .entry)) count (now (kinds .entry)) (now (firsts .entry)) (now (lasts .entry)) (now (nullables .entry)) (now (elements .entry)) (now (predecessors .entry)) (now (sizes .entry))) (now (text .entry)) (columns (now (numbers .entry)) (now (names .entry)) (now (parents .entry)) (now (starts .entry)) (now (lengths .entry))) (columns (now (numbers .exit)) (now (names .exit)) (now (parents .exit)) (now (starts .exit)) (now (lengths .exit))) r ⌝ }
+    ensures { λ r. ⌜ JournalRead (entrySchema words count kinds firsts lasts nullables elements predecessors sizes) (now (text .entry)) (entryColumns numbers names parents starts lengths) (exitColumns numbers names parents starts lengths) r ⌝ }
 {
     let table = journal_kinds::all_kinds();
     let mut levels = [0u64; LEVELS];
@@ -161,7 +161,7 @@ pub fn judge(
     lengths: &mut [u16],
 ) -> Verdict
     requires { ⌜ Sized (now sizes) × (count ≤ maxDeclarations) × (limit < noPlace) × EqualColumns (columns (now numbers) (now names) (now parents) (now starts) (now lengths)) ⌝ }
-    ensures { λ r. ⌜ Judged (schemaCells (now (words .entry)) count (now (kinds .entry)) (now (firsts .entry)) (now (lasts .entry)) (now (nullables .entry)) (now (elements .entry)) (now (predecessors .entry)) (now (sizes .entry))) (now (text .entry)) limit (columns (now (numbers .entry)) (now (names .entry)) (now (parents .entry)) (now (starts .entry)) (now (lengths .entry))) (columns (now (numbers .exit)) (now (names .exit)) (now (parents .exit)) (now (starts .exit)) (now (lengths .exit))) r ⌝ }
+    ensures { λ r. ⌜ Judged (entrySchema words count kinds firsts lasts nullables elements predecessors sizes) (now (text .entry)) limit (entryColumns numbers names parents starts lengths) (exitColumns numbers names parents starts lengths) r ⌝ }
 {
     let n = text.len();
     let size = numbers.len();

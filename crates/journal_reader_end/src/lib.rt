@@ -1,11 +1,11 @@
 // The end of reading a journal: its last event, and what was found.
-ghost use mathlib.Core.Path.{_≡_};
 ghost use Prim.Native.Nat.{_<_};
 ghost use Rattle.journal_events.specs.Events.{SchemaCells};
 ghost use Rattle.journal_reader_end.specs.Ends.{Finished};
 ghost use Rattle.journal_state.specs.Places.{noPlace};
 ghost use Rattle.reader_state.specs.Reading.{Usable};
 ghost use Rattle.table_spec.specs.Columns.{columns};
+ghost use Rattle.lent_cells.specs.Ends.{exitColumns, entryColumns};
 use build_state::Build;
 use build_state::BuildStep;
 use journal_state::Lex;
@@ -31,7 +31,7 @@ pub fn finish(
     x: ReaderState,
 ) -> Found
     requires { ⌜ Usable (now levels) (now places) (columns (now numbers) (now names) (now parents) (now starts) (now lengths)) x × (x .lex .place < noPlace) ⌝ }
-    ensures { λ r. ⌜ ((t : SchemaCells) → Finished t (now (levels .entry)) (now (places .entry)) (columns (now (numbers .entry)) (now (names .entry)) (now (parents .entry)) (now (starts .entry)) (now (lengths .entry))) x (columns (now (numbers .exit)) (now (names .exit)) (now (parents .exit)) (now (starts .exit)) (now (lengths .exit))) r) ⌝ }
+    ensures { λ r. ⌜ ((t : SchemaCells) → Finished t (now (levels .entry)) (now (places .entry)) (entryColumns numbers names parents starts lengths) x (exitColumns numbers names parents starts lengths) r) ⌝ }
 {
     let l: Lex = x.lex;
     let m: Build = x.build;

@@ -1,7 +1,7 @@
 -- What reading some bytes of a text, and all of them, leaves.
-use mathlib.Core.List.{List, reverse}
+use mathlib.Core.List.{List}
 use mathlib.Core.Path.{_≡_, refl, sym, ap, subst, _∙_}
-use Prim.Native.Nat.{ℕ, suc, _+_, _-_, _≤_, _<_}
+use Prim.Native.Nat.{ℕ, _+_, _≤_, _<_}
 use native.Mathlib.Numerals.{add-one}
 use native.Mathlib.Omega.{arith}
 use lib.ListN.{length, getD, take}
@@ -9,11 +9,13 @@ use lib.Seq.{take-all}
 use Rattle.journal_events.specs.Events.{SchemaCells, CellsOf}
 use Rattle.journal_reader_step.specs.Steps.{ByteRead}
 use Rattle.journal_run_laws.specs.Findings.{run-next}
-use Rattle.journal_spec.specs.Reading.{Machine, initial, step, run}
+use Rattle.journal_spec.specs.Reading.{Machine, initial, run}
 use Rattle.reader_state.specs.Reading.{started, Usable, ReadAs}
 use Rattle.reader_state.specs.declared.ReaderState.{ReaderState}
 use Rattle.schema_spec.specs.Schemas.{Schema}
 use Rattle.table_spec.specs.Columns.{Columns, Sizes}
+use Rattle.lent_cells.specs.Ends.{Slice, entryColumns, exitColumns}
+use denote.Ref.{now}
 
 -- the state y and what is lent beside it, after k bytes of a text that was begun with other cells
 pub record SomeRead (t : SchemaCells) (text : List ℕ) (k : ℕ) (levels places : List ℕ) (c : Columns) (after q : List ℕ) (d : Columns) (y : ReaderState)
@@ -47,6 +49,11 @@ pub record AllRead (t : SchemaCells) (text levels places : List ℕ) (c : Column
   pub usable : Usable after q d y
   pub place : y .lex .place ≡ length text
   pub read : (s : Schema) (z : Sizes) → CellsOf s t → ReadAs s z levels places c started initial → ReadAs s z after q d y (run s initial text)
+
+-- the same of lent slices
+abbrev pub AllReadIn : SchemaCells → Slice → Slice → Slice → Slice → Slice → Slice → Slice → Slice → ReaderState → Type 0
+AllReadIn t text levels places numbers names parents starts lengths y =
+    AllRead t (now (text .entry)) (now (levels .entry)) (now (places .entry)) (entryColumns numbers names parents starts lengths) (now (levels .exit)) (now (places .exit)) (exitColumns numbers names parents starts lengths) y
 
 pub all-read : {t : SchemaCells} {text : List ℕ} {k : ℕ} {levels places : List ℕ} {c : Columns} {after q : List ℕ} {d : Columns} {y : ReaderState}
     → SomeRead t text k levels places c after q d y → k ≤ length text → length text ≤ k → AllRead t text levels places c after q d y

@@ -1,11 +1,10 @@
 // A journal read byte by byte, in one loop over the step (request R-4). `journal_judgement::read_all` has the same contract.
-ghost use mathlib.Core.Path.{_≡_};
 ghost use Prim.Native.Nat.{_≤_, _<_};
 ghost use lib.ListN.{length};
 ghost use Rattle.content_fit.specs.Fillings.{Sized};
-ghost use Rattle.journal_events.specs.Events.{schemaCells};
+ghost use Rattle.journal_events.specs.Events.{entrySchema};
 ghost use Rattle.journal_kinds.specs.Kinds.{KindTable};
-ghost use Rattle.journal_reader_loop.specs.Whole.{AllRead};
+ghost use Rattle.journal_reader_loop.specs.Whole.{AllReadIn};
 ghost use Rattle.journal_state.specs.Places.{noPlace};
 ghost use Rattle.reader_state.specs.Reading.{Usable, started};
 ghost use Rattle.table_spec.specs.Columns.{columns};
@@ -43,7 +42,7 @@ pub fn read_all(
     places: &mut [u32; 4],
 ) -> ReaderState
     requires { ⌜ Usable (now levels) (now places) (columns (now numbers) (now names) (now parents) (now starts) (now lengths)) started × KindTable (now table) × (length (now text) < noPlace) × Sized (now sizes) × (count ≤ maxDeclarations) ⌝ }
-    ensures { λ r. ⌜ AllRead (schemaCells (now (words .entry)) count (now (kinds .entry)) (now (firsts .entry)) (now (lasts .entry)) (now (nullables .entry)) (now (elements .entry)) (now (predecessors .entry)) (now (sizes .entry))) (now (text .entry)) (now (levels .entry)) (now (places .entry)) (columns (now (numbers .entry)) (now (names .entry)) (now (parents .entry)) (now (starts .entry)) (now (lengths .entry))) (now (levels .exit)) (now (places .exit)) (columns (now (numbers .exit)) (now (names .exit)) (now (parents .exit)) (now (starts .exit)) (now (lengths .exit))) r ⌝ }
+    ensures { λ r. ⌜ AllReadIn (entrySchema words count kinds firsts lasts nullables elements predecessors sizes) text levels places numbers names parents starts lengths r ⌝ }
 {
     let mut x: ReaderState = reader_state::start();
     let mut at = 0;

@@ -16,6 +16,8 @@ use Rattle.reader_state.specs.ReadingLaws.{read-next}
 use Rattle.reader_state.specs.declared.ReaderState.{ReaderState}
 use Rattle.schema_spec.specs.Schemas.{Schema}
 use Rattle.table_spec.specs.Columns.{Columns, Sizes}
+use Rattle.lent_cells.specs.Ends.{Slice, entryColumns, exitColumns}
+use denote.Ref.{now}
 
 -- the state y and what is lent beside it are what the byte b leaves: the definition's step
 pub record ByteRead (t : SchemaCells) (levels places : List ℕ) (c : Columns) (x : ReaderState) (b : ℕ) (after q : List ℕ) (d : Columns) (y : ReaderState)
@@ -23,6 +25,11 @@ pub record ByteRead (t : SchemaCells) (levels places : List ℕ) (c : Columns) (
   pub usable : Usable after q d y
   pub place : y .lex .place ≡ x .lex .place + 1
   pub read : (s : Schema) (z : Sizes) (m : Machine) → CellsOf s t → ReadAs s z levels places c x m → ReadAs s z after q d y (step s m b)
+
+-- the same of lent slices
+abbrev pub ByteReadIn : SchemaCells → Slice → Slice → Slice → Slice → Slice → Slice → Slice → ReaderState → ℕ → ReaderState → Type 0
+ByteReadIn t levels places numbers names parents starts lengths x b y =
+    ByteRead t (now (levels .entry)) (now (places .entry)) (entryColumns numbers names parents starts lengths) x b (now (levels .exit)) (now (places .exit)) (exitColumns numbers names parents starts lengths) y
 
 pub byte-read : {t : SchemaCells} {levels places after q : List ℕ} {c d : Columns} {x : ReaderState} {b : ℕ} {l : Lex} {r : Build} → Usable levels places c x
     → x .lex .place < noPlace → Steps (x .lex .mode) (x .lex) places b l q → EventRead t levels q c l (x .build) after d r

@@ -1,10 +1,9 @@
 // One byte of a journal, read: request R-4's step. It has the byte and its kind, the columns of the compiled schema, a state of fixed size, the
 // lent cells and rows, but not the journal.
-ghost use mathlib.Core.Path.{_≡_};
 ghost use Prim.Native.Nat.{_≤_};
 ghost use Rattle.content_fit.specs.Fillings.{Sized};
-ghost use Rattle.journal_events.specs.Events.{schemaCells};
-ghost use Rattle.journal_reader_step.specs.Steps.{ByteRead};
+ghost use Rattle.journal_events.specs.Events.{entrySchema};
+ghost use Rattle.journal_reader_step.specs.Steps.{ByteReadIn};
 ghost use Rattle.journal_state.specs.Relation.{Handed};
 ghost use Rattle.reader_state.specs.Reading.{Usable};
 ghost use Rattle.table_spec.specs.Columns.{columns};
@@ -43,7 +42,7 @@ pub fn read_byte(
     c: u8,
 ) -> ReaderState
     requires { ⌜ Usable (now levels) (now places) (columns (now numbers) (now names) (now parents) (now starts) (now lengths)) x × Sized (now sizes) × (count ≤ maxDeclarations) × Handed (x .lex) (now places) b c ⌝ }
-    ensures { λ r. ⌜ ByteRead (schemaCells (now (words .entry)) count (now (kinds .entry)) (now (firsts .entry)) (now (lasts .entry)) (now (nullables .entry)) (now (elements .entry)) (now (predecessors .entry)) (now (sizes .entry))) (now (levels .entry)) (now (places .entry)) (columns (now (numbers .entry)) (now (names .entry)) (now (parents .entry)) (now (starts .entry)) (now (lengths .entry))) x b (now (levels .exit)) (now (places .exit)) (columns (now (numbers .exit)) (now (names .exit)) (now (parents .exit)) (now (starts .exit)) (now (lengths .exit))) r ⌝ }
+    ensures { λ r. ⌜ ByteReadIn (entrySchema words count kinds firsts lasts nullables elements predecessors sizes) levels places numbers names parents starts lengths x b r ⌝ }
 {
     let l: Lex = x.lex;
     let m: Build = x.build;

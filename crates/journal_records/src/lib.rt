@@ -4,8 +4,9 @@ ghost use mathlib.Core.Path.{_≡_};
 ghost use Rattle.library_spec.specs.Calls.{journalRead, columnsAfter};
 ghost use Rattle.schema_reader.specs.Records.{passesRecord};
 ghost use Rattle.schema_records.specs.Records.{recordWith};
-ghost use Rattle.table_spec.specs.Columns.{equalSizes, sizesOf, columns};
+ghost use Rattle.table_spec.specs.Columns.{equalSizes};
 ghost use Rattle.verdicts.specs.Verdicts.{verdict};
+ghost use Rattle.lent_cells.specs.Ends.{exitColumns, entrySizes};
 use column_sizes::equal_sizes;
 use journal_compiled::read_compiled;
 use limits::MAX_JOURNAL_BYTES;
@@ -41,8 +42,8 @@ pub fn read_journal(
     starts: &mut [u32],
     lengths: &mut [u16],
 ) -> Verdict
-    ensures { λ r. ⌜ r ≡ verdict (journalRead (recordWith (schema .bytes) (schema .len)) (now (text .entry)) (sizesOf (columns (now (numbers .entry)) (now (names .entry)) (now (parents .entry)) (now (starts .entry)) (now (lengths .entry))))) ⌝ }
-    ensures { λ _. ⌜ columns (now (numbers .exit)) (now (names .exit)) (now (parents .exit)) (now (starts .exit)) (now (lengths .exit)) ≡ columnsAfter (sizesOf (columns (now (numbers .entry)) (now (names .entry)) (now (parents .entry)) (now (starts .entry)) (now (lengths .entry)))) (λ rows. rows) (journalRead (recordWith (schema .bytes) (schema .len)) (now (text .entry)) (sizesOf (columns (now (numbers .entry)) (now (names .entry)) (now (parents .entry)) (now (starts .entry)) (now (lengths .entry))))) ⌝ }
+    ensures { λ r. ⌜ r ≡ verdict (journalRead (recordWith (schema .bytes) (schema .len)) (now (text .entry)) (entrySizes numbers names parents starts lengths)) ⌝ }
+    ensures { λ _. ⌜ exitColumns numbers names parents starts lengths ≡ columnsAfter (entrySizes numbers names parents starts lengths) (λ rows. rows) (journalRead (recordWith (schema .bytes) (schema .len)) (now (text .entry)) (entrySizes numbers names parents starts lengths)) ⌝ }
 {
     if !is_lent(
         schema,

@@ -1,20 +1,18 @@
 // Start tags: one child more of the innermost open element, a new open element and its row; refusals 12 to 16 at a start tag.
-ghost use mathlib.Core.Bool.{true};
-ghost use mathlib.Core.List.{List, _∷_};
+ghost use mathlib.Core.List.{List};
 ghost use mathlib.Core.Option.{Option};
 ghost use mathlib.Core.Path.{_≡_};
 ghost use Prim.Native.Nat.{ℕ, _≤_, _<_};
 ghost use lib.ListN.{length};
-ghost use Rattle.build_state.specs.State.{Safe, Built, Leaves, SafeStep};
-ghost use Rattle.content_fit.specs.Fillings.{Found, KindsOf, ModelsOf, Sized};
+ghost use Rattle.build_state.specs.State.{Safe, SafeStep};
+ghost use Rattle.content_fit.specs.Fillings.{Found, Sized, EntryModels};
 ghost use Rattle.fault_keys.specs.Keys.{placeLimit};
-ghost use Rattle.journal_spec.specs.Builder.{Open, Building, parentRow, refill, withChild, fillingFor, begin, onStart};
+ghost use Rattle.journal_spec.specs.Builder.{Open, parentRow, refill, withChild, begin, onStart};
 ghost use Rattle.journal_starts.specs.Starts.{SafeStart};
-ghost use Rattle.name_words.specs.Words.{Spells};
 ghost use Rattle.open_levels.specs.Levels.{AllLevels, Opened};
-ghost use Rattle.schema_spec.specs.Schemas.{Schema, elementNamed};
+ghost use Rattle.schema_spec.specs.Schemas.{Schema};
 ghost use Rattle.text_spec.specs.Limits.{maxDepth};
-ghost use Rattle.text_spec.specs.Lists.{isNone};
+ghost use Rattle.build_laws.specs.Tags.{Opens, Starts};
 use build_state::Build;
 use build_state::BuildStep;
 use fault_keys::BAD_NESTING;
@@ -52,7 +50,7 @@ fn fit_child(
     e: usize,
 )
     requires { ⌜ (d ≤ maxDepth) × AllLevels (now levels) × Sized (now sizes) ⌝ }
-    ensures { λ _. ⌜ AllLevels (now (levels .exit)) × ((s : Schema) (o : Option ℕ) (os : List Open) → d ≡ length os → ModelsOf s (now (firsts .entry)) (now (lasts .entry)) (now (nullables .entry)) (now (elements .entry)) (now (predecessors .entry)) (now (sizes .entry)) → Found s o e → Opened s (now (levels .entry)) os → Opened s (now (levels .exit)) (refill (withChild o) os)) ⌝ }
+    ensures { λ _. ⌜ AllLevels (now (levels .exit)) × ((s : Schema) (o : Option ℕ) (os : List Open) → d ≡ length os → EntryModels s firsts lasts nullables elements predecessors sizes → Found s o e → Opened s (now (levels .entry)) os → Opened s (now (levels .exit)) (refill (withChild o) os)) ⌝ }
 {
     let level = open_levels::load(levels, d);
     let old = level.filling;
@@ -80,7 +78,7 @@ fn open_element(
     name: Name,
 )
     requires { ⌜ (d < maxDepth) × AllLevels (now levels) ⌝ }
-    ensures { λ _. ⌜ AllLevels (now (levels .exit)) × ((s : Schema) (o : Option ℕ) (os : List Open) (n : List ℕ) → d ≡ length os → KindsOf s (now (kinds .entry)) → Found s o e → Spells name n → Opened s (now (levels .entry)) os → Opened s (now (levels .exit)) (record { name = n; place = at; row = row; filling = fillingFor s o } ∷ os)) ⌝ }
+    ensures { λ _. ⌜ AllLevels (now (levels .exit)) × Opens kinds levels d e row at name ⌝ }
 {
     let filling = content_fit::filling_for(kinds, e);
     let level = Level {
@@ -108,7 +106,7 @@ fn begin(
     at: u32,
 ) -> BuildStep
     requires { ⌜ Safe (now levels) m × Sized (now sizes) × (m .depth < maxDepth) × (m .count < placeLimit) ⌝ }
-    ensures { λ r. ⌜ SafeStep (now (levels .exit)) m r × (0 < r .build .depth) × ((s : Schema) (b : Building) (n : List ℕ) → KindsOf s (now (kinds .entry)) → ModelsOf s (now (firsts .entry)) (now (lasts .entry)) (now (nullables .entry)) (now (elements .entry)) (now (predecessors .entry)) (now (sizes .entry)) → Found s (elementNamed s n) e → Spells name n → isNone (b .broken) ≡ true → Built s (now (levels .entry)) m b → Leaves s (now (levels .exit)) m b r (begin s n at b)) ⌝ }
+    ensures { λ r. ⌜ SafeStep (now (levels .exit)) m r × (0 < r .build .depth) × Starts begin kinds firsts lasts nullables elements predecessors sizes levels m e name at r ⌝ }
 {
     let d = m.depth;
     let count = m.count;
@@ -146,7 +144,7 @@ pub fn on_start(
     at: u32,
 ) -> BuildStep
     requires { ⌜ Safe (now levels) m × Sized (now sizes) × (m .count < placeLimit) ⌝ }
-    ensures { λ r. ⌜ SafeStart (now (levels .exit)) m r × ((s : Schema) (b : Building) (n : List ℕ) → KindsOf s (now (kinds .entry)) → ModelsOf s (now (firsts .entry)) (now (lasts .entry)) (now (nullables .entry)) (now (elements .entry)) (now (predecessors .entry)) (now (sizes .entry)) → Found s (elementNamed s n) e → Spells name n → isNone (b .broken) ≡ true → Built s (now (levels .entry)) m b → Leaves s (now (levels .exit)) m b r (onStart s n at b)) ⌝ }
+    ensures { λ r. ⌜ SafeStart (now (levels .exit)) m r × Starts onStart kinds firsts lasts nullables elements predecessors sizes levels m e name at r ⌝ }
 {
     if build_state::is_second_root(m) {
         return build_state::without_row(build_state::broken(m, BAD_NESTING, at));

@@ -1,6 +1,7 @@
 // Lent cells cleared from the cell `n` on: a function for each width, and one for the five columns of a table.
 ghost use Rattle.lent_cells.specs.Cells.{Cleared};
-ghost use Rattle.lent_cells.specs.Columns.{table, ClearedFrom};
+ghost use Rattle.lent_cells.specs.Columns.{ClearedFrom};
+ghost use Rattle.lent_cells.specs.Ends.{exitColumns, entryColumns};
 
 // Bytes: codes of names, chains and extracts.
 pub fn clear_bytes(out: &mut [u8], n: usize)
@@ -43,7 +44,7 @@ pub fn clear_columns(
     lengths: &mut [u16],
     n: usize,
 )
-    ensures { λ _. ⌜ ClearedFrom (table (now (numbers .entry)) (now (names .entry)) (now (parents .entry)) (now (starts .entry)) (now (lengths .entry))) n (table (now (numbers .exit)) (now (names .exit)) (now (parents .exit)) (now (starts .exit)) (now (lengths .exit))) ⌝ }
+    ensures { λ _. ⌜ ClearedFrom (entryColumns numbers names parents starts lengths) n (exitColumns numbers names parents starts lengths) ⌝ }
 {
     clear_numbers(numbers, n);
     clear_bytes(names, n);

@@ -4,6 +4,7 @@ ghost use Rattle.cut_rows.specs.Rows.{table};
 ghost use Rattle.held_tables.specs.Rows.{firstCells};
 ghost use Rattle.kept_rows.specs.Kept.{inSet};
 ghost use Rattle.tables.specs.Handed.{lentTable};
+ghost use Rattle.lent_cells.specs.Ends.{exitColumns, entryColumns};
 use cut_answers::answer_in;
 use names::NameSet;
 use table_cutting::cut;
@@ -25,7 +26,7 @@ pub fn cut_first(
     out_lengths: &mut [u16],
 ) -> Verdict
     requires { ⌜ Cuttable (lentTable (now numbers) (now codes) (now parents) (now starts) (now lengths) count) (table (now «out_numbers») (now «out_names») (now «out_parents») (now «out_starts») (now «out_lengths»)) ⌝ }
-    ensures { λ r. ⌜ CutFirst (inSet set) (firstCells count (table (now (numbers .entry)) (now (codes .entry)) (now (parents .entry)) (now (starts .entry)) (now (lengths .entry)))) (table (now («out_numbers» .entry)) (now («out_names» .entry)) (now («out_parents» .entry)) (now («out_starts» .entry)) (now («out_lengths» .entry))) r (table (now («out_numbers» .exit)) (now («out_names» .exit)) (now («out_parents» .exit)) (now («out_starts» .exit)) (now («out_lengths» .exit))) ⌝ }
+    ensures { λ r. ⌜ CutFirst (inSet set) (firstCells count (entryColumns numbers codes parents starts lengths)) (entryColumns «out_numbers» «out_names» «out_parents» «out_starts» «out_lengths») r (exitColumns «out_numbers» «out_names» «out_parents» «out_starts» «out_lengths») ⌝ }
 {
     let room = out_numbers.len();
     let n = cut(

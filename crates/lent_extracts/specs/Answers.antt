@@ -10,16 +10,11 @@ use Rattle.cut_rows.specs.Cells.{all-cleared}
 use Rattle.extract_writing.specs.Extract.{inLentBytes, BytesWritten}
 use Rattle.lent_cells.specs.Cells.{Cleared}
 use Rattle.text_spec.specs.Calls.{inRoom}
-use Rattle.text_spec.specs.Cells.{tooSmall}
 use Rattle.text_spec.specs.Refusals.{Outcome, refused, at, badRecord}
-use Rattle.verdicts.specs.Verdicts.{refusedBy, answeredOf, verdict, AnsweredBytes}
+use Rattle.verdicts.specs.Verdicts.{refusedBy, answeredOf, verdict, inBytes, AnsweredBytes}
 use Rattle.verdicts.specs.declared.Verdict.{Verdict}
 
 -- ---- definitions
--- bytes answered in so many cells: 18 where they are too few
-abbrev pub inBytes : ℕ → List ℕ → Outcome (List ℕ)
-inBytes size xs = inRoom (tooSmall size xs) xs
-
 -- ---- laws
 pub same-answer : {o p : Outcome (List ℕ)} (size : ℕ) (r : Verdict) (out : List ℕ) → o ≡ p → AnsweredBytes o size r out → AnsweredBytes p size r out
 same-answer size r out e h = subst (λ (x : Outcome (List ℕ)). AnsweredBytes x size r out) e h

@@ -4,10 +4,10 @@ ghost use lib.ListN.{length};
 ghost use Rattle.cut_rows.specs.Rows.{table};
 ghost use Rattle.extract_rows.specs.Rows.{TextColumns};
 ghost use Rattle.extract_writing.specs.Extract.{extractIn};
-ghost use Rattle.lent_extracts.specs.Answers.{inBytes};
+ghost use Rattle.verdicts.specs.Verdicts.{inBytes, AnsweredBytes, AnsweredSlice};
 ghost use Rattle.row_marks.specs.Columns.{marks};
 ghost use Rattle.text_spec.specs.Refusals.{refused, at, badRecord};
-ghost use Rattle.verdicts.specs.Verdicts.{AnsweredBytes};
+ghost use Rattle.lent_cells.specs.Ends.{entryColumns};
 use extract_writing::write_table;
 use table_cutting::clear_bytes;
 use verdicts::BAD_RECORD;
@@ -33,7 +33,7 @@ pub fn write_in_room(
     out: &mut [u8],
 ) -> Verdict
     requires { ⌜ TextColumns (now text) (table (now numbers) (now codes) (now parents) (now starts) (now lengths)) (length (now numbers)) ⌝ }
-    ensures { λ r. ⌜ AnsweredBytes (inBytes (length (now (out .entry))) (extractIn (now (text .entry)) (table (now (numbers .entry)) (now (codes .entry)) (now (parents .entry)) (now (starts .entry)) (now (lengths .entry))) (marks (length (now (numbers .entry))) (λ r. true)))) (length (now (out .entry))) r (now (out .exit)) ⌝ }
+    ensures { λ r. ⌜ AnsweredSlice (λ n. inBytes n (extractIn (now (text .entry)) (entryColumns numbers codes parents starts lengths) (marks (length (now (numbers .entry))) (λ r. true)))) r out ⌝ }
 {
     let room = out.len();
     let size = write_table(text, numbers, codes, parents, starts, lengths, out);

@@ -1,9 +1,6 @@
 // The two functions that a C host calls. A slice is a pointer and a length, what is lent is `&mut`, and the result goes out by value.
-ghost use mathlib.Core.List.{[]};
-ghost use Rattle.host_laws.specs.Stages.{lentOf};
-ghost use Rattle.host_results.specs.Exits.{Exits};
+ghost use Rattle.host_results.specs.Exits.{MakingExits, SelectingExits};
 ghost use Rattle.library_spec.specs.Hosts.{makeExtract, selectFrom};
-ghost use Rattle.table_spec.specs.Columns.{columns};
 use host_making::make_extract;
 use host_results::HostResult;
 use host_selecting::select_from;
@@ -21,7 +18,7 @@ pub extern "C" fn host_make_extract(
     lengths: &mut [u16],
     out: &mut [u8],
 ) -> HostResult
-    ensures { λ r. ⌜ Exits (makeExtract (now (schema .entry)) (now (bundle .entry)) (now (journal .entry)) (lentOf (columns (now (numbers .entry)) (now (names .entry)) (now (parents .entry)) (now (starts .entry)) (now (lengths .entry))) (now (out .entry)) [])) (lentOf (columns (now (numbers .entry)) (now (names .entry)) (now (parents .entry)) (now (starts .entry)) (now (lengths .entry))) (now (out .entry)) []) r (columns (now (numbers .exit)) (now (names .exit)) (now (parents .exit)) (now (starts .exit)) (now (lengths .exit))) (now (out .exit)) [] ⌝ }
+    ensures { λ r. ⌜ MakingExits (makeExtract (now (schema .entry)) (now (bundle .entry)) (now (journal .entry))) r numbers names parents starts lengths out ⌝ }
 {
     make_extract(
         schema,
@@ -52,7 +49,7 @@ pub extern "C" fn host_select(
     items: &mut [u16],
     counts: &mut [u32],
 ) -> HostResult
-    ensures { λ r. ⌜ Exits (selectFrom (now (schema .entry)) (now (bundle .entry)) place (now (extract .entry)) (lentOf (columns (now (numbers .entry)) (now (names .entry)) (now (parents .entry)) (now (starts .entry)) (now (lengths .entry))) (now (items .entry)) (now (counts .entry)))) (lentOf (columns (now (numbers .entry)) (now (names .entry)) (now (parents .entry)) (now (starts .entry)) (now (lengths .entry))) (now (items .entry)) (now (counts .entry))) r (columns (now (numbers .exit)) (now (names .exit)) (now (parents .exit)) (now (starts .exit)) (now (lengths .exit))) (now (items .exit)) (now (counts .exit)) ⌝ }
+    ensures { λ r. ⌜ SelectingExits (selectFrom (now (schema .entry)) (now (bundle .entry)) place (now (extract .entry))) r numbers names parents starts lengths items counts ⌝ }
 {
     select_from(
         schema,

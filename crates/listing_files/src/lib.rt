@@ -1,5 +1,5 @@
 // The three files of a listing, read once: what is refused, or what the header and the lines are made of.
-ghost use Rattle.compiled_paths.specs.Paths.{lentPaths};
+ghost use Rattle.compiled_paths.specs.Paths.{lentPaths, entryPaths};
 ghost use Rattle.listed_files.specs.Files.{RowsAsked, ListedRows, FilesLent, ListsAs};
 ghost use Rattle.table_spec.specs.Columns.{columns};
 use compiled_paths::CONDITION_STARTS;
@@ -35,7 +35,7 @@ fn list_rows<'a>(
     firsts: &mut [u8],
 ) -> Listed
     requires { ⌜ RowsAsked (now schema) compiled (lentPaths (now axes) (now tests) (now conditions) (now paths) total) (now codes) (now parents) (now firsts) ⌝ }
-    ensures { λ r. ⌜ ListedRows (now (schema .entry)) compiled (lentPaths (now (axes .entry)) (now (tests .entry)) (now (conditions .entry)) (now (paths .entry)) total) (now (codes .entry)) (now (parents .entry)) (now (firsts .exit)) r ⌝ }
+    ensures { λ r. ⌜ ListedRows (now (schema .entry)) compiled (entryPaths axes tests conditions paths total) (now (codes .entry)) (now (parents .entry)) (now (firsts .exit)) r ⌝ }
 {
     let names = compiled.names;
     let set = needed_under(compiled, axes, tests, conditions, paths, total);

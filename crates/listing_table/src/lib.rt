@@ -2,7 +2,7 @@
 // that selects each row. Scratch is local: a byte or two for each row.
 ghost use mathlib.Core.Path.{_≡_};
 ghost use lib.ListN.{length};
-ghost use Rattle.compiled_paths.specs.Paths.{lentPaths, pathsIn};
+ghost use Rattle.compiled_paths.specs.Paths.{lentPaths, pathsIn, entryPaths};
 ghost use Rattle.first_paths.specs.Firsts.{FirstPaths};
 ghost use Rattle.kept_rows.specs.Kept.{inSet, keptMarks};
 ghost use Rattle.kept_rows.specs.Joined.{rank};
@@ -38,7 +38,7 @@ pub fn note_paths<'a>(
     firsts: &mut [u8],
 )
     requires { ⌜ PathsAsked (lentPaths (now axes) (now tests) (now conditions) (now paths) total) (now codes) (now parents) (now firsts) ⌝ }
-    ensures { λ _. ⌜ FirstPaths (now (parents .entry)) (now (codes .entry)) (pathsIn (lentPaths (now (axes .entry)) (now (tests .entry)) (now (conditions .entry)) (now (paths .entry)) total)) (now (firsts .exit)) ⌝ }
+    ensures { λ _. ⌜ FirstPaths (now (parents .entry)) (now (codes .entry)) (pathsIn (entryPaths axes tests conditions paths total)) (now (firsts .exit)) ⌝ }
 {
     let count = parents.len();
     if count == 0 {

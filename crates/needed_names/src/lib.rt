@@ -3,7 +3,7 @@ ghost use mathlib.Core.Path.{_≡_};
 ghost use Prim.Native.Nat.{_≤_};
 ghost use lib.ListN.{length};
 ghost use Rattle.compiled_paths.specs.Columns.{bundleIn};
-ghost use Rattle.compiled_paths.specs.Paths.{lentPaths, pathsIn, Shaped};
+ghost use Rattle.compiled_paths.specs.Paths.{lentPaths, pathsIn, Shaped, entryPaths};
 ghost use Rattle.needed_names.specs.Bundles.{HasPaths};
 ghost use Rattle.inference_spec.specs.Needed.{needed};
 ghost use Rattle.schema_spec.specs.Schemas.{Schema};
@@ -67,7 +67,7 @@ pub fn needed_set<'a>(
     total: usize,
 ) -> NameSet
     requires { ⌜ Shaped (lentPaths (now axes) (now tests) (now conditions) (now paths) total) × (count ≤ maxDeclarations) ⌝ }
-    ensures { λ r. ⌜ ((s : Schema) → RelationsOf s holds below → count ≡ length s → (setIn s r ≡ needed (typesOf s) (pathsIn (lentPaths (now (axes .entry)) (now (tests .entry)) (now (conditions .entry)) (now (paths .entry)) total))) × Known s r) ⌝ }
+    ensures { λ r. ⌜ ((s : Schema) → RelationsOf s holds below → count ≡ length s → (setIn s r ≡ needed (typesOf s) (pathsIn (entryPaths axes tests conditions paths total))) × Known s r) ⌝ }
 {
     let all = known_names::names_of(holds, count);
     let whole = paths_needed(all, holds, below, axes, tests, conditions, paths, 0, total);

@@ -1,6 +1,6 @@
 // The names that compiled paths need under a compiled schema.
 ghost use Prim.Native.Nat.{_≤_};
-ghost use Rattle.compiled_paths.specs.Paths.{lentPaths, Shaped};
+ghost use Rattle.compiled_paths.specs.Paths.{lentPaths, Shaped, entryPaths};
 ghost use Rattle.needed_sets.specs.Needs.{NeededIn};
 ghost use Rattle.text_spec.specs.Limits.{maxDeclarations};
 use compiled_paths::CONDITION_STARTS;
@@ -22,7 +22,7 @@ pub fn needed_under<'a>(
     total: usize,
 ) -> NameSet
     requires { ⌜ Shaped (lentPaths (now axes) (now tests) (now conditions) (now paths) total) × (compiled .count ≤ maxDeclarations) ⌝ }
-    ensures { λ r. ⌜ NeededIn compiled (lentPaths (now (axes .entry)) (now (tests .entry)) (now (conditions .entry)) (now (paths .entry)) total) r ⌝ }
+    ensures { λ r. ⌜ NeededIn compiled (entryPaths axes tests conditions paths total) r ⌝ }
 {
     let count = compiled.count;
     let entries: Entries = compiled.entries;

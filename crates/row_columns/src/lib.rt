@@ -2,7 +2,8 @@
 ghost use mathlib.Core.List.{[]};
 ghost use mathlib.Core.Path.{_≡_};
 ghost use Rattle.row_columns.specs.Columns.{EqualColumns, cells, withRow};
-ghost use Rattle.table_spec.specs.Columns.{sizesOf, columnsOf, columns};
+ghost use Rattle.table_spec.specs.Columns.{columnsOf, columns};
+ghost use Rattle.lent_cells.specs.Ends.{exitColumns, entrySizes, entryColumns};
 use limits::MAX_NODES;
 
 // A row, but for its number, as the columns' cells hold it: the code of its name, its parent's row, the start and the length of its text.
@@ -27,7 +28,7 @@ pub fn put_row(
     row: RowCells,
 )
     requires { ⌜ EqualColumns (columns (now numbers) (now names) (now parents) (now starts) (now lengths)) ⌝ }
-    ensures { λ _. ⌜ columns (now (numbers .exit)) (now (names .exit)) (now (parents .exit)) (now (starts .exit)) (now (lengths .exit)) ≡ withRow (columns (now (numbers .entry)) (now (names .entry)) (now (parents .entry)) (now (starts .entry)) (now (lengths .entry))) r (cells r row) ⌝ }
+    ensures { λ _. ⌜ exitColumns numbers names parents starts lengths ≡ withRow (entryColumns numbers names parents starts lengths) r (cells r row) ⌝ }
 {
     if r < numbers.len() {
         numbers[r] = (r % ROW_LIMIT) as u16;
@@ -46,7 +47,7 @@ pub fn clear(
     starts: &mut [u32],
     lengths: &mut [u16],
 )
-    ensures { λ _. ⌜ columns (now (numbers .exit)) (now (names .exit)) (now (parents .exit)) (now (starts .exit)) (now (lengths .exit)) ≡ columnsOf (sizesOf (columns (now (numbers .entry)) (now (names .entry)) (now (parents .entry)) (now (starts .entry)) (now (lengths .entry)))) [] ⌝ }
+    ensures { λ _. ⌜ exitColumns numbers names parents starts lengths ≡ columnsOf (entrySizes numbers names parents starts lengths) [] ⌝ }
 {
     lent_cells::clear_columns(numbers, names, parents, starts, lengths, 0);
 }

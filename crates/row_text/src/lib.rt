@@ -5,7 +5,7 @@ ghost use lib.ListN.{length};
 ghost use Rattle.library_spec.specs.Calls.{rowText, partAfter};
 ghost use Rattle.row_text.specs.Answers.{textOf, outcomeOf};
 ghost use Rattle.schema_records.specs.Records.{recordWith};
-ghost use Rattle.tables.specs.Handed.{lentTable};
+ghost use Rattle.tables.specs.Handed.{entryTable};
 use row_tests::is_text;
 use schema::Schema;
 use schema_reader::is_schema_record;
@@ -47,7 +47,7 @@ pub fn row_text_place(
     lent: &[u8],
     position: usize,
 ) -> RowText
-    ensures { λ r. ⌜ outcomeOf r ≡ rowText (recordWith (schema .bytes) (schema .len)) (lentTable (now (numbers .entry)) (now (codes .entry)) (now (parents .entry)) (now (starts .entry)) (now (lengths .entry)) count) (now (lent .entry)) position ⌝ }
+    ensures { λ r. ⌜ outcomeOf r ≡ rowText (recordWith (schema .bytes) (schema .len)) (entryTable numbers codes parents starts lengths count) (now (lent .entry)) position ⌝ }
 {
     if !is_schema_record(schema) {
         return RowText::Refused;
@@ -80,7 +80,7 @@ pub fn row_text<'a>(
     lent: &'a [u8],
     position: usize,
 ) -> &'a [u8]
-    ensures { λ r. ⌜ now r ≡ partAfter (now (lent .entry)) (rowText (recordWith (schema .bytes) (schema .len)) (lentTable (now (numbers .entry)) (now (codes .entry)) (now (parents .entry)) (now (starts .entry)) (now (lengths .entry)) count) (now (lent .entry)) position) ⌝ }
+    ensures { λ r. ⌜ now r ≡ partAfter (now (lent .entry)) (rowText (recordWith (schema .bytes) (schema .len)) (entryTable numbers codes parents starts lengths count) (now (lent .entry)) position) ⌝ }
 {
     match row_text_place(
         schema,

@@ -5,7 +5,7 @@ ghost use lib.ListN.{length};
 ghost use Rattle.library_spec.specs.Calls.{nodesSelectedRows};
 ghost use Rattle.row_structs.specs.Structs.{Laid, columnsIn};
 ghost use Rattle.schema_records.specs.Records.{recordWith};
-ghost use Rattle.selected_answers.specs.Answers.{AnsweredSelections};
+ghost use Rattle.selected_answers.specs.Answers.{AnsweredCells};
 ghost use Rattle.table_spec.specs.Rows.{Cells};
 use bundle_reader::Bundle;
 use row_structs::RowColumns;
@@ -26,7 +26,7 @@ pub fn select_columns(
     items: &mut [u16],
     counts: &mut [u32],
 ) -> Selected
-    ensures { λ r. ⌜ ((rows : List Cells) → length rows ≡ count → Laid rows (columnsIn columns) → AnsweredSelections (nodesSelectedRows (recordWith (schema .bytes) (schema .len)) (recordWith (bundle .bytes) (bundle .len)) place rows (now (lent .entry)) (length (now (items .entry))) (length (now (counts .entry)))) (length (now (items .entry))) (length (now (counts .entry))) r (now (items .exit)) (now (counts .exit))) ⌝ }
+    ensures { λ r. ⌜ ((rows : List Cells) → length rows ≡ count → Laid rows (columnsIn columns) → AnsweredCells (nodesSelectedRows (recordWith (schema .bytes) (schema .len)) (recordWith (bundle .bytes) (bundle .len)) place rows (now (lent .entry))) r items counts) ⌝ }
 {
     if are_too_many(count) {
         return bad_record(items, counts);

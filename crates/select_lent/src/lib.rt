@@ -1,12 +1,11 @@
 // The numbers that the paths asked for select on a table that is handed in, beside its text: refusal 1 of the place and of the table, 18 last.
-ghost use lib.ListN.{length};
-ghost use Rattle.compiled_paths.specs.Paths.{Shaped, lentPaths, pathsIn};
+ghost use Rattle.compiled_paths.specs.Paths.{Shaped, lentPaths, pathsIn, entryPaths};
 ghost use Rattle.schema_spec.specs.Schemas.{Schema};
 ghost use Rattle.schema_spec.specs.Types.{typesOf};
 ghost use Rattle.select_lent.specs.Lent.{SomeSchema, lentSelected};
-ghost use Rattle.selected_answers.specs.Answers.{AnsweredSelections};
+ghost use Rattle.selected_answers.specs.Answers.{AnsweredCells};
 ghost use Rattle.table_passes.specs.Codes.{HeldWords};
-ghost use Rattle.tables.specs.Handed.{lentTable};
+ghost use Rattle.tables.specs.Handed.{entryTable};
 use compiled_paths::CONDITION_STARTS;
 use compiled_paths::PATH_STARTS;
 use compiled_paths::STEPS;
@@ -36,7 +35,7 @@ pub fn select_lent<'a>(
     counts: &mut [u32],
 ) -> Selected
     requires { ⌜ Shaped (lentPaths (now axes) (now tests) (now conditions) (now paths) total) × SomeSchema (now words) ⌝ }
-    ensures { λ r. ⌜ ((s : Schema) → HeldWords (typesOf s) (now (words .entry)) → AnsweredSelections (lentSelected s (pathsIn (lentPaths (now (axes .entry)) (now (tests .entry)) (now (conditions .entry)) (now (paths .entry)) total)) place (lentTable (now (numbers .entry)) (now (codes .entry)) (now (parents .entry)) (now (starts .entry)) (now (lengths .entry)) count) (now (lent .entry)) (length (now (items .entry))) (length (now (counts .entry)))) (length (now (items .entry))) (length (now (counts .entry))) r (now (items .exit)) (now (counts .exit))) ⌝ }
+    ensures { λ r. ⌜ ((s : Schema) → HeldWords (typesOf s) (now (words .entry)) → AnsweredCells (lentSelected s (pathsIn (entryPaths axes tests conditions paths total)) place (entryTable numbers codes parents starts lengths count) (now (lent .entry))) r items counts) ⌝ }
 {
     if total < place {
         return bad_record(items, counts);

@@ -1,5 +1,5 @@
 // The numbers that compiled paths select on a table in columns, joined and counted, in lent cells.
-ghost use Rattle.compiled_paths.specs.Paths.{lentPaths};
+ghost use Rattle.compiled_paths.specs.Paths.{lentPaths, entryPaths};
 ghost use Rattle.select_paths.specs.Joined.{AllPass, JoinedAs};
 use compiled_paths::CONDITION_STARTS;
 use compiled_paths::PATH_STARTS;
@@ -29,7 +29,7 @@ pub fn select_paths<'a>(
     next: &mut [u8],
 ) -> usize
     requires { ⌜ AllPass (lentPaths (now axes) (now tests) (now conditions) (now paths) end) first end (now numbers) (now codes) (now parents) (now marks) (now held) (now steps) (now next) ⌝ }
-    ensures { λ n. ⌜ JoinedAs (lentPaths (now (axes .entry)) (now (tests .entry)) (now (conditions .entry)) (now (paths .entry)) end) first end (now (numbers .entry)) (now (codes .entry)) (now (parents .entry)) (now (items .entry)) (now (counts .entry)) n (now (items .exit)) (now (counts .exit)) ⌝ }
+    ensures { λ n. ⌜ JoinedAs (entryPaths axes tests conditions paths end) first end (now (numbers .entry)) (now (codes .entry)) (now (parents .entry)) (now (items .entry)) (now (counts .entry)) n (now (items .exit)) (now (counts .exit)) ⌝ }
 {
     let mut n: usize = 0;
     let mut i = first;

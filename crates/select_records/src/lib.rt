@@ -1,13 +1,12 @@
 // Selecting on a table by a schema's and a bundle's record: refusal 1 of the records, the place and the table, 18 last.
 ghost use mathlib.Core.List.{[]};
-ghost use lib.ListN.{length};
 ghost use Rattle.library_spec.specs.Calls.{nodesSelected};
 ghost use Rattle.path_spec.specs.Reading.{readBundle};
 ghost use Rattle.schema_records.specs.Records.{recordWith};
 ghost use Rattle.schema_spec.specs.Records.{schemaIn};
 ghost use Rattle.select_lent.specs.Lent.{lentSelected};
-ghost use Rattle.selected_answers.specs.Answers.{AnsweredSelections};
-ghost use Rattle.tables.specs.Handed.{lentTable};
+ghost use Rattle.selected_answers.specs.Answers.{AnsweredCells};
+ghost use Rattle.tables.specs.Handed.{entryTable};
 ghost use Rattle.text_spec.specs.Refusals.{resultOr};
 use bundle_reader::Bundle;
 use bundle_tests::is_bundle_record;
@@ -34,7 +33,7 @@ fn select_texts(
     items: &mut [u16],
     counts: &mut [u32],
 ) -> Selected
-    ensures { λ r. ⌜ AnsweredSelections (lentSelected (schemaIn (now (schema .entry))) (resultOr [] (readBundle (schemaIn (now (schema .entry))) (now (text .entry)))) place (lentTable (now (numbers .entry)) (now (codes .entry)) (now (parents .entry)) (now (starts .entry)) (now (lengths .entry)) count) (now (lent .entry)) (length (now (items .entry))) (length (now (counts .entry)))) (length (now (items .entry))) (length (now (counts .entry))) r (now (items .exit)) (now (counts .exit)) ⌝ }
+    ensures { λ r. ⌜ AnsweredCells (lentSelected (schemaIn (now (schema .entry))) (resultOr [] (readBundle (schemaIn (now (schema .entry))) (now (text .entry)))) place (entryTable numbers codes parents starts lengths count) (now (lent .entry))) r items counts ⌝ }
 {
     let compiled = compiled_schema::compile(schema);
     let elements = compiled.count;
@@ -78,7 +77,7 @@ pub fn select_nodes(
     items: &mut [u16],
     counts: &mut [u32],
 ) -> Selected
-    ensures { λ r. ⌜ AnsweredSelections (nodesSelected (recordWith (schema .bytes) (schema .len)) (recordWith (bundle .bytes) (bundle .len)) place (lentTable (now (numbers .entry)) (now (codes .entry)) (now (parents .entry)) (now (starts .entry)) (now (lengths .entry)) count) (now (lent .entry)) (length (now (items .entry))) (length (now (counts .entry)))) (length (now (items .entry))) (length (now (counts .entry))) r (now (items .exit)) (now (counts .exit)) ⌝ }
+    ensures { λ r. ⌜ AnsweredCells (nodesSelected (recordWith (schema .bytes) (schema .len)) (recordWith (bundle .bytes) (bundle .len)) place (entryTable numbers codes parents starts lengths count) (now (lent .entry))) r items counts ⌝ }
 {
     if !is_bundle_record(schema, bundle) {
         return bad_record(items, counts);

@@ -1,10 +1,9 @@
 // Selecting on a table that is handed in as row structs, by the records of a schema and a bundle.
 ghost use mathlib.Core.List.{map};
-ghost use lib.ListN.{length};
 ghost use Rattle.library_spec.specs.Calls.{nodesSelectedRows};
 ghost use Rattle.row_structs.specs.Structs.{cellsIn};
 ghost use Rattle.schema_records.specs.Records.{recordWith};
-ghost use Rattle.selected_answers.specs.Answers.{AnsweredSelections};
+ghost use Rattle.selected_answers.specs.Answers.{AnsweredCells};
 use bundle_reader::Bundle;
 use row_structs::Row;
 use schema::Schema;
@@ -22,7 +21,7 @@ pub fn select_nodes_rows(
     items: &mut [u16],
     counts: &mut [u32],
 ) -> Selected
-    ensures { λ r. ⌜ AnsweredSelections (nodesSelectedRows (recordWith (schema .bytes) (schema .len)) (recordWith (bundle .bytes) (bundle .len)) place (map cellsIn (now (rows .entry))) (now (lent .entry)) (length (now (items .entry))) (length (now (counts .entry)))) (length (now (items .entry))) (length (now (counts .entry))) r (now (items .exit)) (now (counts .exit)) ⌝ }
+    ensures { λ r. ⌜ AnsweredCells (nodesSelectedRows (recordWith (schema .bytes) (schema .len)) (recordWith (bundle .bytes) (bundle .len)) place (map cellsIn (now (rows .entry))) (now (lent .entry))) r items counts ⌝ }
 {
     select_columns(
         schema,

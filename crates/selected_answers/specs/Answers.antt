@@ -11,6 +11,9 @@ use Rattle.selected_answers.specs.declared.Selected.{Selected}
 use Rattle.text_spec.specs.Calls.{inRoom, cellsAfter}
 use Rattle.text_spec.specs.Cells.{padded, tooSmall}
 use Rattle.text_spec.specs.Refusals.{Refusal, Outcome, accepted, refused, at, tooFewCells, numberOf}
+use lib.ListN.{length}
+use Rattle.lent_cells.specs.Ends.{Slice}
+use denote.Ref.{now}
 
 -- ---- definitions
 -- the outcome as numbers
@@ -27,6 +30,11 @@ pub record AnsweredSelections (o : Outcome Selections) (i n : ℕ) (r : Selected
   pub answer : r ≡ selected o
   pub items-are : items ≡ cellsAfter i (λ a. a .items) o
   pub counts-are : counts ≡ cellsAfter n (λ a. a .counts) o
+
+-- a call that is lent cells for numbers and for counts, by its outcome for so many of each
+abbrev pub AnsweredCells : (ℕ → ℕ → Outcome Selections) → Selected → Slice → Slice → Type 0
+AnsweredCells call r items counts =
+    AnsweredSelections (call (length (now (items .entry))) (length (now (counts .entry)))) (length (now (items .entry))) (length (now (counts .entry))) r (now (items .exit)) (now (counts .exit))
 
 -- a refusal by its number and place
 pub record RefusedBy (number place i n : ℕ) (r : Selected) (items counts : List ℕ) : Type 0 where

@@ -1,7 +1,7 @@
 // The answer of selecting: numbers for the outcome, the items and counts in lent cells. On refusal every cell is 0.
 ghost use lib.ListN.{length};
 ghost use Rattle.library_spec.specs.Selections.{Selections};
-ghost use Rattle.selected_answers.specs.Answers.{RefusedBy, Written, inCells, AnsweredSelections};
+ghost use Rattle.selected_answers.specs.Answers.{RefusedBy, Written, inCells, AnsweredCells};
 use lent_cells::clear_numbers;
 use lent_cells::clear_places;
 use verdicts::BAD_RECORD;
@@ -38,7 +38,7 @@ pub fn bad_record(items: &mut [u16], counts: &mut [u32]) -> Selected
 
 // The answer of `n` items and `m` counts that are written as far as there is room; 18 where one of the outputs has too few cells.
 pub fn in_room(n: usize, m: usize, items: &mut [u16], counts: &mut [u32]) -> Selected
-    ensures { λ r. ⌜ ((a : Selections) → Written a n m (now (items .entry)) (now (counts .entry)) → AnsweredSelections (inCells (length (now (items .entry))) (length (now (counts .entry))) a) (length (now (items .entry))) (length (now (counts .entry))) r (now (items .exit)) (now (counts .exit))) ⌝ }
+    ensures { λ r. ⌜ ((a : Selections) → Written a n m (now (items .entry)) (now (counts .entry)) → AnsweredCells (λ i k. inCells i k a) r items counts) ⌝ }
 {
     if items.len() < n {
         return refused(TOO_FEW_CELLS, 0, items, counts);

@@ -4,6 +4,7 @@ ghost use Rattle.kept_rows.specs.Kept.{inSet};
 ghost use Rattle.lent_cells.specs.Cells.{Cleared};
 ghost use Rattle.cut_rows.specs.Rows.{table, OfLength};
 ghost use Rattle.table_cutting.specs.Cut.{Cutting, CutAs, TableColumns};
+ghost use Rattle.lent_cells.specs.Ends.{exitColumns, entryColumns};
 use cut_rows::write_rows;
 use kept_rows::NOT_KEPT;
 use kept_rows::number_kept;
@@ -35,7 +36,7 @@ fn cut_into(
     out_lengths: &mut [u16],
 ) -> usize
     requires { ⌜ Cutting (table (now numbers) (now names) (now parents) (now starts) (now lengths)) (now positions) (table (now «out_numbers») (now «out_names») (now «out_parents») (now «out_starts») (now «out_lengths»)) ⌝ }
-    ensures { λ n. ⌜ CutAs (inSet set) (table (now (numbers .entry)) (now (names .entry)) (now (parents .entry)) (now (starts .entry)) (now (lengths .entry))) (table (now («out_numbers» .entry)) (now («out_names» .entry)) (now («out_parents» .entry)) (now («out_starts» .entry)) (now («out_lengths» .entry))) n (table (now («out_numbers» .exit)) (now («out_names» .exit)) (now («out_parents» .exit)) (now («out_starts» .exit)) (now («out_lengths» .exit))) ⌝ }
+    ensures { λ n. ⌜ CutAs (inSet set) (entryColumns numbers names parents starts lengths) (entryColumns «out_numbers» «out_names» «out_parents» «out_starts» «out_lengths») n (exitColumns «out_numbers» «out_names» «out_parents» «out_starts» «out_lengths») ⌝ }
 {
     let n = number_kept(set, names, parents, positions) as usize;
     if out_numbers.len() < n {
@@ -88,7 +89,7 @@ pub fn cut(
     out_lengths: &mut [u16],
 ) -> usize
     requires { ⌜ TableColumns (table (now numbers) (now names) (now parents) (now starts) (now lengths)) × OfLength (table (now «out_numbers») (now «out_names») (now «out_parents») (now «out_starts») (now «out_lengths»)) (length (now «out_numbers»)) ⌝ }
-    ensures { λ n. ⌜ CutAs (inSet set) (table (now (numbers .entry)) (now (names .entry)) (now (parents .entry)) (now (starts .entry)) (now (lengths .entry))) (table (now («out_numbers» .entry)) (now («out_names» .entry)) (now («out_parents» .entry)) (now («out_starts» .entry)) (now («out_lengths» .entry))) n (table (now («out_numbers» .exit)) (now («out_names» .exit)) (now («out_parents» .exit)) (now («out_starts» .exit)) (now («out_lengths» .exit))) ⌝ }
+    ensures { λ n. ⌜ CutAs (inSet set) (entryColumns numbers names parents starts lengths) (entryColumns «out_numbers» «out_names» «out_parents» «out_starts» «out_lengths») n (exitColumns «out_numbers» «out_names» «out_parents» «out_starts» «out_lengths») ⌝ }
 {
     let mut positions = [NOT_KEPT; MAX_NODES];
     let count = parents.len();

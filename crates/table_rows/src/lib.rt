@@ -5,6 +5,7 @@ ghost use Rattle.table_passes.specs.Passes.{laterPass, rowsPass};
 ghost use Rattle.table_rows.specs.Lent.{Lent, RowLent, RootAt, rowFits};
 ghost use Rattle.table_spec.specs.Columns.{columns};
 ghost use Rattle.text_spec.specs.Limits.{maxDepth};
+ghost use Rattle.lent_cells.specs.Ends.{entryColumns};
 use later_rows::later_fits;
 use names::MAX_ELEMENTS;
 use row_tests::is_text;
@@ -50,7 +51,7 @@ fn later_rows_fit(
     words: &[u64; MAX_ELEMENTS],
 ) -> bool
     requires { ⌜ Lent (columns (now numbers) (now codes) (now parents) (now starts) (now lengths)) count × RootAt (columns (now numbers) (now codes) (now parents) (now starts) (now lengths)) count ⌝ }
-    ensures { λ r. ⌜ r ≡ laterPass (now (words .entry)) (columns (now (numbers .entry)) (now (codes .entry)) (now (parents .entry)) (now (starts .entry)) (now (lengths .entry))) (count - 1) 0 0 1 ⌝ }
+    ensures { λ r. ⌜ r ≡ laterPass (now (words .entry)) (entryColumns numbers codes parents starts lengths) (count - 1) 0 0 1 ⌝ }
 {
     let mut element: usize = 0;
     let mut depth: usize = 1;
@@ -87,7 +88,7 @@ pub fn rows_fit(
     words: &[u64; MAX_ELEMENTS],
 ) -> bool
     requires { ⌜ Lent (columns (now numbers) (now codes) (now parents) (now starts) (now lengths)) count ⌝ }
-    ensures { λ r. ⌜ r ≡ rowsPass (now (words .entry)) (columns (now (numbers .entry)) (now (codes .entry)) (now (parents .entry)) (now (starts .entry)) (now (lengths .entry))) count ⌝ }
+    ensures { λ r. ⌜ r ≡ rowsPass (now (words .entry)) (entryColumns numbers codes parents starts lengths) count ⌝ }
 {
     if count == 0 {
         return true;

@@ -7,6 +7,7 @@ use Prim.Native.Nat.{ℕ}
 use native.Mathlib.Omega.{arith}
 use lib.Dec.{eqb, leb, eqb→eq, leb→le}
 use lib.ListN.{length}
+use Rattle.lent_cells.specs.Ends.{Slice, entryColumns}
 use Rattle.library_spec.specs.Records.{LentTable, rowsLent, keptIf, tableHeld, tableBeside}
 use Rattle.schema_spec.specs.Schemas.{Schema}
 use Rattle.schema_spec.specs.Types.{typesOf}
@@ -24,6 +25,10 @@ use Rattle.text_spec.specs.Lists.{isNone}
 -- ---- definitions
 abbrev pub lentTable : List ℕ → List ℕ → List ℕ → List ℕ → List ℕ → ℕ → LentTable
 lentTable numbers names parents starts lengths count = record { columns = columns numbers names parents starts lengths; count = count }
+
+-- the table in five columns that are lent
+abbrev pub entryTable : Slice → Slice → Slice → Slice → Slice → ℕ → LentTable
+entryTable numbers names parents starts lengths count = record { columns = entryColumns numbers names parents starts lengths; count = count }
 
 -- the table holds rows: alone, and beside a text
 unfoldable pub isHeld : Schema → LentTable → Bool

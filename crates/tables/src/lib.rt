@@ -6,7 +6,7 @@ ghost use Rattle.schema_spec.specs.Schemas.{Schema};
 ghost use Rattle.schema_spec.specs.Types.{typesOf};
 ghost use Rattle.table_passes.specs.Codes.{HeldWords};
 ghost use Rattle.table_spec.specs.Columns.{equalSizes};
-ghost use Rattle.tables.specs.Handed.{lentTable, isHeld, isBeside};
+ghost use Rattle.tables.specs.Handed.{isHeld, isBeside, entryTable};
 use names::MAX_ELEMENTS;
 use table_rows::rows_fit;
 use text_ranges::texts_pass;
@@ -47,7 +47,7 @@ pub fn is_table(
     count: usize,
     words: &[u64; MAX_ELEMENTS],
 ) -> bool
-    ensures { λ r. ⌜ ((s : Schema) → HeldWords (typesOf s) (now (words .entry)) → r ≡ isHeld s (lentTable (now (numbers .entry)) (now (codes .entry)) (now (parents .entry)) (now (starts .entry)) (now (lengths .entry)) count)) ⌝ }
+    ensures { λ r. ⌜ ((s : Schema) → HeldWords (typesOf s) (now (words .entry)) → r ≡ isHeld s (entryTable numbers codes parents starts lengths count)) ⌝ }
 {
     if !sizes_fit(
         numbers.len(),
@@ -73,7 +73,7 @@ pub fn is_table_beside(
     words: &[u64; MAX_ELEMENTS],
     lent: &[u8],
 ) -> bool
-    ensures { λ r. ⌜ ((s : Schema) → HeldWords (typesOf s) (now (words .entry)) → r ≡ isBeside s (now (lent .entry)) (lentTable (now (numbers .entry)) (now (codes .entry)) (now (parents .entry)) (now (starts .entry)) (now (lengths .entry)) count)) ⌝ }
+    ensures { λ r. ⌜ ((s : Schema) → HeldWords (typesOf s) (now (words .entry)) → r ≡ isBeside s (now (lent .entry)) (entryTable numbers codes parents starts lengths count)) ⌝ }
 {
     if !sizes_fit(
         numbers.len(),

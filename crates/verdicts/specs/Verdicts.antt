@@ -3,7 +3,10 @@ use mathlib.Core.List.{List}
 use mathlib.Core.Path.{_≡_}
 use Prim.Native.Nat.{ℕ}
 use lib.ListN.{length}
-use Rattle.text_spec.specs.Calls.{cellsAfter}
+use denote.Ref.{now}
+use Rattle.lent_cells.specs.Ends.{Slice}
+use Rattle.text_spec.specs.Calls.{inRoom, cellsAfter}
+use Rattle.text_spec.specs.Cells.{tooSmall}
 use Rattle.text_spec.specs.Refusals.{Outcome, accepted, refused, numberOf}
 use Rattle.verdicts.specs.declared.Verdict.{Verdict}
 
@@ -21,3 +24,11 @@ verdict (refused f) = refusedBy (numberOf (f .reason)) (f .place)
 pub record AnsweredBytes (o : Outcome (List ℕ)) (size : ℕ) (r : Verdict) (out : List ℕ) : Type 0 where
   pub answer : r ≡ verdict o
   pub cells : out ≡ cellsAfter size (λ w. w) o
+
+-- bytes answered in so many cells: 18 where they are too few
+abbrev pub inBytes : ℕ → List ℕ → Outcome (List ℕ)
+inBytes size xs = inRoom (tooSmall size xs) xs
+
+-- a call that is lent a slice of bytes, by its outcome for so many cells
+abbrev pub AnsweredSlice : (ℕ → Outcome (List ℕ)) → Verdict → Slice → Type 0
+AnsweredSlice call r out = AnsweredBytes (call (length (now (out .entry)))) (length (now (out .entry))) r (now (out .exit))

@@ -1,0 +1,24 @@
+-- Lent slices at both ends of a call, as a contract names them: what they hold at entry, and what they are left with at exit.
+use mathlib.Core.List.{List}
+use Prim.Native.Nat.{ℕ}
+use denote.Ref.{RefT, now}
+use denote.Triple.Both.{Both}
+use Rattle.table_spec.specs.Columns.{Columns, columns, Sizes, sizesOf}
+
+-- a slice of elements that a contract knows as values of A
+abbrev pub SliceOf : Type 0 → Type 0
+SliceOf A = Both (RefT (List A)) (RefT (List A))
+
+abbrev pub Slice : Type 0
+Slice = SliceOf ℕ
+
+-- the five columns of a table
+abbrev pub entryColumns : Slice → Slice → Slice → Slice → Slice → Columns
+entryColumns numbers names parents starts lengths = columns (now (numbers .entry)) (now (names .entry)) (now (parents .entry)) (now (starts .entry)) (now (lengths .entry))
+
+abbrev pub exitColumns : Slice → Slice → Slice → Slice → Slice → Columns
+exitColumns numbers names parents starts lengths = columns (now (numbers .exit)) (now (names .exit)) (now (parents .exit)) (now (starts .exit)) (now (lengths .exit))
+
+-- how many cells each has
+abbrev pub entrySizes : Slice → Slice → Slice → Slice → Slice → Sizes
+entrySizes numbers names parents starts lengths = sizesOf (entryColumns numbers names parents starts lengths)
