@@ -42,7 +42,7 @@ use Rattle.inference_spec.specs.Needed.{needed, neededByPath, neededWord}
 use Rattle.library_spec.specs.Calls.{extractRead}
 use Rattle.library_spec.specs.Hosts.{extractOf}
 use Rattle.library_spec.specs.Listing.{listing}
-use Rattle.library_spec.specs.Records.{recordOf, schemaHeld, tableBeside}
+use Rattle.library_spec.specs.Records.{schemaHeld, tableBeside}
 use Rattle.schema_spec.specs.Names.{codeOf, wordOfSet}
 use Rattle.schema_spec.specs.Reading.{readSchema}
 use Rattle.schema_spec.specs.Records.{normal, schemaIn}
@@ -52,6 +52,7 @@ use Rattle.text_spec.specs.Calls.{handed, inRoom}
 use Rattle.text_spec.specs.Cells.{tooSmall}
 use Rattle.text_spec.specs.Limits.{maxSchemaBytes}
 use Rattle.text_spec.specs.Lists.{bytes}
+use Rattle.text_spec.specs.Records.{recordOf}
 use Rattle.text_spec.specs.Refusals.{Outcome, accepted, refused, andThen, numberOf}
 
 data Seen : Type 0 where

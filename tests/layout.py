@@ -5,6 +5,7 @@
 - proofs/ is private: no file imports a file of another crate's proofs/. What Rattle makes of a crate's contracts and types stands under the same
   name (a function's contract and its theorem, a struct's laws), and a proof by hand cites it.
 - The crates *_spec hold definitions and worked cases: no theorem but the cases'.
+- A file of code or of definitions begins with a comment that says what it is about; so does the list of files of a module that has no code.
 """
 import os
 import re
@@ -66,6 +67,16 @@ def theorems(crate):
                 yield "%s states the theorem %s" % (path, name)
 
 
+def without_opening(crate):
+    """Files of src/ and specs/ that do not begin with a comment: a list of files does so only where no code speaks for its module."""
+    for path, text in files(crate):
+        kind, name = path.split(os.sep)[2], os.path.basename(path)
+        only_lists = kind == "specs" and all(line.startswith("pub mod ") for line in text.split("\n") if line)
+        spoken_for = name == "Lib.antt" or name[0].isupper() or os.path.exists(os.path.join(CRATES, crate, "src", name.replace(".antt", ".rt")))
+        if kind in ("src", "specs") and not text.startswith(("//", "--")) and not (only_lists and spoken_for):
+            yield "%s does not begin with a comment" % path
+
+
 def main():
     lines = listed()
     libraries = set(lines) | KIT
@@ -75,6 +86,7 @@ def main():
         faults += ["crates.txt: %s does not name %s" % (crate, d) for d in dependencies if d not in wanted]
         faults += ["crates.txt: %s names %s, which is not listed" % (crate, d) for d in sorted(wanted - set(dependencies))]
         faults += private_imports(crate)
+        faults += without_opening(crate)
         if crate.endswith("_spec"):
             faults += theorems(crate)
     if faults:

@@ -1,10 +1,11 @@
 #!/usr/bin/env python3
-"""Holds docs/PROMISES.md and docs/ARCHITECTURE.md to the repository.
+"""Holds docs/PROMISES.md, docs/ARCHITECTURE.md and docs/DECISIONS.md to the repository.
 
 - In the tables of docs/PROMISES.md each name of the column 'Met by' is declared in a file of the column 'File', and each such file exists.
-- Each `pub fn` that another crate calls stands in such a table, beside its crate's source.
+- Each `pub fn` that another crate calls stands in such a table, beside the file that has it.
 - The functions of the table 'Public functions' are those that the crate lozhymet passes on, and none of them has a `requires`.
-- Every crate folder is listed in crates.txt and described in docs/ARCHITECTURE.md, and each module that is named there exists.
+- Every crate folder is listed in crates.txt and described in docs/ARCHITECTURE.md; each file `CRATE/File` and each module `CRATE::module` that is named
+  in the documents exists.
 """
 import os
 import re
@@ -45,12 +46,20 @@ def sources(crate):
     return "\n".join(read(os.path.join("crates", crate, "src", name)) for name in sorted(os.listdir(folder)) if name.endswith(".rt"))
 
 
-def called(crate, name, texts):
-    """Whether another crate calls a function or a method of this crate by its name."""
-    path = re.compile(r"\b%s::(?:(?:[A-Z]\w*::)?%s\(|%s;)" % (crate, name, name))
-    brought = re.compile(r"\buse %s::([A-Z]\w*)" % crate)
+def units(crate):
+    """The files of Rattle of a crate, each with the module that it is, none for the root."""
+    for file in sorted(os.listdir(os.path.join(ROOT, "crates", crate, "src"))):
+        if file.endswith(".rt"):
+            yield "crates/%s/src/%s" % (crate, file), "" if file in ("lib.rt", "main.rt") else file[:-3]
+
+
+def called(crate, module, name, texts):
+    """Whether another crate calls a function or a method of this crate's module by its name: by a path to it, or brought by a `use`."""
+    home = "::".join(filter(None, [crate, module]))
+    path = re.compile(r"\b%s::(?:(?:[A-Z]\w*::)?%s\(|%s;)" % (module or crate, name, name))
+    brought = re.compile(r"\buse %s::([A-Z]\w*)" % home)
     for other, text in texts.items():
-        if other == crate or crate not in text or name not in text:
+        if other == crate or home not in text or name not in text:
             continue
         if path.search(text):
             return True
@@ -64,10 +73,11 @@ def omissions(promised):
     """Functions that another crate calls and that docs/PROMISES.md does not name beside their source."""
     crates = sorted(os.listdir(os.path.join(ROOT, "crates")))
     texts = {crate: sources(crate) for crate in crates}
-    for crate, text in texts.items():
-        for name in re.findall(r"\bpub fn (\w+)", text):
-            if called(crate, name, texts) and (name, "crates/%s/src/lib.rt" % crate) not in promised:
-                yield "docs/PROMISES.md does not name %s::%s" % (crate, name)
+    for crate in crates:
+        for file, module in units(crate):
+            for name in re.findall(r"\bpub fn (\w+)", read(file)):
+                if called(crate, module, name, texts) and (name, file) not in promised:
+                    yield "docs/PROMISES.md does not name %s beside %s" % (name, file)
 
 
 def contract(text, name):
@@ -84,7 +94,7 @@ def public_functions(promises):
         for name in QUOTED.findall(met):
             found = [contract(read(f), name) for f in QUOTED.findall(file) if f.endswith(".rt")]
             heads.update((name, head) for head in found if head)
-    passed = set(re.findall(r"^pub use \w+::([a-z]\w*);", sources("lozhymet"), re.M))
+    passed = set(re.findall(r"^pub use (?:\w+::)+([a-z]\w*);", sources("lozhymet"), re.M))
     for name in sorted(set(heads) ^ passed):
         yield "%s stands in one of lozhymet and the table of public functions, and not in the other" % name
     for name, head in heads.items():
@@ -92,20 +102,27 @@ def public_functions(promises):
             yield "the public function %s has a requires" % name
 
 
-def missing_modules(architecture, crates):
-    """Modules that docs/ARCHITECTURE.md names and that do not exist: in the row of a crate, or behind a crate's name."""
+def missing_modules(page, crates):
+    """Files of definitions and modules that a document names behind a crate's name, or in its row of a table, and that do not exist."""
     def exists(crate, module):
         base = os.path.join(ROOT, "crates", crate, "specs", *module.split("/"))
         return os.path.exists(base + ".antt") or os.path.isdir(base)
-    for line in architecture.split("\n"):
+
+    def declared(crate, item):
+        return exists(crate, item) or item + ".rt" in os.listdir(os.path.join(ROOT, "crates", crate, "src")) or \
+            re.search(r"\b(?:fn|const|struct|enum) %s\b" % item, sources(crate))
+    for line in page.split("\n"):
         quoted = QUOTED.findall(line)
         owner = quoted[0] if line.startswith("| `") and quoted[0] in crates else None
         for word in quoted:
             if owner and re.fullmatch(r"[A-Z]\w*(/[A-Z]\w*)*/?", word) and not exists(owner, word.rstrip("/")):
-                yield "%s has no module %s" % (owner, word)
-            behind = re.match(r"([a-z_]+)/((?:[A-Z]\w*/)*[A-Z]\w*)", word)
+                yield "%s has no file %s" % (owner, word)
+            behind = re.match(r"([a-z_]+)/((?:[a-z_]+/)?(?:[A-Z]\w*/)*[A-Z]\w*)", word)
             if behind and behind.group(1) in crates and not exists(*behind.groups()):
-                yield "%s has no module %s" % behind.groups()
+                yield "%s has no file %s" % behind.groups()
+            inside = re.match(r"([a-z_]+)::(\w+)", word)
+            if inside and (inside.group(1) not in crates or not declared(*inside.groups())):
+                yield "there is no %s" % inside.group()
 
 
 def main():
@@ -127,7 +144,8 @@ def main():
             faults.append("crate %s is not listed in crates.txt" % crate)
         if "`%s`" % crate not in architecture:
             faults.append("crate %s is not described in docs/ARCHITECTURE.md" % crate)
-    faults += missing_modules(architecture, listed)
+    for page in (architecture, read("docs/DECISIONS.md"), read("README.md")):
+        faults += missing_modules(page, listed)
     faults += omissions(promised)
     faults += public_functions(read("docs/PROMISES.md"))
     if seen == 0:

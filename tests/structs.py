@@ -21,7 +21,7 @@ import tempfile
 HERE = os.path.dirname(os.path.abspath(__file__))
 ROOT = os.path.dirname(HERE)
 PROGRAM = "struct_cases"
-NEEDS = "row_structs schema schema_reader bundle_reader verdicts selected_answers journal_structs cut_structs select_structs io"
+NEEDS = "row_structs schema schema_reader bundle cells selection struct_reading struct_cutting struct_selecting io"
 # what the interpreter says where it stops before the program ends
 OUT_OF_STEPS = "the run did not finish within 10000000 steps"
 STACK = 64 << 20

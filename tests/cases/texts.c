@@ -7,7 +7,7 @@
 /* The children that are tried are the first elements, declared or not. */
 enum { TRIED = 5 };
 
-/* schema_elements::CHILDREN */
+/* compiled_schema::entry_parts::CHILDREN */
 enum { CHILDREN = 2 };
 
 /* the next text, and whether 128 was added */

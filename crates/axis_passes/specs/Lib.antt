@@ -1,0 +1,10 @@
+pub mod alternative_steps
+pub mod code_ranges
+pub mod alternatives
+pub mod conditions
+pub mod downward
+pub mod inverse_axes
+pub mod root
+pub mod steps
+pub mod upward
+pub mod written_steps

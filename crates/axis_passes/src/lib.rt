@@ -1,45 +1,12 @@
-// One pass over columns of marks for each axis down.
-ghost use mathlib.Core.Path.{_≡_};
-ghost use Rattle.marks.specs.Parents.{imageMarks};
-ghost use Rattle.marks.specs.Passes.{AxisPass};
-ghost use Rattle.path_spec.specs.Paths.{child, descendant, descendantOrSelf};
-use row_marks::UNMARKED;
-
-pub fn children(parents: &[u16], from: &[u8], out: &mut [u8])
-    requires { ⌜ AxisPass (now parents) (now from) (now out) ⌝ }
-    ensures { λ _. ⌜ now (out .exit) ≡ imageMarks child (now (parents .entry)) (now (from .entry)) ⌝ }
-{
-    out[0] = UNMARKED;
-    let mut r = 1;
-    while r < out.len() {
-        let p = parents[r] as usize;
-        out[r] = from[p];
-        r += 1;
-    }
-}
-
-pub fn descendants(parents: &[u16], from: &[u8], out: &mut [u8])
-    requires { ⌜ AxisPass (now parents) (now from) (now out) ⌝ }
-    ensures { λ _. ⌜ now (out .exit) ≡ imageMarks descendant (now (parents .entry)) (now (from .entry)) ⌝ }
-{
-    out[0] = UNMARKED;
-    let mut r = 1;
-    while r < out.len() {
-        let p = parents[r] as usize;
-        out[r] = from[p] | out[p];
-        r += 1;
-    }
-}
-
-pub fn descendants_or_self(parents: &[u16], from: &[u8], out: &mut [u8])
-    requires { ⌜ AxisPass (now parents) (now from) (now out) ⌝ }
-    ensures { λ _. ⌜ now (out .exit) ≡ imageMarks descendantOrSelf (now (parents .entry)) (now (from .entry)) ⌝ }
-{
-    out[0] = from[0];
-    let mut r = 1;
-    while r < out.len() {
-        let p = parents[r] as usize;
-        out[r] = from[r] | out[p];
-        r += 1;
-    }
-}
+// Passes over columns of marks: one for each axis, tests, steps, alternatives and conditions for all rows at once.
+pub mod alternative_steps;
+pub mod alternatives;
+pub mod code_ranges;
+pub mod conditions;
+pub mod downward;
+pub mod inverse_axes;
+pub mod mark_sets;
+pub mod root;
+pub mod steps;
+pub mod upward;
+pub mod written_steps;

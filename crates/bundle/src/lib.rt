@@ -1,4 +1,14 @@
 // What judging a bundle text under a schema answers, and refusal 10: the names in the tests, looked up once while compiled paths are filled.
+pub mod byte_judging;
+pub mod columns;
+pub mod last_steps;
+pub mod names_in_tests;
+pub mod path_judging;
+pub mod reader;
+pub mod record_cells;
+pub mod record_tests;
+pub mod step_starts;
+
 ghost use mathlib.Core.List.{map};
 ghost use mathlib.Core.Path.{_≡_};
 ghost use Prim.Native.Nat.{_≤_};
@@ -8,6 +18,7 @@ ghost use Rattle.text_spec.specs.Limits.{maxDeclarations};
 ghost use Rattle.text_spec.specs.Refusals.{numberOf};
 ghost use Rattle.text_spec.specs.Scans.{nameAt};
 use compiled_paths::CompiledPaths;
+use text::limits;
 
 pub const MAX_BYTES: usize = limits::MAX_BUNDLE_BYTES;
 
@@ -71,7 +82,7 @@ pub fn judge_names(
     requires { ⌜ (length (now names) ≤ maxDeclarations) × Spelling (now text) count (now outers) (now cells) (now paths) (now conditions) (now ways) ⌝ }
     ensures { λ r. ⌜ JudgedUnder (map (nameAt (now (schema .entry))) (now (names .entry))) (now (text .entry)) r ⌝ }
 {
-    let filled = path_columns::fill(
+    let filled = columns::fill(
         schema,
         names,
         text,

@@ -8,7 +8,7 @@ use Rattle.compiled_paths.specs.declared.CompiledPaths.{CompiledPaths}
 use Rattle.path_spec.specs.Paths.{LocationPath}
 use Rattle.text_spec.specs.Limits.{maxPaths}
 use denote.Ref.{now}
-use Rattle.lent_cells.specs.Ends.{Slice}
+use Rattle.cells.specs.lent.Ends.{Slice}
 
 -- compiled paths by their columns and their count, as they are lent
 abbrev pub lentPaths : List ℕ → List ℕ → List ℕ → List ℕ → ℕ → CompiledPaths

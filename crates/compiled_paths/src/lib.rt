@@ -1,13 +1,15 @@
 // The paths of a bundle in columns of numbers, derived from its text and never judged.
+pub mod ranges;
+
 ghost use mathlib.Core.List.{[]};
 ghost use mathlib.Core.Path.{_≡_};
 ghost use Prim.Native.Nat.{_+_, _≤_};
 ghost use lib.ListN.{length};
 ghost use Rattle.compiled_paths.specs.Columns.{axisNumber, firstSize};
 ghost use Rattle.compiled_paths.specs.Paths.{pathsIn, Shaped};
-use limits::MAX_PATH_BYTES;
-use limits::MAX_PATHS;
-use limits::MAX_STEPS;
+use text::limits::MAX_PATH_BYTES;
+use text::limits::MAX_PATHS;
+use text::limits::MAX_STEPS;
 
 // The axes by their numbers, in the order of document 01.
 pub const SELF: u8 = 0;

@@ -8,17 +8,17 @@ use native.Mathlib.Omega.{arith}
 use lib.Dec.{T, eqb}
 use lib.ListN.{length, take, replicate, length-map}
 use lib.Seq.{take-all}
-use Rattle.closures.specs.Relations.{relates, Reachable}
-use Rattle.closures.specs.Schemas.{reachability-isBelow}
+use Rattle.names.specs.closures.Relations.{relates, Reachable}
+use Rattle.names.specs.closures.Schemas.{reachability-isBelow}
 use Rattle.compiled_schema.specs.Compiled.{CompiledOf}
 use Rattle.names.specs.declared.NameSet.{NameSet}
 use Rattle.schema.specs.Judging.{outcomeOf, sized, declaredAt, JudgedInto}
 use Rattle.schema.specs.declared.Judgement.{Judgement}
 use Rattle.schema.specs.declared.Judgement.the-variants.{Accepted, Refused}
 use Rattle.schema.specs.declared.Kind.{Kind}
-use Rattle.element_entries.specs.Reading.{AcceptedWith}
-use Rattle.schema_entries.specs.Columns.{EntriesOf}
-use Rattle.schema_entries.specs.declared.Entries.{Entries}
+use Rattle.compiled_schema.specs.element_entry.Reading.{AcceptedWith}
+use Rattle.compiled_schema.specs.entry_columns.Columns.{EntriesOf}
+use Rattle.compiled_schema.specs.declared.entry_columns.Entries.{Entries}
 use Rattle.schema_laws.specs.Accepted.{Spelt, accepted-spelt, accepted-closed}
 use Rattle.schema_spec.specs.Closure.{byWayOf, closure}
 use Rattle.schema_spec.specs.Declarations.{Declaration}

@@ -1,13 +1,21 @@
 // The compiled schema: the data that is derived from a schema's text. Its names, what is known of each element and what lies below it.
+pub mod element_entry;
+pub mod entry_columns;
+pub mod entry_parts;
+pub mod held_words;
+pub mod record_words;
+
 ghost use mathlib.Core.List.{List, []};
 ghost use Prim.Native.Nat.{ℕ};
 ghost use Rattle.compiled_schema.specs.Compiled.{CompiledOf, JudgedAs};
 ghost use Rattle.schema_spec.specs.Records.{schemaIn};
+use crate::entry_columns::Entries;
 use names::MAX_ELEMENTS;
 use names::NameSet;
+use names::closures;
 use schema::Judgement;
-use schema_entries::Entries;
-use schema_places::MAX_USES;
+use schema::places::MAX_USES;
+use schema_reader::text_judging;
 
 pub struct CompiledSchema {
     // how many elements there are
@@ -47,10 +55,10 @@ pub fn judge_and_compile(text: &[u8]) -> JudgedSchema
 {
     let mut names = [0usize; MAX_ELEMENTS];
     let mut uses = [0usize; MAX_USES];
-    let judgement = schema_judging::judge_into(text, &mut names, &mut uses);
+    let judgement = text_judging::judge_into(text, &mut names, &mut uses);
     match judgement {
         Judgement::Accepted(count) => {
-            let entries = schema_entries::all_entries(text, &uses, count);
+            let entries = entry_columns::all_entries(text, &uses, count);
             let holds = entries.holds;
             let below = closures::below(holds, count);
             JudgedSchema {

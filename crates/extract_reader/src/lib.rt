@@ -1,17 +1,28 @@
 // All rows of an extract, read into clear columns, with the open elements in cells of their own.
+pub mod field_ends;
+pub mod field_rows;
+pub mod field_tests;
+pub mod field_values;
+pub mod fields;
+pub mod levels;
+pub mod records;
+pub mod steps;
+pub mod table;
+pub mod verdict;
+
 ghost use mathlib.Core.List.{[]};
 ghost use Rattle.extract_reader.specs.Whole.{Begun, RowsRead};
-ghost use Rattle.extract_steps.specs.Reads.{Hold};
-ghost use Rattle.row_columns.specs.Columns.{EqualColumns};
+ghost use Rattle.extract_reader.specs.steps.Reads.{Hold};
+ghost use Rattle.cells.specs.columns.Columns.{EqualColumns};
 ghost use Rattle.table_spec.specs.Columns.{columns};
-ghost use Rattle.lent_cells.specs.Ends.{exitColumns, entrySizes};
-use extract_steps::Progress;
-use extract_steps::read_row;
-use field_reader::First;
-use field_reader::first_field;
-use field_values::Carried;
-use limits::MAX_DEPTH;
+ghost use Rattle.cells.specs.lent.Ends.{exitColumns, entrySizes};
+use crate::field_values::Carried;
+use crate::fields::First;
+use crate::fields::first_field;
+use crate::steps::Progress;
+use crate::steps::read_row;
 use names::MAX_ELEMENTS;
+use text::limits::MAX_DEPTH;
 
 // Whether the whole extract was read, and how many rows it has.
 pub struct RowsFound {

@@ -1,15 +1,20 @@
 // Writing the extract of a table that is handed in, beside the text that is lent with it.
+pub mod answers;
+pub mod fields;
+pub mod rows;
+pub mod writing;
+
 ghost use Rattle.library_spec.specs.Calls.{extractWritten};
-ghost use Rattle.schema_records.specs.Records.{recordWith};
+ghost use Rattle.compiled_schema.specs.records.Records.{recordWith};
 ghost use Rattle.tables.specs.Handed.{entryTable};
-ghost use Rattle.verdicts.specs.Verdicts.{AnsweredSlice};
-use lent_extracts::refuse;
-use lent_extracts::write_in_room;
+ghost use Rattle.cells.specs.verdicts.Verdicts.{AnsweredSlice};
+use crate::answers::refuse;
+use crate::answers::write_in_room;
+use cells::verdicts::Verdict;
+use compiled_schema::record_words::schema_words;
 use schema::Schema;
 use schema_reader::is_schema_record;
-use schema_words::schema_words;
 use tables::is_table_beside;
-use verdicts::Verdict;
 
 // Writes the extract of the first `count` rows in the columns, whose texts are parts of `lent`.
 pub fn write_extract(

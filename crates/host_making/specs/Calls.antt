@@ -5,15 +5,15 @@ use mathlib.Core.Path.{_≡_, refl, sym, ap, subst, _∙_}
 use Prim.Native.Nat.{ℕ}
 use lib.ListN.{length}
 use Rattle.compiled_paths.specs.Paths.{pathsIn}
-use Rattle.host_laws.specs.Stages.{madeUnder, bundle-accepted, make-unequal, make-refused, make-accepted}
-use Rattle.host_results.specs.Exits.{lentOf, Exits, RefusedExit, same-exit, refused-exit}
-use Rattle.host_made.specs.Making.{UnderTexts}
-use Rattle.host_results.specs.declared.HostResult.{HostResult}
-use Rattle.host_texts.specs.Texts.{refusalOf, TextsJudged, none-refused, texts-accepted, texts-refused}
-use Rattle.host_texts.specs.declared.Texts.{Texts}
-use Rattle.host_texts.specs.declared.Told.{Told}
+use Rattle.hosts.specs.laws.Stages.{madeUnder, bundle-accepted, make-unequal, make-refused, make-accepted}
+use Rattle.hosts.specs.results.Exits.{lentOf, Exits, RefusedExit, same-exit, refused-exit}
+use Rattle.host_making.specs.accepted.Making.{UnderTexts}
+use Rattle.hosts.specs.declared.results.HostResult.{HostResult}
+use Rattle.hosts.specs.texts.Texts.{refusalOf, TextsJudged, none-refused, texts-accepted, texts-refused}
+use Rattle.hosts.specs.declared.texts.Texts.{Texts}
+use Rattle.hosts.specs.declared.texts.Told.{Told}
 use Rattle.library_spec.specs.Hosts.{makeExtract}
-use Rattle.row_columns.specs.ColumnLaws.{equal-columns}
+use Rattle.cells.specs.columns.ColumnLaws.{equal-columns}
 use Rattle.schema_spec.specs.Records.{schemaIn}
 use Rattle.table_spec.specs.Columns.{Columns, sizesOf, equalSizes}
 use Rattle.text_laws.specs.Tests.{passed}

@@ -1,16 +1,18 @@
 // Making an extract of three texts: columns of one length first (1), then the texts in turn, 18 last. On refusal every lent cell is 0.
-ghost use Rattle.host_results.specs.Exits.{MakingExits};
+pub mod accepted;
+
+ghost use Rattle.hosts.specs.results.Exits.{MakingExits};
 ghost use Rattle.library_spec.specs.Hosts.{makeExtract};
-use column_sizes::equal_sizes;
+use crate::accepted::make_under;
+use cells::sizes::equal_sizes;
 use compiled_paths::CompiledPaths;
 use compiled_schema::CompiledSchema;
-use host_made::make_under;
-use host_refusals::refuse_making;
-use host_results::HostResult;
-use host_texts::judge_texts;
-use host_texts::refusal;
+use compiled_schema::entry_columns::Entries;
+use hosts::refusals::refuse_making;
+use hosts::results::HostResult;
+use hosts::texts::judge_texts;
+use hosts::texts::refusal;
 use names::NameSet;
-use schema_entries::Entries;
 
 // The texts are compiled once, and the journal is read once.
 pub fn make_extract(

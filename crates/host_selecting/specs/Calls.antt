@@ -7,19 +7,19 @@ use borrow.Author.Tests.{eqb-true, eqb-false}
 use lib.Dec.{leb, leb→le, eqb}
 use Rattle.compiled_paths.specs.Paths.{pathsIn}
 use Rattle.compiled_schema.specs.Compiled.{CompiledOf}
-use Rattle.host_chosen.specs.Choosing.{UnderSchema}
-use Rattle.host_laws.specs.Stages.{chosenUnder, bundle-accepted, select-unequal, select-out, select-refused, select-accepted}
-use Rattle.host_results.specs.Exits.{lentOf, Exits, RefusedExit, same-exit, refused-exit}
-use Rattle.host_refusals.specs.Refusals.{rangeOf, range-accepted}
-use Rattle.host_results.specs.declared.HostResult.{HostResult}
-use Rattle.host_texts.specs.Texts.{refusalOf, TextsJudged, none-refused, texts-accepted, texts-refused}
-use Rattle.host_texts.specs.declared.Texts.{Texts}
-use Rattle.host_texts.specs.declared.Told.{Told}
+use Rattle.host_selecting.specs.accepted.Choosing.{UnderSchema}
+use Rattle.hosts.specs.laws.Stages.{chosenUnder, bundle-accepted, select-unequal, select-out, select-refused, select-accepted}
+use Rattle.hosts.specs.results.Exits.{lentOf, Exits, RefusedExit, same-exit, refused-exit}
+use Rattle.hosts.specs.refusals.Refusals.{rangeOf, range-accepted}
+use Rattle.hosts.specs.declared.results.HostResult.{HostResult}
+use Rattle.hosts.specs.texts.Texts.{refusalOf, TextsJudged, none-refused, texts-accepted, texts-refused}
+use Rattle.hosts.specs.declared.texts.Texts.{Texts}
+use Rattle.hosts.specs.declared.texts.Told.{Told}
 use Rattle.library_spec.specs.Hosts.{bundlePaths, inRange, selectFrom}
-use Rattle.row_columns.specs.ColumnLaws.{equal-columns}
+use Rattle.cells.specs.columns.ColumnLaws.{equal-columns}
 use Rattle.schema_spec.specs.Reading.{readSchema}
 use Rattle.schema_spec.specs.Records.{schemaIn}
-use Rattle.select_table.specs.Tables.{paths-count}
+use Rattle.selection.specs.table.Tables.{paths-count}
 use Rattle.table_spec.specs.Columns.{Columns, sizesOf, equalSizes}
 use Rattle.text_laws.specs.Tests.{never, passed}
 use Rattle.text_spec.specs.Limits.{maxPaths}

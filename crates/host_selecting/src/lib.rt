@@ -1,18 +1,20 @@
 // Selecting from an extract by two texts: 1 first (columns of unequal length, a place that the bundle does not have), then the texts in turn, 18
 // last. On refusal every lent cell is 0.
-ghost use Rattle.host_results.specs.Exits.{SelectingExits};
+pub mod accepted;
+
+ghost use Rattle.hosts.specs.results.Exits.{SelectingExits};
 ghost use Rattle.library_spec.specs.Hosts.{selectFrom};
-use column_sizes::equal_sizes;
+use crate::accepted::choose_under;
+use cells::sizes::equal_sizes;
 use compiled_paths::CompiledPaths;
 use compiled_schema::CompiledSchema;
-use host_chosen::choose_under;
-use host_refusals::passes;
-use host_refusals::refuse_selecting;
-use host_results::HostResult;
-use host_texts::judge_texts;
-use host_texts::refusal;
+use compiled_schema::entry_columns::Entries;
+use hosts::refusals::passes;
+use hosts::refusals::refuse_selecting;
+use hosts::results::HostResult;
+use hosts::texts::judge_texts;
+use hosts::texts::refusal;
 use names::NameSet;
-use schema_entries::Entries;
 
 // The texts are compiled once, and the extract is read once for all paths that are asked for.
 pub fn select_from(

@@ -1,1 +1,9 @@
 pub mod Events
+pub mod element_names
+pub mod event_handling
+pub mod fillings
+pub mod laws
+pub mod name_tables
+pub mod open_levels
+pub mod start_tags
+pub mod build_state

@@ -1,27 +1,38 @@
 // Events of a journal turned into open elements, content and rows: refusals 12 to 16.
+pub mod begun_nodes;
+pub mod build_state;
+pub mod children;
+pub mod element_names;
+pub mod end_tags;
+pub mod event_handling;
+pub mod fillings;
+pub mod name_tables;
+pub mod open_levels;
+pub mod start_tags;
+
 ghost use mathlib.Core.Path.{_≡_};
 ghost use Prim.Native.Nat.{_≤_, _<_};
 ghost use lib.ListN.{length};
-ghost use Rattle.build_state.specs.State.{judgedFrom, Safe, Built, Leaves, SafeStep};
-ghost use Rattle.content_fit.specs.Fillings.{Sized};
-ghost use Rattle.fault_keys.specs.Keys.{placeLimit};
+ghost use Rattle.journal_builder.specs.build_state.State.{judgedFrom, Safe, Built, Leaves, SafeStep};
+ghost use Rattle.journal_builder.specs.fillings.Fillings.{Sized};
+ghost use Rattle.text.specs.fault_keys.Keys.{placeLimit};
 ghost use Rattle.journal_builder.specs.Events.{startEvent, tagEvent, ClosesBegun, StartBy, TagBy};
 ghost use Rattle.journal_spec.specs.Builder.{Building, onEvent};
 ghost use Rattle.journal_spec.specs.Lexer.{run, runs};
-ghost use Rattle.journal_state.specs.Places.{placeOr};
+ghost use Rattle.journal_lexer.specs.state.Places.{placeOr};
 ghost use Rattle.schema_spec.specs.Schemas.{Schema};
 ghost use Rattle.text_spec.specs.Limits.{maxDeclarations};
-use build_state::Build;
-use build_state::BuildStep;
-use element_names::HASHES;
-use element_names::WORDS;
-use journal_state::EMPTIES;
-use journal_state::ENDS;
-use name_words::Name;
+use crate::build_state::Build;
+use crate::build_state::BuildStep;
+use crate::element_names::HASHES;
+use crate::element_names::WORDS;
+use crate::open_levels::LEVELS;
+use cells::columns::RowCells;
+use compiled_schema::entry_columns::MAX_CELLS;
+use journal_lexer::state::EMPTIES;
+use journal_lexer::state::ENDS;
 use names::MAX_ELEMENTS;
-use open_levels::LEVELS;
-use row_columns::RowCells;
-use schema_entries::MAX_CELLS;
+use text::name_words::Name;
 
 // The end of an empty tag's element, if nesting is not broken.
 fn closed(
@@ -37,7 +48,7 @@ fn closed(
     let m = begun.build;
     let row: RowCells = begun.row;
     if build_state::is_judged(m) {
-        let build = journal_ends::close(firsts, lasts, nullables, levels, m);
+        let build = end_tags::close(firsts, lasts, nullables, levels, m);
         return BuildStep { build, row };
     }
     begun
@@ -65,7 +76,7 @@ fn start_tag(
     ensures { λ r. ⌜ SafeStep (now (levels .exit)) m r × StartBy (λ n. startEvent empty n at) words count kinds firsts lasts nullables elements predecessors sizes levels m name r ⌝ }
 {
     let e = element_names::find(words, hints, count, name);
-    let begun = journal_starts::on_start(
+    let begun = start_tags::on_start(
         kinds,
         firsts,
         lasts,
@@ -110,7 +121,7 @@ pub fn on_tag(
         return build_state::without_row(m);
     }
     if event == ENDS {
-        let build = journal_ends::on_end(firsts, lasts, nullables, levels, m, name, at);
+        let build = end_tags::on_end(firsts, lasts, nullables, levels, m, name, at);
         return build_state::without_row(build);
     }
     start_tag(
@@ -132,13 +143,13 @@ pub fn on_tag(
     )
 }
 
-// A run of character data: where it starts, its first byte that is not a blank or journal_state::NONE, how many bytes it has.
+// A run of character data: where it starts, its first byte that is not a blank or journal_lexer::state::NONE, how many bytes it has.
 pub fn on_run(levels: &mut [u64; LEVELS], m: Build, start: u32, solid: u32, size: u32) -> BuildStep
     requires { ⌜ Safe (now levels) m × (m .count < placeLimit) ⌝ }
     ensures { λ r. ⌜ SafeStep (now (levels .exit)) m r × ((s : Schema) (b : Building) → length s ≤ maxDeclarations → Built s (now (levels .entry)) m b → Leaves s (now (levels .exit)) m b r (onEvent s (runs (run start (placeOr solid)) size) b)) ⌝ }
 {
     if build_state::is_judged(m) {
-        return journal_ends::on_run(levels, m, start, solid, size);
+        return end_tags::on_run(levels, m, start, solid, size);
     }
     build_state::without_row(m)
 }

@@ -7,7 +7,7 @@ use native.Mathlib.Nat.{suc-mul}
 use native.Mathlib.Numerals.{add-one}
 use native.Mathlib.Omega.{arith}
 use lib.ListN.{length, length-append}
-use Rattle.row_marks.specs.Columns.{isMarked}
+use Rattle.cells.specs.row_sets.Columns.{isMarked}
 
 -- ---- definitions
 module _ {A : Type 0} (f : ℕ → List A) (m : List ℕ) where

@@ -1,3 +1,6 @@
 pub mod Kept
 pub mod Joined
 pub mod Positions
+pub mod columns
+pub mod cut_rows
+pub mod laws

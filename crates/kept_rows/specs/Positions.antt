@@ -9,8 +9,8 @@ use lib.Dec.{eqb}
 use lib.ListN.{length, getD, set}
 use Rattle.kept_rows.specs.Joined.{rank, total-none, total-marked, total-unmarked, total-bound}
 use Rattle.kept_rows.specs.Kept.{isKept, keptMarks, kept-root, kept-later, KeptPass, codeCount, code-mark, forward-first}
-use Rattle.row_marks.specs.Columns.{isMarked, marks, mark-test, marks-length, marks-marked}
-use Rattle.row_marks.specs.Loops.{Forward, forward-none, forward-next, forward-all}
+use Rattle.cells.specs.row_sets.Columns.{isMarked, marks, mark-test, marks-length, marks-marked}
+use Rattle.cells.specs.row_sets.Loops.{Forward, forward-none, forward-next, forward-all}
 use Rattle.text_spec.specs.Limits.{maxNodes}
 
 -- ---- definitions

@@ -1,15 +1,18 @@
 // The rows of a table that a set of names keeps: those whose names and whose ancestors' names are all in the set.
+pub mod columns;
+pub mod cut_rows;
+
 ghost use mathlib.Core.Path.{_≡_};
 ghost use Prim.Native.Nat.{_<_};
 ghost use Rattle.kept_rows.specs.Kept.{codeCount, inSet, keptMarks, KeptPass};
 ghost use Rattle.kept_rows.specs.Positions.{nextPosition, lastPosition, Numbered};
-ghost use Rattle.row_marks.specs.Columns.{mark, marks};
+ghost use Rattle.cells.specs.row_sets.Columns.{mark, marks};
 ghost use Rattle.text_spec.specs.Limits.{maxNodes};
-use row_marks::MARKED;
-use row_marks::UNMARKED;
-use name_codes::CODES;
-use name_codes::has;
+use cells::row_sets::MARKED;
+use cells::row_sets::UNMARKED;
 use names::NameSet;
+use names::codes::CODES;
+use names::codes::has;
 
 // The position of a row that is not kept; kept rows are counted from 1.
 pub const NOT_KEPT: u16 = 0;

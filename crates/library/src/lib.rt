@@ -1,9 +1,9 @@
 // The two functions that a C host calls. A slice is a pointer and a length, what is lent is `&mut`, and the result goes out by value.
-ghost use Rattle.host_results.specs.Exits.{MakingExits, SelectingExits};
+ghost use Rattle.hosts.specs.results.Exits.{MakingExits, SelectingExits};
 ghost use Rattle.library_spec.specs.Hosts.{makeExtract, selectFrom};
 use host_making::make_extract;
-use host_results::HostResult;
 use host_selecting::select_from;
+use hosts::results::HostResult;
 
 // Makes the extract of a journal for a bundle under a schema: the journal's table in the five columns, the extract in `out`.
 #[no_mangle]

@@ -8,13 +8,13 @@ use lib.Dec.{eqb}
 use lib.ListN.{length, getD, take, replicate, length-append, length-replicate}
 use lib.Seq.{length-take-le}
 use Rattle.library_spec.specs.Listing.{decimal, lineFeed, header}
-use Rattle.listed_files.specs.Files.{LinesFit}
-use Rattle.listed_files.specs.declared.Listed.{Listed}
-use Rattle.listing_lines.specs.Lines.{refusal, lineOf, rowLine, RowPass}
-use Rattle.row_chains.specs.Chains.{chainAt, chain-length}
+use Rattle.listing_files.specs.contents.Files.{LinesFit}
+use Rattle.listing_files.specs.declared.contents.Listed.{Listed}
+use Rattle.listing_text.specs.lines.Lines.{refusal, lineOf, rowLine, RowPass}
+use Rattle.chains.specs.tags.Chains.{chainAt, chain-length}
 use Rattle.text_spec.specs.Limits.{listingRows}
 use Rattle.text_spec.specs.Lists.{bytes}
-use Rattle.written_text.specs.Written.{WrittenAt, written-length, decimal-short}
+use Rattle.cells.specs.written_text.Written.{WrittenAt, written-length, decimal-short}
 
 pub record RowsPrinted (schema numbers codes ps firsts : List ℕ) (r : Listed) : Type 0 where
   pub fit : LinesFit schema codes ps r

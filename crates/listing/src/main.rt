@@ -2,15 +2,15 @@
 ghost use Rattle.io.specs.Counts.{Counts};
 ghost use Rattle.listing.specs.Prints.{RowsPrinted};
 use libc::STDOUT_FILENO;
-use limits::LISTED_BYTES;
-use limits::LISTED_ROWS;
-use limits::MAX_BUNDLE_BYTES;
-use limits::MAX_SCHEMA_BYTES;
-use listed_files::Listed;
+use listing_files::contents::Listed;
 use listing_files::list_files;
-use listing_headers::put_header;
-use listing_lines::put_row;
-use listing_parts::put_refusal;
+use listing_text::headers::put_header;
+use listing_text::lines::put_row;
+use listing_text::parts::put_refusal;
+use text::limits::LISTED_BYTES;
+use text::limits::LISTED_ROWS;
+use text::limits::MAX_BUNDLE_BYTES;
+use text::limits::MAX_SCHEMA_BYTES;
 
 // Each file is read to one byte past its limit, so that a longer one is refused by 2.
 const SCHEMA_BYTES: usize = MAX_SCHEMA_BYTES + 1;

@@ -1,25 +1,28 @@
 // The three files of a listing, read once: what is refused, or what the header and the lines are made of.
+pub mod contents;
+pub mod table;
+
 ghost use Rattle.compiled_paths.specs.Paths.{lentPaths, entryPaths};
-ghost use Rattle.listed_files.specs.Files.{RowsAsked, ListedRows, FilesLent, ListsAs};
+ghost use Rattle.listing_files.specs.contents.Files.{RowsAsked, ListedRows, FilesLent, ListsAs};
 ghost use Rattle.table_spec.specs.Columns.{columns};
+use crate::contents::Listed;
+use crate::contents::refused;
+use crate::table::kept_count;
+use crate::table::note_paths;
+use cells::verdicts::Verdict;
+use chains::tags::name_sizes;
 use compiled_paths::CONDITION_STARTS;
 use compiled_paths::PATH_STARTS;
 use compiled_paths::STEPS;
 use compiled_schema::CompiledSchema;
-use first_paths::selected_count;
-use host_texts::judge_texts;
-use journal_compiled::read_compiled;
-use limits::LISTED_BYTES;
-use listed_files::Listed;
-use listed_files::refused;
-use listing_table::kept_count;
-use listing_table::note_paths;
+use compiled_schema::entry_columns::Entries;
+use hosts::texts::judge_texts;
+use journal::compiled::read_compiled;
 use names::MAX_ELEMENTS;
 use names::NameSet;
-use needed_sets::needed_under;
-use row_chains::name_sizes;
-use schema_entries::Entries;
-use verdicts::Verdict;
+use needed_names::sets::needed_under;
+use selection::first_paths::selected_count;
+use text::limits::LISTED_BYTES;
 
 // What is listed of the rows of a journal.
 fn list_rows<'a>(

@@ -17,7 +17,7 @@ use Rattle.models.specs.declared.Ends.{Ends}
 use Rattle.schema_spec.specs.Models.{Particle, named, sequence, choice, repeated, uses}
 use Rattle.schema_spec.specs.Names.{hasBit}
 use Rattle.text_spec.specs.Limits.{maxModelNames}
-use Rattle.words.specs.Bits.{bit-none, bit-or}
+use Rattle.names.specs.bits.Bits.{bit-none, bit-or}
 use Rattle.text_laws.specs.Loops.{Passed}
 use Rattle.text_laws.specs.Searches.{below-or-past}
 

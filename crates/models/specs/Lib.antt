@@ -4,3 +4,4 @@ pub mod Automaton
 pub mod Building
 pub mod BuildingLaws
 pub mod Placing
+pub mod fitting

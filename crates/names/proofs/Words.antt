@@ -9,7 +9,7 @@ use lib.Bits.{bitOr, or-lt}
 use lib.Dec.{T, eqb, eqb→eq}
 use Rattle.schema_spec.specs.Names.{Name, element, text, sameName, hasBit}
 use Rattle.text_laws.specs.Tests.{passed}
-use Rattle.words.specs.Bits.{bit-or, bit-none, same-bits}
+use Rattle.names.specs.bits.Bits.{bit-or, bit-none, same-bits}
 use Rattle.names.specs.declared.NameSet.{NameSet}
 use Rattle.names.specs.Sets.{member}
 

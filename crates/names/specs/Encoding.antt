@@ -1,5 +1,5 @@
 -- Sets handed in and back as 64 bits: what two words must hold, and that this is right for the names of a schema.
-use mathlib.Core.Bool.{Bool, false, _&&_, or-false}
+use mathlib.Core.Bool.{Bool, false, _&&_, _||_, or-false}
 use mathlib.Core.List.{List·Memᴰ as In}
 use mathlib.Core.Logic.{_⊎_, inl, inr, ⊎-elim}
 use mathlib.Core.Path.{_≡_, refl, sym, ap, ap₂, subst, _∙_}
@@ -18,7 +18,7 @@ use Rattle.schema_spec.specs.Schemas.{Schema}
 use Rattle.text_laws.specs.Lists.{filter-cong}
 use Rattle.text_laws.specs.Tests.{decided, true-of, false-of, same-test}
 use Rattle.text_spec.specs.Limits.{maxDeclarations}
-use Rattle.words.specs.Bits.{bit-or, bit-past, bit-down, bit-up, bit-up-below, bit-cut, bit-cut-past, same-bits}
+use Rattle.names.specs.bits.Bits.{bit-or, bit-past, bit-down, bit-up, bit-up-below, bit-cut, bit-cut-past, same-bits}
 use Rattle.text_laws.specs.Searches.{below-or-past}
 
 -- the two words of a set that is handed in

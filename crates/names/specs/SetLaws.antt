@@ -17,7 +17,7 @@ use Rattle.text_laws.specs.Lists.{in-filter, filter-in, filter-cong, filter-fil
 use Rattle.text_laws.specs.Tests.{or-left, or-right, or-cases, and-intro, and-cases, failed, false-of, true-of, same-test}
 use Rattle.text_spec.specs.Limits.{maxDeclarations}
 use Rattle.text_spec.specs.Lists.{filterBy, isEmpty, anyBelow}
-use Rattle.words.specs.Bits.{bit-none}
+use Rattle.names.specs.bits.Bits.{bit-none}
 use Rattle.text_laws.specs.Searches.{any-below, below-any}
 
 -- a name is in a filtered set if it is in the set and passes

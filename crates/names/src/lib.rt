@@ -1,10 +1,17 @@
 // Sets of names: elements and text names, each as the bits of a word, by value.
+pub mod bits;
+pub mod closures;
+pub mod codes;
+pub mod known;
+pub mod related;
+
 ghost use mathlib.Core.Bool.{false, not, _&&_, _||_};
 ghost use mathlib.Core.Logic.{_↔_};
 ghost use mathlib.Core.Path.{_≡_};
 ghost use lib.Dec.{T, ltb};
 ghost use Rattle.schema_spec.specs.Names.{Name, element, text, sameName, has, setOfWord, wordOfSet};
 ghost use Rattle.names.specs.Sets.{member, setOf, everyName, overlap};
+use text::limits;
 
 // How many elements a schema may have.
 pub const MAX_ELEMENTS: usize = limits::MAX_DECLARATIONS;
@@ -28,7 +35,7 @@ impl NameSet {
     pub fn insert_element(self, e: usize) -> NameSet
         ensures { λ r. ⌜ ((n : Name) → member r n ≡ (member self n || (sameName n (element e) && ltb e 64))) ⌝ }
     {
-        let elements = words::with_bit(self.elements, e);
+        let elements = bits::with_bit(self.elements, e);
         NameSet {
             elements,
             texts: self.texts,
@@ -39,7 +46,7 @@ impl NameSet {
     pub fn insert_text(self, e: usize) -> NameSet
         ensures { λ r. ⌜ ((n : Name) → member r n ≡ (member self n || (sameName n (text e) && ltb e 64))) ⌝ }
     {
-        let texts = words::with_bit(self.texts, e);
+        let texts = bits::with_bit(self.texts, e);
         NameSet {
             elements: self.elements,
             texts,
@@ -49,13 +56,13 @@ impl NameSet {
     pub fn has_element(self, e: usize) -> bool
         ensures { λ r. ⌜ r ≡ member self (element e) ⌝ }
     {
-        words::has_bit(self.elements, e)
+        bits::has_bit(self.elements, e)
     }
 
     pub fn has_text(self, e: usize) -> bool
         ensures { λ r. ⌜ r ≡ member self (text e) ⌝ }
     {
-        words::has_bit(self.texts, e)
+        bits::has_bit(self.texts, e)
     }
 
     pub fn union(self, other: NameSet) -> NameSet
@@ -97,7 +104,7 @@ impl NameSet {
     pub fn meets(self, other: NameSet) -> bool
         ensures { λ r. ⌜ r ≡ overlap self other ⌝ }
     {
-        words::meets(self.elements, other.elements) || words::meets(self.texts, other.texts)
+        bits::meets(self.elements, other.elements) || bits::meets(self.texts, other.texts)
     }
 
     // The set that 64 bits hand in: bit e for element e, bit 32 + e for its text name.

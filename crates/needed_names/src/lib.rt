@@ -1,4 +1,12 @@
 // The names that a bundle needs: the union of what its paths need.
+pub mod alternatives;
+pub mod conditions;
+pub mod paths;
+pub mod reachable_names;
+pub mod records;
+pub mod sets;
+pub mod texts;
+
 ghost use mathlib.Core.Path.{_≡_};
 ghost use Prim.Native.Nat.{_≤_};
 ghost use lib.ListN.{length};
@@ -9,15 +17,17 @@ ghost use Rattle.inference_spec.specs.Needed.{needed};
 ghost use Rattle.schema_spec.specs.Schemas.{Schema};
 ghost use Rattle.schema_spec.specs.Types.{typesOf};
 ghost use Rattle.text_spec.specs.Limits.{maxDeclarations};
-ghost use Rattle.type_steps.specs.Relations.{RelationsOf};
+ghost use Rattle.inference.specs.type_steps.Relations.{RelationsOf};
 ghost use Rattle.names.specs.Sets.{NamesOf, Known, setIn};
-use back_steps::together;
+use crate::paths::path_needed;
 use compiled_paths::CONDITION_STARTS;
 use compiled_paths::PATH_STARTS;
 use compiled_paths::STEPS;
+use compiled_paths::ranges;
+use inference::back_steps::together;
 use names::MAX_ELEMENTS;
 use names::NameSet;
-use needed_paths::path_needed;
+use names::known;
 
 // The names that `n` paths from `i` on need.
 fn paths_needed(
@@ -69,7 +79,7 @@ pub fn needed_set<'a>(
     requires { ⌜ Shaped (lentPaths (now axes) (now tests) (now conditions) (now paths) total) × (count ≤ maxDeclarations) ⌝ }
     ensures { λ r. ⌜ ((s : Schema) → RelationsOf s holds below → count ≡ length s → (setIn s r ≡ needed (typesOf s) (pathsIn (entryPaths axes tests conditions paths total))) × Known s r) ⌝ }
 {
-    let all = known_names::names_of(holds, count);
+    let all = known::names_of(holds, count);
     let whole = paths_needed(all, holds, below, axes, tests, conditions, paths, 0, total);
     whole.common(all)
 }

@@ -24,7 +24,7 @@ use Rattle.library_spec.specs.Conditions.{SchemaJudged, BundleJudged, JournalJu
 use Rattle.library_spec.specs.Records.{schemaHeld, bundleHeld, LentTable, tableHeld, tableBeside}
 use Rattle.text_spec.specs.Records.{TextRecord}
 use Rattle.library_spec.specs.Selections.{askedPaths, Selections, selections}
-use Rattle.schema_reading_laws.specs.Reading.{schema-read, schema-read-once}
+use Rattle.schema_laws.specs.reading.Reading.{schema-read, schema-read-once}
 use Rattle.schema_spec.specs.Reading.{readSchema}
 use Rattle.schema_spec.specs.Schemas.{Schema}
 use Rattle.schema_spec.specs.Types.{typesOf}

@@ -34,7 +34,7 @@ use Rattle.library_spec.specs.Selections.{askedPaths, Selections, selections}
 use Rattle.schema_laws.specs.Accepted.{accepted-filled, accepted-closed}
 use Rattle.schema_laws.specs.Names.{within-in}
 use Rattle.schema_laws.specs.Words.{in-setOfWord}
-use Rattle.schema_reading_laws.specs.Reading.{schema-read-once}
+use Rattle.schema_laws.specs.reading.Reading.{schema-read-once}
 use Rattle.schema_spec.specs.Names.{Name, codeOf, hasBit, setOfWord}
 use Rattle.schema_spec.specs.Schemas.{Schema}
 use Rattle.schema_spec.specs.Types.{Types, typesOf}

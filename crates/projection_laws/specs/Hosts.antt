@@ -18,7 +18,7 @@ use Rattle.projection_laws.specs.Handed.{sizes-equal, equal-sized}
 use Rattle.extract_spec.specs.Reading.{readExtract}
 use Rattle.library_spec.specs.Conditions.{SchemaJudged, BundleJudged, SchemaTaken, BundleTaken, TooFewCells, InLent, Makes, OutOfRange, in-no-bundle, not-here, Selects}
 use Rattle.library_spec.specs.Hosts.{HostAnswer, Lent, inLent, makeExtract, bundlePaths, inRange, selectFrom}
-use Rattle.schema_reading_laws.specs.Reading.{schema-read, schema-read-once}
+use Rattle.schema_laws.specs.reading.Reading.{schema-read, schema-read-once}
 use Rattle.schema_spec.specs.Reading.{readSchema}
 use Rattle.schema_spec.specs.Schemas.{Schema}
 use Rattle.schema_spec.specs.Types.{typesOf}

@@ -31,3 +31,4 @@ pub mod RoundTrip
 pub mod SameTables
 pub mod WrittenBytes
 pub mod Demand3
+pub mod extract_passes

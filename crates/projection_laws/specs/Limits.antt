@@ -24,7 +24,7 @@ use Rattle.library_spec.specs.Hosts.{Lent, hostAnswer, inLent, extractOf, makeE
 use Rattle.library_spec.specs.Listing.{FilesRead, judgeFiles, listingData, refusedLine, listed, listing}
 use Rattle.library_spec.specs.Records.{schemaHeld}
 use Rattle.text_spec.specs.Records.{TextRecord}
-use Rattle.schema_reading_laws.specs.Reading.{schema-read}
+use Rattle.schema_laws.specs.reading.Reading.{schema-read}
 use Rattle.schema_spec.specs.Conditions.{SchemaApplies, SchemaGives}
 use Rattle.schema_spec.specs.Conditions as schemas
 use Rattle.schema_spec.specs.Reading.{readSchema}

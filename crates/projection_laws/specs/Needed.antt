@@ -16,7 +16,7 @@ use Rattle.projection_laws.specs.Walks.{bundle-needs, needs-bundle}
 use Rattle.schema_laws.specs.Accepted.{accepted-length, accepted-filled, accepted-closed}
 use Rattle.schema_laws.specs.Names.{within-in}
 use Rattle.schema_laws.specs.Words.{Coded, schema-coded, word-has, has-word, word-named, word-below}
-use Rattle.schema_reading_laws.specs.Reading.{schema-read-once}
+use Rattle.schema_laws.specs.reading.Reading.{schema-read-once}
 use Rattle.schema_spec.specs.Names.{Name, Names, codeOf, hasBit, namesOf}
 use Rattle.schema_spec.specs.Reading.{readSchema}
 use Rattle.schema_spec.specs.Schemas.{Schema}

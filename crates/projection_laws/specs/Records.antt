@@ -16,7 +16,7 @@ use Rattle.library_spec.specs.Records.{passesSchema, passesBundle, schemaHeld, 
 use Rattle.text_spec.specs.Records.{TextRecord, textIn, recordOf, isRecord}
 use Rattle.schema_laws.specs.Accepted.{accepted-spelt}
 use Rattle.schema_laws.specs.Records.{normal-accepted, producible-record, record-accepted}
-use Rattle.schema_reading_laws.specs.Reading.{schema-read, schema-read-once}
+use Rattle.schema_laws.specs.reading.Reading.{schema-read, schema-read-once}
 use Rattle.schema_spec.specs.Conditions.{SchemaApplies, SchemaGives}
 use Rattle.schema_spec.specs.Reading.{readSchema}
 use Rattle.schema_spec.specs.Records.{normal, schemaIn, producible, isSchemaRecord}

@@ -20,7 +20,7 @@ use Rattle.library_spec.specs.Hosts.{HostAnswer, Lent, extractOf}
 use Rattle.library_spec.specs.Records.{LentTable}
 use Rattle.text_spec.specs.Records.{TextRecord}
 use Rattle.schema_laws.specs.Accepted.{accepted-element, accepted-held}
-use Rattle.schema_reading_laws.specs.Reading.{schema-read-once}
+use Rattle.schema_laws.specs.reading.Reading.{schema-read-once}
 use Rattle.schema_spec.specs.Names.{Name, element, text, isText, namesOf}
 use Rattle.schema_spec.specs.Schemas.{Schema}
 use Rattle.schema_spec.specs.Types.{typesOf}

@@ -1,1 +1,3 @@
 pub mod Structs
+pub mod laws
+pub mod refused

@@ -13,7 +13,7 @@ use Rattle.table_spec.specs.Columns.{Columns, cellsAt, cellsFrom}
 use Rattle.table_spec.specs.Rows.{Row as TableRow, Cells}
 use Rattle.text_spec.specs.Limits.{maxNodes}
 use Rattle.text_spec.specs.Refusals.{Outcome}
-use Rattle.verdicts.specs.Verdicts.{verdict}
+use Rattle.cells.specs.verdicts.Verdicts.{verdict}
 
 -- a struct's numbers
 abbrev pub cellsIn : Row → Cells

@@ -1,7 +1,10 @@
 // Rows as structs, and the columns that a table of them has inside the library.
+pub mod refused;
+
 ghost use mathlib.Core.Path.{_≡_};
 ghost use Rattle.row_structs.specs.Structs.{cellOf};
-use verdicts::Verdict;
+use cells::verdicts::Verdict;
+use text::limits;
 
 // How many rows a table has at most.
 pub const MAX_ROWS: usize = limits::MAX_NODES;

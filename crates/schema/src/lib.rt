@@ -1,7 +1,18 @@
 // Schemas: the type with its limits, and what judging a schema text can answer.
+pub mod contents;
+pub mod declaration_limits;
+pub mod declarations;
+pub mod groups;
+pub mod indicators;
+pub mod particles;
+pub mod places;
+pub mod separators;
+pub mod used_names;
+
 ghost use mathlib.Core.Path.{_≡_};
 ghost use Rattle.schema.specs.Judging.{emptySchema, reasonOf};
 ghost use Rattle.text_spec.specs.Refusals.{numberOf};
+use text::limits;
 
 // A schema: an accepted text in its normal form, in the first `len` bytes; the others are 0.
 pub struct Schema {

@@ -1,4 +1,11 @@
 // Reading schema texts: the judgement, and the schema in its record, which is the text's normal form.
+pub mod declaration_judging;
+pub mod declared_names;
+pub mod name_judging;
+pub mod normal_form;
+pub mod record_cells;
+pub mod text_judging;
+
 ghost use mathlib.Core.Path.{_≡_};
 ghost use Rattle.schema_reader.specs.Records.{ReadAs, passesRecord};
 ghost use Rattle.text_spec.specs.Lists.{sameBytes};
@@ -14,8 +21,8 @@ pub struct SchemaRead {
 pub fn read_schema(text: &[u8]) -> SchemaRead
     ensures { λ r. ⌜ ReadAs (now (text .entry)) r ⌝ }
 {
-    let judgement = schema_judging::judge_schema(text);
-    let schema = normal_schemas::handed_back(judgement, normal_schemas::recorded(text));
+    let judgement = text_judging::judge_schema(text);
+    let schema = record_cells::handed_back(judgement, record_cells::recorded(text));
     SchemaRead { judgement, schema }
 }
 

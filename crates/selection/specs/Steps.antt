@@ -11,14 +11,14 @@ use Rattle.compiled_paths.specs.Columns.{stepAt, stepsIn, pathAt}
 use Rattle.compiled_paths.specs.Paths.{AtMost, Shaped}
 use Rattle.compiled_paths.specs.Sizes.{writtenSteps, allSteps}
 use Rattle.compiled_paths.specs.declared.CompiledPaths.{CompiledPaths}
-use Rattle.row_marks.specs.Columns.{isMarked, no-row-marked}
-use Rattle.marks.specs.Roots.{steps-none}
-use Rattle.marks.specs.Selection.{noMarks, stepMarks, stepsMarks, rootMarks, pathMarks}
-use Rattle.step_passes.specs.Steps.{TableColumns, MarkColumn, marks-column}
-use Rattle.step_passes.specs.Tests.{namesIn}
+use Rattle.cells.specs.row_sets.Columns.{isMarked, no-row-marked}
+use Rattle.selection_laws.specs.marks.Roots.{steps-none}
+use Rattle.selection_laws.specs.marks.Selection.{noMarks, stepMarks, stepsMarks, rootMarks, pathMarks}
+use Rattle.axis_passes.specs.steps.Steps.{TableColumns, MarkColumn, marks-column}
+use Rattle.axis_passes.specs.steps.Tests.{namesIn}
 use Rattle.text_spec.specs.Limits.{maxPaths}
 use Rattle.text_spec.specs.Lists.{anyBelow}
-use Rattle.written_steps.specs.Steps.{Scratch, StepAtPass, FirstAtPass, step-column}
+use Rattle.axis_passes.specs.written_steps.Steps.{Scratch, StepAtPass, FirstAtPass, step-column}
 
 -- ---- what the passes ask
 pub record StepsPass (ps codes conditions : List ℕ) (first size : ℕ) (m held steps next : List ℕ) : Type 0 where

@@ -1,18 +1,28 @@
 // The rows that a compiled path selects, marked: its steps one after the other from the root.
+pub mod answers;
+pub mod asked;
+pub mod first_paths;
+pub mod joined_paths;
+pub mod lent;
+pub mod one_path;
+pub mod records;
+pub mod row_numbers;
+pub mod table;
+
 ghost use mathlib.Core.Path.{_≡_};
 ghost use lib.ListN.{length};
 ghost use Rattle.compiled_paths.specs.Columns.{stepsIn, pathAt};
-ghost use Rattle.marks.specs.Selection.{stepsMarks, pathMarks, rootMarks};
+ghost use Rattle.selection_laws.specs.marks.Selection.{stepsMarks, pathMarks, rootMarks};
 ghost use Rattle.selection.specs.Steps.{StepsPass, RootStepsPass, PathPass};
-ghost use Rattle.step_passes.specs.Tests.{namesIn};
+ghost use Rattle.axis_passes.specs.steps.Tests.{namesIn};
+use axis_passes::mark_sets::any_marked;
+use axis_passes::root::mark_root;
+use axis_passes::written_steps::first_step;
+use axis_passes::written_steps::range_size;
+use axis_passes::written_steps::step;
 use compiled_paths::CONDITION_STARTS;
 use compiled_paths::PATH_STARTS;
 use compiled_paths::STEPS;
-use mark_sets::any_marked;
-use root_passes::mark_root;
-use written_steps::first_step;
-use written_steps::range_size;
-use written_steps::step;
 
 // The rows that `size` written steps, the first of them at `first`, lead to from the marked ones. From no row nothing is reached.
 fn steps_from<'a>(

@@ -4,9 +4,9 @@ use mathlib.Core.List.{List, [], _∷_, map}
 use mathlib.Core.Path.{_≡_, refl, sym, ap, _∙_}
 use Prim.Native.Nat.{ℕ}
 use lib.ListN.{length}
-use Rattle.row_marks.specs.Columns.{marks, union, intersection, picked}
-use Rattle.marks.specs.Parents.{imageMarks}
-use Rattle.marks.specs.Selection.{inverseMarks, noMarks, testMarks, alternativeMarks, alternativesMarks, conditionMarks}
+use Rattle.cells.specs.row_sets.Columns.{marks, union, intersection, picked}
+use Rattle.selection_laws.specs.marks.Parents.{imageMarks}
+use Rattle.selection_laws.specs.marks.Selection.{inverseMarks, noMarks, testMarks, alternativeMarks, alternativesMarks, conditionMarks}
 use Rattle.path_laws.specs.Inverses.{inverse, inverse-axis}
 use Rattle.path_spec.specs.Paths.{WrittenAxis, along, PlainStep, Condition, unconditional, alternatives}
 use Rattle.path_spec.specs.Selection.{passes, onAxis, onWritten, stepFrom, pathFrom, always, holdsAt}

@@ -3,3 +3,4 @@ pub mod Marked
 pub mod Conditions
 pub mod Paths
 pub mod Meaning
+pub mod marks

@@ -7,9 +7,9 @@ use Prim.Native.Nat.{ℕ, zero, suc}
 use native.Mathlib.Omega.{arith}
 use lib.Dec.{eqb}
 use lib.ListN.{length, getD, getElem?, length-map}
-use Rattle.row_marks.specs.Columns.{RowSet, mark, isMarked, marks, union, intersection, picked, mark-test, marks-length, marks-marked}
-use Rattle.marks.specs.Parents.{rowOnAxis, image, imageMarks}
-use Rattle.marks.specs.Selection.{testMarks}
+use Rattle.cells.specs.row_sets.Columns.{RowSet, mark, isMarked, marks, union, intersection, picked, mark-test, marks-length, marks-marked}
+use Rattle.selection_laws.specs.marks.Parents.{rowOnAxis, image, imageMarks}
+use Rattle.selection_laws.specs.marks.Selection.{testMarks}
 use Rattle.path_spec.specs.Paths.{Axis, NodeTest}
 use Rattle.path_spec.specs.Selection.{passes, onAxis}
 use Rattle.selection_laws.specs.Axes.{axis-rows}

@@ -7,9 +7,9 @@ use Prim.Native.Nat.{ℕ, _<_}
 use native.Mathlib.Omega.{arith}
 use lib.Dec.{T}
 use lib.ListN.{length}
-use Rattle.row_marks.specs.Columns.{isMarked, marks-marked}
-use Rattle.marks.specs.Parents.{rowOnAxis, image, imageMarks}
-use Rattle.marks.specs.Selection.{conditionMarks}
+use Rattle.cells.specs.row_sets.Columns.{isMarked, marks-marked}
+use Rattle.selection_laws.specs.marks.Parents.{rowOnAxis, image, imageMarks}
+use Rattle.selection_laws.specs.marks.Selection.{conditionMarks}
 use Rattle.path_laws.specs.Selection.{test-on-axis, on-axis-test, test-holds, holds-test}
 use Rattle.path_spec.specs.Paths.{Axis, Condition}
 use Rattle.path_spec.specs.Selection.{OnAxis, Holds}

@@ -9,8 +9,8 @@ use native.Mathlib.Omega.{arith}
 use borrow.Author.Tests.{eq-eqb, ne-eqb}
 use lib.Dec.{T, eqb}
 use lib.ListN.{length, getElem?}
-use Rattle.row_marks.specs.Columns.{intersection, picked}
-use Rattle.marks.specs.Selection.{writtenMarks, testMarks, conditionMarks, stepMarks, stepsMarks, rootMarks, startMarks, pathMarks, selectColumns}
+use Rattle.cells.specs.row_sets.Columns.{intersection, picked}
+use Rattle.selection_laws.specs.marks.Selection.{writtenMarks, testMarks, conditionMarks, stepMarks, stepsMarks, rootMarks, startMarks, pathMarks, selectColumns}
 use Rattle.table_laws.specs.Columns.{parentsOf, namesOf, numbersOf}
 use Rattle.path_spec.specs.Paths.{WrittenAxis, along, WrittenStep, Condition, Start, rootElement, LocationPath}
 use Rattle.path_spec.specs.Selection.{passes, onWritten, stepFrom, pathFrom, holdsAt, startNodes, selected, select, selectRows}

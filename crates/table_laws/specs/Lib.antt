@@ -7,3 +7,4 @@ pub mod Parents
 pub mod Codes
 pub mod Limits
 pub mod Columns
+pub mod passes

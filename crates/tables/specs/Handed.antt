@@ -7,15 +7,15 @@ use Prim.Native.Nat.{ℕ}
 use native.Mathlib.Omega.{arith}
 use lib.Dec.{eqb, leb, eqb→eq, leb→le}
 use lib.ListN.{length}
-use Rattle.lent_cells.specs.Ends.{Slice, entryColumns}
+use Rattle.cells.specs.lent.Ends.{Slice, entryColumns}
 use Rattle.library_spec.specs.Records.{LentTable, rowsLent, keptIf, tableHeld, tableBeside}
 use Rattle.schema_spec.specs.Schemas.{Schema}
 use Rattle.schema_spec.specs.Types.{typesOf}
-use Rattle.table_passes.specs.Codes.{HeldWords}
-use Rattle.table_passes.specs.Passes.{rowsPass}
-use Rattle.table_passes.specs.Tables.{passesRows, rows-pass}
-use Rattle.table_passes.specs.Texts.{textsPass, beside-pass}
-use Rattle.table_rows.specs.Lent.{Lent}
+use Rattle.table_laws.specs.passes.Codes.{HeldWords}
+use Rattle.table_laws.specs.passes.Passes.{rowsPass}
+use Rattle.table_laws.specs.passes.Tables.{passesRows, rows-pass}
+use Rattle.table_laws.specs.passes.Texts.{textsPass, beside-pass}
+use Rattle.tables.specs.rows.Lent.{Lent}
 use Rattle.table_spec.specs.Columns.{sizesOf, equalSizes, cellsFrom, columns}
 use Rattle.table_spec.specs.Rows.{Row, rowsOf}
 use Rattle.table_spec.specs.Tables.{wellFormed, wellFormedWith}

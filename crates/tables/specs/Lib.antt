@@ -1,1 +1,4 @@
 pub mod Handed
+pub mod foreign_bytes
+pub mod row_text
+pub mod rows

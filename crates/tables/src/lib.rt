@@ -1,15 +1,25 @@
 // Tables that are handed in as lent columns: the test of refusal 1, without a text beside them and with one.
+pub mod foreign_bytes;
+pub mod later_rows;
+pub mod range_tests;
+pub mod row_counts;
+pub mod row_limits;
+pub mod row_tests;
+pub mod row_text;
+pub mod rows;
+pub mod text_ranges;
+
 ghost use mathlib.Core.Bool.{_&&_};
 ghost use mathlib.Core.Path.{_≡_};
 ghost use lib.Dec.{leb};
 ghost use Rattle.schema_spec.specs.Schemas.{Schema};
 ghost use Rattle.schema_spec.specs.Types.{typesOf};
-ghost use Rattle.table_passes.specs.Codes.{HeldWords};
+ghost use Rattle.table_laws.specs.passes.Codes.{HeldWords};
 ghost use Rattle.table_spec.specs.Columns.{equalSizes};
 ghost use Rattle.tables.specs.Handed.{isHeld, isBeside, entryTable};
+use crate::rows::rows_fit;
+use crate::text_ranges::texts_pass;
 use names::MAX_ELEMENTS;
-use table_rows::rows_fit;
-use text_ranges::texts_pass;
 
 // Whether columns of these lengths are of one length, and have so many rows.
 fn sizes_fit(

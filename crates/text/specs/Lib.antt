@@ -1,1 +1,7 @@
 pub mod Places
+pub mod classes
+pub mod fault_keys
+pub mod lookup
+pub mod name_bytes
+pub mod name_words
+pub mod scanning

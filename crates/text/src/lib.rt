@@ -1,4 +1,12 @@
 // Bytes of a text: blanks, names, and the first byte that may stand in no text.
+pub mod classes;
+pub mod fault_keys;
+pub mod limits;
+pub mod lookup;
+pub mod name_bytes;
+pub mod name_words;
+pub mod scanning;
+
 ghost use mathlib.Core.Path.{_≡_};
 ghost use Rattle.text.specs.Places.{foreignPlace};
 ghost use Rattle.text_spec.specs.Bytes.{isBlank, isForeign, startsName, continuesName};
@@ -19,19 +27,19 @@ pub fn is_blank(b: u8) -> bool
 pub fn is_foreign(b: u8) -> bool
     ensures { λ r. ⌜ r ≡ isForeign b ⌝ }
 {
-    byte_classes::foreign(byte_classes::class_of(b))
+    classes::foreign(classes::class_of(b))
 }
 
 pub fn starts_name(b: u8) -> bool
     ensures { λ r. ⌜ r ≡ startsName b ⌝ }
 {
-    byte_classes::in_name(byte_classes::class_of(b), false, b == b'_')
+    classes::in_name(classes::class_of(b), false, b == b'_')
 }
 
 pub fn continues_name(b: u8) -> bool
     ensures { λ r. ⌜ r ≡ continuesName b ⌝ }
 {
-    byte_classes::in_name(byte_classes::class_of(b), true, byte_classes::joins_name(b))
+    classes::in_name(classes::class_of(b), true, classes::joins_name(b))
 }
 
 // The place of the first byte that fails refusal 3, or the length.

@@ -2,7 +2,7 @@
 use borrow.Author.Needs.{needs}
 use mathlib.Core.Path.{refl}
 use Rattle.extract_reader.specs.Whole.{begun-by}
-use Rattle.field_reader.specs.declared.First.the-variants as first
+use Rattle.extract_reader.specs.declared.fields.First.the-variants as first
 use Rattle.extract_reader.proofs.begin.Statement.{statement}
 use Rattle.extract_reader.proofs.begin.Tie as tie
 

@@ -3,7 +3,7 @@ use borrow.Author.Needs.{needs}
 use mathlib.Core.Path.{_≡_, refl}
 use lib.ListN.{length}
 use Rattle.extract_reader.specs.Whole.{stands-begun, bytesLeft, going-reads, fewer-left, rows-read, same-sizes}
-use Rattle.extract_steps.specs.Reads.{Stands}
+use Rattle.extract_reader.specs.steps.Reads.{Stands}
 use native.Mathlib.Omega.{arith}
 use Rattle.extract_reader.proofs.read_rows.Statement.{statement}
 use Rattle.extract_reader.proofs.read_rows.Tie as tie

@@ -7,12 +7,12 @@ use mathlib.Core.List.{List}
 use mathlib.Core.Path.{_≡_, sym, _∙_}
 use Prim.Native.Nat.{ℕ}
 use Rattle.extract_writer.specs.Outcomes.{no-record, no-table, table-columns, table-written}
-use Rattle.lent_extracts.specs.Answers.{same-answer}
+use Rattle.extract_writer.specs.answers.Answers.{same-answer}
 use Rattle.library_spec.specs.Records.{LentTable, passesSchema}
 use Rattle.text_spec.specs.Records.{TextRecord, textIn}
-use Rattle.row_text.specs.Answers.{beside-lent}
+use Rattle.tables.specs.row_text.Answers.{beside-lent}
 use Rattle.schema_reader.specs.Sizes.{record-low}
-use Rattle.schema_records.specs.Records.{recordWith, passes-schema}
+use Rattle.compiled_schema.specs.records.Records.{recordWith, passes-schema}
 use Rattle.schema_spec.specs.Records.{schemaIn}
 use Rattle.schema_spec.specs.Schemas.{Schema}
 use Rattle.tables.specs.Handed.{lentTable, isBeside}

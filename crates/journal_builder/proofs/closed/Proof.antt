@@ -3,7 +3,7 @@ use Prim.Native.Nat.{_≤_}
 use native.Mathlib.Omega.{arith}
 use borrow.Author.Tests.{leb-true}
 use denote.Ref.{now}
-use Rattle.build_state.specs.State.{judgedFrom}
+use Rattle.journal_builder.specs.build_state.State.{judgedFrom}
 use Rattle.journal_builder.specs.Events.{judged-unbroken, empty-closed, empty-broken}
 use borrow.Author.Needs.{needs}
 use Rattle.journal_builder.proofs.closed.Statement.{statement}

@@ -4,8 +4,8 @@ use native.Mathlib.Omega.{arith}
 use borrow.Author.Tests.{not-true, not-false, eq-eqb, ne-eqb}
 use denote.Ref.{now}
 use lib.Dec.{eqb}
-use Rattle.build_state.specs.State.{noRow, step}
-use Rattle.build_laws.specs.StateLaws.{leaves-as, leaves-kept, safe-as}
+use Rattle.journal_builder.specs.build_state.State.{noRow, step}
+use Rattle.journal_builder.specs.laws.StateLaws.{leaves-as, leaves-kept, safe-as}
 use Rattle.journal_builder.specs.Events.{startEvent, tagEvent, judged-unbroken, event-judged, event-broken, kept-safe, ends-leaves, ends-safe}
 use Rattle.journal_spec.specs.Builder.{onUnbroken}
 use Rattle.journal_spec.specs.Lexer.{ends}

@@ -2,8 +2,8 @@ use mathlib.Core.Bool.{Bool}
 use mathlib.Core.Path.{_≡_, refl, sym, ap, subst, _∙_}
 use native.Mathlib.Omega.{arith}
 use denote.Ref.{now}
-use Rattle.build_laws.specs.Starts.{start-innermost}
-use Rattle.build_laws.specs.StateLaws.{leaves-as}
+use Rattle.journal_builder.specs.laws.Starts.{start-innermost}
+use Rattle.journal_builder.specs.laws.StateLaws.{leaves-as}
 use Rattle.journal_builder.specs.Events.{startEvent}
 use Rattle.journal_spec.specs.Builder.{onStart, onUnbroken}
 use Rattle.schema_spec.specs.Schemas.{elementNamed}

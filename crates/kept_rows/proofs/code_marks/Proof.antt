@@ -2,8 +2,8 @@ use mathlib.Core.Path.{refl, sym}
 use Prim.Native.Nat.{_-_}
 use lib.ListN.{length}
 use Rattle.kept_rows.specs.Kept.{inSet, codeCount, codes-next}
-use Rattle.row_marks.specs.Columns.{marks, marks-length}
-use Rattle.row_marks.specs.Loops.{Forward, forward-none, forward-all}
+use Rattle.cells.specs.row_sets.Columns.{marks, marks-length}
+use Rattle.cells.specs.row_sets.Loops.{Forward, forward-none, forward-all}
 use borrow.Author.Needs.{needs}
 use native.Mathlib.Omega.{arith}
 use Rattle.kept_rows.proofs.code_marks.Statement.{statement}

@@ -2,8 +2,8 @@ use Prim.Native.Nat.{_-_, _<_}
 use mathlib.Core.Path.{_≡_, _∙_}
 use lib.ListN.{length}
 use Rattle.kept_rows.specs.Kept.{codeCount, keptMarks, KeptPass, table-marks, kept-table, kept-none, pass-first, kept-begun, kept-next, kept-all}
-use Rattle.row_marks.specs.Columns.{marks, isMarked}
-use Rattle.row_marks.specs.Loops.{Forward}
+use Rattle.cells.specs.row_sets.Columns.{marks, isMarked}
+use Rattle.cells.specs.row_sets.Loops.{Forward}
 use borrow.Author.Needs.{needs}
 use native.Mathlib.Omega.{arith}
 use Rattle.kept_rows.proofs.mark_kept.Statement.{statement}

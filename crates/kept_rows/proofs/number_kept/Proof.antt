@@ -3,7 +3,7 @@ use mathlib.Core.Path.{_≡_}
 use lib.ListN.{length}
 use Rattle.kept_rows.specs.Kept.{codeCount, keptMarks, KeptPass, table-marks, kept-table, pass-first, code-mark-small}
 use Rattle.kept_rows.specs.Positions.{Numbering, numbered-none, numbering-begun, numbering-again, numbering-all, kept-size, numbering-few, numbered-same}
-use Rattle.row_marks.specs.Columns.{marks, isMarked}
+use Rattle.cells.specs.row_sets.Columns.{marks, isMarked}
 use borrow.Author.Needs.{needs}
 use native.Mathlib.Omega.{arith}
 use Rattle.kept_rows.proofs.number_kept.Statement.{statement}

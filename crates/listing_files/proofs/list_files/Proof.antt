@@ -1,7 +1,7 @@
 -- `list_files` meets its contract: the two texts, the journal, its rows.
 use mathlib.Core.Path.{sym, _∙_}
 use lib.Seq.{take-at}
-use Rattle.listed_files.specs.FileLaws.{texts-refused-lists, journal-refused-lists, rows-rooms, firsts-room, rows-asked, rows-list, taken-size}
+use Rattle.listing_files.specs.contents.FileLaws.{texts-refused-lists, journal-refused-lists, rows-rooms, firsts-room, rows-asked, rows-list, taken-size}
 use borrow.Author.Needs.{needs}
 use native.Mathlib.Omega.{arith}
 use Rattle.listing_files.proofs.list_files.Statement.{statement}

@@ -1,6 +1,6 @@
 -- `list_rows` meets its contract: the needed names, the rows kept, the first paths, the names.
 use mathlib.Core.Path.{refl, sym, _∙_}
-use Rattle.listed_files.specs.Files.{names-all}
+use Rattle.listing_files.specs.contents.Files.{names-all}
 use Rattle.compiled_schema.specs.Places.{compiled-few}
 use borrow.Author.Needs.{needs}
 use Rattle.listing_files.proofs.list_rows.Statement.{statement}

@@ -2,8 +2,8 @@
 use mathlib.Core.Bool.{true}
 use mathlib.Core.Path.{ap, _∙_}
 use Rattle.text_spec.specs.Bytes.{classOf, continuesName}
-use Rattle.byte_classes.specs.Classes.{meant, joinsName, inName}
-use Rattle.byte_classes.specs.Runs.{by-class}
+use Rattle.text.specs.classes.Classes.{meant, joinsName, inName}
+use Rattle.text.specs.classes.Runs.{by-class}
 use native.Mathlib.Omega.{arith}
 use borrow.Author.Needs.{needs}
 use Rattle.text.proofs.continues_name.Statement.{statement}

@@ -1,8 +1,8 @@
 -- `is_foreign` meets its contract: the class of the byte tells.
 use mathlib.Core.Path.{_∙_}
 use Rattle.text_spec.specs.Bytes.{classOf, isForeign}
-use Rattle.byte_classes.specs.Classes.{isForeignClass}
-use Rattle.byte_classes.specs.Runs.{by-class}
+use Rattle.text.specs.classes.Classes.{isForeignClass}
+use Rattle.text.specs.classes.Runs.{by-class}
 use native.Mathlib.Omega.{arith}
 use borrow.Author.Needs.{needs}
 use Rattle.text.proofs.is_foreign.Statement.{statement}

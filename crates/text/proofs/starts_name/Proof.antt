@@ -3,8 +3,8 @@ use mathlib.Core.Bool.{false}
 use mathlib.Core.Path.{_∙_}
 use lib.Dec.{eqb}
 use Rattle.text_spec.specs.Bytes.{classOf, startsName}
-use Rattle.byte_classes.specs.Classes.{inName}
-use Rattle.byte_classes.specs.Runs.{by-class}
+use Rattle.text.specs.classes.Classes.{inName}
+use Rattle.text.specs.classes.Runs.{by-class}
 use native.Mathlib.Omega.{arith}
 use borrow.Author.Needs.{needs}
 use Rattle.text.proofs.starts_name.Statement.{statement}

@@ -1,7 +1,7 @@
 -- `names::NameSet::common` meets its contract, by a law of each bit.
 use mathlib.Core.Bool.{_&&_}
 use lib.Bits.{bitAnd}
-use Rattle.words.specs.Bits.{bit-and}
+use Rattle.names.specs.bits.Bits.{bit-and}
 use Rattle.names.proofs.Words.{on-names}
 use Rattle.names.proofs.NameSet.common.Statement.{statement}
 use Rattle.names.proofs.NameSet.common.Tie as tie

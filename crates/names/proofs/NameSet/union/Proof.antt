@@ -1,7 +1,7 @@
 -- `names::NameSet::union` meets its contract, by a law of each bit.
 use mathlib.Core.Bool.{_||_}
 use lib.Bits.{bitOr}
-use Rattle.words.specs.Bits.{bit-or}
+use Rattle.names.specs.bits.Bits.{bit-or}
 use Rattle.names.proofs.Words.{on-names}
 use Rattle.names.proofs.NameSet.union.Statement.{statement}
 use Rattle.names.proofs.NameSet.union.Tie as tie

@@ -1,7 +1,7 @@
 -- `names::NameSet::without` meets its contract, by a law of each bit.
 use mathlib.Core.Bool.{not, _&&_}
 use lib.Bits.{bitAnd, bitXor}
-use Rattle.words.specs.Bits.{bit-without}
+use Rattle.names.specs.bits.Bits.{bit-without}
 use Rattle.names.proofs.Words.{on-names}
 use Rattle.names.proofs.NameSet.without.Statement.{statement}
 use Rattle.names.proofs.NameSet.without.Tie as tie

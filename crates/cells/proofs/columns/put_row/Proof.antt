@@ -1,0 +1,22 @@
+use denote.Ref.{now}
+use borrow.Author.Needs.{needs}
+use Rattle.cells.specs.columns.ColumnLaws.{row-in, row-out}
+use Rattle.cells.specs.columns.Columns.{cells}
+use Rattle.cells.proofs.columns.put_row.Statement.{statement}
+use Rattle.cells.proofs.columns.put_row.Tie as tie
+use Rattle.table_spec.specs.Columns.{columns}
+
+returns : tie.Need-returns
+returns c =
+    let g = c .before .args in
+    row-in (columns (now (g .numbers)) (now (g .names)) (now (g .parents)) (now (g .starts)) (now (g .lengths))) (g .r) (cells (g .r) (g .row)) (c .before .pre) (c .if1 .taken)
+
+returns-2 : tie.Need-returns-2
+returns-2 c =
+    let g = c .before .args in
+    row-out (columns (now (g .numbers)) (now (g .names)) (now (g .parents)) (now (g .starts)) (now (g .lengths))) (g .r) (cells (g .r) (g .row)) (c .before .pre) (c .if1 .left)
+
+pub put-row-spec : {M : Type 1} → statement M
+put-row-spec =
+    tie.close
+    (tie.spec (λ c. search needs) (λ c. search needs) (λ c. search needs) (λ c. search needs) (λ c. search needs) (λ c. search needs) (λ c. search needs) (λ c. search needs) (λ c. search needs) (λ c. search needs) (λ c. search needs) (λ c. search needs) (λ c. search needs) (λ c. search needs) (λ c. search needs) returns returns-2)

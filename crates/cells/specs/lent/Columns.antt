@@ -1,0 +1,26 @@
+-- The five columns that are lent for a table, cleared from a row on.
+use mathlib.Core.List.{List, []}
+use mathlib.Core.Path.{_≡_}
+use Prim.Native.Nat.{ℕ}
+use Rattle.cells.specs.lent.Cells.{Cleared, all-cleared}
+use Rattle.table_spec.specs.Columns.{Columns, sizesOf, columnsOf}
+
+abbrev pub table : List ℕ → List ℕ → List ℕ → List ℕ → List ℕ → Columns
+table numbers names parents starts lengths = record { numbers = numbers; names = names; parents = parents; starts = starts; lengths = lengths }
+
+-- the cells past n rows are cleared
+pub record ClearedFrom (x : Columns) (n : ℕ) (y : Columns) : Type 0 where
+  pub numbers : Cleared (x .numbers) n (y .numbers)
+  pub names : Cleared (x .names) n (y .names)
+  pub parents : Cleared (x .parents) n (y .parents)
+  pub starts : Cleared (x .starts) n (y .starts)
+  pub lengths : Cleared (x .lengths) n (y .lengths)
+
+same-columns : {a b d e f a' b' d' e' f' : List ℕ} → a ≡ a' → b ≡ b' → d ≡ d' → e ≡ e' → f ≡ f' → table a b d e f ≡ table a' b' d' e' f'
+same-columns p q r s t = rw (p, q, r, s, t)
+
+-- no row is left
+pub columns-cleared : (x y : Columns) → ClearedFrom x 0 y → y ≡ columnsOf (sizesOf x) []
+columns-cleared x y w =
+    same-columns (all-cleared (x .numbers) (y .numbers) (w .numbers)) (all-cleared (x .names) (y .names) (w .names)) (all-cleared (x .parents) (y .parents) (w .parents))
+    (all-cleared (x .starts) (y .starts) (w .starts)) (all-cleared (x .lengths) (y .lengths) (w .lengths))

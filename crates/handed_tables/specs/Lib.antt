@@ -1,0 +1,3 @@
+pub mod calls
+pub mod columns
+pub mod structs

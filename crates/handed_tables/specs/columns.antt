@@ -1,0 +1,3 @@
+-- Theorems: the columns of a table that is handed in are those of the rows that it holds, and are those of a tested table (`Rows`, `Held`).
+pub mod Rows
+pub mod Held

@@ -1,0 +1,31 @@
+-- `refuse_selecting` meets its contract: every cell cleared.
+use Rattle.hosts.specs.refusals.Refusals.{all-refused}
+use Rattle.hosts.proofs.refusals.refuse_selecting.Statement.{statement}
+use Rattle.hosts.proofs.refusals.refuse_selecting.Tie as tie
+use Rattle.table_spec.specs.Columns.{columns}
+
+abbrev cleared : tie.After-result → tie.After-clear
+cleared c = c .before .before .before .before .before .before .before .before .before .before .before .before .before .before .before .before .before .before .before
+
+returns : tie.Need-returns
+returns c =
+    let at = cleared c .before .before .before .before .before .before .before .before .before .before .before .before .before .args in
+    let lent = columns (at .numbers .now) (at .names .now) (at .parents .now) (at .starts .now) (at .lengths .now) in
+    all-refused _ _ lent _ _ _ _ _ _ (cleared c .clear .ensures) (c .before .before .before .before .before .before .before .clear-numbers .ensures) (c .before .before .before .clear-places .ensures) (c .result .ensures)
+
+pub refuse-selecting-spec : {M : Type 1} → statement M
+refuse-selecting-spec =
+    tie.close
+    (tie.spec
+    (λ c κs. tt)
+    (λ c κs. tt)
+    (λ c κs. tt)
+    (λ c κs. tt)
+    (λ c. cleared c .clear .kept .0)
+    (λ c. cleared c .clear .kept .1 .0)
+    (λ c. cleared c .clear .kept .1 .1 .0)
+    (λ c. cleared c .clear .kept .1 .1 .1 .0)
+    (λ c. cleared c .clear .kept .1 .1 .1 .1 .0)
+    (λ c. c .before .before .before .before .before .before .before .clear-numbers .kept .0)
+    (λ c. c .before .before .before .clear-places .kept .0)
+    returns)

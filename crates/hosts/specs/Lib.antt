@@ -1,0 +1,5 @@
+pub mod columns
+pub mod laws
+pub mod refusals
+pub mod results
+pub mod texts

@@ -1,0 +1,2 @@
+pub mod compiled
+pub mod records

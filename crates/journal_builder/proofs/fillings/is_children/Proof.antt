@@ -1,0 +1,14 @@
+use borrow.Author.Tests.{eq-eqb, ne-eqb}
+use mathlib.Core.Path.{refl}
+use borrow.Author.Needs.{needs}
+use Rattle.journal_builder.proofs.fillings.is_children.Statement.{statement}
+use Rattle.journal_builder.proofs.fillings.is_children.Tie as tie
+
+returns : tie.Need-returns
+returns c = rw (eq-eqb (c .before .args .kind) 2 (c .if1 .taken)) refl
+
+returns-2 : tie.Need-returns-2
+returns-2 c = rw (ne-eqb (c .before .args .kind) 2 (c .if1 .left)) refl
+
+pub is-children-spec : {M : Type 1} → statement M
+is-children-spec = tie.close (tie.spec returns returns-2)

@@ -1,7 +1,0 @@
--- The modes that loops over character data read in.
-use mathlib.Core.Bool.{Bool}
-use Prim.Native.Nat.{ℕ}
-use Rattle.journal_loop_laws.specs.Advance.{only, either}
-
-abbrev pub dataMode : ℕ → Bool
-dataMode = either (only 0) (either (only 1) (only 2))

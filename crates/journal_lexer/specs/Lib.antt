@@ -1,0 +1,9 @@
+pub mod character_data
+pub mod data_loops
+pub mod kinds
+pub mod loop_laws
+pub mod run_laws
+pub mod state
+pub mod step
+pub mod tag_loops
+pub mod tags

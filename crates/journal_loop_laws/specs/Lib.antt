@@ -1,3 +1,0 @@
-pub mod Advance
-pub mod Laws
-pub mod Turns

@@ -1,0 +1,10 @@
+pub mod byte_loop
+pub mod end
+pub mod event_rows
+pub mod event_step
+pub mod findings
+pub mod event_loop
+pub mod rows
+pub mod state
+pub mod step
+pub mod verdict

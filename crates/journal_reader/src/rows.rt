@@ -1,0 +1,26 @@
+// The row that a step of the builder begins, put into the lent columns.
+ghost use Rattle.journal_reader.specs.rows.Rows.{RowAdded};
+ghost use Rattle.cells.specs.columns.Columns.{EqualColumns};
+ghost use Rattle.table_spec.specs.Columns.{columns};
+ghost use Rattle.cells.specs.lent.Ends.{exitColumns, entryColumns};
+use cells::columns;
+use journal_builder::build_state::BuildStep;
+
+// Puts the row, if a node has begun since there were `count`.
+pub fn add_row(
+    numbers: &mut [u16],
+    names: &mut [u8],
+    parents: &mut [u16],
+    starts: &mut [u32],
+    lengths: &mut [u16],
+    count: usize,
+    x: BuildStep,
+)
+    requires { ⌜ EqualColumns (columns (now numbers) (now names) (now parents) (now starts) (now lengths)) ⌝ }
+    ensures { λ _. ⌜ RowAdded (entryColumns numbers names parents starts lengths) count x (exitColumns numbers names parents starts lengths) ⌝ }
+{
+    let build = x.build;
+    if build.count != count {
+        columns::put_row(numbers, names, parents, starts, lengths, count, x.row);
+    }
+}

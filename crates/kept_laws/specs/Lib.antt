@@ -1,4 +1,0 @@
-pub mod Picked
-pub mod Cut
-pub mod Codes
-pub mod Known

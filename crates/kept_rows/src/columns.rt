@@ -1,0 +1,111 @@
+// Cutting a table in columns to a set of names, into other lent columns.
+ghost use lib.ListN.{length};
+ghost use Rattle.kept_rows.specs.Kept.{inSet};
+ghost use Rattle.cells.specs.lent.Cells.{Cleared};
+ghost use Rattle.kept_rows.specs.cut_rows.Rows.{table, OfLength};
+ghost use Rattle.kept_rows.specs.columns.Cut.{Cutting, CutAs, TableColumns};
+ghost use Rattle.cells.specs.lent.Ends.{exitColumns, entryColumns};
+use crate::NOT_KEPT;
+use crate::cut_rows::write_rows;
+use crate::number_kept;
+use cells::lent;
+use cells::lent::clear_columns;
+use names::NameSet;
+use text::limits::MAX_NODES;
+
+// `cells::lent::clear_bytes`, which extracts call by this name.
+pub fn clear_bytes(out: &mut [u8], n: usize)
+    ensures { λ _. ⌜ Cleared (now (out .entry)) n (now (out .exit)) ⌝ }
+{
+    lent::clear_bytes(out, n);
+}
+
+// Cuts a table to a set of names: the rows kept, and then zeros, or zeros alone where there is too little room. Gives how many rows are
+// kept. `positions` is scratch, a cell for each row.
+fn cut_into(
+    set: NameSet,
+    numbers: &[u16],
+    names: &[u8],
+    parents: &[u16],
+    starts: &[u32],
+    lengths: &[u16],
+    positions: &mut [u16],
+    out_numbers: &mut [u16],
+    out_names: &mut [u8],
+    out_parents: &mut [u16],
+    out_starts: &mut [u32],
+    out_lengths: &mut [u16],
+) -> usize
+    requires { ⌜ Cutting (table (now numbers) (now names) (now parents) (now starts) (now lengths)) (now positions) (table (now «out_numbers») (now «out_names») (now «out_parents») (now «out_starts») (now «out_lengths»)) ⌝ }
+    ensures { λ n. ⌜ CutAs (inSet set) (entryColumns numbers names parents starts lengths) (entryColumns «out_numbers» «out_names» «out_parents» «out_starts» «out_lengths») n (exitColumns «out_numbers» «out_names» «out_parents» «out_starts» «out_lengths») ⌝ }
+{
+    let n = number_kept(set, names, parents, positions) as usize;
+    if out_numbers.len() < n {
+        clear_columns(
+            out_numbers,
+            out_names,
+            out_parents,
+            out_starts,
+            out_lengths,
+            0,
+        );
+        return n;
+    }
+    write_rows(
+        numbers,
+        names,
+        parents,
+        starts,
+        lengths,
+        &positions[..],
+        out_numbers,
+        out_names,
+        out_parents,
+        out_starts,
+        out_lengths,
+    );
+    clear_columns(
+        out_numbers,
+        out_names,
+        out_parents,
+        out_starts,
+        out_lengths,
+        n,
+    );
+    n
+}
+
+// The same with scratch of its own: two bytes for each row that there can be, 131,070 in all.
+pub fn cut(
+    set: NameSet,
+    numbers: &[u16],
+    names: &[u8],
+    parents: &[u16],
+    starts: &[u32],
+    lengths: &[u16],
+    out_numbers: &mut [u16],
+    out_names: &mut [u8],
+    out_parents: &mut [u16],
+    out_starts: &mut [u32],
+    out_lengths: &mut [u16],
+) -> usize
+    requires { ⌜ TableColumns (table (now numbers) (now names) (now parents) (now starts) (now lengths)) × OfLength (table (now «out_numbers») (now «out_names») (now «out_parents») (now «out_starts») (now «out_lengths»)) (length (now «out_numbers»)) ⌝ }
+    ensures { λ n. ⌜ CutAs (inSet set) (entryColumns numbers names parents starts lengths) (entryColumns «out_numbers» «out_names» «out_parents» «out_starts» «out_lengths») n (exitColumns «out_numbers» «out_names» «out_parents» «out_starts» «out_lengths») ⌝ }
+{
+    let mut positions = [NOT_KEPT; MAX_NODES];
+    let count = parents.len();
+    cut_into(
+        set,
+        numbers,
+        names,
+        parents,
+        starts,
+        lengths,
+        &mut positions[..count],
+        out_numbers,
+        out_names,
+        out_parents,
+        out_starts,
+        out_lengths,
+    )
+}

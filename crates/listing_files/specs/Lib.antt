@@ -1,0 +1,3 @@
+pub mod contents
+pub mod laws
+pub mod table

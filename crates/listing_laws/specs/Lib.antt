@@ -1,5 +1,0 @@
-pub mod Numbers
-pub mod Firsts
-pub mod Rows
-pub mod Sizes
-pub mod Files

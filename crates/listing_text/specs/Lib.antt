@@ -1,0 +1,4 @@
+pub mod headers
+pub mod lines
+pub mod nodes
+pub mod parts

@@ -1,0 +1,21 @@
+use Rattle.cells.specs.lent.Appended.{written-in, written-out}
+use borrow.Author.Needs.{needs}
+use native.Mathlib.Omega.{arith}
+use Rattle.selection.proofs.row_numbers.put.Statement.{statement}
+use Rattle.selection.proofs.row_numbers.put.Tie as tie
+
+returns : tie.Need-returns
+returns c = written-in _ _ _ (c .if1 .taken)
+
+returns-2 : tie.Need-returns-2
+returns-2 c = written-out _ _ _ (omega arith)
+
+pub put-spec : {M : Type 1} → statement M
+put-spec =
+    tie.close
+    (tie.spec
+    (λ c. search needs)
+    (λ c. search needs)
+    (λ c. search needs)
+    returns
+    returns-2)

@@ -1,0 +1,60 @@
+// The numbers that compiled paths select on a table in columns, joined and counted, in lent cells.
+ghost use Rattle.compiled_paths.specs.Paths.{lentPaths, entryPaths};
+ghost use Rattle.selection.specs.joined_paths.Joined.{AllPass, JoinedAs};
+use crate::one_path::select_one;
+use crate::row_numbers::put_count;
+use cells::lent::clear_numbers;
+use cells::lent::clear_places;
+use compiled_paths::CONDITION_STARTS;
+use compiled_paths::PATH_STARTS;
+use compiled_paths::STEPS;
+
+// Writes the numbers that the paths from `first` to before `end` select, joined, and how many each selects; past them zeros. Gives how many
+// numbers they are: more than there are cells where the room is too small.
+pub fn select_paths<'a>(
+    axes: &'a [u8; STEPS],
+    tests: &'a [u8; STEPS],
+    conditions: &'a [u16; CONDITION_STARTS],
+    paths: &'a [u8; PATH_STARTS],
+    first: usize,
+    end: usize,
+    numbers: &[u16],
+    codes: &[u8],
+    parents: &[u16],
+    items: &mut [u16],
+    counts: &mut [u32],
+    marks: &mut [u8],
+    held: &mut [u8],
+    steps: &mut [u8],
+    next: &mut [u8],
+) -> usize
+    requires { ⌜ AllPass (lentPaths (now axes) (now tests) (now conditions) (now paths) end) first end (now numbers) (now codes) (now parents) (now marks) (now held) (now steps) (now next) ⌝ }
+    ensures { λ n. ⌜ JoinedAs (entryPaths axes tests conditions paths end) first end (now (numbers .entry)) (now (codes .entry)) (now (parents .entry)) (now (items .entry)) (now (counts .entry)) n (now (items .exit)) (now (counts .exit)) ⌝ }
+{
+    let mut n: usize = 0;
+    let mut i = first;
+    while i < end {
+        let m = select_one(
+            numbers,
+            codes,
+            parents,
+            axes,
+            tests,
+            conditions,
+            paths,
+            i,
+            items,
+            n,
+            marks,
+            held,
+            steps,
+            next,
+        );
+        put_count(counts, i - first, (m - n) as u32);
+        n = m;
+        i += 1;
+    }
+    clear_numbers(items, n);
+    clear_places(counts, end - first);
+    n
+}

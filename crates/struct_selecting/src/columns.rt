@@ -1,0 +1,53 @@
+// Selecting on a table of row structs that are laid in columns, under the records of a schema and a bundle.
+ghost use mathlib.Core.List.{List};
+ghost use mathlib.Core.Path.{_≡_};
+ghost use lib.ListN.{length};
+ghost use Rattle.library_spec.specs.Calls.{nodesSelectedRows};
+ghost use Rattle.row_structs.specs.Structs.{Laid, columnsIn};
+ghost use Rattle.compiled_schema.specs.records.Records.{recordWith};
+ghost use Rattle.selection.specs.answers.Answers.{AnsweredCells};
+ghost use Rattle.table_spec.specs.Rows.{Cells};
+use bundle::reader::Bundle;
+use row_structs::RowColumns;
+use schema::Schema;
+use selection::answers::Selected;
+use selection::answers::bad_record;
+use selection::records::select_nodes;
+use tables::row_counts::are_too_many;
+
+// Selects on a table of so many row structs, of which no more are laid in the columns than a table can have.
+pub fn select_columns(
+    schema: Schema,
+    bundle: Bundle,
+    place: usize,
+    columns: RowColumns,
+    count: usize,
+    lent: &[u8],
+    items: &mut [u16],
+    counts: &mut [u32],
+) -> Selected
+    ensures { λ r. ⌜ ((rows : List Cells) → length rows ≡ count → Laid rows (columnsIn columns) → AnsweredCells (nodesSelectedRows (recordWith (schema .bytes) (schema .len)) (recordWith (bundle .bytes) (bundle .len)) place rows (now (lent .entry))) r items counts) ⌝ }
+{
+    if are_too_many(count) {
+        return bad_record(items, counts);
+    }
+    let numbers = columns.numbers;
+    let names = columns.names;
+    let parents = columns.parents;
+    let starts = columns.starts;
+    let lengths = columns.lengths;
+    select_nodes(
+        schema,
+        bundle,
+        place,
+        &numbers,
+        &names,
+        &parents,
+        &starts,
+        &lengths,
+        count,
+        lent,
+        items,
+        counts,
+    )
+}

@@ -1,1 +1,0 @@
-// Definitions and theorems alone: they stand in specs/.
