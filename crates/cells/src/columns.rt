@@ -2,8 +2,8 @@
 ghost use mathlib.Core.List.{[]};
 ghost use mathlib.Core.Path.{_≡_};
 ghost use Rattle.cells.specs.columns.Columns.{EqualColumns, cells, withRow};
-ghost use Rattle.table_spec.specs.Columns.{columnsOf, columns};
-ghost use Rattle.cells.specs.lent.Ends.{exitColumns, entrySizes, entryColumns};
+ghost use Rattle.table_spec.specs.Columns.{columnsOf};
+ghost use Rattle.cells.specs.lent.Ends.{exitColumns, entrySizes, entryColumns, heldColumns};
 use crate::lent;
 use text::limits::MAX_NODES;
 
@@ -28,7 +28,7 @@ pub fn put_row(
     r: usize,
     row: RowCells,
 )
-    requires { ⌜ EqualColumns (columns (now numbers) (now names) (now parents) (now starts) (now lengths)) ⌝ }
+    requires { ⌜ EqualColumns (heldColumns numbers names parents starts lengths) ⌝ }
     ensures { λ _. ⌜ exitColumns numbers names parents starts lengths ≡ withRow (entryColumns numbers names parents starts lengths) r (cells r row) ⌝ }
 {
     if r < numbers.len() {

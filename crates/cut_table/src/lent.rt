@@ -1,10 +1,9 @@
 // Cutting a table that has passed its test into other lent columns.
 ghost use Rattle.cut_table.specs.laws.Answers.{Cuttable, CutFirst};
-ghost use Rattle.kept_rows.specs.cut_rows.Rows.{table};
 ghost use Rattle.handed_tables.specs.calls.Rows.{firstCells};
 ghost use Rattle.kept_rows.specs.Kept.{inSet};
 ghost use Rattle.tables.specs.Handed.{lentTable};
-ghost use Rattle.cells.specs.lent.Ends.{exitColumns, entryColumns};
+ghost use Rattle.cells.specs.lent.Ends.{exitColumns, entryColumns, heldColumns};
 use crate::answers::answer_in;
 use cells::verdicts::Verdict;
 use kept_rows::columns::cut;
@@ -25,7 +24,7 @@ pub fn cut_first(
     out_starts: &mut [u32],
     out_lengths: &mut [u16],
 ) -> Verdict
-    requires { ⌜ Cuttable (lentTable (now numbers) (now codes) (now parents) (now starts) (now lengths) count) (table (now «out_numbers») (now «out_names») (now «out_parents») (now «out_starts») (now «out_lengths»)) ⌝ }
+    requires { ⌜ Cuttable (lentTable (now numbers) (now codes) (now parents) (now starts) (now lengths) count) (heldColumns «out_numbers» «out_names» «out_parents» «out_starts» «out_lengths») ⌝ }
     ensures { λ r. ⌜ CutFirst (inSet set) (firstCells count (entryColumns numbers codes parents starts lengths)) (entryColumns «out_numbers» «out_names» «out_parents» «out_starts» «out_lengths») r (exitColumns «out_numbers» «out_names» «out_parents» «out_starts» «out_lengths») ⌝ }
 {
     let room = out_numbers.len();

@@ -14,8 +14,7 @@ ghost use mathlib.Core.List.{[]};
 ghost use Rattle.extract_reader.specs.Whole.{Begun, RowsRead};
 ghost use Rattle.extract_reader.specs.steps.Reads.{Hold};
 ghost use Rattle.cells.specs.columns.Columns.{EqualColumns};
-ghost use Rattle.table_spec.specs.Columns.{columns};
-ghost use Rattle.cells.specs.lent.Ends.{exitColumns, entrySizes};
+ghost use Rattle.cells.specs.lent.Ends.{exitColumns, entrySizes, heldColumns};
 use crate::field_values::Carried;
 use crate::fields::First;
 use crate::fields::first_field;
@@ -76,7 +75,7 @@ pub fn read_rows(
     starts: &mut [u32],
     lengths: &mut [u16],
 ) -> RowsFound
-    requires { ⌜ EqualColumns (columns (now numbers) (now names) (now parents) (now starts) (now lengths)) × Hold (columns (now numbers) (now names) (now parents) (now starts) (now lengths)) [] ⌝ }
+    requires { ⌜ EqualColumns (heldColumns numbers names parents starts lengths) × Hold (heldColumns numbers names parents starts lengths) [] ⌝ }
     ensures { λ r. ⌜ RowsRead (now (extract .entry)) (now (words .entry)) (entrySizes numbers names parents starts lengths) (exitColumns numbers names parents starts lengths) r ⌝ }
 {
     let mut levels = [0u64; MAX_DEPTH];

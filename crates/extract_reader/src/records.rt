@@ -1,9 +1,9 @@
 // Reading an extract under a schema's record, into lent columns.
 ghost use mathlib.Core.Path.{_≡_};
-ghost use Rattle.library_spec.specs.Calls.{extractRead, columnsAfter};
+ghost use Rattle.library_spec.specs.Calls.{extractRead};
 ghost use Rattle.compiled_schema.specs.records.Records.{recordWith};
 ghost use Rattle.cells.specs.verdicts.Verdicts.{verdict};
-ghost use Rattle.cells.specs.lent.Ends.{exitColumns, entrySizes};
+ghost use Rattle.cells.specs.lent.Ends.{entrySizes, LeftRows};
 use crate::table::read_extract_table;
 use cells::columns;
 use cells::sizes::equal_sizes;
@@ -24,7 +24,7 @@ pub fn read_extract(
     lengths: &mut [u16],
 ) -> Verdict
     ensures { λ r. ⌜ r ≡ verdict (extractRead (recordWith (schema .bytes) (schema .len)) (now (extract .entry)) (entrySizes numbers names parents starts lengths)) ⌝ }
-    ensures { λ r. ⌜ exitColumns numbers names parents starts lengths ≡ columnsAfter (entrySizes numbers names parents starts lengths) (λ rows. rows) (extractRead (recordWith (schema .bytes) (schema .len)) (now (extract .entry)) (entrySizes numbers names parents starts lengths)) ⌝ }
+    ensures { λ r. ⌜ LeftRows (extractRead (recordWith (schema .bytes) (schema .len)) (now (extract .entry))) numbers names parents starts lengths ⌝ }
 {
     if is_schema_record(schema) {
         if equal_sizes(

@@ -3,8 +3,7 @@ ghost use mathlib.Core.Path.{_≡_};
 ghost use Rattle.extract_reader.specs.steps.Reads.{Reads, ReadOn};
 ghost use Rattle.extract_reader.specs.field_rows.Steps.{rowCells};
 ghost use Rattle.cells.specs.columns.Columns.{EqualColumns, withRow};
-ghost use Rattle.table_spec.specs.Columns.{columns};
-ghost use Rattle.cells.specs.lent.Ends.{exitColumns, entryColumns};
+ghost use Rattle.cells.specs.lent.Ends.{exitColumns, entryColumns, heldColumns};
 use crate::field_rows::FieldRow;
 use crate::field_rows::FieldStep;
 use crate::field_rows::step;
@@ -29,7 +28,7 @@ fn put_row(
     n: usize,
     row: FieldRow,
 )
-    requires { ⌜ EqualColumns (columns (now numbers) (now names) (now parents) (now starts) (now lengths)) ⌝ }
+    requires { ⌜ EqualColumns (heldColumns numbers names parents starts lengths) ⌝ }
     ensures { λ _. ⌜ exitColumns numbers names parents starts lengths ≡ withRow (entryColumns numbers names parents starts lengths) n (rowCells row) ⌝ }
 {
     if n < numbers.len() {
@@ -53,7 +52,7 @@ pub fn read_row(
     lengths: &mut [u16],
     carried: Carried,
 ) -> Progress
-    requires { ⌜ Reads (now extract) (now words) (now levels) (columns (now numbers) (now names) (now parents) (now starts) (now lengths)) carried ⌝ }
+    requires { ⌜ Reads (now extract) (now words) (now levels) (heldColumns numbers names parents starts lengths) carried ⌝ }
     ensures { λ p. ⌜ ReadOn (now (extract .entry)) (now (words .entry)) (carried .at) (now (levels .exit)) (exitColumns numbers names parents starts lengths) p ⌝ }
 {
     match step(extract, words, levels, carried) {

@@ -3,8 +3,7 @@ ghost use mathlib.Core.List.{[]};
 ghost use Rattle.extract_reader.specs.steps.Reads.{Hold};
 ghost use Rattle.extract_reader.specs.table.Tables.{Judged, TableRead};
 ghost use Rattle.cells.specs.columns.Columns.{EqualColumns};
-ghost use Rattle.table_spec.specs.Columns.{columns};
-ghost use Rattle.cells.specs.lent.Ends.{exitColumns, entryColumns};
+ghost use Rattle.cells.specs.lent.Ends.{exitColumns, entryColumns, heldColumns};
 use crate::RowsFound;
 use crate::verdict::verdict_of;
 use cells::columns;
@@ -23,7 +22,7 @@ fn judge(
     starts: &mut [u32],
     lengths: &mut [u16],
 ) -> Verdict
-    requires { ⌜ EqualColumns (columns (now numbers) (now names) (now parents) (now starts) (now lengths)) × Hold (columns (now numbers) (now names) (now parents) (now starts) (now lengths)) [] ⌝ }
+    requires { ⌜ EqualColumns (heldColumns numbers names parents starts lengths) × Hold (heldColumns numbers names parents starts lengths) [] ⌝ }
     ensures { λ r. ⌜ Judged (now (extract .entry)) (now (words .entry)) (entryColumns numbers names parents starts lengths) (exitColumns numbers names parents starts lengths) r ⌝ }
 {
     let size = numbers.len();
@@ -52,7 +51,7 @@ pub fn read_extract_table(
     starts: &mut [u32],
     lengths: &mut [u16],
 ) -> Verdict
-    requires { ⌜ EqualColumns (columns (now numbers) (now names) (now parents) (now starts) (now lengths)) ⌝ }
+    requires { ⌜ EqualColumns (heldColumns numbers names parents starts lengths) ⌝ }
     ensures { λ r. ⌜ TableRead (now (extract .entry)) (now (words .entry)) (entryColumns numbers names parents starts lengths) (exitColumns numbers names parents starts lengths) r ⌝ }
 {
     columns::clear(numbers, names, parents, starts, lengths);

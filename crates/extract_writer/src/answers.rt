@@ -1,13 +1,12 @@
 // The extract of a tested table in lent bytes, and the answer where the table has not passed.
 ghost use mathlib.Core.Bool.{true};
 ghost use lib.ListN.{length};
-ghost use Rattle.kept_rows.specs.cut_rows.Rows.{table};
 ghost use Rattle.extract_writer.specs.rows.Rows.{TextColumns};
 ghost use Rattle.extract_writer.specs.writing.Extract.{extractIn};
 ghost use Rattle.cells.specs.verdicts.Verdicts.{inBytes, AnsweredBytes, AnsweredSlice};
 ghost use Rattle.cells.specs.row_sets.Columns.{marks};
 ghost use Rattle.text_spec.specs.Refusals.{refused, at, badRecord};
-ghost use Rattle.cells.specs.lent.Ends.{entryColumns};
+ghost use Rattle.cells.specs.lent.Ends.{entryColumns, heldColumns};
 use crate::writing::write_table;
 use cells::verdicts;
 use cells::verdicts::BAD_RECORD;
@@ -33,7 +32,7 @@ pub fn write_in_room(
     lengths: &[u16],
     out: &mut [u8],
 ) -> Verdict
-    requires { ⌜ TextColumns (now text) (table (now numbers) (now codes) (now parents) (now starts) (now lengths)) (length (now numbers)) ⌝ }
+    requires { ⌜ TextColumns (now text) (heldColumns numbers codes parents starts lengths) (length (now numbers)) ⌝ }
     ensures { λ r. ⌜ AnsweredSlice (λ n. inBytes n (extractIn (now (text .entry)) (entryColumns numbers codes parents starts lengths) (marks (length (now (numbers .entry))) (λ r. true)))) r out ⌝ }
 {
     let room = out.len();

@@ -1,11 +1,10 @@
 // The fields of the marked rows of a table in columns: how many bytes they take, and writing them.
 ghost use mathlib.Core.Path.{_≡_};
 ghost use lib.ListN.{length};
-ghost use Rattle.kept_rows.specs.cut_rows.Rows.{table};
 ghost use Rattle.extract_writer.specs.rows.Measure.{markedSize, MeasurePass, MeasuredAs};
 ghost use Rattle.extract_writer.specs.rows.Rows.{fieldAt, markedField, fieldSize, RowPass, StoredAt, FieldsPass};
 ghost use Rattle.kept_rows.specs.Joined.{joined};
-ghost use Rattle.cells.specs.lent.Ends.{entryColumns};
+ghost use Rattle.cells.specs.lent.Ends.{entryColumns, heldColumns};
 use crate::fields::ELEMENT_BYTES;
 use crate::fields::TEXT_HEAD_BYTES;
 use crate::fields::put_element;
@@ -69,7 +68,7 @@ fn put_row(
     out: &mut [u8],
     at: usize,
 ) -> usize
-    requires { ⌜ RowPass (now text) (table (now numbers) (now names) (now parents) (now starts) (now lengths)) mark r (now out) at ⌝ }
+    requires { ⌜ RowPass (now text) (heldColumns numbers names parents starts lengths) mark r (now out) at ⌝ }
     ensures { λ n. ⌜ StoredAt (now (out .entry)) at (markedField (now (text .entry)) (entryColumns numbers names parents starts lengths) mark r) n (now (out .exit)) ⌝ }
 {
     if mark != MARKED {
@@ -101,7 +100,7 @@ pub fn write_fields(
     marks: &[u8],
     out: &mut [u8],
 ) -> usize
-    requires { ⌜ FieldsPass (now text) (table (now numbers) (now names) (now parents) (now starts) (now lengths)) (now marks) (now out) ⌝ }
+    requires { ⌜ FieldsPass (now text) (heldColumns numbers names parents starts lengths) (now marks) (now out) ⌝ }
     ensures { λ n. ⌜ StoredAt (now (out .entry)) 0 (joined (fieldAt (now (text .entry)) (entryColumns numbers names parents starts lengths)) (now (marks .entry)) (length (now (marks .entry)))) n (now (out .exit)) ⌝ }
 {
     let mut at = 0;

@@ -2,12 +2,11 @@
 // since a field has its parent's number and not its row.
 ghost use mathlib.Core.Bool.{true};
 ghost use lib.ListN.{length};
-ghost use Rattle.kept_rows.specs.cut_rows.Rows.{table};
 ghost use Rattle.extract_writer.specs.rows.Rows.{TextColumns};
 ghost use Rattle.extract_writer.specs.writing.Extract.{extractIn, BytesWritten, ExtractPass, KeptExtract};
 ghost use Rattle.kept_rows.specs.Kept.{inSet, keptMarks, KeptColumns};
 ghost use Rattle.cells.specs.row_sets.Columns.{marks};
-ghost use Rattle.cells.specs.lent.Ends.{entryColumns};
+ghost use Rattle.cells.specs.lent.Ends.{entryColumns, heldColumns};
 use crate::fields::COUNT_BYTES;
 use crate::fields::put_count;
 use crate::rows::measure;
@@ -30,7 +29,7 @@ fn write_marked(
     kept: &[u8],
     out: &mut [u8],
 ) -> usize
-    requires { ⌜ ExtractPass (now text) (table (now numbers) (now names) (now parents) (now starts) (now lengths)) (now kept) ⌝ }
+    requires { ⌜ ExtractPass (now text) (heldColumns numbers names parents starts lengths) (now kept) ⌝ }
     ensures { λ n. ⌜ BytesWritten (now (out .entry)) (extractIn (now (text .entry)) (entryColumns numbers names parents starts lengths) (now (kept .entry))) n (now (out .exit)) ⌝ }
 {
     let measured = measure(names, lengths, kept);
@@ -55,7 +54,7 @@ pub fn write_table(
     lengths: &[u16],
     out: &mut [u8],
 ) -> usize
-    requires { ⌜ TextColumns (now text) (table (now numbers) (now names) (now parents) (now starts) (now lengths)) (length (now numbers)) ⌝ }
+    requires { ⌜ TextColumns (now text) (heldColumns numbers names parents starts lengths) (length (now numbers)) ⌝ }
     ensures { λ n. ⌜ BytesWritten (now (out .entry)) (extractIn (now (text .entry)) (entryColumns numbers names parents starts lengths) (marks (length (now (numbers .entry))) (λ r. true))) n (now (out .exit)) ⌝ }
 {
     let every = [MARKED; MAX_NODES];
@@ -84,7 +83,7 @@ fn write_kept_into(
     kept: &mut [u8],
     out: &mut [u8],
 ) -> usize
-    requires { ⌜ KeptExtract (now text) (table (now numbers) (now names) (now parents) (now starts) (now lengths)) (now kept) ⌝ }
+    requires { ⌜ KeptExtract (now text) (heldColumns numbers names parents starts lengths) (now kept) ⌝ }
     ensures { λ n. ⌜ BytesWritten (now (out .entry)) (extractIn (now (text .entry)) (entryColumns numbers names parents starts lengths) (keptMarks (inSet set) (now (names .entry)) (now (parents .entry)))) n (now (out .exit)) ⌝ }
 {
     mark_kept(set, names, parents, kept);
@@ -111,7 +110,7 @@ pub fn write_kept(
     lengths: &[u16],
     out: &mut [u8],
 ) -> usize
-    requires { ⌜ TextColumns (now text) (table (now numbers) (now names) (now parents) (now starts) (now lengths)) (length (now numbers)) × KeptColumns (now names) (now parents) ⌝ }
+    requires { ⌜ TextColumns (now text) (heldColumns numbers names parents starts lengths) (length (now numbers)) × KeptColumns (now names) (now parents) ⌝ }
     ensures { λ n. ⌜ BytesWritten (now (out .entry)) (extractIn (now (text .entry)) (entryColumns numbers names parents starts lengths) (keptMarks (inSet set) (now (names .entry)) (now (parents .entry)))) n (now (out .exit)) ⌝ }
 {
     let mut kept = [UNMARKED; MAX_NODES];

@@ -4,11 +4,11 @@ ghost use Prim.Native.Nat.{_≤_};
 ghost use Rattle.compiled_paths.specs.Paths.{lentPaths, pathsIn, Shaped, entryPaths};
 ghost use Rattle.hosts.specs.laws.Stages.{madeUnder};
 ghost use Rattle.hosts.specs.results.Exits.{MakingExits};
-ghost use Rattle.host_making.specs.accepted.Making.{AnswerAs, FirstAsked, WrittenUnder, UnderTexts};
+ghost use Rattle.host_making.specs.accepted.Making.{AnswerAs, FirstAsked, UnderTexts, WrittenUnderIn};
 ghost use Rattle.schema_spec.specs.Records.{schemaIn};
 ghost use Rattle.table_spec.specs.Columns.{columns};
 ghost use Rattle.text_spec.specs.Limits.{maxDeclarations};
-ghost use Rattle.cells.specs.lent.Ends.{exitColumns, entryColumns};
+ghost use Rattle.cells.specs.lent.Ends.{exitColumns, entryColumns, heldColumns};
 use cells::columns;
 use cells::verdicts::TOO_FEW_CELLS;
 use compiled_paths::CONDITION_STARTS;
@@ -60,8 +60,8 @@ fn write_under<'a>(
     lengths: &mut [u16],
     out: &mut [u8],
 ) -> HostResult
-    requires { ⌜ Shaped (lentPaths (now axes) (now tests) (now conditions) (now paths) total) × (compiled .count ≤ maxDeclarations) × FirstAsked (now journal) (columns (now numbers) (now names) (now parents) (now starts) (now lengths)) rows ⌝ }
-    ensures { λ r. ⌜ WrittenUnder compiled (entryPaths axes tests conditions paths total) (now (journal .entry)) rows (entryColumns numbers names parents starts lengths) (exitColumns numbers names parents starts lengths) (now (out .entry)) (now (out .exit)) r ⌝ }
+    requires { ⌜ Shaped (lentPaths (now axes) (now tests) (now conditions) (now paths) total) × (compiled .count ≤ maxDeclarations) × FirstAsked (now journal) (heldColumns numbers names parents starts lengths) rows ⌝ }
+    ensures { λ r. ⌜ WrittenUnderIn compiled (entryPaths axes tests conditions paths total) journal rows numbers names parents starts lengths out r ⌝ }
 {
     let set = needed_under(compiled, axes, tests, conditions, paths, total);
     let bytes = write_kept(
@@ -95,7 +95,7 @@ pub fn make_under<'a>(
     lengths: &mut [u16],
     out: &mut [u8],
 ) -> HostResult
-    requires { ⌜ UnderTexts (now schema) compiled (lentPaths (now axes) (now tests) (now conditions) (now paths) total) (columns (now numbers) (now names) (now parents) (now starts) (now lengths)) ⌝ }
+    requires { ⌜ UnderTexts (now schema) compiled (lentPaths (now axes) (now tests) (now conditions) (now paths) total) (heldColumns numbers names parents starts lengths) ⌝ }
     ensures { λ r. ⌜ MakingExits (λ l. madeUnder (schemaIn (now (schema .entry))) (pathsIn (entryPaths axes tests conditions paths total)) (now (journal .entry)) (l .columns) (l .items)) r numbers names parents starts lengths out ⌝ }
 {
     let verdict = read_compiled(

@@ -2,11 +2,10 @@
 // paths asked for select on them.
 ghost use Prim.Native.Nat.{_≤_};
 ghost use Rattle.compiled_paths.specs.Paths.{lentPaths, pathsIn, Shaped, entryPaths};
-ghost use Rattle.host_selecting.specs.accepted.Choosing.{SelectedUnder, RowsAsked, UnderSchema, WordsIn, LastAs};
+ghost use Rattle.host_selecting.specs.accepted.Choosing.{RowsAsked, UnderSchema, WordsIn, LastAs, SelectedUnderIn, EverySchema};
 ghost use Rattle.hosts.specs.laws.Stages.{chosenUnder};
 ghost use Rattle.hosts.specs.results.Exits.{SelectingExits};
-ghost use Rattle.table_spec.specs.Columns.{columns};
-ghost use Rattle.cells.specs.lent.Ends.{exitColumns, entryColumns};
+ghost use Rattle.cells.specs.lent.Ends.{exitColumns, entryColumns, heldColumns};
 use cells::columns;
 use cells::lent::clear_numbers;
 use cells::lent::clear_places;
@@ -69,8 +68,8 @@ fn select_under<'a>(
     items: &mut [u16],
     counts: &mut [u32],
 ) -> HostResult
-    requires { ⌜ Shaped (lentPaths (now axes) (now tests) (now conditions) (now paths) total) × (place ≤ total) × RowsAsked (columns (now numbers) (now names) (now parents) (now starts) (now lengths)) rows ⌝ }
-    ensures { λ r. ⌜ SelectedUnder (entryPaths axes tests conditions paths total) place rows (entryColumns numbers names parents starts lengths) (exitColumns numbers names parents starts lengths) (now (items .entry)) (now (counts .entry)) (now (items .exit)) (now (counts .exit)) r ⌝ }
+    requires { ⌜ Shaped (lentPaths (now axes) (now tests) (now conditions) (now paths) total) × (place ≤ total) × RowsAsked (heldColumns numbers names parents starts lengths) rows ⌝ }
+    ensures { λ r. ⌜ SelectedUnderIn (entryPaths axes tests conditions paths total) place rows numbers names parents starts lengths items counts r ⌝ }
 {
     let selected = select_table(
         axes,
@@ -106,8 +105,8 @@ pub fn choose_under<'a>(
     items: &mut [u16],
     counts: &mut [u32],
 ) -> HostResult
-    requires { ⌜ UnderSchema compiled (lentPaths (now axes) (now tests) (now conditions) (now paths) total) place (columns (now numbers) (now names) (now parents) (now starts) (now lengths)) ⌝ }
-    ensures { λ r. ⌜ UnderSchema compiled (λ s. SelectingExits (chosenUnder s (pathsIn (entryPaths axes tests conditions paths total)) place (now (extract .entry))) r numbers names parents starts lengths items counts) ⌝ }
+    requires { ⌜ UnderSchema compiled (lentPaths (now axes) (now tests) (now conditions) (now paths) total) place (heldColumns numbers names parents starts lengths) ⌝ }
+    ensures { λ r. ⌜ EverySchema compiled (λ s. SelectingExits (chosenUnder s (pathsIn (entryPaths axes tests conditions paths total)) place (now (extract .entry))) r numbers names parents starts lengths items counts) ⌝ }
 {
     let words = words_of(compiled);
     let verdict = read_extract_table(extract, &words, numbers, names, parents, starts, lengths);

@@ -1,10 +1,8 @@
 // What a host's call is refused by before its last text is read: the tests of the call, and the way out, on which every lent cell is 0.
 ghost use mathlib.Core.Bool.{_&&_};
-ghost use mathlib.Core.List.{[]};
 ghost use mathlib.Core.Path.{_≡_};
-ghost use Rattle.hosts.specs.results.Exits.{lentOf, refusedBy, RefusedExit};
+ghost use Rattle.hosts.specs.results.Exits.{refusedBy, RefusedMaking, RefusedSelecting};
 ghost use Rattle.hosts.specs.refusals.Refusals.{rangeOf};
-ghost use Rattle.cells.specs.lent.Ends.{exitColumns, entryColumns};
 use crate::results;
 use crate::results::HostResult;
 use crate::texts::Told;
@@ -44,7 +42,7 @@ pub fn refuse_making(
     lengths: &mut [u16],
     out: &mut [u8],
 ) -> HostResult
-    ensures { λ r. ⌜ RefusedExit (told .number) (told .place) (lentOf (entryColumns numbers names parents starts lengths) (now (out .entry)) []) r (exitColumns numbers names parents starts lengths) (now (out .exit)) [] ⌝ }
+    ensures { λ r. ⌜ RefusedMaking (told .number) (told .place) r numbers names parents starts lengths out ⌝ }
 {
     columns::clear(numbers, names, parents, starts, lengths);
     clear_bytes(out, 0);
@@ -62,7 +60,7 @@ pub fn refuse_selecting(
     items: &mut [u16],
     counts: &mut [u32],
 ) -> HostResult
-    ensures { λ r. ⌜ RefusedExit (told .number) (told .place) (lentOf (entryColumns numbers names parents starts lengths) (now (items .entry)) (now (counts .entry))) r (exitColumns numbers names parents starts lengths) (now (items .exit)) (now (counts .exit)) ⌝ }
+    ensures { λ r. ⌜ RefusedSelecting (told .number) (told .place) r numbers names parents starts lengths items counts ⌝ }
 {
     columns::clear(numbers, names, parents, starts, lengths);
     clear_numbers(items, 0);

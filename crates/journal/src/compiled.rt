@@ -3,14 +3,13 @@ ghost use Prim.Native.Nat.{_≤_, _<_};
 ghost use Rattle.compiled_schema.specs.Compiled.{CompiledOf};
 ghost use Rattle.journal_builder.specs.fillings.Fillings.{Sized};
 ghost use Rattle.journal.specs.compiled.Compiled.{CompiledRead};
-ghost use Rattle.journal.specs.compiled.Tables.{TableRead};
+ghost use Rattle.journal.specs.compiled.Tables.{TableReadIn};
 ghost use Rattle.journal_builder.specs.event_handling.Events.{entrySchema};
 ghost use Rattle.journal_lexer.specs.state.Places.{noPlace};
 ghost use Rattle.cells.specs.columns.Columns.{EqualColumns};
 ghost use Rattle.schema_spec.specs.Records.{schemaIn};
-ghost use Rattle.table_spec.specs.Columns.{columns};
 ghost use Rattle.text_spec.specs.Limits.{maxDeclarations};
-ghost use Rattle.cells.specs.lent.Ends.{exitColumns, entryColumns};
+ghost use Rattle.cells.specs.lent.Ends.{exitColumns, entryColumns, heldColumns};
 use cells::columns;
 use cells::verdicts::Verdict;
 use compiled_schema::CompiledSchema;
@@ -42,8 +41,8 @@ fn read_table(
     starts: &mut [u32],
     lengths: &mut [u16],
 ) -> Verdict
-    requires { ⌜ Sized (now sizes) × (count ≤ maxDeclarations) × (limit < noPlace) × EqualColumns (columns (now numbers) (now names) (now parents) (now starts) (now lengths)) ⌝ }
-    ensures { λ r. ⌜ TableRead (entrySchema words count kinds firsts lasts nullables elements predecessors sizes) (now (text .entry)) limit (entryColumns numbers names parents starts lengths) (exitColumns numbers names parents starts lengths) r ⌝ }
+    requires { ⌜ Sized (now sizes) × (count ≤ maxDeclarations) × (limit < noPlace) × EqualColumns (heldColumns numbers names parents starts lengths) ⌝ }
+    ensures { λ r. ⌜ TableReadIn (entrySchema words count kinds firsts lasts nullables elements predecessors sizes) text limit numbers names parents starts lengths r ⌝ }
 {
     columns::clear(numbers, names, parents, starts, lengths);
     let verdict = event_loop::judge(
@@ -84,7 +83,7 @@ pub fn read_compiled(
     starts: &mut [u32],
     lengths: &mut [u16],
 ) -> Verdict
-    requires { ⌜ CompiledOf (now schema) (schemaIn (now schema)) compiled × (limit < noPlace) × EqualColumns (columns (now numbers) (now names) (now parents) (now starts) (now lengths)) ⌝ }
+    requires { ⌜ CompiledOf (now schema) (schemaIn (now schema)) compiled × (limit < noPlace) × EqualColumns (heldColumns numbers names parents starts lengths) ⌝ }
     ensures { λ r. ⌜ CompiledRead (now (schema .entry)) (now (text .entry)) limit (entryColumns numbers names parents starts lengths) (exitColumns numbers names parents starts lengths) r ⌝ }
 {
     let count = compiled.count;

@@ -1,12 +1,12 @@
 // Reading a journal under a schema's record into lent columns.
 ghost use mathlib.Core.Bool.{_&&_};
 ghost use mathlib.Core.Path.{_≡_};
-ghost use Rattle.library_spec.specs.Calls.{journalRead, columnsAfter};
+ghost use Rattle.library_spec.specs.Calls.{journalRead};
 ghost use Rattle.schema_reader.specs.Records.{passesRecord};
 ghost use Rattle.compiled_schema.specs.records.Records.{recordWith};
 ghost use Rattle.table_spec.specs.Columns.{equalSizes};
 ghost use Rattle.cells.specs.verdicts.Verdicts.{verdict};
-ghost use Rattle.cells.specs.lent.Ends.{exitColumns, entrySizes};
+ghost use Rattle.cells.specs.lent.Ends.{entrySizes, LeftRows};
 use crate::compiled::read_compiled;
 use cells::columns;
 use cells::sizes::equal_sizes;
@@ -45,7 +45,7 @@ pub fn read_journal(
     lengths: &mut [u16],
 ) -> Verdict
     ensures { λ r. ⌜ r ≡ verdict (journalRead (recordWith (schema .bytes) (schema .len)) (now (text .entry)) (entrySizes numbers names parents starts lengths)) ⌝ }
-    ensures { λ _. ⌜ exitColumns numbers names parents starts lengths ≡ columnsAfter (entrySizes numbers names parents starts lengths) (λ rows. rows) (journalRead (recordWith (schema .bytes) (schema .len)) (now (text .entry)) (entrySizes numbers names parents starts lengths)) ⌝ }
+    ensures { λ _. ⌜ LeftRows (journalRead (recordWith (schema .bytes) (schema .len)) (now (text .entry))) numbers names parents starts lengths ⌝ }
 {
     if !is_lent(
         schema,

@@ -1,18 +1,17 @@
 // Start tags: one child more of the innermost open element, a new open element and its row; refusals 12 to 16 at a start tag.
 ghost use mathlib.Core.List.{List};
-ghost use mathlib.Core.Option.{Option};
 ghost use mathlib.Core.Path.{_≡_};
-ghost use Prim.Native.Nat.{ℕ, _≤_, _<_};
+ghost use Prim.Native.Nat.{_≤_, _<_};
 ghost use lib.ListN.{length};
 ghost use Rattle.journal_builder.specs.build_state.State.{Safe, SafeStep};
-ghost use Rattle.journal_builder.specs.fillings.Fillings.{Found, Sized, EntryModels};
+ghost use Rattle.journal_builder.specs.fillings.Fillings.{Sized};
 ghost use Rattle.text.specs.fault_keys.Keys.{placeLimit};
-ghost use Rattle.journal_spec.specs.Builder.{Open, parentRow, refill, withChild, begin, onStart};
+ghost use Rattle.journal_spec.specs.Builder.{Open, parentRow, begin, onStart};
 ghost use Rattle.journal_builder.specs.start_tags.Starts.{SafeStart};
 ghost use Rattle.journal_builder.specs.open_levels.Levels.{AllLevels, Opened};
 ghost use Rattle.schema_spec.specs.Schemas.{Schema};
 ghost use Rattle.text_spec.specs.Limits.{maxDepth};
-ghost use Rattle.journal_builder.specs.laws.Tags.{Opens, Starts};
+ghost use Rattle.journal_builder.specs.laws.Tags.{Opens, Starts, FitsChild};
 use crate::begun_nodes;
 use crate::build_state;
 use crate::build_state::Build;
@@ -55,7 +54,7 @@ fn fit_child(
     e: usize,
 )
     requires { ⌜ (d ≤ maxDepth) × AllLevels (now levels) × Sized (now sizes) ⌝ }
-    ensures { λ _. ⌜ AllLevels (now (levels .exit)) × ((s : Schema) (o : Option ℕ) (os : List Open) → d ≡ length os → EntryModels s firsts lasts nullables elements predecessors sizes → Found s o e → Opened s (now (levels .entry)) os → Opened s (now (levels .exit)) (refill (withChild o) os)) ⌝ }
+    ensures { λ _. ⌜ AllLevels (now (levels .exit)) × FitsChild firsts lasts nullables elements predecessors sizes levels d e ⌝ }
 {
     let level = open_levels::load(levels, d);
     let old = level.filling;

@@ -7,8 +7,8 @@ ghost use Rattle.journal_lexer.specs.kinds.Kinds.{KindTable};
 ghost use Rattle.journal_reader.specs.byte_loop.Whole.{AllReadIn};
 ghost use Rattle.journal_lexer.specs.state.Places.{noPlace};
 ghost use Rattle.journal_reader.specs.state.Reading.{Usable, started};
-ghost use Rattle.table_spec.specs.Columns.{columns};
 ghost use Rattle.text_spec.specs.Limits.{maxDeclarations};
+ghost use Rattle.cells.specs.lent.Ends.{heldColumns};
 use crate::state;
 use crate::state::ReaderState;
 use crate::step;
@@ -43,7 +43,7 @@ pub fn read_all(
     lengths: &mut [u16],
     places: &mut [u32; 4],
 ) -> ReaderState
-    requires { ⌜ Usable (now levels) (now places) (columns (now numbers) (now names) (now parents) (now starts) (now lengths)) started × KindTable (now table) × (length (now text) < noPlace) × Sized (now sizes) × (count ≤ maxDeclarations) ⌝ }
+    requires { ⌜ Usable (now levels) (now places) (heldColumns numbers names parents starts lengths) started × KindTable (now table) × (length (now text) < noPlace) × Sized (now sizes) × (count ≤ maxDeclarations) ⌝ }
     ensures { λ r. ⌜ AllReadIn (entrySchema words count kinds firsts lasts nullables elements predecessors sizes) text levels places numbers names parents starts lengths r ⌝ }
 {
     let mut x: ReaderState = state::start();

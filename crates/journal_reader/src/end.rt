@@ -4,8 +4,7 @@ ghost use Rattle.journal_builder.specs.event_handling.Events.{SchemaCells};
 ghost use Rattle.journal_reader.specs.end.Ends.{Finished};
 ghost use Rattle.journal_lexer.specs.state.Places.{noPlace};
 ghost use Rattle.journal_reader.specs.state.Reading.{Usable};
-ghost use Rattle.table_spec.specs.Columns.{columns};
-ghost use Rattle.cells.specs.lent.Ends.{exitColumns, entryColumns};
+ghost use Rattle.cells.specs.lent.Ends.{exitColumns, entryColumns, heldColumns};
 use crate::findings;
 use crate::rows;
 use crate::state::ReaderState;
@@ -33,7 +32,7 @@ pub fn finish(
     places: &mut [u32; 4],
     x: ReaderState,
 ) -> Found
-    requires { ⌜ Usable (now levels) (now places) (columns (now numbers) (now names) (now parents) (now starts) (now lengths)) x × (x .lex .place < noPlace) ⌝ }
+    requires { ⌜ Usable (now levels) (now places) (heldColumns numbers names parents starts lengths) x × (x .lex .place < noPlace) ⌝ }
     ensures { λ r. ⌜ ((t : SchemaCells) → Finished t (now (levels .entry)) (now (places .entry)) (entryColumns numbers names parents starts lengths) x (exitColumns numbers names parents starts lengths) r) ⌝ }
 {
     let l: Lex = x.lex;

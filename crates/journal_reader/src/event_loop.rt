@@ -3,16 +3,15 @@ ghost use Prim.Native.Nat.{_≤_, _<_};
 ghost use lib.ListN.{length};
 ghost use Rattle.journal_builder.specs.fillings.Fillings.{Sized};
 ghost use Rattle.journal_builder.specs.event_handling.Events.{entrySchema};
-ghost use Rattle.journal_reader.specs.event_loop.Journals.{JournalRead};
-ghost use Rattle.journal_reader.specs.event_loop.Judging.{Judged};
+ghost use Rattle.journal_reader.specs.event_loop.Journals.{JournalReadIn};
+ghost use Rattle.journal_reader.specs.event_loop.Judging.{JudgedIn};
 ghost use Rattle.journal_lexer.specs.kinds.Kinds.{KindTable};
 ghost use Rattle.journal_reader.specs.byte_loop.Whole.{AllReadIn};
 ghost use Rattle.journal_lexer.specs.state.Places.{noPlace};
 ghost use Rattle.journal_reader.specs.state.Reading.{Usable, started};
 ghost use Rattle.cells.specs.columns.Columns.{EqualColumns};
-ghost use Rattle.table_spec.specs.Columns.{columns};
 ghost use Rattle.text_spec.specs.Limits.{maxDeclarations};
-ghost use Rattle.cells.specs.lent.Ends.{exitColumns, entryColumns};
+ghost use Rattle.cells.specs.lent.Ends.{heldColumns};
 use crate::end;
 use crate::end::Found;
 use crate::event_step;
@@ -57,7 +56,7 @@ fn read_all(
     lengths: &mut [u16],
     places: &mut [u32; 4],
 ) -> ReaderState
-    requires { ⌜ Usable (now levels) (now places) (columns (now numbers) (now names) (now parents) (now starts) (now lengths)) started × KindTable (now table) × (length (now text) < noPlace) × Sized (now sizes) × (count ≤ maxDeclarations) ⌝ }
+    requires { ⌜ Usable (now levels) (now places) (heldColumns numbers names parents starts lengths) started × KindTable (now table) × (length (now text) < noPlace) × Sized (now sizes) × (count ≤ maxDeclarations) ⌝ }
     ensures { λ r. ⌜ AllReadIn (entrySchema words count kinds firsts lasts nullables elements predecessors sizes) text levels places numbers names parents starts lengths r ⌝ }
 {
     let mut x: ReaderState = state::start();
@@ -108,8 +107,8 @@ fn read_journal(
     starts: &mut [u32],
     lengths: &mut [u16],
 ) -> Found
-    requires { ⌜ (length (now text) < noPlace) × Sized (now sizes) × (count ≤ maxDeclarations) × EqualColumns (columns (now numbers) (now names) (now parents) (now starts) (now lengths)) ⌝ }
-    ensures { λ r. ⌜ JournalRead (entrySchema words count kinds firsts lasts nullables elements predecessors sizes) (now (text .entry)) (entryColumns numbers names parents starts lengths) (exitColumns numbers names parents starts lengths) r ⌝ }
+    requires { ⌜ (length (now text) < noPlace) × Sized (now sizes) × (count ≤ maxDeclarations) × EqualColumns (heldColumns numbers names parents starts lengths) ⌝ }
+    ensures { λ r. ⌜ JournalReadIn (entrySchema words count kinds firsts lasts nullables elements predecessors sizes) text numbers names parents starts lengths r ⌝ }
 {
     let table = kinds::all_kinds();
     let mut levels = [0u64; LEVELS];
@@ -167,8 +166,8 @@ pub fn judge(
     starts: &mut [u32],
     lengths: &mut [u16],
 ) -> Verdict
-    requires { ⌜ Sized (now sizes) × (count ≤ maxDeclarations) × (limit < noPlace) × EqualColumns (columns (now numbers) (now names) (now parents) (now starts) (now lengths)) ⌝ }
-    ensures { λ r. ⌜ Judged (entrySchema words count kinds firsts lasts nullables elements predecessors sizes) (now (text .entry)) limit (entryColumns numbers names parents starts lengths) (exitColumns numbers names parents starts lengths) r ⌝ }
+    requires { ⌜ Sized (now sizes) × (count ≤ maxDeclarations) × (limit < noPlace) × EqualColumns (heldColumns numbers names parents starts lengths) ⌝ }
+    ensures { λ r. ⌜ JudgedIn (entrySchema words count kinds firsts lasts nullables elements predecessors sizes) text limit numbers names parents starts lengths r ⌝ }
 {
     let n = text.len();
     let size = numbers.len();

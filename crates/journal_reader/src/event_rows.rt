@@ -5,12 +5,11 @@ ghost use lib.ListN.{length};
 ghost use Rattle.journal_builder.specs.build_state.State.{Safe};
 ghost use Rattle.journal_builder.specs.fillings.Fillings.{Sized};
 ghost use Rattle.text.specs.fault_keys.Keys.{placeLimit};
-ghost use Rattle.journal_reader.specs.event_rows.Events.{EventRead};
+ghost use Rattle.journal_reader.specs.event_rows.Events.{EventReadIn};
 ghost use Rattle.journal_builder.specs.event_handling.Events.{entrySchema};
 ghost use Rattle.cells.specs.columns.Columns.{EqualColumns};
-ghost use Rattle.table_spec.specs.Columns.{columns};
 ghost use Rattle.text_spec.specs.Limits.{maxDeclarations};
-ghost use Rattle.cells.specs.lent.Ends.{exitColumns, entryColumns};
+ghost use Rattle.cells.specs.lent.Ends.{heldColumns};
 use crate::rows;
 use compiled_schema::entry_columns::MAX_CELLS;
 use journal_builder::build_state::Build;
@@ -45,8 +44,8 @@ pub fn read_event(
     l: Lex,
     m: Build,
 ) -> Build
-    requires { ⌜ Safe (now levels) m × Sized (now sizes) × (m .count < placeLimit) × (count ≤ maxDeclarations) × (length (now places) ≡ 4) × EqualColumns (columns (now numbers) (now names) (now parents) (now starts) (now lengths)) ⌝ }
-    ensures { λ r. ⌜ EventRead (entrySchema words count kinds firsts lasts nullables elements predecessors sizes) (now (levels .entry)) (now (places .entry)) (entryColumns numbers names parents starts lengths) l m (now (levels .exit)) (exitColumns numbers names parents starts lengths) r ⌝ }
+    requires { ⌜ Safe (now levels) m × Sized (now sizes) × (m .count < placeLimit) × (count ≤ maxDeclarations) × (length (now places) ≡ 4) × EqualColumns (heldColumns numbers names parents starts lengths) ⌝ }
+    ensures { λ r. ⌜ EventReadIn (entrySchema words count kinds firsts lasts nullables elements predecessors sizes) levels places numbers names parents starts lengths l m r ⌝ }
 {
     let before = m.count;
     let x: BuildStep = event_handling::on_event(

@@ -9,8 +9,8 @@ ghost use Rattle.journal_lexer.specs.kinds.Kinds.{KindTable};
 ghost use Rattle.journal_lexer.specs.loop_laws.Advance.{Ready};
 ghost use Rattle.journal_lexer.specs.state.Places.{noPlace};
 ghost use Rattle.journal_reader.specs.state.Reading.{Usable};
-ghost use Rattle.table_spec.specs.Columns.{columns};
 ghost use Rattle.text_spec.specs.Limits.{maxDeclarations};
+ghost use Rattle.cells.specs.lent.Ends.{heldColumns};
 use crate::event_rows;
 use crate::findings;
 use crate::state::ReaderState;
@@ -62,7 +62,7 @@ pub fn read_on(
     places: &mut [u32; 4],
     x: ReaderState,
 ) -> ReaderState
-    requires { ⌜ Usable (now levels) (now places) (columns (now numbers) (now names) (now parents) (now starts) (now lengths)) x × KindTable (now table) × (length (now text) < noPlace) × (x .lex .place < length (now text)) × Sized (now sizes) × (count ≤ maxDeclarations) ⌝ }
+    requires { ⌜ Usable (now levels) (now places) (heldColumns numbers names parents starts lengths) x × KindTable (now table) × (length (now text) < noPlace) × (x .lex .place < length (now text)) × Sized (now sizes) × (count ≤ maxDeclarations) ⌝ }
     ensures { λ r. ⌜ ReadOnIn (entrySchema words count kinds firsts lasts nullables elements predecessors sizes) text levels places numbers names parents starts lengths x r ⌝ }
 {
     let l: Lex = x.lex;

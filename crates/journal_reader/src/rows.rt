@@ -1,8 +1,7 @@
 // The row that a step of the builder begins, put into the lent columns.
 ghost use Rattle.journal_reader.specs.rows.Rows.{RowAdded};
 ghost use Rattle.cells.specs.columns.Columns.{EqualColumns};
-ghost use Rattle.table_spec.specs.Columns.{columns};
-ghost use Rattle.cells.specs.lent.Ends.{exitColumns, entryColumns};
+ghost use Rattle.cells.specs.lent.Ends.{exitColumns, entryColumns, heldColumns};
 use cells::columns;
 use journal_builder::build_state::BuildStep;
 
@@ -16,7 +15,7 @@ pub fn add_row(
     count: usize,
     x: BuildStep,
 )
-    requires { ⌜ EqualColumns (columns (now numbers) (now names) (now parents) (now starts) (now lengths)) ⌝ }
+    requires { ⌜ EqualColumns (heldColumns numbers names parents starts lengths) ⌝ }
     ensures { λ _. ⌜ RowAdded (entryColumns numbers names parents starts lengths) count x (exitColumns numbers names parents starts lengths) ⌝ }
 {
     let build = x.build;

@@ -6,8 +6,8 @@ ghost use Rattle.journal_builder.specs.event_handling.Events.{entrySchema};
 ghost use Rattle.journal_reader.specs.step.Steps.{ByteReadIn};
 ghost use Rattle.journal_lexer.specs.state.Relation.{Handed};
 ghost use Rattle.journal_reader.specs.state.Reading.{Usable};
-ghost use Rattle.table_spec.specs.Columns.{columns};
 ghost use Rattle.text_spec.specs.Limits.{maxDeclarations};
+ghost use Rattle.cells.specs.lent.Ends.{heldColumns};
 use crate::event_rows;
 use crate::state::ReaderState;
 use compiled_schema::entry_columns::MAX_CELLS;
@@ -43,7 +43,7 @@ pub fn read_byte(
     b: u8,
     c: u8,
 ) -> ReaderState
-    requires { ⌜ Usable (now levels) (now places) (columns (now numbers) (now names) (now parents) (now starts) (now lengths)) x × Sized (now sizes) × (count ≤ maxDeclarations) × Handed (x .lex) (now places) b c ⌝ }
+    requires { ⌜ Usable (now levels) (now places) (heldColumns numbers names parents starts lengths) x × Sized (now sizes) × (count ≤ maxDeclarations) × Handed (x .lex) (now places) b c ⌝ }
     ensures { λ r. ⌜ ByteReadIn (entrySchema words count kinds firsts lasts nullables elements predecessors sizes) levels places numbers names parents starts lengths x b r ⌝ }
 {
     let l: Lex = x.lex;

@@ -2,9 +2,9 @@
 ghost use lib.ListN.{length};
 ghost use Rattle.kept_rows.specs.Kept.{inSet};
 ghost use Rattle.cells.specs.lent.Cells.{Cleared};
-ghost use Rattle.kept_rows.specs.cut_rows.Rows.{table, OfLength};
-ghost use Rattle.kept_rows.specs.columns.Cut.{Cutting, CutAs, TableColumns};
-ghost use Rattle.cells.specs.lent.Ends.{exitColumns, entryColumns};
+ghost use Rattle.kept_rows.specs.cut_rows.Rows.{OfLength};
+ghost use Rattle.kept_rows.specs.columns.Cut.{Cutting, TableColumns, CutInto};
+ghost use Rattle.cells.specs.lent.Ends.{heldColumns};
 use crate::NOT_KEPT;
 use crate::cut_rows::write_rows;
 use crate::number_kept;
@@ -36,8 +36,8 @@ fn cut_into(
     out_starts: &mut [u32],
     out_lengths: &mut [u16],
 ) -> usize
-    requires { ⌜ Cutting (table (now numbers) (now names) (now parents) (now starts) (now lengths)) (now positions) (table (now «out_numbers») (now «out_names») (now «out_parents») (now «out_starts») (now «out_lengths»)) ⌝ }
-    ensures { λ n. ⌜ CutAs (inSet set) (entryColumns numbers names parents starts lengths) (entryColumns «out_numbers» «out_names» «out_parents» «out_starts» «out_lengths») n (exitColumns «out_numbers» «out_names» «out_parents» «out_starts» «out_lengths») ⌝ }
+    requires { ⌜ Cutting (heldColumns numbers names parents starts lengths) (now positions) (heldColumns «out_numbers» «out_names» «out_parents» «out_starts» «out_lengths») ⌝ }
+    ensures { λ n. ⌜ CutInto (inSet set) numbers names parents starts lengths n «out_numbers» «out_names» «out_parents» «out_starts» «out_lengths» ⌝ }
 {
     let n = number_kept(set, names, parents, positions) as usize;
     if out_numbers.len() < n {
@@ -89,8 +89,8 @@ pub fn cut(
     out_starts: &mut [u32],
     out_lengths: &mut [u16],
 ) -> usize
-    requires { ⌜ TableColumns (table (now numbers) (now names) (now parents) (now starts) (now lengths)) × OfLength (table (now «out_numbers») (now «out_names») (now «out_parents») (now «out_starts») (now «out_lengths»)) (length (now «out_numbers»)) ⌝ }
-    ensures { λ n. ⌜ CutAs (inSet set) (entryColumns numbers names parents starts lengths) (entryColumns «out_numbers» «out_names» «out_parents» «out_starts» «out_lengths») n (exitColumns «out_numbers» «out_names» «out_parents» «out_starts» «out_lengths») ⌝ }
+    requires { ⌜ TableColumns (heldColumns numbers names parents starts lengths) × OfLength (heldColumns «out_numbers» «out_names» «out_parents» «out_starts» «out_lengths») (length (now «out_numbers»)) ⌝ }
+    ensures { λ n. ⌜ CutInto (inSet set) numbers names parents starts lengths n «out_numbers» «out_names» «out_parents» «out_starts» «out_lengths» ⌝ }
 {
     let mut positions = [NOT_KEPT; MAX_NODES];
     let count = parents.len();

@@ -1,7 +1,7 @@
 // The rows of a table that have a position, written into other columns, parents renumbered.
 ghost use mathlib.Core.Path.{_≡_};
-ghost use Rattle.kept_rows.specs.cut_rows.Rows.{table, rowAdded, RowPass, CutPass, RowsNotedIn};
-ghost use Rattle.cells.specs.lent.Ends.{exitColumns, entryColumns};
+ghost use Rattle.kept_rows.specs.cut_rows.Rows.{rowAdded, RowPass, CutPass, RowsNotedIn};
+ghost use Rattle.cells.specs.lent.Ends.{exitColumns, entryColumns, heldColumns};
 use crate::NOT_KEPT;
 
 // Writes row `r` at its position, if it has one; its parent's row becomes that row's position.
@@ -19,7 +19,7 @@ fn cut_row(
     out_lengths: &mut [u16],
     r: usize,
 )
-    requires { ⌜ RowPass (now positions) (table (now numbers) (now names) (now parents) (now starts) (now lengths)) (table (now «out_numbers») (now «out_names») (now «out_parents») (now «out_starts») (now «out_lengths»)) r ⌝ }
+    requires { ⌜ RowPass (now positions) (heldColumns numbers names parents starts lengths) (heldColumns «out_numbers» «out_names» «out_parents» «out_starts» «out_lengths») r ⌝ }
     ensures { λ _. ⌜ exitColumns «out_numbers» «out_names» «out_parents» «out_starts» «out_lengths» ≡ rowAdded (now (positions .entry)) (entryColumns numbers names parents starts lengths) r (entryColumns «out_numbers» «out_names» «out_parents» «out_starts» «out_lengths») ⌝ }
 {
     let x = positions[r];
@@ -49,7 +49,7 @@ pub fn write_rows(
     out_starts: &mut [u32],
     out_lengths: &mut [u16],
 )
-    requires { ⌜ CutPass (now positions) (table (now numbers) (now names) (now parents) (now starts) (now lengths)) (table (now «out_numbers») (now «out_names») (now «out_parents») (now «out_starts») (now «out_lengths»)) ⌝ }
+    requires { ⌜ CutPass (now positions) (heldColumns numbers names parents starts lengths) (heldColumns «out_numbers» «out_names» «out_parents» «out_starts» «out_lengths») ⌝ }
     ensures { λ _. ⌜ RowsNotedIn positions numbers names parents starts lengths «out_numbers» «out_names» «out_parents» «out_starts» «out_lengths» ⌝ }
 {
     let mut r = 0;

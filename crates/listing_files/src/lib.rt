@@ -4,7 +4,7 @@ pub mod table;
 
 ghost use Rattle.compiled_paths.specs.Paths.{lentPaths, entryPaths};
 ghost use Rattle.listing_files.specs.contents.Files.{RowsAsked, ListedRows, FilesLent, ListsAs};
-ghost use Rattle.table_spec.specs.Columns.{columns};
+ghost use Rattle.cells.specs.lent.Ends.{heldColumns};
 use crate::contents::Listed;
 use crate::contents::refused;
 use crate::table::kept_count;
@@ -80,7 +80,7 @@ pub fn list_files(
     lengths: &mut [u16],
     firsts: &mut [u8],
 ) -> Listed
-    requires { ⌜ FilesLent (columns (now numbers) (now codes) (now parents) (now starts) (now lengths)) (now firsts) ⌝ }
+    requires { ⌜ FilesLent (heldColumns numbers codes parents starts lengths) (now firsts) ⌝ }
     ensures { λ r. ⌜ ListsAs (now (schema .entry)) (now (bundle .entry)) (now (journal .entry)) (now (numbers .exit)) (now (codes .exit)) (now (parents .exit)) (now (firsts .exit)) r ⌝ }
 {
     let texts = judge_texts(schema, bundle);

@@ -1,12 +1,8 @@
 // The numbers that the paths asked for select on a table in columns, with scratch of its own, in lent cells.
-ghost use mathlib.Core.List.{List};
-ghost use Prim.Native.Nat.{ℕ, _≤_};
+ghost use Prim.Native.Nat.{_≤_};
 ghost use Rattle.compiled_paths.specs.Paths.{Shaped, lentPaths, pathsIn, entryPaths};
-ghost use Rattle.schema_spec.specs.Types.{Types};
 ghost use Rattle.table_laws.specs.Columns.{TestedColumns};
-ghost use Rattle.selection.specs.table.Tables.{AskedPass, RowsIn, rowsSelected};
-ghost use Rattle.selection.specs.answers.Answers.{AnsweredCells};
-ghost use Rattle.table_spec.specs.Rows.{Row};
+ghost use Rattle.selection.specs.table.Tables.{AskedPass, SelectsOn};
 use crate::answers::Selected;
 use crate::answers::in_room;
 use crate::asked::first_asked;
@@ -36,7 +32,7 @@ fn select_into<'a>(
     next: &mut [u8],
 ) -> Selected
     requires { ⌜ AskedPass (lentPaths (now axes) (now tests) (now conditions) (now paths) count) place (now numbers) (now codes) (now parents) (now marks) (now held) (now steps) (now next) ⌝ }
-    ensures { λ r. ⌜ ((s : Types) (text : List ℕ) (rows : List Row) → RowsIn s rows (now (numbers .entry)) (now (codes .entry)) (now (parents .entry)) → AnsweredCells (rowsSelected text rows place (pathsIn (entryPaths axes tests conditions paths count))) r items counts) ⌝ }
+    ensures { λ r. ⌜ SelectsOn numbers codes parents (pathsIn (entryPaths axes tests conditions paths count)) place r items counts ⌝ }
 {
     let first = first_asked(place);
     let end = past_asked(place, count);
@@ -75,7 +71,7 @@ pub fn select_table<'a>(
     counts: &mut [u32],
 ) -> Selected
     requires { ⌜ Shaped (lentPaths (now axes) (now tests) (now conditions) (now paths) count) × (place ≤ count) × TestedColumns (now numbers) (now codes) (now parents) ⌝ }
-    ensures { λ r. ⌜ ((s : Types) (text : List ℕ) (rows : List Row) → RowsIn s rows (now (numbers .entry)) (now (codes .entry)) (now (parents .entry)) → AnsweredCells (rowsSelected text rows place (pathsIn (entryPaths axes tests conditions paths count))) r items counts) ⌝ }
+    ensures { λ r. ⌜ SelectsOn numbers codes parents (pathsIn (entryPaths axes tests conditions paths count)) place r items counts ⌝ }
 {
     let mut marks = [0u8; MAX_NODES];
     let mut held = [0u8; MAX_NODES];

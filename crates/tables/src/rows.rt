@@ -3,9 +3,8 @@ ghost use mathlib.Core.Path.{_≡_};
 ghost use Prim.Native.Nat.{_≤_, _-_};
 ghost use Rattle.table_laws.specs.passes.Passes.{laterPass, rowsPass};
 ghost use Rattle.tables.specs.rows.Lent.{Lent, RowLent, RootAt, rowFits};
-ghost use Rattle.table_spec.specs.Columns.{columns};
 ghost use Rattle.text_spec.specs.Limits.{maxDepth};
-ghost use Rattle.cells.specs.lent.Ends.{entryColumns};
+ghost use Rattle.cells.specs.lent.Ends.{entryColumns, heldColumns};
 use crate::later_rows::later_fits;
 use crate::row_tests::is_text;
 use crate::row_tests::root_fits;
@@ -50,7 +49,7 @@ fn later_rows_fit(
     count: usize,
     words: &[u64; MAX_ELEMENTS],
 ) -> bool
-    requires { ⌜ Lent (columns (now numbers) (now codes) (now parents) (now starts) (now lengths)) count × RootAt (columns (now numbers) (now codes) (now parents) (now starts) (now lengths)) count ⌝ }
+    requires { ⌜ Lent (heldColumns numbers codes parents starts lengths) count × RootAt (heldColumns numbers codes parents starts lengths) count ⌝ }
     ensures { λ r. ⌜ r ≡ laterPass (now (words .entry)) (entryColumns numbers codes parents starts lengths) (count - 1) 0 0 1 ⌝ }
 {
     let mut element: usize = 0;
@@ -87,7 +86,7 @@ pub fn rows_fit(
     count: usize,
     words: &[u64; MAX_ELEMENTS],
 ) -> bool
-    requires { ⌜ Lent (columns (now numbers) (now codes) (now parents) (now starts) (now lengths)) count ⌝ }
+    requires { ⌜ Lent (heldColumns numbers codes parents starts lengths) count ⌝ }
     ensures { λ r. ⌜ r ≡ rowsPass (now (words .entry)) (entryColumns numbers codes parents starts lengths) count ⌝ }
 {
     if count == 0 {

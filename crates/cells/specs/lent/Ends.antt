@@ -4,6 +4,10 @@ use Prim.Native.Nat.{ℕ}
 use denote.Ref.{RefT, now}
 use denote.Triple.Both.{Both}
 use Rattle.table_spec.specs.Columns.{Columns, columns, Sizes, sizesOf}
+use mathlib.Core.Path.{_≡_}
+use Rattle.library_spec.specs.Calls.{columnsAfter}
+use Rattle.table_spec.specs.Rows.{Row}
+use Rattle.text_spec.specs.Refusals.{Outcome}
 
 -- a slice of elements that a contract knows as values of A
 abbrev pub SliceOf : Type 0 → Type 0
@@ -19,6 +23,16 @@ entryColumns numbers names parents starts lengths = columns (now (numbers .entry
 abbrev pub exitColumns : Slice → Slice → Slice → Slice → Slice → Columns
 exitColumns numbers names parents starts lengths = columns (now (numbers .exit)) (now (names .exit)) (now (parents .exit)) (now (starts .exit)) (now (lengths .exit))
 
+-- the same, as a `requires` names them
+abbrev pub heldColumns : RefT (List ℕ) → RefT (List ℕ) → RefT (List ℕ) → RefT (List ℕ) → RefT (List ℕ) → Columns
+heldColumns numbers names parents starts lengths = columns (now numbers) (now names) (now parents) (now starts) (now lengths)
+
 -- how many cells each has
 abbrev pub entrySizes : Slice → Slice → Slice → Slice → Slice → Sizes
 entrySizes numbers names parents starts lengths = sizesOf (entryColumns numbers names parents starts lengths)
+
+-- what a call leaves in them, by its outcome for so many cells of each: its rows, and zeros
+abbrev pub LeftRows : (Sizes → Outcome (List Row)) → Slice → Slice → Slice → Slice → Slice → Type 0
+LeftRows call numbers names parents starts lengths =
+    exitColumns numbers names parents starts lengths
+    ≡ columnsAfter (entrySizes numbers names parents starts lengths) (λ rows. rows) (call (entrySizes numbers names parents starts lengths))

@@ -22,24 +22,38 @@ abbrev μ-loop : tie.MeasureT-loop
 μ-loop extract words numbers₀ names₀ parents₀ starts₀ lengths₀ levels₀ x₀ numbers names parents starts lengths levels x =
     bytesLeft extract x
 
+-- the states that answers go back to: the call, a turn, and what the turn read
+abbrev start-of : tie.After-begin Inv-loop μ-loop → tie.Start Inv-loop μ-loop
+start-of c = c .before .before .before .before .before .before .before
+
+abbrev turn-of : tie.After-read-row-arg5 Inv-loop μ-loop → tie.In-loop Inv-loop μ-loop
+turn-of c = c .before .before .before .before .before .before
+
+abbrev read-of : tie.After-slice-known10 Inv-loop μ-loop → tie.After-read-row Inv-loop μ-loop
+read-of c = c .before .before .before .before .before .before .before .before .before .before
+
 loop-holds : tie.Need-loop-holds Inv-loop μ-loop
 loop-holds c =
-    let start = c .before .before .before .before .before .before .before in
+    let start = start-of c in
     (stands-begun _ _ _ _ (start .pre .0) (start .pre .1) refl (search needs) _ (c .begin .ensures), refl, refl, refl, refl, refl)
 
 read-row-requires : tie.Need-read-row-requires Inv-loop μ-loop
-read-row-requires c κs = going-reads _ _ _ _ _ (c .before .before .before .before .before .before .before .loop .inv .0) (c .before .before .before .before .before .before .loop-test .taken)
+read-row-requires c κs =
+    let turn = turn-of c in
+    going-reads _ _ _ _ _ (turn .before .loop .inv .0) (turn .loop-test .taken)
 
 loop-less : tie.Need-loop-less Inv-loop μ-loop
-loop-less c = fewer-left _ _ _ _ _ (c .before .before .before .before .before .before .before .before .before .before .before .before .before .before .before .before .before .before .loop .inv .0) (c .before .before .before .before .before .before .before .before .before .before .before .before .before .before .before .before .before .loop-test .taken) _ refl _ _ _ (c .before .before .before .before .before .before .before .before .before .before .read-row .ensures)
+loop-less c = fewer-left _ _ _ _ _ (turn-of (read-of c .before) .before .loop .inv .0) (turn-of (read-of c .before) .loop-test .taken) _ refl _ _ _ (read-of c .read-row .ensures)
 
 loop-again : tie.Need-loop-again Inv-loop μ-loop
 loop-again c =
-    let at = c .before .before .before .before .before .before .before .before .before .before .before .before .before .before .before .before .before .before .loop in (
-      c .before .before .before .before .before .before .before .before .before .before .read-row .ensures .stands,
-      omega (arith, c .before .before .before .before .before .before .before .before .before .numbers .given, at .inv .1),
-      omega (arith, c .before .before .before .before .before .before .before .names .given, at .inv .2),
-      omega (arith, c .before .before .before .before .before .parents .given, at .inv .3),
+    let read = read-of c in
+    let at = turn-of (read .before) .before .loop in
+    let after-parents = c .before .before .before .before .before in (
+      read .read-row .ensures .stands,
+      omega (arith, after-parents .before .before .before .before .numbers .given, at .inv .1),
+      omega (arith, after-parents .before .before .names .given, at .inv .2),
+      omega (arith, after-parents .parents .given, at .inv .3),
       omega (arith, c .before .before .before .starts .given, at .inv .4),
       omega (arith, c .before .lengths .given, at .inv .5),
     )
@@ -61,8 +75,9 @@ same-length-5 c = c .before .before .loop .inv .5
 
 returns : tie.Need-returns Inv-loop μ-loop
 returns c =
-    let at = c .before .before .loop in
-    let g = c .before .before .before .before .before .before .before .before .before .before .args in
+    let turn = c .before .before in
+    let at = turn .loop in
+    let g = start-of (turn .before) .args in
     let sizes = same-sizes (columns (g .numbers .now) (g .names .now) (g .parents .now) (g .starts .now) (g .lengths .now)) (columns (at .numbers) (at .names) (at .parents) (at .starts) (at .lengths))
     (at .inv .1) (at .inv .2) (at .inv .3) (at .inv .4) (at .inv .5) in
     rows-read _ _ _ _ _ (at .inv .0) (c .before .loop-test .left) _ sizes _ refl

@@ -50,6 +50,8 @@ use Rattle.extract_writer.specs.asked.Asked.{text-columns}
 use Rattle.table_laws.specs.WellFormed.{well-formed-alone}
 use Rattle.kept_rows.specs.laws.Codes.{kept-columns, codes-named}
 use Rattle.kept_rows.specs.laws.Known.{rows-coded, set-passes}
+use denote.Ref.{now}
+use Rattle.cells.specs.lent.Ends.{Slice, entryColumns, exitColumns}
 
 -- ---- what is asked, and what each stage leaves
 -- an accepted schema and compiled paths, with columns of one length
@@ -77,6 +79,11 @@ pub record WrittenUnder (t : CompiledSchema) (paths : CompiledPaths) (journal : 
   pub size : ℕ
   pub bytes : BytesWritten was (extractIn journal (firstOf c n) (keptMarks (inSet set) (firstOf c n .names) (firstOf c n .parents))) size out
   pub last : AnswerAs n size (length out) c d r
+
+-- the same of lent slices
+abbrev pub WrittenUnderIn : CompiledSchema → CompiledPaths → Slice → ℕ → Slice → Slice → Slice → Slice → Slice → Slice → HostResult → Type 0
+WrittenUnderIn t paths journal n numbers names parents starts lengths out r =
+    WrittenUnder t paths (now (journal .entry)) n (entryColumns numbers names parents starts lengths) (exitColumns numbers names parents starts lengths) (now (out .entry)) (now (out .exit)) r
 
 -- ---- the last test
 pub answer-short : (n m room : ℕ) (c d : Columns) (r : HostResult) → room < m → r ≡ refusedBy 18 0 → d ≡ columnsOf (sizesOf c) [] → AnswerAs n m room c d r

@@ -45,10 +45,12 @@ use Rattle.cells.specs.verdicts.Verdicts.{verdict}
 use Rattle.cells.specs.declared.verdicts.Verdict.{Verdict}
 use Rattle.table_laws.specs.WellFormed.{well-formed-alone}
 use Rattle.kept_rows.specs.laws.Known.{rows-coded}
+use denote.Ref.{now}
+use Rattle.cells.specs.lent.Ends.{Slice, entryColumns, exitColumns}
 
 -- of every accepted schema that the compiled one stands for
-abbrev pub UnderSchema : CompiledSchema → (Schema → Type 0) → Type 0
-UnderSchema compiled holds = (schema : List ℕ) → readSchema schema ≡ accepted (schemaIn schema) → CompiledOf schema (schemaIn schema) compiled → holds (schemaIn schema)
+abbrev pub EverySchema : CompiledSchema → (Schema → Type 0) → Type 0
+EverySchema compiled holds = (schema : List ℕ) → readSchema schema ≡ accepted (schemaIn schema) → CompiledOf schema (schemaIn schema) compiled → holds (schemaIn schema)
 
 -- ---- what is asked, and what each stage leaves
 -- an accepted schema's compiled form and compiled paths, a place that they have, columns of one length
@@ -80,6 +82,12 @@ pub record SelectedUnder (paths : CompiledPaths) (place n : ℕ) (c d : Columns)
   pub answer : (s : Types) (text : List ℕ) (rows : List Row) → RowsIn s rows (firstOf c n .numbers) (firstOf c n .names) (firstOf c n .parents)
       → AnsweredSelections (rowsSelected text rows place (pathsIn paths) (length items) (length counts)) (length items) (length counts) selected items′ counts′
   pub last : LastAs n selected c d r
+
+-- the same of lent slices
+abbrev pub SelectedUnderIn : CompiledPaths → ℕ → ℕ → Slice → Slice → Slice → Slice → Slice → Slice → Slice → HostResult → Type 0
+SelectedUnderIn paths place n numbers names parents starts lengths items counts r =
+    SelectedUnder paths place n (entryColumns numbers names parents starts lengths) (exitColumns numbers names parents starts lengths) (now (items .entry)) (now (counts .entry))
+    (now (items .exit)) (now (counts .exit)) r
 
 -- ---- the last test
 pub last-short : (n : ℕ) (a : Selected) (c d : Columns) (r : HostResult) → (a .number ≡ 0 → ⊥) → r ≡ refusedBy (a .number) (a .place) → d ≡ columnsOf (sizesOf c) [] → LastAs n a c d r

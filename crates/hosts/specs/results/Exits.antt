@@ -53,6 +53,15 @@ pub record RefusedExit (number place : ℕ) (l : Lent) (r : HostResult) (columns
   pub items-are : items ≡ padded (l .items) []
   pub counts-are : counts ≡ padded (l .counts) []
 
+abbrev pub RefusedMaking : ℕ → ℕ → HostResult → Slice → Slice → Slice → Slice → Slice → Slice → Type 0
+RefusedMaking number place r numbers names parents starts lengths out =
+    RefusedExit number place (lentOf (entryColumns numbers names parents starts lengths) (now (out .entry)) []) r (exitColumns numbers names parents starts lengths) (now (out .exit)) []
+
+abbrev pub RefusedSelecting : ℕ → ℕ → HostResult → Slice → Slice → Slice → Slice → Slice → Slice → Slice → Type 0
+RefusedSelecting number place r numbers names parents starts lengths items counts =
+    RefusedExit number place (lentOf (entryColumns numbers names parents starts lengths) (now (items .entry)) (now (counts .entry))) r (exitColumns numbers names parents starts lengths)
+    (now (items .exit)) (now (counts .exit))
+
 -- ---- laws
 pub same-exit : {o p : Outcome HostAnswer} {l : Lent} {r : HostResult} {columns : Columns} {items counts : List ℕ} → p ≡ o → Exits o l r columns items counts → Exits p l r columns items counts
 same-exit {l = l} {r = r} {columns = columns} {items = items} {counts = counts} e h = subst (λ (x : Outcome HostAnswer). Exits x l r columns items counts) (sym e) h

@@ -14,11 +14,17 @@ use Rattle.text_laws.specs.Cells.{padded-length}
 use Rattle.text_spec.specs.Refusals.{Outcome, accepted, refused}
 use Rattle.cells.specs.verdicts.Verdicts.{verdict}
 use Rattle.cells.specs.declared.verdicts.Verdict.{Verdict}
+use denote.Ref.{now}
+use Rattle.cells.specs.lent.Ends.{Slice, entryColumns, exitColumns}
 
 -- from any columns
 pub record TableRead (t : SchemaCells) (text : List ℕ) (limit : ℕ) (c d : Columns) (r : Verdict) : Type 0 where
   pub answer : (s : Schema) → CellsOf s t → r ≡ verdict (outcome s text limit (sizesOf c))
   pub cells : (s : Schema) → CellsOf s t → d ≡ columnsAfter (sizesOf c) (λ rows. rows) (outcome s text limit (sizesOf c))
+
+-- the same of lent slices
+abbrev pub TableReadIn : SchemaCells → Slice → ℕ → Slice → Slice → Slice → Slice → Slice → Verdict → Type 0
+TableReadIn t text limit numbers names parents starts lengths r = TableRead t (now (text .entry)) limit (entryColumns numbers names parents starts lengths) (exitColumns numbers names parents starts lengths) r
 
 -- ---- the columns at exit
 pub cleared-sizes : (c d : Columns) → d ≡ columnsOf (sizesOf c) [] → sizesOf d ≡ sizesOf c

@@ -11,7 +11,7 @@ use Rattle.journal_builder.specs.build_state.State.{Built, Leaves}
 use Rattle.journal_builder.specs.declared.build_state.Build.{Build}
 use Rattle.journal_builder.specs.declared.build_state.BuildStep.{BuildStep}
 use Rattle.journal_builder.specs.fillings.Fillings.{Found, KindsOf, ModelsOf, EntryModels}
-use Rattle.journal_spec.specs.Builder.{Open, Building, onEnd, fillingFor}
+use Rattle.journal_spec.specs.Builder.{Open, Building, onEnd, fillingFor, refill, withChild}
 use Rattle.cells.specs.lent.Ends.{SliceOf, Slice}
 use Rattle.text.specs.name_words.Words.{Spells}
 use Rattle.text.specs.declared.name_words.Name.{Name}
@@ -32,6 +32,12 @@ Ends firsts lasts nullables levels name at m r =
     (s : Schema) (b : Building) (n : List ℕ) (elements predecessors sizes : List ℕ)
     → ModelsOf s (now (firsts .entry)) (now (lasts .entry)) (now (nullables .entry)) elements predecessors sizes → Spells name n → isNone (b .broken) ≡ true
     → Built s (now (levels .entry)) m b → Built s (now (levels .entry)) r (onEnd n at b)
+
+-- one child more in the innermost element
+abbrev pub FitsChild : Slice → Slice → SliceOf Bool → Slice → Slice → Slice → Slice → ℕ → ℕ → Type 0
+FitsChild firsts lasts nullables elements predecessors sizes levels d e =
+    (s : Schema) (o : Option ℕ) (os : List Open) → d ≡ length os → EntryModels s firsts lasts nullables elements predecessors sizes → Found s o e
+    → Opened s (now (levels .entry)) os → Opened s (now (levels .exit)) (refill (withChild o) os)
 
 -- an element is opened on its level
 abbrev pub Opens : Slice → Slice → ℕ → ℕ → ℕ → ℕ → Name → Type 0

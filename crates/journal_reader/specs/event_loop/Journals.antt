@@ -21,6 +21,8 @@ use Rattle.journal_reader.specs.declared.state.ReaderState.{ReaderState}
 use Rattle.cells.specs.columns.Columns.{EqualColumns}
 use Rattle.schema_spec.specs.Schemas.{Schema}
 use Rattle.table_spec.specs.Columns.{Columns, Sizes, columnsOf}
+use denote.Ref.{now}
+use Rattle.cells.specs.lent.Ends.{Slice, entryColumns, exitColumns}
 
 -- no place is noted yet
 abbrev pub noPlaces : List ℕ
@@ -29,6 +31,10 @@ noPlaces = 0 ∷ 0 ∷ noPlace ∷ noPlace ∷ []
 -- from cleared columns c to the columns d and what was found
 pub record JournalRead (t : SchemaCells) (text : List ℕ) (c d : Columns) (r : Found) : Type 0 where
   pub answered : (s : Schema) (z : Sizes) (limit : ℕ) → CellsOf s t → c ≡ columnsOf z [] → 1 ≤ length text → length text ≤ limit → Answered z limit s text d r
+
+-- the same of lent slices
+abbrev pub JournalReadIn : SchemaCells → Slice → Slice → Slice → Slice → Slice → Slice → Found → Type 0
+JournalReadIn t text numbers names parents starts lengths r = JournalRead t (now (text .entry)) (entryColumns numbers names parents starts lengths) (exitColumns numbers names parents starts lengths) r
 
 module _ (levels : List ℕ) (all : AllLevels levels) where
   pub usable-first : {c : Columns} → EqualColumns c → Usable levels noPlaces c started

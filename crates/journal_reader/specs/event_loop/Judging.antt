@@ -24,6 +24,8 @@ use Rattle.text_spec.specs.Refusals.{Outcome, accepted, refused, andThen, at, b
 use Rattle.cells.specs.verdicts.VerdictLaws.{number-some}
 use Rattle.cells.specs.verdicts.Verdicts.{refusedBy, verdict}
 use Rattle.cells.specs.declared.verdicts.Verdict.{Verdict}
+use denote.Ref.{now}
+use Rattle.cells.specs.lent.Ends.{Slice, entryColumns, exitColumns}
 
 -- the library's outcome in columns of these sizes
 abbrev pub outcome : Schema → List ℕ → ℕ → Sizes → Outcome (List Row)
@@ -34,6 +36,10 @@ pub record Judged (t : SchemaCells) (text : List ℕ) (limit : ℕ) (c d : Colum
   pub judged : (s : Schema) → CellsOf s t → c ≡ columnsOf (sizesOf c) [] → r ≡ verdict (outcome s text limit (sizesOf c))
   pub held : (s : Schema) → CellsOf s t → c ≡ columnsOf (sizesOf c) [] → r .number ≡ 0
       → d ≡ columnsAfter (sizesOf c) (λ rows. rows) (outcome s text limit (sizesOf c))
+
+-- the same of lent slices
+abbrev pub JudgedIn : SchemaCells → Slice → ℕ → Slice → Slice → Slice → Slice → Slice → Verdict → Type 0
+JudgedIn t text limit numbers names parents starts lengths r = Judged t (now (text .entry)) limit (entryColumns numbers names parents starts lengths) (exitColumns numbers names parents starts lengths) r
 
 -- ---- 2
 pub judged-2 : {t : SchemaCells} {limit : ℕ} {c : Columns} {r : Verdict} (text : List ℕ) → ((s : Schema) → readJournal limit s text ≡ refused (at badLength 0))

@@ -21,6 +21,7 @@ use Rattle.table_spec.specs.Columns.{Columns, Sizes, sizesOf}
 use Rattle.text_laws.specs.Tests.{passed, true-of, and-cases}
 use Rattle.text_spec.specs.Cells.{padded}
 use Rattle.kept_rows.specs.cut_rows.Rows.{table, columns-equal, keptColumns, markedBy, OfLength, Room, CutPass, RowsNoted}
+use Rattle.cells.specs.lent.Ends.{Slice, entryColumns, exitColumns}
 
 -- ---- definitions
 -- columns in lent cells, and then zeros
@@ -75,6 +76,11 @@ pub record Cutting (c : Columns) (pos : List ℕ) (o : Columns) : Type 0 where
 pub record CutAs (f : ℕ → Bool) (c o : Columns) (n : ℕ) (x : Columns) : Type 0 where
   pub count : n ≡ rank (keptMarks f (c .names) (c .parents)) (length (c .parents))
   pub columns : x ≡ answered (sizesOf o) n (keptColumns (keptMarks f (c .names) (c .parents)) c (length (c .parents)))
+
+-- the same of lent slices
+abbrev pub CutInto : (ℕ → Bool) → Slice → Slice → Slice → Slice → Slice → ℕ → Slice → Slice → Slice → Slice → Slice → Type 0
+CutInto f numbers names parents starts lengths n numbers₂ names₂ parents₂ starts₂ lengths₂ =
+    CutAs f (entryColumns numbers names parents starts lengths) (entryColumns numbers₂ names₂ parents₂ starts₂ lengths₂) n (exitColumns numbers₂ names₂ parents₂ starts₂ lengths₂)
 
 module _ (f : ℕ → Bool) (c o : Columns) (h : TableColumns c) where
   m : List ℕ

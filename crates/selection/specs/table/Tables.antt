@@ -17,7 +17,7 @@ use Rattle.path_spec.specs.Selection.{selectRows}
 use Rattle.schema_spec.specs.Types.{Types}
 use Rattle.selection.specs.one_path.Paths.{pathsFrom}
 use Rattle.selection.specs.joined_paths.Joined.{AllPass, itemsOf, countsOf, JoinedAs}
-use Rattle.selection.specs.answers.Answers.{inCells, AnsweredSelections, Written}
+use Rattle.selection.specs.answers.Answers.{inCells, AnsweredSelections, Written, AnsweredCells}
 use Rattle.selection.specs.declared.answers.Selected.{Selected}
 use Rattle.selection.specs.laws.Asked.{asked-range, all-asked, items-selected, counts-of-selected}
 use Rattle.table_laws.specs.Codes.{NamesCoded}
@@ -28,6 +28,8 @@ use Rattle.text_spec.specs.Cells.{padded}
 use Rattle.text_spec.specs.Limits.{maxNodes}
 use Rattle.text_spec.specs.Refusals.{Outcome}
 use Rattle.axis_passes.specs.written_steps.Steps.{Scratch}
+use denote.Ref.{now}
+use Rattle.cells.specs.lent.Ends.{Slice}
 
 -- ---- definitions
 -- rows that are well formed under types, in these columns
@@ -41,6 +43,12 @@ pub record RowsIn (s : Types) (rows : List Row) (numbers codes parents : List �
 -- the outcome on rows: what the paths asked for select, 18 where the cells are too few
 abbrev pub rowsSelected : List ℕ → List Row → ℕ → List (LocationPath ℕ) → ℕ → ℕ → Outcome Selections
 rowsSelected text rows place ps items counts = inCells items counts (selections text rows (askedPaths place ps))
+
+-- the paths selected on every well-formed table in these columns
+abbrev pub SelectsOn : Slice → Slice → Slice → List (LocationPath ℕ) → ℕ → Selected → Slice → Slice → Type 0
+SelectsOn numbers codes parents paths place r items counts =
+    (s : Types) (text : List ℕ) (rows : List Row) → RowsIn s rows (now (numbers .entry)) (now (codes .entry)) (now (parents .entry))
+    → AnsweredCells (rowsSelected text rows place paths) r items counts
 
 pub record AskedPass (c : CompiledPaths) (place : ℕ) (numbers codes ps m held steps next : List ℕ) : Type 0 where
   pub shaped : Shaped c

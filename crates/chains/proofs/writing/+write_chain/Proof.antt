@@ -23,6 +23,18 @@ abbrev write-chain-below : ℕ → In 6 write-chain-kinds.ps
 write-chain-below t =
     and 6 write-chain-kinds.ps (falls 6 write-chain-kinds.ps _<_ μ-write-chain t) write-chain.Pre
 
+-- what the functions that are called ask and ensure
+abbrev claims : ℕ → write-chain-lts.Claims
+claims t = (put-link-reads.Asked, put-link-reads.Learnt, write-chain-below t, write-chain.Post)
+
+-- the states that answers go back to: the start, and the chain above written
+module _ {t : ℕ} where
+  abbrev start-of : write-chain-lts.After-slice-known (claims t) (write-chain-at t) write-chain.Post → write-chain-lts.Start (claims t) (write-chain-at t) write-chain.Post
+  start-of c = c .before .before .before .before .before .before
+
+  abbrev written-of : write-chain-lts.After-slice-known4 (claims t) (write-chain-at t) write-chain.Post → write-chain-lts.After-write-chain (claims t) (write-chain-at t) write-chain.Post
+  written-of c = c .before .before .before .before .before .before .before
+
 write-chain-shared-slice-read-put-link : (t : ℕ) → write-chain-lts.Need-shared-slice-read-put-link (
   put-link-reads.Asked,
   put-link-reads.Learnt,
@@ -30,7 +42,7 @@ write-chain-shared-slice-read-put-link : (t : ℕ) → write-chain-lts.Need-shar
   write-chain.Post,
 ) (write-chain-at t) write-chain.Post
 write-chain-shared-slice-read-put-link t c =
-    let start = c .before .before .before .before .before .before .before .before in
+    let start = start-of (c .before .before) in
     omega (arith, start .pre .1 .table .size, start .pre .1 .table .within)
 
 write-chain-put-link-requires : (t : ℕ) → write-chain-lts.Need-put-link-requires (
@@ -40,8 +52,8 @@ write-chain-put-link-requires : (t : ℕ) → write-chain-lts.Need-put-link-requ
   write-chain.Post,
 ) (write-chain-at t) write-chain.Post
 write-chain-put-link-requires t c κs =
-    let start = c .before .before .before .before .before .before .before .before .before in
-    pass-root _ _ _ _ _ _ _ (start .pre .1) (c .before .before .if1 .taken)
+    let tested = c .before .before in
+    pass-root _ _ _ _ _ _ _ (start-of (tested .before) .pre .1) (tested .if1 .taken)
 
 write-chain-same-length : (t : ℕ) → write-chain-lts.Need-same-length (
   put-link-reads.Asked,
@@ -58,8 +70,9 @@ write-chain-returns : (t : ℕ) → write-chain-lts.Need-returns (
   write-chain.Post,
 ) (write-chain-at t) write-chain.Post
 write-chain-returns t c =
-    let start = c .before .before .before .before .before .before .before .before .before .before .before .before in
-    chained-root _ _ _ _ _ _ _ (start .pre .1) _ _ (c .before .before .before .before .before .if1 .taken) (c .before .before .put-link .ensures .0) (c .before .before .put-link .ensures .1)
+    let put = c .before .before in
+    let tested = put .before .before .before in
+    chained-root _ _ _ _ _ _ _ (start-of (tested .before) .pre .1) _ _ (tested .if1 .taken) (put .put-link .ensures .0) (put .put-link .ensures .1)
 
 write-chain-mul-up : (t : ℕ) → write-chain-lts.Need-mul-up (
   put-link-reads.Asked,
@@ -84,7 +97,7 @@ write-chain-cast-up : (t : ℕ) → write-chain-lts.Need-cast-up (
   write-chain.Post,
 ) (write-chain-at t) write-chain.Post
 write-chain-cast-up t c =
-    let start = c .before .before .before .before .before .before .before .before in
+    let start = start-of (c .before .before) in
     omega (arith, c .shared-slice-known7 .given (start .args .row))
 
 write-chain-write-chain-requires : (t : ℕ) → write-chain-lts.Need-write-chain-requires (
@@ -94,8 +107,9 @@ write-chain-write-chain-requires : (t : ℕ) → write-chain-lts.Need-write-chai
   write-chain.Post,
 ) (write-chain-at t) write-chain.Post
 write-chain-write-chain-requires t c κs =
-    let start = c .before .before .before .before .before .before .before .before .before in
-    (pass-falls _ _ _ _ _ _ _ (start .pre .1) (c .before .before .if1 .left) _ (start .pre .0), pass-up _ _ _ _ _ _ _ (start .pre .1) (c .before .before .if1 .left))
+    let tested = c .before .before in
+    let start = start-of (tested .before) in
+    (pass-falls _ _ _ _ _ _ _ (start .pre .1) (tested .if1 .left) _ (start .pre .0), pass-up _ _ _ _ _ _ _ (start .pre .1) (tested .if1 .left))
 
 write-chain-shared-slice-read-put-link-2 :
     (t : ℕ) → write-chain-lts.Need-shared-slice-read-put-link-2 (
@@ -105,7 +119,8 @@ write-chain-shared-slice-read-put-link-2 :
       write-chain.Post,
     ) (write-chain-at t) write-chain.Post
 write-chain-shared-slice-read-put-link-2 t c =
-    let start = c .before .before .before .before .before .before .before .before .before .before .before .before .before in
+    let written = c .before .before .before in
+    let start = start-of (written .before .before .before .before) in
     omega (arith, start .pre .1 .table .size, start .pre .1 .table .within)
 
 write-chain-put-link-requires-2 : (t : ℕ) → write-chain-lts.Need-put-link-requires-2 (
@@ -115,8 +130,9 @@ write-chain-put-link-requires-2 : (t : ℕ) → write-chain-lts.Need-put-link-re
   write-chain.Post,
 ) (write-chain-at t) write-chain.Post
 write-chain-put-link-requires-2 t c κs =
-    let start = c .before .before .before .before .before .before .before .before .before .before .before .before .before .before in
-    pass-link _ _ _ _ _ _ _ (start .pre .1) _ _ (c .before .before .before .before .before .before .before .if1 .left) (c .before .before .before .before .write-chain .ensures)
+    let written = c .before .before .before .before in
+    let tested = written .before .before .before in
+    pass-link _ _ _ _ _ _ _ (start-of (tested .before) .pre .1) _ _ (tested .if1 .left) (written .write-chain .ensures)
 
 write-chain-same-length-2 : (t : ℕ) → write-chain-lts.Need-same-length-2 (
   put-link-reads.Asked,
@@ -124,7 +140,7 @@ write-chain-same-length-2 : (t : ℕ) → write-chain-lts.Need-same-length-2 (
   write-chain-below t,
   write-chain.Post,
 ) (write-chain-at t) write-chain.Post
-write-chain-same-length-2 t c = c .before .before .put-link2 .kept .1 .1 .1 .1 .0 ∙ c .before .before .before .before .before .before .before .write-chain .kept .1 .1 .1 .1 .1 .1 .0
+write-chain-same-length-2 t c = c .before .before .put-link2 .kept .1 .1 .1 .1 .0 ∙ written-of c .write-chain .kept .1 .1 .1 .1 .1 .1 .0
 
 write-chain-returns-2 : (t : ℕ) → write-chain-lts.Need-returns-2 (
   put-link-reads.Asked,
@@ -133,8 +149,10 @@ write-chain-returns-2 : (t : ℕ) → write-chain-lts.Need-returns-2 (
   write-chain.Post,
 ) (write-chain-at t) write-chain.Post
 write-chain-returns-2 t c =
-    let start = c .before .before .before .before .before .before .before .before .before .before .before .before .before .before .before .before .before in
-    chained-later _ _ _ _ _ _ _ (start .pre .1) _ _ _ _ (c .before .before .before .before .before .before .before .before .before .before .if1 .left) (c .before .before .before .before .before .before .before .write-chain .ensures) (c .before .before .put-link2 .ensures .0) (c .before .before .put-link2 .ensures .1)
+    let put = c .before .before in
+    let written = written-of c in
+    let tested = written .before .before .before in
+    chained-later _ _ _ _ _ _ _ (start-of (tested .before) .pre .1) _ _ _ _ (tested .if1 .left) (written .write-chain .ensures) (put .put-link2 .ensures .0) (put .put-link2 .ensures .1)
 
 pub +write-chain-spec : {M : Type 1} → statement M
 +write-chain-spec = close μ-write-chain λ t. write-chain-lts.spec (

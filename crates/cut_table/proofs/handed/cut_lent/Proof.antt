@@ -25,6 +25,10 @@ refused c = c .before .before .before .before .before .before .before .before .b
 abbrev called : tie.After-slice-known15 → tie.After-cut-first
 called c = c .before .before .before .before .before .before .before .before .before .before
 
+-- back from the call to what is handed in
+abbrev handed : tie.After-cut-first-arg5 → tie.After-handed-in
+handed c = c .before .before .before .before .before
+
 returns : tie.Need-returns
 returns c = λ s h.
     let tested = refused c .before .before .before .before .before .before in
@@ -33,14 +37,14 @@ returns c = λ s h.
 
 cut-first-requires : tie.Need-cut-first-requires
 cut-first-requires c κs =
-    let tested = c .before .before .before .before .before .before in
+    let tested = handed c .before in
     let fit = tested .before in
     let some = start fit .pre in
     may-be-cut (some .schema) (given fit) (lent fit) (fit .before .is-table .result) (fit .may-cut .result) (fit .before .is-table .ensures (some .schema) (some .sets .words)) (fit .may-cut .ensures) (tested .if1 .left)
 
 returns-2 : tie.Need-returns-2
 returns-2 c = λ s h.
-    let made = called c .before .before .before .before .before .before in
+    let made = handed (called c .before) in
     let tested = made .before in
     let fit = tested .before in
     cut-answered s (given fit) (lent fit) (fit .before .is-table .result) (fit .may-cut .result) (fit .before .is-table .ensures s (h .words)) (fit .may-cut .ensures) (tested .if1 .left) (start fit .args .word) (made .handed-in .result) (made .handed-in .ensures s (h .few) (h .names)) _ _ (called c .cut-first .ensures)

@@ -9,15 +9,22 @@ use Rattle.table_spec.specs.Columns.{Columns, columns}
 use Rattle.host_selecting.proofs.accepted.choose_under.Statement.{statement}
 use Rattle.host_selecting.proofs.accepted.choose_under.Tie as tie
 
--- The states that several needs go back to: the extract read, from where its verdict is tested; the words; the start, with the columns that are lent.
+-- The states that several needs go back to. From where the extract is to be read: the words, and the start.
+abbrev words-before : tie.After-read-extract-table-arg5 → tie.After-words-of
+words-before c = c .before .before .before .before .before .before
+
+abbrev start-before : tie.After-read-extract-table-arg5 → tie.Start
+start-before c = words-before c .before .before .before .before .before .before .before .before .before
+
+-- From where its verdict is tested: the extract read; the words; the start, with the columns that are lent.
 abbrev read : tie.After-struct-known → tie.After-read-extract-table
 read c = c .before .before .before .before .before .before .before .before .before .before .before
 
 abbrev told : tie.After-struct-known → tie.After-words-of
-told c = read c .before .before .before .before .before .before .before
+told c = words-before (read c .before)
 
 abbrev start : tie.After-struct-known → tie.Start
-start c = told c .before .before .before .before .before .before .before .before .before
+start c = start-before (read c .before)
 
 abbrev lent : tie.After-struct-known → Columns
 lent c = columns (start c .args .numbers .now) (start c .args .names .now) (start c .args .parents .now) (start c .args .starts .now) (start c .args .lengths .now)
@@ -26,14 +33,20 @@ abbrev paths-at : tie.After-struct-known → CompiledPaths
 paths-at c = lentPaths (start c .args .axes .now) (start c .args .tests .now) (start c .args .conditions .now) (start c .args .paths .now) (start c .args .total)
 
 -- from the exit of an extract that is refused, and from that of an accepted one
+abbrev cleared : tie.After-refused → tie.After-clear-numbers
+cleared c = c .before .before .before .before .before .before .before
+
 abbrev refused : tie.After-refused → tie.Then1
-refused c = c .before .before .before .before .before .before .before .before .before
+refused c = cleared c .before .before
 
 abbrev chosen : tie.After-slice-known21 → tie.After-select-under
 chosen c = c .before .before .before .before .before .before .before .before .before .before .before .before .before .before
 
+abbrev accepted-before : tie.After-select-under-arg7 → tie.Else1
+accepted-before c = c .before .before .before .before .before .before .before
+
 abbrev accepted : tie.After-slice-known21 → tie.Else1
-accepted c = chosen c .before .before .before .before .before .before .before .before
+accepted c = accepted-before (chosen c .before)
 
 returns : tie.Need-returns
 returns c =
@@ -42,11 +55,11 @@ returns c =
     let was = read known .read-extract-table .ensures in
     λ schema taken made.
     let held = words-read schema _ made _ (told known .words-of .ensures) in
-    refused-chosen _ _ (lent known) _ _ (was .answer _ held) (was .cells _ held) (paths-at known) (at .place) (refused c .if1 .taken) _ (c .refused .ensures) _ _ _ _ (c .before .before .before .before .before .before .before .clear-numbers .ensures) (c .before .before .before .clear-places .ensures)
+    refused-chosen _ _ (lent known) _ _ (was .answer _ held) (was .cells _ held) (paths-at known) (at .place) (refused c .if1 .taken) _ (c .refused .ensures) _ _ _ _ (cleared c .clear-numbers .ensures) (c .before .before .before .clear-places .ensures)
 
 select-under-requires : tie.Need-select-under-requires
 select-under-requires c κs =
-    let tested = c .before .before .before .before .before .before .before in
+    let tested = accepted-before c in
     let known = tested .before in
     let pre = start known .pre in
     let was = read known .read-extract-table .ensures in
@@ -69,7 +82,7 @@ choose-under-spec =
     tie.close
     (tie.spec
     (λ c κs. search needs)
-    (λ c κs. c .before .before .before .before .before .before .before .before .before .before .before .before .before .before .before .pre .equal)
+    (λ c κs. start-before c .pre .equal)
     (λ c κs. search needs)
     (λ c κs. search needs)
     (λ c κs. search needs)
@@ -78,7 +91,7 @@ choose-under-spec =
     (λ c. read (refused c .before) .read-extract-table .kept .1 .1 .1 .1 .0)
     (λ c. read (refused c .before) .read-extract-table .kept .1 .1 .1 .1 .1 .0)
     (λ c. read (refused c .before) .read-extract-table .kept .1 .1 .1 .1 .1 .1 .0)
-    (λ c. c .before .before .before .before .before .before .before .clear-numbers .kept .0)
+    (λ c. cleared c .clear-numbers .kept .0)
     (λ c. c .before .before .before .clear-places .kept .0)
     returns
     select-under-requires

@@ -30,12 +30,18 @@ abbrev μ-loop : tie.MeasureT-loop
 μ-loop text table words hints count kinds firsts lasts nullables elements predecessors sizes levels₀ numbers₀ names₀ parents₀ starts₀ lengths₀ places₀ x₀ at₀ levels numbers names parents starts lengths places x at =
     length text - at
 
--- from a turn to the call, and from the byte that is read to the turn
-abbrev start-of : tie.At-loop Inv-loop μ-loop → tie.Start Inv-loop μ-loop
-start-of c = c .before .before .before .before .before .before .before .before
+-- the states that answers go back to: the call, the text known in a turn, what the turn read, and the turn
+abbrev start-of : tie.After-start Inv-loop μ-loop → tie.Start Inv-loop μ-loop
+start-of c = c .before .before .before .before .before .before .before
+
+abbrev known-of : tie.After-read-byte-arg7 Inv-loop μ-loop → tie.After-shared-slice-known2 Inv-loop μ-loop
+known-of c = c .before .before .before .before .before .before .before .before
+
+abbrev read-of : tie.After-slice-known10 Inv-loop μ-loop → tie.After-read-byte Inv-loop μ-loop
+read-of c = c .before .before .before .before .before .before .before .before .before .before
 
 abbrev turn-of : tie.After-read-byte Inv-loop μ-loop → tie.In-loop Inv-loop μ-loop
-turn-of c = c .before .before .before .before .before .before .before .before .before .before
+turn-of c = known-of (c .before) .before
 
 next-fits : (k n : ℕ) → k < n → n < noPlace → Fits w64 (k + 1)
 next-fits k n h r = omega arith
@@ -44,14 +50,14 @@ next-inside : (k n : ℕ) → k < n → k + 1 ≤ n
 next-inside k n h = omega arith
 
 loop-holds : tie.Need-loop-holds Inv-loop μ-loop
-loop-holds c = (none-read (c .start .ensures) (c .before .before .before .before .before .before .before .pre .0), omega arith, refl, refl, refl, refl, refl)
+loop-holds c = (none-read (c .start .ensures) (start-of c .pre .0), omega arith, refl, refl, refl, refl, refl)
 
 read-byte-requires : tie.Need-read-byte-requires Inv-loop μ-loop
 read-byte-requires c κs =
-    let known = c .before .before .before .before .before .before .before .before in
+    let known = known-of c in
     let test = known .before in
     let at = test .before .loop in
-    let start = start-of (test .before) in
+    let start = start-of (test .before .before) in
     let byte = known .shared-slice-known2 .given (at .at) .fits in (
       at .inv .0 .usable,
       start .pre .3,
@@ -66,19 +72,20 @@ read-byte-requires c κs =
 
 add-at : tie.Need-add-at Inv-loop μ-loop
 add-at c =
-    let test = turn-of (c .before .before .before .before .before .before .before .before .before .before) in
-    next-fits _ _ (test .loop-test .taken) (start-of (test .before) .pre .2)
+    let test = turn-of (read-of c) in
+    next-fits _ _ (test .loop-test .taken) (start-of (test .before .before) .pre .2)
 
 loop-again : tie.Need-loop-again Inv-loop μ-loop
 loop-again c =
-    let read = c .before .before .before .before .before .before .before .before .before .before in
+    let read = read-of c in
     let test = turn-of read in
-    let at = test .before .loop in (
+    let at = test .before .loop in
+    let after-parents = c .before .before .before .before .before in (
       more-read (test .loop-test .taken) (at .inv .0) (read .read-byte .ensures),
       next-inside _ _ (test .loop-test .taken),
-      c .before .before .before .before .before .before .before .before .before .numbers .given ∙ at .inv .2,
-      c .before .before .before .before .before .before .before .names .given ∙ at .inv .3,
-      c .before .before .before .before .before .parents .given ∙ at .inv .4,
+      after-parents .before .before .before .before .numbers .given ∙ at .inv .2,
+      after-parents .before .before .names .given ∙ at .inv .3,
+      after-parents .parents .given ∙ at .inv .4,
       c .before .before .before .starts .given ∙ at .inv .5,
       c .before .lengths .given ∙ at .inv .6,
     )
@@ -99,7 +106,7 @@ read-all-spec =
     (λ c. c .shared-slice-known2 .given _ .fits)
     read-byte-requires
     add-at
-    (λ c. falls _ _ (turn-of (c .before .before .before .before .before .before .before .before .before .before) .loop-test .taken))
+    (λ c. falls _ _ (turn-of (read-of c) .loop-test .taken))
     loop-again
     (λ c. c .before .loop .inv .2)
     (λ c. c .before .loop .inv .3)

@@ -23,31 +23,35 @@ abbrev μ-loop : tie.MeasureT-loop
 μ-loop text table words hints count kinds firsts lasts nullables elements predecessors sizes levels₀ numbers₀ names₀ parents₀ starts₀ lengths₀ places₀ x₀ levels numbers names parents starts lengths places x =
     length text - x .lex .place
 
--- from a turn to the call, and from what a turn read to the turn
-abbrev start-of : tie.At-loop Inv-loop μ-loop → tie.Start Inv-loop μ-loop
-start-of c = c .before .before .before .before .before .before .before .before
+-- the states that answers go back to: the call, the test of a turn, and what the turn read
+abbrev start-of : tie.After-start Inv-loop μ-loop → tie.Start Inv-loop μ-loop
+start-of c = c .before .before .before .before .before .before .before
 
-abbrev turn-of : tie.After-read-on Inv-loop μ-loop → tie.At-loop Inv-loop μ-loop
-turn-of c = c .before .before .before .before .before .before .before .before .before .before
+abbrev test-of : tie.After-read-on-arg7 Inv-loop μ-loop → tie.Then1 Inv-loop μ-loop
+test-of c = c .before .before .before .before .before .before .before
+
+abbrev read-of : tie.After-slice-known10 Inv-loop μ-loop → tie.After-read-on Inv-loop μ-loop
+read-of c = c .before .before .before .before .before .before .before .before .before .before
 
 loop-holds : tie.Need-loop-holds Inv-loop μ-loop
-loop-holds c = (no-event-read (c .start .ensures) (c .before .before .before .before .before .before .before .pre .0), refl, refl, refl, refl, refl)
+loop-holds c = (no-event-read (c .start .ensures) (start-of c .pre .0), refl, refl, refl, refl, refl)
 
 read-on-requires : tie.Need-read-on-requires Inv-loop μ-loop
 read-on-requires c κs =
-    let test = c .before .before .before .before .before .before .before in
+    let test = test-of c in
     let at = test .before .before in
-    let start = start-of at in
+    let start = start-of (at .before) in
     (at .loop .inv .0 .usable, start .pre .1, start .pre .2, test .if1 .taken, start .pre .3, start .pre .4)
 
 loop-again : tie.Need-loop-again Inv-loop μ-loop
 loop-again c =
-    let read = c .before .before .before .before .before .before .before .before .before .before in
-    let at = turn-of read .loop in (
+    let read = read-of c in
+    let at = test-of (read .before) .before .before .loop in
+    let after-parents = c .before .before .before .before .before in (
       event-more (at .inv .0) (read .read-on .ensures),
-      c .before .before .before .before .before .before .before .before .before .numbers .given ∙ at .inv .1,
-      c .before .before .before .before .before .before .before .names .given ∙ at .inv .2,
-      c .before .before .before .before .before .parents .given ∙ at .inv .3,
+      after-parents .before .before .before .before .numbers .given ∙ at .inv .1,
+      after-parents .before .before .names .given ∙ at .inv .2,
+      after-parents .parents .given ∙ at .inv .3,
       c .before .before .before .starts .given ∙ at .inv .4,
       c .before .lengths .given ∙ at .inv .5,
     )
@@ -55,7 +59,7 @@ loop-again c =
 returns : tie.Need-returns Inv-loop μ-loop
 returns c =
     let at = c .before .before in
-    events-all (start-of at .pre .2) (at .loop .inv .0) (c .if1 .left)
+    events-all (start-of (at .before) .pre .2) (at .loop .inv .0) (c .if1 .left)
 
 pub read-all-spec : {M : Type 1} → statement M
 read-all-spec =
@@ -64,7 +68,7 @@ read-all-spec =
     (λ c κs. tt)
     loop-holds
     read-on-requires
-    (λ c. fewer-left (c .before .before .before .before .before .before .before .before .before .before .read-on .ensures))
+    (λ c. fewer-left (read-of c .read-on .ensures))
     loop-again
     (λ c. c .before .before .loop .inv .1)
     (λ c. c .before .before .loop .inv .2)

@@ -29,19 +29,23 @@ any-ends-some-below t = and 2 any-ends-some-kinds.ps (falls 2 any-ends-some-kind
 abbrev claims : ℕ → any-ends-some-lts.Claims
 claims t = (first-size-reads.Asked, first-size-reads.Learnt, ends-some-reads.Asked, ends-some-reads.Learnt, any-ends-some-below t, any-ends-some.Post)
 
+-- the state that answers go back to
+abbrev start-of : {t : ℕ} → any-ends-some-lts.After-first-size (claims t) (any-ends-some-at t) any-ends-some.Post → any-ends-some-lts.Start (claims t) (any-ends-some-at t) any-ends-some.Post
+start-of c = c .before .before .before .before
+
 any-ends-some-first-size-requires : (t : ℕ) → any-ends-some-lts.Need-first-size-requires (claims t) (any-ends-some-at t) any-ends-some.Post
 any-ends-some-first-size-requires t c κs =
     c .before .before .before .pre .1 .room
 
 any-ends-some-ends-some-requires : (t : ℕ) → any-ends-some-lts.Need-ends-some-requires (claims t) (any-ends-some-at t) any-ends-some.Post
 any-ends-some-ends-some-requires t c κs =
-    let start = c .before .before .before .before in
+    let start = start-of c in
     let size = c .first-size in
     first-steps (start .args .axes .now) (start .args .tests .now) (start .args .n) (start .args .k) (size .result) (size .ensures) (start .pre .1)
 
 any-ends-some-add-any-ends-some : (t : ℕ) → any-ends-some-lts.Need-add-any-ends-some (claims t) (any-ends-some-at t) any-ends-some.Post
 any-ends-some-add-any-ends-some t c =
-    let start = c .before .before .before .before .before .before in
+    let start = start-of (c .before .before) in
     let size = c .before .before .first-size .ensures in
     let room = start .pre .1 .room in
     let fits = first-size-fits (start .args .axes .now) (start .args .n) (start .args .k) in
@@ -49,14 +53,14 @@ any-ends-some-add-any-ends-some t c =
 
 any-ends-some-sub-any-ends-some : (t : ℕ) → any-ends-some-lts.Need-sub-any-ends-some (claims t) (any-ends-some-at t) any-ends-some.Post
 any-ends-some-sub-any-ends-some t c =
-    let start = c .before .before .before .before .before .before in
+    let start = start-of (c .before .before) in
     let size = c .before .before .first-size .ensures in
     let fits = first-size-fits (start .args .axes .now) (start .args .n) (start .args .k) in
     omega arith
 
 any-ends-some-any-ends-some-requires : (t : ℕ) → any-ends-some-lts.Need-any-ends-some-requires (claims t) (any-ends-some-at t) any-ends-some.Post
 any-ends-some-any-ends-some-requires t c κs =
-    let start = c .before .before .before .before .before .before in
+    let start = start-of (c .before .before) in
     let size = c .before .before .first-size in
     let fewer = fewer-steps (start .args .axes .now) (start .args .tests .now) (start .args .n) (start .args .k) (size .result) (size .ensures) (c .before .before .before .if1 .left) in
     let e = start .pre .0 in
@@ -71,7 +75,7 @@ any-ends-some-returns t c =
 any-ends-some-returns-2 : (t : ℕ) → any-ends-some-lts.Need-returns-2 (claims t) (any-ends-some-at t) any-ends-some.Post
 any-ends-some-returns-2 t c =
     λ s k named.
-    let start = c .before .before .before .before .before .before in
+    let start = start-of (c .before .before) in
     let size = c .before .before .first-size in
     first-ends (start .args .axes .now) (start .args .tests .now) (start .args .n) (start .args .k) (size .result) (size .ensures) s (envIn s (start .args .e)) (c .before .before .before .if1 .left)
     (c .before .ends-some .result) (c .if2 .taken) (c .before .ends-some .ensures s k named)
@@ -79,7 +83,7 @@ any-ends-some-returns-2 t c =
 any-ends-some-returns-3 : (t : ℕ) → any-ends-some-lts.Need-returns-3 (claims t) (any-ends-some-at t) any-ends-some.Post
 any-ends-some-returns-3 t c =
     λ s k named.
-    let start = c .before .before .before .before .before .before .before in
+    let start = start-of (c .before .before .before) in
     let size = c .before .before .before .first-size in
     later-ends (start .args .axes .now) (start .args .tests .now) (start .args .n) (start .args .k) (size .result) (size .ensures) s (envIn s (start .args .e)) (c .before .before .before .before .if1 .left)
     (c .before .before .ends-some .result) (c .any-ends-some .result) (c .before .if2 .left) (c .before .before .ends-some .ensures s k named) (c .any-ends-some .ensures s k named)
