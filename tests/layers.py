@@ -1,6 +1,6 @@
 #!/usr/bin/env python3
 """The picture of the layers in docs/ARCHITECTURE.md, made from crates.txt: its headings, the crates under each, and the layers that these stand on.
-Writes it between its two marks; with --check it compares instead. Fails where a crate names one of a later heading, or where more than 60 are listed."""
+Writes it between its two marks; with --check it compares instead. Fails where a crate names one that is listed after it, or where more than 60 are listed."""
 import os
 import sys
 import textwrap
@@ -25,6 +25,12 @@ def layers():
     return found, named
 
 
+def upward(named):
+    """Arrows that go up: crates.txt lists them from the bottom."""
+    place = {crate: k for k, crate in enumerate(named)}
+    return ["%s names %s" % (crate, name) for crate, names in named.items() for name in names if place.get(name, -1) > place[crate]]
+
+
 def picture(found, named):
     """The layers from the top down: a layer stands on those that its crates name."""
     layer = {crate: k for k, (_, crates) in enumerate(found) for crate in crates}
@@ -32,9 +38,6 @@ def picture(found, named):
     for k in reversed(range(len(found))):
         heading, crates = found[k]
         below = sorted({layer[name] for crate in crates for name in named[crate] if name in layer} - {k}, reverse=True)
-        above = [name for crate in crates for name in named[crate] if layer.get(name, 0) > k]
-        if above:
-            sys.exit("layers: %s stands on %s, which is above it" % (heading, ", ".join(above)))
         space = " " * INDENT
         lines += textwrap.wrap("  ".join(crates), WIDTH, initial_indent=heading.ljust(INDENT), subsequent_indent=space)
         if below:
@@ -46,6 +49,8 @@ def main():
     found, named = layers()
     if len(named) > MOST:
         sys.exit("layers: crates.txt lists %d crates, and %d are the most" % (len(named), MOST))
+    if upward(named):
+        sys.exit("layers: what stands below is listed first, but " + ", ".join(upward(named)))
     with open(PAGE, encoding="utf-8") as f:
         before, mark, rest = f.read().partition(BEGIN)
     old, last, after = rest.partition(END)
