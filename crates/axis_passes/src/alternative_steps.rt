@@ -1,10 +1,10 @@
 // An alternative of a condition of a compiled path judged for all rows at once, from its last step back.
 ghost use mathlib.Core.Path.{_≡_};
 ghost use Rattle.axis_passes.specs.alternative_steps.Alternatives.{AlternativePass};
-ghost use Rattle.compiled_paths.specs.Columns.{plainIn};
-ghost use Rattle.cells.specs.row_sets.Columns.{union};
-ghost use Rattle.selection_laws.specs.marks.Selection.{alternativeMarks};
 ghost use Rattle.axis_passes.specs.steps.Tests.{namesIn};
+ghost use Rattle.cells.specs.row_sets.Columns.{union};
+ghost use Rattle.compiled_paths.specs.Columns.{plainIn};
+ghost use Rattle.selection_laws.specs.marks.Selection.{alternativeMarks};
 use crate::mark_sets::unite;
 use crate::steps::step_back;
 use cells::row_sets::MARKED;

@@ -2,9 +2,9 @@
 ghost use mathlib.Core.Path.{_≡_};
 ghost use lib.ListN.{length};
 ghost use Rattle.axis_passes.specs.alternatives.Alternatives.{ConditionPass};
+ghost use Rattle.axis_passes.specs.steps.Tests.{namesIn};
 ghost use Rattle.compiled_paths.specs.Columns.{alternativesIn};
 ghost use Rattle.selection_laws.specs.marks.Selection.{noMarks, alternativesMarks};
-ghost use Rattle.axis_passes.specs.steps.Tests.{namesIn};
 use crate::alternative_steps::alternative;
 use cells::row_sets::UNMARKED;
 use cells::row_sets::fill;

@@ -1,10 +1,10 @@
 // A condition of a compiled path judged for all rows at once.
 ghost use mathlib.Core.Path.{_≡_};
-ghost use Rattle.compiled_paths.specs.Columns.{conditionIn};
 ghost use Rattle.axis_passes.specs.conditions.Conditions.{KeepPass};
-ghost use Rattle.cells.specs.row_sets.Columns.{intersection};
-ghost use Rattle.selection_laws.specs.marks.Selection.{conditionMarks};
 ghost use Rattle.axis_passes.specs.steps.Tests.{namesIn};
+ghost use Rattle.cells.specs.row_sets.Columns.{intersection};
+ghost use Rattle.compiled_paths.specs.Columns.{conditionIn};
+ghost use Rattle.selection_laws.specs.marks.Selection.{conditionMarks};
 use crate::alternatives::condition;
 use crate::mark_sets::any_marked;
 use crate::mark_sets::intersect;

@@ -1,8 +1,8 @@
 // One pass over columns of marks for each axis down.
 ghost use mathlib.Core.Path.{_≡_};
+ghost use Rattle.path_spec.specs.Paths.{child, descendant, descendantOrSelf};
 ghost use Rattle.selection_laws.specs.marks.Parents.{imageMarks};
 ghost use Rattle.selection_laws.specs.marks.Passes.{AxisPass};
-ghost use Rattle.path_spec.specs.Paths.{child, descendant, descendantOrSelf};
 use cells::row_sets::UNMARKED;
 
 pub fn children(parents: &[u16], from: &[u8], out: &mut [u8])

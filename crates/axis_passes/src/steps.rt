@@ -1,12 +1,12 @@
 // One step of a compiled path for all rows at once: forward along its axis, and back along the inverse axis.
 ghost use mathlib.Core.Path.{_≡_};
-ghost use Rattle.compiled_paths.specs.Columns.{axisOf, testOf};
+ghost use Rattle.axis_passes.specs.steps.Steps.{forwardMarks, backwardMarks, StepPass, TestPass};
+ghost use Rattle.axis_passes.specs.steps.Tests.{namesIn};
 ghost use Rattle.cells.specs.row_sets.Columns.{intersection};
+ghost use Rattle.compiled_paths.specs.Columns.{axisOf, testOf};
 ghost use Rattle.selection_laws.specs.marks.Parents.{imageMarks};
 ghost use Rattle.selection_laws.specs.marks.Passes.{AxisPass};
 ghost use Rattle.selection_laws.specs.marks.Selection.{testMarks};
-ghost use Rattle.axis_passes.specs.steps.Steps.{forwardMarks, backwardMarks, StepPass, TestPass};
-ghost use Rattle.axis_passes.specs.steps.Tests.{namesIn};
 use crate::code_ranges::code_range;
 use crate::downward::children;
 use crate::downward::descendants;

@@ -2,10 +2,10 @@
 ghost use mathlib.Core.Path.{_≡_};
 ghost use lib.Bits.{bitOr};
 ghost use lib.ListN.{getD, set};
+ghost use Rattle.axis_passes.specs.upward.Turns.{ParentInside};
+ghost use Rattle.path_spec.specs.Paths.{parent, ancestor, ancestorOrSelf};
 ghost use Rattle.selection_laws.specs.marks.Parents.{imageMarks};
 ghost use Rattle.selection_laws.specs.marks.Passes.{AxisPass};
-ghost use Rattle.path_spec.specs.Paths.{parent, ancestor, ancestorOrSelf};
-ghost use Rattle.axis_passes.specs.upward.Turns.{ParentInside};
 use cells::row_sets::UNMARKED;
 use cells::row_sets::copy;
 use cells::row_sets::fill;

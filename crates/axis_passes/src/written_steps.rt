@@ -2,11 +2,11 @@
 ghost use mathlib.Core.Path.{_≡_};
 ghost use Prim.Native.Nat.{_-_};
 ghost use lib.ListN.{length};
-ghost use Rattle.compiled_paths.specs.Columns.{sizeAt, startAt, conditionIn, stepAt};
-ghost use Rattle.cells.specs.row_sets.Columns.{intersection};
-ghost use Rattle.selection_laws.specs.marks.Selection.{conditionMarks, stepMarks, rootMarks};
 ghost use Rattle.axis_passes.specs.steps.Tests.{namesIn};
 ghost use Rattle.axis_passes.specs.written_steps.Steps.{StepAtPass, FirstAtPass};
+ghost use Rattle.cells.specs.row_sets.Columns.{intersection};
+ghost use Rattle.compiled_paths.specs.Columns.{sizeAt, startAt, conditionIn, stepAt};
+ghost use Rattle.selection_laws.specs.marks.Selection.{conditionMarks, stepMarks, rootMarks};
 use crate::conditions::keep;
 use crate::root::step_from_root;
 use crate::steps::step_forward;

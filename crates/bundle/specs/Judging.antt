@@ -3,13 +3,13 @@ use mathlib.Core.List.{List, [], map}
 use mathlib.Core.Path.{_≡_}
 use Prim.Native.Nat.{ℕ, _≤_}
 use lib.ListN.{length}
+use Rattle.bundle_text.specs.paths.Readings.{LineCells, pathNoted, firstOver}
 use Rattle.bundle.specs.declared.Judged.{Judged}
 use Rattle.bundle.specs.declared.Judgement.{Judgement}
 use Rattle.bundle.specs.declared.Judgement.the-variants.{Accepted, Refused}
 use Rattle.bundle.specs.declared.Kind.{Kind}
 use Rattle.bundle.specs.declared.Kind.the-variants.{BadLength, BadByte, BadGrammar, OverLimit, Undeclared}
 use Rattle.bundle.specs.laws.Filled.{Noted}
-use Rattle.bundle_text.specs.paths.Readings.{LineCells, pathNoted, firstOver}
 use Rattle.compiled_paths.specs.Paths.{pathsIn, Shaped}
 use Rattle.path_spec.specs.Machine.{parse}
 use Rattle.path_spec.specs.Paths.{LocationPath}

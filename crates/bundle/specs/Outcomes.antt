@@ -4,25 +4,25 @@ use mathlib.Core.Path.{_≡_, refl, sym, ap, ap₂, subst, _∙_}
 use Prim.Native.Nat.{ℕ, _+_, _-_, _≤_, _<_}
 use native.Mathlib.Omega.{arith}
 use lib.ListN.{length, take, replicate, length-map}
+use Rattle.bundle_text.specs.declared.paths.BundleOutcome.{BundleOutcome}
+use Rattle.bundle_text.specs.declared.paths.BundleOutcome.the-variants.{Past, Fail}
+use Rattle.bundle_text.specs.declared.paths.Bundled.{Bundled}
+use Rattle.bundle_text.specs.paths.Readings.{pathNoted, firstOver, BundleAs, ReadsBundle}
 use Rattle.bundle.specs.Judging.{reasonOf, outcomeOf, sized, JudgedAs, JudgedUnder, RefusedAs, Readable, Spelling}
+use Rattle.bundle.specs.columns.Filling.{filledPaths, filled, Room}
 use Rattle.bundle.specs.declared.Judged.{Judged}
 use Rattle.bundle.specs.declared.Judgement.the-variants.{Accepted}
 use Rattle.bundle.specs.declared.Kind.{Kind}
 use Rattle.bundle.specs.declared.Kind.the-variants.{BadLength, BadByte, BadGrammar, OverLimit, Undeclared}
+use Rattle.bundle.specs.declared.columns.Filled.{Filled}
 use Rattle.bundle.specs.laws.Filled.{noted-room, noted-shaped, noted-paths, Counts, read-noted, read-counts}
 use Rattle.bundle.specs.laws.Limits.{over-first, over-none, limits-later}
 use Rattle.bundle.specs.laws.Names.{lostPlace, lost-none, lost-first}
 use Rattle.bundle.specs.laws.Order.{Later, later-none, later-all, later-append, Least, least-all, least-judged}
 use Rattle.bundle.specs.laws.Texts.{empty-refused, long-refused, length-right, foreign-refused, none-foreign}
-use Rattle.bundle_text.specs.paths.Readings.{pathNoted, firstOver, BundleAs, ReadsBundle}
-use Rattle.bundle_text.specs.declared.paths.Bundled.{Bundled}
-use Rattle.bundle_text.specs.declared.paths.BundleOutcome.{BundleOutcome}
-use Rattle.bundle_text.specs.declared.paths.BundleOutcome.the-variants.{Past, Fail}
+use Rattle.bundle.specs.names_in_tests.Steps.{earliestOf, lostCell}
 use Rattle.compiled_paths.specs.Paths.{pathsIn, Shaped}
 use Rattle.compiled_paths.specs.Sizes.{writtenSteps, allAlternatives, innerSteps}
-use Rattle.bundle.specs.columns.Filling.{filledPaths, filled, Room}
-use Rattle.bundle.specs.declared.columns.Filled.{Filled}
-use Rattle.bundle.specs.names_in_tests.Steps.{earliestOf, lostCell}
 use Rattle.path_spec.specs.Grammar.{PathRead}
 use Rattle.path_spec.specs.Machine.{parse}
 use Rattle.path_spec.specs.Paths.{resolvedPath}

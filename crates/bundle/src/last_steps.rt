@@ -1,9 +1,9 @@
 // The last steps of alternatives, marked in the column of axes.
 ghost use mathlib.Core.Path.{_≡_};
 ghost use lib.ListN.{length, drop};
+ghost use Rattle.bundle.specs.last_steps.Marks.{marked};
 ghost use Rattle.compiled_paths.specs.Paths.{AtMost};
 ghost use Rattle.compiled_paths.specs.Sizes.{innerSteps, allSteps};
-ghost use Rattle.bundle.specs.last_steps.Marks.{marked};
 use compiled_paths::LAST;
 use compiled_paths::WRITTEN_STEPS;
 

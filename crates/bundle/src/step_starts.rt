@@ -3,9 +3,9 @@ ghost use mathlib.Core.List.{map};
 ghost use mathlib.Core.Path.{_≡_};
 ghost use Prim.Native.Nat.{ℕ, _+_, _≤_, _<_};
 ghost use lib.ListN.{length, getD};
+ghost use Rattle.bundle.specs.step_starts.Starts.{bracketStart};
 ghost use Rattle.compiled_paths.specs.Paths.{AtMost};
 ghost use Rattle.compiled_paths.specs.Sizes.{writtenSteps, allAlternatives, innerSteps};
-ghost use Rattle.bundle.specs.step_starts.Starts.{bracketStart};
 use compiled_paths::WRITTEN_STEPS;
 
 // Copies where the written steps of paths start.

@@ -2,8 +2,8 @@
 ghost use mathlib.Core.List.{[]};
 ghost use mathlib.Core.Path.{_≡_};
 ghost use Rattle.cells.specs.columns.Columns.{EqualColumns, cells, withRow};
-ghost use Rattle.table_spec.specs.Columns.{columnsOf};
 ghost use Rattle.cells.specs.lent.Ends.{exitColumns, entrySizes, entryColumns, heldColumns};
+ghost use Rattle.table_spec.specs.Columns.{columnsOf};
 use crate::lent;
 use text::limits::MAX_NODES;
 

@@ -1,8 +1,8 @@
 // Text written into lent bytes from a place on: bytes as they are, and numbers in decimal.
 ghost use Prim.Native.Nat.{_+_, _≤_};
 ghost use lib.ListN.{length};
-ghost use Rattle.library_spec.specs.Listing.{decimal};
 ghost use Rattle.cells.specs.written_text.Written.{WrittenAt};
+ghost use Rattle.library_spec.specs.Listing.{decimal};
 
 // Writes a text from `at` on, and gives the cell past it.
 pub fn put_text(out: &mut [u8], at: usize, text: &[u8]) -> usize

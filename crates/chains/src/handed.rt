@@ -1,11 +1,11 @@
 // The chain of tags of a row of a table that is handed in under a schema's text, in lent bytes.
 ghost use mathlib.Core.Path.{_≡_};
+ghost use Rattle.cells.specs.verdicts.Verdicts.{AnsweredSlice, inBytes};
 ghost use Rattle.chains.specs.handed.Answers.{chainIn, Chainable, chainHeld};
 ghost use Rattle.schema_spec.specs.Reading.{readSchema};
 ghost use Rattle.schema_spec.specs.Records.{schemaIn};
 ghost use Rattle.tables.specs.Handed.{entryTable};
 ghost use Rattle.text_spec.specs.Refusals.{accepted};
-ghost use Rattle.cells.specs.verdicts.Verdicts.{AnsweredSlice, inBytes};
 use crate::lent::ChainAnswer;
 use crate::lent::has_row;
 use crate::lent::put_chain;

@@ -1,8 +1,8 @@
 // The chain of tags of a row of a table that is handed in with a schema's record, in lent bytes.
-ghost use Rattle.library_spec.specs.Calls.{rowChain};
-ghost use Rattle.compiled_schema.specs.records.Records.{recordWith};
-ghost use Rattle.tables.specs.Handed.{entryTable};
 ghost use Rattle.cells.specs.verdicts.Verdicts.{AnsweredSlice};
+ghost use Rattle.compiled_schema.specs.records.Records.{recordWith};
+ghost use Rattle.library_spec.specs.Calls.{rowChain};
+ghost use Rattle.tables.specs.Handed.{entryTable};
 use crate::handed::chain_lent;
 use crate::lent::refuse;
 use cells::verdicts::Verdict;

@@ -2,13 +2,13 @@
 use mathlib.Core.List.{List}
 use Prim.Native.Nat.{ℕ, _≤_}
 use lib.ListN.{getD}
+use denote.Ref.{now}
+use Rattle.cells.specs.lent.Ends.{Slice}
 use Rattle.compiled_paths.specs.Columns.{bundleIn}
 use Rattle.compiled_paths.specs.Sizes.{writtenSteps, allSteps}
 use Rattle.compiled_paths.specs.declared.CompiledPaths.{CompiledPaths}
 use Rattle.path_spec.specs.Paths.{LocationPath}
 use Rattle.text_spec.specs.Limits.{maxPaths}
-use denote.Ref.{now}
-use Rattle.cells.specs.lent.Ends.{Slice}
 
 -- compiled paths by their columns and their count, as they are lent
 abbrev pub lentPaths : List ℕ → List ℕ → List ℕ → List ℕ → ℕ → CompiledPaths

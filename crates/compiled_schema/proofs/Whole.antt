@@ -8,17 +8,17 @@ use native.Mathlib.Omega.{arith}
 use lib.Dec.{T, eqb}
 use lib.ListN.{length, take, replicate, length-map}
 use lib.Seq.{take-all}
+use Rattle.compiled_schema.specs.Compiled.{CompiledOf}
+use Rattle.compiled_schema.specs.declared.entry_columns.Entries.{Entries}
+use Rattle.compiled_schema.specs.element_entry.Reading.{AcceptedWith}
+use Rattle.compiled_schema.specs.entry_columns.Columns.{EntriesOf}
 use Rattle.names.specs.closures.Relations.{relates, Reachable}
 use Rattle.names.specs.closures.Schemas.{reachability-isBelow}
-use Rattle.compiled_schema.specs.Compiled.{CompiledOf}
 use Rattle.names.specs.declared.NameSet.{NameSet}
 use Rattle.schema.specs.Judging.{outcomeOf, sized, declaredAt, JudgedInto}
 use Rattle.schema.specs.declared.Judgement.{Judgement}
 use Rattle.schema.specs.declared.Judgement.the-variants.{Accepted, Refused}
 use Rattle.schema.specs.declared.Kind.{Kind}
-use Rattle.compiled_schema.specs.element_entry.Reading.{AcceptedWith}
-use Rattle.compiled_schema.specs.entry_columns.Columns.{EntriesOf}
-use Rattle.compiled_schema.specs.declared.entry_columns.Entries.{Entries}
 use Rattle.schema_laws.specs.Accepted.{Spelt, accepted-spelt, accepted-closed}
 use Rattle.schema_spec.specs.Closure.{byWayOf, closure}
 use Rattle.schema_spec.specs.Declarations.{Declaration}
@@ -33,8 +33,8 @@ use Rattle.text_laws.specs.Tests.{never}
 use Rattle.text_spec.specs.Cells.{padded}
 use Rattle.text_spec.specs.Limits.{maxDeclarations}
 use Rattle.text_spec.specs.Machines.{Parsed}
-use Rattle.text_spec.specs.Scans.{nameAt}
 use Rattle.text_spec.specs.Refusals.{Outcome, accepted, refused, resultOr}
+use Rattle.text_spec.specs.Scans.{nameAt}
 
 none-held : (a b : Name) → holds [] a b ≡ false
 unfolding «holds»

@@ -3,11 +3,11 @@ use mathlib.Core.List.{List, map}
 use mathlib.Core.Path.{_≡_}
 use Prim.Native.Nat.{ℕ}
 use lib.ListN.{length, take}
-use Rattle.names.specs.closures.Schemas.{RelationOf}
 use Rattle.compiled_schema.specs.declared.CompiledSchema.{CompiledSchema}
 use Rattle.compiled_schema.specs.declared.JudgedSchema.{JudgedSchema}
-use Rattle.schema.specs.Judging.{declaredAt, outcomeOf, sized}
 use Rattle.compiled_schema.specs.entry_columns.Columns.{EntriesOf}
+use Rattle.names.specs.closures.Schemas.{RelationOf}
+use Rattle.schema.specs.Judging.{declaredAt, outcomeOf, sized}
 use Rattle.schema_spec.specs.Machine.{parse}
 use Rattle.schema_spec.specs.Reading.{readSchema}
 use Rattle.schema_spec.specs.Records.{schemaIn}

@@ -1,9 +1,9 @@
 // Cutting a table that has passed its test into other lent columns.
+ghost use Rattle.cells.specs.lent.Ends.{exitColumns, entryColumns, heldColumns};
 ghost use Rattle.cut_table.specs.laws.Answers.{Cuttable, CutFirst};
 ghost use Rattle.handed_tables.specs.calls.Rows.{firstCells};
 ghost use Rattle.kept_rows.specs.Kept.{inSet};
 ghost use Rattle.tables.specs.Handed.{lentTable};
-ghost use Rattle.cells.specs.lent.Ends.{exitColumns, entryColumns, heldColumns};
 use crate::answers::answer_in;
 use cells::verdicts::Verdict;
 use kept_rows::columns::cut;

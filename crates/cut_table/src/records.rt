@@ -1,7 +1,7 @@
 // Cutting a table that is handed in to the names of 64 bits, into other lent columns.
+ghost use Rattle.compiled_schema.specs.records.Records.{recordWith};
 ghost use Rattle.cut_table.specs.laws.Answers.{AnsweredColumns};
 ghost use Rattle.library_spec.specs.Calls.{tableCut};
-ghost use Rattle.compiled_schema.specs.records.Records.{recordWith};
 ghost use Rattle.tables.specs.Handed.{entryTable};
 use crate::answers::refuse;
 use crate::handed::cut_lent;

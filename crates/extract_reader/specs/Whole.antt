@@ -6,22 +6,22 @@ use mathlib.Core.Path.{_≡_, refl, sym, ap, subst, _∙_}
 use Prim.Native.Nat.{ℕ, zero, suc, _+_, _-_, _<_, _≤_}
 use native.Mathlib.Omega.{arith}
 use lib.ListN.{length, getD, replicate}
-use Rattle.extract_reader.specs.levels.Levels.{rowIn, numberIn, elementIn, levelsIn}
-use Rattle.projection_laws.specs.extract_passes.Steps.{state, Step, wrong, ended, onward, continued, pastField, firstStep, rowsFrom, rowsIn}
+use Rattle.cells.specs.columns.Columns.{EqualColumns}
 use Rattle.extract_reader.specs.declared.RowsFound.{RowsFound}
-use Rattle.extract_spec.specs.Reading.{Placed, consRow}
-use Rattle.extract_reader.specs.steps.ReadLaws.{hold-by}
-use Rattle.extract_reader.specs.steps.Reads.{prepended, Hold, progress, Reads, Stands, still-reading, refused, all-read, ReadOn}
-use Rattle.extract_reader.specs.declared.steps.Progress.{Progress}
-use Rattle.extract_reader.specs.fields.Fields.{firstOf, FirstAs}
+use Rattle.extract_reader.specs.declared.field_values.Carried.{Carried}
 use Rattle.extract_reader.specs.declared.fields.First.{First}
 use Rattle.extract_reader.specs.declared.fields.First.the-variants as first
+use Rattle.extract_reader.specs.declared.steps.Progress.{Progress}
 use Rattle.extract_reader.specs.field_rows.Steps.{carriedOn}
 use Rattle.extract_reader.specs.field_tests.Tests.{wordTypes}
 use Rattle.extract_reader.specs.field_values.Fields.{stateIn}
-use Rattle.extract_reader.specs.declared.field_values.Carried.{Carried}
+use Rattle.extract_reader.specs.fields.Fields.{firstOf, FirstAs}
+use Rattle.extract_reader.specs.levels.Levels.{rowIn, numberIn, elementIn, levelsIn}
+use Rattle.extract_reader.specs.steps.ReadLaws.{hold-by}
+use Rattle.extract_reader.specs.steps.Reads.{prepended, Hold, progress, Reads, Stands, still-reading, refused, all-read, ReadOn}
+use Rattle.extract_spec.specs.Reading.{Placed, consRow}
 use Rattle.projection_laws.specs.Opens.{placed}
-use Rattle.cells.specs.columns.Columns.{EqualColumns}
+use Rattle.projection_laws.specs.extract_passes.Steps.{state, Step, wrong, ended, onward, continued, pastField, firstStep, rowsFrom, rowsIn}
 use Rattle.table_spec.specs.Columns.{Columns, Sizes, sizesOf, columnsOf}
 use Rattle.table_spec.specs.Rows.{Row, elementRow}
 use Rattle.text_laws.specs.Tests.{never}

@@ -3,8 +3,8 @@ ghost use mathlib.Core.Path.{_≡_};
 ghost use Prim.Native.Nat.{_+_, _≤_};
 ghost use lib.Dec.{eqb};
 ghost use lib.ListN.{length};
-ghost use Rattle.extract_spec.specs.Reading.{elementValue, countValue};
 ghost use Rattle.extract_reader.specs.field_ends.Ends.{isRoot, isCount};
+ghost use Rattle.extract_spec.specs.Reading.{elementValue, countValue};
 ghost use Rattle.text_spec.specs.Lists.{part};
 use crate::field_tests::two_bytes;
 

@@ -1,8 +1,8 @@
 // The row that a field of an extract makes, and the element that it opens.
 ghost use mathlib.Core.Path.{_≡_};
 ghost use lib.ListN.{set};
-ghost use Rattle.extract_reader.specs.levels.Levels.{levelWord};
 ghost use Rattle.extract_reader.specs.field_rows.Steps.{ElementPlace, TextPlace, elementStep, textStep, Ready, StepAs};
+ghost use Rattle.extract_reader.specs.levels.Levels.{levelWord};
 use crate::field_values::Carried;
 use crate::field_values::FieldRead;
 use crate::fields::read_field;

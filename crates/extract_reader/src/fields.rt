@@ -2,8 +2,8 @@
 ghost use mathlib.Core.Path.{_≡_};
 ghost use Prim.Native.Nat.{_+_, _≤_};
 ghost use lib.ListN.{length};
-ghost use Rattle.projection_laws.specs.extract_passes.Steps.{hasField};
 ghost use Rattle.extract_reader.specs.fields.Fields.{CountPass, CountAs, FieldPass, FieldAs, FirstAs};
+ghost use Rattle.projection_laws.specs.extract_passes.Steps.{hasField};
 use crate::field_ends::is_count;
 use crate::field_ends::is_root;
 use crate::field_tests::two_bytes;

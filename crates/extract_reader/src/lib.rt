@@ -11,10 +11,10 @@ pub mod table;
 pub mod verdict;
 
 ghost use mathlib.Core.List.{[]};
-ghost use Rattle.extract_reader.specs.Whole.{Begun, RowsRead};
-ghost use Rattle.extract_reader.specs.steps.Reads.{Hold};
 ghost use Rattle.cells.specs.columns.Columns.{EqualColumns};
 ghost use Rattle.cells.specs.lent.Ends.{exitColumns, entrySizes, heldColumns};
+ghost use Rattle.extract_reader.specs.Whole.{Begun, RowsRead};
+ghost use Rattle.extract_reader.specs.steps.Reads.{Hold};
 use crate::field_values::Carried;
 use crate::fields::First;
 use crate::fields::first_field;

@@ -1,9 +1,9 @@
 // Reading an extract under a schema's record, into lent columns.
 ghost use mathlib.Core.Path.{_≡_};
-ghost use Rattle.library_spec.specs.Calls.{extractRead};
-ghost use Rattle.compiled_schema.specs.records.Records.{recordWith};
-ghost use Rattle.cells.specs.verdicts.Verdicts.{verdict};
 ghost use Rattle.cells.specs.lent.Ends.{entrySizes, LeftRows};
+ghost use Rattle.cells.specs.verdicts.Verdicts.{verdict};
+ghost use Rattle.compiled_schema.specs.records.Records.{recordWith};
+ghost use Rattle.library_spec.specs.Calls.{extractRead};
 use crate::table::read_extract_table;
 use cells::columns;
 use cells::sizes::equal_sizes;

@@ -1,9 +1,9 @@
 // One field more of an extract, its row put into the columns.
 ghost use mathlib.Core.Path.{_≡_};
-ghost use Rattle.extract_reader.specs.steps.Reads.{Reads, ReadOn};
-ghost use Rattle.extract_reader.specs.field_rows.Steps.{rowCells};
 ghost use Rattle.cells.specs.columns.Columns.{EqualColumns, withRow};
 ghost use Rattle.cells.specs.lent.Ends.{exitColumns, entryColumns, heldColumns};
+ghost use Rattle.extract_reader.specs.field_rows.Steps.{rowCells};
+ghost use Rattle.extract_reader.specs.steps.Reads.{Reads, ReadOn};
 use crate::field_rows::FieldRow;
 use crate::field_rows::FieldStep;
 use crate::field_rows::step;

@@ -1,9 +1,9 @@
 // An extract read into lent columns under a schema: 2 first, then 17, 18 last, every lent cell at exit.
 ghost use mathlib.Core.List.{[]};
-ghost use Rattle.extract_reader.specs.steps.Reads.{Hold};
-ghost use Rattle.extract_reader.specs.table.Tables.{Judged, TableRead};
 ghost use Rattle.cells.specs.columns.Columns.{EqualColumns};
 ghost use Rattle.cells.specs.lent.Ends.{exitColumns, entryColumns, heldColumns};
+ghost use Rattle.extract_reader.specs.steps.Reads.{Hold};
+ghost use Rattle.extract_reader.specs.table.Tables.{Judged, TableRead};
 use crate::RowsFound;
 use crate::verdict::verdict_of;
 use cells::columns;

@@ -6,20 +6,23 @@ use mathlib.Core.Path.{_≡_, refl, sym, ap, _∙_}
 use Prim.Native.Nat.{ℕ}
 use lib.Dec.{T}
 use lib.ListN.{length, take, length-map}
-use Rattle.kept_rows.specs.cut_rows.Rows.{table}
-use Rattle.extract_writer.specs.rows.Rows.{TextColumns}
-use Rattle.extract_spec.specs.Fields.{writeExtract}
-use Rattle.extract_writer.specs.writing.Extract.{extractIn}
+use Rattle.cells.specs.row_sets.Columns.{marks}
 use Rattle.cells.specs.verdicts.Verdicts.{inBytes}
+use Rattle.extract_spec.specs.Fields.{writeExtract}
+use Rattle.extract_writer.specs.asked.Asked.{text-columns}
+use Rattle.extract_writer.specs.row_laws.Written.{table-extract}
+use Rattle.extract_writer.specs.rows.Rows.{TextColumns}
+use Rattle.extract_writer.specs.writing.Extract.{extractIn}
+use Rattle.handed_tables.specs.columns.Held.{held-coded, held-columns, beside-held}
+use Rattle.kept_rows.specs.cut_rows.Rows.{table}
+use Rattle.kept_rows.specs.laws.Codes.{codes-named}
+use Rattle.kept_rows.specs.laws.Cut.{columnsIn}
 use Rattle.library_spec.specs.Calls.{extractWritten}
 use Rattle.library_spec.specs.Records.{LentTable, schemaHeld, rowsLent, tableBeside, passesSchema}
-use Rattle.text_spec.specs.Records.{TextRecord, textIn}
-use Rattle.cells.specs.row_sets.Columns.{marks}
 use Rattle.schema_spec.specs.Records.{schemaIn}
 use Rattle.schema_spec.specs.Schemas.{Schema}
 use Rattle.schema_spec.specs.Types.{typesOf}
-use Rattle.extract_writer.specs.row_laws.Written.{table-extract}
-use Rattle.kept_rows.specs.laws.Cut.{columnsIn}
+use Rattle.table_laws.specs.WellFormed.{well-formed-alone}
 use Rattle.table_spec.specs.Columns.{Columns}
 use Rattle.table_spec.specs.Rows.{Row}
 use Rattle.table_spec.specs.Tables.{wellFormedWith}
@@ -27,11 +30,8 @@ use Rattle.tables.specs.Handed.{isBeside}
 use Rattle.text_laws.specs.Tests.{never}
 use Rattle.text_spec.specs.Calls.{handed}
 use Rattle.text_spec.specs.Lists.{isNone}
+use Rattle.text_spec.specs.Records.{TextRecord, textIn}
 use Rattle.text_spec.specs.Refusals.{Outcome, refused, at, badRecord}
-use Rattle.extract_writer.specs.asked.Asked.{text-columns}
-use Rattle.table_laws.specs.WellFormed.{well-formed-alone}
-use Rattle.kept_rows.specs.laws.Codes.{codes-named}
-use Rattle.handed_tables.specs.columns.Held.{held-coded, held-columns, beside-held}
 
 -- ---- the rows of a table beside a text
 module _ (s : Schema) (lent : List ℕ) (t : LentTable) (beside : isBeside s lent t ≡ true) where

@@ -1,12 +1,12 @@
 // The extract of a tested table in lent bytes, and the answer where the table has not passed.
 ghost use mathlib.Core.Bool.{true};
 ghost use lib.ListN.{length};
+ghost use Rattle.cells.specs.lent.Ends.{entryColumns, heldColumns};
+ghost use Rattle.cells.specs.row_sets.Columns.{marks};
+ghost use Rattle.cells.specs.verdicts.Verdicts.{inBytes, AnsweredBytes, AnsweredSlice};
 ghost use Rattle.extract_writer.specs.rows.Rows.{TextColumns};
 ghost use Rattle.extract_writer.specs.writing.Extract.{extractIn};
-ghost use Rattle.cells.specs.verdicts.Verdicts.{inBytes, AnsweredBytes, AnsweredSlice};
-ghost use Rattle.cells.specs.row_sets.Columns.{marks};
 ghost use Rattle.text_spec.specs.Refusals.{refused, at, badRecord};
-ghost use Rattle.cells.specs.lent.Ends.{entryColumns, heldColumns};
 use crate::writing::write_table;
 use cells::verdicts;
 use cells::verdicts::BAD_RECORD;

@@ -4,10 +4,10 @@ pub mod fields;
 pub mod rows;
 pub mod writing;
 
-ghost use Rattle.library_spec.specs.Calls.{extractWritten};
-ghost use Rattle.compiled_schema.specs.records.Records.{recordWith};
-ghost use Rattle.tables.specs.Handed.{entryTable};
 ghost use Rattle.cells.specs.verdicts.Verdicts.{AnsweredSlice};
+ghost use Rattle.compiled_schema.specs.records.Records.{recordWith};
+ghost use Rattle.library_spec.specs.Calls.{extractWritten};
+ghost use Rattle.tables.specs.Handed.{entryTable};
 use crate::answers::refuse;
 use crate::answers::write_in_room;
 use cells::verdicts::Verdict;

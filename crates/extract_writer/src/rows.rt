@@ -1,10 +1,10 @@
 // The fields of the marked rows of a table in columns: how many bytes they take, and writing them.
 ghost use mathlib.Core.Path.{_≡_};
 ghost use lib.ListN.{length};
+ghost use Rattle.cells.specs.lent.Ends.{entryColumns, heldColumns};
 ghost use Rattle.extract_writer.specs.rows.Measure.{markedSize, MeasurePass, MeasuredAs};
 ghost use Rattle.extract_writer.specs.rows.Rows.{fieldAt, markedField, fieldSize, RowPass, StoredAt, FieldsPass};
 ghost use Rattle.kept_rows.specs.Joined.{joined};
-ghost use Rattle.cells.specs.lent.Ends.{entryColumns, heldColumns};
 use crate::fields::ELEMENT_BYTES;
 use crate::fields::TEXT_HEAD_BYTES;
 use crate::fields::put_element;

@@ -2,11 +2,11 @@
 // since a field has its parent's number and not its row.
 ghost use mathlib.Core.Bool.{true};
 ghost use lib.ListN.{length};
+ghost use Rattle.cells.specs.lent.Ends.{entryColumns, heldColumns};
+ghost use Rattle.cells.specs.row_sets.Columns.{marks};
 ghost use Rattle.extract_writer.specs.rows.Rows.{TextColumns};
 ghost use Rattle.extract_writer.specs.writing.Extract.{extractIn, BytesWritten, ExtractPass, KeptExtract};
 ghost use Rattle.kept_rows.specs.Kept.{inSet, keptMarks, KeptColumns};
-ghost use Rattle.cells.specs.row_sets.Columns.{marks};
-ghost use Rattle.cells.specs.lent.Ends.{entryColumns, heldColumns};
 use crate::fields::COUNT_BYTES;
 use crate::fields::put_count;
 use crate::rows::measure;

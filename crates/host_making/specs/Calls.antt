@@ -4,16 +4,16 @@ use mathlib.Core.List.{List, []}
 use mathlib.Core.Path.{_≡_, refl, sym, ap, subst, _∙_}
 use Prim.Native.Nat.{ℕ}
 use lib.ListN.{length}
+use Rattle.cells.specs.columns.ColumnLaws.{equal-columns}
 use Rattle.compiled_paths.specs.Paths.{pathsIn}
-use Rattle.hosts.specs.laws.Stages.{madeUnder, bundle-accepted, make-unequal, make-refused, make-accepted}
-use Rattle.hosts.specs.results.Exits.{lentOf, Exits, RefusedExit, same-exit, refused-exit}
 use Rattle.host_making.specs.accepted.Making.{UnderTexts}
 use Rattle.hosts.specs.declared.results.HostResult.{HostResult}
-use Rattle.hosts.specs.texts.Texts.{refusalOf, TextsJudged, none-refused, texts-accepted, texts-refused}
 use Rattle.hosts.specs.declared.texts.Texts.{Texts}
 use Rattle.hosts.specs.declared.texts.Told.{Told}
+use Rattle.hosts.specs.laws.Stages.{madeUnder, bundle-accepted, make-unequal, make-refused, make-accepted}
+use Rattle.hosts.specs.results.Exits.{lentOf, Exits, RefusedExit, same-exit, refused-exit}
+use Rattle.hosts.specs.texts.Texts.{refusalOf, TextsJudged, none-refused, texts-accepted, texts-refused}
 use Rattle.library_spec.specs.Hosts.{makeExtract}
-use Rattle.cells.specs.columns.ColumnLaws.{equal-columns}
 use Rattle.schema_spec.specs.Records.{schemaIn}
 use Rattle.table_spec.specs.Columns.{Columns, sizesOf, equalSizes}
 use Rattle.text_laws.specs.Tests.{passed}

@@ -1,14 +1,14 @@
 // Making an extract under an accepted schema and bundle, both compiled: the journal's rows in the lent columns, and the bytes of those that the
 // bundle needs.
 ghost use Prim.Native.Nat.{_≤_};
+ghost use Rattle.cells.specs.lent.Ends.{exitColumns, entryColumns, heldColumns};
 ghost use Rattle.compiled_paths.specs.Paths.{lentPaths, pathsIn, Shaped, entryPaths};
+ghost use Rattle.host_making.specs.accepted.Making.{AnswerAs, FirstAsked, UnderTexts, WrittenUnderIn};
 ghost use Rattle.hosts.specs.laws.Stages.{madeUnder};
 ghost use Rattle.hosts.specs.results.Exits.{MakingExits};
-ghost use Rattle.host_making.specs.accepted.Making.{AnswerAs, FirstAsked, UnderTexts, WrittenUnderIn};
 ghost use Rattle.schema_spec.specs.Records.{schemaIn};
 ghost use Rattle.table_spec.specs.Columns.{columns};
 ghost use Rattle.text_spec.specs.Limits.{maxDeclarations};
-ghost use Rattle.cells.specs.lent.Ends.{exitColumns, entryColumns, heldColumns};
 use cells::columns;
 use cells::verdicts::TOO_FEW_CELLS;
 use compiled_paths::CONDITION_STARTS;

@@ -5,18 +5,18 @@ use mathlib.Core.Path.{_≡_, refl, sym, ap, subst, _∙_}
 use Prim.Native.Nat.{ℕ}
 use borrow.Author.Tests.{eqb-true, eqb-false}
 use lib.Dec.{leb, leb→le, eqb}
+use Rattle.cells.specs.columns.ColumnLaws.{equal-columns}
 use Rattle.compiled_paths.specs.Paths.{pathsIn}
 use Rattle.compiled_schema.specs.Compiled.{CompiledOf}
 use Rattle.host_selecting.specs.accepted.Choosing.{UnderSchema}
-use Rattle.hosts.specs.laws.Stages.{chosenUnder, bundle-accepted, select-unequal, select-out, select-refused, select-accepted}
-use Rattle.hosts.specs.results.Exits.{lentOf, Exits, RefusedExit, same-exit, refused-exit}
-use Rattle.hosts.specs.refusals.Refusals.{rangeOf, range-accepted}
 use Rattle.hosts.specs.declared.results.HostResult.{HostResult}
-use Rattle.hosts.specs.texts.Texts.{refusalOf, TextsJudged, none-refused, texts-accepted, texts-refused}
 use Rattle.hosts.specs.declared.texts.Texts.{Texts}
 use Rattle.hosts.specs.declared.texts.Told.{Told}
+use Rattle.hosts.specs.laws.Stages.{chosenUnder, bundle-accepted, select-unequal, select-out, select-refused, select-accepted}
+use Rattle.hosts.specs.refusals.Refusals.{rangeOf, range-accepted}
+use Rattle.hosts.specs.results.Exits.{lentOf, Exits, RefusedExit, same-exit, refused-exit}
+use Rattle.hosts.specs.texts.Texts.{refusalOf, TextsJudged, none-refused, texts-accepted, texts-refused}
 use Rattle.library_spec.specs.Hosts.{bundlePaths, inRange, selectFrom}
-use Rattle.cells.specs.columns.ColumnLaws.{equal-columns}
 use Rattle.schema_spec.specs.Reading.{readSchema}
 use Rattle.schema_spec.specs.Records.{schemaIn}
 use Rattle.selection.specs.table.Tables.{paths-count}

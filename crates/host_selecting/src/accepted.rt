@@ -1,11 +1,11 @@
 // Selecting from an extract under an accepted schema and bundle, both compiled: the extract's rows in the lent columns, and the numbers that the
 // paths asked for select on them.
 ghost use Prim.Native.Nat.{_≤_};
+ghost use Rattle.cells.specs.lent.Ends.{exitColumns, entryColumns, heldColumns};
 ghost use Rattle.compiled_paths.specs.Paths.{lentPaths, pathsIn, Shaped, entryPaths};
 ghost use Rattle.host_selecting.specs.accepted.Choosing.{RowsAsked, UnderSchema, WordsIn, LastAs, SelectedUnderIn, EverySchema};
 ghost use Rattle.hosts.specs.laws.Stages.{chosenUnder};
 ghost use Rattle.hosts.specs.results.Exits.{SelectingExits};
-ghost use Rattle.cells.specs.lent.Ends.{exitColumns, entryColumns, heldColumns};
 use cells::columns;
 use cells::lent::clear_numbers;
 use cells::lent::clear_places;

@@ -1,8 +1,8 @@
 // What a host's call is refused by before its last text is read: the tests of the call, and the way out, on which every lent cell is 0.
 ghost use mathlib.Core.Bool.{_&&_};
 ghost use mathlib.Core.Path.{_≡_};
-ghost use Rattle.hosts.specs.results.Exits.{refusedBy, RefusedMaking, RefusedSelecting};
 ghost use Rattle.hosts.specs.refusals.Refusals.{rangeOf};
+ghost use Rattle.hosts.specs.results.Exits.{refusedBy, RefusedMaking, RefusedSelecting};
 use crate::results;
 use crate::results::HostResult;
 use crate::texts::Told;

@@ -1,15 +1,15 @@
 // One step back: the names of a type from which walks go on to the last step, and what these walks need.
 ghost use mathlib.Core.List.{_++_};
 ghost use mathlib.Core.Path.{_≡_};
+ghost use Rattle.compiled_paths.specs.Columns.{axisOf};
 ghost use Rattle.inference_spec.specs.Needed.{between, complete};
 ghost use Rattle.inference_spec.specs.Types.{allBelow, allAbove, unionOf};
+ghost use Rattle.inference.specs.back_steps.Needs.{RelatedTo, leading, StepNeeds};
+ghost use Rattle.inference.specs.type_steps.Relations.{RelationsOf};
+ghost use Rattle.names.specs.Sets.{setIn};
 ghost use Rattle.schema_spec.specs.Names.{Names, namesOf, within};
 ghost use Rattle.schema_spec.specs.Schemas.{Schema};
 ghost use Rattle.schema_spec.specs.Types.{typesOf};
-ghost use Rattle.compiled_paths.specs.Columns.{axisOf};
-ghost use Rattle.inference.specs.type_steps.Relations.{RelationsOf};
-ghost use Rattle.names.specs.Sets.{setIn};
-ghost use Rattle.inference.specs.back_steps.Needs.{RelatedTo, leading, StepNeeds};
 use crate::type_steps::all_above;
 use crate::type_steps::all_below;
 use crate::type_steps::common_of;

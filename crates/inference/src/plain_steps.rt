@@ -1,15 +1,15 @@
 // Steps without brackets, from a type and a context: where they end, and what their walks to the last step need.
 ghost use mathlib.Core.Path.{_≡_};
 ghost use Prim.Native.Nat.{ℕ};
-ghost use Rattle.inference.specs.back_steps.Needs.{NeedsOf};
 ghost use Rattle.compiled_paths.specs.Columns.{plainIn};
-ghost use Rattle.path_spec.specs.Paths.{expandFrom};
-ghost use Rattle.inference.specs.plain_steps.Columns.{HasSteps};
 ghost use Rattle.inference_spec.specs.Needed.{keepsAll, wantsNothing};
 ghost use Rattle.inference_spec.specs.Types.{inferAll};
+ghost use Rattle.inference.specs.back_steps.Needs.{NeedsOf};
+ghost use Rattle.inference.specs.plain_steps.Columns.{HasSteps};
+ghost use Rattle.inference.specs.type_steps.Relations.{RelationsOf, envIn};
+ghost use Rattle.path_spec.specs.Paths.{expandFrom};
 ghost use Rattle.schema_spec.specs.Schemas.{Schema};
 ghost use Rattle.schema_spec.specs.Types.{typesOf};
-ghost use Rattle.inference.specs.type_steps.Relations.{RelationsOf, envIn};
 use crate::back_steps::Needs;
 use crate::back_steps::with_step;
 use crate::type_steps::Inferred;

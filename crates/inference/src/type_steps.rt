@@ -1,16 +1,16 @@
 // One step of the inference of types and contexts, over sets of names as words.
 ghost use mathlib.Core.Path.{_≡_};
 ghost use Prim.Native.Nat.{ℕ};
-ghost use Rattle.path_spec.specs.Selection.{passes};
-ghost use Rattle.path_spec.specs.Paths.{NodeTest, named, anyText, child, descendant, descendantOrSelf, parent, ancestor, ancestorOrSelf};
+ghost use Rattle.compiled_paths.specs.Columns.{axisOf, testOf};
 ghost use Rattle.inference_spec.specs.Types.{heldBy, holding, allBelow, allAbove, unionOf, cutTo, move, narrow};
+ghost use Rattle.inference.specs.type_steps.Laws.{Tested};
+ghost use Rattle.inference.specs.type_steps.Relations.{RelationsOf, envIn};
+ghost use Rattle.names.specs.Sets.{setIn};
+ghost use Rattle.path_spec.specs.Paths.{NodeTest, named, anyText, child, descendant, descendantOrSelf, parent, ancestor, ancestorOrSelf};
+ghost use Rattle.path_spec.specs.Selection.{passes};
 ghost use Rattle.schema_spec.specs.Names.{within};
 ghost use Rattle.schema_spec.specs.Schemas.{Schema};
 ghost use Rattle.schema_spec.specs.Types.{typesOf};
-ghost use Rattle.inference.specs.type_steps.Laws.{Tested};
-ghost use Rattle.compiled_paths.specs.Columns.{axisOf, testOf};
-ghost use Rattle.inference.specs.type_steps.Relations.{RelationsOf, envIn};
-ghost use Rattle.names.specs.Sets.{setIn};
 use compiled_paths::ANCESTOR;
 use compiled_paths::ANCESTOR_OR_SELF;
 use compiled_paths::ANY_NODE;

@@ -2,12 +2,12 @@
 use mathlib.Core.Bool.{Bool, true, not, _||_}
 use mathlib.Core.List.{List, [], _∷_, _++_}
 use Prim.Native.Nat.{ℕ}
+use Rattle.inference_spec.specs.Types.{Env, env, allBelow, allAbove, cutTo, infer, inferAll}
 use Rattle.path_spec.specs.Paths.{Axis, self, child, descendant, descendantOrSelf, parent, ancestor, ancestorOrSelf, Step, Condition, unconditional, alternatives, conditionPaths, Start, rootElement, LocationPath, expand}
 use Rattle.schema_spec.specs.Closure.{related, closure}
 use Rattle.schema_spec.specs.Names.{Name, Names, sameName, within, wordOfSet}
 use Rattle.schema_spec.specs.Types.{Types, isBelow}
 use Rattle.text_spec.specs.Lists.{anyOf, filterBy, gather, isEmpty}
-use Rattle.inference_spec.specs.Types.{Env, env, allBelow, allAbove, cutTo, infer, inferAll}
 
 -- "neighbours related as the axis says"
 abbrev pub linked : Types → Axis → Name → Name → Bool

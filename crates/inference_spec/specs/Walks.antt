@@ -2,11 +2,11 @@
 use mathlib.Core.List.{List, [], _∷_, List·Memᴰ}
 use Prim.Native.Nat.{ℕ}
 use lib.Dec.{T}
+use Rattle.inference_spec.specs.Rules.{type, Point, atStart, alternativeFrom, tested, afterStep, alternativeSteps, Member}
 use Rattle.path_spec.specs.Paths.{Axis, self, child, descendant, descendantOrSelf, parent, ancestor, ancestorOrSelf, Step, PlainStep, Condition, unconditional, conditionPaths, LocationPath, expand}
 use Rattle.schema_spec.specs.Names.{Name, Names, element}
 use Rattle.schema_spec.specs.Schemas.{Schema}
 use Rattle.schema_spec.specs.Types.{holds, Below}
-use Rattle.inference_spec.specs.Rules.{type, Point, atStart, alternativeFrom, tested, afterStep, alternativeSteps, Member}
 
 -- the axes with names between
 pub data Passing : Axis → Type 0 where

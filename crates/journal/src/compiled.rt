@@ -1,15 +1,15 @@
 // The journal's reader over a compiled schema: the names of its elements as words, the columns of their content, and every lent cell at exit.
 ghost use Prim.Native.Nat.{_≤_, _<_};
+ghost use Rattle.cells.specs.columns.Columns.{EqualColumns};
+ghost use Rattle.cells.specs.lent.Ends.{exitColumns, entryColumns, heldColumns};
 ghost use Rattle.compiled_schema.specs.Compiled.{CompiledOf};
+ghost use Rattle.journal_builder.specs.event_handling.Events.{entrySchema};
 ghost use Rattle.journal_builder.specs.fillings.Fillings.{Sized};
+ghost use Rattle.journal_lexer.specs.state.Places.{noPlace};
 ghost use Rattle.journal.specs.compiled.Compiled.{CompiledRead};
 ghost use Rattle.journal.specs.compiled.Tables.{TableReadIn};
-ghost use Rattle.journal_builder.specs.event_handling.Events.{entrySchema};
-ghost use Rattle.journal_lexer.specs.state.Places.{noPlace};
-ghost use Rattle.cells.specs.columns.Columns.{EqualColumns};
 ghost use Rattle.schema_spec.specs.Records.{schemaIn};
 ghost use Rattle.text_spec.specs.Limits.{maxDeclarations};
-ghost use Rattle.cells.specs.lent.Ends.{exitColumns, entryColumns, heldColumns};
 use cells::columns;
 use cells::verdicts::Verdict;
 use compiled_schema::CompiledSchema;

@@ -1,12 +1,12 @@
 // Reading a journal under a schema's record into lent columns.
 ghost use mathlib.Core.Bool.{_&&_};
 ghost use mathlib.Core.Path.{_≡_};
+ghost use Rattle.cells.specs.lent.Ends.{entrySizes, LeftRows};
+ghost use Rattle.cells.specs.verdicts.Verdicts.{verdict};
+ghost use Rattle.compiled_schema.specs.records.Records.{recordWith};
 ghost use Rattle.library_spec.specs.Calls.{journalRead};
 ghost use Rattle.schema_reader.specs.Records.{passesRecord};
-ghost use Rattle.compiled_schema.specs.records.Records.{recordWith};
 ghost use Rattle.table_spec.specs.Columns.{equalSizes};
-ghost use Rattle.cells.specs.verdicts.Verdicts.{verdict};
-ghost use Rattle.cells.specs.lent.Ends.{entrySizes, LeftRows};
 use crate::compiled::read_compiled;
 use cells::columns;
 use cells::sizes::equal_sizes;

@@ -5,24 +5,24 @@ use mathlib.Core.Path.{_≡_, refl, sym, ap, subst, _∙_}
 use Prim.Native.Nat.{ℕ, _≤_}
 use native.Mathlib.Omega.{arith}
 use lib.Dec.{eqb, leb}
-use Rattle.journal_builder.specs.laws.Ends.{end-none, end-keeps-rows}
-use Rattle.journal_builder.specs.laws.Starts.{isInnermost}
+use lib.ListN.{length}
+use denote.Ref.{now}
+use Rattle.cells.specs.lent.Ends.{SliceOf, Slice}
 use Rattle.journal_builder.specs.build_state.State.{judgedFrom, Safe, Built, Rows, Leaves, SafeStep, noRow, step}
-use Rattle.journal_builder.specs.laws.StateLaws.{leaves-kept, leaves-as, rows-as}
 use Rattle.journal_builder.specs.declared.build_state.Build.{Build}
 use Rattle.journal_builder.specs.declared.build_state.BuildStep.{BuildStep}
+use Rattle.journal_builder.specs.element_names.Names.{NamesOf}
+use Rattle.journal_builder.specs.fillings.Fillings.{KindsOf, ModelsOf, EntryModels}
+use Rattle.journal_builder.specs.laws.Ends.{end-none, end-keeps-rows}
+use Rattle.journal_builder.specs.laws.Starts.{isInnermost}
+use Rattle.journal_builder.specs.laws.StateLaws.{leaves-kept, leaves-as, rows-as}
 use Rattle.journal_spec.specs.Builder.{Building, onEnd, onUnbroken, onEvent}
 use Rattle.journal_spec.specs.Lexer.{Event, starts, empties, ends}
 use Rattle.schema_spec.specs.Schemas.{Schema}
 use Rattle.table_spec.specs.Rows.{Row}
-use Rattle.text_spec.specs.Lists.{isNone}
 use Rattle.text.specs.declared.name_words.Name.{Name}
 use Rattle.text.specs.name_words.Words.{Spells}
-use Rattle.cells.specs.lent.Ends.{SliceOf, Slice}
-use Rattle.journal_builder.specs.element_names.Names.{NamesOf}
-use Rattle.journal_builder.specs.fillings.Fillings.{KindsOf, ModelsOf, EntryModels}
-use lib.ListN.{length}
-use denote.Ref.{now}
+use Rattle.text_spec.specs.Lists.{isNone}
 
 -- a start tag or an empty tag; a tag, by the number of its event
 abbrev pub startEvent : Bool → List ℕ → ℕ → Event

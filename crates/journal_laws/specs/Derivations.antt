@@ -12,8 +12,8 @@ use Rattle.journal_spec.specs.Builder.{Filling, unjudged, misfit, unfilled, fil
 use Rattle.journal_spec.specs.Lexer.{Run, Event, starts, ends, runs}
 use Rattle.schema_spec.specs.Models.{Progress}
 use Rattle.schema_spec.specs.Schemas.{Schema, elementNamed, contentAt}
-use Rattle.table_spec.specs.Rows.{Row, elementRow, textRow}
 use Rattle.table_laws.specs.Places.{none-some}
+use Rattle.table_spec.specs.Rows.{Row, elementRow, textRow}
 use Rattle.text_laws.specs.Lists.{append-empty}
 use Rattle.text_laws.specs.Refusals.{given-free}
 use Rattle.text_laws.specs.Tests.{passed, or-left, or-right, not-intro, not-not}

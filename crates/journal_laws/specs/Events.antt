@@ -11,14 +11,14 @@ use Rattle.journal_spec.specs.Builder.{Building, onStart, onEnd, onEvent}
 use Rattle.journal_spec.specs.Lexer.{Run, Mode, between, inData, inEntity, opened, inName, afterName, afterSlash, ending, inEndName, afterEndName, stopped, Event, quiet, starts, empties, ends, runs, Lexed, goes, solidBy, tailsWith, dataByte, entityByte, tagByte, endTagByte, lex, lastEvent}
 use Rattle.journal_spec.specs.Reading.{Machine, step, run, ended}
 use Rattle.schema_spec.specs.Schemas.{Schema}
+use Rattle.text_laws.specs.Lists.{append-empty}
+use Rattle.text_laws.specs.Refusals.{given-free}
+use Rattle.text_laws.specs.Tests.{and-intro, not-intro}
 use Rattle.text_spec.specs.Bytes.{isBlank, isForeign, startsName, continuesName}
 use Rattle.text_spec.specs.Limits.{maxNameBytes}
 use Rattle.text_spec.specs.Lists.{anyOf, allOf, isEmpty, isNone}
 use Rattle.text_spec.specs.Machines.{longer}
 use Rattle.text_spec.specs.Refusals.{Refusal, at, given, badByte}
-use Rattle.text_laws.specs.Lists.{append-empty}
-use Rattle.text_laws.specs.Refusals.{given-free}
-use Rattle.text_laws.specs.Tests.{and-intro, not-intro}
 
 -- an event in front of others; an empty tag is a start tag and an end tag at one place
 abbrev pub told : Event → List Event → List Event

@@ -18,8 +18,8 @@ use Rattle.journal_spec.specs.Lexer.{run, Event, ends}
 use Rattle.journal_spec.specs.Tokens.{Token, startTag, emptyTag, endTag, characters, spellToken, spell, Tokens, openAfter}
 use Rattle.journal_spec.specs.Trees.{Forest, Nested}
 use Rattle.schema_spec.specs.Schemas.{Schema}
-use Rattle.table_spec.specs.Rows.{Row}
 use Rattle.table_laws.specs.Places.{none-some}
+use Rattle.table_spec.specs.Rows.{Row}
 use Rattle.text_laws.specs.Lists.{bytes-equal, bytes-same}
 use Rattle.text_laws.specs.Tests.{passed, failed, true-of, false-of, and-cases, and-intro, never}
 use Rattle.text_spec.specs.Bytes.{isBlank, allBlank}

@@ -19,8 +19,8 @@ use Rattle.journal_spec.specs.Conditions.{Begins, by-start-tag, by-empty-tag, U
 use Rattle.journal_spec.specs.Lexer.{Run, run, Event, starts, ends, runs}
 use Rattle.journal_spec.specs.Tokens.{Token, startTag, emptyTag, endTag, characters, spellToken, spell, Tokens}
 use Rattle.schema_spec.specs.Schemas.{Schema, elementNamed}
-use Rattle.table_spec.specs.Rows.{Row}
 use Rattle.table_laws.specs.Places.{none-some}
+use Rattle.table_spec.specs.Rows.{Row}
 use Rattle.text_laws.specs.Lists.{is-none}
 use Rattle.text_laws.specs.Refusals.{in-given, given-in}
 use Rattle.text_spec.specs.Limits.{maxDepth, maxNodes}

@@ -1,7 +1,7 @@
 // Loops over a journal's character data: one for each mode that lasts, over the byte functions.
 ghost use mathlib.Core.Path.{_≡_};
-ghost use Rattle.journal_lexer.specs.loop_laws.Advance.{Ready, Advance, only};
 ghost use Rattle.journal_lexer.specs.data_loops.Modes.{dataMode};
+ghost use Rattle.journal_lexer.specs.loop_laws.Advance.{Ready, Advance, only};
 use crate::character_data;
 use crate::state::BETWEEN;
 use crate::state::BLANKS;

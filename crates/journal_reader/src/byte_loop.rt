@@ -1,14 +1,14 @@
 // A journal read byte by byte, in one loop over the step (request R-4). `journal_reader::event_loop::read_all` has the same contract.
 ghost use Prim.Native.Nat.{_≤_, _<_};
 ghost use lib.ListN.{length};
-ghost use Rattle.journal_builder.specs.fillings.Fillings.{Sized};
+ghost use Rattle.cells.specs.lent.Ends.{heldColumns};
 ghost use Rattle.journal_builder.specs.event_handling.Events.{entrySchema};
+ghost use Rattle.journal_builder.specs.fillings.Fillings.{Sized};
 ghost use Rattle.journal_lexer.specs.kinds.Kinds.{KindTable};
-ghost use Rattle.journal_reader.specs.byte_loop.Whole.{AllReadIn};
 ghost use Rattle.journal_lexer.specs.state.Places.{noPlace};
+ghost use Rattle.journal_reader.specs.byte_loop.Whole.{AllReadIn};
 ghost use Rattle.journal_reader.specs.state.Reading.{Usable, started};
 ghost use Rattle.text_spec.specs.Limits.{maxDeclarations};
-ghost use Rattle.cells.specs.lent.Ends.{heldColumns};
 use crate::state;
 use crate::state::ReaderState;
 use crate::step;

@@ -1,10 +1,10 @@
 // The end of reading a journal: its last event, and what was found.
 ghost use Prim.Native.Nat.{_<_};
-ghost use Rattle.journal_builder.specs.event_handling.Events.{SchemaCells};
-ghost use Rattle.journal_reader.specs.end.Ends.{Finished};
-ghost use Rattle.journal_lexer.specs.state.Places.{noPlace};
-ghost use Rattle.journal_reader.specs.state.Reading.{Usable};
 ghost use Rattle.cells.specs.lent.Ends.{exitColumns, entryColumns, heldColumns};
+ghost use Rattle.journal_builder.specs.event_handling.Events.{SchemaCells};
+ghost use Rattle.journal_lexer.specs.state.Places.{noPlace};
+ghost use Rattle.journal_reader.specs.end.Ends.{Finished};
+ghost use Rattle.journal_reader.specs.state.Reading.{Usable};
 use crate::findings;
 use crate::rows;
 use crate::state::ReaderState;

@@ -1,17 +1,17 @@
 // A journal read and judged into clear columns, event by event, with the stack of open elements and the places as local cells: 2, and then what reading finds, 18 last.
 ghost use Prim.Native.Nat.{_≤_, _<_};
 ghost use lib.ListN.{length};
-ghost use Rattle.journal_builder.specs.fillings.Fillings.{Sized};
+ghost use Rattle.cells.specs.columns.Columns.{EqualColumns};
+ghost use Rattle.cells.specs.lent.Ends.{heldColumns};
 ghost use Rattle.journal_builder.specs.event_handling.Events.{entrySchema};
+ghost use Rattle.journal_builder.specs.fillings.Fillings.{Sized};
+ghost use Rattle.journal_lexer.specs.kinds.Kinds.{KindTable};
+ghost use Rattle.journal_lexer.specs.state.Places.{noPlace};
+ghost use Rattle.journal_reader.specs.byte_loop.Whole.{AllReadIn};
 ghost use Rattle.journal_reader.specs.event_loop.Journals.{JournalReadIn};
 ghost use Rattle.journal_reader.specs.event_loop.Judging.{JudgedIn};
-ghost use Rattle.journal_lexer.specs.kinds.Kinds.{KindTable};
-ghost use Rattle.journal_reader.specs.byte_loop.Whole.{AllReadIn};
-ghost use Rattle.journal_lexer.specs.state.Places.{noPlace};
 ghost use Rattle.journal_reader.specs.state.Reading.{Usable, started};
-ghost use Rattle.cells.specs.columns.Columns.{EqualColumns};
 ghost use Rattle.text_spec.specs.Limits.{maxDeclarations};
-ghost use Rattle.cells.specs.lent.Ends.{heldColumns};
 use crate::end;
 use crate::end::Found;
 use crate::event_step;

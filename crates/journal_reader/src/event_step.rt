@@ -1,16 +1,16 @@
 // A journal read up to an event, in loops for the modes that last.
 ghost use Prim.Native.Nat.{_≤_, _<_};
 ghost use lib.ListN.{length};
-ghost use Rattle.journal_builder.specs.fillings.Fillings.{Sized};
-ghost use Rattle.journal_reader.specs.event_step.Onward.{Onward};
-ghost use Rattle.journal_reader.specs.event_step.Points.{ReadOnIn};
+ghost use Rattle.cells.specs.lent.Ends.{heldColumns};
 ghost use Rattle.journal_builder.specs.event_handling.Events.{entrySchema};
+ghost use Rattle.journal_builder.specs.fillings.Fillings.{Sized};
 ghost use Rattle.journal_lexer.specs.kinds.Kinds.{KindTable};
 ghost use Rattle.journal_lexer.specs.loop_laws.Advance.{Ready};
 ghost use Rattle.journal_lexer.specs.state.Places.{noPlace};
+ghost use Rattle.journal_reader.specs.event_step.Onward.{Onward};
+ghost use Rattle.journal_reader.specs.event_step.Points.{ReadOnIn};
 ghost use Rattle.journal_reader.specs.state.Reading.{Usable};
 ghost use Rattle.text_spec.specs.Limits.{maxDeclarations};
-ghost use Rattle.cells.specs.lent.Ends.{heldColumns};
 use crate::event_rows;
 use crate::findings;
 use crate::state::ReaderState;

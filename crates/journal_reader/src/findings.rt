@@ -2,10 +2,10 @@
 ghost use mathlib.Core.Path.{_≡_};
 ghost use Prim.Native.Nat.{_<_};
 ghost use lib.ListN.{length};
-ghost use Rattle.text.specs.fault_keys.Keys.{placeLimit};
+ghost use Rattle.journal_lexer.specs.state.Places.{noPlace, tagAt, foreignAt};
 ghost use Rattle.journal_reader.specs.findings.Endings.{isDataMode, withEvent, Ended};
 ghost use Rattle.journal_reader.specs.findings.Findings.{endsBefore, keyFrom, foundKey};
-ghost use Rattle.journal_lexer.specs.state.Places.{noPlace, tagAt, foreignAt};
+ghost use Rattle.text.specs.fault_keys.Keys.{placeLimit};
 use journal_builder::build_state;
 use journal_builder::build_state::Build;
 use journal_lexer::state::AFTER_BRACKETS;

@@ -1,7 +1,7 @@
 // The row that a step of the builder begins, put into the lent columns.
-ghost use Rattle.journal_reader.specs.rows.Rows.{RowAdded};
 ghost use Rattle.cells.specs.columns.Columns.{EqualColumns};
 ghost use Rattle.cells.specs.lent.Ends.{exitColumns, entryColumns, heldColumns};
+ghost use Rattle.journal_reader.specs.rows.Rows.{RowAdded};
 use cells::columns;
 use journal_builder::build_state::BuildStep;
 

@@ -1,13 +1,13 @@
 // One byte of a journal, read: request R-4's step. It has the byte and its kind, the columns of the compiled schema, a state of fixed size, the
 // lent cells and rows, but not the journal.
 ghost use Prim.Native.Nat.{_≤_};
-ghost use Rattle.journal_builder.specs.fillings.Fillings.{Sized};
+ghost use Rattle.cells.specs.lent.Ends.{heldColumns};
 ghost use Rattle.journal_builder.specs.event_handling.Events.{entrySchema};
-ghost use Rattle.journal_reader.specs.step.Steps.{ByteReadIn};
+ghost use Rattle.journal_builder.specs.fillings.Fillings.{Sized};
 ghost use Rattle.journal_lexer.specs.state.Relation.{Handed};
 ghost use Rattle.journal_reader.specs.state.Reading.{Usable};
+ghost use Rattle.journal_reader.specs.step.Steps.{ByteReadIn};
 ghost use Rattle.text_spec.specs.Limits.{maxDeclarations};
-ghost use Rattle.cells.specs.lent.Ends.{heldColumns};
 use crate::event_rows;
 use crate::state::ReaderState;
 use compiled_schema::entry_columns::MAX_CELLS;

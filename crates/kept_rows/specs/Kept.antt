@@ -7,11 +7,11 @@ use native.Mathlib.Omega.{arith}
 use lib.Bits.{bitAnd}
 use lib.ListN.{length, getD, set, length-set}
 use lib.Seq.{getD-set-same}
+use Rattle.cells.specs.row_sets.Ancestors.{ancestorsOf, root-ancestors, later-ancestors}
 use Rattle.cells.specs.row_sets.Columns.{RowSet, mark, isMarked, marks, marks-length, marks-at, marks-marked, marks-cong}
 use Rattle.cells.specs.row_sets.Loops.{Forward, forward-none, forward-next, forward-all, and-marks}
-use Rattle.cells.specs.row_sets.Ancestors.{ancestorsOf, root-ancestors, later-ancestors}
-use Rattle.names.specs.codes.Codes.{nameOfCode}
 use Rattle.names.specs.Sets.{member}
+use Rattle.names.specs.codes.Codes.{nameOfCode}
 use Rattle.names.specs.declared.NameSet.{NameSet}
 use Rattle.table_laws.specs.Parents.{ParentsBefore}
 use Rattle.text_spec.specs.Limits.{maxDeclarations, maxNodes}

@@ -7,10 +7,10 @@ use native.Mathlib.Omega.{arith}
 use borrow.Author.Tests.{eq-eqb, ne-eqb, eqb-true}
 use lib.Dec.{eqb}
 use lib.ListN.{length, getD, set}
-use Rattle.kept_rows.specs.Joined.{rank, total-none, total-marked, total-unmarked, total-bound}
-use Rattle.kept_rows.specs.Kept.{isKept, keptMarks, kept-root, kept-later, KeptPass, codeCount, code-mark, forward-first}
 use Rattle.cells.specs.row_sets.Columns.{isMarked, marks, mark-test, marks-length, marks-marked}
 use Rattle.cells.specs.row_sets.Loops.{Forward, forward-none, forward-next, forward-all}
+use Rattle.kept_rows.specs.Joined.{rank, total-none, total-marked, total-unmarked, total-bound}
+use Rattle.kept_rows.specs.Kept.{isKept, keptMarks, kept-root, kept-later, KeptPass, codeCount, code-mark, forward-first}
 use Rattle.text_spec.specs.Limits.{maxNodes}
 
 -- ---- definitions

@@ -1,10 +1,10 @@
 // Cutting a table in columns to a set of names, into other lent columns.
 ghost use lib.ListN.{length};
-ghost use Rattle.kept_rows.specs.Kept.{inSet};
 ghost use Rattle.cells.specs.lent.Cells.{Cleared};
-ghost use Rattle.kept_rows.specs.cut_rows.Rows.{OfLength};
-ghost use Rattle.kept_rows.specs.columns.Cut.{Cutting, TableColumns, CutInto};
 ghost use Rattle.cells.specs.lent.Ends.{heldColumns};
+ghost use Rattle.kept_rows.specs.Kept.{inSet};
+ghost use Rattle.kept_rows.specs.columns.Cut.{Cutting, TableColumns, CutInto};
+ghost use Rattle.kept_rows.specs.cut_rows.Rows.{OfLength};
 use crate::NOT_KEPT;
 use crate::cut_rows::write_rows;
 use crate::number_kept;

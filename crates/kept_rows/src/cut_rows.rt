@@ -1,7 +1,7 @@
 // The rows of a table that have a position, written into other columns, parents renumbered.
 ghost use mathlib.Core.Path.{_≡_};
-ghost use Rattle.kept_rows.specs.cut_rows.Rows.{rowAdded, RowPass, CutPass, RowsNotedIn};
 ghost use Rattle.cells.specs.lent.Ends.{exitColumns, entryColumns, heldColumns};
+ghost use Rattle.kept_rows.specs.cut_rows.Rows.{rowAdded, RowPass, CutPass, RowsNotedIn};
 use crate::NOT_KEPT;
 
 // Writes row `r` at its position, if it has one; its parent's row becomes that row's position.

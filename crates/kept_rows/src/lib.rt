@@ -4,9 +4,9 @@ pub mod cut_rows;
 
 ghost use mathlib.Core.Path.{_≡_};
 ghost use Prim.Native.Nat.{_<_};
+ghost use Rattle.cells.specs.row_sets.Columns.{mark, marks};
 ghost use Rattle.kept_rows.specs.Kept.{codeCount, inSet, keptMarks, KeptPass};
 ghost use Rattle.kept_rows.specs.Positions.{nextPosition, lastPosition, Numbered};
-ghost use Rattle.cells.specs.row_sets.Columns.{mark, marks};
 ghost use Rattle.text_spec.specs.Limits.{maxNodes};
 use cells::row_sets::MARKED;
 use cells::row_sets::UNMARKED;

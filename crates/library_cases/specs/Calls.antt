@@ -10,10 +10,10 @@ use Rattle.library_spec.specs.Cases.Hosts.{bundleP, bundleT, undeclared, misfit
 use Rattle.library_spec.specs.Cases.Opened.{computing}
 use Rattle.library_spec.specs.Cases.Questions.{Text, readsSchema, readsBundle, readsJournal, givesNeeded, cutsTable, readsExtract, Answer, leaves, answerTo, Case, AllHold, zeros}
 use Rattle.library_spec.specs.Records.{LentTable}
-use Rattle.text_spec.specs.Records.{TextRecord}
 use Rattle.table_spec.specs.Columns.{Columns, Sizes, allOfSize}
 use Rattle.text_spec.specs.Cases.{case, answered, copies, joined}
 use Rattle.text_spec.specs.Lists.{bytes}
+use Rattle.text_spec.specs.Records.{TextRecord}
 
 -- ---- records: a text, and zeros up to 8,192 cells for a schema and 4,104 for a bundle
 abbrev pub textRecord : Text → ℕ → ℕ → TextRecord

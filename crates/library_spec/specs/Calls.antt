@@ -5,16 +5,15 @@ use mathlib.Core.List.{List, [], map}
 use Prim.Native.Nat.{ℕ}
 use lib.Dec.{leb}
 use lib.ListN.{length, getElem?}
-use Rattle.journal_spec.specs.Reading.{readJournal}
-use Rattle.path_spec.specs.Reading.{readBundle}
 use Rattle.extract_spec.specs.Cut.{cutToWord}
 use Rattle.extract_spec.specs.Fields.{writeExtract}
 use Rattle.extract_spec.specs.Reading.{readExtract}
 use Rattle.inference_spec.specs.Needed.{neededWord}
+use Rattle.journal_spec.specs.Reading.{readJournal}
 use Rattle.library_spec.specs.Chains.{chain}
 use Rattle.library_spec.specs.Records.{schemaHeld, bundleHeld, LentTable, tableHeld, tableBeside}
-use Rattle.text_spec.specs.Records.{TextRecord, recordOf}
 use Rattle.library_spec.specs.Selections.{askedPaths, Selections, selections}
+use Rattle.path_spec.specs.Reading.{readBundle}
 use Rattle.schema_spec.specs.Names.{Name, element, text}
 use Rattle.schema_spec.specs.Reading.{readSchema}
 use Rattle.schema_spec.specs.Records.{normal}
@@ -26,6 +25,7 @@ use Rattle.text_spec.specs.Calls.{tested, handed, inRoom}
 use Rattle.text_spec.specs.Cells.{tooSmall}
 use Rattle.text_spec.specs.Limits.{maxSchemaBytes, maxBundleBytes, maxJournalBytes}
 use Rattle.text_spec.specs.Lists.{part}
+use Rattle.text_spec.specs.Records.{TextRecord, recordOf}
 use Rattle.text_spec.specs.Refusals.{Outcome, accepted, refused, andThen}
 
 -- ---- what lent outputs hold at exit

@@ -7,21 +7,20 @@ use mathlib.Core.Path.{_≡_}
 use Prim.Native.Nat.{ℕ, suc, _<_, _≤_}
 use lib.Dec.{T}
 use lib.ListN.{length, getElem?}
-use Rattle.journal_spec.specs.Conditions.{JournalApplies, JournalGives}
-use Rattle.path_spec.specs.Conditions.{BundleApplies, BundleGives}
-use Rattle.path_spec.specs.Paths.{LocationPath}
-use Rattle.path_spec.specs.Selection.{Selected}
 use Rattle.extract_spec.specs.Conditions.{ExtractApplies, ExtractGives}
 use Rattle.extract_spec.specs.Cut.{cut, cutToWord}
 use Rattle.extract_spec.specs.Fields.{writeExtract}
 use Rattle.inference_spec.specs.Needed.{needed, neededWord}
+use Rattle.journal_spec.specs.Conditions.{JournalApplies, JournalGives}
 use Rattle.library_spec.specs.Calls.{RowText, textOfRow}
 use Rattle.library_spec.specs.Chains.{chain}
 use Rattle.library_spec.specs.Hosts.{HostAnswer, hostAnswer, Lent, extractOf}
 use Rattle.library_spec.specs.Listing.{FilesRead, nodeLine, header, refusedLine}
 use Rattle.library_spec.specs.Records.{LentTable}
-use Rattle.text_spec.specs.Records.{TextRecord, recordOf}
 use Rattle.library_spec.specs.Selections.{askedPaths, Selections, selections}
+use Rattle.path_spec.specs.Conditions.{BundleApplies, BundleGives}
+use Rattle.path_spec.specs.Paths.{LocationPath}
+use Rattle.path_spec.specs.Selection.{Selected}
 use Rattle.schema_spec.specs.Conditions.{SchemaApplies, SchemaGives}
 use Rattle.schema_spec.specs.Records.{normal}
 use Rattle.schema_spec.specs.Schemas.{Schema}
@@ -33,6 +32,7 @@ use Rattle.table_spec.specs.Rows.{Row, rowsOf}
 use Rattle.text_spec.specs.Calls.{Tested, Handed, InTurn, InRoom, Answers}
 use Rattle.text_spec.specs.Limits.{maxSchemaBytes, maxBundleBytes, maxJournalBytes, maxPaths, listingJournalBytes, listingRows}
 use Rattle.text_spec.specs.Lists.{filterBy}
+use Rattle.text_spec.specs.Records.{TextRecord, recordOf}
 use Rattle.text_spec.specs.Refusals.{Refusal, Outcome, accepted, refused, Judged}
 
 -- Texts as they are judged, and texts that are accepted with what they give.

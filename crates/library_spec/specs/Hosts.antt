@@ -4,14 +4,14 @@ use mathlib.Core.List.{List, []}
 use Prim.Native.Nat.{ℕ}
 use lib.Dec.{leb}
 use lib.ListN.{length}
-use Rattle.journal_spec.specs.Reading.{readJournal}
-use Rattle.path_spec.specs.Paths.{LocationPath}
-use Rattle.path_spec.specs.Reading.{readBundle}
 use Rattle.extract_spec.specs.Cut.{cut}
 use Rattle.extract_spec.specs.Fields.{writeExtract}
 use Rattle.extract_spec.specs.Reading.{readExtract}
 use Rattle.inference_spec.specs.Needed.{needed}
+use Rattle.journal_spec.specs.Reading.{readJournal}
 use Rattle.library_spec.specs.Selections.{askedPaths, selections}
+use Rattle.path_spec.specs.Paths.{LocationPath}
+use Rattle.path_spec.specs.Reading.{readBundle}
 use Rattle.schema_spec.specs.Reading.{readSchema}
 use Rattle.schema_spec.specs.Schemas.{Schema}
 use Rattle.schema_spec.specs.Types.{typesOf}

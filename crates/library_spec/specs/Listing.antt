@@ -5,9 +5,9 @@ use Prim.Native.Nat.{ℕ, zero, suc, _+_, _/_, _%_}
 use lib.Dec.{eqb, ltb}
 use lib.ListN.{length}
 use Rattle.extract_spec.specs.Cut.{cut}
+use Rattle.inference_spec.specs.Needed.{needed}
 use Rattle.journal_spec.specs.Reading.{readJournal}
-use Rattle.text_spec.specs.Calls.{inRoom}
-use Rattle.text_spec.specs.Cells.{tooSmall}
+use Rattle.library_spec.specs.Chains.{chain}
 use Rattle.path_spec.specs.Paths.{LocationPath}
 use Rattle.path_spec.specs.Reading.{readBundle}
 use Rattle.path_spec.specs.Selection.{select}
@@ -16,11 +16,11 @@ use Rattle.schema_spec.specs.Schemas.{Schema}
 use Rattle.schema_spec.specs.Types.{typesOf}
 use Rattle.table_spec.specs.Nodes.{Node, nodeNumber, nodesOf}
 use Rattle.table_spec.specs.Rows.{Row}
+use Rattle.text_spec.specs.Calls.{inRoom}
+use Rattle.text_spec.specs.Cells.{tooSmall}
 use Rattle.text_spec.specs.Limits.{listingJournalBytes, listingRows}
 use Rattle.text_spec.specs.Lists.{bytes, anyOf, filterBy, gather}
 use Rattle.text_spec.specs.Refusals.{Refusal, Outcome, accepted, refused, andThen, numberOf}
-use Rattle.inference_spec.specs.Needed.{needed}
-use Rattle.library_spec.specs.Chains.{chain}
 
 -- a number in decimal; 20 digits are enough for 64 bits
 abbrev pub decimalIn : ℕ → ℕ → List ℕ

@@ -7,14 +7,14 @@ use native.Mathlib.Omega.{arith}
 use lib.Dec.{eqb}
 use lib.ListN.{length, getD, take, replicate, length-append, length-replicate}
 use lib.Seq.{length-take-le}
+use Rattle.cells.specs.written_text.Written.{WrittenAt, written-length, decimal-short}
+use Rattle.chains.specs.tags.Chains.{chainAt, chain-length}
 use Rattle.library_spec.specs.Listing.{decimal, lineFeed, header}
 use Rattle.listing_files.specs.contents.Files.{LinesFit}
 use Rattle.listing_files.specs.declared.contents.Listed.{Listed}
 use Rattle.listing_text.specs.lines.Lines.{refusal, lineOf, rowLine, RowPass}
-use Rattle.chains.specs.tags.Chains.{chainAt, chain-length}
 use Rattle.text_spec.specs.Limits.{listingRows}
 use Rattle.text_spec.specs.Lists.{bytes}
-use Rattle.cells.specs.written_text.Written.{WrittenAt, written-length, decimal-short}
 
 pub record RowsPrinted (schema numbers codes ps firsts : List ℕ) (r : Listed) : Type 0 where
   pub fit : LinesFit schema codes ps r

@@ -2,9 +2,9 @@
 pub mod contents;
 pub mod table;
 
+ghost use Rattle.cells.specs.lent.Ends.{heldColumns};
 ghost use Rattle.compiled_paths.specs.Paths.{lentPaths, entryPaths};
 ghost use Rattle.listing_files.specs.contents.Files.{RowsAsked, ListedRows, FilesLent, ListsAs};
-ghost use Rattle.cells.specs.lent.Ends.{heldColumns};
 use crate::contents::Listed;
 use crate::contents::refused;
 use crate::table::kept_count;

@@ -3,10 +3,10 @@
 ghost use mathlib.Core.Path.{_≡_};
 ghost use lib.ListN.{length};
 ghost use Rattle.compiled_paths.specs.Paths.{lentPaths, pathsIn, entryPaths};
-ghost use Rattle.selection.specs.first_paths.Firsts.{FirstPaths};
-ghost use Rattle.kept_rows.specs.Kept.{inSet, keptMarks};
 ghost use Rattle.kept_rows.specs.Joined.{rank};
+ghost use Rattle.kept_rows.specs.Kept.{inSet, keptMarks};
 ghost use Rattle.listing_files.specs.table.Tables.{KeptAsked, PathsAsked};
+ghost use Rattle.selection.specs.first_paths.Firsts.{FirstPaths};
 use compiled_paths::CONDITION_STARTS;
 use compiled_paths::PATH_STARTS;
 use compiled_paths::STEPS;

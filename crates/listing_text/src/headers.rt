@@ -1,8 +1,8 @@
 // The header of a listing in a lent buffer.
 ghost use Prim.Native.Nat.{_≤_};
 ghost use lib.ListN.{length};
-ghost use Rattle.library_spec.specs.Listing.{header};
 ghost use Rattle.cells.specs.written_text.Written.{WrittenAt};
+ghost use Rattle.library_spec.specs.Listing.{header};
 use crate::parts::put_number;
 use cells::written_text::put_text;
 

@@ -1,7 +1,7 @@
 // What `listing` prints of a row, in a lent buffer.
-ghost use Rattle.listing_text.specs.lines.Lines.{rowLine, RowPass};
-ghost use Rattle.chains.specs.tags.Chains.{chainAt};
 ghost use Rattle.cells.specs.written_text.Written.{WrittenAt};
+ghost use Rattle.chains.specs.tags.Chains.{chainAt};
+ghost use Rattle.listing_text.specs.lines.Lines.{rowLine, RowPass};
 use crate::nodes::put_line;
 
 // The line of a row: nothing where no path selects it.

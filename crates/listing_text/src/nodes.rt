@@ -1,7 +1,7 @@
 // The line of a selected node in a lent buffer.
-ghost use Rattle.listing_text.specs.nodes.Nodes.{lineOf, LinePass};
-ghost use Rattle.chains.specs.tags.Chains.{chainAt};
 ghost use Rattle.cells.specs.written_text.Written.{WrittenAt};
+ghost use Rattle.chains.specs.tags.Chains.{chainAt};
+ghost use Rattle.listing_text.specs.nodes.Nodes.{lineOf, LinePass};
 use crate::parts::put_number;
 use crate::parts::put_tags;
 use cells::written_text::put_decimal;

@@ -1,9 +1,9 @@
 // What the lines of a listing are made of, in a lent buffer: a word and a number, the chain of tags of a row; the line of a refusal.
 ghost use Prim.Native.Nat.{_+_, _≤_};
 ghost use lib.ListN.{length};
-ghost use Rattle.listing_text.specs.parts.Parts.{refusal, NumberAt, TagsPass};
-ghost use Rattle.chains.specs.tags.Chains.{chainAt};
 ghost use Rattle.cells.specs.written_text.Written.{WrittenAt};
+ghost use Rattle.chains.specs.tags.Chains.{chainAt};
+ghost use Rattle.listing_text.specs.parts.Parts.{refusal, NumberAt, TagsPass};
 use cells::written_text::put_decimal;
 use cells::written_text::put_text;
 use chains::writing::write_chain;

@@ -9,17 +9,17 @@ use borrow.Author.Tests.{lt-ltb}
 use lib.Bits.{bitOr}
 use lib.Dec.{eqb, ltb}
 use lib.ListN.{length, getD}
-use Rattle.models.specs.Building.{EndsOf, Linked, linkedBit, LinksAdded}
 use Rattle.models.specs.Automaton.{AutomatonOf}
+use Rattle.models.specs.Building.{EndsOf, Linked, linkedBit, LinksAdded}
 use Rattle.models.specs.PositionLaws.{not-first, not-next}
 use Rattle.models.specs.Positions.{size, mayBeAbsent, isFirst, isLast, isNext}
 use Rattle.models.specs.declared.Ends.{Ends}
+use Rattle.names.specs.bits.Bits.{bit-none, bit-or}
 use Rattle.schema_spec.specs.Models.{Particle, named, sequence, choice, repeated, uses}
 use Rattle.schema_spec.specs.Names.{hasBit}
-use Rattle.text_spec.specs.Limits.{maxModelNames}
-use Rattle.names.specs.bits.Bits.{bit-none, bit-or}
 use Rattle.text_laws.specs.Loops.{Passed}
 use Rattle.text_laws.specs.Searches.{below-or-past}
+use Rattle.text_spec.specs.Limits.{maxModelNames}
 
 pub named-ends : (p w : ℕ) → ((j : ℕ) → hasBit w j ≡ (hasBit 0 j || (eqb j p && ltb p maxModelNames))) → p < maxModelNames → (a : ℕ)
     → EndsOf p (named a) (record { first = w; last = w; nullable = false })

@@ -7,11 +7,11 @@ use native.Mathlib.Omega.{arith}
 use borrow.Author.Tests.{eq-eqb}
 use lib.Bits.{bitOr, or-lt}
 use lib.Dec.{T, eqb, eqb→eq}
-use Rattle.schema_spec.specs.Names.{Name, element, text, sameName, hasBit}
-use Rattle.text_laws.specs.Tests.{passed}
+use Rattle.names.specs.Sets.{member}
 use Rattle.names.specs.bits.Bits.{bit-or, bit-none, same-bits}
 use Rattle.names.specs.declared.NameSet.{NameSet}
-use Rattle.names.specs.Sets.{member}
+use Rattle.schema_spec.specs.Names.{Name, element, text, sameName, hasBit}
+use Rattle.text_laws.specs.Tests.{passed}
 
 pub on-names : (op : ℕ → ℕ → ℕ) (f : Bool → Bool → Bool) → ((a b i : ℕ) → hasBit (op a b) i ≡ f (hasBit a i) (hasBit b i))
     → (s t : NameSet) (n : Name) → member (record { elements = op (s .elements) (t .elements); texts = op (s .texts) (t .texts) }) n ≡ f (member s n) (member t n)

@@ -7,18 +7,18 @@ use Prim.Native.Nat.{ℕ, zero, suc, _≤_, _<_}
 use native.Mathlib.Omega.{arith}
 use lib.Dec.{T}
 use lib.ListN.{length}
-use Rattle.names.specs.declared.NameSet.{NameSet}
 use Rattle.names.specs.Sets.{member, setOf, setIn, NamesOf, Known, nothing, largest, everyName, overlap}
+use Rattle.names.specs.bits.Bits.{bit-none}
+use Rattle.names.specs.declared.NameSet.{NameSet}
 use Rattle.schema_laws.specs.Names.{has-in, in-has, element-in, in-element, text-in, in-text}
 use Rattle.schema_laws.specs.Words.{Coded, schema-coded}
 use Rattle.schema_spec.specs.Names.{Name, Names, element, text, sameName, has, within, namesOf}
 use Rattle.schema_spec.specs.Schemas.{Schema, contentAt, isPcdata}
 use Rattle.text_laws.specs.Lists.{in-filter, filter-in, filter-cong, filter-filter, member-fills}
+use Rattle.text_laws.specs.Searches.{any-below, below-any}
 use Rattle.text_laws.specs.Tests.{or-left, or-right, or-cases, and-intro, and-cases, failed, false-of, true-of, same-test}
 use Rattle.text_spec.specs.Limits.{maxDeclarations}
 use Rattle.text_spec.specs.Lists.{filterBy, isEmpty, anyBelow}
-use Rattle.names.specs.bits.Bits.{bit-none}
-use Rattle.text_laws.specs.Searches.{any-below, below-any}
 
 -- a name is in a filtered set if it is in the set and passes
 pub has-filter : (f : Name → Bool) (names : Names) (n : Name) → has n (filterBy f names) ≡ (has n names && f n)

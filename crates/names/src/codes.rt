@@ -2,8 +2,8 @@
 ghost use mathlib.Core.Bool.{_&&_, _||_};
 ghost use mathlib.Core.Path.{_≡_};
 ghost use Prim.Native.Nat.{_<_};
-ghost use Rattle.names.specs.codes.Codes.{nameOfCode};
 ghost use Rattle.names.specs.Sets.{member};
+ghost use Rattle.names.specs.codes.Codes.{nameOfCode};
 ghost use Rattle.schema_spec.specs.Names.{Name, sameName};
 use crate::MAX_ELEMENTS;
 use crate::NameSet;

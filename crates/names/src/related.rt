@@ -2,8 +2,8 @@
 ghost use mathlib.Core.Bool.{_&&_, _||_};
 ghost use mathlib.Core.Path.{_≡_};
 ghost use Prim.Native.Nat.{_<_};
-ghost use Rattle.names.specs.closures.Relations.{relatedFrom, relatedTo};
 ghost use Rattle.names.specs.Sets.{member, overlap};
+ghost use Rattle.names.specs.closures.Relations.{relatedFrom, relatedTo};
 ghost use Rattle.schema_spec.specs.Names.{Name, element, sameName};
 ghost use Rattle.text_spec.specs.Limits.{maxDeclarations};
 use crate::MAX_ELEMENTS;

@@ -4,17 +4,17 @@ use mathlib.Core.Path.{_≡_, sym, ap, ap₂, _∙_}
 use Prim.Native.Nat.{ℕ, _+_, _-_, _≤_, _<_}
 use native.Mathlib.Omega.{arith}
 use lib.ListN.{length, getD}
-use Rattle.inference.specs.back_steps.Laws.{setIn-within}
 use Rattle.compiled_paths.specs.Columns.{startAt, sizeAt, stepsIn, bundleIn, bundle-next, bundle-none}
+use Rattle.inference.specs.back_steps.Laws.{setIn-within}
+use Rattle.inference_spec.specs.Needed.{neededByPath, needed}
+use Rattle.names.specs.Sets.{setIn}
 use Rattle.names.specs.declared.NameSet.{NameSet}
 use Rattle.needed_names.specs.paths.Columns.{HasWrittenSteps}
 use Rattle.path_spec.specs.Paths.{LocationPath, fromRootElement}
-use Rattle.inference_spec.specs.Needed.{neededByPath, needed}
 use Rattle.schema_spec.specs.Names.{Names, namesOf, within}
 use Rattle.schema_spec.specs.Schemas.{Schema}
 use Rattle.schema_spec.specs.Types.{typesOf}
 use Rattle.text_spec.specs.Lists.{gather}
-use Rattle.names.specs.Sets.{setIn}
 
 module _ (axes tests conditions paths : List ℕ) where
   -- n paths from i on

@@ -2,12 +2,12 @@
 ghost use mathlib.Core.Path.{_≡_};
 ghost use Prim.Native.Nat.{_<_};
 ghost use Rattle.compiled_paths.specs.Columns.{plainIn, alternativesIn};
-ghost use Rattle.needed_names.specs.alternatives.Alternatives.{FromName, endsSome, anyEndsSome, needOfAll};
 ghost use Rattle.inference.specs.plain_steps.Columns.{HasSteps};
-ghost use Rattle.schema_spec.specs.Names.{namesOf, within};
-ghost use Rattle.schema_spec.specs.Schemas.{Schema};
 ghost use Rattle.inference.specs.type_steps.Relations.{RelationsOf, envIn};
 ghost use Rattle.names.specs.Sets.{NamesOf, setIn};
+ghost use Rattle.needed_names.specs.alternatives.Alternatives.{FromName, endsSome, anyEndsSome, needOfAll};
+ghost use Rattle.schema_spec.specs.Names.{namesOf, within};
+ghost use Rattle.schema_spec.specs.Schemas.{Schema};
 use compiled_paths::first_size;
 use inference::back_steps::together;
 use inference::plain_steps::infer_plain;

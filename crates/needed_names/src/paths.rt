@@ -1,19 +1,19 @@
 // What a path needs: written steps with their conditions, and the last filter.
 ghost use mathlib.Core.Path.{_≡_};
 ghost use Prim.Native.Nat.{ℕ};
-ghost use Rattle.inference.specs.back_steps.Needs.{NeedsOf};
 ghost use Rattle.compiled_paths.specs.Columns.{stepsIn};
+ghost use Rattle.inference.specs.back_steps.Needs.{NeedsOf};
+ghost use Rattle.inference.specs.type_steps.Relations.{RelationsOf, envIn};
+ghost use Rattle.inference_spec.specs.Needed.{keepsName, wantsNames, neededByPath};
+ghost use Rattle.inference_spec.specs.Types.{infer};
+ghost use Rattle.names.specs.Sets.{NamesOf, setIn};
 ghost use Rattle.needed_names.specs.conditions.Conditions.{wantsIn};
 ghost use Rattle.needed_names.specs.paths.Columns.{conditionAt, analysedAt, HasWrittenSteps};
 ghost use Rattle.path_spec.specs.Paths.{unconditional, expandFrom, fromRootElement};
-ghost use Rattle.inference_spec.specs.Needed.{keepsName, wantsNames, neededByPath};
-ghost use Rattle.inference_spec.specs.Types.{infer};
 ghost use Rattle.schema_spec.specs.Names.{namesOf, within};
 ghost use Rattle.schema_spec.specs.Schemas.{Schema};
 ghost use Rattle.schema_spec.specs.Types.{typesOf};
 ghost use Rattle.text_spec.specs.Lists.{gather};
-ghost use Rattle.inference.specs.type_steps.Relations.{RelationsOf, envIn};
-ghost use Rattle.names.specs.Sets.{NamesOf, setIn};
 use crate::conditions::conditioned;
 use crate::conditions::wanted;
 use crate::reachable_names;

@@ -1,8 +1,8 @@
 // The needed names of a bundle's record under a schema's record.
 ghost use mathlib.Core.Path.{_≡_};
-ghost use Rattle.needed_names.specs.records.Records.{outcomeOf};
-ghost use Rattle.library_spec.specs.Calls.{neededNames};
 ghost use Rattle.compiled_schema.specs.records.Records.{recordWith};
+ghost use Rattle.library_spec.specs.Calls.{neededNames};
+ghost use Rattle.needed_names.specs.records.Records.{outcomeOf};
 use crate::texts::needed_by_texts;
 use bundle::reader::Bundle;
 use bundle::record_tests::is_bundle_record;

@@ -7,12 +7,12 @@ use Prim.Native.Nat.{ℕ, suc, _<_}
 use native.Mathlib.Bridge.{le-prop}
 use native.Mathlib.Omega.{arith}
 use lib.Dec.{T, eqb→eq, eqb-refl}
-use Rattle.table_laws.specs.Nodes.{nodes-equal, nodes-same, parent-edge, edge-parent, test-above, above-test}
-use Rattle.table_laws.specs.Parents.{nodes-numbered}
 use Rattle.path_spec.specs.Paths.{Axis, self, child, descendant, descendantOrSelf, parent, ancestor, ancestorOrSelf, WrittenAxis, along, NodeTest, named, anyNode, anyText, WrittenStep, PlainStep, Condition, unconditional, alternatives, Start, rootElement, LocationPath}
 use Rattle.path_spec.specs.Selection.{NodeSet, Passes, passes-name, passes-node, passes-text, OnAxis, on-self, on-child, on-descendant, here-or-below, below-or-here, on-parent, on-ancestor, here-or-above, above-or-here, OnWritten, on-along, StepSet, PathSet, Always, Only, Holds, no-condition, alternative, StartSet, Selected, passes, onAxis, onWritten, stepFrom, pathFrom, always, holdsAt, startNodes, selected, select, selectRows}
 use Rattle.schema_spec.specs.Names.{Name, element, text}
 use Rattle.schema_spec.specs.Types.{Types}
+use Rattle.table_laws.specs.Nodes.{nodes-equal, nodes-same, parent-edge, edge-parent, test-above, above-test}
+use Rattle.table_laws.specs.Parents.{nodes-numbered}
 use Rattle.table_spec.specs.Conditions.{RowAt, WellFormed}
 use Rattle.table_spec.specs.Nodes.{Node, nodesOf, nodeNumber, nameOf, isTop, same, isAbove}
 use Rattle.table_spec.specs.Rows.{Row}

@@ -5,11 +5,11 @@ use mathlib.Core.List.{List, [], _∷_, _++_, List·Memᴰ as In, List·Memᴰ·
 use mathlib.Core.Path.{_≡_, refl}
 use Prim.Native.Nat.{ℕ, suc}
 use lib.Dec.{T}
+use Rattle.inference_spec.specs.Needed.{linked, between, complete, need}
+use Rattle.inference_spec.specs.Types.{Env, cutTo, move, narrow, infer, inferAll}
 use Rattle.path_laws.specs.Selection.{test-passes}
 use Rattle.path_spec.specs.Paths.{WrittenAxis, along, NodeTest, WrittenStep, Step, expandStep, expandFrom}
 use Rattle.path_spec.specs.Selection.{NodeSet, Passes, passes, OnAxis, OnWritten, on-along, StepSet, PathSet}
-use Rattle.inference_spec.specs.Needed.{linked, between, complete, need}
-use Rattle.inference_spec.specs.Types.{Env, cutTo, move, narrow, infer, inferAll}
 use Rattle.projection_laws.specs.Documents.{SubsetOf, Within, Valid, AllValid, Lawful}
 use Rattle.projection_laws.specs.Soundness.{Typed, cut-within, narrow-typed, move-typed, axis-linked, axis-within}
 use Rattle.schema_spec.specs.Names.{Name, Names}

@@ -5,9 +5,17 @@ use mathlib.Core.Logic.{inl, inr, ⊎-elim}
 use Prim.Native.Nat.{ℕ, _<_}
 use lib.Dec.{T, leb, leb→le, le→leb, ltb→lt, lt→ltb}
 use lib.ListN.{length, getElem?}
+use Rattle.extract_spec.specs.Cut.{cutToWord}
+use Rattle.extract_spec.specs.Fields.{writeExtract}
+use Rattle.extract_spec.specs.Reading.{readExtract}
 use Rattle.journal_laws.specs.Judging.{journal-judged}
 use Rattle.journal_laws.specs.Judging.Meaning.{journal-judged-once}
 use Rattle.journal_spec.specs.Reading.{readJournal}
+use Rattle.library_spec.specs.Calls.{schemaRead, bundleRead, journalRead, neededNames, tableCut, extractWritten, extractRead, nodesSelected, rowText, rowChain}
+use Rattle.library_spec.specs.Chains.{chain}
+use Rattle.library_spec.specs.Conditions.{SchemaJudged, BundleJudged, JournalJudged, ExtractJudged, SchemaRecord, BundleRecord, EqualSizes, TableHanded, TableBeside, ReadsSchema, ReadsBundle, ReadsJournal, GivesNeeded, CutsTable, WritesExtract, ReadsExtract, TooFewSelections, SelectsNodes, GivesText, GivesChain}
+use Rattle.library_spec.specs.Records.{schemaHeld, bundleHeld, LentTable, tableHeld, tableBeside}
+use Rattle.library_spec.specs.Selections.{askedPaths, Selections, selections}
 use Rattle.path_laws.specs.Reading.{bundle-read, bundle-read-once}
 use Rattle.path_spec.specs.Paths.{LocationPath}
 use Rattle.path_spec.specs.Reading.{readBundle}
@@ -15,15 +23,6 @@ use Rattle.projection_laws.specs.Fields.{AreBytes}
 use Rattle.projection_laws.specs.Handed.{sizes-equal, equal-sized, table-handed, handed-table, table-beside, beside-table}
 use Rattle.projection_laws.specs.Records.{schema-handed, handed-schema, bundle-handed, handed-bundle}
 use Rattle.projection_laws.specs.RoundTrip.{extract-judged, extract-judged-once}
-use Rattle.extract_spec.specs.Cut.{cutToWord}
-use Rattle.extract_spec.specs.Fields.{writeExtract}
-use Rattle.extract_spec.specs.Reading.{readExtract}
-use Rattle.library_spec.specs.Calls.{schemaRead, bundleRead, journalRead, neededNames, tableCut, extractWritten, extractRead, nodesSelected, rowText, rowChain}
-use Rattle.library_spec.specs.Chains.{chain}
-use Rattle.library_spec.specs.Conditions.{SchemaJudged, BundleJudged, JournalJudged, ExtractJudged, SchemaRecord, BundleRecord, EqualSizes, TableHanded, TableBeside, ReadsSchema, ReadsBundle, ReadsJournal, GivesNeeded, CutsTable, WritesExtract, ReadsExtract, TooFewSelections, SelectsNodes, GivesText, GivesChain}
-use Rattle.library_spec.specs.Records.{schemaHeld, bundleHeld, LentTable, tableHeld, tableBeside}
-use Rattle.text_spec.specs.Records.{TextRecord}
-use Rattle.library_spec.specs.Selections.{askedPaths, Selections, selections}
 use Rattle.schema_laws.specs.reading.Reading.{schema-read, schema-read-once}
 use Rattle.schema_spec.specs.Reading.{readSchema}
 use Rattle.schema_spec.specs.Schemas.{Schema}
@@ -36,6 +35,7 @@ use Rattle.text_laws.specs.Tests.{or-left, or-right, or-cases}
 use Rattle.text_spec.specs.Calls.{Tested, Handed, InRoom, tested, handed, inRoom}
 use Rattle.text_spec.specs.Cells.{tooSmall}
 use Rattle.text_spec.specs.Limits.{maxJournalBytes}
+use Rattle.text_spec.specs.Records.{TextRecord}
 use Rattle.text_spec.specs.Refusals.{Outcome}
 
 -- ---- the four texts

@@ -4,10 +4,10 @@ use mathlib.Core.List.{List, [], _∷_, List·Memᴰ·head as here}
 use mathlib.Core.Path.{refl, sym, subst}
 use Prim.Native.Nat.{ℕ}
 use lib.Dec.{T}
-use Rattle.path_spec.specs.Paths.{PlainStep, Condition, unconditional, alternatives, expand}
-use Rattle.path_spec.specs.Selection.{PathSet, Always, Only, Holds, no-condition, alternative}
 use Rattle.inference_spec.specs.Needed.{need, keepsAll, wantsNothing, keepsName, wantsNames}
 use Rattle.inference_spec.specs.Types.{env, inferAll}
+use Rattle.path_spec.specs.Paths.{PlainStep, Condition, unconditional, alternatives, expand}
+use Rattle.path_spec.specs.Selection.{PathSet, Always, Only, Holds, no-condition, alternative}
 use Rattle.projection_laws.specs.Agreement.{Alike, ConditionLaws, WrittenNavigation, navigation-of, of-navigation, written-expands, navigation-typed, written-alike}
 use Rattle.projection_laws.specs.Documents.{SubsetOf, Within, Valid, AllValid, Lawful}
 use Rattle.schema_spec.specs.Names.{Names}

@@ -9,13 +9,13 @@ use native.Mathlib.Omega.{arith}
 use lib.Dec.{T}
 use lib.ListN.{length, length-map, take, getElem?}
 use lib.Seq.{take-nil}
-use Rattle.table_laws.specs.Fits.{RowFits, row-fits, fits-row, Rooted, rooted, rooted-fits}
-use Rattle.table_laws.specs.Nodes.{nodes-equal, equal-same, test-above, above-test}
-use Rattle.table_laws.specs.Places.{at-in}
 use Rattle.extract_spec.specs.Cut.{kept, renumbered, cutFrom, cut}
 use Rattle.projection_laws.specs.Rows.{bare, bare-kept, bare-node, bare-filter, filtered-at, Grown, next-row, root-grown}
 use Rattle.schema_spec.specs.Names.{Name, Names, element, text, has, isText}
 use Rattle.schema_spec.specs.Types.{Types}
+use Rattle.table_laws.specs.Fits.{RowFits, row-fits, fits-row, Rooted, rooted, rooted-fits}
+use Rattle.table_laws.specs.Nodes.{nodes-equal, equal-same, test-above, above-test}
+use Rattle.table_laws.specs.Places.{at-in}
 use Rattle.table_spec.specs.Nodes.{Node, top, under, nameOf, nodeNumber, same, Edge, edge, Above, parent, higher, isAbove, attachTo, nodeAt, nodesFrom, nodesOf}
 use Rattle.table_spec.specs.Rows.{Row, textOf, withParent}
 use Rattle.table_spec.specs.Tables.{parentOpen, parentHolds, sameParent, firstText, textFits, rowFits, laterRows, wellFormed, textInside, wellFormedWith}

@@ -10,8 +10,16 @@ use Prim.Native.Nat.{ℕ, _≤_, _<_}
 use native.Mathlib.Omega.{arith}
 use lib.Dec.{T, leb}
 use lib.ListN.{length, take}
+use Rattle.extract_spec.specs.Conditions.{SameTables}
+use Rattle.extract_spec.specs.Cut.{cut, cutToWord}
+use Rattle.extract_spec.specs.Fields.{extractRows}
+use Rattle.extract_spec.specs.Reading.{readExtract}
+use Rattle.inference_spec.specs.Needed.{neededByPath, needed}
 use Rattle.journal_laws.specs.Accepted.{accepted-well-formed}
 use Rattle.journal_laws.specs.Judging.Meaning.{journal-judged-once}
+use Rattle.library_spec.specs.Conditions.{SchemaTaken, BundleTaken, JournalTaken, Makes}
+use Rattle.library_spec.specs.Hosts.{HostAnswer, hostAnswer, Lent, inLent, extractOf, makeExtract, bundlePaths, selectFrom, resultOf}
+use Rattle.library_spec.specs.Selections.{askedPaths, Selections, selections}
 use Rattle.path_laws.specs.Reading.{bundle-read-once}
 use Rattle.path_spec.specs.Paths.{LocationPath}
 use Rattle.path_spec.specs.Selection.{selectRows}
@@ -23,14 +31,6 @@ use Rattle.projection_laws.specs.RoundTrip.{extract-same-tables, write-r
 use Rattle.projection_laws.specs.SameTables.{one-extract-selects}
 use Rattle.projection_laws.specs.Selections.{asked-in, selections-agree}
 use Rattle.projection_laws.specs.Tables.{cut-selects-same, same-tables-select}
-use Rattle.extract_spec.specs.Conditions.{SameTables}
-use Rattle.extract_spec.specs.Cut.{cut, cutToWord}
-use Rattle.extract_spec.specs.Fields.{extractRows}
-use Rattle.extract_spec.specs.Reading.{readExtract}
-use Rattle.inference_spec.specs.Needed.{neededByPath, needed}
-use Rattle.library_spec.specs.Conditions.{SchemaTaken, BundleTaken, JournalTaken, Makes}
-use Rattle.library_spec.specs.Hosts.{HostAnswer, hostAnswer, Lent, inLent, extractOf, makeExtract, bundlePaths, selectFrom, resultOf}
-use Rattle.library_spec.specs.Selections.{askedPaths, Selections, selections}
 use Rattle.schema_laws.specs.Accepted.{accepted-filled, accepted-closed}
 use Rattle.schema_laws.specs.Names.{within-in}
 use Rattle.schema_laws.specs.Words.{in-setOfWord}

@@ -7,7 +7,10 @@ use Prim.Native.Nat.{ℕ, _≤_}
 use native.Mathlib.Omega.{arith}
 use lib.Dec.{T, leb, leb→le, le→leb, ltb→lt, lt→ltb}
 use lib.ListN.{length, length-map}
+use Rattle.extract_spec.specs.Reading.{readExtract}
 use Rattle.journal_spec.specs.Reading.{readJournal}
+use Rattle.library_spec.specs.Conditions.{SchemaJudged, BundleJudged, SchemaTaken, BundleTaken, TooFewCells, InLent, Makes, OutOfRange, in-no-bundle, not-here, Selects}
+use Rattle.library_spec.specs.Hosts.{HostAnswer, Lent, inLent, makeExtract, bundlePaths, inRange, selectFrom}
 use Rattle.path_laws.specs.Reading.{bundle-read, bundle-read-once}
 use Rattle.path_spec.specs.Conditions.{over, paths, limit-9, gives}
 use Rattle.path_spec.specs.Paths.{LocationPath, resolvedPath}
@@ -15,9 +18,6 @@ use Rattle.path_spec.specs.Reading.{readBundle}
 use Rattle.projection_laws.specs.Calls.{schema-is, bundle-is, journal-is, extract-is, by-sizes}
 use Rattle.projection_laws.specs.Fields.{AreBytes}
 use Rattle.projection_laws.specs.Handed.{sizes-equal, equal-sized}
-use Rattle.extract_spec.specs.Reading.{readExtract}
-use Rattle.library_spec.specs.Conditions.{SchemaJudged, BundleJudged, SchemaTaken, BundleTaken, TooFewCells, InLent, Makes, OutOfRange, in-no-bundle, not-here, Selects}
-use Rattle.library_spec.specs.Hosts.{HostAnswer, Lent, inLent, makeExtract, bundlePaths, inRange, selectFrom}
 use Rattle.schema_laws.specs.reading.Reading.{schema-read, schema-read-once}
 use Rattle.schema_spec.specs.Reading.{readSchema}
 use Rattle.schema_spec.specs.Schemas.{Schema}

@@ -14,16 +14,15 @@ use Rattle.journal_spec.specs.Conditions as journals
 use Rattle.journal_spec.specs.Reading.{readJournal}
 use Rattle.journal_spec.specs.Trees.{Forest, nothing, data-node, element-node, WellFormedText, height, NodeStart, indexOf, countIn, rowsUnder, treeRows, startsUnder, treeStarts}
 use Rattle.journal_spec.specs.Validity.{Valid}
+use Rattle.library_spec.specs.Calls.{inColumns, journalRead}
+use Rattle.library_spec.specs.Hosts.{Lent, hostAnswer, inLent, extractOf, makeExtract}
+use Rattle.library_spec.specs.Listing.{FilesRead, judgeFiles, listingData, refusedLine, listed, listing}
+use Rattle.library_spec.specs.Records.{schemaHeld}
 use Rattle.path_laws.specs.Reading.{bundle-read}
 use Rattle.path_spec.specs.Conditions.{BundleApplies, BundleGives}
 use Rattle.path_spec.specs.Conditions as bundles
 use Rattle.path_spec.specs.Paths.{LocationPath}
 use Rattle.path_spec.specs.Reading.{readBundle}
-use Rattle.library_spec.specs.Calls.{inColumns, journalRead}
-use Rattle.library_spec.specs.Hosts.{Lent, hostAnswer, inLent, extractOf, makeExtract}
-use Rattle.library_spec.specs.Listing.{FilesRead, judgeFiles, listingData, refusedLine, listed, listing}
-use Rattle.library_spec.specs.Records.{schemaHeld}
-use Rattle.text_spec.specs.Records.{TextRecord}
 use Rattle.schema_laws.specs.reading.Reading.{schema-read}
 use Rattle.schema_spec.specs.Conditions.{SchemaApplies, SchemaGives}
 use Rattle.schema_spec.specs.Conditions as schemas
@@ -37,6 +36,7 @@ use Rattle.text_spec.specs.Bytes.{isForeign}
 use Rattle.text_spec.specs.Calls.{inRoom}
 use Rattle.text_spec.specs.Cells.{tooSmall}
 use Rattle.text_spec.specs.Lists.{bytes}
+use Rattle.text_spec.specs.Records.{TextRecord}
 use Rattle.text_spec.specs.Refusals.{Reason, badRecord, badLength, numberOf, Refusal, at, Outcome, accepted, refused, andThen, Judged}
 use Rattle.text_spec.specs.Texts.{LengthApplies}
 

@@ -7,14 +7,14 @@ use Prim.Native.Nat.{ℕ, suc, _+_}
 use native.Mathlib.Omega.{arith}
 use lib.Dec.{T, eqb, eqb→eq, eqb-refl}
 use lib.ListN.{length}
-use Rattle.path_laws.specs.Selection.{selected-sound, selected-complete, selected-filters}
-use Rattle.path_spec.specs.Paths.{LocationPath}
-use Rattle.path_spec.specs.Selection.{Selected, selected, select}
-use Rattle.projection_laws.specs.Numbers.{node-known, nodes-count}
 use Rattle.extract_spec.specs.Cut.{cut}
 use Rattle.inference_spec.specs.Needed.{needed}
 use Rattle.library_spec.specs.Conditions.{Chosen, FirstPath, Lines, no-lines, next-line, Lists, lists}
 use Rattle.library_spec.specs.Listing.{FilesRead, listingData, isIn, selectedNodes, firstSelecting, nodeLine, listingLine, header, headerOf, listed}
+use Rattle.path_laws.specs.Selection.{selected-sound, selected-complete, selected-filters}
+use Rattle.path_spec.specs.Paths.{LocationPath}
+use Rattle.path_spec.specs.Selection.{Selected, selected, select}
+use Rattle.projection_laws.specs.Numbers.{node-known, nodes-count}
 use Rattle.schema_spec.specs.Schemas.{Schema}
 use Rattle.schema_spec.specs.Types.{Types, typesOf}
 use Rattle.table_spec.specs.Nodes.{Node, nodeNumber, nodesOf}

@@ -5,12 +5,12 @@ use mathlib.Core.Logic.{_↔_}
 use mathlib.Core.Path.{_≡_, sym, subst}
 use Prim.Native.Nat.{ℕ, _<_, _^_}
 use lib.Dec.{T}
-use Rattle.path_spec.specs.Paths.{Step, Condition, unconditional, Start, LocationPath, expand}
 use Rattle.inference_spec.specs.Needed.{keepsName, atStart as startEnv, neededByPath, needed, neededWord}
 use Rattle.inference_spec.specs.Rules.{type, context, atStart, afterSteps, Member}
 use Rattle.inference_spec.specs.Types.{Env, inferAll}
 use Rattle.inference_spec.specs.Walks.{Walk, PathNeeds, ReachedFromRoot, root, next, BundleNeeds, by-path}
 use Rattle.library_spec.specs.Conditions.{SchemaTaken}
+use Rattle.path_spec.specs.Paths.{Step, Condition, unconditional, Start, LocationPath, expand}
 use Rattle.projection_laws.specs.Rules.{rules-infer}
 use Rattle.projection_laws.specs.Walks.{bundle-needs, needs-bundle}
 use Rattle.schema_laws.specs.Accepted.{accepted-length, accepted-filled, accepted-closed}

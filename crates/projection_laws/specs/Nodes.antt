@@ -5,11 +5,11 @@ use mathlib.Core.Logic.{_⊎_, ⊎-elim}
 use mathlib.Core.Path.{_≡_, sym, ap, subst, _∙_}
 use Prim.Native.Nat.{ℕ}
 use lib.Dec.{T}
+use Rattle.extract_spec.specs.Cut.{kept}
+use Rattle.inference_spec.specs.Needed.{keepsName, wantsNames, fromRoot, atStart, neededBeforeFilter, neededByPath, needed}
 use Rattle.path_laws.specs.Selection.{selected-sound, selected-complete, selected-filters}
 use Rattle.path_spec.specs.Paths.{unconditional, Start, rootElement, LocationPath, expand}
 use Rattle.path_spec.specs.Selection.{Holds, StartSet, Selected, selected, select}
-use Rattle.extract_spec.specs.Cut.{kept}
-use Rattle.inference_spec.specs.Needed.{keepsName, wantsNames, fromRoot, atStart, neededBeforeFilter, neededByPath, needed}
 use Rattle.projection_laws.specs.Agreement.{Alike, alike-turned, navigation-of, of-navigation, written-expands, navigation-complete, complete-needed, written-alike}
 use Rattle.projection_laws.specs.Conditions.{condition-fair}
 use Rattle.projection_laws.specs.Documents.{SubsetOf, Within, Valid, AllValid, Lawful, own-within, wider, within-kept, name-in}

@@ -7,11 +7,11 @@ use lib.Dec.{T}
 use Rattle.journal_laws.specs.Accepted.{accepted-well-formed}
 use Rattle.journal_laws.specs.Judging.Meaning.{journal-judged-once}
 use Rattle.journal_spec.specs.Reading.{readJournal}
+use Rattle.library_spec.specs.Conditions.{FilesJudged, Lists, Prints, prints-refusal, prints-lists}
+use Rattle.library_spec.specs.Listing.{FilesRead, judgeFiles, listed, listingData, refusedLine, printed, listing}
 use Rattle.path_spec.specs.Reading.{readBundle}
 use Rattle.projection_laws.specs.Calls.{schema-is, bundle-is, journal-is, by-room}
 use Rattle.projection_laws.specs.Listing.{listed-is}
-use Rattle.library_spec.specs.Conditions.{FilesJudged, Lists, Prints, prints-refusal, prints-lists}
-use Rattle.library_spec.specs.Listing.{FilesRead, judgeFiles, listed, listingData, refusedLine, printed, listing}
 use Rattle.schema_spec.specs.Reading.{readSchema}
 use Rattle.schema_spec.specs.Types.{typesOf}
 use Rattle.table_spec.specs.Tables.{wellFormed, wellFormedWith, textInside}

@@ -6,14 +6,13 @@ use Prim.Native.Nat.{ℕ, _≤_}
 use native.Mathlib.Omega.{arith}
 use lib.Dec.{T, leb, leb→le, le→leb}
 use lib.ListN.{length, length-take}
+use Rattle.library_spec.specs.Conditions.{SchemaTaken, BundleTaken, SchemaRecord, of-schema, BundleRecord, of-bundle}
+use Rattle.library_spec.specs.Records.{passesSchema, passesBundle, schemaHeld, bundleHeld}
 use Rattle.path_laws.specs.Reading.{bundle-read, bundle-read-once}
 use Rattle.path_spec.specs.Conditions.{BundleApplies, BundleGives}
 use Rattle.path_spec.specs.Paths.{LocationPath}
 use Rattle.path_spec.specs.Reading.{bundleRefusals, readBundle, isBundleRecord}
 use Rattle.projection_laws.specs.Handed.{chosen-if}
-use Rattle.library_spec.specs.Conditions.{SchemaTaken, BundleTaken, SchemaRecord, of-schema, BundleRecord, of-bundle}
-use Rattle.library_spec.specs.Records.{passesSchema, passesBundle, schemaHeld, bundleHeld}
-use Rattle.text_spec.specs.Records.{TextRecord, textIn, recordOf, isRecord}
 use Rattle.schema_laws.specs.Accepted.{accepted-spelt}
 use Rattle.schema_laws.specs.Records.{normal-accepted, producible-record, record-accepted}
 use Rattle.schema_laws.specs.reading.Reading.{schema-read, schema-read-once}
@@ -21,14 +20,15 @@ use Rattle.schema_spec.specs.Conditions.{SchemaApplies, SchemaGives}
 use Rattle.schema_spec.specs.Reading.{readSchema}
 use Rattle.schema_spec.specs.Records.{normal, schemaIn, producible, isSchemaRecord}
 use Rattle.schema_spec.specs.Schemas.{Schema}
+use Rattle.text_laws.specs.Cells.{padded-length, padded-take}
 use Rattle.text_laws.specs.Lists.{append-empty, bytes-equal, bytes-same}
 use Rattle.text_laws.specs.Refusals.{judged-accepted}
 use Rattle.text_laws.specs.Tests.{true-of, and-intro, and-cases, cond-yes}
 use Rattle.text_laws.specs.Texts.{length-within}
-use Rattle.text_laws.specs.Cells.{padded-length, padded-take}
 use Rattle.text_spec.specs.Cells.{padded}
 use Rattle.text_spec.specs.Limits.{maxSchemaBytes, maxBundleBytes}
 use Rattle.text_spec.specs.Lists.{sameBytes}
+use Rattle.text_spec.specs.Records.{TextRecord, textIn, recordOf, isRecord}
 use Rattle.text_spec.specs.Refusals.{Outcome, accepted, refused, isAccepted, resultOr, Judged}
 use Rattle.text_spec.specs.Texts.{lengthRefusals}
 

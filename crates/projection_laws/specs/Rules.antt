@@ -6,12 +6,12 @@ use mathlib.Core.Path.{_≡_, refl, sym, ap, subst}
 use Prim.Native.Nat.{ℕ, _<_}
 use lib.Dec.{T}
 use lib.ListN.{length}
-use Rattle.path_laws.specs.Selection.{passes-test, test-passes}
-use Rattle.path_spec.specs.Paths.{Axis, self, child, descendant, descendantOrSelf, parent, ancestor, ancestorOrSelf, NodeTest, Step, PlainStep, Condition, unconditional, alternatives, Start, rootElement, expand}
-use Rattle.path_spec.specs.Selection.{Passes, passes}
 use Rattle.inference_spec.specs.Needed.{keepsAll, keepsName, atStart as startEnv}
 use Rattle.inference_spec.specs.Rules.{Carried, type, context, Point, atStart, afterAxis, afterTest, afterCondition, alternativeFrom, afterStep, afterSteps, alternativeSteps, Downward, child-down, descendant-down, descendant-or-self-down, Upward, parent-up, ancestor-up, ancestor-or-self-up, AtOrAbove, at, above, Member, root-first, self-stays, child-type, descendant-type, descendant-or-self-type, descendant-or-self-added, downward-context, child-added, descendant-context, descendant-or-self-context, parent-type, ancestor-type, ancestor-or-self-type, ancestor-or-self-added, upward-context, test-type, test-context, no-condition, condition-type, alternative-type, alternative-context, condition-context}
 use Rattle.inference_spec.specs.Types.{Env, env, heldBy, holding, allBelow, allAbove, unionOf, cutTo, move, narrow, infer, inferAll}
+use Rattle.path_laws.specs.Selection.{passes-test, test-passes}
+use Rattle.path_spec.specs.Paths.{Axis, self, child, descendant, descendantOrSelf, parent, ancestor, ancestorOrSelf, NodeTest, Step, PlainStep, Condition, unconditional, alternatives, Start, rootElement, expand}
+use Rattle.path_spec.specs.Selection.{Passes, passes}
 use Rattle.schema_laws.specs.Closure.{Closed, holder-in, held-in, isBelow-decides, below-names}
 use Rattle.schema_laws.specs.Names.{has-in, in-has, in-within, within-in, element-in}
 use Rattle.schema_spec.specs.Names.{Name, Names, element, has, within, namesOf}

@@ -3,11 +3,11 @@ use mathlib.Core.List.{List, [], _∷_, _++_}
 use mathlib.Core.Path.{_≡_, refl, sym, ap, _∙_}
 use Prim.Native.Nat.{ℕ}
 use lib.Dec.{T}
-use Rattle.path_spec.specs.Paths.{LocationPath}
-use Rattle.path_spec.specs.Selection.{select, selectRows}
 use Rattle.extract_spec.specs.Conditions.{SameButStarts, SameTables, no-rows, next-row}
 use Rattle.extract_spec.specs.Fields.{writeExtract, extractRows}
 use Rattle.extract_spec.specs.Reading.{readExtract}
+use Rattle.path_spec.specs.Paths.{LocationPath}
+use Rattle.path_spec.specs.Selection.{select, selectRows}
 use Rattle.projection_laws.specs.RoundTrip.{extract-same-tables, write-read}
 use Rattle.schema_spec.specs.Schemas.{Schema}
 use Rattle.schema_spec.specs.Types.{Types, typesOf}

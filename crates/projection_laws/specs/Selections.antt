@@ -5,9 +5,9 @@ use mathlib.Core.Path.{_≡_, refl, ap, ap₂, _∙_}
 use Prim.Native.Nat.{ℕ, zero, suc}
 use lib.ListN.{length, getElem?}
 use lib.Seq.{take-at, drop-at}
+use Rattle.library_spec.specs.Selections.{askedPaths, Selections, selections, splitBy}
 use Rattle.path_spec.specs.Paths.{LocationPath}
 use Rattle.path_spec.specs.Selection.{selectRows}
-use Rattle.library_spec.specs.Selections.{askedPaths, Selections, selections, splitBy}
 use Rattle.table_spec.specs.Rows.{Row}
 use Rattle.text_spec.specs.Lists.{gather, listOf}
 

@@ -6,10 +6,10 @@ use mathlib.Core.Logic.{_⊎_, inl, inr, ⊎-elim}
 use mathlib.Core.Path.{refl, sym, subst}
 use Prim.Native.Nat.{ℕ}
 use lib.Dec.{T}
-use Rattle.path_spec.specs.Paths.{Axis, child, parent, NodeTest}
-use Rattle.path_spec.specs.Selection.{OnAxis, on-self, on-child, on-descendant, here-or-below, below-or-here, on-parent, on-ancestor, here-or-above, above-or-here, passes}
 use Rattle.inference_spec.specs.Needed.{linked, between}
 use Rattle.inference_spec.specs.Types.{heldBy, holding, allBelow, allAbove, unionOf, cutTo, Env, move, narrow}
+use Rattle.path_spec.specs.Paths.{Axis, child, parent, NodeTest}
+use Rattle.path_spec.specs.Selection.{OnAxis, on-self, on-child, on-descendant, here-or-below, below-or-here, on-parent, on-ancestor, here-or-above, above-or-here, passes}
 use Rattle.projection_laws.specs.Documents.{SubsetOf, Within, Valid, Lawful, own-within, edge-within, above-within, child-within, edge-valid, edge-holds, name-in, above-below, down-within}
 use Rattle.schema_laws.specs.Names.{in-has, same-name, in-within}
 use Rattle.schema_spec.specs.Names.{Name, Names, has, within, sameName}

@@ -4,11 +4,11 @@ use mathlib.Core.List.{List, List·Memᴰ as In}
 use mathlib.Core.Path.{_≡_, sym, ap, _∙_}
 use Prim.Native.Nat.{ℕ}
 use lib.Dec.{T}
-use Rattle.path_spec.specs.Paths.{LocationPath}
-use Rattle.path_spec.specs.Selection.{select, selectRows}
 use Rattle.extract_spec.specs.Conditions.{SameTables}
 use Rattle.extract_spec.specs.Cut.{cut}
 use Rattle.inference_spec.specs.Needed.{needed}
+use Rattle.path_spec.specs.Paths.{LocationPath}
+use Rattle.path_spec.specs.Selection.{select, selectRows}
 use Rattle.projection_laws.specs.Cutting.{rows-cut}
 use Rattle.projection_laws.specs.Documents.{SubsetOf, Lawful}
 use Rattle.projection_laws.specs.Nodes.{select-cut, path-needed}

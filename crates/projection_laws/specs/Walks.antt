@@ -6,12 +6,12 @@ use mathlib.Core.Path.{_≡_, refl, sym, subst}
 use Prim.Native.Nat.{ℕ, _<_}
 use lib.Dec.{T}
 use lib.ListN.{length}
-use Rattle.path_spec.specs.Paths.{Axis, self, child, descendant, descendantOrSelf, parent, ancestor, ancestorOrSelf, NodeTest, Step, PlainStep, Condition, unconditional, alternatives, conditionPaths, LocationPath, expand}
 use Rattle.inference_spec.specs.Needed.{linked, between, complete, need, keepsAll, wantsNothing, keepsName, wantsNames, fromRoot, neededBeforeFilter, neededByPath, needed}
 use Rattle.inference_spec.specs.Rules.{type, context, Point, atStart, afterAxis, afterTest, afterCondition, alternativeFrom, tested, afterStep, alternativeSteps, AtOrAbove, Member, self-stays, child-type, descendant-type, descendant-or-self-type, descendant-or-self-added, parent-type, ancestor-type, ancestor-or-self-type, ancestor-or-self-added, test-type, no-condition, condition-type, condition-context}
 use Rattle.inference_spec.specs.Types.{Env, env, allBelow, allAbove, cutTo, infer}
 use Rattle.inference_spec.specs.Walks as walks
 use Rattle.inference_spec.specs.Walks.{Passing, descends, descends-or-stays, Linked, by-self, by-child, by-descendant, stays-down, goes-down, by-parent, by-ancestor, stays-up, goes-up, Walk, at-last, onward, NeededOnWalk, own, conditional, later, Needs, PathNeeds, ReachedFromRoot, root, next, BundleNeeds, by-path}
+use Rattle.path_spec.specs.Paths.{Axis, self, child, descendant, descendantOrSelf, parent, ancestor, ancestorOrSelf, NodeTest, Step, PlainStep, Condition, unconditional, alternatives, conditionPaths, LocationPath, expand}
 use Rattle.projection_laws.specs.Rules.{MembersAt, asStep, noCondition, sameCondition, same-steps, Decides, below-set, above-set, alternative-from, step-members, all-decided, names-decided, start-members}
 use Rattle.schema_laws.specs.Closure.{Closed, Chain, one, more, chain-from, chain-join, closure-chain, chain-closure, held-in, isBelow-below, below-isBelow}
 use Rattle.schema_laws.specs.Names.{same-equal, same-name, in-within, within-in, element-in}

@@ -7,18 +7,17 @@ use Prim.Native.Nat.{ℕ, _<_}
 use native.Mathlib.Omega.{arith}
 use lib.Dec.{T, eqb, leb, eqb→eq, leb→le, lit<}
 use lib.ListN.{length, getElem?}
-use Rattle.journal_laws.specs.Accepted.{accepted-well-formed}
-use Rattle.journal_laws.specs.Judging.Meaning.{journal-judged-once}
-use Rattle.path_spec.specs.Paths.{LocationPath}
-use Rattle.projection_laws.specs.Cutting.{cut-well-formed-with}
-use Rattle.projection_laws.specs.Fields.{AreBytes}
 use Rattle.extract_spec.specs.Cut.{cut}
 use Rattle.extract_spec.specs.Fields.{elementTag, textTag, countTag, twoBytes, field, rowField, numberAt, fieldOf, writeExtract}
 use Rattle.inference_spec.specs.Needed.{needed}
+use Rattle.journal_laws.specs.Accepted.{accepted-well-formed}
+use Rattle.journal_laws.specs.Judging.Meaning.{journal-judged-once}
 use Rattle.library_spec.specs.Conditions.{SchemaTaken, JournalTaken, of-schema, WritesExtract, Makes}
 use Rattle.library_spec.specs.Hosts.{HostAnswer, Lent, extractOf}
 use Rattle.library_spec.specs.Records.{LentTable}
-use Rattle.text_spec.specs.Records.{TextRecord}
+use Rattle.path_spec.specs.Paths.{LocationPath}
+use Rattle.projection_laws.specs.Cutting.{cut-well-formed-with}
+use Rattle.projection_laws.specs.Fields.{AreBytes}
 use Rattle.schema_laws.specs.Accepted.{accepted-element, accepted-held}
 use Rattle.schema_laws.specs.reading.Reading.{schema-read-once}
 use Rattle.schema_spec.specs.Names.{Name, element, text, isText, namesOf}
@@ -34,6 +33,7 @@ use Rattle.text_spec.specs.Bytes.{isForeign, isBetween}
 use Rattle.text_spec.specs.Calls.{passes-1, holds, goes-on, answered}
 use Rattle.text_spec.specs.Limits.{maxDeclarations}
 use Rattle.text_spec.specs.Lists.{gather}
+use Rattle.text_spec.specs.Records.{TextRecord}
 use Rattle.text_spec.specs.Refusals.{accepted}
 
 -- a byte that passes 3 is below 7F hex

@@ -5,6 +5,7 @@ use mathlib.Core.Path.{_≡_}
 use Prim.Native.Nat.{ℕ, _<_}
 use lib.Dec.{ltb}
 use lib.ListN.{length, getD}
+use Rattle.cells.specs.verdicts.Verdicts.{verdict}
 use Rattle.library_spec.specs.Calls.{structsAfter}
 use Rattle.row_structs.specs.declared.Row.{Row}
 use Rattle.row_structs.specs.declared.RowColumns.{RowColumns}
@@ -13,7 +14,6 @@ use Rattle.table_spec.specs.Columns.{Columns, cellsAt, cellsFrom}
 use Rattle.table_spec.specs.Rows.{Row as TableRow, Cells}
 use Rattle.text_spec.specs.Limits.{maxNodes}
 use Rattle.text_spec.specs.Refusals.{Outcome}
-use Rattle.cells.specs.verdicts.Verdicts.{verdict}
 
 -- a struct's numbers
 abbrev pub cellsIn : Row → Cells

@@ -3,22 +3,22 @@ use mathlib.Core.List.{List, [], map}
 use mathlib.Core.Path.{_≡_}
 use Prim.Native.Nat.{ℕ}
 use lib.ListN.{length, take, replicate}
-use Rattle.schema.specs.declared.Judgement.{Judgement}
-use Rattle.schema.specs.declared.Judgement.the-variants.{Accepted, Refused}
-use Rattle.schema.specs.declared.Kind.{Kind}
-use Rattle.schema.specs.declared.Kind.the-variants.{BadLength, BadByte, BadGrammar, OverLimit, DeclaredTwice, Undeclared}
-use Rattle.schema.specs.declared.Schema.{Schema as Record}
 use Rattle.schema_spec.specs.Declarations.{Declaration}
 use Rattle.schema_spec.specs.Machine.{parse}
 use Rattle.schema_spec.specs.Models.{usesIn}
 use Rattle.schema_spec.specs.Reading.{readSchema}
 use Rattle.schema_spec.specs.Schemas.{Schema}
+use Rattle.schema.specs.declared.Judgement.{Judgement}
+use Rattle.schema.specs.declared.Judgement.the-variants.{Accepted, Refused}
+use Rattle.schema.specs.declared.Kind.{Kind}
+use Rattle.schema.specs.declared.Kind.the-variants.{BadLength, BadByte, BadGrammar, OverLimit, DeclaredTwice, Undeclared}
+use Rattle.schema.specs.declared.Schema.{Schema as Record}
 use Rattle.text_spec.specs.Cells.{padded}
 use Rattle.text_spec.specs.Limits.{maxDeclarations, maxSchemaBytes}
 use Rattle.text_spec.specs.Lists.{gather}
 use Rattle.text_spec.specs.Machines.{Parsed, spells, departs}
-use Rattle.text_spec.specs.Scans.{nameAt}
 use Rattle.text_spec.specs.Refusals.{Reason, badLength, badByte, badSchema, overSchemaLimit, declaredTwice, undeclaredInModel, at, Outcome, accepted, refused}
+use Rattle.text_spec.specs.Scans.{nameAt}
 
 -- the schema that is handed back on refusal
 abbrev pub emptySchema : Record

@@ -3,9 +3,9 @@
 ghost use mathlib.Core.Path.{_≡_};
 ghost use Prim.Native.Nat.{_≤_};
 ghost use lib.ListN.{length};
+ghost use Rattle.schema_spec.specs.Machine.{beforeContent, afterOpen, afterContent};
 ghost use Rattle.schema.specs.contents.Contents.{ReadsPcdata, namelessOf, ReadsContent, ended};
 ghost use Rattle.text.specs.scanning.Outcomes.{NoBlank};
-ghost use Rattle.schema_spec.specs.Machine.{beforeContent, afterOpen, afterContent};
 use crate::groups;
 use crate::indicators;
 use crate::particles::PartOutcome;

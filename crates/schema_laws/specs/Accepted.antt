@@ -13,8 +13,8 @@ use Rattle.schema_laws.specs.Lists.{in-nothing, drop-empty, filter-empty
 use Rattle.schema_laws.specs.Names.{in-element, in-text}
 use Rattle.schema_laws.specs.Runs.{spelt-named}
 use Rattle.schema_spec.specs.Declarations.{Use, Declaration}
-use Rattle.schema_spec.specs.Models.{Particle, named, sequence, choice, repeated, Content, empty, pcdata, children, uses, usesIn, renameIn, renameContent}
 use Rattle.schema_spec.specs.Machine.{parse}
+use Rattle.schema_spec.specs.Models.{Particle, named, sequence, choice, repeated, Content, empty, pcdata, children, uses, usesIn, renameIn, renameContent}
 use Rattle.schema_spec.specs.Names.{Name, element, text as text-name, namesOf}
 use Rattle.schema_spec.specs.Reading.{usesOf, limitPlaces, twicePlaces, undeclaredPlaces, parsedRefusals, parsedSchema, schemaRefusals, readSchema}
 use Rattle.schema_spec.specs.Records.{schemaIn}

@@ -11,8 +11,8 @@ use Rattle.schema.specs.declared.Judgement.{Judgement}
 use Rattle.schema.specs.declared.Judgement.the-variants.{Accepted, Refused}
 use Rattle.schema.specs.declared.Schema.{Schema as Cells}
 use Rattle.schema_laws.specs.Accepted.{accepted-spelt}
-use Rattle.schema_reader.specs.record_cells.Recorded.{Recorded, handedBack}
 use Rattle.schema_reader.specs.Records.{ReadAs}
+use Rattle.schema_reader.specs.record_cells.Recorded.{Recorded, handedBack}
 use Rattle.schema_spec.specs.Reading.{readSchema}
 use Rattle.schema_spec.specs.Records.{normal, recordBy, schemaRecord}
 use Rattle.schema_spec.specs.Schemas.{Schema}

@@ -10,9 +10,9 @@ use lib.Dec.{T, eqb, leb, leb→le}
 use lib.ListN.{length, drop, take, getD, drop-of-length-le}
 use lib.Seq.{drop-cons, length-take-le}
 use Rattle.schema.specs.Judging.{outcomeOf, sized}
-use Rattle.schema_reader.specs.Records.{ReadAs, passesRecord}
 use Rattle.schema.specs.declared.Judgement.the-variants.{Accepted, Refused}
 use Rattle.schema.specs.declared.Kind.{Kind}
+use Rattle.schema_reader.specs.Records.{ReadAs, passesRecord}
 use Rattle.schema_reader.specs.declared.SchemaRead.{SchemaRead}
 use Rattle.schema_spec.specs.Reading.{readSchema}
 use Rattle.schema_spec.specs.Records.{normal, recordBy, schemaRecord, isSchemaRecord}

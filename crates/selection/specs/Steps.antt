@@ -7,18 +7,18 @@ use native.Mathlib.Numerals.{add-one}
 use native.Mathlib.Omega.{arith}
 use lib.Dec.{eqb}
 use lib.ListN.{length, getD}
+use Rattle.axis_passes.specs.steps.Steps.{TableColumns, MarkColumn, marks-column}
+use Rattle.axis_passes.specs.steps.Tests.{namesIn}
+use Rattle.axis_passes.specs.written_steps.Steps.{Scratch, StepAtPass, FirstAtPass, step-column}
+use Rattle.cells.specs.row_sets.Columns.{isMarked, no-row-marked}
 use Rattle.compiled_paths.specs.Columns.{stepAt, stepsIn, pathAt}
 use Rattle.compiled_paths.specs.Paths.{AtMost, Shaped}
 use Rattle.compiled_paths.specs.Sizes.{writtenSteps, allSteps}
 use Rattle.compiled_paths.specs.declared.CompiledPaths.{CompiledPaths}
-use Rattle.cells.specs.row_sets.Columns.{isMarked, no-row-marked}
 use Rattle.selection_laws.specs.marks.Roots.{steps-none}
 use Rattle.selection_laws.specs.marks.Selection.{noMarks, stepMarks, stepsMarks, rootMarks, pathMarks}
-use Rattle.axis_passes.specs.steps.Steps.{TableColumns, MarkColumn, marks-column}
-use Rattle.axis_passes.specs.steps.Tests.{namesIn}
 use Rattle.text_spec.specs.Limits.{maxPaths}
 use Rattle.text_spec.specs.Lists.{anyBelow}
-use Rattle.axis_passes.specs.written_steps.Steps.{Scratch, StepAtPass, FirstAtPass, step-column}
 
 -- ---- what the passes ask
 pub record StepsPass (ps codes conditions : List ℕ) (first size : ℕ) (m held steps next : List ℕ) : Type 0 where

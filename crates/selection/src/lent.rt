@@ -2,8 +2,8 @@
 ghost use Rattle.compiled_paths.specs.Paths.{Shaped, lentPaths, pathsIn, entryPaths};
 ghost use Rattle.schema_spec.specs.Schemas.{Schema};
 ghost use Rattle.schema_spec.specs.Types.{typesOf};
-ghost use Rattle.selection.specs.lent.Lent.{SomeSchema, lentSelected};
 ghost use Rattle.selection.specs.answers.Answers.{AnsweredCells};
+ghost use Rattle.selection.specs.lent.Lent.{SomeSchema, lentSelected};
 ghost use Rattle.table_laws.specs.passes.Codes.{HeldWords};
 ghost use Rattle.tables.specs.Handed.{entryTable};
 use crate::answers::Selected;

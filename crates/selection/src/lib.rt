@@ -11,10 +11,10 @@ pub mod table;
 
 ghost use mathlib.Core.Path.{_≡_};
 ghost use lib.ListN.{length};
+ghost use Rattle.axis_passes.specs.steps.Tests.{namesIn};
 ghost use Rattle.compiled_paths.specs.Columns.{stepsIn, pathAt};
 ghost use Rattle.selection_laws.specs.marks.Selection.{stepsMarks, pathMarks, rootMarks};
 ghost use Rattle.selection.specs.Steps.{StepsPass, RootStepsPass, PathPass};
-ghost use Rattle.axis_passes.specs.steps.Tests.{namesIn};
 use axis_passes::mark_sets::any_marked;
 use axis_passes::root::mark_root;
 use axis_passes::written_steps::first_step;

@@ -1,9 +1,9 @@
 // The numbers that one compiled path selects on a table in columns, in lent cells.
+ghost use Rattle.axis_passes.specs.steps.Tests.{namesIn};
+ghost use Rattle.cells.specs.lent.Appended.{Appended};
 ghost use Rattle.compiled_paths.specs.Columns.{pathAt};
 ghost use Rattle.selection_laws.specs.marks.Selection.{selectColumns};
-ghost use Rattle.cells.specs.lent.Appended.{Appended};
 ghost use Rattle.selection.specs.one_path.Paths.{OnePass};
-ghost use Rattle.axis_passes.specs.steps.Tests.{namesIn};
 use crate::row_numbers::append;
 use crate::select_path;
 use compiled_paths::CONDITION_STARTS;

@@ -1,11 +1,11 @@
 // Selecting on a table by a schema's and a bundle's record: refusal 1 of the records, the place and the table, 18 last.
 ghost use mathlib.Core.List.{[]};
+ghost use Rattle.compiled_schema.specs.records.Records.{recordWith};
 ghost use Rattle.library_spec.specs.Calls.{nodesSelected};
 ghost use Rattle.path_spec.specs.Reading.{readBundle};
-ghost use Rattle.compiled_schema.specs.records.Records.{recordWith};
 ghost use Rattle.schema_spec.specs.Records.{schemaIn};
-ghost use Rattle.selection.specs.lent.Lent.{lentSelected};
 ghost use Rattle.selection.specs.answers.Answers.{AnsweredCells};
+ghost use Rattle.selection.specs.lent.Lent.{lentSelected};
 ghost use Rattle.tables.specs.Handed.{entryTable};
 ghost use Rattle.text_spec.specs.Refusals.{resultOr};
 use crate::answers::Selected;

@@ -1,9 +1,9 @@
 // The numbers of marked rows, written one after the other into lent cells, and counts. Counts are wider than numbers: a path
 // may select more nodes than the largest number (D25).
 ghost use mathlib.Core.Path.{_≡_};
+ghost use Rattle.cells.specs.lent.Appended.{written, Appended};
 ghost use Rattle.cells.specs.row_sets.Columns.{picked};
 ghost use Rattle.selection.specs.row_numbers.Cells.{AppendPass};
-ghost use Rattle.cells.specs.lent.Appended.{written, Appended};
 
 // Writes a cell, if it is there.
 pub fn put(out: &mut [u16], n: usize, number: u16)

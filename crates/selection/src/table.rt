@@ -1,8 +1,8 @@
 // The numbers that the paths asked for select on a table in columns, with scratch of its own, in lent cells.
 ghost use Prim.Native.Nat.{_≤_};
 ghost use Rattle.compiled_paths.specs.Paths.{Shaped, lentPaths, pathsIn, entryPaths};
-ghost use Rattle.table_laws.specs.Columns.{TestedColumns};
 ghost use Rattle.selection.specs.table.Tables.{AskedPass, SelectsOn};
+ghost use Rattle.table_laws.specs.Columns.{TestedColumns};
 use crate::answers::Selected;
 use crate::answers::in_room;
 use crate::asked::first_asked;

@@ -8,10 +8,10 @@ use native.Mathlib.Nat.{eq-or-lt-of-le}
 use native.Mathlib.Omega.{arith}
 use lib.Dec.{T, eqb, eqb→eq, eqb-refl}
 use lib.ListN.{length, getD, getElem?}
-use Rattle.selection_laws.specs.marks.Parents.{rowOnAxis}
 use Rattle.cells.specs.row_sets.Ancestors.{parentOf, ancestorsOf, isIn, root-parent, later-parent, root-ancestors, later-ancestors, by-parents}
 use Rattle.path_spec.specs.Paths.{Axis, self, child, descendant, descendantOrSelf, parent, ancestor, ancestorOrSelf}
 use Rattle.path_spec.specs.Selection.{onAxis}
+use Rattle.selection_laws.specs.marks.Parents.{rowOnAxis}
 use Rattle.table_laws.specs.Nodes.{nodes-equal, nodes-same}
 use Rattle.table_laws.specs.Parents.{NodeAt, ChildOf, child-of, Placed}
 use Rattle.table_laws.specs.Places.{at-bound}

@@ -5,12 +5,12 @@ use mathlib.Core.Path.{_≡_, refl, sym, ap, _∙_}
 use Prim.Native.Nat.{ℕ}
 use lib.ListN.{length}
 use Rattle.cells.specs.row_sets.Columns.{marks, union, intersection, picked}
-use Rattle.selection_laws.specs.marks.Parents.{imageMarks}
-use Rattle.selection_laws.specs.marks.Selection.{inverseMarks, noMarks, testMarks, alternativeMarks, alternativesMarks, conditionMarks}
 use Rattle.path_laws.specs.Inverses.{inverse, inverse-axis}
 use Rattle.path_spec.specs.Paths.{WrittenAxis, along, PlainStep, Condition, unconditional, alternatives}
 use Rattle.path_spec.specs.Selection.{passes, onAxis, onWritten, stepFrom, pathFrom, always, holdsAt}
 use Rattle.selection_laws.specs.Marked.{Marked, marked-picked, rows-marked, intersection-marked, union-marked, same-marked, test-marked, image-marked}
+use Rattle.selection_laws.specs.marks.Parents.{imageMarks}
+use Rattle.selection_laws.specs.marks.Selection.{inverseMarks, noMarks, testMarks, alternativeMarks, alternativesMarks, conditionMarks}
 use Rattle.table_laws.specs.Parents.{Placed}
 use Rattle.table_spec.specs.Nodes.{Node, nameOf}
 use Rattle.text_laws.specs.Lists.{any-of-cong, any-of-filter, any-of-any, filled-any}

@@ -8,11 +8,11 @@ use native.Mathlib.Omega.{arith}
 use lib.Dec.{eqb}
 use lib.ListN.{length, getD, getElem?, length-map}
 use Rattle.cells.specs.row_sets.Columns.{RowSet, mark, isMarked, marks, union, intersection, picked, mark-test, marks-length, marks-marked}
-use Rattle.selection_laws.specs.marks.Parents.{rowOnAxis, image, imageMarks}
-use Rattle.selection_laws.specs.marks.Selection.{testMarks}
 use Rattle.path_spec.specs.Paths.{Axis, NodeTest}
 use Rattle.path_spec.specs.Selection.{passes, onAxis}
 use Rattle.selection_laws.specs.Axes.{axis-rows}
+use Rattle.selection_laws.specs.marks.Parents.{rowOnAxis, image, imageMarks}
+use Rattle.selection_laws.specs.marks.Selection.{testMarks}
 use Rattle.table_laws.specs.Parents.{NodeAt, Placed}
 use Rattle.table_laws.specs.Places.{at-bound, none-some}
 use Rattle.table_spec.specs.Nodes.{Node, nameOf}

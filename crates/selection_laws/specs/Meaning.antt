@@ -8,13 +8,13 @@ use native.Mathlib.Omega.{arith}
 use lib.Dec.{T}
 use lib.ListN.{length}
 use Rattle.cells.specs.row_sets.Columns.{isMarked, marks-marked}
-use Rattle.selection_laws.specs.marks.Parents.{rowOnAxis, image, imageMarks}
-use Rattle.selection_laws.specs.marks.Selection.{conditionMarks}
 use Rattle.path_laws.specs.Selection.{test-on-axis, on-axis-test, test-holds, holds-test}
 use Rattle.path_spec.specs.Paths.{Axis, Condition}
 use Rattle.path_spec.specs.Selection.{OnAxis, Holds}
 use Rattle.selection_laws.specs.Axes.{axis-rows}
 use Rattle.selection_laws.specs.Conditions.{condition-marked}
+use Rattle.selection_laws.specs.marks.Parents.{rowOnAxis, image, imageMarks}
+use Rattle.selection_laws.specs.marks.Selection.{conditionMarks}
 use Rattle.table_laws.specs.Parents.{NodeAt, Placed}
 use Rattle.table_laws.specs.Places.{at-bound, at-some}
 use Rattle.table_spec.specs.Nodes.{Node, nameOf}

@@ -10,14 +10,14 @@ use borrow.Author.Tests.{eq-eqb, ne-eqb}
 use lib.Dec.{T, eqb}
 use lib.ListN.{length, getElem?}
 use Rattle.cells.specs.row_sets.Columns.{intersection, picked}
-use Rattle.selection_laws.specs.marks.Selection.{writtenMarks, testMarks, conditionMarks, stepMarks, stepsMarks, rootMarks, startMarks, pathMarks, selectColumns}
-use Rattle.table_laws.specs.Columns.{parentsOf, namesOf, numbersOf}
 use Rattle.path_spec.specs.Paths.{WrittenAxis, along, WrittenStep, Condition, Start, rootElement, LocationPath}
 use Rattle.path_spec.specs.Selection.{passes, onWritten, stepFrom, pathFrom, holdsAt, startNodes, selected, select, selectRows}
 use Rattle.schema_spec.specs.Names.{Name}
 use Rattle.schema_spec.specs.Types.{Types}
 use Rattle.selection_laws.specs.Conditions.{condition-marked}
 use Rattle.selection_laws.specs.Marked.{Marked, marked-picked, map-picked, rows-marked, intersection-marked, same-marked, test-marked, image-marked}
+use Rattle.selection_laws.specs.marks.Selection.{writtenMarks, testMarks, conditionMarks, stepMarks, stepsMarks, rootMarks, startMarks, pathMarks, selectColumns}
+use Rattle.table_laws.specs.Columns.{parentsOf, namesOf, numbersOf}
 use Rattle.table_laws.specs.Parents.{NodeAt, ChildOf, child-of, Placed, nodes-placed, nodes-numbered, nodes-named}
 use Rattle.table_spec.specs.Nodes.{Node, nodeNumber, nameOf, isTop, nodesOf}
 use Rattle.table_spec.specs.Rows.{Row}

@@ -2,10 +2,10 @@
 ghost use mathlib.Core.List.{map};
 ghost use mathlib.Core.Path.{_≡_};
 ghost use lib.ListN.{length};
+ghost use Rattle.cells.specs.verdicts.Verdicts.{verdict};
+ghost use Rattle.compiled_schema.specs.records.Records.{recordWith};
 ghost use Rattle.library_spec.specs.Calls.{structsAfter, tableCutRows};
 ghost use Rattle.row_structs.specs.Structs.{cellsIn};
-ghost use Rattle.compiled_schema.specs.records.Records.{recordWith};
-ghost use Rattle.cells.specs.verdicts.Verdicts.{verdict};
 use crate::columns::cut_columns;
 use cells::verdicts::Verdict;
 use row_structs::Row;

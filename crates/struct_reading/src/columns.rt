@@ -1,7 +1,7 @@
 // Reading a journal under a schema's record into the columns of so many row structs.
+ghost use Rattle.compiled_schema.specs.records.Records.{recordWith};
 ghost use Rattle.library_spec.specs.Calls.{journalReadRows};
 ghost use Rattle.row_structs.specs.Structs.{AnsweredFor};
-ghost use Rattle.compiled_schema.specs.records.Records.{recordWith};
 use cells::verdicts::Verdict;
 use journal::records::read_journal;
 use row_structs::CELLS;

@@ -1,11 +1,11 @@
 // Reading a journal under a schema's record into lent row structs.
-ghost use mathlib.Core.Path.{_≡_};
 ghost use mathlib.Core.List.{map};
+ghost use mathlib.Core.Path.{_≡_};
 ghost use lib.ListN.{length};
+ghost use Rattle.cells.specs.verdicts.Verdicts.{verdict};
+ghost use Rattle.compiled_schema.specs.records.Records.{recordWith};
 ghost use Rattle.library_spec.specs.Calls.{journalReadRows, structsAfter};
 ghost use Rattle.row_structs.specs.Structs.{cellsIn};
-ghost use Rattle.compiled_schema.specs.records.Records.{recordWith};
-ghost use Rattle.cells.specs.verdicts.Verdicts.{verdict};
 use crate::columns;
 use cells::verdicts::Verdict;
 use row_structs::Row;

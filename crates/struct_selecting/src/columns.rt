@@ -2,9 +2,9 @@
 ghost use mathlib.Core.List.{List};
 ghost use mathlib.Core.Path.{_≡_};
 ghost use lib.ListN.{length};
+ghost use Rattle.compiled_schema.specs.records.Records.{recordWith};
 ghost use Rattle.library_spec.specs.Calls.{nodesSelectedRows};
 ghost use Rattle.row_structs.specs.Structs.{Laid, columnsIn};
-ghost use Rattle.compiled_schema.specs.records.Records.{recordWith};
 ghost use Rattle.selection.specs.answers.Answers.{AnsweredCells};
 ghost use Rattle.table_spec.specs.Rows.{Cells};
 use bundle::reader::Bundle;

@@ -1,8 +1,8 @@
 // Selecting on a table that is handed in as row structs, by the records of a schema and a bundle.
 ghost use mathlib.Core.List.{map};
+ghost use Rattle.compiled_schema.specs.records.Records.{recordWith};
 ghost use Rattle.library_spec.specs.Calls.{nodesSelectedRows};
 ghost use Rattle.row_structs.specs.Structs.{cellsIn};
-ghost use Rattle.compiled_schema.specs.records.Records.{recordWith};
 ghost use Rattle.selection.specs.answers.Answers.{AnsweredCells};
 use crate::columns::select_columns;
 use bundle::reader::Bundle;

@@ -1,6 +1,6 @@
 // Columns of a table laid into lent row structs.
-ghost use mathlib.Core.Path.{_≡_};
 ghost use mathlib.Core.List.{map};
+ghost use mathlib.Core.Path.{_≡_};
 ghost use lib.ListN.{length};
 ghost use Rattle.row_structs.specs.Structs.{cellsIn, columnsIn, emptyCells};
 ghost use Rattle.table_spec.specs.Columns.{cellsAt, cellsFrom};

@@ -7,9 +7,9 @@ use mathlib.Core.Path.{_≡_, refl, sym, subst}
 use Prim.Native.Nat.{ℕ, _<_, _≤_}
 use lib.Dec.{T, eqb, leb, ltb, eqb→eq, leb→le, le→leb, ltb→lt, lt→ltb}
 use lib.ListN.{getElem?}
+use Rattle.schema_laws.specs.Names.{same-equal, same-name}
 use Rattle.schema_spec.specs.Names.{Name, sameName}
 use Rattle.schema_spec.specs.Types.{Types}
-use Rattle.schema_laws.specs.Names.{same-equal, same-name}
 use Rattle.table_spec.specs.Nodes.{Node, top, nodeNumber, nameOf, same, isAbove, depthOf, attachTo, nodeAt}
 use Rattle.table_spec.specs.Rows.{Row, textOf}
 use Rattle.table_spec.specs.Tables.{parentOpen, parentHolds, firstText, textFits, rowFits, laterRows, wellFormed}

@@ -15,10 +15,10 @@ use Rattle.table_laws.specs.passes.Codes.{HeldWords}
 use Rattle.table_laws.specs.passes.Passes.{rowsPass}
 use Rattle.table_laws.specs.passes.Tables.{passesRows, rows-pass}
 use Rattle.table_laws.specs.passes.Texts.{textsPass, beside-pass}
-use Rattle.tables.specs.rows.Lent.{Lent}
 use Rattle.table_spec.specs.Columns.{sizesOf, equalSizes, cellsFrom, columns}
 use Rattle.table_spec.specs.Rows.{Row, rowsOf}
 use Rattle.table_spec.specs.Tables.{wellFormed, wellFormedWith}
+use Rattle.tables.specs.rows.Lent.{Lent}
 use Rattle.text_laws.specs.Tests.{passed, and-cases}
 use Rattle.text_spec.specs.Lists.{isNone}
 

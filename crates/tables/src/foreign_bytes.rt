@@ -1,8 +1,8 @@
 // Whether a lent text has a byte that fails refusal 3.
 ghost use mathlib.Core.Path.{_≡_};
 ghost use lib.ListN.{length};
-ghost use Rattle.tables.specs.foreign_bytes.Foreign.{foreignBefore};
 ghost use Rattle.cells.specs.row_sets.Columns.{mark};
+ghost use Rattle.tables.specs.foreign_bytes.Foreign.{foreignBefore};
 ghost use Rattle.text_spec.specs.Bytes.{isForeign};
 
 const PASSES: u8 = 0;

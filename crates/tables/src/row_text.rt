@@ -2,10 +2,10 @@
 ghost use mathlib.Core.Path.{_≡_};
 ghost use Prim.Native.Nat.{_≤_};
 ghost use lib.ListN.{length};
-ghost use Rattle.library_spec.specs.Calls.{rowText, partAfter};
-ghost use Rattle.tables.specs.row_text.Answers.{textOf, outcomeOf};
 ghost use Rattle.compiled_schema.specs.records.Records.{recordWith};
+ghost use Rattle.library_spec.specs.Calls.{rowText, partAfter};
 ghost use Rattle.tables.specs.Handed.{entryTable};
+ghost use Rattle.tables.specs.row_text.Answers.{textOf, outcomeOf};
 use crate::is_table_beside;
 use crate::row_tests::is_text;
 use compiled_schema::record_words::schema_words;

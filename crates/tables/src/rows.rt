@@ -1,10 +1,10 @@
 // The rows of a table in one pass: whether they are a well-formed table, by its columns.
 ghost use mathlib.Core.Path.{_≡_};
 ghost use Prim.Native.Nat.{_≤_, _-_};
+ghost use Rattle.cells.specs.lent.Ends.{entryColumns, heldColumns};
 ghost use Rattle.table_laws.specs.passes.Passes.{laterPass, rowsPass};
 ghost use Rattle.tables.specs.rows.Lent.{Lent, RowLent, RootAt, rowFits};
 ghost use Rattle.text_spec.specs.Limits.{maxDepth};
-ghost use Rattle.cells.specs.lent.Ends.{entryColumns, heldColumns};
 use crate::later_rows::later_fits;
 use crate::row_tests::is_text;
 use crate::row_tests::root_fits;

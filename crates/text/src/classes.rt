@@ -1,7 +1,7 @@
 // The classes of bytes, and what may stand where by its class.
 ghost use mathlib.Core.Path.{_≡_};
-ghost use Rattle.text.specs.classes.Classes.{meant, joinsName, isForeignClass, inName};
 ghost use Rattle.text_spec.specs.Bytes.{classOf};
+ghost use Rattle.text.specs.classes.Classes.{meant, joinsName, isForeignClass, inName};
 
 pub enum Class {
     Blank,

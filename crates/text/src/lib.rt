@@ -8,8 +8,8 @@ pub mod name_words;
 pub mod scanning;
 
 ghost use mathlib.Core.Path.{_≡_};
-ghost use Rattle.text.specs.Places.{foreignPlace};
 ghost use Rattle.text_spec.specs.Bytes.{isBlank, isForeign, startsName, continuesName};
+ghost use Rattle.text.specs.Places.{foreignPlace};
 
 pub fn is_blank(b: u8) -> bool
     ensures { λ r. ⌜ r ≡ isBlank b ⌝ }

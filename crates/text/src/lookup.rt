@@ -3,10 +3,10 @@ ghost use mathlib.Core.List.{map};
 ghost use mathlib.Core.Path.{_≡_};
 ghost use Prim.Native.Nat.{_+_};
 ghost use lib.ListN.{length};
-ghost use Rattle.text.specs.lookup.Lookup.{found};
 ghost use Rattle.schema_spec.specs.Schemas.{indexFrom};
 ghost use Rattle.text_spec.specs.Lists.{valueOr};
 ghost use Rattle.text_spec.specs.Scans.{nameAt};
+ghost use Rattle.text.specs.lookup.Lookup.{found};
 use crate::name_bytes;
 
 // The place past the name at place p.

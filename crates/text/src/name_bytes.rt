@@ -2,9 +2,9 @@
 ghost use mathlib.Core.Path.{_≡_};
 ghost use Prim.Native.Nat.{_+_};
 ghost use lib.ListN.{length};
-ghost use Rattle.text.specs.name_bytes.Names.{nameByte};
 ghost use Rattle.text_spec.specs.Lists.{sameBytes};
 ghost use Rattle.text_spec.specs.Scans.{nameAt};
+ghost use Rattle.text.specs.name_bytes.Names.{nameByte};
 
 // The byte at i if a name goes on with it, or 0.
 pub fn name_byte(s: &[u8], i: usize) -> u8

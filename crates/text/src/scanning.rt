@@ -3,9 +3,9 @@ ghost use mathlib.Core.Bool.{true};
 ghost use mathlib.Core.Path.{_≡_};
 ghost use Prim.Native.Nat.{_≤_, _<_};
 ghost use lib.ListN.{length, set};
-ghost use Rattle.text.specs.scanning.Outcomes.{Skipped, Spaced, Spelt, Named};
 ghost use Rattle.text_spec.specs.Bytes.{startsName};
 ghost use Rattle.text_spec.specs.Scans.{byteAt};
+ghost use Rattle.text.specs.scanning.Outcomes.{Skipped, Spaced, Spelt, Named};
 use crate::limits::MAX_NAME_BYTES;
 
 // A part of a text: the place past it, or where the text departs from it.

@@ -8,8 +8,8 @@ use native.Mathlib.Omega.{arith}
 use lib.Dec.{T, ltb, ltb→lt, lt→ltb, nltb→le}
 use lib.ListN.{length, drop}
 use lib.Seq.{drop-append-le}
-use Rattle.text_laws.specs.Order.{Found, Listed, found-given, found-all, listed-given, listed-all, number-from-2, first-once}
 use Rattle.text_laws.specs.Lists.{empty-of}
+use Rattle.text_laws.specs.Order.{Found, Listed, found-given, found-all, listed-given, listed-all, number-from-2, first-once}
 use Rattle.text_laws.specs.Refusals.{given-free}
 use Rattle.text_laws.specs.Tests.{or-left, or-right, or-cases, not-intro}
 use Rattle.text_spec.specs.Bytes.{isForeign}

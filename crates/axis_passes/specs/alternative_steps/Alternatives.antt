@@ -5,16 +5,16 @@ use mathlib.Core.Path.{_≡_, sym, ap, _∙_}
 use Prim.Native.Nat.{ℕ, suc, _+_, _-_, _<_, _≤_}
 use native.Mathlib.Omega.{arith}
 use lib.ListN.{length, getD, replicate, length-replicate}
-use Rattle.compiled_paths.specs.Columns.{axisNumber, plainIn}
-use Rattle.compiled_paths.specs.Sizes.{allSteps}
-use Rattle.cells.specs.row_sets.Columns.{union}
-use Rattle.selection_laws.specs.marks.Passes.{fill-marks}
-use Rattle.selection_laws.specs.marks.Selection.{inverseMarks, alternativeMarks}
-use Rattle.path_spec.specs.Paths.{WrittenAxis, along, PlainStep}
-use Rattle.schema_spec.specs.Names.{Name}
 use Rattle.axis_passes.specs.steps.Steps.{backwardMarks, TableColumns, MarkColumn, StepPass, marks-column, image-column}
 use Rattle.axis_passes.specs.steps.Tests.{namesIn}
+use Rattle.cells.specs.row_sets.Columns.{union}
+use Rattle.compiled_paths.specs.Columns.{axisNumber, plainIn}
+use Rattle.compiled_paths.specs.Sizes.{allSteps}
 use Rattle.path_laws.specs.Inverses.{inverse}
+use Rattle.path_spec.specs.Paths.{WrittenAxis, along, PlainStep}
+use Rattle.schema_spec.specs.Names.{Name}
+use Rattle.selection_laws.specs.marks.Passes.{fill-marks}
+use Rattle.selection_laws.specs.marks.Selection.{inverseMarks, alternativeMarks}
 
 -- ---- what the pass asks
 pub record AlternativePass (ps codes : List ℕ) (first size : ℕ) (held steps next : List ℕ) : Type 0 where

@@ -6,13 +6,13 @@ use Prim.Native.Nat.{ℕ, _+_, _-_, _<_, _≤_}
 use native.Mathlib.Omega.{arith}
 use lib.ListN.{length, replicate}
 use Rattle.axis_passes.specs.alternative_steps.Alternatives.{AlternativePass}
-use Rattle.compiled_paths.specs.Columns.{firstSize, first-size-fits, first-size-some, plainIn, alternativesIn, alternatives-none, alternatives-next as first-alternative}
-use Rattle.compiled_paths.specs.Sizes.{allSteps}
-use Rattle.cells.specs.row_sets.Columns.{union}
-use Rattle.selection_laws.specs.marks.Passes.{fill-marks}
-use Rattle.selection_laws.specs.marks.Selection.{noMarks, alternativeMarks, alternativesMarks}
 use Rattle.axis_passes.specs.steps.Steps.{TableColumns, MarkColumn, marks-column, union-column}
 use Rattle.axis_passes.specs.steps.Tests.{namesIn}
+use Rattle.cells.specs.row_sets.Columns.{union}
+use Rattle.compiled_paths.specs.Columns.{firstSize, first-size-fits, first-size-some, plainIn, alternativesIn, alternatives-none, alternatives-next as first-alternative}
+use Rattle.compiled_paths.specs.Sizes.{allSteps}
+use Rattle.selection_laws.specs.marks.Passes.{fill-marks}
+use Rattle.selection_laws.specs.marks.Selection.{noMarks, alternativeMarks, alternativesMarks}
 
 -- what the pass asks
 pub record ConditionPass (ps codes : List ℕ) (first count : ℕ) (held steps next : List ℕ) : Type 0 where

@@ -6,16 +6,16 @@ use Prim.Native.Nat.{ℕ, suc, _+_, _-_, _<_, _≤_}
 use native.Mathlib.Omega.{arith}
 use borrow.Author.Tests.{eq-eqb, ne-eqb, ltb-true, ltb-false}
 use lib.Dec.{T, eqb, leb, ltb, eqb→eq, eqb-refl, leb→le, le→leb}
-use Rattle.compiled_paths.specs.Columns.{testOf}
 use Rattle.cells.specs.row_sets.Columns.{mark, marks}
-use Rattle.selection_laws.specs.marks.Passes.{rangeMarks}
-use Rattle.selection_laws.specs.marks.Selection.{testMarks}
+use Rattle.compiled_paths.specs.Columns.{testOf}
 use Rattle.path_spec.specs.Paths.{NodeTest, named, anyNode, anyText}
 use Rattle.path_spec.specs.Selection.{passes}
 use Rattle.schema_spec.specs.Names.{Name, element, text}
+use Rattle.selection_laws.specs.marks.Passes.{rangeMarks}
+use Rattle.selection_laws.specs.marks.Selection.{testMarks}
+use Rattle.table_laws.specs.Columns.{Coded}
 use Rattle.text_laws.specs.Tests.{and-intro, and-cases, same-test}
 use Rattle.text_spec.specs.Limits.{maxDeclarations}
-use Rattle.table_laws.specs.Columns.{Coded}
 
 -- the names of codes
 unfoldable pub nameWithCode : ℕ → Name

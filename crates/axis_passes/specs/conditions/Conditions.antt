@@ -6,15 +6,15 @@ use Prim.Native.Nat.{ℕ}
 use native.Mathlib.Omega.{arith}
 use lib.ListN.{length}
 use Rattle.axis_passes.specs.alternatives.Alternatives.{ConditionPass}
-use Rattle.compiled_paths.specs.Columns.{alternativesIn, conditionIn, condition-none, condition-some}
+use Rattle.axis_passes.specs.steps.Steps.{MarkColumn, marks-column, union-column, columns-same-length}
+use Rattle.axis_passes.specs.steps.Tests.{namesIn}
 use Rattle.cells.specs.row_sets.Columns.{isMarked, union, intersection, marks-cong, marks-marked, no-row-marked}
+use Rattle.compiled_paths.specs.Columns.{alternativesIn, conditionIn, condition-none, condition-some}
+use Rattle.path_spec.specs.Paths.{PlainStep, Condition}
+use Rattle.schema_spec.specs.Names.{Name}
 use Rattle.selection_laws.specs.marks.Passes.{SameLength}
 use Rattle.selection_laws.specs.marks.Roots.{intersection-none}
 use Rattle.selection_laws.specs.marks.Selection.{noMarks, allMarks, alternativeMarks, alternativesMarks, conditionMarks}
-use Rattle.path_spec.specs.Paths.{PlainStep, Condition}
-use Rattle.schema_spec.specs.Names.{Name}
-use Rattle.axis_passes.specs.steps.Steps.{MarkColumn, marks-column, union-column, columns-same-length}
-use Rattle.axis_passes.specs.steps.Tests.{namesIn}
 use Rattle.text_spec.specs.Lists.{anyBelow}
 
 -- what the pass asks

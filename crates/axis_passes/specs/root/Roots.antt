@@ -8,15 +8,15 @@ use borrow.Author.Tests.{eq-eqb, ne-eqb}
 use lib.Dec.{eqb}
 use lib.ListN.{length, getD, set, length-set, replicate}
 use lib.Seq.{getD-set-same, getD-set-other}
-use Rattle.compiled_paths.specs.Columns.{axisOf, testOf}
+use Rattle.axis_passes.specs.steps.Steps.{forwardMarks, TableColumns, TestPass, image-column, column-test}
+use Rattle.axis_passes.specs.steps.Tests.{namesIn}
 use Rattle.cells.specs.row_sets.Columns.{RowSet, mark, marks, intersection, marks-length, marks-at, marks-by-rows}
+use Rattle.compiled_paths.specs.Columns.{axisOf, testOf}
+use Rattle.path_spec.specs.Paths.{self, child, ancestorOrSelf}
 use Rattle.selection_laws.specs.marks.Parents.{imageMarks}
 use Rattle.selection_laws.specs.marks.Passes.{fill-marks}
 use Rattle.selection_laws.specs.marks.Roots.{rootImage, root-image-marks}
 use Rattle.selection_laws.specs.marks.Selection.{rootMarks, testMarks}
-use Rattle.path_spec.specs.Paths.{self, child, ancestorOrSelf}
-use Rattle.axis_passes.specs.steps.Steps.{forwardMarks, TableColumns, TestPass, image-column, column-test}
-use Rattle.axis_passes.specs.steps.Tests.{namesIn}
 use Rattle.table_laws.specs.Parents.{ParentsBefore}
 
 -- the parents of a table that is not empty, and room for a column

@@ -5,15 +5,15 @@ use mathlib.Core.Path.{_≡_, sym, ap, _∙_}
 use Prim.Native.Nat.{ℕ, _<_}
 use lib.ListN.{length, replicate}
 use Rattle.axis_passes.specs.code_ranges.Tests.{InRange, range-test}
-use Rattle.compiled_paths.specs.Columns.{axisOf, testOf}
+use Rattle.axis_passes.specs.steps.Tests.{namesIn}
 use Rattle.cells.specs.row_sets.Columns.{RowSet, isMarked, marks, OnlyMarks, union, intersection, marks-length, only-marks, no-row-marked}
+use Rattle.compiled_paths.specs.Columns.{axisOf, testOf}
+use Rattle.path_laws.specs.Inverses.{inverse}
+use Rattle.path_spec.specs.Paths.{Axis, self}
 use Rattle.selection_laws.specs.marks.Parents.{imageMarks}
 use Rattle.selection_laws.specs.marks.Passes.{AxisPass, SameLength, FilterPass, self-image, rangeMarks, fill-marks}
 use Rattle.selection_laws.specs.marks.Roots.{image-none}
 use Rattle.selection_laws.specs.marks.Selection.{noMarks, testMarks}
-use Rattle.path_laws.specs.Inverses.{inverse}
-use Rattle.path_spec.specs.Paths.{Axis, self}
-use Rattle.axis_passes.specs.steps.Tests.{namesIn}
 use Rattle.table_laws.specs.Columns.{Coded}
 use Rattle.table_laws.specs.Parents.{ParentsBefore}
 use Rattle.text_spec.specs.Lists.{anyBelow}

@@ -4,15 +4,15 @@ use mathlib.Core.Path.{_≡_, ap, _∙_}
 use Prim.Native.Nat.{ℕ, _+_, _-_, _<_}
 use native.Mathlib.Omega.{arith}
 use lib.ListN.{length, getD}
-use Rattle.compiled_paths.specs.Columns.{axisNumber, sizeAt, startAt, conditionIn, stepAt}
-use Rattle.compiled_paths.specs.Paths.{AtMost}
-use Rattle.compiled_paths.specs.Sizes.{writtenSteps, allSteps}
 use Rattle.axis_passes.specs.conditions.Conditions.{KeepPass}
-use Rattle.cells.specs.row_sets.Columns.{intersection}
-use Rattle.selection_laws.specs.marks.Selection.{conditionMarks, stepMarks, rootMarks}
 use Rattle.axis_passes.specs.root.Roots.{FirstPass}
 use Rattle.axis_passes.specs.steps.Steps.{forwardMarks, TableColumns, MarkColumn, StepPass, intersection-column, forward-column}
 use Rattle.axis_passes.specs.steps.Tests.{namesIn}
+use Rattle.cells.specs.row_sets.Columns.{intersection}
+use Rattle.compiled_paths.specs.Columns.{axisNumber, sizeAt, startAt, conditionIn, stepAt}
+use Rattle.compiled_paths.specs.Paths.{AtMost}
+use Rattle.compiled_paths.specs.Sizes.{writtenSteps, allSteps}
+use Rattle.selection_laws.specs.marks.Selection.{conditionMarks, stepMarks, rootMarks}
 
 -- ---- what the passes ask
 pub record Scratch (ps held steps next : List ℕ) : Type 0 where

@@ -4,12 +4,12 @@ use mathlib.Core.Path.{_≡_, sym, ap, ap₂, _∙_}
 use Prim.Native.Nat.{ℕ}
 use lib.ListN.{drop, replicate}
 use lib.Seq.{sets}
-use Rattle.compiled_paths.specs.Sizes.{writtenSteps, allSteps}
-use Rattle.bundle.specs.last_steps.Marks.{marked}
 use Rattle.bundle.specs.columns.Filling.{stepColumn, filled}
 use Rattle.bundle.specs.declared.columns.Filled.{Filled}
+use Rattle.bundle.specs.last_steps.Marks.{marked}
 use Rattle.bundle.specs.names_in_tests.Steps.{earliestOf, axisCell, testCell, lostCell, Compiled}
 use Rattle.bundle.specs.step_starts.Starts.{bracketStart}
+use Rattle.compiled_paths.specs.Sizes.{writtenSteps, allSteps}
 
 abbrev zeros : List ℕ
 zeros = replicate allSteps 0

@@ -1,10 +1,10 @@
 -- `judge_names` meets its contract: 10, then acceptance.
 use mathlib.Core.List.{map}
-use Rattle.text_spec.specs.Scans.{nameAt}
-use Rattle.bundle.specs.Outcomes.{judge-room, judge-lost, judge-known, few-names}
 use borrow.Author.Needs.{needs}
 use Rattle.bundle.proofs.judge_names.Statement.{statement}
 use Rattle.bundle.proofs.judge_names.Tie as tie
+use Rattle.bundle.specs.Outcomes.{judge-room, judge-lost, judge-known, few-names}
+use Rattle.text_spec.specs.Scans.{nameAt}
 
 -- the states that answers go back to
 abbrev start-before : tie.After-fill → tie.Start

@@ -5,8 +5,8 @@ use Prim.Native.Nat.{ℕ, _+_, _-_, _≤_, _<_}
 use native.Mathlib.Numerals.{add-one}
 use lib.ListN.{length, drop, getD, drop-of-length-le}
 use lib.Seq.{drop-cons}
-use Rattle.compiled_paths.specs.Sizes.{writtenSteps}
 use Rattle.bundle.specs.last_steps.Marks.{mark, marked}
+use Rattle.compiled_paths.specs.Sizes.{writtenSteps}
 
 module _ (axes ways : List ℕ) (i : ℕ) where
   pub marked-next : i < length ways → marked (mark axes (writtenSteps + getD ways i 0 - 1)) (drop (i + 1) ways) ≡ marked axes (drop i ways)

@@ -6,12 +6,12 @@ use native.Mathlib.Omega.{arith}
 use borrow.Author.Tests.{eq-eqb, ne-eqb, lt-ltb, le-ltb}
 use lib.ListN.{length, take, set, getD}
 use lib.Seq.{length-sets, take-length}
+use Rattle.bundle_text.specs.steps.Readings.{axisCount}
+use Rattle.bundle.specs.declared.names_in_tests.CompiledTest.{CompiledTest}
 use Rattle.bundle.specs.names_in_tests.Columns.{map-next, column-next}
 use Rattle.bundle.specs.names_in_tests.Steps.{numbered, numberedName, compiledTest, earliest, earliestOf, axisCell, testCell, lostCell, Compiled}
-use Rattle.bundle.specs.declared.names_in_tests.CompiledTest.{CompiledTest}
-use Rattle.bundle_text.specs.steps.Readings.{axisCount}
-use Rattle.text.specs.lookup.NameLaws.{found-one, found-none}
 use Rattle.schema_spec.specs.Schemas.{indexFrom}
+use Rattle.text.specs.lookup.NameLaws.{found-one, found-none}
 use Rattle.text_laws.specs.Tests.{cond-yes, cond-no}
 use Rattle.text_spec.specs.Lists.{valueOr}
 use Rattle.text_spec.specs.Scans.{nameAt}

@@ -13,12 +13,12 @@ use Rattle.bundle.specs.Judging as judging
 use Rattle.bundle.specs.declared.Judged.{Judged}
 use Rattle.bundle.specs.declared.Judgement.{Judgement}
 use Rattle.bundle.specs.declared.Judgement.the-variants.{Accepted as JudgedAccepted, Refused as JudgedRefused}
-use Rattle.bundle.specs.reader.Records.{emptyBundle, Recorded, answerOf, handedBack, outcomeOf, readUnder, ReadAs}
 use Rattle.bundle.specs.declared.reader.Answer.{Answer}
 use Rattle.bundle.specs.declared.reader.Answer.the-variants.{BadRecord}
 use Rattle.bundle.specs.declared.reader.Bundle.{Bundle}
-use Rattle.path_spec.specs.Paths.{LocationPath}
+use Rattle.bundle.specs.reader.Records.{emptyBundle, Recorded, answerOf, handedBack, outcomeOf, readUnder, ReadAs}
 use Rattle.path_spec.specs.Machine.{parse}
+use Rattle.path_spec.specs.Paths.{LocationPath}
 use Rattle.path_spec.specs.Reading.{parsedRefusals, parsedPaths, bundleRefusals, readBundle}
 use Rattle.schema_reader.specs.Records.{passesRecord}
 use Rattle.schema_spec.specs.Records.{schemaIn, recordBy}

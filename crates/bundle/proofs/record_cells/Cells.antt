@@ -8,8 +8,8 @@ use borrow.Author.Tests.{le-leb, lt-leb}
 use lib.Dec.{leb}
 use lib.ListN.{length, take}
 use lib.Seq.{length-take-le}
-use Rattle.bundle.specs.reader.Records.{Recorded}
 use Rattle.bundle.specs.declared.reader.Bundle.{Bundle}
+use Rattle.bundle.specs.reader.Records.{Recorded}
 use Rattle.text_spec.specs.Cells.{padded}
 use Rattle.text_spec.specs.Limits.{maxBundleBytes}
 use Rattle.text_spec.specs.Lists.{sameBytes}

@@ -4,13 +4,13 @@ use mathlib.Core.Path.{_≡_}
 use Prim.Native.Nat.{ℕ, _+_, _≤_, _<_}
 use lib.ListN.{length, drop, getD, replicate}
 use lib.Seq.{sets}
+use Rattle.bundle.specs.declared.columns.Filled.{Filled}
+use Rattle.bundle.specs.last_steps.Marks.{marked}
+use Rattle.bundle.specs.names_in_tests.Steps.{earliestOf, axisCell, testCell, lostCell}
+use Rattle.bundle.specs.step_starts.Starts.{bracketStart}
 use Rattle.compiled_paths.specs.Paths.{AtMost}
 use Rattle.compiled_paths.specs.Sizes.{writtenSteps, allAlternatives, innerSteps, allSteps}
 use Rattle.compiled_paths.specs.declared.CompiledPaths.{CompiledPaths}
-use Rattle.bundle.specs.last_steps.Marks.{marked}
-use Rattle.bundle.specs.declared.columns.Filled.{Filled}
-use Rattle.bundle.specs.names_in_tests.Steps.{earliestOf, axisCell, testCell, lostCell}
-use Rattle.bundle.specs.step_starts.Starts.{bracketStart}
 use Rattle.text_spec.specs.Limits.{maxDeclarations, maxPaths}
 
 -- what a column has of the steps outside brackets and of those in them

@@ -9,13 +9,13 @@ use native.Mathlib.Omega.{arith}
 use borrow.Author.Tests.{lt-ltb, le-ltb}
 use lib.ListN.{length, getD, set, length-set, length-append}
 use lib.Seq.{sets, getD-set-same, getD-set-other}
-use Rattle.bundle_text.specs.paths.Readings.{LineCells, pathNoted, allSteps, pathEnds}
-use Rattle.compiled_paths.specs.Columns.{axisOf, lastMark, axisNumber, testOf, startAt, sizeAt, joined, plainAt, alternativesIn, conditionIn, condition-none, condition-some, stepAt, stepsIn, bundleIn}
-use Rattle.bundle_text.specs.alternatives.Laws.{cells-append}
 use Rattle.bundle_text.specs.alternatives.Conditions.{cellsOf}
-use Rattle.bundle_text.specs.written_steps.Readings.{Written, stepNoted, conditionOf, allPaths}
-use Rattle.path_spec.specs.Paths.{along, WrittenAxis, NodeTest, PlainStep, WrittenStep, Condition, alternatives, LocationPath, fromRootElement, renameTest, renamePlain, renameCondition, renameStep, renamePath}
+use Rattle.bundle_text.specs.alternatives.Laws.{cells-append}
+use Rattle.bundle_text.specs.paths.Readings.{LineCells, pathNoted, allSteps, pathEnds}
 use Rattle.bundle_text.specs.steps.Readings.{stepAxis, stepTest, plainNoted}
+use Rattle.bundle_text.specs.written_steps.Readings.{Written, stepNoted, conditionOf, allPaths}
+use Rattle.compiled_paths.specs.Columns.{axisOf, lastMark, axisNumber, testOf, startAt, sizeAt, joined, plainAt, alternativesIn, conditionIn, condition-none, condition-some, stepAt, stepsIn, bundleIn}
+use Rattle.path_spec.specs.Paths.{along, WrittenAxis, NodeTest, PlainStep, WrittenStep, Condition, alternatives, LocationPath, fromRootElement, renameTest, renamePlain, renameCondition, renameStep, renamePath}
 use Rattle.schema_spec.specs.Declarations.{Use}
 
 -- ---- a list stands along a column

@@ -7,26 +7,26 @@ use native.Mathlib.Nat.{add-zero}
 use native.Mathlib.Omega.{arith}
 use lib.ListN.{length, take, drop, getD, set, replicate, length-append, length-map, length-replicate}
 use lib.Seq.{sets, sets-eq, length-sets, length-take-le, take-at}
+use Rattle.bundle_text.specs.alternatives.Conditions.{cellsOf, endsFrom}
+use Rattle.bundle_text.specs.alternatives.Laws.{ends-append, ends-length}
+use Rattle.bundle_text.specs.declared.paths.Bundled.{Bundled}
+use Rattle.bundle_text.specs.paths.Laws.{conditions-length}
+use Rattle.bundle_text.specs.paths.Readings.{LineCells, pathNoted, allSteps, pathEnds, BundleRead}
+use Rattle.bundle_text.specs.written_steps.Readings.{Written, outerCells, allPaths, conditionEnds}
+use Rattle.bundle.specs.columns.Filling.{stepColumn, filledPaths, Room}
+use Rattle.bundle.specs.last_steps.Marks.{marked}
 use Rattle.bundle.specs.laws.Columns.{Along, Holds, along-append, sets-before, holds-sets, holds-before, holds-same, Step, Alternatives, alternatives-append, Stand, paths-stand}
 use Rattle.bundle.specs.laws.Limits.{Few, all-few}
 use Rattle.bundle.specs.laws.Marks.{marked-before, steps-along, alternatives-marked}
-use Rattle.bundle_text.specs.paths.Laws.{conditions-length}
-use Rattle.bundle_text.specs.paths.Readings.{LineCells, pathNoted, allSteps, pathEnds, BundleRead}
-use Rattle.bundle_text.specs.declared.paths.Bundled.{Bundled}
+use Rattle.bundle.specs.names_in_tests.Steps.{axisCell, testCell}
+use Rattle.bundle.specs.step_starts.Starts.{bracketStart}
 use Rattle.compiled_paths.specs.Columns.{bundleIn}
 use Rattle.compiled_paths.specs.Paths.{pathsIn, AtMost, Shaped}
 use Rattle.compiled_paths.specs.Sizes.{writtenSteps, allAlternatives, innerSteps, allSteps as stepCount}
-use Rattle.bundle.specs.last_steps.Marks.{marked}
-use Rattle.bundle.specs.columns.Filling.{stepColumn, filledPaths, Room}
-use Rattle.bundle_text.specs.alternatives.Laws.{ends-append, ends-length}
-use Rattle.bundle_text.specs.alternatives.Conditions.{cellsOf, endsFrom}
-use Rattle.bundle_text.specs.written_steps.Readings.{Written, outerCells, allPaths, conditionEnds}
-use Rattle.bundle.specs.names_in_tests.Steps.{axisCell, testCell}
 use Rattle.path_spec.specs.Grammar.{PathRead}
 use Rattle.path_spec.specs.Paths.{resolvedPath}
 use Rattle.schema_spec.specs.Declarations.{Use}
 use Rattle.schema_spec.specs.Schemas.{Schema, indexFrom, elementNamed}
-use Rattle.bundle.specs.step_starts.Starts.{bracketStart}
 use Rattle.text_spec.specs.Limits.{maxDeclarations, maxPaths, maxBundleBytes}
 use Rattle.text_spec.specs.Lists.{valueOr}
 

@@ -7,18 +7,18 @@ use native.Mathlib.Omega.{arith}
 use borrow.Author.Tests.{leb-false, ltb-false}
 use lib.Dec.{leb, ltb}
 use lib.ListN.{length, length-append, length-map}
-use Rattle.bundle.specs.laws.Order.{Later, later-none, later-all, later-append, Least}
-use Rattle.bundle_text.specs.paths.Readings.{LineCells, pathNoted, allSteps, firstOver}
-use Rattle.compiled_paths.specs.Sizes.{writtenSteps, allAlternatives, innerSteps, stepsOfAll, bracketedSteps, stepsOf, steps-few}
-use Rattle.bundle_text.specs.alternatives.Laws.{cells-append}
 use Rattle.bundle_text.specs.alternatives.Conditions.{cellsOf}
-use Rattle.path_laws.specs.Grammar.Sound.{parse-sound}
+use Rattle.bundle_text.specs.alternatives.Laws.{cells-append}
+use Rattle.bundle_text.specs.paths.Readings.{LineCells, pathNoted, allSteps, firstOver}
+use Rattle.bundle_text.specs.steps.Readings.{plainNoted}
 use Rattle.bundle_text.specs.written_steps.Readings.{Written, stepNoted, conditionOf, allPaths}
+use Rattle.bundle.specs.laws.Order.{Later, later-none, later-all, later-append, Least}
+use Rattle.compiled_paths.specs.Sizes.{writtenSteps, allAlternatives, innerSteps, stepsOfAll, bracketedSteps, stepsOf, steps-few}
+use Rattle.path_laws.specs.Grammar.Sound.{parse-sound}
 use Rattle.path_spec.specs.Grammar.{PathRead, AlternativeText, one-step, more-steps, ConditionText, one-alternative, more-alternatives, StepText, bare, conditional, PathText, last-step, next-step, BundleText, last-path, next-path}
 use Rattle.path_spec.specs.Machine.{parse}
 use Rattle.path_spec.specs.Paths.{PlainStep, WrittenStep, Condition, conditionPaths}
 use Rattle.path_spec.specs.Reading.{passesConditionLimit, passesLimit, limitRefusals}
-use Rattle.bundle_text.specs.steps.Readings.{plainNoted}
 use Rattle.schema_spec.specs.Declarations.{Use}
 use Rattle.text_laws.specs.Tests.{or-false}
 use Rattle.text_spec.specs.Limits.{maxSteps, maxAlternatives, maxPaths, maxPathBytes, maxBundleBytes}

@@ -6,17 +6,17 @@ use native.Mathlib.Omega.{arith}
 use borrow.Author.Tests.{ne-eqb}
 use lib.ListN.{length, getD, set, length-set, length-append, length-map}
 use lib.Seq.{getD-set-same, getD-set-other}
+use Rattle.bundle_text.specs.alternatives.Conditions.{cellsOf, endsFrom}
+use Rattle.bundle_text.specs.steps.Readings.{axisCount, stepAxis, stepTest, useAt}
+use Rattle.bundle.specs.declared.names_in_tests.CompiledTest.{CompiledTest}
+use Rattle.bundle.specs.last_steps.Marks.{mark, marked}
 use Rattle.bundle.specs.laws.Columns.{Along, Holds, along-append, holds-same, Step, Alternative, Alternatives}
 use Rattle.bundle.specs.laws.Limits.{EachSome}
 use Rattle.bundle.specs.laws.Names.{Test, node, texts, known, lost, test-by-number, index-below}
+use Rattle.bundle.specs.names_in_tests.Steps.{axisCell, testCell}
 use Rattle.compiled_paths.specs.Columns.{axisOf, lastMark, axisNumber, number-going-on, number-of-last, testOf}
 use Rattle.compiled_paths.specs.Sizes.{writtenSteps}
-use Rattle.bundle.specs.last_steps.Marks.{mark, marked}
-use Rattle.bundle_text.specs.alternatives.Conditions.{cellsOf, endsFrom}
-use Rattle.bundle.specs.names_in_tests.Steps.{axisCell, testCell}
-use Rattle.bundle.specs.declared.names_in_tests.CompiledTest.{CompiledTest}
 use Rattle.path_spec.specs.Paths.{along, NodeTest, named, renameTest}
-use Rattle.bundle_text.specs.steps.Readings.{axisCount, stepAxis, stepTest, useAt}
 use Rattle.schema_spec.specs.Declarations.{Use}
 use Rattle.schema_spec.specs.Schemas.{indexFrom}
 use Rattle.text_laws.specs.Tests.{cond-no}

@@ -9,17 +9,17 @@ use native.Mathlib.Omega.{arith}
 use borrow.Author.Tests.{eqb-true, eqb-false, ltb-true, ltb-false}
 use lib.Dec.{T, eqb, ltb}
 use lib.ListN.{length}
+use Rattle.bundle_text.specs.alternatives.Conditions.{cellsOf}
+use Rattle.bundle_text.specs.paths.Readings.{LineCells, pathNoted, allSteps}
+use Rattle.bundle_text.specs.steps.Readings.{axisCount, useAt, testNoted, stepTest, plainNoted}
+use Rattle.bundle_text.specs.written_steps.Readings.{Written, stepNoted, conditionOf, outerCells, allPaths}
+use Rattle.bundle.specs.declared.names_in_tests.CompiledTest.{CompiledTest}
 use Rattle.bundle.specs.laws.Limits.{gather-append}
 use Rattle.bundle.specs.laws.Order.{Least, least-all}
-use Rattle.bundle_text.specs.paths.Readings.{LineCells, pathNoted, allSteps}
-use Rattle.bundle_text.specs.alternatives.Conditions.{cellsOf}
-use Rattle.bundle_text.specs.written_steps.Readings.{Written, stepNoted, conditionOf, outerCells, allPaths}
 use Rattle.bundle.specs.names_in_tests.Steps.{numbered, numberedName, compiledTest, earliest, earliestOf, lostCell}
-use Rattle.bundle.specs.declared.names_in_tests.CompiledTest.{CompiledTest}
 use Rattle.path_spec.specs.Grammar.{PathRead}
 use Rattle.path_spec.specs.Paths.{NodeTest, named, anyNode, anyText, PlainStep, conditionPaths, testUses, pathUses}
 use Rattle.path_spec.specs.Reading.{undeclaredPlaces}
-use Rattle.bundle_text.specs.steps.Readings.{axisCount, useAt, testNoted, stepTest, plainNoted}
 use Rattle.schema_spec.specs.Declarations.{Use}
 use Rattle.schema_spec.specs.Schemas.{Schema, indexFrom, elementNamed}
 use Rattle.text_laws.specs.Lists.{in-map, map-in, in-gather, gather-in, in-filter, filter-in, is-none, memberless}

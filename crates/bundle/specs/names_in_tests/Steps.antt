@@ -7,8 +7,8 @@ use mathlib.Core.Path.{_≡_}
 use Prim.Native.Nat.{ℕ, _-_, _/_, _%_}
 use lib.Dec.{eqb, ltb}
 use lib.Seq.{sets}
-use Rattle.bundle.specs.declared.names_in_tests.CompiledTest.{CompiledTest}
 use Rattle.bundle_text.specs.steps.Readings.{axisCount}
+use Rattle.bundle.specs.declared.names_in_tests.CompiledTest.{CompiledTest}
 use Rattle.schema_spec.specs.Schemas.{indexFrom}
 use Rattle.text_spec.specs.Scans.{nameAt}
 

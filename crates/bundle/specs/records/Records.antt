@@ -8,23 +8,23 @@ use Prim.Native.Nat.{ℕ, _≤_}
 use lib.Dec.{leb, leb→le}
 use lib.ListN.{take}
 use Rattle.bundle.specs.Judging.{sized}
-use Rattle.bundle.specs.reader.Records.{outcomeOf, ReadAs, passesBundleRecord}
 use Rattle.bundle.specs.declared.reader.BundleRead.{BundleRead}
-use Rattle.path_spec.specs.Paths.{LocationPath}
-use Rattle.path_spec.specs.Reading.{readBundle, isBundleRecord}
+use Rattle.bundle.specs.reader.Records.{outcomeOf, ReadAs, passesBundleRecord}
+use Rattle.compiled_schema.specs.records.Records.{recordWith, refusalIn}
 use Rattle.library_spec.specs.Calls.{recordAfter, bundleRead}
 use Rattle.library_spec.specs.Records.{passesSchema, passesBundle, schemaHeld}
-use Rattle.text_spec.specs.Records.{TextRecord, recordOf}
+use Rattle.path_spec.specs.Paths.{LocationPath}
+use Rattle.path_spec.specs.Reading.{readBundle, isBundleRecord}
 use Rattle.schema_reader.specs.Records.{passesRecord}
 use Rattle.schema_reader.specs.Sizes.{record-low}
-use Rattle.compiled_schema.specs.records.Records.{recordWith, refusalIn}
 use Rattle.schema_spec.specs.Records.{schemaIn, recordBy}
 use Rattle.schema_spec.specs.Schemas.{Schema}
-use Rattle.text_spec.specs.Calls.{tested, handed}
 use Rattle.text_laws.specs.Tests.{and-cases, passed, true-of}
+use Rattle.text_spec.specs.Calls.{tested, handed}
 use Rattle.text_spec.specs.Cells.{padded}
 use Rattle.text_spec.specs.Limits.{maxSchemaBytes, maxBundleBytes}
 use Rattle.text_spec.specs.Lists.{sameBytes}
+use Rattle.text_spec.specs.Records.{TextRecord, recordOf}
 use Rattle.text_spec.specs.Refusals.{Outcome, accepted, refused, andThen}
 
 module _ (cells : List ℕ) (size : ℕ) (text : List ℕ) where

@@ -9,10 +9,10 @@ use Rattle.bundle_text.specs.alternative_ends.Readings.{NoSlash, plainPa
 use Rattle.bundle_text.specs.declared.alternative_ends.Follow.the-variants.{Close, More, Fail as FollowFail}
 use Rattle.path_laws.specs.Grammar.Machine.{or-keyword}
 use Rattle.path_spec.specs.Machine.{Inner, dead, inOr, afterBrackets, bracketed, step, bundleMachine}
-use Rattle.text.specs.scanning.OutcomeLaws.{spelt-end, spelt-past, spelt-fail}
-use Rattle.text.specs.scanning.Outcomes.{Spelt}
 use Rattle.text.specs.declared.scanning.Read.{Read}
 use Rattle.text.specs.declared.scanning.Read.the-variants.{Past as SpeltPast, Fail as SpeltFail}
+use Rattle.text.specs.scanning.OutcomeLaws.{spelt-end, spelt-past, spelt-fail}
+use Rattle.text.specs.scanning.Outcomes.{Spelt}
 use Rattle.text_laws.specs.Scans.{step-at, dead-at, at-end}
 use Rattle.text_laws.specs.Tests.{cond-no}
 use Rattle.text_spec.specs.Lists.{bytes}

@@ -11,10 +11,10 @@ use lib.Seq.{sets, length-sets}
 use Rattle.bundle_text.specs.alternative_ends.Readings.{plainPast}
 use Rattle.bundle_text.specs.alternatives.Readings.{Stands, inAlternative, ReadsAlternative}
 use Rattle.bundle_text.specs.declared.alternatives.AlternativeOutcome.the-variants.{Past, Fail}
-use Rattle.path_spec.specs.Machine.{Inner, inside, beginStep, step, bundleMachine}
-use Rattle.bundle_text.specs.steps.Readings.{ReadsPlain, PlainAs}
 use Rattle.bundle_text.specs.declared.steps.StepOutcome.{StepOutcome}
 use Rattle.bundle_text.specs.declared.steps.StepOutcome.the-variants.{Past as StepPast, Fail as StepFail}
+use Rattle.bundle_text.specs.steps.Readings.{ReadsPlain, PlainAs}
+use Rattle.path_spec.specs.Machine.{Inner, inside, beginStep, step, bundleMachine}
 use Rattle.text_laws.specs.Cells.{sets-append}
 use Rattle.text_laws.specs.Scans.{step-at}
 use Rattle.text_laws.specs.Tests.{never, cond-yes}

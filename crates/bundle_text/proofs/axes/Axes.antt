@@ -8,17 +8,17 @@ use native.Mathlib.Omega.{arith}
 use borrow.Author.Tests.{ne-eqb}
 use lib.Dec.{eqb}
 use lib.ListN.{length}
-use Rattle.compiled_paths.specs.Columns.{axisOf}
 use Rattle.bundle_text.specs.axes.Readings.{maxAxis, axisNumbered, single, double, AxisAs, ReadsAxis}
 use Rattle.bundle_text.specs.declared.axes.AxisOutcome.{AxisOutcome}
 use Rattle.bundle_text.specs.declared.axes.AxisOutcome.the-variants.{Past, Fail}
+use Rattle.compiled_paths.specs.Columns.{axisOf}
 use Rattle.path_spec.specs.Grammar.{PathRead}
 use Rattle.path_spec.specs.Machine.{Choice, Context, State, dead, inAxis, beforeTest, isDead, axisBy, beginStep, step, ends, bundleMachine}
 use Rattle.path_spec.specs.Paths.{WrittenAxis}
-use Rattle.text.specs.scanning.OutcomeLaws.{spelt-end, spelt-past, spelt-fail}
-use Rattle.text.specs.scanning.Outcomes.{Spelt}
 use Rattle.text.specs.declared.scanning.Read.{Read}
 use Rattle.text.specs.declared.scanning.Read.the-variants.{Past as SpeltPast, Fail as SpeltFail}
+use Rattle.text.specs.scanning.OutcomeLaws.{spelt-end, spelt-past, spelt-fail}
+use Rattle.text.specs.scanning.Outcomes.{Spelt}
 use Rattle.text_laws.specs.Scans.{step-at, dead-at, at-end, Keyword, due}
 use Rattle.text_spec.specs.Lists.{bytes}
 use Rattle.text_spec.specs.Machines.{spelt, from, matching}

@@ -9,20 +9,20 @@ use borrow.Author.Tests.{ne-eqb}
 use lib.Dec.{eqb, ltb}
 use lib.ListN.{length, set, length-append, length-map, length-reverse}
 use lib.Seq.{sets, length-sets}
-use Rattle.bundle_text.specs.paths.Laws.{paths-append, conditions-append, conditions-length}
-use Rattle.bundle_text.specs.paths.Readings.{LineCells, pathNoted, allSteps, pathEnds, firstOver, ReadsBundle}
-use Rattle.bundle_text.specs.declared.paths.BundleOutcome.the-variants.{Past, Fail}
-use Rattle.bundle_text.specs.alternatives.Laws.{cells-append, ends-append, ends-length}
 use Rattle.bundle_text.specs.alternatives.Conditions.{cellsOf, endsFrom, tooMuch}
-use Rattle.bundle_text.specs.path_limits.Limits.{overLimit}
-use Rattle.bundle_text.specs.written_steps.Readings.{Written, stepNoted, conditionOf, outerCells, allPaths, conditionEnds, overCondition, Steps, LineRead, LineAs, ReadsLine}
+use Rattle.bundle_text.specs.alternatives.Laws.{cells-append, ends-append, ends-length}
+use Rattle.bundle_text.specs.declared.paths.BundleOutcome.the-variants.{Past, Fail}
 use Rattle.bundle_text.specs.declared.written_steps.Line.{Line}
 use Rattle.bundle_text.specs.declared.written_steps.LineOutcome.{LineOutcome}
 use Rattle.bundle_text.specs.declared.written_steps.LineOutcome.the-variants.{Past as LinePast, Fail as LineFail}
+use Rattle.bundle_text.specs.path_limits.Limits.{overLimit}
+use Rattle.bundle_text.specs.paths.Laws.{paths-append, conditions-append, conditions-length}
+use Rattle.bundle_text.specs.paths.Readings.{LineCells, pathNoted, allSteps, pathEnds, firstOver, ReadsBundle}
+use Rattle.bundle_text.specs.steps.Readings.{plainNoted}
+use Rattle.bundle_text.specs.written_steps.Readings.{Written, stepNoted, conditionOf, outerCells, allPaths, conditionEnds, overCondition, Steps, LineRead, LineAs, ReadsLine}
 use Rattle.path_spec.specs.Grammar.{PathRead}
 use Rattle.path_spec.specs.Machine.{lineStart, bundleMachine, parse}
 use Rattle.path_spec.specs.Reading.{passesConditionLimit, passesLimit}
-use Rattle.bundle_text.specs.steps.Readings.{plainNoted}
 use Rattle.text_laws.specs.Cells.{sets-append}
 use Rattle.text_laws.specs.Scans.{at-end}
 use Rattle.text_laws.specs.Tests.{cond-no}

@@ -12,19 +12,19 @@ use lib.Seq.{take-append-seam}
 use Rattle.bundle_text.specs.axes.Readings.{maxAxis, axisNumbered, AxisAs, ReadsAxis}
 use Rattle.bundle_text.specs.declared.axes.AxisOutcome.{AxisOutcome}
 use Rattle.bundle_text.specs.declared.axes.AxisOutcome.the-variants.{Past as AxisPast, Fail as AxisFail}
+use Rattle.bundle_text.specs.declared.steps.StepOutcome.{StepOutcome}
+use Rattle.bundle_text.specs.declared.steps.StepOutcome.the-variants.{Past, Fail}
+use Rattle.bundle_text.specs.steps.Readings.{axisCount, useAt, testNoted, stepAxis, stepTest, testsIn, TestAs, ReadsTest, named-at, called, ReadsPlain, Packed}
 use Rattle.path_laws.specs.Grammar.Machine.{test-naming}
 use Rattle.path_spec.specs.Grammar.{PathRead}
 use Rattle.path_spec.specs.Machine.{Context, State, dead, beforeTest, inTest, inCall, afterCall, callOf, beginStep, step, ends, bundleMachine}
 use Rattle.path_spec.specs.Paths.{WrittenAxis, NodeTest, named, anyNode, anyText}
-use Rattle.bundle_text.specs.steps.Readings.{axisCount, useAt, testNoted, stepAxis, stepTest, testsIn, TestAs, ReadsTest, named-at, called, ReadsPlain, Packed}
-use Rattle.bundle_text.specs.declared.steps.StepOutcome.{StepOutcome}
-use Rattle.bundle_text.specs.declared.steps.StepOutcome.the-variants.{Past, Fail}
-use Rattle.text.specs.scanning.OutcomeLaws.{named-end, named-past, named-fail}
-use Rattle.text.specs.scanning.Outcomes.{Named}
-use Rattle.text.specs.declared.scanning.Read.{Read}
-use Rattle.text.specs.declared.scanning.Read.the-variants.{Past as NamePast, Fail as NameFail}
 use Rattle.schema_spec.specs.Declarations.{Use}
 use Rattle.schema_spec.specs.Schemas.{indexFrom}
+use Rattle.text.specs.declared.scanning.Read.{Read}
+use Rattle.text.specs.declared.scanning.Read.the-variants.{Past as NamePast, Fail as NameFail}
+use Rattle.text.specs.scanning.OutcomeLaws.{named-end, named-past, named-fail}
+use Rattle.text.specs.scanning.Outcomes.{Named}
 use Rattle.text_laws.specs.Lists.{bytes-equal, bytes-same}
 use Rattle.text_laws.specs.Scans.{step-at, dead-at, same-at, at-end}
 use Rattle.text_laws.specs.Tests.{passed, failed, false-of, cond-yes, cond-no}

@@ -7,17 +7,17 @@ use native.Mathlib.Omega.{arith}
 use borrow.Author.Tests.{ltb-true, ltb-false, ne-eqb}
 use lib.Dec.{ltb}
 use lib.ListN.{length, set}
-use Rattle.bundle_text.specs.alternatives.Readings.{Stands}
 use Rattle.bundle_text.specs.alternatives.Conditions.{conditionNoted, opened, ConditionAs, ReadsCondition}
+use Rattle.bundle_text.specs.alternatives.Readings.{Stands}
+use Rattle.bundle_text.specs.declared.alternative_ends.Follow.the-variants.{Close, More, Fail as FollowFail}
 use Rattle.bundle_text.specs.declared.alternatives.ConditionOutcome.{ConditionOutcome}
 use Rattle.bundle_text.specs.declared.alternatives.ConditionOutcome.the-variants.{Past as ConditionPast, Fail as ConditionFail}
-use Rattle.bundle_text.specs.declared.alternative_ends.Follow.the-variants.{Close, More, Fail as FollowFail}
+use Rattle.bundle_text.specs.declared.steps.StepOutcome.{StepOutcome}
+use Rattle.bundle_text.specs.declared.steps.StepOutcome.the-variants.{Past as StepPast, Fail as StepFail}
+use Rattle.bundle_text.specs.steps.Readings.{stepAxis, stepTest, PlainAs, ReadsPlain}
 use Rattle.bundle_text.specs.written_steps.Readings.{conditionOf, stepped, BracketsAs, ReadsBrackets, WrittenAs, ReadsWritten, lineEnded, FollowedAs}
 use Rattle.path_spec.specs.Machine.{Outer, outside, inside, State, dead, afterCall, afterBrackets, beginStep, withStep, stepDone, step, bundleMachine}
 use Rattle.path_spec.specs.Paths.{Condition}
-use Rattle.bundle_text.specs.steps.Readings.{stepAxis, stepTest, PlainAs, ReadsPlain}
-use Rattle.bundle_text.specs.declared.steps.StepOutcome.{StepOutcome}
-use Rattle.bundle_text.specs.declared.steps.StepOutcome.the-variants.{Past as StepPast, Fail as StepFail}
 use Rattle.schema_spec.specs.Declarations.{Use}
 use Rattle.text_laws.specs.Scans.{step-at, dead-at, same-at, at-end}
 use Rattle.text_laws.specs.Tests.{cond-no}

@@ -5,8 +5,8 @@ use Prim.Native.Nat.{ℕ, _≤_, _<_}
 use lib.ListN.{length}
 use Rattle.bundle_text.specs.declared.alternative_ends.Follow.{Follow}
 use Rattle.bundle_text.specs.declared.alternative_ends.Follow.the-variants.{Close, More, Fail as FollowFail}
-use Rattle.path_spec.specs.Machine.{Inner, inside, State, afterCall, afterBrackets, beginStep, withPlain, withAlternative, bracketed, bundleMachine}
 use Rattle.bundle_text.specs.steps.Readings.{stepAxis, stepTest}
+use Rattle.path_spec.specs.Machine.{Inner, inside, State, afterCall, afterBrackets, beginStep, withPlain, withAlternative, bracketed, bundleMachine}
 use Rattle.text_spec.specs.Machines.{departs, from}
 use Rattle.text_spec.specs.Scans.{byteAt}
 

@@ -7,18 +7,18 @@ use native.Mathlib.Omega.{arith}
 use lib.Dec.{ltb}
 use lib.ListN.{length, set, length-append, length-reverse}
 use lib.Seq.{sets, length-sets}
-use Rattle.bundle_text.specs.alternatives.Laws.{cells-more, ends-more, ends-length}
 use Rattle.bundle_text.specs.alternative_ends.Readings.{plainPast, closed, FollowedAs, Followed}
-use Rattle.bundle_text.specs.alternatives.Readings.{inAlternative, AlternativeRead, AlternativeAs, ReadsAlternative}
 use Rattle.bundle_text.specs.alternatives.Conditions.{cellsOf, endsFrom, longAlternative, conditionNoted, opened, ReadsCondition}
+use Rattle.bundle_text.specs.alternatives.Laws.{cells-more, ends-more, ends-length}
+use Rattle.bundle_text.specs.alternatives.Readings.{inAlternative, AlternativeRead, AlternativeAs, ReadsAlternative}
+use Rattle.bundle_text.specs.declared.alternative_ends.Follow.{Follow}
+use Rattle.bundle_text.specs.declared.alternative_ends.Follow.the-variants.{Close, More, Fail as FollowFail}
 use Rattle.bundle_text.specs.declared.alternatives.AlternativeOutcome.{AlternativeOutcome}
 use Rattle.bundle_text.specs.declared.alternatives.AlternativeOutcome.the-variants.{Past as AlternativePast, Fail as AlternativeFail}
 use Rattle.bundle_text.specs.declared.alternatives.ConditionOutcome.the-variants.{Past, Fail}
-use Rattle.bundle_text.specs.declared.alternative_ends.Follow.{Follow}
-use Rattle.bundle_text.specs.declared.alternative_ends.Follow.the-variants.{Close, More, Fail as FollowFail}
+use Rattle.bundle_text.specs.steps.Readings.{plainNoted}
 use Rattle.path_spec.specs.Machine.{Outer, Inner, inside, afterBrackets, beginStep, withStep, bracketed, bundleMachine}
 use Rattle.path_spec.specs.Paths.{WrittenAxis, NodeTest, PlainStep, alternatives}
-use Rattle.bundle_text.specs.steps.Readings.{plainNoted}
 use Rattle.schema_laws.specs.Lists.{map-reverse}
 use Rattle.schema_spec.specs.Declarations.{Use}
 use Rattle.text_laws.specs.Cells.{sets-append}

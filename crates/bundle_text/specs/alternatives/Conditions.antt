@@ -7,12 +7,12 @@ use Prim.Native.Nat.{ℕ, _+_, _≤_, _<_}
 use lib.Dec.{ltb}
 use lib.ListN.{length}
 use lib.Seq.{sets}
+use Rattle.bundle_text.specs.declared.alternatives.Alternatives.{Alternatives}
 use Rattle.bundle_text.specs.declared.alternatives.ConditionOutcome.{ConditionOutcome}
 use Rattle.bundle_text.specs.declared.alternatives.ConditionOutcome.the-variants.{Past, Fail}
-use Rattle.bundle_text.specs.declared.alternatives.Alternatives.{Alternatives}
+use Rattle.bundle_text.specs.steps.Readings.{plainNoted}
 use Rattle.path_spec.specs.Machine.{Outer, Inner, inside, afterBrackets, beginStep, withStep, bundleMachine}
 use Rattle.path_spec.specs.Paths.{WrittenAxis, NodeTest, Condition, alternatives}
-use Rattle.bundle_text.specs.steps.Readings.{plainNoted}
 use Rattle.schema_spec.specs.Declarations.{Use}
 use Rattle.text_spec.specs.Limits.{maxAlternatives, maxAlternativeSteps}
 use Rattle.text_spec.specs.Lists.{anyOf, gather}

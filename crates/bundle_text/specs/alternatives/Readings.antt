@@ -6,10 +6,10 @@ use Prim.Native.Nat.{ℕ, _+_, _≤_, _<_}
 use lib.ListN.{length}
 use lib.Seq.{sets}
 use Rattle.bundle_text.specs.alternative_ends.Readings.{NoSlash, plainPast}
-use Rattle.bundle_text.specs.declared.alternatives.AlternativeOutcome.the-variants.{Past as AlternativePast, Fail as AlternativeFail}
 use Rattle.bundle_text.specs.declared.alternatives.AlternativeOutcome.{AlternativeOutcome}
-use Rattle.path_spec.specs.Machine.{Inner, inside, beginStep, bundleMachine}
+use Rattle.bundle_text.specs.declared.alternatives.AlternativeOutcome.the-variants.{Past as AlternativePast, Fail as AlternativeFail}
 use Rattle.bundle_text.specs.steps.Readings.{plainNoted}
+use Rattle.path_spec.specs.Machine.{Inner, inside, beginStep, bundleMachine}
 use Rattle.text_spec.specs.Machines.{departs, from}
 use Rattle.text_spec.specs.Scans.{byteAt}
 

@@ -3,9 +3,9 @@ use mathlib.Core.List.{List, [], _∷_, _++_}
 use mathlib.Core.Path.{_≡_}
 use Prim.Native.Nat.{ℕ, _+_, _≤_, _<_}
 use lib.ListN.{length}
-use Rattle.compiled_paths.specs.Columns.{axisOf}
 use Rattle.bundle_text.specs.declared.axes.AxisOutcome.{AxisOutcome}
 use Rattle.bundle_text.specs.declared.axes.AxisOutcome.the-variants.{Past, Fail}
+use Rattle.compiled_paths.specs.Columns.{axisOf}
 use Rattle.path_spec.specs.Machine.{Context, State, inAxis, beforeTest, bundleMachine}
 use Rattle.path_spec.specs.Paths.{WrittenAxis, along}
 use Rattle.text_spec.specs.Lists.{bytes}

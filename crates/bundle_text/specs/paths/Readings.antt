@@ -5,9 +5,9 @@ use mathlib.Core.Path.{_≡_}
 use Prim.Native.Nat.{ℕ, suc, _+_}
 use lib.ListN.{length}
 use lib.Seq.{sets}
-use Rattle.bundle_text.specs.declared.paths.Bundled.{Bundled}
 use Rattle.bundle_text.specs.declared.paths.BundleOutcome.{BundleOutcome}
 use Rattle.bundle_text.specs.declared.paths.BundleOutcome.the-variants.{Past, Fail}
+use Rattle.bundle_text.specs.declared.paths.Bundled.{Bundled}
 use Rattle.bundle_text.specs.written_steps.Readings.{Written, stepNoted, overCondition, Steps}
 use Rattle.path_spec.specs.Grammar.{PathRead, pathRead}
 use Rattle.path_spec.specs.Machine.{parse}

@@ -6,10 +6,10 @@ use Prim.Native.Nat.{ℕ, _+_, _-_, _/_, _%_, _≤_, _<_}
 use lib.Dec.{eqb}
 use lib.ListN.{length}
 use Rattle.bundle_text.specs.axes.Readings.{maxAxis, axisNumbered}
-use Rattle.path_spec.specs.Machine.{Context, State, inTest, inCall, afterCall, beginStep, bundleMachine}
-use Rattle.path_spec.specs.Paths.{WrittenAxis, NodeTest, named, anyNode, anyText, PlainStep}
 use Rattle.bundle_text.specs.declared.steps.StepOutcome.{StepOutcome}
 use Rattle.bundle_text.specs.declared.steps.StepOutcome.the-variants.{Past, Fail}
+use Rattle.path_spec.specs.Machine.{Context, State, inTest, inCall, afterCall, beginStep, bundleMachine}
+use Rattle.path_spec.specs.Paths.{WrittenAxis, NodeTest, named, anyNode, anyText, PlainStep}
 use Rattle.schema_spec.specs.Declarations.{Use}
 use Rattle.text_spec.specs.Machines.{departs, from}
 use Rattle.text_spec.specs.Scans.{nameAt}

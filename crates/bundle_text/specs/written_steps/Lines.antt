@@ -6,15 +6,15 @@ use Prim.Native.Nat.{ℕ, suc, _+_, _-_, _≤_, _<_}
 use native.Mathlib.Omega.{arith}
 use lib.ListN.{length, set, length-append, length-map}
 use lib.Seq.{sets, length-sets}
-use Rattle.bundle_text.specs.alternatives.Laws.{cells-append, ends-append, ends-length}
 use Rattle.bundle_text.specs.alternatives.Conditions.{cellsOf, endsFrom, tooMuch}
+use Rattle.bundle_text.specs.alternatives.Laws.{cells-append, ends-append, ends-length}
+use Rattle.bundle_text.specs.declared.alternative_ends.Follow.{Follow}
+use Rattle.bundle_text.specs.declared.alternative_ends.Follow.the-variants.{Close, More, Fail as FollowFail}
 use Rattle.bundle_text.specs.declared.alternatives.Alternatives.{Alternatives}
 use Rattle.bundle_text.specs.declared.alternatives.ConditionOutcome.{ConditionOutcome}
 use Rattle.bundle_text.specs.declared.alternatives.ConditionOutcome.the-variants.{Past as ConditionPast, Fail as ConditionFail}
-use Rattle.bundle_text.specs.declared.alternative_ends.Follow.{Follow}
-use Rattle.bundle_text.specs.declared.alternative_ends.Follow.the-variants.{Close, More, Fail as FollowFail}
-use Rattle.bundle_text.specs.written_steps.Readings.{stepped, BracketsRead, WrittenRead, WrittenAs, ReadsWritten, FollowedAs, Followed, Written, stepNoted, outerCells, allPaths, conditionEnds, overCondition, Steps, ReadsLine}
 use Rattle.bundle_text.specs.declared.written_steps.LineOutcome.the-variants.{Past, Fail}
+use Rattle.bundle_text.specs.written_steps.Readings.{stepped, BracketsRead, WrittenRead, WrittenAs, ReadsWritten, FollowedAs, Followed, Written, stepNoted, outerCells, allPaths, conditionEnds, overCondition, Steps, ReadsLine}
 use Rattle.path_spec.specs.Grammar.{PathRead, pathRead}
 use Rattle.path_spec.specs.Machine.{Outer, outside, lineStart, afterBrackets, beginStep, step, bundleMachine}
 use Rattle.path_spec.specs.Paths.{Condition, WrittenStep}

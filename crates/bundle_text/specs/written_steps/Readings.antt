@@ -7,18 +7,18 @@ use Prim.Native.Nat.{ℕ, _+_, _-_, _≤_, _<_}
 use lib.ListN.{length, set}
 use lib.Seq.{sets}
 use Rattle.bundle_text.specs.alternatives.Conditions.{cellsOf, endsFrom, tooMuch, conditionNoted}
+use Rattle.bundle_text.specs.declared.alternative_ends.Follow.{Follow}
+use Rattle.bundle_text.specs.declared.alternative_ends.Follow.the-variants.{Close, More, Fail as FollowFail}
 use Rattle.bundle_text.specs.declared.alternatives.Alternatives.{Alternatives}
 use Rattle.bundle_text.specs.declared.alternatives.ConditionOutcome.{ConditionOutcome}
 use Rattle.bundle_text.specs.declared.alternatives.ConditionOutcome.the-variants.{Past as ConditionPast, Fail as ConditionFail}
-use Rattle.bundle_text.specs.declared.alternative_ends.Follow.{Follow}
-use Rattle.bundle_text.specs.declared.alternative_ends.Follow.the-variants.{Close, More, Fail as FollowFail}
 use Rattle.bundle_text.specs.declared.written_steps.Line.{Line}
 use Rattle.bundle_text.specs.declared.written_steps.LineOutcome.{LineOutcome}
 use Rattle.bundle_text.specs.declared.written_steps.LineOutcome.the-variants.{Past, Fail}
+use Rattle.bundle_text.specs.steps.Readings.{stepAxis, stepTest}
 use Rattle.path_spec.specs.Grammar.{PathRead, pathRead}
 use Rattle.path_spec.specs.Machine.{Outer, outside, State, lineStart, afterCall, afterBrackets, beginStep, withStep, bundleMachine}
 use Rattle.path_spec.specs.Paths.{Condition, unconditional, WrittenStep}
-use Rattle.bundle_text.specs.steps.Readings.{stepAxis, stepTest}
 use Rattle.schema_spec.specs.Declarations.{Use}
 use Rattle.text_spec.specs.Lists.{anyOf, gather}
 use Rattle.text_spec.specs.Machines.{departs, from}

@@ -1,11 +1,11 @@
 -- Lent slices at both ends of a call, as a contract names them: what they hold at entry, and what they are left with at exit.
 use mathlib.Core.List.{List}
+use mathlib.Core.Path.{_≡_}
 use Prim.Native.Nat.{ℕ}
 use denote.Ref.{RefT, now}
 use denote.Triple.Both.{Both}
-use Rattle.table_spec.specs.Columns.{Columns, columns, Sizes, sizesOf}
-use mathlib.Core.Path.{_≡_}
 use Rattle.library_spec.specs.Calls.{columnsAfter}
+use Rattle.table_spec.specs.Columns.{Columns, columns, Sizes, sizesOf}
 use Rattle.table_spec.specs.Rows.{Row}
 use Rattle.text_spec.specs.Refusals.{Outcome}
 

@@ -4,11 +4,11 @@ use mathlib.Core.Path.{_≡_}
 use Prim.Native.Nat.{ℕ}
 use lib.ListN.{length}
 use denote.Ref.{now}
+use Rattle.cells.specs.declared.verdicts.Verdict.{Verdict}
 use Rattle.cells.specs.lent.Ends.{Slice}
 use Rattle.text_spec.specs.Calls.{inRoom, cellsAfter}
 use Rattle.text_spec.specs.Cells.{tooSmall}
 use Rattle.text_spec.specs.Refusals.{Outcome, accepted, refused, numberOf}
-use Rattle.cells.specs.declared.verdicts.Verdict.{Verdict}
 
 abbrev pub refusedBy : ℕ → ℕ → Verdict
 refusedBy number place = record { number = number; place = place; size = 0 }

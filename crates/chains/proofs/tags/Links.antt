@@ -7,11 +7,11 @@ use native.Mathlib.Numerals.{add-one}
 use native.Mathlib.Omega.{arith}
 use lib.ListN.{length, getD, set, take, drop, length-set, length-take}
 use lib.Seq.{sets}
+use Rattle.cells.specs.written_text.Written.{WrittenAt}
 use Rattle.chains.specs.tags.Chains.{linkAt, LinkPass, link-size-element, link-size-text, link-element, link-text}
 use Rattle.text_laws.specs.Searches.{below-or-past}
 use Rattle.text_spec.specs.Limits.{maxDeclarations}
 use Rattle.text_spec.specs.Lists.{bytes, part}
-use Rattle.cells.specs.written_text.Written.{WrittenAt}
 
 -- `/`, and some bytes behind it
 slash-first : (was w link : List ℕ) (at : ℕ) {n : ℕ} {out : List ℕ} → link ≡ bytes "/" ++ w → WrittenAt (set was at 0x2F) (at + 1) w n out → (n ≡ at + length link) × (out ≡ sets was at link)

@@ -9,22 +9,24 @@ use borrow.Author.Tests.{not-true, not-false, ltb-true, ltb-false}
 use lib.Dec.{T, ltb}
 use lib.ListN.{length, getElem?, take}
 use lib.Seq.{length-take-le}
-use Rattle.compiled_schema.specs.Compiled.{CompiledOf}
-use Rattle.compiled_schema.specs.declared.CompiledSchema.{CompiledSchema}
-use Rattle.handed_tables.specs.calls.Calls.{Holds, table-holds, table-refused, table-held}
-use Rattle.handed_tables.specs.columns.Rows.{lent-codes, lent-parents, lent-cells, lent-columns}
-use Rattle.table_laws.specs.Columns.{codes-map}
-use Rattle.library_spec.specs.Chains.{chain}
-use Rattle.library_spec.specs.Records.{LentTable, tableHeld}
+use Rattle.cells.specs.declared.verdicts.Verdict.{Verdict}
+use Rattle.cells.specs.verdicts.Verdicts.{refusedBy, answeredOf, verdict, AnsweredBytes}
+use Rattle.chains.specs.declared.lent.ChainAnswer.{ChainAnswer}
+use Rattle.chains.specs.declared.lent.ChainAnswer.the-variants.{Written, TooFewCells}
 use Rattle.chains.specs.laws.Names.{compiled-names}
 use Rattle.chains.specs.laws.Nodes.{node-chain}
 use Rattle.chains.specs.lent.Answers.{chainOutcome, AnsweredChain}
 use Rattle.chains.specs.tags.Chains.{chainAt, NamesAt, SizePass}
-use Rattle.chains.specs.declared.lent.ChainAnswer.{ChainAnswer}
-use Rattle.chains.specs.declared.lent.ChainAnswer.the-variants.{Written, TooFewCells}
+use Rattle.compiled_schema.specs.Compiled.{CompiledOf}
+use Rattle.compiled_schema.specs.declared.CompiledSchema.{CompiledSchema}
+use Rattle.handed_tables.specs.calls.Calls.{Holds, table-holds, table-refused, table-held}
+use Rattle.handed_tables.specs.columns.Rows.{lent-codes, lent-parents, lent-cells, lent-columns}
+use Rattle.library_spec.specs.Chains.{chain}
+use Rattle.library_spec.specs.Records.{LentTable, tableHeld}
 use Rattle.schema_spec.specs.Reading.{readSchema}
 use Rattle.schema_spec.specs.Schemas.{Schema}
 use Rattle.schema_spec.specs.Types.{typesOf}
+use Rattle.table_laws.specs.Columns.{codes-map}
 use Rattle.table_laws.specs.Parents.{nodes-placed}
 use Rattle.table_laws.specs.Places.{at-bound, at-some}
 use Rattle.table_spec.specs.Nodes.{Node, nodesOf}
@@ -35,8 +37,6 @@ use Rattle.text_spec.specs.Calls.{handed, inRoom}
 use Rattle.text_spec.specs.Cells.{padded, tooSmall}
 use Rattle.text_spec.specs.Refusals.{Outcome, accepted, refused, andThen, at, badRecord, tooFewCells}
 use Rattle.text_spec.specs.Scans.{nameAt}
-use Rattle.cells.specs.verdicts.Verdicts.{refusedBy, answeredOf, verdict, AnsweredBytes}
-use Rattle.cells.specs.declared.verdicts.Verdict.{Verdict}
 
 -- ---- definitions
 -- how many bytes each of the names at places of a text has

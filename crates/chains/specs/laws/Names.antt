@@ -8,10 +8,10 @@ use native.Mathlib.Omega.{arith}
 use lib.Dec.{T}
 use lib.ListN.{length, getD, take, drop, length-map, length-take, length-drop}
 use lib.Seq.{getD-take}
+use Rattle.chains.specs.tags.Chains.{linkAt, NamesAt, link-element, link-text}
 use Rattle.compiled_schema.specs.Compiled.{CompiledOf}
 use Rattle.compiled_schema.specs.declared.CompiledSchema.{CompiledSchema}
 use Rattle.library_spec.specs.Chains.{tag}
-use Rattle.chains.specs.tags.Chains.{linkAt, NamesAt, link-element, link-text}
 use Rattle.schema.specs.Judging.{declaredAt}
 use Rattle.schema_laws.specs.Accepted.{accepted-spelt, accepted-length, accepted-filled, accepted-name, accepted-held}
 use Rattle.schema_laws.specs.Names.{in-element}

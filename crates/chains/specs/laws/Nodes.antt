@@ -6,12 +6,12 @@ use Prim.Native.Nat.{ℕ, zero, suc, _<_}
 use native.Mathlib.Omega.{arith}
 use lib.Dec.{T}
 use lib.ListN.{length, getD, getElem?, length-map}
-use Rattle.compiled_schema.specs.Compiled.{CompiledOf}
-use Rattle.compiled_schema.specs.declared.CompiledSchema.{CompiledSchema}
 use Rattle.cells.specs.row_sets.Ancestors.{by-parents}
-use Rattle.library_spec.specs.Chains.{tag, chain}
 use Rattle.chains.specs.laws.Names.{link-tag}
 use Rattle.chains.specs.tags.Chains.{linkAt, chainAt, chain-root, chain-later}
+use Rattle.compiled_schema.specs.Compiled.{CompiledOf}
+use Rattle.compiled_schema.specs.declared.CompiledSchema.{CompiledSchema}
+use Rattle.library_spec.specs.Chains.{tag, chain}
 use Rattle.schema_spec.specs.Names.{codeOf}
 use Rattle.schema_spec.specs.Reading.{readSchema}
 use Rattle.schema_spec.specs.Schemas.{Schema}

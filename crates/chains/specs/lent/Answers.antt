@@ -7,11 +7,11 @@ use native.Mathlib.Omega.{arith}
 use borrow.Author.Tests.{lt-ltb, le-ltb}
 use lib.ListN.{length, getD, drop, List·getD-append}
 use lib.Seq.{sets, length-sets, sets-eq}
-use Rattle.chains.specs.tags.Chains.{chainAt, chainSize, NamesAt, Chained, chain-length}
+use Rattle.cells.specs.lent.Appended.{Appended, appended-cleared}
+use Rattle.cells.specs.lent.Cells.{Cleared}
 use Rattle.chains.specs.declared.lent.ChainAnswer.{ChainAnswer}
 use Rattle.chains.specs.declared.lent.ChainAnswer.the-variants.{Written, TooFewCells}
-use Rattle.cells.specs.lent.Cells.{Cleared}
-use Rattle.cells.specs.lent.Appended.{Appended, appended-cleared}
+use Rattle.chains.specs.tags.Chains.{chainAt, chainSize, NamesAt, Chained, chain-length}
 use Rattle.text_spec.specs.Calls.{inRoom, cellsAfter}
 use Rattle.text_spec.specs.Cells.{tooSmall}
 use Rattle.text_spec.specs.Refusals.{Outcome, accepted, refused, at, andThen, tooFewCells}

@@ -5,11 +5,12 @@ use mathlib.Core.Path.{_≡_}
 use Prim.Native.Nat.{ℕ}
 use lib.Dec.{leb}
 use lib.ListN.{take}
+use Rattle.cells.specs.declared.verdicts.Verdict.{Verdict}
+use Rattle.cells.specs.verdicts.Verdicts.{AnsweredBytes}
 use Rattle.chains.specs.handed.Answers.{chainHeld}
 use Rattle.handed_tables.specs.calls.Calls.{record-refused, record-held}
 use Rattle.library_spec.specs.Calls.{rowChain}
 use Rattle.library_spec.specs.Records.{LentTable, passesSchema}
-use Rattle.text_spec.specs.Records.{TextRecord, textIn}
 use Rattle.schema_laws.specs.Records.{record-accepted}
 use Rattle.schema_reader.specs.Records.{passesRecord}
 use Rattle.schema_spec.specs.Reading.{readSchema}
@@ -18,9 +19,8 @@ use Rattle.text_laws.specs.Tests.{and-cases, passed}
 use Rattle.text_spec.specs.Cells.{padded}
 use Rattle.text_spec.specs.Limits.{maxSchemaBytes}
 use Rattle.text_spec.specs.Lists.{sameBytes}
+use Rattle.text_spec.specs.Records.{TextRecord, textIn}
 use Rattle.text_spec.specs.Refusals.{accepted, refused, at, badRecord}
-use Rattle.cells.specs.verdicts.Verdicts.{AnsweredBytes}
-use Rattle.cells.specs.declared.verdicts.Verdict.{Verdict}
 
 module _ (schema : TextRecord) (t : LentTable) (position size : ℕ) where
   pub no-record : passesSchema schema ≡ false → rowChain schema t position size ≡ refused (at badRecord 0)

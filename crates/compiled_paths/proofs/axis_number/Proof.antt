@@ -1,8 +1,8 @@
 -- `compiled_paths::axis_number` meets its contract.
 use mathlib.Core.Path.{sym}
-use Rattle.compiled_paths.specs.Columns.{number-going-on, number-of-last}
 use Rattle.compiled_paths.proofs.axis_number.Statement.{statement}
 use Rattle.compiled_paths.proofs.axis_number.Tie as tie
+use Rattle.compiled_paths.specs.Columns.{number-going-on, number-of-last}
 
 returns : tie.Need-returns
 returns c = sym (number-going-on (c .before .args .cell) (c .if1 .taken))

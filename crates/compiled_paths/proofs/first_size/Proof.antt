@@ -3,9 +3,9 @@ use mathlib.Core.Path.{_≡_, ap₂}
 use Prim.Native.Nat.{_+_, _-_, _≤_}
 use native.Mathlib.Omega.{arith}
 use borrow.Author.Needs.{needs}
-use Rattle.compiled_paths.specs.Columns.{firstSize, first-size-none, first-size-last, first-size-next}
 use Rattle.compiled_paths.proofs.first_size.Statement.{statement}
 use Rattle.compiled_paths.proofs.first_size.Tie as tie
+use Rattle.compiled_paths.specs.Columns.{firstSize, first-size-none, first-size-last, first-size-next}
 
 abbrev Inv-loop : tie.InvT-loop
 Inv-loop axes k n i₀ i = (i ≤ n) × (firstSize axes n k ≡ i + firstSize axes (n - i) (k + i))

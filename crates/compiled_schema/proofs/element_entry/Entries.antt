@@ -7,35 +7,35 @@ use Prim.Native.Nat.{ℕ, zero, suc, _+_, _-_, _≤_, _<_}
 use native.Mathlib.Omega.{arith}
 use lib.ListN.{length, take, drop, getD, replicate, length-map, length-replicate}
 use lib.Seq.{sets, sets-eq}
-use Rattle.schema.specs.contents.Contents.{ContentBuilt, built-empty, built-pcdata, built-children}
-use Rattle.schema.specs.declarations.Declarations.{DeclarationRead, Declared}
-use Rattle.schema.specs.particles.Readings.{useAt}
-use Rattle.text.specs.scanning.Outcomes.{Skipped}
-use Rattle.schema.specs.declared.declarations.DeclarationEnd.{DeclarationEnd}
-use Rattle.schema.specs.declared.declarations.DeclarationOutcome.{DeclarationOutcome}
-use Rattle.schema.specs.declared.declarations.DeclarationOutcome.the-variants.{Past, Fail}
+use Rattle.compiled_schema.proofs.element_entry.Reading.{index, departs-not, model-within, model-cells, model-small, cell-small, element-small, content-here, model-size, uses-few, at-next}
+use Rattle.compiled_schema.specs.declared.entry_parts.ElementEntry.{ElementEntry}
+use Rattle.compiled_schema.specs.element_entry.Reading.{AtDeclaration, EntryMade}
+use Rattle.compiled_schema.specs.entry_parts.Entries.{kindOf, EntryOf, kindIn, isHeld, entryWith, withCells}
+use Rattle.compiled_schema.specs.entry_parts.EntryLaws.{clear-bit, isHeld-holds}
 use Rattle.models.specs.Placing.{Clear}
 use Rattle.models.specs.PositionLaws.{size-uses, not-next}
 use Rattle.models.specs.Positions.{size, isNext}
 use Rattle.models.specs.declared.Content.{Content as ContentRead}
 use Rattle.names.specs.Sets.{member}
+use Rattle.names.specs.bits.Bits.{bit-none}
 use Rattle.names.specs.declared.NameSet.{NameSet}
-use Rattle.compiled_schema.proofs.element_entry.Reading.{index, departs-not, model-within, model-cells, model-small, cell-small, element-small, content-here, model-size, uses-few, at-next}
-use Rattle.compiled_schema.specs.entry_parts.EntryLaws.{clear-bit, isHeld-holds}
-use Rattle.compiled_schema.specs.entry_parts.Entries.{kindOf, EntryOf, kindIn, isHeld, entryWith, withCells}
-use Rattle.compiled_schema.specs.element_entry.Reading.{AtDeclaration, EntryMade}
-use Rattle.compiled_schema.specs.declared.entry_parts.ElementEntry.{ElementEntry}
+use Rattle.schema.specs.contents.Contents.{ContentBuilt, built-empty, built-pcdata, built-children}
+use Rattle.schema.specs.declarations.Declarations.{DeclarationRead, Declared}
+use Rattle.schema.specs.declared.declarations.DeclarationEnd.{DeclarationEnd}
+use Rattle.schema.specs.declared.declarations.DeclarationOutcome.{DeclarationOutcome}
+use Rattle.schema.specs.declared.declarations.DeclarationOutcome.the-variants.{Past, Fail}
+use Rattle.schema.specs.particles.Readings.{useAt}
 use Rattle.schema_laws.specs.Accepted.{usesIn-rename}
 use Rattle.schema_spec.specs.Declarations.{Use, Declaration}
 use Rattle.schema_spec.specs.Models.{Particle, Content, children, uses, usesIn, renameIn, renameContent}
 use Rattle.schema_spec.specs.Names.{Name, hasBit}
 use Rattle.schema_spec.specs.Records.{schemaIn}
 use Rattle.schema_spec.specs.Schemas.{contentAt, modelAt}
+use Rattle.text.specs.scanning.Outcomes.{Skipped}
 use Rattle.text_laws.specs.Cells.{drop-replicate, padded-content}
 use Rattle.text_laws.specs.Searches.{below-or-past}
 use Rattle.text_spec.specs.Cells.{padded}
 use Rattle.text_spec.specs.Limits.{maxModelNames}
-use Rattle.names.specs.bits.Bits.{bit-none}
 
 -- ---- cells
 -- cells that were 0, after the first are set

@@ -10,11 +10,10 @@ use borrow.Author.Tests.{ltb-true, ltb-false}
 use lib.Dec.{ltb}
 use lib.ListN.{length, take, drop, getD, getElem?, length-append, length-map, length-reverse, take-append-drop}
 use lib.Seq.{take-at, drop-at, take-append-le, drop-append-le}
-use Rattle.schema.specs.declarations.DeclarationLaws.{between-skipped}
-use Rattle.text.specs.scanning.Outcomes.{Skipped}
-use Rattle.schema.specs.Judging.{usedIn}
 use Rattle.compiled_schema.specs.element_entry.Reading.{AtDeclaration}
 use Rattle.compiled_schema.specs.element_entry.ReadingLaws.{uses-enough}
+use Rattle.schema.specs.Judging.{usedIn}
+use Rattle.schema.specs.declarations.DeclarationLaws.{between-skipped}
 use Rattle.schema_laws.specs.Accepted.{Spelt, accepted-spelt, accepted-length, accepted-closed, accepted-models, indexIn, usesIn-rename}
 use Rattle.schema_laws.specs.Runs.{run-extends}
 use Rattle.schema_spec.specs.Declarations.{Use, Declaration}
@@ -22,6 +21,7 @@ use Rattle.schema_spec.specs.Machine.{between, schemaMachine, atEnd, from, pars
 use Rattle.schema_spec.specs.Models.{usesIn, renameContent}
 use Rattle.schema_spec.specs.Records.{schemaIn}
 use Rattle.schema_spec.specs.Schemas.{Schema, declaredNames, resolved, schemaOf, contentOr, contentAt, modelAt}
+use Rattle.text.specs.scanning.Outcomes.{Skipped}
 use Rattle.text_laws.specs.Scans.{at-end}
 use Rattle.text_laws.specs.Tests.{never}
 use Rattle.text_spec.specs.Limits.{maxDeclarations, maxModelNames}

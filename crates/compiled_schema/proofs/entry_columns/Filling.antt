@@ -8,17 +8,17 @@ use native.Mathlib.Nat.{eq-or-lt-of-le}
 use native.Mathlib.Omega.{arith}
 use lib.ListN.{length, getD, set, replicate, length-set, length-replicate, getD-replicate}
 use lib.Seq.{getD-set-same, getD-set-other}
-use Rattle.names.specs.closures.Relations.{relates}
 use Rattle.compiled_schema.proofs.entry_columns.LentCells.{putBack, back-here, back-other, back-long, clear-cells}
-use Rattle.compiled_schema.specs.entry_columns.Columns.{cellsAt, entryAt, EntriesOf}
 use Rattle.compiled_schema.specs.declared.entry_columns.Entries.{Entries}
-use Rattle.names.specs.SetLaws.{nothing-in}
-use Rattle.names.specs.Sets.{member, nothing}
-use Rattle.names.specs.declared.NameSet.{NameSet}
+use Rattle.compiled_schema.specs.declared.entry_parts.ElementEntry.{ElementEntry}
+use Rattle.compiled_schema.specs.element_entry.Reading.{EntryMade}
+use Rattle.compiled_schema.specs.entry_columns.Columns.{cellsAt, entryAt, EntriesOf}
 use Rattle.compiled_schema.specs.entry_parts.Entries.{Entry, EntryOf, withCells}
 use Rattle.compiled_schema.specs.entry_parts.EntryLaws.{emptyEntry, empty-entry}
-use Rattle.compiled_schema.specs.element_entry.Reading.{EntryMade}
-use Rattle.compiled_schema.specs.declared.entry_parts.ElementEntry.{ElementEntry}
+use Rattle.names.specs.SetLaws.{nothing-in}
+use Rattle.names.specs.Sets.{member, nothing}
+use Rattle.names.specs.closures.Relations.{relates}
+use Rattle.names.specs.declared.NameSet.{NameSet}
 use Rattle.schema_laws.specs.Closure.{holder-in}
 use Rattle.schema_laws.specs.Names.{in-element}
 use Rattle.schema_spec.specs.Models.{Content, empty}

@@ -6,9 +6,9 @@ use Prim.Native.Nat.{ℕ, zero, suc, _+_, _*_, _-_, _≤_, _<_}
 use native.Mathlib.Omega.{arith}
 use lib.ListN.{length, take, drop, replicate, length-append, length-drop, take-append-drop}
 use lib.Seq.{take-append-le, drop-append-le, drop-append-add, take-at, drop-at, length-take-le}
+use Rattle.compiled_schema.specs.entry_columns.Columns.{cellsAt}
 use Rattle.text_laws.specs.Cells.{drop-replicate}
 use Rattle.text_laws.specs.Searches.{below-or-past}
-use Rattle.compiled_schema.specs.entry_columns.Columns.{cellsAt}
 use Rattle.text_spec.specs.Limits.{maxModelNames}
 
 module _ (b : ℕ) (p q : List ℕ) where

@@ -7,10 +7,10 @@ use native.Mathlib.Numerals.{add-one}
 use lib.Dec.{eqb, ltb}
 use lib.ListN.{length, drop, getD, drop-of-length-le}
 use lib.Seq.{drop-cons}
+use Rattle.compiled_schema.specs.entry_parts.Entries.{isOneOf, isHeld}
 use Rattle.names.specs.Sets.{member}
 use Rattle.names.specs.declared.NameSet.{NameSet}
 use Rattle.schema_spec.specs.Names.{Name, element, text, sameName}
-use Rattle.compiled_schema.specs.entry_parts.Entries.{isOneOf, isHeld}
 
 -- one element more
 module _ (elements : List ℕ) where

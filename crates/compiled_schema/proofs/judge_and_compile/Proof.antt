@@ -1,13 +1,13 @@
 -- `judge_and_compile` meets its contract: judged, then entry by entry, and what lies below by what each holds.
 use mathlib.Core.Path.{sym, ap, subst, _∙_}
+use native.Mathlib.Omega.{arith}
+use borrow.Author.Needs.{needs}
 use Rattle.compiled_schema.proofs.Whole.{schema-refused, schema-count, schema-with, schema-compiled}
+use Rattle.compiled_schema.proofs.judge_and_compile.Statement.{statement}
+use Rattle.compiled_schema.proofs.judge_and_compile.Tie as tie
 use Rattle.compiled_schema.specs.Compiled.{CompiledOf}
 use Rattle.schema.specs.Judging.{outcomeOf}
 use Rattle.schema_spec.specs.Schemas.{Schema}
-use native.Mathlib.Omega.{arith}
-use borrow.Author.Needs.{needs}
-use Rattle.compiled_schema.proofs.judge_and_compile.Statement.{statement}
-use Rattle.compiled_schema.proofs.judge_and_compile.Tie as tie
 
 all-entries-requires : tie.Need-all-entries-requires
 all-entries-requires c κs =

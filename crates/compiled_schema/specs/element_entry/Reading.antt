@@ -3,11 +3,10 @@ use mathlib.Core.List.{List, []}
 use mathlib.Core.Path.{_≡_}
 use Prim.Native.Nat.{ℕ, _+_, _≤_}
 use lib.ListN.{length, take}
-use Rattle.text.specs.scanning.Outcomes.{NoBlank}
+use Rattle.compiled_schema.specs.declared.entry_parts.ElementEntry.{ElementEntry}
+use Rattle.compiled_schema.specs.entry_parts.Entries.{EntryOf, withCells}
 use Rattle.names.specs.Sets.{member}
 use Rattle.schema.specs.Judging.{usedIn}
-use Rattle.compiled_schema.specs.entry_parts.Entries.{EntryOf, withCells}
-use Rattle.compiled_schema.specs.declared.entry_parts.ElementEntry.{ElementEntry}
 use Rattle.schema_spec.specs.Declarations.{Declaration}
 use Rattle.schema_spec.specs.Machine.{between, from}
 use Rattle.schema_spec.specs.Names.{Name, element}
@@ -15,6 +14,7 @@ use Rattle.schema_spec.specs.Reading.{readSchema}
 use Rattle.schema_spec.specs.Records.{schemaIn}
 use Rattle.schema_spec.specs.Schemas.{contentAt}
 use Rattle.schema_spec.specs.Types.{holds}
+use Rattle.text.specs.scanning.Outcomes.{NoBlank}
 use Rattle.text_spec.specs.Refusals.{accepted}
 
 -- an accepted text, and the elements that its models use

@@ -4,14 +4,14 @@ use mathlib.Core.Path.{_≡_, refl, ap}
 use Prim.Native.Nat.{ℕ, zero, suc, _≤_}
 use native.Mathlib.Omega.{arith}
 use lib.ListN.{length, take, length-append, length-take}
-use Rattle.schema.specs.declarations.DeclarationLaws.{between-skipped}
-use Rattle.text.specs.scanning.Outcomes.{Skipped}
-use Rattle.schema.specs.Judging.{usedIn}
 use Rattle.compiled_schema.specs.element_entry.Reading.{AcceptedWith, AtDeclaration}
+use Rattle.schema.specs.Judging.{usedIn}
+use Rattle.schema.specs.declarations.DeclarationLaws.{between-skipped}
 use Rattle.schema_laws.specs.Accepted.{accepted-length}
 use Rattle.schema_spec.specs.Models.{usesIn}
 use Rattle.schema_spec.specs.Records.{schemaIn}
 use Rattle.schema_spec.specs.Schemas.{Schema}
+use Rattle.text.specs.scanning.Outcomes.{Skipped}
 use Rattle.text_spec.specs.Limits.{maxDeclarations}
 
 pub at-first : {text uses : List ℕ} → AcceptedWith text uses → {i : ℕ} → Skipped text 0 i → AtDeclaration text uses 0 0 i

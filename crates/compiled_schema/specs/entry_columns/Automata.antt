@@ -5,10 +5,10 @@ use Prim.Native.Nat.{ℕ, _*_, _-_, _≤_, _<_}
 use native.Mathlib.Omega.{arith}
 use lib.ListN.{length, take, drop, getD, length-take, length-drop}
 use lib.Seq.{take-take}
-use Rattle.compiled_schema.specs.entry_columns.Columns.{cellsAt, endsAt, EntriesOf}
 use Rattle.compiled_schema.specs.declared.entry_columns.Entries.{Entries}
-use Rattle.models.specs.Automaton.{AutomatonOf}
+use Rattle.compiled_schema.specs.entry_columns.Columns.{cellsAt, endsAt, EntriesOf}
 use Rattle.compiled_schema.specs.entry_parts.EntryLaws.{entry-automaton, entry-size}
+use Rattle.models.specs.Automaton.{AutomatonOf}
 use Rattle.schema_spec.specs.Models.{Particle, children}
 use Rattle.schema_spec.specs.Schemas.{Schema, contentAt, modelAt}
 use Rattle.text_laws.specs.Cells.{padded-length}

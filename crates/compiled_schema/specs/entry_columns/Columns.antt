@@ -3,10 +3,10 @@ use mathlib.Core.Bool.{Bool, false}
 use mathlib.Core.List.{List}
 use Prim.Native.Nat.{ℕ, _*_, _<_}
 use lib.ListN.{take, drop, getD}
-use Rattle.names.specs.closures.Schemas.{RelationOf}
-use Rattle.models.specs.declared.Ends.{Ends}
-use Rattle.compiled_schema.specs.entry_parts.Entries.{Entry, EntryOf}
 use Rattle.compiled_schema.specs.declared.entry_columns.Entries.{Entries}
+use Rattle.compiled_schema.specs.entry_parts.Entries.{Entry, EntryOf}
+use Rattle.models.specs.declared.Ends.{Ends}
+use Rattle.names.specs.closures.Schemas.{RelationOf}
 use Rattle.schema_spec.specs.Schemas.{Schema, contentAt}
 use Rattle.schema_spec.specs.Types.{holds}
 use Rattle.text_spec.specs.Limits.{maxDeclarations, maxModelNames}

@@ -5,12 +5,12 @@ use mathlib.Core.Path.{_≡_}
 use Prim.Native.Nat.{ℕ, _≤_, _<_}
 use lib.Dec.{eqb, ltb}
 use lib.ListN.{length, getD}
+use Rattle.compiled_schema.specs.declared.entry_parts.ElementEntry.{ElementEntry}
 use Rattle.models.specs.Positions.{mayBeAbsent, isFirst, isLast, isNext}
 use Rattle.models.specs.declared.Content.{Content as ContentRead}
 use Rattle.models.specs.declared.Content.the-variants.{Empty, Pcdata, Children}
 use Rattle.models.specs.declared.Ends.{Ends}
 use Rattle.names.specs.declared.NameSet.{NameSet}
-use Rattle.compiled_schema.specs.declared.entry_parts.ElementEntry.{ElementEntry}
 use Rattle.schema_spec.specs.Models.{Content, empty, pcdata, children, usesIn}
 use Rattle.schema_spec.specs.Names.{Name, element, text, hasBit}
 use Rattle.text_spec.specs.Cells.{padded}

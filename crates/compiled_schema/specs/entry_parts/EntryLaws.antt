@@ -8,10 +8,11 @@ use borrow.Author.Tests.{lt-ltb}
 use lib.Dec.{eqb, ltb}
 use lib.ListN.{length, take, getD, replicate, length-replicate}
 use lib.Seq.{length-take-le, getD-take}
+use Rattle.compiled_schema.specs.entry_parts.Entries.{kindOf, Entry, EntryOf, isHeld}
 use Rattle.models.specs.Automaton.{AutomatonOf}
 use Rattle.models.specs.PositionLaws.{size-uses}
 use Rattle.models.specs.Positions.{size}
-use Rattle.compiled_schema.specs.entry_parts.Entries.{kindOf, Entry, EntryOf, isHeld}
+use Rattle.names.specs.bits.Bits.{bit-none}
 use Rattle.schema_spec.specs.Models.{Particle, Content, empty, pcdata, children, uses, usesIn}
 use Rattle.schema_spec.specs.Names.{Name, element, text, hasBit}
 use Rattle.schema_spec.specs.Schemas.{Schema, contentAt, modelAt, isPcdata}
@@ -21,7 +22,6 @@ use Rattle.text_laws.specs.Tests.{eqb-sym}
 use Rattle.text_spec.specs.Cells.{padded}
 use Rattle.text_spec.specs.Limits.{maxModelNames}
 use Rattle.text_spec.specs.Lists.{anyOf}
-use Rattle.names.specs.bits.Bits.{bit-none}
 
 -- cells that are 0 have no bit
 pub clear-bit : (n : ℕ) {cells : List ℕ} → cells ≡ replicate n 0 → (i j : ℕ) → hasBit (getD cells j 0) i ≡ false

@@ -9,10 +9,10 @@ use native.Mathlib.Omega.{arith}
 use borrow.Author.Tests.{ltb-true, ltb-false}
 use lib.Dec.{T, ltb}
 use lib.ListN.{length, getD}
-use Rattle.names.specs.closures.Schemas.{RelationOf}
 use Rattle.names.specs.Encoding.{word-member}
 use Rattle.names.specs.SetLaws.{nothing-in, element-every, every-element, text-every, every-text, every-coded}
 use Rattle.names.specs.Sets.{setOf, everyName, nothing}
+use Rattle.names.specs.closures.Schemas.{RelationOf}
 use Rattle.names.specs.declared.NameSet.{NameSet}
 use Rattle.schema_laws.specs.Closure.{holds-model, holds-text, text-holds-none, holder-in}
 use Rattle.schema_laws.specs.Names.{in-element}

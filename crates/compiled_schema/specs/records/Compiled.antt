@@ -8,24 +8,24 @@ use Prim.Native.Nat.{ℕ, _<_}
 use native.Mathlib.Omega.{arith}
 use lib.Dec.{T}
 use lib.ListN.{length, take, getD}
-use Rattle.names.specs.closures.Relations.{relatedFrom, relatedTo}
-use Rattle.names.specs.closures.Schemas.{holds-relating, below-relating, relatedFrom-filter, relatedTo-filter}
-use Rattle.compiled_schema.specs.entry_columns.Automata.{entries-automaton}
 use Rattle.compiled_schema.specs.Compiled.{CompiledOf}
-use Rattle.compiled_schema.specs.entry_columns.Columns.{cellsAt, endsAt}
 use Rattle.compiled_schema.specs.declared.CompiledSchema.{CompiledSchema}
+use Rattle.compiled_schema.specs.entry_columns.Automata.{entries-automaton}
+use Rattle.compiled_schema.specs.entry_columns.Columns.{cellsAt, endsAt}
+use Rattle.inference_spec.specs.Types.{heldBy, holding, allBelow, allAbove}
 use Rattle.models.specs.Automaton.{AutomatonOf}
 use Rattle.names.specs.Sets.{member, setOf}
+use Rattle.names.specs.closures.Relations.{relatedFrom, relatedTo}
+use Rattle.names.specs.closures.Schemas.{holds-relating, below-relating, relatedFrom-filter, relatedTo-filter}
 use Rattle.names.specs.declared.NameSet.{NameSet}
-use Rattle.inference_spec.specs.Types.{heldBy, holding, allBelow, allAbove}
 use Rattle.schema_laws.specs.Accepted.{accepted-length, accepted-closed}
-use Rattle.text.specs.lookup.Lookup.{found, element-by-place}
-use Rattle.text.specs.declared.lookup.Lookup.{Lookup}
 use Rattle.schema_spec.specs.Models.{Particle, children, Fits}
 use Rattle.schema_spec.specs.Names.{Name, namesOf}
 use Rattle.schema_spec.specs.Reading.{readSchema}
 use Rattle.schema_spec.specs.Schemas.{Schema, indexFrom, elementNamed, contentAt}
 use Rattle.schema_spec.specs.Types.{holds, typesOf, isBelow}
+use Rattle.text.specs.declared.lookup.Lookup.{Lookup}
+use Rattle.text.specs.lookup.Lookup.{found, element-by-place}
 use Rattle.text_spec.specs.Refusals.{accepted}
 use Rattle.text_spec.specs.Scans.{nameAt}
 

@@ -5,7 +5,6 @@ use mathlib.Core.Path.{_≡_, refl, ap, ap₂, _∙_}
 use Prim.Native.Nat.{ℕ}
 use Rattle.library_spec.specs.Calls.{recordAfter, schemaRead}
 use Rattle.library_spec.specs.Records.{passesSchema}
-use Rattle.text_spec.specs.Records.{TextRecord, recordOf}
 use Rattle.schema.specs.Judging.{outcomeOf, sized}
 use Rattle.schema_reader.specs.Records.{ReadAs, passesRecord}
 use Rattle.schema_reader.specs.declared.SchemaRead.{SchemaRead}
@@ -13,6 +12,7 @@ use Rattle.schema_spec.specs.Reading.{readSchema}
 use Rattle.schema_spec.specs.Records.{normal, recordBy, schemaRecord}
 use Rattle.schema_spec.specs.Schemas.{Schema}
 use Rattle.text_spec.specs.Limits.{maxSchemaBytes}
+use Rattle.text_spec.specs.Records.{TextRecord, recordOf}
 use Rattle.text_spec.specs.Refusals.{Refusal, Outcome, accepted, refused, andThen}
 
 abbrev pub recordWith : List ℕ → ℕ → TextRecord

@@ -5,19 +5,19 @@ use mathlib.Core.Path.{_≡_, refl, sym, subst, _∙_}
 use Prim.Native.Nat.{ℕ}
 use borrow.Author.Tests.{not-true, not-false}
 use lib.Dec.{T}
+use Rattle.cells.specs.declared.verdicts.Verdict.{Verdict}
+use Rattle.cells.specs.verdicts.Verdicts.{refusedBy}
 use Rattle.cut_table.specs.laws.Answers.{Cuttable, CutFirst, AnsweredTable, cutHeld, refused-1, no-table, no-sizes, cut-asked, cut-found}
 use Rattle.handed_tables.specs.calls.Rows.{firstCells}
 use Rattle.kept_rows.specs.Kept.{inSet}
 use Rattle.library_spec.specs.Records.{LentTable}
+use Rattle.names.specs.Sets.{Known, setIn}
 use Rattle.names.specs.declared.NameSet.{NameSet}
 use Rattle.schema_spec.specs.Names.{namesOf, setOfWord}
 use Rattle.schema_spec.specs.Schemas.{Schema}
 use Rattle.table_spec.specs.Columns.{Columns, equalSizes, sizesOf, columnsOf}
 use Rattle.tables.specs.Handed.{isHeld}
 use Rattle.text_spec.specs.Refusals.{refused, at, badRecord}
-use Rattle.names.specs.Sets.{Known, setIn}
-use Rattle.cells.specs.verdicts.Verdicts.{refusedBy}
-use Rattle.cells.specs.declared.verdicts.Verdict.{Verdict}
 
 both-pass : (a b : Bool) → (a && b) ≡ true → (a ≡ true) × (b ≡ true)
 both-pass true b e = (refl, e)

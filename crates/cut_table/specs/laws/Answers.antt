@@ -8,43 +8,43 @@ use borrow.Author.Tests.{lt-ltb, le-ltb}
 use lib.Dec.{T, ltb}
 use lib.ListN.{length, getD, take, length-map}
 use lib.Seq.{length-take-le}
-use Rattle.kept_rows.specs.cut_rows.Rows.{table, OfLength}
+use Rattle.cells.specs.columns.ColumnLaws.{equal-columns}
+use Rattle.cells.specs.declared.verdicts.Verdict.{Verdict}
+use Rattle.cells.specs.lent.Ends.{Slice, entrySizes, exitColumns}
+use Rattle.cells.specs.row_sets.Columns.{picked}
+use Rattle.cells.specs.verdicts.Verdicts.{refusedBy, answeredOf, verdict}
 use Rattle.extract_spec.specs.Cut.{cut, cutToWord}
 use Rattle.handed_tables.specs.calls.Calls.{Holds, table-holds, record-refused, record-held, table-refused, table-held}
 use Rattle.handed_tables.specs.calls.Rows.{firstCells, held-columns}
+use Rattle.handed_tables.specs.columns.Rows.{lent-coded, lent-cells, lent-columns}
 use Rattle.kept_rows.specs.Joined.{rank}
 use Rattle.kept_rows.specs.Kept.{inSet, keptMarks}
-use Rattle.handed_tables.specs.columns.Rows.{lent-coded, lent-cells, lent-columns}
+use Rattle.kept_rows.specs.columns.Cut.{answered, paddedColumns, TableColumns, CutAs}
+use Rattle.kept_rows.specs.cut_rows.Rows.{table, OfLength}
+use Rattle.kept_rows.specs.laws.Cut.{columnsIn, PassesFor, renumberedBy, parents-first, cut-picked, marks-size, cut-columns}
+use Rattle.kept_rows.specs.laws.Picked.{picked-length}
 use Rattle.library_spec.specs.Calls.{inColumns, columnsAfter, tableCut}
 use Rattle.library_spec.specs.Records.{LentTable, tableHeld, passesSchema}
-use Rattle.text_spec.specs.Records.{TextRecord, textIn}
-use Rattle.cells.specs.row_sets.Columns.{picked}
-use Rattle.names.specs.codes.Codes.{nameOfCode}
 use Rattle.names.specs.SetLaws.{in-setOf, setOf-in}
 use Rattle.names.specs.Sets.{member, setIn, Known}
+use Rattle.names.specs.codes.Codes.{nameOfCode}
 use Rattle.names.specs.declared.NameSet.{NameSet}
-use Rattle.cells.specs.columns.ColumnLaws.{equal-columns}
 use Rattle.schema_laws.specs.Names.{has-in, in-has}
 use Rattle.schema_spec.specs.Names.{Name, Names, element, text, codeOf, has, namesOf, setOfWord}
 use Rattle.schema_spec.specs.Records.{schemaIn}
 use Rattle.schema_spec.specs.Schemas.{Schema}
 use Rattle.schema_spec.specs.Types.{Types, typesOf}
 use Rattle.table_laws.specs.Codes.{HasCode, NamesCoded}
-use Rattle.kept_rows.specs.columns.Cut.{answered, paddedColumns, TableColumns, CutAs}
-use Rattle.kept_rows.specs.laws.Cut.{columnsIn, PassesFor, renumberedBy, parents-first, cut-picked, marks-size, cut-columns}
-use Rattle.kept_rows.specs.laws.Picked.{picked-length}
-use Rattle.tables.specs.rows.Lent.{Lent}
 use Rattle.table_spec.specs.Columns.{Columns, Sizes, sizesOf, equalSizes, columnsOf}
 use Rattle.table_spec.specs.Rows.{Row}
 use Rattle.table_spec.specs.Tables.{wellFormed}
 use Rattle.tables.specs.Handed.{isHeld}
+use Rattle.tables.specs.rows.Lent.{Lent}
 use Rattle.text_laws.specs.Tests.{passed, same-test}
 use Rattle.text_spec.specs.Calls.{tested, handed}
 use Rattle.text_spec.specs.Limits.{maxDeclarations}
+use Rattle.text_spec.specs.Records.{TextRecord, textIn}
 use Rattle.text_spec.specs.Refusals.{Outcome, accepted, refused, at, badRecord, tooFewCells}
-use Rattle.cells.specs.verdicts.Verdicts.{refusedBy, answeredOf, verdict}
-use Rattle.cells.specs.declared.verdicts.Verdict.{Verdict}
-use Rattle.cells.specs.lent.Ends.{Slice, entrySizes, exitColumns}
 
 -- ---- definitions
 -- a table answered in lent columns: the verdict, and the columns at exit

@@ -1,10 +1,10 @@
 -- `begin` meets its contract: by what the first field says.
-use borrow.Author.Needs.{needs}
 use mathlib.Core.Path.{refl}
-use Rattle.extract_reader.specs.Whole.{begun-by}
-use Rattle.extract_reader.specs.declared.fields.First.the-variants as first
+use borrow.Author.Needs.{needs}
 use Rattle.extract_reader.proofs.begin.Statement.{statement}
 use Rattle.extract_reader.proofs.begin.Tie as tie
+use Rattle.extract_reader.specs.Whole.{begun-by}
+use Rattle.extract_reader.specs.declared.fields.First.the-variants as first
 
 returns : tie.Need-returns
 returns c = begun-by _ _ first.Wrong (c .before .before .first-field .ensures) (c .enum-told .given .1) _ refl

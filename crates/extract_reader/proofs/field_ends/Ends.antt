@@ -7,10 +7,10 @@ use native.Mathlib.Omega.{arith}
 use borrow.Author.Tests.{eq-eqb, ne-eqb}
 use lib.Dec.{eqb}
 use lib.ListN.{length, getD}
-use Rattle.extract_spec.specs.Reading.{countItem, noItem, inTwo, elementValue, countValue}
 use Rattle.extract_reader.specs.field_ends.Ends.{isRoot, isCount}
 use Rattle.extract_reader.specs.field_ends.Values.{no-element, five, value-long, value-at, in-two, numberIn}
 use Rattle.extract_reader.specs.field_tests.TestLaws.{and-nothing}
+use Rattle.extract_spec.specs.Reading.{countItem, noItem, inTwo, elementValue, countValue}
 use Rattle.text_spec.specs.Lists.{part}
 
 no-count : (v : List ℕ) → (length v ≡ 2 → ⊥) → countValue v ≡ noItem

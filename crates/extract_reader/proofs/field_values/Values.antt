@@ -8,17 +8,17 @@ use native.Mathlib.Omega.{arith}
 use borrow.Author.Tests.{le-leb, lt-leb}
 use lib.Dec.{T, eqb, leb, ltb, ltb→lt, leb→le}
 use lib.ListN.{length, getD, take, drop, length-take, length-drop}
-use Rattle.extract_reader.specs.field_ends.Values.{no-element, five, no-text, four, value-long, value-at, in-two, numberIn, parentIn}
 use Rattle.extract_reader.proofs.field_values.Bytes.{foreign-found, foreign-absent}
-use Rattle.extract_reader.specs.field_tests.TestLaws.{and-nothing, element-test, text-test}
-use Rattle.extract_reader.specs.field_tests.Tests.{heldBy, wordTypes, LevelPass, elementUnder, textUnder}
-use Rattle.extract_reader.specs.levels.Levels.{levelsIn, lastElement, LevelOf}
-use Rattle.extract_reader.specs.field_values.Fields.{stateIn, fieldStep, ValuePass, ElementAs, TextAs}
 use Rattle.extract_reader.specs.declared.field_values.Carried.{Carried}
 use Rattle.extract_reader.specs.declared.field_values.FieldRead.the-variants.{Wrong, Ended, Element, Text}
-use Rattle.projection_laws.specs.extract_passes.Steps.{wrong, onward, state, elementFits, textFits, laterStep}
-use Rattle.projection_laws.specs.Opens.{placed}
+use Rattle.extract_reader.specs.field_ends.Values.{no-element, five, no-text, four, value-long, value-at, in-two, numberIn, parentIn}
+use Rattle.extract_reader.specs.field_tests.TestLaws.{and-nothing, element-test, text-test}
+use Rattle.extract_reader.specs.field_tests.Tests.{heldBy, wordTypes, LevelPass, elementUnder, textUnder}
+use Rattle.extract_reader.specs.field_values.Fields.{stateIn, fieldStep, ValuePass, ElementAs, TextAs}
+use Rattle.extract_reader.specs.levels.Levels.{levelsIn, lastElement, LevelOf}
 use Rattle.extract_spec.specs.Reading.{elementItem, textItem, noItem, inTwo, elementValue, textValue, Placed, openFrom, topRow, topElement}
+use Rattle.projection_laws.specs.Opens.{placed}
+use Rattle.projection_laws.specs.extract_passes.Steps.{wrong, onward, state, elementFits, textFits, laterStep}
 use Rattle.schema_spec.specs.Names.{element, text}
 use Rattle.table_spec.specs.Rows.{elementRow, textRow}
 use Rattle.text.specs.Places.{foreignPlace}

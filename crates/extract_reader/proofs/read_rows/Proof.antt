@@ -1,12 +1,12 @@
 -- `read_rows` meets its contract: after each turn one field more is read, so that fewer bytes are left.
-use borrow.Author.Needs.{needs}
 use mathlib.Core.Path.{_≡_, refl}
-use lib.ListN.{length}
-use Rattle.extract_reader.specs.Whole.{stands-begun, bytesLeft, going-reads, fewer-left, rows-read, same-sizes}
-use Rattle.extract_reader.specs.steps.Reads.{Stands}
 use native.Mathlib.Omega.{arith}
+use borrow.Author.Needs.{needs}
+use lib.ListN.{length}
 use Rattle.extract_reader.proofs.read_rows.Statement.{statement}
 use Rattle.extract_reader.proofs.read_rows.Tie as tie
+use Rattle.extract_reader.specs.Whole.{stands-begun, bytesLeft, going-reads, fewer-left, rows-read, same-sizes}
+use Rattle.extract_reader.specs.steps.Reads.{Stands}
 use Rattle.table_spec.specs.Columns.{columns}
 
 abbrev Inv-loop : tie.InvT-loop

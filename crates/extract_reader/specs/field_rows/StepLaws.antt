@@ -7,20 +7,20 @@ use Prim.Native.Nat.{ℕ, suc, _+_, _-_, _<_, _≤_}
 use native.Mathlib.Numerals.{add-one}
 use native.Mathlib.Omega.{arith}
 use lib.ListN.{length, set, length-set}
-use Rattle.extract_reader.specs.levels.LevelLaws.{top-row, top-element, levels-opened, known-opened}
-use Rattle.extract_reader.specs.levels.Levels.{levelWord, levelsIn, lastRow, lastElement, Known}
-use Rattle.projection_laws.specs.extract_passes.Steps.{State, state, onward, pastField, stepAt}
-use Rattle.extract_spec.specs.Reading.{Placed, topRow, topElement}
-use Rattle.extract_reader.specs.fields.Fields.{FieldAs}
-use Rattle.extract_reader.specs.field_rows.Steps.{carriedOn, rowStep, elementStep, textStep, ElementPlace, TextPlace, Ready, StepAs, wrong-field, last-field, row-field}
 use Rattle.extract_reader.specs.declared.field_rows.FieldStep.{FieldStep}
 use Rattle.extract_reader.specs.declared.field_rows.FieldStep.the-variants as field
-use Rattle.extract_reader.specs.field_tests.Tests.{wordTypes}
-use Rattle.extract_reader.specs.field_values.Fields.{stateIn, fieldStep}
 use Rattle.extract_reader.specs.declared.field_values.Carried.{Carried}
 use Rattle.extract_reader.specs.declared.field_values.FieldRead.{FieldRead}
 use Rattle.extract_reader.specs.declared.field_values.FieldRead.the-variants.{Wrong, Ended, Element, Text}
+use Rattle.extract_reader.specs.field_rows.Steps.{carriedOn, rowStep, elementStep, textStep, ElementPlace, TextPlace, Ready, StepAs, wrong-field, last-field, row-field}
+use Rattle.extract_reader.specs.field_tests.Tests.{wordTypes}
+use Rattle.extract_reader.specs.field_values.Fields.{stateIn, fieldStep}
+use Rattle.extract_reader.specs.fields.Fields.{FieldAs}
+use Rattle.extract_reader.specs.levels.LevelLaws.{top-row, top-element, levels-opened, known-opened}
+use Rattle.extract_reader.specs.levels.Levels.{levelWord, levelsIn, lastRow, lastElement, Known}
+use Rattle.extract_spec.specs.Reading.{Placed, topRow, topElement}
 use Rattle.projection_laws.specs.Opens.{placed}
+use Rattle.projection_laws.specs.extract_passes.Steps.{State, state, onward, pastField, stepAt}
 use Rattle.table_spec.specs.Rows.{Row, Cells, cellsOf, elementRow, textRow}
 use Rattle.text_laws.specs.Tests.{never}
 use Rattle.text_spec.specs.Limits.{maxDeclarations, maxDepth}

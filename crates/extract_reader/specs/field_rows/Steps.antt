@@ -4,15 +4,15 @@ use mathlib.Core.List.{List}
 use mathlib.Core.Path.{_≡_}
 use Prim.Native.Nat.{ℕ, _+_, _*_, _-_, _<_, _≤_}
 use lib.ListN.{length}
-use Rattle.extract_reader.specs.levels.Levels.{rowIn, lastRow, lastElement, Known}
-use Rattle.projection_laws.specs.extract_passes.Steps.{Step, wrong, ended, onward, pastField, stepAt}
 use Rattle.extract_reader.specs.declared.field_rows.FieldRow.{FieldRow}
 use Rattle.extract_reader.specs.declared.field_rows.FieldStep.{FieldStep}
 use Rattle.extract_reader.specs.declared.field_rows.FieldStep.the-variants as field
-use Rattle.extract_reader.specs.fields.Fields.{FieldPass}
+use Rattle.extract_reader.specs.declared.field_values.Carried.{Carried}
 use Rattle.extract_reader.specs.field_tests.Tests.{wordTypes}
 use Rattle.extract_reader.specs.field_values.Fields.{stateIn}
-use Rattle.extract_reader.specs.declared.field_values.Carried.{Carried}
+use Rattle.extract_reader.specs.fields.Fields.{FieldPass}
+use Rattle.extract_reader.specs.levels.Levels.{rowIn, lastRow, lastElement, Known}
+use Rattle.projection_laws.specs.extract_passes.Steps.{Step, wrong, ended, onward, pastField, stepAt}
 use Rattle.table_spec.specs.Rows.{Row, Cells, cellsOf}
 use Rattle.text_spec.specs.Limits.{maxDeclarations, maxNodes, maxDepth, maxTextBytes}
 

@@ -7,10 +7,10 @@ use native.Mathlib.Omega.{arith}
 use borrow.Author.Tests.{lt-ltb, le-ltb, le-leb, lt-leb, eq-eqb, ne-eqb}
 use lib.Dec.{eqb, leb, ltb}
 use lib.ListN.{length, getD}
+use Rattle.extract_reader.specs.field_tests.Tests.{heldBy, wordTypes, LevelPass, elementUnder, textUnder}
 use Rattle.extract_reader.specs.levels.LevelLaws.{levels-length}
 use Rattle.extract_reader.specs.levels.Levels.{elementIn, levelsIn, lastElement}
 use Rattle.projection_laws.specs.extract_passes.Steps.{State, elementFits, textFits}
-use Rattle.extract_reader.specs.field_tests.Tests.{heldBy, wordTypes, LevelPass, elementUnder, textUnder}
 use Rattle.schema_spec.specs.Names.{element, text, hasBit}
 use Rattle.text_spec.specs.Bytes.{isForeign}
 use Rattle.text_spec.specs.Limits.{maxDeclarations, maxNodes, maxDepth, maxTextBytes}

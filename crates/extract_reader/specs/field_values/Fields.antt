@@ -4,14 +4,14 @@ use mathlib.Core.List.{List, _∷_}
 use mathlib.Core.Path.{_≡_}
 use Prim.Native.Nat.{ℕ, suc, _+_, _<_, _≤_}
 use lib.ListN.{length}
-use Rattle.extract_reader.specs.levels.Levels.{levelsIn, Known}
-use Rattle.projection_laws.specs.extract_passes.Steps.{State, state, Step, wrong, ended, onward, laterStep}
-use Rattle.extract_spec.specs.Reading.{elementValue, textValue, topRow, topElement}
-use Rattle.extract_reader.specs.field_tests.Tests.{wordTypes}
 use Rattle.extract_reader.specs.declared.field_values.Carried.{Carried}
 use Rattle.extract_reader.specs.declared.field_values.FieldRead.{FieldRead}
 use Rattle.extract_reader.specs.declared.field_values.FieldRead.the-variants.{Wrong, Ended, Element, Text}
+use Rattle.extract_reader.specs.field_tests.Tests.{wordTypes}
+use Rattle.extract_reader.specs.levels.Levels.{levelsIn, Known}
+use Rattle.extract_spec.specs.Reading.{elementValue, textValue, topRow, topElement}
 use Rattle.projection_laws.specs.Opens.{placed}
+use Rattle.projection_laws.specs.extract_passes.Steps.{State, state, Step, wrong, ended, onward, laterStep}
 use Rattle.table_spec.specs.Rows.{elementRow, textRow}
 use Rattle.text_spec.specs.Limits.{maxDeclarations, maxNodes, maxDepth, maxTextBytes}
 use Rattle.text_spec.specs.Lists.{part}

@@ -8,20 +8,20 @@ use native.Mathlib.Omega.{arith}
 use borrow.Author.Tests.{le-leb, lt-leb, leb-false, eq-eqb, ne-eqb, eqb-true}
 use lib.Dec.{T, eqb, leb, leb→le}
 use lib.ListN.{length, getD, length-take, length-drop, take, drop}
-use Rattle.projection_laws.specs.extract_passes.Places.{no-field, step-wrong, step-right}
-use Rattle.projection_laws.specs.extract_passes.Steps.{State, state, Step, wrong, ended, onward, laterStep, rootStep, sizeAt, pastField, hasField, itemAt, isLast, stepAt, firstStep}
-use Rattle.extract_spec.specs.Fields.{elementTag, textTag, countTag}
-use Rattle.extract_spec.specs.Reading.{Item, elementItem, textItem, countItem, noItem, inTwo, elementValue, textValue, countValue, itemOf}
-use Rattle.extract_reader.specs.fields.Fields.{CountAs, FieldPass, FieldAs, firstOf, FirstAs}
-use Rattle.extract_reader.specs.declared.fields.First.{First}
-use Rattle.extract_reader.specs.declared.fields.First.the-variants as first
-use Rattle.extract_reader.specs.field_tests.Tests.{wordTypes}
-use Rattle.extract_reader.specs.field_ends.Ends.{isRoot, isCount}
-use Rattle.extract_reader.specs.field_values.Fields.{stateIn, Bounds, ValuePass, ElementAs, TextAs}
 use Rattle.extract_reader.specs.declared.field_values.Carried.{Carried}
 use Rattle.extract_reader.specs.declared.field_values.FieldRead.{FieldRead}
 use Rattle.extract_reader.specs.declared.field_values.FieldRead.the-variants.{Wrong, Ended}
+use Rattle.extract_reader.specs.declared.fields.First.{First}
+use Rattle.extract_reader.specs.declared.fields.First.the-variants as first
+use Rattle.extract_reader.specs.field_ends.Ends.{isRoot, isCount}
+use Rattle.extract_reader.specs.field_tests.Tests.{wordTypes}
+use Rattle.extract_reader.specs.field_values.Fields.{stateIn, Bounds, ValuePass, ElementAs, TextAs}
+use Rattle.extract_reader.specs.fields.Fields.{CountAs, FieldPass, FieldAs, firstOf, FirstAs}
+use Rattle.extract_spec.specs.Fields.{elementTag, textTag, countTag}
+use Rattle.extract_spec.specs.Reading.{Item, elementItem, textItem, countItem, noItem, inTwo, elementValue, textValue, countValue, itemOf}
 use Rattle.projection_laws.specs.Opens.{placed}
+use Rattle.projection_laws.specs.extract_passes.Places.{no-field, step-wrong, step-right}
+use Rattle.projection_laws.specs.extract_passes.Steps.{State, state, Step, wrong, ended, onward, laterStep, rootStep, sizeAt, pastField, hasField, itemAt, isLast, stepAt, firstStep}
 use Rattle.schema_spec.specs.Names.{Name, element, sameName}
 use Rattle.schema_spec.specs.Types.{Types}
 use Rattle.table_spec.specs.Rows.{Row, elementRow}

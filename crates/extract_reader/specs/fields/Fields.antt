@@ -6,17 +6,17 @@ use mathlib.Core.Path.{_≡_}
 use Prim.Native.Nat.{ℕ, _+_, _≤_}
 use lib.Dec.{eqb}
 use lib.ListN.{length}
-use Rattle.extract_reader.specs.levels.Levels.{Known}
-use Rattle.projection_laws.specs.extract_passes.Steps.{state, Step, wrong, ended, onward, laterStep, sizeAt, pastField, stepAt, firstStep}
-use Rattle.extract_spec.specs.Reading.{countValue}
+use Rattle.extract_reader.specs.declared.field_values.Carried.{Carried}
+use Rattle.extract_reader.specs.declared.field_values.FieldRead.{FieldRead}
+use Rattle.extract_reader.specs.declared.field_values.FieldRead.the-variants.{Wrong}
 use Rattle.extract_reader.specs.declared.fields.First.{First}
 use Rattle.extract_reader.specs.declared.fields.First.the-variants as first
 use Rattle.extract_reader.specs.field_tests.Tests.{wordTypes}
 use Rattle.extract_reader.specs.field_values.Fields.{stateIn, fieldStep, Bounds}
-use Rattle.extract_reader.specs.declared.field_values.Carried.{Carried}
-use Rattle.extract_reader.specs.declared.field_values.FieldRead.{FieldRead}
-use Rattle.extract_reader.specs.declared.field_values.FieldRead.the-variants.{Wrong}
+use Rattle.extract_reader.specs.levels.Levels.{Known}
+use Rattle.extract_spec.specs.Reading.{countValue}
 use Rattle.projection_laws.specs.Opens.{placed}
+use Rattle.projection_laws.specs.extract_passes.Steps.{state, Step, wrong, ended, onward, laterStep, sizeAt, pastField, stepAt, firstStep}
 use Rattle.schema_spec.specs.Names.{element}
 use Rattle.schema_spec.specs.Types.{Types}
 use Rattle.table_spec.specs.Rows.{elementRow}

@@ -4,21 +4,21 @@ use mathlib.Core.List.{List, []}
 use mathlib.Core.Option.{some, none}
 use mathlib.Core.Path.{_≡_, refl, sym, ap, _∙_}
 use Prim.Native.Nat.{ℕ}
-use Rattle.extract_spec.specs.Reading.{readExtract}
+use Rattle.cells.specs.declared.verdicts.Verdict.{Verdict}
+use Rattle.cells.specs.verdicts.Verdicts.{refusedBy, verdict}
 use Rattle.extract_reader.specs.table.Tables.{outcome, TableRead}
 use Rattle.extract_reader.specs.table.Words.{read-words}
+use Rattle.extract_spec.specs.Reading.{readExtract}
 use Rattle.library_spec.specs.Calls.{inColumns, columnsAfter, extractRead}
 use Rattle.library_spec.specs.Records.{schemaHeld, passesSchema}
-use Rattle.text_spec.specs.Records.{TextRecord, textIn}
 use Rattle.schema_spec.specs.Records.{schemaIn}
 use Rattle.schema_spec.specs.Types.{typesOf}
 use Rattle.table_laws.specs.passes.Codes.{HeldWords}
 use Rattle.table_spec.specs.Columns.{Columns, Sizes, sizesOf, equalSizes, columnsOf}
 use Rattle.table_spec.specs.Rows.{Row}
 use Rattle.text_spec.specs.Calls.{handed, tested}
+use Rattle.text_spec.specs.Records.{TextRecord, textIn}
 use Rattle.text_spec.specs.Refusals.{Outcome, refused, at, badRecord, andThen}
-use Rattle.cells.specs.verdicts.Verdicts.{refusedBy, verdict}
-use Rattle.cells.specs.declared.verdicts.Verdict.{Verdict}
 
 -- what is stated of the answer
 pub record CallAs (o : Outcome (List Row)) (c d : Columns) (r : Verdict) : Type 0 where

@@ -6,19 +6,19 @@ use mathlib.Core.Path.{_≡_, refl, sym, ap, ap₂, subst, _∙_}
 use Prim.Native.Nat.{ℕ, zero, suc, _+_, _-_, _<_, _≤_}
 use native.Mathlib.Omega.{arith}
 use lib.ListN.{length, length-append}
-use Rattle.projection_laws.specs.extract_passes.Steps.{State, Step, wrong, ended, onward, continued, pastField, stepAt, rowsFrom, rowsIn}
-use Rattle.extract_spec.specs.Reading.{consRow}
-use Rattle.extract_reader.specs.steps.Reads.{prepended, Hold, progress, Reads, Stands, still-reading, refused, all-read, ReadOn}
-use Rattle.extract_reader.specs.declared.steps.Progress.{Progress}
-use Rattle.extract_reader.specs.field_rows.Steps.{rowCells, StepAs, wrong-field, last-field, row-field}
+use Rattle.cells.specs.columns.ColumnLaws.{columns-more, equal-more}
+use Rattle.cells.specs.columns.Columns.{EqualColumns, withRow}
 use Rattle.extract_reader.specs.declared.field_rows.FieldRow.{FieldRow}
 use Rattle.extract_reader.specs.declared.field_rows.FieldStep.{FieldStep}
 use Rattle.extract_reader.specs.declared.field_rows.FieldStep.the-variants as field
+use Rattle.extract_reader.specs.declared.field_values.Carried.{Carried}
+use Rattle.extract_reader.specs.declared.steps.Progress.{Progress}
+use Rattle.extract_reader.specs.field_rows.Steps.{rowCells, StepAs, wrong-field, last-field, row-field}
 use Rattle.extract_reader.specs.field_tests.Tests.{wordTypes}
 use Rattle.extract_reader.specs.field_values.Fields.{stateIn}
-use Rattle.extract_reader.specs.declared.field_values.Carried.{Carried}
-use Rattle.cells.specs.columns.ColumnLaws.{columns-more, equal-more}
-use Rattle.cells.specs.columns.Columns.{EqualColumns, withRow}
+use Rattle.extract_reader.specs.steps.Reads.{prepended, Hold, progress, Reads, Stands, still-reading, refused, all-read, ReadOn}
+use Rattle.extract_spec.specs.Reading.{consRow}
+use Rattle.projection_laws.specs.extract_passes.Steps.{State, Step, wrong, ended, onward, continued, pastField, stepAt, rowsFrom, rowsIn}
 use Rattle.schema_spec.specs.Types.{Types}
 use Rattle.table_spec.specs.Columns.{Columns, Sizes, sizesOf, columnsOf}
 use Rattle.table_spec.specs.Rows.{Row, Cells, cellsOf}

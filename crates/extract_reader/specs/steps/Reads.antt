@@ -5,14 +5,14 @@ use mathlib.Core.Option.{Option, none, some}
 use mathlib.Core.Path.{_≡_}
 use Prim.Native.Nat.{ℕ, _-_, _<_, _≤_}
 use lib.ListN.{length}
-use Rattle.projection_laws.specs.extract_passes.Steps.{rowsFrom, rowsIn}
-use Rattle.extract_spec.specs.Reading.{consRow}
+use Rattle.cells.specs.columns.Columns.{EqualColumns}
+use Rattle.extract_reader.specs.declared.field_values.Carried.{Carried}
 use Rattle.extract_reader.specs.declared.steps.Progress.{Progress}
 use Rattle.extract_reader.specs.field_rows.Steps.{Ready}
 use Rattle.extract_reader.specs.field_tests.Tests.{wordTypes}
 use Rattle.extract_reader.specs.field_values.Fields.{stateIn}
-use Rattle.extract_reader.specs.declared.field_values.Carried.{Carried}
-use Rattle.cells.specs.columns.Columns.{EqualColumns}
+use Rattle.extract_spec.specs.Reading.{consRow}
+use Rattle.projection_laws.specs.extract_passes.Steps.{rowsFrom, rowsIn}
 use Rattle.table_spec.specs.Columns.{Columns, sizesOf, columnsOf}
 use Rattle.table_spec.specs.Rows.{Row}
 

@@ -7,26 +7,26 @@ use Prim.Native.Nat.{ℕ, _<_}
 use native.Mathlib.Omega.{arith}
 use lib.Dec.{ltb}
 use lib.ListN.{length}
-use Rattle.projection_laws.specs.extract_passes.Reading.{rowsOutcome, read-in-one-pass}
-use Rattle.projection_laws.specs.extract_passes.Steps.{rowsIn}
+use Rattle.cells.specs.columns.Columns.{EqualColumns}
+use Rattle.cells.specs.declared.verdicts.Verdict.{Verdict}
+use Rattle.cells.specs.verdicts.Verdicts.{refusedBy, answeredOf, verdict}
 use Rattle.extract_reader.specs.Whole.{RowsRead, no-rows, all-rows, same-sizes}
 use Rattle.extract_reader.specs.declared.RowsFound.{RowsFound}
-use Rattle.extract_spec.specs.Reading.{readExtract}
+use Rattle.extract_reader.specs.field_tests.Tests.{wordTypes}
 use Rattle.extract_reader.specs.steps.ReadLaws.{columns-sizes, hold-by}
 use Rattle.extract_reader.specs.steps.Reads.{Hold}
 use Rattle.extract_reader.specs.table.Words.{ReadWords, words-rows}
 use Rattle.extract_reader.specs.verdict.Verdicts.{verdictOf}
-use Rattle.extract_reader.specs.field_tests.Tests.{wordTypes}
+use Rattle.extract_spec.specs.Reading.{readExtract}
 use Rattle.library_spec.specs.Calls.{inColumns, columnsAfter}
-use Rattle.cells.specs.columns.Columns.{EqualColumns}
+use Rattle.projection_laws.specs.extract_passes.Reading.{rowsOutcome, read-in-one-pass}
+use Rattle.projection_laws.specs.extract_passes.Steps.{rowsIn}
 use Rattle.schema_spec.specs.Schemas.{Schema}
 use Rattle.schema_spec.specs.Types.{typesOf}
 use Rattle.table_spec.specs.Columns.{Columns, Sizes, sizesOf, columnsOf}
 use Rattle.table_spec.specs.Rows.{Row}
 use Rattle.text_spec.specs.Lists.{isEmpty}
 use Rattle.text_spec.specs.Refusals.{Outcome, accepted, refused, andThen, at, badLength, tooFewCells}
-use Rattle.cells.specs.verdicts.Verdicts.{refusedBy, answeredOf, verdict}
-use Rattle.cells.specs.declared.verdicts.Verdict.{Verdict}
 
 -- the library's outcome in columns of these sizes
 abbrev pub outcome : Schema → List ℕ → Sizes → Outcome (List Row)

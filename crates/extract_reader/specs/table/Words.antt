@@ -9,10 +9,10 @@ use native.Mathlib.Omega.{arith}
 use borrow.Author.Tests.{lt-ltb, le-ltb}
 use lib.Dec.{T, eqb, leb, ltb}
 use lib.ListN.{length, getD}
-use Rattle.projection_laws.specs.extract_passes.Steps.{State, state, Step, wrong, ended, onward, continued, numberFits, laterStep, rootStep, pastField, hasField, itemAt, isLast, stepAt, firstStep, rowsFrom, rowsIn}
-use Rattle.extract_spec.specs.Reading.{Item, elementItem, textItem, countItem, noItem, openFrom, Placed, topRow, topElement, consRow}
 use Rattle.extract_reader.specs.field_tests.Tests.{heldBy, wordTypes}
+use Rattle.extract_spec.specs.Reading.{Item, elementItem, textItem, countItem, noItem, openFrom, Placed, topRow, topElement, consRow}
 use Rattle.projection_laws.specs.Opens.{placed}
+use Rattle.projection_laws.specs.extract_passes.Steps.{State, state, Step, wrong, ended, onward, continued, numberFits, laterStep, rootStep, pastField, hasField, itemAt, isLast, stepAt, firstStep, rowsFrom, rowsIn}
 use Rattle.schema_laws.specs.Accepted.{schemaIn-length, schemaIn-closed}
 use Rattle.schema_laws.specs.Closure.{held-in}
 use Rattle.schema_laws.specs.Names.{in-element, in-text}

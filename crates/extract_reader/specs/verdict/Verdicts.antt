@@ -4,9 +4,9 @@ use mathlib.Core.Path.{_≡_, sym, ap, _∙_}
 use Prim.Native.Nat.{ℕ, _≤_, _<_}
 use borrow.Author.Tests.{lt-ltb, le-ltb}
 use lib.Dec.{ltb}
-use Rattle.extract_reader.specs.declared.RowsFound.{RowsFound}
-use Rattle.cells.specs.verdicts.Verdicts.{refusedBy, answeredOf}
 use Rattle.cells.specs.declared.verdicts.Verdict.{Verdict}
+use Rattle.cells.specs.verdicts.Verdicts.{refusedBy, answeredOf}
+use Rattle.extract_reader.specs.declared.RowsFound.{RowsFound}
 
 -- 17 where the pass gives no rows, 18 where there are more of them than cells
 unfoldable pub verdictOf : RowsFound → ℕ → Verdict

@@ -1,23 +1,23 @@
 -- `write_extract` meets its contract: the record, the table beside its text, and the bytes of its rows.
-use borrow.Author.Tests.{not-true, not-false}
-use lib.ListN.{length}
-use lib.Seq.{length-take-le}
 use mathlib.Core.Bool.{true}
 use mathlib.Core.List.{List}
 use mathlib.Core.Path.{_≡_, sym, _∙_}
 use Prim.Native.Nat.{ℕ}
+use borrow.Author.Tests.{not-true, not-false}
+use lib.ListN.{length}
+use lib.Seq.{length-take-le}
+use Rattle.compiled_schema.specs.records.Records.{recordWith, passes-schema}
+use Rattle.extract_writer.proofs.write_extract.Statement.{statement}
+use Rattle.extract_writer.proofs.write_extract.Tie as tie
 use Rattle.extract_writer.specs.Outcomes.{no-record, no-table, table-columns, table-written}
 use Rattle.extract_writer.specs.answers.Answers.{same-answer}
 use Rattle.library_spec.specs.Records.{LentTable, passesSchema}
-use Rattle.text_spec.specs.Records.{TextRecord, textIn}
-use Rattle.tables.specs.row_text.Answers.{beside-lent}
 use Rattle.schema_reader.specs.Sizes.{record-low}
-use Rattle.compiled_schema.specs.records.Records.{recordWith, passes-schema}
 use Rattle.schema_spec.specs.Records.{schemaIn}
 use Rattle.schema_spec.specs.Schemas.{Schema}
 use Rattle.tables.specs.Handed.{lentTable, isBeside}
-use Rattle.extract_writer.proofs.write_extract.Statement.{statement}
-use Rattle.extract_writer.proofs.write_extract.Tie as tie
+use Rattle.tables.specs.row_text.Answers.{beside-lent}
+use Rattle.text_spec.specs.Records.{TextRecord, textIn}
 
 -- The start, and what is handed in, from where the record is tested.
 abbrev start-before : tie.After-is-schema-record → tie.Start

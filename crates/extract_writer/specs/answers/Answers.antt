@@ -6,13 +6,13 @@ use Prim.Native.Nat.{ℕ, _<_, _≤_}
 use native.Mathlib.Omega.{arith}
 use borrow.Author.Tests.{lt-ltb, le-ltb}
 use lib.ListN.{length}
-use Rattle.kept_rows.specs.cut_rows.Cells.{all-cleared}
-use Rattle.extract_writer.specs.writing.Extract.{inLentBytes, BytesWritten}
+use Rattle.cells.specs.declared.verdicts.Verdict.{Verdict}
 use Rattle.cells.specs.lent.Cells.{Cleared}
+use Rattle.cells.specs.verdicts.Verdicts.{refusedBy, answeredOf, verdict, inBytes, AnsweredBytes}
+use Rattle.extract_writer.specs.writing.Extract.{inLentBytes, BytesWritten}
+use Rattle.kept_rows.specs.cut_rows.Cells.{all-cleared}
 use Rattle.text_spec.specs.Calls.{inRoom}
 use Rattle.text_spec.specs.Refusals.{Outcome, refused, at, badRecord}
-use Rattle.cells.specs.verdicts.Verdicts.{refusedBy, answeredOf, verdict, inBytes, AnsweredBytes}
-use Rattle.cells.specs.declared.verdicts.Verdict.{Verdict}
 
 -- ---- definitions
 -- ---- laws

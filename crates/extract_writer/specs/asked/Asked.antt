@@ -6,12 +6,12 @@ use native.Mathlib.Omega.{arith}
 use lib.Dec.{T}
 use lib.ListN.{length, getD, length-map}
 use Rattle.extract_writer.specs.rows.Rows.{TextColumns}
+use Rattle.kept_rows.specs.laws.Cut.{columnsIn, getD-map, parents-first}
 use Rattle.schema_spec.specs.Names.{Name, element, text, isText, codeOf}
 use Rattle.schema_spec.specs.Types.{Types}
 use Rattle.table_laws.specs.Codes.{HasCode, NamesCoded}
-use Rattle.table_laws.specs.Limits.{rows-few as few-rows}
-use Rattle.kept_rows.specs.laws.Cut.{columnsIn, getD-map, parents-first}
 use Rattle.table_laws.specs.Fits.{cellsFit, all-cells}
+use Rattle.table_laws.specs.Limits.{rows-few as few-rows}
 use Rattle.table_laws.specs.Places.{at-some, at-in}
 use Rattle.table_laws.specs.WellFormed.{cells-mean, well-formed-beside, well-formed-alone}
 use Rattle.table_spec.specs.Conditions.{TextCells, of-element, of-text}

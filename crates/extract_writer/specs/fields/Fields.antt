@@ -5,10 +5,10 @@ use Prim.Native.Nat.{ℕ, _+_, _/_, _%_}
 use native.Mathlib.Omega.{arith}
 use lib.ListN.{length, set, length-set}
 use lib.Seq.{sets, length-sets}
+use Rattle.cells.specs.written_text.Written.{WrittenAt}
 use Rattle.extract_spec.specs.Fields.{twoBytes, field, elementTag, textTag, countTag, rowField}
 use Rattle.schema_spec.specs.Names.{element, text}
 use Rattle.text_laws.specs.Cells.{sets-append}
-use Rattle.cells.specs.written_text.Written.{WrittenAt}
 
 -- the tag, the length and the two numbers that a row's field begins with
 abbrev pub head : ℕ → ℕ → ℕ → ℕ → List ℕ

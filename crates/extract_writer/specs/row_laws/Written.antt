@@ -9,25 +9,25 @@ use native.Mathlib.Nat.{eq-or-lt-of-le}
 use native.Mathlib.Omega.{arith}
 use lib.Dec.{T}
 use lib.ListN.{length, getD, getElem?, length-map}
+use Rattle.cells.specs.row_sets.Columns.{isMarked, marks, picked, marks-length, marks-marked}
+use Rattle.extract_spec.specs.Cut.{cut}
+use Rattle.extract_spec.specs.Fields.{countTag, twoBytes, field, rowField, numberAt, fieldOf, writeExtract}
 use Rattle.extract_writer.specs.rows.Rows.{fieldAt}
 use Rattle.extract_writer.specs.writing.Extract.{extractIn}
 use Rattle.kept_rows.specs.Joined.{joined, rank}
 use Rattle.kept_rows.specs.Kept.{isKept, keptMarks, kept-later}
-use Rattle.cells.specs.row_sets.Columns.{isMarked, marks, picked, marks-length, marks-marked}
-use Rattle.names.specs.codes.Codes.{nameOfCode}
-use Rattle.extract_spec.specs.Cut.{cut}
-use Rattle.extract_spec.specs.Fields.{countTag, twoBytes, field, rowField, numberAt, fieldOf, writeExtract}
-use Rattle.schema_spec.specs.Names.{Name, Names, codeOf}
-use Rattle.schema_spec.specs.Types.{Types}
+use Rattle.kept_rows.specs.laws.Codes.{CodesNamed}
 use Rattle.kept_rows.specs.laws.Cut.{columnsIn, PassesFor, renumberedBy, getD-map, at-mapped, parents-first, cut-picked, marks-size}
 use Rattle.kept_rows.specs.laws.Picked.{joined-picked, picked-length, picked-at}
+use Rattle.names.specs.codes.Codes.{nameOfCode}
+use Rattle.schema_spec.specs.Names.{Name, Names, codeOf}
+use Rattle.schema_spec.specs.Types.{Types}
 use Rattle.table_laws.specs.Parents.{nodes-placed}
 use Rattle.table_laws.specs.Places.{at-bound, at-some, at-in}
 use Rattle.table_spec.specs.Rows.{Row, textOf}
 use Rattle.table_spec.specs.Tables.{wellFormed}
 use Rattle.text_laws.specs.Tests.{passed, true-of, and-cases}
 use Rattle.text_spec.specs.Lists.{gather, part}
-use Rattle.kept_rows.specs.laws.Codes.{CodesNamed}
 
 gather-mapped : {A B C : Type 0} (g : B → List C) (h : A → B) (xs : List A) → gather (λ x. g (h x)) xs ≡ gather g (map h xs)
 gather-mapped g h [] = refl

@@ -8,10 +8,10 @@ use native.Mathlib.Omega.{arith}
 use borrow.Author.Tests.{eq-eqb, ne-eqb}
 use lib.Dec.{eqb, ltb}
 use lib.ListN.{length, getD}
+use Rattle.cells.specs.row_sets.Columns.{mark, isMarked, OnlyMarks, mark-at}
 use Rattle.extract_writer.specs.rows.Rows.{fieldSize}
 use Rattle.kept_rows.specs.Joined.{total, rank, total-none}
 use Rattle.kept_rows.specs.Positions.{rank-bound}
-use Rattle.cells.specs.row_sets.Columns.{mark, isMarked, OnlyMarks, mark-at}
 use Rattle.text_spec.specs.Limits.{maxDeclarations, maxNodes}
 
 abbrev pub sizesIn : List ℕ → List ℕ → ℕ → ℕ

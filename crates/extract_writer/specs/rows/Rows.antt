@@ -3,21 +3,21 @@ use mathlib.Core.Bool.{Bool, true, false, cond}
 use mathlib.Core.List.{List, [], _++_}
 use mathlib.Core.Path.{_≡_, refl, sym, ap, subst, _∙_}
 use Prim.Native.Nat.{ℕ, zero, suc, _+_, _*_, _-_, _<_, _≤_}
-use mir.Syntax.{w64}
-use mir.Val.{Fits}
 use native.Mathlib.Numerals.{add-one}
 use native.Mathlib.Omega.{arith}
 use borrow.Author.Tests.{eq-eqb, ne-eqb, lt-ltb, le-ltb, ltb-true, ltb-false}
 use lib.Dec.{eqb, ltb}
 use lib.ListN.{length, getD, take, drop, length-append, length-drop}
 use lib.Seq.{length-take-le}
-use Rattle.kept_rows.specs.cut_rows.Rows.{OfLength}
+use mir.Syntax.{w64}
+use mir.Val.{Fits}
+use Rattle.cells.specs.row_sets.Columns.{isMarked}
+use Rattle.extract_spec.specs.Fields.{rowField}
 use Rattle.extract_writer.specs.fields.Fields.{stored, stored-after, stored-length, stored-nothing}
 use Rattle.kept_rows.specs.Joined.{joined, joined-none}
-use Rattle.cells.specs.row_sets.Columns.{isMarked}
+use Rattle.kept_rows.specs.cut_rows.Rows.{OfLength}
 use Rattle.names.specs.codes.Codes.{nameOfCode}
 use Rattle.names.specs.codes.Laws.{element-of-code, text-of-code}
-use Rattle.extract_spec.specs.Fields.{rowField}
 use Rattle.schema_spec.specs.Names.{Name, element, text}
 use Rattle.table_spec.specs.Columns.{Columns}
 use Rattle.text_spec.specs.Limits.{maxDeclarations, maxNodes, maxTextBytes}

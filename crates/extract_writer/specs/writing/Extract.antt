@@ -8,15 +8,15 @@ use borrow.Author.Tests.{lt-ltb, le-ltb, ltb-true, ltb-false}
 use lib.Dec.{ltb}
 use lib.ListN.{length, getD, take, replicate, length-append, length-replicate, getD-replicate}
 use lib.Seq.{length-take-le, getD-take}
-use Rattle.kept_rows.specs.cut_rows.Cells.{sets-cleared}
+use Rattle.cells.specs.lent.Cells.{Cleared}
+use Rattle.cells.specs.row_sets.Columns.{OnlyMarks, marks, only-marks, marks-length, marks-by-rows}
+use Rattle.extract_spec.specs.Fields.{countTag, twoBytes, field}
 use Rattle.extract_writer.specs.fields.Fields.{stored, stored-after, stored-length}
 use Rattle.extract_writer.specs.rows.Measure.{MeasurePass, MeasuredAs}
 use Rattle.extract_writer.specs.rows.Rows.{fieldAt, size-element, size-text, field-length, sizeAt, TextColumns, StoredAt, FieldsPass}
 use Rattle.kept_rows.specs.Joined.{joined, rank, joined-length, total-bound}
 use Rattle.kept_rows.specs.Kept.{isKept, keptMarks, KeptColumns, KeptPass}
-use Rattle.cells.specs.row_sets.Columns.{OnlyMarks, marks, only-marks, marks-length, marks-by-rows}
-use Rattle.extract_spec.specs.Fields.{countTag, twoBytes, field}
-use Rattle.cells.specs.lent.Cells.{Cleared}
+use Rattle.kept_rows.specs.cut_rows.Cells.{sets-cleared}
 use Rattle.table_spec.specs.Columns.{Columns}
 use Rattle.text_spec.specs.Calls.{inRoom, cellsAfter}
 use Rattle.text_spec.specs.Cells.{tooSmall}

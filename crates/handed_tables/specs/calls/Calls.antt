@@ -5,7 +5,6 @@ use mathlib.Core.Option.{Option, none, some}
 use mathlib.Core.Path.{_≡_, refl, ap, subst}
 use lib.Dec.{T}
 use Rattle.library_spec.specs.Records.{LentTable, schemaHeld, rowsLent, keptIf, tableHeld, passesSchema}
-use Rattle.text_spec.specs.Records.{TextRecord, textIn}
 use Rattle.schema_spec.specs.Records.{schemaIn}
 use Rattle.schema_spec.specs.Schemas.{Schema}
 use Rattle.schema_spec.specs.Types.{typesOf}
@@ -15,6 +14,7 @@ use Rattle.tables.specs.Handed.{isHeld}
 use Rattle.text_laws.specs.Tests.{never, passed}
 use Rattle.text_spec.specs.Calls.{handed}
 use Rattle.text_spec.specs.Lists.{isNone}
+use Rattle.text_spec.specs.Records.{TextRecord, textIn}
 use Rattle.text_spec.specs.Refusals.{Outcome, refused, at, badRecord}
 
 -- the rows that a table holds: those in its columns, well formed

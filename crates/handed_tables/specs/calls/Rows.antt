@@ -3,13 +3,13 @@ use mathlib.Core.List.{List}
 use mathlib.Core.Path.{_≡_, sym, _∙_}
 use Prim.Native.Nat.{ℕ}
 use lib.ListN.{take}
-use Rattle.kept_rows.specs.cut_rows.Rows.{table, columns-equal}
 use Rattle.handed_tables.specs.calls.Calls.{Holds}
 use Rattle.handed_tables.specs.columns.Rows.{lent-numbers, lent-codes, lent-parents, lent-starts, lent-lengths}
-use Rattle.table_laws.specs.Columns.{codes-map}
+use Rattle.kept_rows.specs.cut_rows.Rows.{table, columns-equal}
+use Rattle.kept_rows.specs.laws.Cut.{columnsIn}
 use Rattle.library_spec.specs.Records.{LentTable}
 use Rattle.schema_spec.specs.Schemas.{Schema}
-use Rattle.kept_rows.specs.laws.Cut.{columnsIn}
+use Rattle.table_laws.specs.Columns.{codes-map}
 use Rattle.table_spec.specs.Columns.{Columns}
 use Rattle.table_spec.specs.Rows.{Row}
 

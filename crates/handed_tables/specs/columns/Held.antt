@@ -9,21 +9,21 @@ use lib.Dec.{T}
 use lib.ListN.{length, getD, take, length-map}
 use lib.Seq.{ext-getD, length-take-le, getD-take}
 use Rattle.kept_rows.specs.cut_rows.Rows.{table, columns-equal}
+use Rattle.kept_rows.specs.laws.Cut.{columnsIn, getD-map}
 use Rattle.library_spec.specs.Records.{LentTable, rowsLent, keptIf, tableBeside}
 use Rattle.schema_spec.specs.Names.{codeOf}
 use Rattle.schema_spec.specs.Schemas.{Schema}
 use Rattle.schema_spec.specs.Types.{typesOf}
 use Rattle.table_laws.specs.Codes.{NamesCoded, cells-coded}
-use Rattle.kept_rows.specs.laws.Cut.{columnsIn, getD-map}
 use Rattle.table_laws.specs.Places.{at-some}
 use Rattle.table_laws.specs.passes.Lines.{Stands}
 use Rattle.table_laws.specs.passes.Tables.{StandFrom, rows-stand}
-use Rattle.tables.specs.rows.Lent.{Lent}
 use Rattle.table_spec.specs.Columns.{cellsFrom}
 use Rattle.table_spec.specs.Conditions.{RowAt}
 use Rattle.table_spec.specs.Rows.{Row, Cells, rowsOf}
 use Rattle.table_spec.specs.Tables.{wellFormedWith}
 use Rattle.tables.specs.Handed.{sizesFit, fit-lent}
+use Rattle.tables.specs.rows.Lent.{Lent}
 use Rattle.text_laws.specs.Tests.{never, passed}
 
 -- ---- a column by the rows that stand in it

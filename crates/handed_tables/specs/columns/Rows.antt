@@ -9,18 +9,18 @@ use borrow.Author.Tests.{ltb-false}
 use lib.Dec.{T, ltb}
 use lib.ListN.{length, getD, take, drop}
 use lib.Seq.{drop-cons}
-use Rattle.table_laws.specs.Columns.{parentsOf, numbersOf, codesOf, tested-columns, TestedColumns, codes-map}
 use Rattle.library_spec.specs.Records.{LentTable, rowsLent}
 use Rattle.schema_spec.specs.Names.{Name, element, text, codeOf, nameOfCode}
 use Rattle.schema_spec.specs.Schemas.{Schema}
 use Rattle.schema_spec.specs.Types.{typesOf}
 use Rattle.table_laws.specs.Codes.{NamesCoded, cells-coded}
+use Rattle.table_laws.specs.Columns.{parentsOf, numbersOf, codesOf, tested-columns, TestedColumns, codes-map}
 use Rattle.table_laws.specs.Places.{none-some}
-use Rattle.tables.specs.rows.Lent.{Lent}
 use Rattle.table_spec.specs.Columns.{Columns, cellsAt, cellsFrom}
 use Rattle.table_spec.specs.Rows.{Row, row, Cells, rowWith, rowOf, consOf, rowsOf}
 use Rattle.table_spec.specs.Tables.{wellFormed}
 use Rattle.tables.specs.Handed.{sizesFit, fit-lent}
+use Rattle.tables.specs.rows.Lent.{Lent}
 use Rattle.text_spec.specs.Limits.{maxDeclarations}
 
 -- ---- a row and its cells

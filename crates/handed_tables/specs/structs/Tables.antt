@@ -9,13 +9,15 @@ use lib.Dec.{T, leb, le→leb}
 use lib.ListN.{length, getD, length-map, List·getD-map}
 use lib.Seq.{length-take-le}
 use Rattle.handed_tables.specs.calls.Calls.{table-holds}
+use Rattle.handed_tables.specs.columns.Held.{beside-held, held-size}
 use Rattle.handed_tables.specs.columns.Rows.{lent-cells, lent-columns}
 use Rattle.library_spec.specs.Calls.{tableOfCells}
 use Rattle.library_spec.specs.Records.{LentTable, rowsLent, keptIf, tableHeld, tableBeside}
-use Rattle.row_structs.specs.laws.Answers.{cellCount, equal-sizes}
 use Rattle.row_structs.specs.Structs.{emptyCells, Laid}
+use Rattle.row_structs.specs.laws.Answers.{cellCount, equal-sizes}
 use Rattle.schema_spec.specs.Schemas.{Schema}
 use Rattle.schema_spec.specs.Types.{typesOf}
+use Rattle.table_laws.specs.WellFormed.{well-formed-alone}
 use Rattle.table_spec.specs.Columns.{Columns, Sizes, allOfSize, equalSizes, sizesOf, cellsAt, cellsFrom}
 use Rattle.table_spec.specs.Rows.{Row, Cells, rowsOf}
 use Rattle.table_spec.specs.Tables.{wellFormed, wellFormedWith}
@@ -23,8 +25,6 @@ use Rattle.tables.specs.Handed.{isHeld}
 use Rattle.text_laws.specs.Tests.{true-of}
 use Rattle.text_spec.specs.Limits.{maxNodes}
 use Rattle.text_spec.specs.Lists.{isNone}
-use Rattle.table_laws.specs.WellFormed.{well-formed-alone}
-use Rattle.handed_tables.specs.columns.Held.{beside-held, held-size}
 
 -- ---- the rows in columns of one size
 rows-lent : (t : LentTable) (n : ℕ) → sizesOf (t .columns) ≡ allOfSize n → t .count ≤ n → rowsLent t ≡ rowsOf (cellsFrom (t .columns) 0 (t .count))

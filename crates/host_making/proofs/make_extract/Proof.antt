@@ -1,8 +1,8 @@
 -- `make_extract` meets its contract: a call that is refused before the journal is read, or what is made under the two texts.
-use Rattle.host_making.specs.Calls.{under-texts, refused-call, accepted-call}
-use Rattle.table_spec.specs.Columns.{Columns, columns}
 use Rattle.host_making.proofs.make_extract.Statement.{statement}
 use Rattle.host_making.proofs.make_extract.Tie as tie
+use Rattle.host_making.specs.Calls.{under-texts, refused-call, accepted-call}
+use Rattle.table_spec.specs.Columns.{Columns, columns}
 
 -- back to the texts judged, to the start and to the columns that are lent, from where the refusal is told
 abbrev judged : tie.After-refusal → tie.After-judge-texts

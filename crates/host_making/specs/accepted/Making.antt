@@ -7,35 +7,43 @@ use native.Mathlib.Omega.{arith}
 use borrow.Author.Tests.{ltb-true, ltb-false}
 use lib.Dec.{T}
 use lib.ListN.{length, length-map}
+use denote.Ref.{now}
+use Rattle.cells.specs.columns.Columns.{EqualColumns}
+use Rattle.cells.specs.declared.verdicts.Verdict.{Verdict}
+use Rattle.cells.specs.lent.Cells.{Cleared}
+use Rattle.cells.specs.lent.Ends.{Slice, entryColumns, exitColumns}
+use Rattle.cells.specs.verdicts.Verdicts.{verdict}
 use Rattle.compiled_paths.specs.Paths.{pathsIn, Shaped}
 use Rattle.compiled_paths.specs.declared.CompiledPaths.{CompiledPaths}
 use Rattle.compiled_schema.specs.Compiled.{CompiledOf}
 use Rattle.compiled_schema.specs.declared.CompiledSchema.{CompiledSchema}
-use Rattle.kept_rows.specs.cut_rows.Cells.{all-cleared}
+use Rattle.extract_writer.specs.asked.Asked.{text-columns}
+use Rattle.extract_writer.specs.row_laws.Written.{cut-extract}
 use Rattle.extract_writer.specs.rows.Rows.{TextColumns}
 use Rattle.extract_writer.specs.writing.Extract.{extractIn, inLentBytes, BytesWritten}
 use Rattle.hosts.specs.columns.Rows.{firstOf, Rooms, RowsRead, refused-exit-by, staged-by, sizes-after, first-columns, rooms}
+use Rattle.hosts.specs.declared.results.HostResult.{HostResult}
 use Rattle.hosts.specs.laws.Stages.{madeOf, madeUnder}
 use Rattle.hosts.specs.results.Exits.{lentOf, refusedBy, answeredOf, Exits, refused-exit, answered-exit, same-exit}
-use Rattle.hosts.specs.declared.results.HostResult.{HostResult}
+use Rattle.inference.specs.relations.Compiled.{compiled-needed}
 use Rattle.inference_spec.specs.Needed.{needed}
 use Rattle.journal_laws.specs.Accepted.{accepted-well-formed}
 use Rattle.journal_spec.specs.Reading.{readJournal}
 use Rattle.kept_rows.specs.Kept.{inSet, keptMarks, KeptColumns}
+use Rattle.kept_rows.specs.cut_rows.Cells.{all-cleared}
+use Rattle.kept_rows.specs.laws.Codes.{kept-columns, codes-named}
+use Rattle.kept_rows.specs.laws.Cut.{columnsIn}
+use Rattle.kept_rows.specs.laws.Known.{rows-coded, set-passes}
 use Rattle.library_spec.specs.Calls.{inColumns, columnsAfter}
 use Rattle.library_spec.specs.Hosts.{hostAnswer, extractOf}
 use Rattle.names.specs.declared.NameSet.{NameSet}
 use Rattle.needed_names.specs.sets.Needs.{NeededIn}
 use Rattle.path_spec.specs.Paths.{LocationPath}
-use Rattle.cells.specs.columns.Columns.{EqualColumns}
-use Rattle.cells.specs.lent.Cells.{Cleared}
-use Rattle.inference.specs.relations.Compiled.{compiled-needed}
 use Rattle.schema_spec.specs.Reading.{readSchema}
 use Rattle.schema_spec.specs.Records.{schemaIn}
 use Rattle.schema_spec.specs.Schemas.{Schema}
 use Rattle.schema_spec.specs.Types.{typesOf}
-use Rattle.kept_rows.specs.laws.Cut.{columnsIn}
-use Rattle.extract_writer.specs.row_laws.Written.{cut-extract}
+use Rattle.table_laws.specs.WellFormed.{well-formed-alone}
 use Rattle.table_spec.specs.Columns.{Columns, Sizes, sizesOf, columnsOf}
 use Rattle.table_spec.specs.Rows.{Row}
 use Rattle.table_spec.specs.Tables.{wellFormed, wellFormedWith}
@@ -44,14 +52,6 @@ use Rattle.text_spec.specs.Calls.{inRoom, cellsAfter}
 use Rattle.text_spec.specs.Cells.{tooSmall}
 use Rattle.text_spec.specs.Limits.{maxJournalBytes}
 use Rattle.text_spec.specs.Refusals.{accepted, andThen, at, tooFewCells}
-use Rattle.cells.specs.verdicts.Verdicts.{verdict}
-use Rattle.cells.specs.declared.verdicts.Verdict.{Verdict}
-use Rattle.extract_writer.specs.asked.Asked.{text-columns}
-use Rattle.table_laws.specs.WellFormed.{well-formed-alone}
-use Rattle.kept_rows.specs.laws.Codes.{kept-columns, codes-named}
-use Rattle.kept_rows.specs.laws.Known.{rows-coded, set-passes}
-use denote.Ref.{now}
-use Rattle.cells.specs.lent.Ends.{Slice, entryColumns, exitColumns}
 
 -- ---- what is asked, and what each stage leaves
 -- an accepted schema and compiled paths, with columns of one length

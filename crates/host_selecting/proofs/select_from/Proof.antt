@@ -1,8 +1,8 @@
 -- `select_from` meets its contract: a call that is refused before the extract is read, or what is chosen under the two texts.
-use Rattle.host_selecting.specs.Calls.{under-schema, refused-call, accepted-call}
-use Rattle.table_spec.specs.Columns.{Columns, columns}
 use Rattle.host_selecting.proofs.select_from.Statement.{statement}
 use Rattle.host_selecting.proofs.select_from.Tie as tie
+use Rattle.host_selecting.specs.Calls.{under-schema, refused-call, accepted-call}
+use Rattle.table_spec.specs.Columns.{Columns, columns}
 
 -- back to the test of the call, to the start and to the columns that are lent, from where the refusal is told
 abbrev passed : tie.After-refusal → tie.After-passes

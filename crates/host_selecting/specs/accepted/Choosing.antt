@@ -6,47 +6,47 @@ use Prim.Native.Nat.{ℕ, _≤_}
 use native.Mathlib.Omega.{arith}
 use lib.Dec.{T}
 use lib.ListN.{length}
+use denote.Ref.{now}
+use Rattle.cells.specs.columns.Columns.{EqualColumns}
+use Rattle.cells.specs.declared.verdicts.Verdict.{Verdict}
+use Rattle.cells.specs.lent.Cells.{Cleared}
+use Rattle.cells.specs.lent.Ends.{Slice, entryColumns, exitColumns}
+use Rattle.cells.specs.verdicts.Verdicts.{verdict}
 use Rattle.compiled_paths.specs.Paths.{pathsIn, Shaped}
 use Rattle.compiled_paths.specs.declared.CompiledPaths.{CompiledPaths}
 use Rattle.compiled_schema.specs.Compiled.{CompiledOf}
 use Rattle.compiled_schema.specs.declared.CompiledSchema.{CompiledSchema}
-use Rattle.kept_rows.specs.cut_rows.Cells.{all-cleared}
-use Rattle.extract_spec.specs.Reading.{readExtract}
-use Rattle.extract_reader.specs.table.Words.{ReadWords, read-words}
 use Rattle.compiled_schema.specs.held_words.Words.{WordsOf, words-held}
+use Rattle.extract_reader.specs.table.Words.{ReadWords, read-words}
+use Rattle.extract_spec.specs.Reading.{readExtract}
 use Rattle.hosts.specs.columns.Rows.{firstOf, Rooms, RowsRead, refused-exit-by, staged-by, sizes-after, first-columns, rooms}
+use Rattle.hosts.specs.declared.results.HostResult.{HostResult}
 use Rattle.hosts.specs.laws.Extracts.{read-well-formed}
 use Rattle.hosts.specs.laws.Stages.{chosenOf, chosenUnder}
 use Rattle.hosts.specs.results.Exits.{lentOf, refusedBy, answeredOf, Exits, refused-exit, answered-exit, same-exit}
-use Rattle.hosts.specs.declared.results.HostResult.{HostResult}
+use Rattle.kept_rows.specs.cut_rows.Cells.{all-cleared}
+use Rattle.kept_rows.specs.laws.Cut.{columnsIn}
+use Rattle.kept_rows.specs.laws.Known.{rows-coded}
 use Rattle.library_spec.specs.Calls.{inColumns, columnsAfter}
 use Rattle.library_spec.specs.Hosts.{hostAnswer}
 use Rattle.library_spec.specs.Selections.{askedPaths, Selections, selections}
-use Rattle.table_laws.specs.Columns.{codesOf, tested-columns, TestedColumns}
-use Rattle.cells.specs.columns.Columns.{EqualColumns}
-use Rattle.cells.specs.lent.Cells.{Cleared}
 use Rattle.schema_laws.specs.Accepted.{schemaIn-length}
 use Rattle.schema_spec.specs.Names.{codeOf}
 use Rattle.schema_spec.specs.Reading.{readSchema}
 use Rattle.schema_spec.specs.Records.{schemaIn}
 use Rattle.schema_spec.specs.Schemas.{Schema}
 use Rattle.schema_spec.specs.Types.{Types, typesOf}
-use Rattle.selection.specs.table.Tables.{RowsIn, rowsSelected}
 use Rattle.selection.specs.answers.Answers.{AnsweredSelections}
 use Rattle.selection.specs.declared.answers.Selected.{Selected}
-use Rattle.kept_rows.specs.laws.Cut.{columnsIn}
+use Rattle.selection.specs.table.Tables.{RowsIn, rowsSelected}
+use Rattle.table_laws.specs.Columns.{codesOf, tested-columns, TestedColumns}
+use Rattle.table_laws.specs.WellFormed.{well-formed-alone}
 use Rattle.table_spec.specs.Columns.{Columns, Sizes, sizesOf, columnsOf}
 use Rattle.table_spec.specs.Rows.{Row}
 use Rattle.table_spec.specs.Tables.{wellFormed}
 use Rattle.text_spec.specs.Calls.{inRoom}
 use Rattle.text_spec.specs.Cells.{tooSmall}
 use Rattle.text_spec.specs.Refusals.{accepted, andThen, at, tooFewCells}
-use Rattle.cells.specs.verdicts.Verdicts.{verdict}
-use Rattle.cells.specs.declared.verdicts.Verdict.{Verdict}
-use Rattle.table_laws.specs.WellFormed.{well-formed-alone}
-use Rattle.kept_rows.specs.laws.Known.{rows-coded}
-use denote.Ref.{now}
-use Rattle.cells.specs.lent.Ends.{Slice, entryColumns, exitColumns}
 
 -- of every accepted schema that the compiled one stands for
 abbrev pub EverySchema : CompiledSchema → (Schema → Type 0) → Type 0

@@ -7,23 +7,23 @@ use native.Mathlib.Omega.{arith}
 use borrow.Author.Tests.{le-ltb, ltb-false}
 use lib.Dec.{ltb}
 use lib.ListN.{length, take, length-map}
-use Rattle.kept_rows.specs.cut_rows.Rows.{table, columns-equal}
-use Rattle.hosts.specs.results.Exits.{lentOf, refusedBy, Exits, refused-exit, same-exit}
+use Rattle.cells.specs.columns.Columns.{EqualColumns}
+use Rattle.cells.specs.declared.verdicts.Verdict.{Verdict}
+use Rattle.cells.specs.verdicts.VerdictLaws.{number-some}
+use Rattle.cells.specs.verdicts.Verdicts.{verdict}
 use Rattle.hosts.specs.declared.results.HostResult.{HostResult}
+use Rattle.hosts.specs.results.Exits.{lentOf, refusedBy, Exits, refused-exit, same-exit}
+use Rattle.kept_rows.specs.cut_rows.Rows.{table, columns-equal}
+use Rattle.kept_rows.specs.laws.Cut.{columnsIn}
 use Rattle.library_spec.specs.Calls.{inColumns, columnsAfter}
 use Rattle.library_spec.specs.Hosts.{HostAnswer}
-use Rattle.cells.specs.columns.Columns.{EqualColumns}
 use Rattle.schema_spec.specs.Names.{codeOf}
-use Rattle.kept_rows.specs.laws.Cut.{columnsIn}
 use Rattle.table_spec.specs.Columns.{Columns, Sizes, sizesOf, columnsOf}
 use Rattle.table_spec.specs.Rows.{Row}
 use Rattle.text_laws.specs.Cells.{padded-length, padded-take}
 use Rattle.text_spec.specs.Calls.{inRoom}
 use Rattle.text_spec.specs.Cells.{padded}
 use Rattle.text_spec.specs.Refusals.{Refusal, Outcome, accepted, refused, andThen, numberOf}
-use Rattle.cells.specs.verdicts.VerdictLaws.{number-some}
-use Rattle.cells.specs.verdicts.Verdicts.{verdict}
-use Rattle.cells.specs.declared.verdicts.Verdict.{Verdict}
 
 -- ---- definitions
 -- the first rows of columns

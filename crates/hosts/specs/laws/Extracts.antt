@@ -1,9 +1,9 @@
 -- The rows of an accepted extract are well formed beside its bytes.
+use mathlib.Core.Bool.{Bool, not}
 use mathlib.Core.List.{List, [], _++_}
 use mathlib.Core.Logic.{⊎-elim}
 use mathlib.Core.Option.{Option, none, some}
 use mathlib.Core.Path.{_≡_, subst}
-use mathlib.Core.Bool.{Bool, not}
 use Prim.Native.Nat.{ℕ}
 use lib.Dec.{T}
 use Rattle.extract_spec.specs.Reading.{itemsOf, rowsOfItems, readExtract, isTable, rowsOr}

@@ -5,9 +5,9 @@ use mathlib.Core.Path.{_≡_, refl, sym, ap, _∙_}
 use Prim.Native.Nat.{ℕ}
 use borrow.Author.Tests.{eq-eqb, ne-eqb}
 use lib.Dec.{leb, eqb}
-use Rattle.hosts.specs.results.Exits.{lentOf, refusedBy, RefusedExit}
-use Rattle.hosts.specs.declared.results.HostResult.{HostResult}
 use Rattle.cells.specs.lent.Cells.{Cleared, all-cleared}
+use Rattle.hosts.specs.declared.results.HostResult.{HostResult}
+use Rattle.hosts.specs.results.Exits.{lentOf, refusedBy, RefusedExit}
 use Rattle.table_spec.specs.Columns.{Columns, sizesOf, columnsOf}
 use Rattle.text_spec.specs.Limits.{maxPaths}
 

@@ -3,6 +3,8 @@ use mathlib.Core.List.{List, []}
 use mathlib.Core.Path.{_≡_, sym, ap, subst, _∙_}
 use Prim.Native.Nat.{ℕ}
 use lib.ListN.{length}
+use denote.Ref.{now}
+use Rattle.cells.specs.lent.Ends.{Slice, entryColumns, exitColumns}
 use Rattle.hosts.specs.declared.results.HostResult.{HostResult}
 use Rattle.library_spec.specs.Calls.{columnsAfter}
 use Rattle.library_spec.specs.Hosts.{HostAnswer, Lent, Result, resultOf}
@@ -10,8 +12,6 @@ use Rattle.table_spec.specs.Columns.{Columns, columnsOf, sizesOf}
 use Rattle.text_spec.specs.Calls.{cellsAfter}
 use Rattle.text_spec.specs.Cells.{padded}
 use Rattle.text_spec.specs.Refusals.{Refusal, Outcome, accepted, refused, numberOf}
-use Rattle.cells.specs.lent.Ends.{Slice, entryColumns, exitColumns}
-use denote.Ref.{now}
 
 -- ---- definitions
 abbrev pub refusedBy : ℕ → ℕ → HostResult

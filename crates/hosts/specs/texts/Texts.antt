@@ -7,15 +7,16 @@ use native.Mathlib.Omega.{arith}
 use Rattle.bundle.specs.Judging.{JudgedUnder}
 use Rattle.bundle.specs.Judging as under
 use Rattle.bundle.specs.declared.Judged.{Judged}
+use Rattle.cells.specs.verdicts.VerdictLaws.{number-some}
 use Rattle.compiled_paths.specs.Paths.{pathsIn, Shaped}
 use Rattle.compiled_paths.specs.declared.CompiledPaths.{CompiledPaths}
 use Rattle.compiled_schema.specs.Compiled.{CompiledOf, JudgedAs}
+use Rattle.compiled_schema.specs.Places.{namesAt}
 use Rattle.compiled_schema.specs.declared.CompiledSchema.{CompiledSchema}
 use Rattle.compiled_schema.specs.declared.JudgedSchema.{JudgedSchema}
 use Rattle.hosts.specs.declared.texts.Texts.{Texts}
 use Rattle.hosts.specs.declared.texts.Told.{Told}
 use Rattle.library_spec.specs.Hosts.{bundlePaths}
-use Rattle.compiled_schema.specs.Places.{namesAt}
 use Rattle.path_spec.specs.Paths.{LocationPath}
 use Rattle.path_spec.specs.Reading.{readBundle}
 use Rattle.schema.specs.Judging as first
@@ -24,7 +25,6 @@ use Rattle.schema_spec.specs.Records.{schemaIn}
 use Rattle.schema_spec.specs.Schemas.{Schema}
 use Rattle.text_laws.specs.Tests.{never}
 use Rattle.text_spec.specs.Refusals.{Refusal, Outcome, accepted, refused, andThen, numberOf, resultOr}
-use Rattle.cells.specs.verdicts.VerdictLaws.{number-some}
 
 -- ---- definitions
 -- the refusal of an outcome, as numbers

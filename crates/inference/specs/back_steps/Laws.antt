@@ -6,12 +6,15 @@ use mathlib.Core.Path.{_≡_, refl, sym, ap, ap₂, _∙_}
 use Prim.Native.Nat.{ℕ}
 use borrow.Author.Tests.{ne-eqb}
 use lib.Dec.{eqb}
+use Rattle.compiled_paths.specs.Columns.{axisOf}
+use Rattle.inference_spec.specs.Needed.{linked, between, complete, need}
+use Rattle.inference_spec.specs.Types.{Env, heldBy, holding, allBelow, allAbove, unionOf, cutTo, infer}
+use Rattle.inference.specs.back_steps.Needs.{RelatedTo, leading, StepNeeds, NeedsOf}
+use Rattle.inference.specs.declared.back_steps.Needs.{Needs}
 use Rattle.names.specs.SetLaws.{has-filter, has-setOf, setOf-in}
 use Rattle.names.specs.Sets.{member, setOf, setIn}
 use Rattle.names.specs.declared.NameSet.{NameSet}
 use Rattle.path_spec.specs.Paths.{Axis, self, child, descendant, descendantOrSelf, parent, ancestor, ancestorOrSelf, Step}
-use Rattle.inference_spec.specs.Needed.{linked, between, complete, need}
-use Rattle.inference_spec.specs.Types.{Env, heldBy, holding, allBelow, allAbove, unionOf, cutTo, infer}
 use Rattle.schema_laws.specs.Names.{has-in, in-has}
 use Rattle.schema_spec.specs.Names.{Name, Names, sameName, has, within, namesOf}
 use Rattle.schema_spec.specs.Schemas.{Schema}
@@ -19,9 +22,6 @@ use Rattle.schema_spec.specs.Types.{Types, holds, typesOf, isBelow}
 use Rattle.text_laws.specs.Lists.{filter-cong, memberless}
 use Rattle.text_laws.specs.Tests.{or-left, or-right, or-cases, true-of, failed, same-test}
 use Rattle.text_spec.specs.Lists.{anyOf, filterBy, gather}
-use Rattle.compiled_paths.specs.Columns.{axisOf}
-use Rattle.inference.specs.back_steps.Needs.{RelatedTo, leading, StepNeeds, NeedsOf}
-use Rattle.inference.specs.declared.back_steps.Needs.{Needs}
 
 any-or : (f g : Name → Bool) (h : Names) → anyOf (λ b. f b || g b) h ≡ (anyOf f h || anyOf g h)
 any-or f g [] = refl

@@ -3,16 +3,16 @@ use mathlib.Core.Bool.{Bool}
 use mathlib.Core.List.{List, _++_, List·Memᴰ}
 use mathlib.Core.Path.{_≡_}
 use Prim.Native.Nat.{ℕ}
-use Rattle.names.specs.declared.NameSet.{NameSet}
-use Rattle.path_spec.specs.Paths.{Axis, Step}
 use Rattle.inference_spec.specs.Needed.{linked, between, complete, need}
 use Rattle.inference_spec.specs.Types.{Env}
+use Rattle.inference.specs.declared.back_steps.Needs.{Needs}
+use Rattle.names.specs.Sets.{setIn}
+use Rattle.names.specs.declared.NameSet.{NameSet}
+use Rattle.path_spec.specs.Paths.{Axis, Step}
 use Rattle.schema_spec.specs.Names.{Name, Names, has, within, namesOf}
 use Rattle.schema_spec.specs.Schemas.{Schema}
 use Rattle.schema_spec.specs.Types.{Types, typesOf}
 use Rattle.text_spec.specs.Lists.{anyOf, filterBy}
-use Rattle.names.specs.Sets.{setIn}
-use Rattle.inference.specs.declared.back_steps.Needs.{Needs}
 
 -- of the names of a schema, r has those from which the axis leads to one of h
 abbrev pub RelatedTo : Schema → Axis → Names → Names → Type 0

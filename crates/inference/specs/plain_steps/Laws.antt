@@ -4,21 +4,21 @@ use mathlib.Core.List.{List, [], _∷_, _++_}
 use mathlib.Core.Path.{_≡_, refl, sym, ap, ap₂, subst, _∙_}
 use Prim.Native.Nat.{ℕ, suc, _+_, _-_}
 use lib.ListN.{getD}
+use Rattle.compiled_paths.specs.Columns.{axisOf, axisNumber, testOf, plainIn, plain-next}
+use Rattle.inference_spec.specs.Needed.{complete, keepsAll, wantsNothing}
+use Rattle.inference_spec.specs.Types.{Env, env, allAbove, cutTo, move, narrow, infer, inferAll}
+use Rattle.inference.specs.back_steps.Laws.{setIn-within, empty-setIn, needs-step}
+use Rattle.inference.specs.back_steps.Needs.{StepNeeds, NeedsOf}
+use Rattle.inference.specs.declared.back_steps.Needs.{Needs}
 use Rattle.names.specs.Sets.{member, setIn}
 use Rattle.names.specs.declared.NameSet.{NameSet}
 use Rattle.path_spec.specs.Paths.{Step, expandFrom}
 use Rattle.path_spec.specs.Selection.{passes}
-use Rattle.inference_spec.specs.Needed.{complete, keepsAll, wantsNothing}
-use Rattle.inference_spec.specs.Types.{Env, env, allAbove, cutTo, move, narrow, infer, inferAll}
 use Rattle.schema_spec.specs.Names.{Name, Names, has, within, namesOf}
 use Rattle.schema_spec.specs.Schemas.{Schema}
 use Rattle.schema_spec.specs.Types.{Types, typesOf}
 use Rattle.text_laws.specs.Lists.{filter-filter}
 use Rattle.text_spec.specs.Lists.{filterBy, gather}
-use Rattle.compiled_paths.specs.Columns.{axisOf, axisNumber, testOf, plainIn, plain-next}
-use Rattle.inference.specs.back_steps.Laws.{setIn-within, empty-setIn, needs-step}
-use Rattle.inference.specs.back_steps.Needs.{StepNeeds, NeedsOf}
-use Rattle.inference.specs.declared.back_steps.Needs.{Needs}
 
 filter-all : (xs : Names) → filterBy (λ a. true) xs ≡ xs
 filter-all [] = refl

@@ -3,20 +3,20 @@ use mathlib.Core.List.{List}
 use mathlib.Core.Path.{_≡_}
 use Prim.Native.Nat.{ℕ}
 use lib.ListN.{length}
-use Rattle.names.specs.closures.Schemas.{RelationOf}
 use Rattle.compiled_paths.specs.Paths.{pathsIn}
 use Rattle.compiled_paths.specs.declared.CompiledPaths.{CompiledPaths}
 use Rattle.compiled_schema.specs.Compiled.{CompiledOf}
 use Rattle.compiled_schema.specs.declared.CompiledSchema.{CompiledSchema}
-use Rattle.names.specs.declared.NameSet.{NameSet}
 use Rattle.inference_spec.specs.Needed.{needed, neededWord}
+use Rattle.inference.specs.type_steps.Relations.{RelationsOf}
+use Rattle.names.specs.Sets.{NamesOf, Known, setIn}
+use Rattle.names.specs.closures.Schemas.{RelationOf}
+use Rattle.names.specs.declared.NameSet.{NameSet}
 use Rattle.schema_laws.specs.Accepted.{accepted-length, accepted-filled, accepted-closed}
 use Rattle.schema_spec.specs.Reading.{readSchema}
 use Rattle.schema_spec.specs.Schemas.{Schema}
 use Rattle.schema_spec.specs.Types.{holds, typesOf}
 use Rattle.text_spec.specs.Refusals.{accepted}
-use Rattle.inference.specs.type_steps.Relations.{RelationsOf}
-use Rattle.names.specs.Sets.{NamesOf, Known, setIn}
 
 module _ (text : List ℕ) (s : Schema) (read : readSchema text ≡ accepted s) (t : CompiledSchema) (made : CompiledOf text s t) where
   -- the relations of the schema

@@ -8,14 +8,16 @@ use native.Mathlib.Omega.{arith}
 use borrow.Author.Tests.{ne-eqb}
 use lib.Dec.{T, eqb, ltb, lt→ltb, eqb→eq, eqb-refl}
 use lib.ListN.{length}
-use Rattle.names.specs.closures.Schemas.{holds-relating, below-relating, relatedFrom-filter, relatedTo-filter}
-use Rattle.names.specs.closures.Relations.{relatedFrom, relatedTo}
+use Rattle.compiled_paths.specs.Columns.{axisOf, testOf}
+use Rattle.inference_spec.specs.Types.{Env, env, heldBy, holding, allBelow, allAbove, unionOf, cutTo, move, narrow}
+use Rattle.inference.specs.type_steps.Relations.{RelationsOf}
 use Rattle.names.specs.SetLaws.{setOf-in, setOf-union, setOf-common, schema-every, every-element, nothing-in}
 use Rattle.names.specs.Sets.{member, setOf, everyName, setIn}
+use Rattle.names.specs.closures.Relations.{relatedFrom, relatedTo}
+use Rattle.names.specs.closures.Schemas.{holds-relating, below-relating, relatedFrom-filter, relatedTo-filter}
 use Rattle.names.specs.declared.NameSet.{NameSet}
 use Rattle.path_spec.specs.Paths.{Axis, self, child, descendant, descendantOrSelf, parent, ancestor, ancestorOrSelf, NodeTest, named, anyNode, anyText}
 use Rattle.path_spec.specs.Selection.{passes}
-use Rattle.inference_spec.specs.Types.{Env, env, heldBy, holding, allBelow, allAbove, unionOf, cutTo, move, narrow}
 use Rattle.schema_laws.specs.Names.{has-in, in-has}
 use Rattle.schema_spec.specs.Names.{Name, Names, element, text, sameName, has, within, namesOf}
 use Rattle.schema_spec.specs.Schemas.{Schema}
@@ -24,8 +26,6 @@ use Rattle.text_laws.specs.Lists.{in-filter, filter-in, filter-cong, filter-fil
 use Rattle.text_laws.specs.Tests.{or-left, or-right, or-cases, and-intro, and-cases, same-test}
 use Rattle.text_spec.specs.Limits.{maxDeclarations}
 use Rattle.text_spec.specs.Lists.{filterBy}
-use Rattle.compiled_paths.specs.Columns.{axisOf, testOf}
-use Rattle.inference.specs.type_steps.Relations.{RelationsOf}
 
 -- ---- tests
 pub test-named : (t : ℕ) → (t ≡ 254 → ⊥) → (t ≡ 255 → ⊥) → testOf t ≡ named t

@@ -2,15 +2,15 @@
 use mathlib.Core.List.{List}
 use Prim.Native.Nat.{_<_, _≤_}
 use lib.ListN.{length}
-use Rattle.names.specs.closures.Schemas.{RelationOf}
-use Rattle.names.specs.Sets.{setIn}
-use Rattle.names.specs.declared.NameSet.{NameSet}
 use Rattle.inference_spec.specs.Types.{Env, env}
+use Rattle.inference.specs.declared.type_steps.Inferred.{Inferred}
+use Rattle.names.specs.Sets.{setIn}
+use Rattle.names.specs.closures.Schemas.{RelationOf}
+use Rattle.names.specs.declared.NameSet.{NameSet}
 use Rattle.schema_laws.specs.Closure.{Closed}
 use Rattle.schema_spec.specs.Schemas.{Schema}
 use Rattle.schema_spec.specs.Types.{holds, typesOf, isBelow}
 use Rattle.text_spec.specs.Limits.{maxDeclarations}
-use Rattle.inference.specs.declared.type_steps.Inferred.{Inferred}
 
 -- what each element of a schema holds, and what is below it
 pub record RelationsOf (s : Schema) (held beneath : List NameSet) : Type 0 where

@@ -4,27 +4,27 @@ use mathlib.Core.Path.{_≡_, sym, subst}
 use Prim.Native.Nat.{ℕ, _≤_, _<_}
 use native.Mathlib.Omega.{arith}
 use lib.ListN.{length, getD}
+use Rattle.cells.specs.declared.verdicts.Verdict.{Verdict}
+use Rattle.cells.specs.verdicts.Verdicts.{verdict}
 use Rattle.compiled_schema.specs.Compiled.{CompiledOf}
 use Rattle.compiled_schema.specs.declared.CompiledSchema.{CompiledSchema}
+use Rattle.journal_builder.specs.event_handling.Events.{schemaCells, CellsOf}
 use Rattle.journal_builder.specs.fillings.Entries.{entries-sized, entries-kinds, entries-models}
 use Rattle.journal_builder.specs.fillings.Fillings.{Sized}
 use Rattle.journal_builder.specs.name_tables.Names.{names-of}
-use Rattle.journal_builder.specs.event_handling.Events.{schemaCells, CellsOf}
 use Rattle.journal_reader.specs.event_loop.Judging.{outcome}
 use Rattle.journal.specs.compiled.Tables.{TableRead}
 use Rattle.library_spec.specs.Calls.{columnsAfter}
-use Rattle.text.specs.name_words.Words.{wordsOf, nameAt as wordsAt}
 use Rattle.schema_laws.specs.Accepted.{accepted-spelt, accepted-length, schemaIn-by, schemaIn-length}
 use Rattle.schema_spec.specs.Reading.{readSchema}
 use Rattle.schema_spec.specs.Records.{schemaIn}
 use Rattle.schema_spec.specs.Schemas.{Schema}
 use Rattle.table_spec.specs.Columns.{Columns, sizesOf}
+use Rattle.text.specs.name_words.Words.{wordsOf, nameAt as wordsAt}
 use Rattle.text_laws.specs.Texts.{length-within}
 use Rattle.text_spec.specs.Limits.{maxDeclarations, maxSchemaBytes}
 use Rattle.text_spec.specs.Refusals.{accepted}
 use Rattle.text_spec.specs.Scans.{nameAt}
-use Rattle.cells.specs.verdicts.Verdicts.{verdict}
-use Rattle.cells.specs.declared.verdicts.Verdict.{Verdict}
 
 -- columns c lent, columns d left: the verdict and the rows, where the schema text is accepted
 pub record CompiledRead (schema text : List ℕ) (limit : ℕ) (c d : Columns) (r : Verdict) : Type 0 where

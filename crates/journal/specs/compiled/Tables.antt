@@ -3,19 +3,19 @@ use mathlib.Core.List.{List, []}
 use mathlib.Core.Path.{_≡_, refl, sym, ap, _∙_}
 use Prim.Native.Nat.{ℕ}
 use lib.ListN.{length}
+use denote.Ref.{now}
+use Rattle.cells.specs.columns.Columns.{EqualColumns}
+use Rattle.cells.specs.declared.verdicts.Verdict.{Verdict}
+use Rattle.cells.specs.lent.Ends.{Slice, entryColumns, exitColumns}
+use Rattle.cells.specs.verdicts.Verdicts.{verdict}
 use Rattle.journal_builder.specs.event_handling.Events.{SchemaCells, CellsOf}
 use Rattle.journal_reader.specs.event_loop.Judging.{outcome, Judged}
 use Rattle.library_spec.specs.Calls.{columnsAfter}
-use Rattle.cells.specs.columns.Columns.{EqualColumns}
 use Rattle.schema_spec.specs.Schemas.{Schema}
 use Rattle.table_spec.specs.Columns.{Columns, Sizes, sizesOf, columnsOf}
 use Rattle.table_spec.specs.Rows.{Row}
 use Rattle.text_laws.specs.Cells.{padded-length}
 use Rattle.text_spec.specs.Refusals.{Outcome, accepted, refused}
-use Rattle.cells.specs.verdicts.Verdicts.{verdict}
-use Rattle.cells.specs.declared.verdicts.Verdict.{Verdict}
-use denote.Ref.{now}
-use Rattle.cells.specs.lent.Ends.{Slice, entryColumns, exitColumns}
 
 -- from any columns
 pub record TableRead (t : SchemaCells) (text : List ℕ) (limit : ℕ) (c d : Columns) (r : Verdict) : Type 0 where

@@ -7,15 +7,17 @@ use Prim.Native.Nat.{ℕ, _≤_}
 use lib.Dec.{T, leb, leb→le}
 use lib.ListN.{length, take}
 use lib.Seq.{length-take-le}
-use Rattle.journal.specs.compiled.Compiled.{CompiledRead}
-use Rattle.journal_reader.specs.event_loop.Judging.{outcome}
-use Rattle.library_spec.specs.Calls.{columnsAfter, journalRead}
-use Rattle.library_spec.specs.Records.{schemaHeld, passesSchema}
 use Rattle.cells.specs.columns.ColumnLaws.{equal-columns}
 use Rattle.cells.specs.columns.Columns.{EqualColumns}
+use Rattle.cells.specs.declared.verdicts.Verdict.{Verdict}
+use Rattle.cells.specs.verdicts.Verdicts.{refusedBy, verdict}
+use Rattle.compiled_schema.specs.records.Records.{recordWith}
+use Rattle.journal_reader.specs.event_loop.Judging.{outcome}
+use Rattle.journal.specs.compiled.Compiled.{CompiledRead}
+use Rattle.library_spec.specs.Calls.{columnsAfter, journalRead}
+use Rattle.library_spec.specs.Records.{schemaHeld, passesSchema}
 use Rattle.schema_laws.specs.Records.{record-accepted}
 use Rattle.schema_reader.specs.Records.{passesRecord}
-use Rattle.compiled_schema.specs.records.Records.{recordWith}
 use Rattle.schema_spec.specs.Reading.{readSchema}
 use Rattle.schema_spec.specs.Records.{schemaIn, isSchemaRecord}
 use Rattle.table_spec.specs.Columns.{Columns, Sizes, sizesOf, equalSizes, columnsOf}
@@ -28,8 +30,6 @@ use Rattle.text_spec.specs.Cells.{padded}
 use Rattle.text_spec.specs.Limits.{maxSchemaBytes, maxJournalBytes}
 use Rattle.text_spec.specs.Lists.{sameBytes}
 use Rattle.text_spec.specs.Refusals.{Outcome, accepted, refused, at, badRecord}
-use Rattle.cells.specs.verdicts.Verdicts.{refusedBy, verdict}
-use Rattle.cells.specs.declared.verdicts.Verdict.{Verdict}
 
 -- the test of two that is decided by the first, or by the second
 pub first-fails : (p q : Bool) → p ≡ false → false ≡ (p && q)

@@ -1,13 +1,13 @@
 use mathlib.Core.Path.{_≡_, refl, sym, _∙_}
 use Prim.Native.Nat.{_≤_}
 use native.Mathlib.Omega.{arith}
+use borrow.Author.Needs.{needs}
 use borrow.Author.Tests.{leb-true}
 use denote.Ref.{now}
-use Rattle.journal_builder.specs.build_state.State.{judgedFrom}
-use Rattle.journal_builder.specs.Events.{judged-unbroken, empty-closed, empty-broken}
-use borrow.Author.Needs.{needs}
 use Rattle.journal_builder.proofs.closed.Statement.{statement}
 use Rattle.journal_builder.proofs.closed.Tie as tie
+use Rattle.journal_builder.specs.Events.{judged-unbroken, empty-closed, empty-broken}
+use Rattle.journal_builder.specs.build_state.State.{judgedFrom}
 
 close-requires : tie.Need-close-requires
 close-requires c κs =

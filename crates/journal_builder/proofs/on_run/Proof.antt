@@ -1,12 +1,12 @@
 use mathlib.Core.Path.{_≡_, refl, sym, _∙_}
-use denote.Ref.{now}
-use Rattle.journal_builder.specs.laws.StateLaws.{leaves-as}
-use Rattle.journal_builder.specs.Events.{judged-unbroken, event-judged, event-broken, kept-safe}
-use Rattle.journal_spec.specs.Lexer.{run, runs}
-use Rattle.journal_lexer.specs.state.Places.{placeOr}
 use borrow.Author.Needs.{needs}
+use denote.Ref.{now}
 use Rattle.journal_builder.proofs.on_run.Statement.{statement}
 use Rattle.journal_builder.proofs.on_run.Tie as tie
+use Rattle.journal_builder.specs.Events.{judged-unbroken, event-judged, event-broken, kept-safe}
+use Rattle.journal_builder.specs.laws.StateLaws.{leaves-as}
+use Rattle.journal_lexer.specs.state.Places.{placeOr}
+use Rattle.journal_spec.specs.Lexer.{run, runs}
 
 returns : tie.Need-returns
 returns c =

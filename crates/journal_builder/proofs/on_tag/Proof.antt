@@ -1,17 +1,17 @@
 use mathlib.Core.Bool.{Bool, true, false, cond}
 use mathlib.Core.Path.{_≡_, refl, sym, ap, subst, _∙_}
 use native.Mathlib.Omega.{arith}
-use borrow.Author.Tests.{not-true, not-false, eq-eqb, ne-eqb}
-use denote.Ref.{now}
-use lib.Dec.{eqb}
-use Rattle.journal_builder.specs.build_state.State.{noRow, step}
-use Rattle.journal_builder.specs.laws.StateLaws.{leaves-as, leaves-kept, safe-as}
-use Rattle.journal_builder.specs.Events.{startEvent, tagEvent, judged-unbroken, event-judged, event-broken, kept-safe, ends-leaves, ends-safe}
-use Rattle.journal_spec.specs.Builder.{onUnbroken}
-use Rattle.journal_spec.specs.Lexer.{ends}
 use borrow.Author.Needs.{needs}
+use borrow.Author.Tests.{not-true, not-false, eq-eqb, ne-eqb}
+use lib.Dec.{eqb}
+use denote.Ref.{now}
 use Rattle.journal_builder.proofs.on_tag.Statement.{statement}
 use Rattle.journal_builder.proofs.on_tag.Tie as tie
+use Rattle.journal_builder.specs.Events.{startEvent, tagEvent, judged-unbroken, event-judged, event-broken, kept-safe, ends-leaves, ends-safe}
+use Rattle.journal_builder.specs.build_state.State.{noRow, step}
+use Rattle.journal_builder.specs.laws.StateLaws.{leaves-as, leaves-kept, safe-as}
+use Rattle.journal_spec.specs.Builder.{onUnbroken}
+use Rattle.journal_spec.specs.Lexer.{ends}
 
 start-tag-requires : tie.Need-start-tag-requires
 start-tag-requires c κs = c .before .before .before .before .pre

@@ -1,15 +1,15 @@
 use mathlib.Core.Bool.{Bool}
 use mathlib.Core.Path.{_≡_, refl, sym, ap, subst, _∙_}
 use native.Mathlib.Omega.{arith}
-use denote.Ref.{now}
-use Rattle.journal_builder.specs.laws.Starts.{start-innermost}
-use Rattle.journal_builder.specs.laws.StateLaws.{leaves-as}
-use Rattle.journal_builder.specs.Events.{startEvent}
-use Rattle.journal_spec.specs.Builder.{onStart, onUnbroken}
-use Rattle.schema_spec.specs.Schemas.{elementNamed}
 use borrow.Author.Needs.{needs}
+use denote.Ref.{now}
 use Rattle.journal_builder.proofs.start_tag.Statement.{statement}
 use Rattle.journal_builder.proofs.start_tag.Tie as tie
+use Rattle.journal_builder.specs.Events.{startEvent}
+use Rattle.journal_builder.specs.laws.Starts.{start-innermost}
+use Rattle.journal_builder.specs.laws.StateLaws.{leaves-as}
+use Rattle.journal_spec.specs.Builder.{onStart, onUnbroken}
+use Rattle.schema_spec.specs.Schemas.{elementNamed}
 
 on-start-requires : tie.Need-on-start-requires
 on-start-requires c κs = let q = c .before .before .pre in (q .0, q .1, q .2)

@@ -5,16 +5,16 @@ use mathlib.Core.Path.{_≡_}
 use Prim.Native.Nat.{ℕ, suc, _+_, _%_, _≤_, _<_}
 use lib.Dec.{eqb, leb, ltb}
 use lib.ListN.{length}
-use Rattle.journal_builder.specs.declared.build_state.Build.{Build}
-use Rattle.journal_builder.specs.declared.build_state.BuildStep.{BuildStep}
-use Rattle.text.specs.fault_keys.Keys.{noKey, keyAt, leastKey, notedKey, Placed}
-use Rattle.journal_spec.specs.Builder.{Open, Building}
-use Rattle.journal_lexer.specs.state.Places.{noPlace}
-use Rattle.journal_builder.specs.open_levels.Levels.{AllLevels, Opened}
 use Rattle.cells.specs.columns.Columns.{cells}
 use Rattle.cells.specs.declared.columns.RowCells.{RowCells}
+use Rattle.journal_builder.specs.declared.build_state.Build.{Build}
+use Rattle.journal_builder.specs.declared.build_state.BuildStep.{BuildStep}
+use Rattle.journal_builder.specs.open_levels.Levels.{AllLevels, Opened}
+use Rattle.journal_lexer.specs.state.Places.{noPlace}
+use Rattle.journal_spec.specs.Builder.{Open, Building}
 use Rattle.schema_spec.specs.Schemas.{Schema}
 use Rattle.table_spec.specs.Rows.{Row, cellsOf}
+use Rattle.text.specs.fault_keys.Keys.{noKey, keyAt, leastKey, notedKey, Placed}
 use Rattle.text_spec.specs.Limits.{maxDeclarations, maxDepth, maxNodes, maxTextBytes}
 use Rattle.text_spec.specs.Lists.{isNone, listOf}
 

@@ -6,18 +6,18 @@ use mathlib.Core.Path.{_≡_, refl, sym, subst, _∙_}
 use Prim.Native.Nat.{ℕ, _+_, _≤_, _<_}
 use native.Mathlib.Omega.{arith}
 use borrow.Author.Count.{below-more}
+use lib.Dec.{T}
 use lib.ListN.{length}
 use Rattle.journal_builder.specs.fillings.Fillings.{Found, declared, undeclared}
-use Rattle.text.specs.name_words.Words.{Spells, nameAt as wordsAt}
 use Rattle.schema_laws.specs.Accepted.{elementNames}
 use Rattle.schema_laws.specs.Elements.{named-exactly}
 use Rattle.schema_laws.specs.Lists.{Distinct}
 use Rattle.schema_spec.specs.Schemas.{Schema, elementNamed, nameAt}
+use Rattle.text.specs.name_words.Words.{Spells, nameAt as wordsAt}
 use Rattle.text_laws.specs.Lists.{bytes-equal, bytes-same}
 use Rattle.text_laws.specs.Tests.{passed, failed}
 use Rattle.text_spec.specs.Limits.{maxDeclarations}
 use Rattle.text_spec.specs.Lists.{sameBytes}
-use lib.Dec.{T}
 
 -- a table of words has the names of a schema's elements
 pub record NamesOf (s : Schema) (words : List ℕ) : Type 0 where

@@ -7,25 +7,25 @@ use Prim.Native.Nat.{ℕ, zero, suc, _-_, _≤_}
 use borrow.Author.Tests.{eqb-true}
 use lib.Dec.{eqb}
 use lib.ListN.{length}
-use Rattle.journal_builder.specs.build_state.State.{Safe, Built, Leaves, SafeStep, noRow, step}
-use Rattle.journal_builder.specs.laws.StateLaws.{leaves-as, leaves-kept}
-use Rattle.journal_builder.specs.declared.build_state.Build.{Build}
-use Rattle.journal_builder.specs.declared.build_state.BuildStep.{BuildStep}
-use Rattle.journal_builder.specs.fillings.Fillings.{KindsOf, ModelsOf}
-use Rattle.journal_builder.specs.element_names.Names.{NamesOf}
-use Rattle.journal_builder.specs.Events.{tagEvent, kept-safe}
-use Rattle.journal_lexer.specs.run_laws.Passes.{quiet-builds}
-use Rattle.journal_spec.specs.Builder.{Building, onEvent}
-use Rattle.journal_spec.specs.Lexer.{Event, quiet, runs}
-use Rattle.journal_lexer.specs.state.Places.{tagAt, runStart, runOf}
-use Rattle.journal_lexer.specs.state.Relation.{Tells, reportOf, TellsEvent}
-use Rattle.journal_lexer.specs.declared.state.Lex.{Lex}
-use Rattle.text.specs.name_words.Words.{Spells}
-use Rattle.text.specs.declared.name_words.Name.{Name}
-use Rattle.schema_spec.specs.Schemas.{Schema}
-use Rattle.text_spec.specs.Limits.{maxDeclarations}
 use denote.Ref.{now}
 use Rattle.cells.specs.lent.Ends.{SliceOf, Slice}
+use Rattle.journal_builder.specs.Events.{tagEvent, kept-safe}
+use Rattle.journal_builder.specs.build_state.State.{Safe, Built, Leaves, SafeStep, noRow, step}
+use Rattle.journal_builder.specs.declared.build_state.Build.{Build}
+use Rattle.journal_builder.specs.declared.build_state.BuildStep.{BuildStep}
+use Rattle.journal_builder.specs.element_names.Names.{NamesOf}
+use Rattle.journal_builder.specs.fillings.Fillings.{KindsOf, ModelsOf}
+use Rattle.journal_builder.specs.laws.StateLaws.{leaves-as, leaves-kept}
+use Rattle.journal_lexer.specs.declared.state.Lex.{Lex}
+use Rattle.journal_lexer.specs.run_laws.Passes.{quiet-builds}
+use Rattle.journal_lexer.specs.state.Places.{tagAt, runStart, runOf}
+use Rattle.journal_lexer.specs.state.Relation.{Tells, reportOf, TellsEvent}
+use Rattle.journal_spec.specs.Builder.{Building, onEvent}
+use Rattle.journal_spec.specs.Lexer.{Event, quiet, runs}
+use Rattle.schema_spec.specs.Schemas.{Schema}
+use Rattle.text.specs.declared.name_words.Name.{Name}
+use Rattle.text.specs.name_words.Words.{Spells}
+use Rattle.text_spec.specs.Limits.{maxDeclarations}
 
 -- the columns of a compiled schema that reading a journal asks for
 pub record SchemaCells : Type 0 where

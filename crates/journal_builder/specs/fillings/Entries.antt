@@ -2,11 +2,11 @@
 use Prim.Native.Nat.{_≤_}
 use native.Mathlib.Omega.{arith}
 use lib.ListN.{length}
+use Rattle.compiled_schema.specs.declared.entry_columns.Entries.{Entries}
 use Rattle.compiled_schema.specs.entry_columns.Automata.{entries-automaton}
 use Rattle.compiled_schema.specs.entry_columns.Columns.{EntriesOf}
-use Rattle.compiled_schema.specs.declared.entry_columns.Entries.{Entries}
-use Rattle.journal_builder.specs.fillings.Fillings.{KindsOf, Sized, ModelsOf}
 use Rattle.compiled_schema.specs.entry_parts.EntryLaws.{entry-size}
+use Rattle.journal_builder.specs.fillings.Fillings.{KindsOf, Sized, ModelsOf}
 use Rattle.schema_spec.specs.Schemas.{Schema}
 use Rattle.text_spec.specs.Limits.{maxDeclarations}
 

@@ -9,18 +9,18 @@ use native.Mathlib.Omega.{arith}
 use borrow.Author.Tests.{ne-eqb, ltb-true, ltb-false}
 use lib.Dec.{eqb, ltb}
 use lib.ListN.{length, getD}
-use Rattle.journal_builder.specs.fillings.Fillings.{filling, Kind, kindAt, Modelled, StateAs, StateOf, unjudgedKind, misfitKind, isChildren, stateIn, advancedTo, Found, declared, undeclared, KindsOf, ModelsOf}
-use Rattle.text_spec.specs.Limits.{maxDeclarations}
-use Rattle.journal_builder.specs.declared.fillings.FillingState.{FillingState}
-use Rattle.journal_spec.specs.Builder.{Filling, unjudged, misfit, unfilled, filledByText, filledByChildren, fillingOf, fillingFor, withChild, withRun, fitsAtEnd}
-use Rattle.models.specs.fitting.Fitting.{progressOf, step-advances, mayEnd-complete}
-use Rattle.models.specs.fitting.Steps.{Stepped, mayEnd}
-use Rattle.models.specs.declared.fitting.State.{State}
-use Rattle.models.specs.declared.fitting.State.the-variants.{Start, Amid}
-use Rattle.schema_spec.specs.Models.{Particle, Content, empty, pcdata, children, advance, complete}
-use Rattle.schema_spec.specs.Schemas.{Schema, contentAt}
 use Rattle.compiled_schema.specs.entry_columns.Columns.{cellsAt, endsAt}
 use Rattle.compiled_schema.specs.entry_parts.Entries.{kindOf, emptyKind}
+use Rattle.journal_builder.specs.declared.fillings.FillingState.{FillingState}
+use Rattle.journal_builder.specs.fillings.Fillings.{filling, Kind, kindAt, Modelled, StateAs, StateOf, unjudgedKind, misfitKind, isChildren, stateIn, advancedTo, Found, declared, undeclared, KindsOf, ModelsOf}
+use Rattle.journal_spec.specs.Builder.{Filling, unjudged, misfit, unfilled, filledByText, filledByChildren, fillingOf, fillingFor, withChild, withRun, fitsAtEnd}
+use Rattle.models.specs.declared.fitting.State.{State}
+use Rattle.models.specs.declared.fitting.State.the-variants.{Start, Amid}
+use Rattle.models.specs.fitting.Fitting.{progressOf, step-advances, mayEnd-complete}
+use Rattle.models.specs.fitting.Steps.{Stepped, mayEnd}
+use Rattle.schema_spec.specs.Models.{Particle, Content, empty, pcdata, children, advance, complete}
+use Rattle.schema_spec.specs.Schemas.{Schema, contentAt}
+use Rattle.text_spec.specs.Limits.{maxDeclarations}
 
 module _ (s : Schema) where
   -- a filling of a children model, in either state

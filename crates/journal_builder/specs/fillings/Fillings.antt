@@ -6,19 +6,19 @@ use mathlib.Core.Path.{_≡_}
 use Prim.Native.Nat.{ℕ, _≤_, _<_}
 use lib.Dec.{eqb}
 use lib.ListN.{length, getD}
+use denote.Ref.{now}
+use Rattle.cells.specs.lent.Ends.{SliceOf, Slice}
 use Rattle.compiled_schema.specs.entry_columns.Columns.{cellsAt, endsAt}
+use Rattle.compiled_schema.specs.entry_parts.Entries.{kindOf, childrenKind}
 use Rattle.journal_builder.specs.declared.fillings.FillingState.{FillingState}
-use Rattle.models.specs.fitting.Fitting.{progressOf}
-use Rattle.models.specs.declared.fitting.State.{State}
-use Rattle.models.specs.declared.fitting.State.the-variants.{Start, Amid}
 use Rattle.journal_spec.specs.Builder.{Filling, unjudged, misfit, unfilled, filledByText, filledByChildren}
 use Rattle.models.specs.Automaton.{AutomatonOf}
-use Rattle.compiled_schema.specs.entry_parts.Entries.{kindOf, childrenKind}
+use Rattle.models.specs.declared.fitting.State.{State}
+use Rattle.models.specs.declared.fitting.State.the-variants.{Start, Amid}
+use Rattle.models.specs.fitting.Fitting.{progressOf}
 use Rattle.schema_spec.specs.Models.{Particle, children}
 use Rattle.schema_spec.specs.Schemas.{Schema, contentAt}
 use Rattle.text_spec.specs.Limits.{maxDeclarations, maxModelNames}
-use denote.Ref.{now}
-use Rattle.cells.specs.lent.Ends.{SliceOf, Slice}
 
 -- the numbers of the kinds beyond those of a schema's contents
 abbrev pub amidKind : ℕ

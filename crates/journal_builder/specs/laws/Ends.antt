@@ -7,15 +7,15 @@ use native.Mathlib.Nat.{mod-eq-of-lt}
 use native.Mathlib.Omega.{arith}
 use borrow.Author.Tests.{le-leb}
 use lib.ListN.{length}
-use Rattle.journal_builder.specs.laws.Starts.{isInnermost}
 use Rattle.journal_builder.specs.build_state.State.{judgedFrom, RowsBelow, Built, endedWith}
-use Rattle.journal_builder.specs.laws.StateLaws.{Innermost, innermost, faults-now, placed-now, judged-now, built-as}
 use Rattle.journal_builder.specs.declared.build_state.Build.{Build}
+use Rattle.journal_builder.specs.laws.Starts.{isInnermost}
+use Rattle.journal_builder.specs.laws.StateLaws.{Innermost, innermost, faults-now, placed-now, judged-now, built-as}
+use Rattle.journal_builder.specs.open_levels.Levels.{levelAt, Opened}
+use Rattle.journal_spec.specs.Builder.{Open, Building, building, breaks, fitsAtEnd, endOf, onEnd}
+use Rattle.schema_spec.specs.Schemas.{Schema}
 use Rattle.text.specs.fault_keys.KeyLaws.{least-given, placed-given, noted-none, noted-from}
 use Rattle.text.specs.fault_keys.Keys.{noKey, placeLimit, leastKey, notedKey}
-use Rattle.journal_spec.specs.Builder.{Open, Building, building, breaks, fitsAtEnd, endOf, onEnd}
-use Rattle.journal_builder.specs.open_levels.Levels.{levelAt, Opened}
-use Rattle.schema_spec.specs.Schemas.{Schema}
 use Rattle.text_spec.specs.Lists.{isNone, listOf, sameBytes}
 use Rattle.text_spec.specs.Refusals.{at, given, badNesting, badContent}
 

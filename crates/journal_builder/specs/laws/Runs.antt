@@ -10,24 +10,24 @@ use native.Mathlib.Omega.{arith}
 use borrow.Author.Tests.{le-leb, leb-false, ltb-false, ne-eqb}
 use lib.Dec.{eqb, leb, ltb}
 use lib.ListN.{length}
-use Rattle.journal_builder.specs.build_state.State.{judgedFrom, build, RowsBelow, Safe, Built, Rows, begun-row, Leaves, SafeStep, brokenBy, outsideBy, texted, textCells, step}
-use Rattle.journal_builder.specs.laws.StateLaws.{Innermost, innermost, refilled, length-refill, below-more, below-refill, faults-now, placed-now, judged-now, breaks-built, built-as, leaves-kept}
-use Rattle.journal_builder.specs.declared.build_state.Build.{Build}
-use Rattle.journal_builder.specs.declared.build_state.BuildStep.{BuildStep}
-use Rattle.journal_builder.specs.fillings.Fillings.{kindAt, StateAs, StateOf}
-use Rattle.journal_builder.specs.declared.fillings.FillingState.{FillingState}
-use Rattle.text.specs.fault_keys.KeyLaws.{least-given, placed-given, noted-none, noted-from}
-use Rattle.text.specs.fault_keys.Keys.{noKey, placeLimit, leastKey, notedKey}
-use Rattle.journal_spec.specs.Builder.{Filling, unjudged, misfit, unfilled, filledByText, filledByChildren, Open, Building, building, breaks, refill, withRun, outside, textNode, inside, onRun}
-use Rattle.journal_spec.specs.Lexer.{Run, run}
-use Rattle.journal_lexer.specs.state.Places.{noPlace, placeOr}
-use Rattle.journal_builder.specs.open_levels.Levels.{AllLevels, levelAt, withFilling, Stored, LevelOf, Opened}
-use Rattle.journal_builder.specs.declared.open_levels.Level.{Level}
 use Rattle.cells.specs.columns.Columns.{cells}
 use Rattle.cells.specs.declared.columns.RowCells.{RowCells}
 use Rattle.compiled_schema.specs.entry_parts.Entries.{pcdataKind}
+use Rattle.journal_builder.specs.build_state.State.{judgedFrom, build, RowsBelow, Safe, Built, Rows, begun-row, Leaves, SafeStep, brokenBy, outsideBy, texted, textCells, step}
+use Rattle.journal_builder.specs.declared.build_state.Build.{Build}
+use Rattle.journal_builder.specs.declared.build_state.BuildStep.{BuildStep}
+use Rattle.journal_builder.specs.declared.fillings.FillingState.{FillingState}
+use Rattle.journal_builder.specs.declared.open_levels.Level.{Level}
+use Rattle.journal_builder.specs.fillings.Fillings.{kindAt, StateAs, StateOf}
+use Rattle.journal_builder.specs.laws.StateLaws.{Innermost, innermost, refilled, length-refill, below-more, below-refill, faults-now, placed-now, judged-now, breaks-built, built-as, leaves-kept}
+use Rattle.journal_builder.specs.open_levels.Levels.{AllLevels, levelAt, withFilling, Stored, LevelOf, Opened}
+use Rattle.journal_lexer.specs.state.Places.{noPlace, placeOr}
+use Rattle.journal_spec.specs.Builder.{Filling, unjudged, misfit, unfilled, filledByText, filledByChildren, Open, Building, building, breaks, refill, withRun, outside, textNode, inside, onRun}
+use Rattle.journal_spec.specs.Lexer.{Run, run}
 use Rattle.schema_spec.specs.Schemas.{Schema}
 use Rattle.table_spec.specs.Rows.{Row, Cells, cellsOf, textRow}
+use Rattle.text.specs.fault_keys.KeyLaws.{least-given, placed-given, noted-none, noted-from}
+use Rattle.text.specs.fault_keys.Keys.{noKey, placeLimit, leastKey, notedKey}
 use Rattle.text_spec.specs.Limits.{maxDeclarations, maxNodes, maxTextBytes}
 use Rattle.text_spec.specs.Lists.{isNone}
 use Rattle.text_spec.specs.Refusals.{at, given, badNesting, overNodeLimit}

@@ -10,18 +10,18 @@ use native.Mathlib.Omega.{arith}
 use borrow.Author.Tests.{le-leb, lt-leb, lt-ltb, le-ltb, leb-false, eqb-true, eq-eqb, ne-eqb}
 use lib.Dec.{T, eqb, leb, ltb}
 use lib.ListN.{length}
+use Rattle.cells.specs.columns.Columns.{cells}
 use Rattle.journal_builder.specs.build_state.State.{judgedFrom, RowsBelow, Safe, Built, Rows, begun-row, Leaves, SafeStep, isSecondRoot, isWrongRoot, begun, elementCells, step}
-use Rattle.journal_builder.specs.laws.StateLaws.{length-refill, below-more, below-refill, faults-now, placed-now, judged-now}
 use Rattle.journal_builder.specs.declared.build_state.Build.{Build}
 use Rattle.journal_builder.specs.fillings.Fillings.{Found, declared, undeclared}
-use Rattle.text.specs.fault_keys.KeyLaws.{least-given, placed-given, noted-none, noted-from}
-use Rattle.text.specs.fault_keys.Keys.{noKey, placeLimit, leastKey, notedKey}
-use Rattle.journal_spec.specs.Builder.{Filling, Open, Building, building, breaks, parentRow, refill, withChild, fillingFor, wrongRoot, begin, onStart}
+use Rattle.journal_builder.specs.laws.StateLaws.{length-refill, below-more, below-refill, faults-now, placed-now, judged-now}
 use Rattle.journal_builder.specs.open_levels.Levels.{AllLevels, levelAt, Opened}
-use Rattle.cells.specs.columns.Columns.{cells}
+use Rattle.journal_spec.specs.Builder.{Filling, Open, Building, building, breaks, parentRow, refill, withChild, fillingFor, wrongRoot, begin, onStart}
 use Rattle.schema_spec.specs.Names.{element, codeOf}
 use Rattle.schema_spec.specs.Schemas.{Schema, elementNamed}
 use Rattle.table_spec.specs.Rows.{Cells, cellsOf, elementRow}
+use Rattle.text.specs.fault_keys.KeyLaws.{least-given, placed-given, noted-none, noted-from}
+use Rattle.text.specs.fault_keys.Keys.{noKey, placeLimit, leastKey, notedKey}
 use Rattle.text_laws.specs.Lists.{bytes-same}
 use Rattle.text_laws.specs.Tests.{true-of}
 use Rattle.text_spec.specs.Limits.{maxDeclarations, maxDepth, maxNodes}

@@ -8,21 +8,21 @@ use native.Mathlib.Omega.{arith}
 use borrow.Author.Tests.{lt-leb, leb-true}
 use lib.Dec.{leb}
 use lib.ListN.{length}
+use Rattle.cells.specs.columns.Columns.{cells}
+use Rattle.cells.specs.declared.columns.RowCells.{RowCells}
 use Rattle.journal_builder.specs.build_state.State.{judgedFrom, RowsBelow, Safe, Built, Rows, kept, begun-row, Leaves, SafeStep, brokenBy, build, step}
 use Rattle.journal_builder.specs.declared.build_state.Build.{Build}
 use Rattle.journal_builder.specs.declared.build_state.BuildStep.{BuildStep}
-use Rattle.journal_builder.specs.fillings.Fillings.{StateOf}
 use Rattle.journal_builder.specs.declared.fillings.FillingState.{FillingState}
-use Rattle.text.specs.fault_keys.KeyLaws.{first-key}
-use Rattle.text.specs.fault_keys.Keys.{noKey, placeLimit, keyAt, keyOr, leastKey, Placed}
-use Rattle.journal_spec.specs.Builder.{Filling, Open, Building, breaks, refill}
+use Rattle.journal_builder.specs.declared.open_levels.Level.{Level}
+use Rattle.journal_builder.specs.fillings.Fillings.{StateOf}
 use Rattle.journal_builder.specs.open_levels.LevelLaws.{opened-refilled}
 use Rattle.journal_builder.specs.open_levels.Levels.{levelAt, withFilling, Stored, LevelOf, Opened}
-use Rattle.journal_builder.specs.declared.open_levels.Level.{Level}
-use Rattle.cells.specs.columns.Columns.{cells}
-use Rattle.cells.specs.declared.columns.RowCells.{RowCells}
+use Rattle.journal_spec.specs.Builder.{Filling, Open, Building, breaks, refill}
 use Rattle.schema_spec.specs.Schemas.{Schema}
 use Rattle.table_spec.specs.Rows.{Row}
+use Rattle.text.specs.fault_keys.KeyLaws.{first-key}
+use Rattle.text.specs.fault_keys.Keys.{noKey, placeLimit, keyAt, keyOr, leastKey, Placed}
 use Rattle.text_spec.specs.Lists.{isNone, listOf}
 use Rattle.text_spec.specs.Refusals.{Refusal, Reason, numberOf, at, firstOf}
 

@@ -4,19 +4,19 @@ use mathlib.Core.List.{List, _∷_}
 use mathlib.Core.Option.{Option}
 use mathlib.Core.Path.{_≡_}
 use Prim.Native.Nat.{ℕ}
-use denote.Ref.{now}
 use lib.ListN.{length}
-use Rattle.journal_builder.specs.laws.Starts.{isInnermost}
+use denote.Ref.{now}
+use Rattle.cells.specs.lent.Ends.{SliceOf, Slice}
 use Rattle.journal_builder.specs.build_state.State.{Built, Leaves}
 use Rattle.journal_builder.specs.declared.build_state.Build.{Build}
 use Rattle.journal_builder.specs.declared.build_state.BuildStep.{BuildStep}
 use Rattle.journal_builder.specs.fillings.Fillings.{Found, KindsOf, ModelsOf, EntryModels}
-use Rattle.journal_spec.specs.Builder.{Open, Building, onEnd, fillingFor, refill, withChild}
-use Rattle.cells.specs.lent.Ends.{SliceOf, Slice}
-use Rattle.text.specs.name_words.Words.{Spells}
-use Rattle.text.specs.declared.name_words.Name.{Name}
+use Rattle.journal_builder.specs.laws.Starts.{isInnermost}
 use Rattle.journal_builder.specs.open_levels.Levels.{Opened}
+use Rattle.journal_spec.specs.Builder.{Open, Building, onEnd, fillingFor, refill, withChild}
 use Rattle.schema_spec.specs.Schemas.{Schema, elementNamed}
+use Rattle.text.specs.declared.name_words.Name.{Name}
+use Rattle.text.specs.name_words.Words.{Spells}
 use Rattle.text_spec.specs.Lists.{isNone}
 
 -- the innermost element is closed, by its own end tag

@@ -1,6 +1,6 @@
 -- The words of the names of a compiled schema are those of its elements.
-use mathlib.Core.List.{List, [], _∷_, map, List·Memᴰ as In, List·Memᴰ·head as here, List·Memᴰ·tail as there}
 use mathlib.Core.Bool.{_&&_, _||_}
+use mathlib.Core.List.{List, [], _∷_, map, List·Memᴰ as In, List·Memᴰ·head as here, List·Memᴰ·tail as there}
 use mathlib.Core.Logic.{⊎-elim}
 use mathlib.Core.Path.{_≡_, refl, sym, ap, subst, _∙_}
 use Prim.Native.Nat.{ℕ, zero, suc, _≤_, _<_}
@@ -11,10 +11,10 @@ use lib.ListN.{length, take, getD, length-map, length-take}
 use Rattle.compiled_schema.specs.Compiled.{CompiledOf}
 use Rattle.compiled_schema.specs.declared.CompiledSchema.{CompiledSchema}
 use Rattle.journal_builder.specs.element_names.Names.{NamesOf}
-use Rattle.text.specs.name_words.Words.{wordsOf, Spells, nameAt as wordsAt}
 use Rattle.schema_laws.specs.Accepted.{accepted-length, accepted-distinct, accepted-name}
 use Rattle.schema_spec.specs.Reading.{readSchema}
 use Rattle.schema_spec.specs.Schemas.{Schema, Element, nameAt}
+use Rattle.text.specs.name_words.Words.{wordsOf, Spells, nameAt as wordsAt}
 use Rattle.text_laws.specs.Bytes.{name-bytes}
 use Rattle.text_laws.specs.Tests.{and-cases, and-intro, or-cases, true-of}
 use Rattle.text_spec.specs.Bytes.{isBetween, isLetter, isDigit, isName, startsName, continuesName}

@@ -10,8 +10,8 @@ use borrow.Author.Tests.{ltb-true, lt-ltb}
 use lib.Dec.{ltb}
 use lib.ListN.{length, getD, set, length-set, length-append}
 use lib.Seq.{getD-set-same, getD-set-other}
-use Rattle.text.specs.name_words.Words.{words, wordsOf, nameAt as wordsAt}
 use Rattle.text.specs.declared.name_words.Name.{Name}
+use Rattle.text.specs.name_words.Words.{words, wordsOf, nameAt as wordsAt}
 use Rattle.text_laws.specs.Scans.{name-cons, name-stops}
 use Rattle.text_spec.specs.Bytes.{continuesName}
 use Rattle.text_spec.specs.Limits.{maxDeclarations}

@@ -6,12 +6,12 @@ use native.Mathlib.Omega.{arith}
 use lib.ListN.{length, getD, set, length-set}
 use lib.Seq.{getD-set-same, getD-set-other}
 use Rattle.journal_builder.specs.declared.fillings.FillingState.{FillingState}
-use Rattle.journal_builder.specs.fillings.Fillings.{filling, StateOf}
-use Rattle.journal_spec.specs.Builder.{Open, Filling, refill}
-use Rattle.text.specs.name_words.Words.{words}
-use Rattle.journal_builder.specs.open_levels.Levels.{levelCells, AllLevels, levelAt, withFilling, Stored, LevelOf, Opened}
 use Rattle.journal_builder.specs.declared.open_levels.Level.{Level}
+use Rattle.journal_builder.specs.fillings.Fillings.{filling, StateOf}
+use Rattle.journal_builder.specs.open_levels.Levels.{levelCells, AllLevels, levelAt, withFilling, Stored, LevelOf, Opened}
+use Rattle.journal_spec.specs.Builder.{Open, Filling, refill}
 use Rattle.schema_spec.specs.Schemas.{Schema}
+use Rattle.text.specs.name_words.Words.{words}
 use Rattle.text_spec.specs.Limits.{maxDepth}
 
 -- values stored one after the other, at k + j and on

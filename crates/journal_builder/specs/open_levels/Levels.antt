@@ -4,12 +4,12 @@ use mathlib.Core.Path.{_≡_}
 use Prim.Native.Nat.{ℕ, suc, _+_, _*_, _<_}
 use lib.ListN.{length, getD}
 use Rattle.journal_builder.specs.declared.fillings.FillingState.{FillingState}
-use Rattle.journal_builder.specs.fillings.Fillings.{filling, StateOf}
-use Rattle.text.specs.fault_keys.Keys.{placeLimit}
-use Rattle.journal_spec.specs.Builder.{Open}
-use Rattle.text.specs.name_words.Words.{words, Spells}
 use Rattle.journal_builder.specs.declared.open_levels.Level.{Level}
+use Rattle.journal_builder.specs.fillings.Fillings.{filling, StateOf}
+use Rattle.journal_spec.specs.Builder.{Open}
 use Rattle.schema_spec.specs.Schemas.{Schema}
+use Rattle.text.specs.fault_keys.Keys.{placeLimit}
+use Rattle.text.specs.name_words.Words.{words, Spells}
 use Rattle.text_spec.specs.Limits.{maxDepth}
 
 -- the cells of a level, and of all levels

@@ -3,12 +3,12 @@ use mathlib.Core.List.{List}
 use mathlib.Core.Path.{_≡_, subst}
 use Prim.Native.Nat.{ℕ, _≤_, _<_}
 use native.Mathlib.Omega.{arith}
+use Rattle.cells.specs.declared.columns.RowCells.{RowCells}
 use Rattle.journal_builder.specs.build_state.State.{judgedFrom, Safe, SafeStep, brokenBy, step}
-use Rattle.journal_builder.specs.laws.StateLaws.{safe-as, broken-safe}
 use Rattle.journal_builder.specs.declared.build_state.Build.{Build}
 use Rattle.journal_builder.specs.declared.build_state.BuildStep.{BuildStep}
+use Rattle.journal_builder.specs.laws.StateLaws.{safe-as, broken-safe}
 use Rattle.text.specs.fault_keys.Keys.{placeLimit}
-use Rattle.cells.specs.declared.columns.RowCells.{RowCells}
 
 pub record SafeStart (levels : List ℕ) (m : Build) (x : BuildStep) : Type 0 where
   pub step : SafeStep levels m x

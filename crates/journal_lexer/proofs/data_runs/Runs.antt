@@ -9,13 +9,13 @@ use native.Mathlib.Omega.{arith}
 use borrow.Author.Tests.{eq-eqb, ne-eqb}
 use lib.Dec.{eqb}
 use lib.ListN.{length, set, length-set}
-use Rattle.journal_lexer.specs.kinds.Kinds.{dataBy}
-use Rattle.journal_spec.specs.Lexer.{Run, run, inData, goes}
 use Rattle.journal_lexer.specs.declared.state.Lex.{Lex}
+use Rattle.journal_lexer.specs.kinds.Kinds.{dataBy}
 use Rattle.journal_lexer.specs.state.Laws.{foreign-noted, foreign-same}
 use Rattle.journal_lexer.specs.state.Places.{noPlace, solidAt, runOf, withForeign, foreign-other, foreign-run, foreign-length}
 use Rattle.journal_lexer.specs.state.Places.{tag-run, tag-other, tag-first, place-or, begun-solid, begun-foreign, begun-length, begun-run}
 use Rattle.journal_lexer.specs.state.Relation.{stepped, named, Handed, Meant}
+use Rattle.journal_spec.specs.Lexer.{Run, run, inData, goes}
 
 -- a byte of a run that has only blanks and starts at s
 module _ {l : Lex} {p : List ℕ} {b c : ℕ} (h : Handed l p b c) (s : ℕ) {r : Lex} where

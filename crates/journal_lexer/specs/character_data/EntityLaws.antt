@@ -8,13 +8,13 @@ use native.Mathlib.Omega.{arith}
 use borrow.Author.Tests.{ne-eqb, eqb-true, lt-ltb, le-ltb}
 use lib.Dec.{eqb, ltb}
 use lib.ListN.{length}
-use Rattle.journal_lexer.specs.kinds.Kinds.{lexBy}
-use Rattle.journal_spec.specs.Lexer.{Run, Mode, inData, inEntity, stopped, goes, tailsWith, entityByte}
 use Rattle.journal_lexer.specs.declared.state.Lex.{Lex}
+use Rattle.journal_lexer.specs.kinds.Kinds.{lexBy}
 use Rattle.journal_lexer.specs.state.Entities.{restsOf, nextState, entityEnded, entityDead}
 use Rattle.journal_lexer.specs.state.Laws.{meant-as, meant-of, steps-by, leads, foreign-noted, goes-noted, stops}
 use Rattle.journal_lexer.specs.state.Places.{noPlace, tagAt, solidAt, runOf, withForeign, foreign-other, foreign-run, foreign-length}
 use Rattle.journal_lexer.specs.state.Relation.{stepped, named, Handed, Meant, Steps}
+use Rattle.journal_spec.specs.Lexer.{Run, Mode, inData, inEntity, stopped, goes, tailsWith, entityByte}
 use Rattle.text_spec.specs.Lists.{bytes}
 
 -- the definition's step in an entity, by the next state

@@ -10,15 +10,15 @@ use borrow.Author.Tests.{eq-eqb, ne-eqb, le-leb}
 use lib.Dec.{T, eqb, leb}
 use lib.ListN.{set, drop, length-set}
 use Rattle.journal_lexer.specs.character_data.Runs.{plainAfter, Plain}
-use Rattle.journal_lexer.specs.kinds.Kinds.{lexBy, dataBy}
-use Rattle.journal_spec.specs.Lexer.{Run, run, Mode, inData, inEntity, opened, stopped, goes, solidBy}
-use Rattle.journal_spec.specs.Tokens.{entities}
 use Rattle.journal_lexer.specs.declared.state.Lex.{Lex}
+use Rattle.journal_lexer.specs.kinds.Kinds.{lexBy, dataBy}
 use Rattle.journal_lexer.specs.state.Entities.{restsOf}
 use Rattle.journal_lexer.specs.state.Laws.{meant-as, meant-of, steps-by, leads, foreign-same, goes-plain, goes-noted}
 use Rattle.journal_lexer.specs.state.Places.{noPlace, runStart, solidAt, runOf, withForeign, foreign-other, foreign-run}
 use Rattle.journal_lexer.specs.state.Places.{tag-run, tag-other, tag-first, solid-stays, blank-run}
 use Rattle.journal_lexer.specs.state.Relation.{stepped, named, Handed, Meant, Steps}
+use Rattle.journal_spec.specs.Lexer.{Run, run, Mode, inData, inEntity, opened, stopped, goes, solidBy}
+use Rattle.journal_spec.specs.Tokens.{entities}
 use Rattle.text_laws.specs.Tests.{failed, false-of, not-elim}
 
 -- a `<`, with an event or without

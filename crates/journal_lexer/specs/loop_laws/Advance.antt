@@ -6,12 +6,12 @@ use mathlib.Core.Path.{_≡_}
 use Prim.Native.Nat.{ℕ, zero, suc, _≤_, _<_}
 use lib.Dec.{eqb}
 use lib.ListN.{length, getD}
+use Rattle.journal_lexer.specs.declared.state.Lex.{Lex}
 use Rattle.journal_lexer.specs.kinds.Kinds.{KindTable}
 use Rattle.journal_lexer.specs.run_laws.Passes.{Passes}
-use Rattle.journal_spec.specs.Lexer.{Mode, Event}
-use Rattle.journal_lexer.specs.declared.state.Lex.{Lex}
 use Rattle.journal_lexer.specs.state.Places.{noPlace, foreignAt}
 use Rattle.journal_lexer.specs.state.Relation.{MeansMode, TellsEvent, firstForeign}
+use Rattle.journal_spec.specs.Lexer.{Mode, Event}
 
 -- the first foreign byte below a place, as the lent cell holds it
 unfoldable pub foreignBelow : List ℕ → ℕ → ℕ

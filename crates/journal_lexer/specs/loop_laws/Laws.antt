@@ -7,13 +7,13 @@ use Prim.Native.Nat.{ℕ, suc, _+_, _-_, _≤_, _<_}
 use native.Mathlib.Numerals.{add-one}
 use native.Mathlib.Omega.{arith}
 use lib.ListN.{length, getD}
+use Rattle.journal_lexer.specs.declared.state.Lex.{Lex}
 use Rattle.journal_lexer.specs.kinds.Kinds.{kindOf}
 use Rattle.journal_lexer.specs.loop_laws.Advance.{foreignBelow, Stands, Valid, Ready, never, either, Progress, moved, stayed, Advance, Looked, byteAt, kindAt}
 use Rattle.journal_lexer.specs.run_laws.Passes.{Passes, reads}
-use Rattle.journal_spec.specs.Lexer.{Mode, Event, quiet, lex}
-use Rattle.journal_lexer.specs.declared.state.Lex.{Lex}
 use Rattle.journal_lexer.specs.state.Places.{noPlace}
 use Rattle.journal_lexer.specs.state.Relation.{TellsEvent, Tells, reportOf, firstForeign, Handed, Steps}
+use Rattle.journal_spec.specs.Lexer.{Mode, Event, quiet, lex}
 
 pub looked-handed : {text kinds : List ℕ} {l : Lex} {p : List ℕ} → Looked text kinds l p → Handed l p (byteAt text l) (kindAt text kinds l)
 looked-handed {text} {kinds} {l} {p} h =

@@ -7,11 +7,11 @@ use native.Mathlib.Omega.{arith}
 use borrow.Author.Tests.{eqb-true, eqb-false}
 use lib.Dec.{eqb}
 use lib.ListN.{length, getD}
+use Rattle.journal_lexer.specs.declared.state.Lex.{Lex}
 use Rattle.journal_lexer.specs.loop_laws.Advance.{Ready, never, Advance, Looked, byteAt, kindAt}
 use Rattle.journal_lexer.specs.loop_laws.Laws.{looked-handed, ready-after, advance-none, advance-more, advance-end, next-falls, next-quiet}
 use Rattle.journal_lexer.specs.state.Laws.{steps-in}
 use Rattle.journal_lexer.specs.state.Relation.{Handed, Steps}
-use Rattle.journal_lexer.specs.declared.state.Lex.{Lex}
 
 -- ---- one byte
 pub byte-none : {f : ℕ → Bool} {text kinds : List ℕ} {l : Lex} {p : List ℕ} → Ready text kinds l p → length text ≤ l .place → Advance f text l p l p

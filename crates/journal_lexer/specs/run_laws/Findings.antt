@@ -8,8 +8,6 @@ use native.Mathlib.Omega.{arith}
 use borrow.Author.Tests.{le-ltb}
 use lib.Dec.{ltb}
 use lib.ListN.{length, getD, take}
-use Rattle.text.specs.fault_keys.KeyLaws.{least-append, least-bound, placed-append, placed-given, FirstBy, no-refusal, refusal, first-by-key}
-use Rattle.text.specs.fault_keys.Keys.{noKey, placeLimit, leastKey, notedKey, Placed}
 use Rattle.journal_laws.specs.Judging.{journal-judged}
 use Rattle.journal_spec.specs.Builder.{Building, onEvent}
 use Rattle.journal_spec.specs.Conditions as conditions
@@ -18,6 +16,8 @@ use Rattle.journal_spec.specs.Lexer.{misspeltAt}
 use Rattle.journal_spec.specs.Reading.{Machine, initial, step, run, ended, endsEarly, machineRefusals, readJournal}
 use Rattle.schema_spec.specs.Schemas.{Schema}
 use Rattle.table_spec.specs.Rows.{Row}
+use Rattle.text.specs.fault_keys.KeyLaws.{least-append, least-bound, placed-append, placed-given, FirstBy, no-refusal, refusal, first-by-key}
+use Rattle.text.specs.fault_keys.Keys.{noKey, placeLimit, leastKey, notedKey, Placed}
 use Rattle.text_laws.specs.Texts.{over-length}
 use Rattle.text_spec.specs.Lists.{isEmpty, isNone, listOf}
 use Rattle.text_spec.specs.Refusals.{Refusal, Outcome, accepted, refused, byFirst, firstOf, at, allAt, given, numberOf, badLength, misspelt, badNesting}

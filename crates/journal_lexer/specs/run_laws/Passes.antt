@@ -3,8 +3,8 @@ use mathlib.Core.Bool.{Bool, true, false, cond}
 use mathlib.Core.List.{List, [], _∷_, _++_}
 use mathlib.Core.Path.{_≡_, refl, sym, ap, _∙_}
 use Prim.Native.Nat.{ℕ, zero, suc, _<_}
-use lib.ListN.{length, drop, getD, drop-of-length-le}
 use native.Mathlib.Nat.{le-refl}
+use lib.ListN.{length, drop, getD, drop-of-length-le}
 use lib.Seq.{drop-cons}
 use Rattle.journal_spec.specs.Builder.{Building, building, onEvent}
 use Rattle.journal_spec.specs.Lexer.{Mode, between, Event, quiet, Lexed, tells, lex}

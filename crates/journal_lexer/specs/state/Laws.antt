@@ -7,12 +7,12 @@ use Prim.Native.Nat.{ℕ, _<_}
 use native.Mathlib.Omega.{arith}
 use lib.Dec.{eqb}
 use lib.ListN.{length, getD}
+use Rattle.journal_lexer.specs.declared.state.Lex.{Lex}
 use Rattle.journal_lexer.specs.kinds.Kinds.{kindOf, lexBy}
 use Rattle.journal_lexer.specs.kinds.Laws.{lex-kind, foreign-kind}
-use Rattle.journal_spec.specs.Lexer.{Mode, stopped, Lexed, lex, goes}
-use Rattle.journal_lexer.specs.declared.state.Lex.{Lex}
 use Rattle.journal_lexer.specs.state.Places.{noPlace, tagAt, foreignAt, withForeign, foreign-other, foreign-length, foreign-first, not-foreign}
 use Rattle.journal_lexer.specs.state.Relation.{Means, stateOf, TellsEvent, firstForeign, Handed, Meant, Steps, stepped}
+use Rattle.journal_spec.specs.Lexer.{Mode, stopped, Lexed, lex, goes}
 
 -- a result that is known
 pub meant-as : {l : Lex} {p : List ℕ} {b : ℕ} {r s : Lex} {q t : List ℕ} {x : Lexed} → r ≡ s → q ≡ t → Meant l p b s t x → Meant l p b r q x

@@ -6,14 +6,14 @@ use mathlib.Core.Path.{_≡_}
 use Prim.Native.Nat.{ℕ, suc, _+_, _-_, _<_}
 use lib.Dec.{eqb}
 use lib.ListN.{length, getD}
-use Rattle.journal_lexer.specs.kinds.Kinds.{kindOf}
-use Rattle.journal_spec.specs.Lexer.{Mode, between, inData, inEntity, opened, inName, afterName, afterSlash, ending, inEndName, afterEndName, stopped}
-use Rattle.journal_spec.specs.Lexer.{Event, quiet, starts, empties, ends, runs, Lexed, lex}
 use Rattle.journal_lexer.specs.declared.state.Lex.{Lex}
+use Rattle.journal_lexer.specs.kinds.Kinds.{kindOf}
 use Rattle.journal_lexer.specs.state.Entities.{restsOf}
 use Rattle.journal_lexer.specs.state.Places.{noPlace, tagAt, runStart, solidAt, foreignAt, runOf}
-use Rattle.text.specs.name_words.Words.{wordsOf, Spells}
+use Rattle.journal_spec.specs.Lexer.{Mode, between, inData, inEntity, opened, inName, afterName, afterSlash, ending, inEndName, afterEndName, stopped}
+use Rattle.journal_spec.specs.Lexer.{Event, quiet, starts, empties, ends, runs, Lexed, lex}
 use Rattle.text.specs.declared.name_words.Name.{Name}
+use Rattle.text.specs.name_words.Words.{wordsOf, Spells}
 use Rattle.text_spec.specs.Bytes.{isForeign}
 
 -- the words of a name and how many bytes it has

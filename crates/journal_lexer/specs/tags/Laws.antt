@@ -7,17 +7,17 @@ use native.Mathlib.Omega.{arith}
 use borrow.Author.Tests.{ne-eqb, lt-ltb, le-ltb}
 use lib.Dec.{T}
 use lib.ListN.{length, length-append}
+use Rattle.journal_lexer.specs.declared.state.Lex.{Lex}
 use Rattle.journal_lexer.specs.kinds.Kinds.{kindOf, lexBy, tagBy, endTagBy}
 use Rattle.journal_lexer.specs.kinds.Laws.{name-filled}
-use Rattle.journal_spec.specs.Lexer.{Mode, between, opened, inName, afterName, afterSlash, ending, inEndName, afterEndName, stopped}
-use Rattle.journal_spec.specs.Lexer.{starts, empties, ends, goes, tells}
-use Rattle.journal_lexer.specs.declared.state.Lex.{Lex}
 use Rattle.journal_lexer.specs.state.Laws.{meant-as, steps-by, leads, foreign-same, goes-plain, tells-plain, stops}
 use Rattle.journal_lexer.specs.state.Places.{tagAt, withForeign}
 use Rattle.journal_lexer.specs.state.Relation.{Holds, Means, stateOf, Handed, Meant, Steps, stepped, named}
 use Rattle.journal_lexer.specs.tags.Names.{Longer, fits, over}
-use Rattle.text.specs.name_words.Words.{wordsOf, Spells}
+use Rattle.journal_spec.specs.Lexer.{Mode, between, opened, inName, afterName, afterSlash, ending, inEndName, afterEndName, stopped}
+use Rattle.journal_spec.specs.Lexer.{starts, empties, ends, goes, tells}
 use Rattle.text.specs.declared.name_words.Name.{Name}
+use Rattle.text.specs.name_words.Words.{wordsOf, Spells}
 use Rattle.text_laws.specs.Lists.{all-snoc}
 use Rattle.text_laws.specs.Tests.{and-intro}
 use Rattle.text_spec.specs.Bytes.{isBetween}

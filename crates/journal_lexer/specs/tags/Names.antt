@@ -5,8 +5,8 @@ use Prim.Native.Nat.{ℕ, _+_, _≤_, _<_}
 use lib.ListN.{length}
 use Rattle.journal_lexer.specs.declared.state.Lex.{Lex}
 use Rattle.journal_lexer.specs.state.Relation.{stepped, named}
-use Rattle.text.specs.name_words.Words.{wordsOf}
 use Rattle.text.specs.declared.name_words.Name.{Name}
+use Rattle.text.specs.name_words.Words.{wordsOf}
 use Rattle.text_spec.specs.Limits.{maxNameBytes}
 
 -- the name is longer, or too long

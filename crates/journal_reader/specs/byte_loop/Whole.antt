@@ -6,16 +6,16 @@ use native.Mathlib.Numerals.{add-one}
 use native.Mathlib.Omega.{arith}
 use lib.ListN.{length, getD, take}
 use lib.Seq.{take-all}
+use denote.Ref.{now}
+use Rattle.cells.specs.lent.Ends.{Slice, entryColumns, exitColumns}
 use Rattle.journal_builder.specs.event_handling.Events.{SchemaCells, CellsOf}
-use Rattle.journal_reader.specs.step.Steps.{ByteRead}
 use Rattle.journal_lexer.specs.run_laws.Findings.{run-next}
-use Rattle.journal_spec.specs.Reading.{Machine, initial, run}
-use Rattle.journal_reader.specs.state.Reading.{started, Usable, ReadAs}
 use Rattle.journal_reader.specs.declared.state.ReaderState.{ReaderState}
+use Rattle.journal_reader.specs.state.Reading.{started, Usable, ReadAs}
+use Rattle.journal_reader.specs.step.Steps.{ByteRead}
+use Rattle.journal_spec.specs.Reading.{Machine, initial, run}
 use Rattle.schema_spec.specs.Schemas.{Schema}
 use Rattle.table_spec.specs.Columns.{Columns, Sizes}
-use Rattle.cells.specs.lent.Ends.{Slice, entryColumns, exitColumns}
-use denote.Ref.{now}
 
 -- the state y and what is lent beside it, after k bytes of a text that was begun with other cells
 pub record SomeRead (t : SchemaCells) (text : List ℕ) (k : ℕ) (levels places : List ℕ) (c : Columns) (after q : List ℕ) (d : Columns) (y : ReaderState)

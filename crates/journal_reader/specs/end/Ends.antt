@@ -8,25 +8,25 @@ use lib.Dec.{eqb, ltb}
 use lib.ListN.{length, length-reverse}
 use Rattle.journal_builder.specs.build_state.State.{Built}
 use Rattle.journal_builder.specs.declared.build_state.Build.{Build}
-use Rattle.text.specs.fault_keys.KeyLaws.{noted-none}
-use Rattle.text.specs.fault_keys.Keys.{noKey, placeLimit, notedKey}
 use Rattle.journal_builder.specs.event_handling.Events.{SchemaCells, CellsOf}
+use Rattle.journal_lexer.specs.declared.state.Lex.{Lex}
+use Rattle.journal_lexer.specs.run_laws.Findings.{KeyTells, read-told}
+use Rattle.journal_lexer.specs.state.Places.{noPlace, tagAt, foreignAt}
+use Rattle.journal_lexer.specs.state.Relation.{TellsEvent}
+use Rattle.journal_reader.specs.declared.end.Found.{Found}
+use Rattle.journal_reader.specs.declared.state.ReaderState.{ReaderState}
+use Rattle.journal_reader.specs.event_rows.Events.{EventRead}
 use Rattle.journal_reader.specs.findings.Endings.{Ended}
 use Rattle.journal_reader.specs.findings.Findings.{endsBefore, foundKey, found-key-is, found-placed}
-use Rattle.journal_reader.specs.declared.end.Found.{Found}
-use Rattle.journal_reader.specs.event_rows.Events.{EventRead}
-use Rattle.journal_lexer.specs.run_laws.Findings.{KeyTells, read-told}
+use Rattle.journal_reader.specs.state.Reading.{ForeignCell, ReadAs}
 use Rattle.journal_spec.specs.Builder.{Building, onEvent}
 use Rattle.journal_spec.specs.Lexer.{lastEvent}
 use Rattle.journal_spec.specs.Reading.{Machine, initial, run, ended, readJournal}
-use Rattle.journal_lexer.specs.state.Places.{noPlace, tagAt, foreignAt}
-use Rattle.journal_lexer.specs.state.Relation.{TellsEvent}
-use Rattle.journal_lexer.specs.declared.state.Lex.{Lex}
-use Rattle.journal_reader.specs.state.Reading.{ForeignCell, ReadAs}
-use Rattle.journal_reader.specs.declared.state.ReaderState.{ReaderState}
 use Rattle.schema_spec.specs.Schemas.{Schema}
 use Rattle.table_spec.specs.Columns.{Columns, Sizes, columnsOf}
 use Rattle.table_spec.specs.Rows.{Row}
+use Rattle.text.specs.fault_keys.KeyLaws.{noted-none}
+use Rattle.text.specs.fault_keys.Keys.{noKey, placeLimit, notedKey}
 
 -- the key tells the outcome, and where it is none the columns hold the rows
 pub record Answered (z : Sizes) (limit : ℕ) (s : Schema) (text : List ℕ) (d : Columns) (r : Found) : Type 0 where

@@ -5,17 +5,17 @@ use mathlib.Core.Path.{_≡_, sym, ap, subst, _∙_}
 use Prim.Native.Nat.{ℕ, _-_, _≤_, _<_}
 use native.Mathlib.Omega.{arith}
 use lib.ListN.{length}
-use Rattle.journal_reader.specs.event_step.Points.{Point, ReadOn}
 use Rattle.journal_builder.specs.event_handling.Events.{SchemaCells, CellsOf}
 use Rattle.journal_lexer.specs.loop_laws.Advance.{foreignBelow}
-use Rattle.journal_reader.specs.byte_loop.Whole.{AllRead}
 use Rattle.journal_lexer.specs.run_laws.Passes.{foreignsBelow, nothingBuilt, reached-first, reached-last}
-use Rattle.journal_spec.specs.Lexer.{between}
-use Rattle.journal_spec.specs.Reading.{Machine, initial, run}
 use Rattle.journal_lexer.specs.state.Places.{noPlace}
+use Rattle.journal_reader.specs.byte_loop.Whole.{AllRead}
+use Rattle.journal_reader.specs.declared.state.ReaderState.{ReaderState}
+use Rattle.journal_reader.specs.event_step.Points.{Point, ReadOn}
 use Rattle.journal_reader.specs.state.Reading.{started, ForeignCell, Usable, ReadAs}
 use Rattle.journal_reader.specs.state.ReadingLaws.{foreign-below}
-use Rattle.journal_reader.specs.declared.state.ReaderState.{ReaderState}
+use Rattle.journal_spec.specs.Lexer.{between}
+use Rattle.journal_spec.specs.Reading.{Machine, initial, run}
 use Rattle.schema_spec.specs.Schemas.{Schema}
 use Rattle.table_spec.specs.Columns.{Columns, Sizes}
 

@@ -4,25 +4,25 @@ use mathlib.Core.Path.{_≡_, refl, sym, subst}
 use Prim.Native.Nat.{ℕ, _≤_, _<_}
 use native.Mathlib.Omega.{arith}
 use lib.ListN.{length}
+use denote.Ref.{now}
+use Rattle.cells.specs.columns.Columns.{EqualColumns}
+use Rattle.cells.specs.lent.Ends.{Slice, entryColumns, exitColumns}
 use Rattle.journal_builder.specs.build_state.State.{Built, build, Safe}
-use Rattle.text.specs.fault_keys.Keys.{noKey}
 use Rattle.journal_builder.specs.event_handling.Events.{SchemaCells, CellsOf}
-use Rattle.journal_reader.specs.end.Ends.{Answered, Finished}
-use Rattle.journal_reader.specs.declared.end.Found.{Found}
-use Rattle.journal_reader.specs.byte_loop.Whole.{AllRead}
-use Rattle.journal_lexer.specs.run_laws.Passes.{nothingBuilt}
-use Rattle.journal_spec.specs.Lexer.{between}
-use Rattle.journal_spec.specs.Reading.{initial}
-use Rattle.journal_lexer.specs.state.Places.{noPlace}
 use Rattle.journal_builder.specs.open_levels.Levels.{AllLevels}
+use Rattle.journal_lexer.specs.run_laws.Passes.{nothingBuilt}
+use Rattle.journal_lexer.specs.state.Places.{noPlace}
+use Rattle.journal_reader.specs.byte_loop.Whole.{AllRead}
+use Rattle.journal_reader.specs.declared.end.Found.{Found}
+use Rattle.journal_reader.specs.declared.state.ReaderState.{ReaderState}
+use Rattle.journal_reader.specs.end.Ends.{Answered, Finished}
 use Rattle.journal_reader.specs.state.Reading.{started, Usable, ReadAs}
 use Rattle.journal_reader.specs.state.ReadingLaws.{no-foreign}
-use Rattle.journal_reader.specs.declared.state.ReaderState.{ReaderState}
-use Rattle.cells.specs.columns.Columns.{EqualColumns}
+use Rattle.journal_spec.specs.Lexer.{between}
+use Rattle.journal_spec.specs.Reading.{initial}
 use Rattle.schema_spec.specs.Schemas.{Schema}
 use Rattle.table_spec.specs.Columns.{Columns, Sizes, columnsOf}
-use denote.Ref.{now}
-use Rattle.cells.specs.lent.Ends.{Slice, entryColumns, exitColumns}
+use Rattle.text.specs.fault_keys.Keys.{noKey}
 
 -- no place is noted yet
 abbrev pub noPlaces : List ℕ

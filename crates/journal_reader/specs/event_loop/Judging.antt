@@ -7,25 +7,25 @@ use native.Mathlib.Omega.{arith}
 use borrow.Author.Tests.{leb-false, le-leb}
 use lib.Dec.{ltb, leb, leb→le}
 use lib.ListN.{length}
-use Rattle.text.specs.fault_keys.Keys.{noKey}
+use denote.Ref.{now}
+use Rattle.cells.specs.declared.verdicts.Verdict.{Verdict}
+use Rattle.cells.specs.lent.Ends.{Slice, entryColumns, exitColumns}
+use Rattle.cells.specs.verdicts.VerdictLaws.{number-some}
+use Rattle.cells.specs.verdicts.Verdicts.{refusedBy, verdict}
 use Rattle.journal_builder.specs.event_handling.Events.{SchemaCells, CellsOf}
-use Rattle.journal_reader.specs.event_loop.Journals.{JournalRead}
-use Rattle.journal_reader.specs.declared.end.Found.{Found}
 use Rattle.journal_lexer.specs.run_laws.Findings.{KeyTells, accepts, refuses, read-empty, read-over}
 use Rattle.journal_lexer.specs.state.Places.{noPlace}
-use Rattle.journal_spec.specs.Reading.{readJournal}
+use Rattle.journal_reader.specs.declared.end.Found.{Found}
+use Rattle.journal_reader.specs.event_loop.Journals.{JournalRead}
 use Rattle.journal_reader.specs.verdict.Verdicts.{VerdictOf}
+use Rattle.journal_spec.specs.Reading.{readJournal}
 use Rattle.library_spec.specs.Calls.{inColumns, columnsAfter}
 use Rattle.schema_spec.specs.Schemas.{Schema}
 use Rattle.table_spec.specs.Columns.{Columns, Sizes, sizesOf, columnsOf}
 use Rattle.table_spec.specs.Rows.{Row}
+use Rattle.text.specs.fault_keys.Keys.{noKey}
 use Rattle.text_laws.specs.Tests.{and-cases, passed}
 use Rattle.text_spec.specs.Refusals.{Outcome, accepted, refused, andThen, at, badLength, tooFewCells}
-use Rattle.cells.specs.verdicts.VerdictLaws.{number-some}
-use Rattle.cells.specs.verdicts.Verdicts.{refusedBy, verdict}
-use Rattle.cells.specs.declared.verdicts.Verdict.{Verdict}
-use denote.Ref.{now}
-use Rattle.cells.specs.lent.Ends.{Slice, entryColumns, exitColumns}
 
 -- the library's outcome in columns of these sizes
 abbrev pub outcome : Schema → List ℕ → ℕ → Sizes → Outcome (List Row)

@@ -2,22 +2,22 @@
 use mathlib.Core.List.{List, reverse}
 use mathlib.Core.Path.{_≡_}
 use Prim.Native.Nat.{ℕ, _+_, _≤_}
+use denote.Ref.{now}
+use Rattle.cells.specs.columns.Columns.{EqualColumns}
+use Rattle.cells.specs.lent.Ends.{Slice, entryColumns, exitColumns}
 use Rattle.journal_builder.specs.build_state.State.{Safe, Built}
 use Rattle.journal_builder.specs.declared.build_state.Build.{Build}
 use Rattle.journal_builder.specs.declared.build_state.BuildStep.{BuildStep}
-use Rattle.text.specs.fault_keys.Keys.{noKey}
 use Rattle.journal_builder.specs.event_handling.Events.{SchemaCells, CellsOf, EventLeaves}
+use Rattle.journal_lexer.specs.declared.state.Lex.{Lex}
+use Rattle.journal_lexer.specs.state.Relation.{TellsEvent}
 use Rattle.journal_reader.specs.rows.Rows.{RowAdded}
+use Rattle.journal_reader.specs.state.ReadingLaws.{rows-next}
 use Rattle.journal_spec.specs.Builder.{Building, onEvent}
 use Rattle.journal_spec.specs.Lexer.{Event}
-use Rattle.journal_lexer.specs.state.Relation.{TellsEvent}
-use Rattle.journal_lexer.specs.declared.state.Lex.{Lex}
-use Rattle.journal_reader.specs.state.ReadingLaws.{rows-next}
-use Rattle.cells.specs.columns.Columns.{EqualColumns}
 use Rattle.schema_spec.specs.Schemas.{Schema}
 use Rattle.table_spec.specs.Columns.{Columns, Sizes, columnsOf}
-use denote.Ref.{now}
-use Rattle.cells.specs.lent.Ends.{Slice, entryColumns, exitColumns}
+use Rattle.text.specs.fault_keys.Keys.{noKey}
 
 -- the builder's state r, the levels `after` and the columns d are what the event of l leaves
 pub record EventRead (t : SchemaCells) (levels places : List ℕ) (c : Columns) (l : Lex) (m : Build) (after : List ℕ) (d : Columns) (r : Build) : Type 0 where

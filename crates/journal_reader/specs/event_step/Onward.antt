@@ -9,14 +9,14 @@ use borrow.Author.Tests.{eqb-false, lt-ltb}
 use lib.Dec.{eqb, ltb}
 use lib.ListN.{length}
 use Rattle.journal_lexer.specs.data_loops.Modes.{dataMode}
-use Rattle.journal_reader.specs.findings.Endings.{withEvent}
+use Rattle.journal_lexer.specs.declared.state.Lex.{Lex}
 use Rattle.journal_lexer.specs.loop_laws.Advance.{foreignBelow, Stands, Valid, Ready, either, Progress, moved, stayed, Advance}
 use Rattle.journal_lexer.specs.run_laws.Passes.{stays}
-use Rattle.journal_spec.specs.Lexer.{Mode, quiet}
 use Rattle.journal_lexer.specs.state.Places.{foreignAt}
 use Rattle.journal_lexer.specs.state.Relation.{MeansMode}
-use Rattle.journal_lexer.specs.declared.state.Lex.{Lex}
 use Rattle.journal_lexer.specs.tag_loops.Modes.{tagMode}
+use Rattle.journal_reader.specs.findings.Endings.{withEvent}
+use Rattle.journal_spec.specs.Lexer.{Mode, quiet}
 
 -- from l and p to r and q the lexer has gone as the definition goes, by one byte at least and with one event at most
 pub record Onward (text : List ℕ) (l : Lex) (p : List ℕ) (r : Lex) (q : List ℕ) : Type 0 where

@@ -4,25 +4,25 @@ use mathlib.Core.Path.{_≡_}
 use Prim.Native.Nat.{ℕ, _-_, _≤_, _<_}
 use native.Mathlib.Omega.{arith}
 use lib.ListN.{length}
+use denote.Ref.{now}
+use Rattle.cells.specs.lent.Ends.{Slice, entryColumns, exitColumns}
 use Rattle.journal_builder.specs.build_state.State.{Built}
 use Rattle.journal_builder.specs.declared.build_state.Build.{Build}
-use Rattle.text.specs.fault_keys.Keys.{noKey}
-use Rattle.journal_reader.specs.event_step.Onward.{Onward}
 use Rattle.journal_builder.specs.event_handling.Events.{SchemaCells, CellsOf}
+use Rattle.journal_lexer.specs.declared.state.Lex.{Lex}
 use Rattle.journal_lexer.specs.loop_laws.Advance.{foreignBelow}
-use Rattle.journal_reader.specs.event_rows.Events.{EventRead}
 use Rattle.journal_lexer.specs.run_laws.Passes.{Reached, reached-on}
-use Rattle.journal_spec.specs.Builder.{Building, onEvent}
-use Rattle.journal_spec.specs.Lexer.{Mode}
 use Rattle.journal_lexer.specs.state.Places.{foreignAt}
 use Rattle.journal_lexer.specs.state.Relation.{MeansMode}
-use Rattle.journal_lexer.specs.declared.state.Lex.{Lex}
-use Rattle.journal_reader.specs.state.Reading.{Usable}
 use Rattle.journal_reader.specs.declared.state.ReaderState.{ReaderState}
+use Rattle.journal_reader.specs.event_rows.Events.{EventRead}
+use Rattle.journal_reader.specs.event_step.Onward.{Onward}
+use Rattle.journal_reader.specs.state.Reading.{Usable}
+use Rattle.journal_spec.specs.Builder.{Building, onEvent}
+use Rattle.journal_spec.specs.Lexer.{Mode}
 use Rattle.schema_spec.specs.Schemas.{Schema}
 use Rattle.table_spec.specs.Columns.{Columns, Sizes, columnsOf}
-use Rattle.cells.specs.lent.Ends.{Slice, entryColumns, exitColumns}
-use denote.Ref.{now}
+use Rattle.text.specs.fault_keys.Keys.{noKey}
 
 -- the reading stands on the definition's way through the text
 pub record Point (s : Schema) (z : Sizes) (text levels places : List ℕ) (c : Columns) (x : ReaderState) : Type 0 where

@@ -8,10 +8,10 @@ use native.Mathlib.Omega.{arith}
 use borrow.Author.Tests.{leb-true, le-ltb}
 use lib.Dec.{leb, ltb}
 use lib.ListN.{length, getD, set, length-set}
-use Rattle.journal_spec.specs.Lexer.{Mode, Event, quiet, runs, lastEvent, misspeltAt}
+use Rattle.journal_lexer.specs.declared.state.Lex.{Lex}
 use Rattle.journal_lexer.specs.state.Places.{noPlace, tagAt, runStart, foreignAt, runOf, tag-run, tag-other, tag-first}
 use Rattle.journal_lexer.specs.state.Relation.{Means, stateOf, MeansMode, TellsEvent}
-use Rattle.journal_lexer.specs.declared.state.Lex.{Lex}
+use Rattle.journal_spec.specs.Lexer.{Mode, Event, quiet, runs, lastEvent, misspeltAt}
 use Rattle.text.specs.declared.name_words.Name.{Name}
 
 -- the modes of character data, by their numbers

@@ -9,15 +9,15 @@ use lib.Dec.{eqb, leb, ltb}
 use lib.ListN.{length}
 use Rattle.journal_builder.specs.build_state.State.{judgedFrom, Built}
 use Rattle.journal_builder.specs.declared.build_state.Build.{Build}
-use Rattle.text.specs.fault_keys.KeyLaws.{least-bound}
-use Rattle.text.specs.fault_keys.Keys.{noKey, placeLimit, keyAt, leastKey, notedKey, Placed}
 use Rattle.journal_lexer.specs.run_laws.Findings.{isEarly, findingsKey, FindingsPlaced}
+use Rattle.journal_lexer.specs.state.Places.{noPlace, tagAt, foreignAt}
+use Rattle.journal_reader.specs.state.Reading.{foreignKey, ForeignCell}
 use Rattle.journal_spec.specs.Builder.{Open, Building}
 use Rattle.journal_spec.specs.Lexer.{misspeltAt}
 use Rattle.journal_spec.specs.Reading.{Machine}
-use Rattle.journal_lexer.specs.state.Places.{noPlace, tagAt, foreignAt}
-use Rattle.journal_reader.specs.state.Reading.{foreignKey, ForeignCell}
 use Rattle.schema_spec.specs.Schemas.{Schema}
+use Rattle.text.specs.fault_keys.KeyLaws.{least-bound}
+use Rattle.text.specs.fault_keys.Keys.{noKey, placeLimit, keyAt, leastKey, notedKey, Placed}
 use Rattle.text_spec.specs.Lists.{isEmpty, isNone, listOf}
 use Rattle.text_spec.specs.Refusals.{allAt, misspelt}
 

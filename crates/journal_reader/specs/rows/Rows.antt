@@ -5,10 +5,10 @@ use mathlib.Core.Path.{_≡_, refl, sym, ap, subst, _∙_}
 use Prim.Native.Nat.{ℕ, suc, _%_}
 use native.Mathlib.Omega.{arith}
 use lib.ListN.{length, length-reverse}
-use Rattle.journal_builder.specs.build_state.State.{Rows, kept, begun-row}
-use Rattle.journal_builder.specs.declared.build_state.BuildStep.{BuildStep}
 use Rattle.cells.specs.columns.ColumnLaws.{columns-more, equal-more}
 use Rattle.cells.specs.columns.Columns.{EqualColumns, withRow, cells}
+use Rattle.journal_builder.specs.build_state.State.{Rows, kept, begun-row}
+use Rattle.journal_builder.specs.declared.build_state.BuildStep.{BuildStep}
 use Rattle.table_spec.specs.Columns.{Columns, Sizes, columnsOf}
 use Rattle.table_spec.specs.Rows.{Row, Cells, cellsOf}
 

@@ -6,16 +6,16 @@ use mathlib.Core.Path.{_≡_}
 use Prim.Native.Nat.{ℕ, _≤_, _<_}
 use lib.Dec.{eqb}
 use lib.ListN.{length}
+use Rattle.cells.specs.columns.Columns.{EqualColumns}
 use Rattle.journal_builder.specs.build_state.State.{build, Safe, Built}
-use Rattle.text.specs.fault_keys.Keys.{noKey, keyAt, leastKey, Placed}
 use Rattle.journal_lexer.specs.loop_laws.Advance.{Valid}
-use Rattle.journal_spec.specs.Reading.{Machine}
 use Rattle.journal_lexer.specs.state.Places.{noPlace, foreignAt}
 use Rattle.journal_lexer.specs.state.Relation.{MeansMode, initially}
 use Rattle.journal_reader.specs.declared.state.ReaderState.{ReaderState}
-use Rattle.cells.specs.columns.Columns.{EqualColumns}
+use Rattle.journal_spec.specs.Reading.{Machine}
 use Rattle.schema_spec.specs.Schemas.{Schema}
 use Rattle.table_spec.specs.Columns.{Columns, Sizes, columnsOf}
+use Rattle.text.specs.fault_keys.Keys.{noKey, keyAt, leastKey, Placed}
 use Rattle.text_spec.specs.Refusals.{Refusal}
 
 abbrev pub started : ReaderState

@@ -13,23 +13,23 @@ use lib.ListN.{length, getD}
 use Rattle.journal_builder.specs.build_state.State.{Built, Leaves, SafeStep}
 use Rattle.journal_builder.specs.declared.build_state.Build.{Build}
 use Rattle.journal_builder.specs.declared.build_state.BuildStep.{BuildStep}
-use Rattle.text.specs.fault_keys.KeyLaws.{key-below, least-bound, least-given, placed-given}
-use Rattle.text.specs.fault_keys.Keys.{noKey, placeLimit, keyAt, keyOf, leastKey, notedKey, Placed}
 use Rattle.journal_laws.specs.Derivations.{Clean, clean-event}
+use Rattle.journal_lexer.specs.declared.state.Lex.{Lex}
 use Rattle.journal_lexer.specs.loop_laws.Advance.{foreignBelow}
-use Rattle.journal_reader.specs.rows.Rows.{RowAdded}
 use Rattle.journal_lexer.specs.run_laws.Passes.{foreignsBelow}
+use Rattle.journal_lexer.specs.state.Places.{noPlace, foreignAt}
+use Rattle.journal_lexer.specs.state.Relation.{firstForeign, MeansMode, Meant}
+use Rattle.journal_reader.specs.declared.state.ReaderState.{ReaderState}
+use Rattle.journal_reader.specs.rows.Rows.{RowAdded}
+use Rattle.journal_reader.specs.state.Reading.{foreignKey, ForeignCell, Usable, ReadAs}
 use Rattle.journal_spec.specs.Builder.{Building, onEvent}
 use Rattle.journal_spec.specs.Lexer.{Mode, Event, Lexed, lex}
 use Rattle.journal_spec.specs.Reading.{Machine, step}
-use Rattle.journal_lexer.specs.state.Places.{noPlace, foreignAt}
-use Rattle.journal_lexer.specs.state.Relation.{firstForeign, MeansMode, Meant}
-use Rattle.journal_lexer.specs.declared.state.Lex.{Lex}
-use Rattle.journal_reader.specs.state.Reading.{foreignKey, ForeignCell, Usable, ReadAs}
-use Rattle.journal_reader.specs.declared.state.ReaderState.{ReaderState}
 use Rattle.schema_spec.specs.Schemas.{Schema}
 use Rattle.table_spec.specs.Columns.{Columns, Sizes, columnsOf}
 use Rattle.table_spec.specs.Rows.{Row}
+use Rattle.text.specs.fault_keys.KeyLaws.{key-below, least-bound, least-given, placed-given}
+use Rattle.text.specs.fault_keys.Keys.{noKey, placeLimit, keyAt, keyOf, leastKey, notedKey, Placed}
 use Rattle.text_laws.specs.Lists.{append-empty}
 use Rattle.text_spec.specs.Bytes.{isForeign}
 use Rattle.text_spec.specs.Lists.{listOf}

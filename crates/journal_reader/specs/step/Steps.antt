@@ -3,21 +3,21 @@ use mathlib.Core.List.{List}
 use mathlib.Core.Path.{_≡_}
 use Prim.Native.Nat.{ℕ, _+_, _<_}
 use native.Mathlib.Omega.{arith}
+use denote.Ref.{now}
+use Rattle.cells.specs.lent.Ends.{Slice, entryColumns, exitColumns}
 use Rattle.journal_builder.specs.declared.build_state.Build.{Build}
-use Rattle.journal_reader.specs.event_rows.Events.{EventRead}
 use Rattle.journal_builder.specs.event_handling.Events.{SchemaCells, CellsOf}
-use Rattle.journal_spec.specs.Lexer.{lex}
-use Rattle.journal_spec.specs.Reading.{Machine, step}
+use Rattle.journal_lexer.specs.declared.state.Lex.{Lex}
 use Rattle.journal_lexer.specs.state.Places.{noPlace}
 use Rattle.journal_lexer.specs.state.Relation.{Steps}
-use Rattle.journal_lexer.specs.declared.state.Lex.{Lex}
+use Rattle.journal_reader.specs.declared.state.ReaderState.{ReaderState}
+use Rattle.journal_reader.specs.event_rows.Events.{EventRead}
 use Rattle.journal_reader.specs.state.Reading.{Usable, ReadAs}
 use Rattle.journal_reader.specs.state.ReadingLaws.{read-next}
-use Rattle.journal_reader.specs.declared.state.ReaderState.{ReaderState}
+use Rattle.journal_spec.specs.Lexer.{lex}
+use Rattle.journal_spec.specs.Reading.{Machine, step}
 use Rattle.schema_spec.specs.Schemas.{Schema}
 use Rattle.table_spec.specs.Columns.{Columns, Sizes}
-use Rattle.cells.specs.lent.Ends.{Slice, entryColumns, exitColumns}
-use denote.Ref.{now}
 
 -- the state y and what is lent beside it are what the byte b leaves: the definition's step
 pub record ByteRead (t : SchemaCells) (levels places : List ℕ) (c : Columns) (x : ReaderState) (b : ℕ) (after q : List ℕ) (d : Columns) (y : ReaderState)

@@ -6,18 +6,18 @@ use Prim.Native.Nat.{ℕ, _/_, _%_}
 use native.Mathlib.Omega.{arith}
 use lib.Dec.{ltb}
 use lib.ListN.{length}
-use Rattle.text.specs.fault_keys.Keys.{noKey, placeLimit}
-use Rattle.journal_reader.specs.end.Ends.{Answered}
-use Rattle.journal_reader.specs.declared.end.Found.{Found}
+use Rattle.cells.specs.declared.verdicts.Verdict.{Verdict}
+use Rattle.cells.specs.verdicts.Verdicts.{refusedBy, answeredOf, verdict}
 use Rattle.journal_lexer.specs.run_laws.Findings.{KeyTells, accepts, refuses}
+use Rattle.journal_reader.specs.declared.end.Found.{Found}
+use Rattle.journal_reader.specs.end.Ends.{Answered}
 use Rattle.journal_spec.specs.Reading.{readJournal}
 use Rattle.library_spec.specs.Calls.{inColumns}
 use Rattle.schema_spec.specs.Schemas.{Schema}
 use Rattle.table_spec.specs.Columns.{Columns, Sizes}
 use Rattle.table_spec.specs.Rows.{Row}
+use Rattle.text.specs.fault_keys.Keys.{noKey, placeLimit}
 use Rattle.text_spec.specs.Refusals.{Outcome, accepted, refused, andThen, at, tooFewCells}
-use Rattle.cells.specs.verdicts.Verdicts.{refusedBy, answeredOf, verdict}
-use Rattle.cells.specs.declared.verdicts.Verdict.{Verdict}
 
 -- what was found, in columns of so many cells, is this verdict
 pub record VerdictOf (found : Found) (size : ℕ) (r : Verdict) : Type 0 where

@@ -1,13 +1,13 @@
 use mathlib.Core.Path.{refl, sym}
 use Prim.Native.Nat.{_-_}
+use native.Mathlib.Omega.{arith}
+use borrow.Author.Needs.{needs}
 use lib.ListN.{length}
-use Rattle.kept_rows.specs.Kept.{inSet, codeCount, codes-next}
 use Rattle.cells.specs.row_sets.Columns.{marks, marks-length}
 use Rattle.cells.specs.row_sets.Loops.{Forward, forward-none, forward-all}
-use borrow.Author.Needs.{needs}
-use native.Mathlib.Omega.{arith}
 use Rattle.kept_rows.proofs.code_marks.Statement.{statement}
 use Rattle.kept_rows.proofs.code_marks.Tie as tie
+use Rattle.kept_rows.specs.Kept.{inSet, codeCount, codes-next}
 
 abbrev Inv-loop : tie.InvT-loop
 Inv-loop set table₀ c₀ table c = Forward (marks codeCount (inSet set)) table₀ c table

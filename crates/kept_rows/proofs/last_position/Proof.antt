@@ -1,6 +1,6 @@
-use Rattle.kept_rows.specs.Positions.{last-unkept, last-kept}
 use Rattle.kept_rows.proofs.last_position.Statement.{statement}
 use Rattle.kept_rows.proofs.last_position.Tie as tie
+use Rattle.kept_rows.specs.Positions.{last-unkept, last-kept}
 
 returns : tie.Need-returns
 returns c = last-unkept _ _ (c .if1 .taken)

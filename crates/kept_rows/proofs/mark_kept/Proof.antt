@@ -1,13 +1,13 @@
-use Prim.Native.Nat.{_-_, _<_}
 use mathlib.Core.Path.{_≡_, _∙_}
+use Prim.Native.Nat.{_-_, _<_}
+use native.Mathlib.Omega.{arith}
+use borrow.Author.Needs.{needs}
 use lib.ListN.{length}
-use Rattle.kept_rows.specs.Kept.{codeCount, keptMarks, KeptPass, table-marks, kept-table, kept-none, pass-first, kept-begun, kept-next, kept-all}
 use Rattle.cells.specs.row_sets.Columns.{marks, isMarked}
 use Rattle.cells.specs.row_sets.Loops.{Forward}
-use borrow.Author.Needs.{needs}
-use native.Mathlib.Omega.{arith}
 use Rattle.kept_rows.proofs.mark_kept.Statement.{statement}
 use Rattle.kept_rows.proofs.mark_kept.Tie as tie
+use Rattle.kept_rows.specs.Kept.{codeCount, keptMarks, KeptPass, table-marks, kept-table, kept-none, pass-first, kept-begun, kept-next, kept-all}
 
 abbrev Inv-loop : tie.InvT-loop
 Inv-loop names parents kept₀ table r₀ kept r = (0 < r) × KeptPass names parents kept₀ × (table ≡ marks codeCount (isMarked table)) × Forward (keptMarks (isMarked table) names parents) kept₀ r kept

@@ -1,7 +1,7 @@
-use Rattle.kept_rows.specs.Positions.{position-unnamed, position-cut, position-given}
 use borrow.Author.Needs.{needs}
 use Rattle.kept_rows.proofs.next_position.Statement.{statement}
 use Rattle.kept_rows.proofs.next_position.Tie as tie
+use Rattle.kept_rows.specs.Positions.{position-unnamed, position-cut, position-given}
 
 returns : tie.Need-returns
 returns c = position-unnamed _ _ _ (c .if1 .taken)

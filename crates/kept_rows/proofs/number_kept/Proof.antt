@@ -1,13 +1,13 @@
-use Prim.Native.Nat.{_-_, _<_}
 use mathlib.Core.Path.{_≡_}
-use lib.ListN.{length}
-use Rattle.kept_rows.specs.Kept.{codeCount, keptMarks, KeptPass, table-marks, kept-table, pass-first, code-mark-small}
-use Rattle.kept_rows.specs.Positions.{Numbering, numbered-none, numbering-begun, numbering-again, numbering-all, kept-size, numbering-few, numbered-same}
-use Rattle.cells.specs.row_sets.Columns.{marks, isMarked}
-use borrow.Author.Needs.{needs}
+use Prim.Native.Nat.{_-_, _<_}
 use native.Mathlib.Omega.{arith}
+use borrow.Author.Needs.{needs}
+use lib.ListN.{length}
+use Rattle.cells.specs.row_sets.Columns.{marks, isMarked}
 use Rattle.kept_rows.proofs.number_kept.Statement.{statement}
 use Rattle.kept_rows.proofs.number_kept.Tie as tie
+use Rattle.kept_rows.specs.Kept.{codeCount, keptMarks, KeptPass, table-marks, kept-table, pass-first, code-mark-small}
+use Rattle.kept_rows.specs.Positions.{Numbering, numbered-none, numbering-begun, numbering-again, numbering-all, kept-size, numbering-few, numbered-same}
 
 abbrev Inv-loop : tie.InvT-loop
 Inv-loop names parents positions₀ table n₀ r₀ positions n r = (0 < r) × KeptPass names parents positions₀ × (table ≡ marks codeCount (isMarked table)) × Numbering (keptMarks (isMarked table) names parents) positions₀ r n positions

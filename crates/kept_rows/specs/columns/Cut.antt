@@ -3,25 +3,25 @@ use mathlib.Core.Bool.{Bool, true, cond, not, _&&_}
 use mathlib.Core.List.{List, []}
 use mathlib.Core.Logic.{⊎-elim}
 use mathlib.Core.Path.{_≡_, sym, ap, ap₂, subst, _∙_}
-use native.Mathlib.Nat.{eq-or-lt-of-le}
 use Prim.Native.Nat.{ℕ, _<_, _≤_}
+use native.Mathlib.Nat.{eq-or-lt-of-le}
 use native.Mathlib.Omega.{arith}
 use borrow.Author.Tests.{lt-ltb, le-ltb}
 use lib.Dec.{T, eqb, ltb}
 use lib.ListN.{length, getD, take, replicate, length-replicate}
 use lib.Seq.{length-take-le}
+use Rattle.cells.specs.lent.Cells.{all-cleared}
+use Rattle.cells.specs.lent.Columns.{ClearedFrom}
+use Rattle.cells.specs.lent.Ends.{Slice, entryColumns, exitColumns}
+use Rattle.cells.specs.row_sets.Columns.{isMarked, marks, marks-length, marks-marked, marks-cong}
 use Rattle.kept_rows.specs.Joined.{rank}
 use Rattle.kept_rows.specs.Kept.{isKept, keptMarks, KeptColumns, kept-later}
 use Rattle.kept_rows.specs.Positions.{Numbered as Counted, nonzero-position, positions, positions-length, positions-at}
-use Rattle.cells.specs.row_sets.Columns.{isMarked, marks, marks-length, marks-marked, marks-cong}
-use Rattle.cells.specs.lent.Cells.{all-cleared}
-use Rattle.cells.specs.lent.Columns.{ClearedFrom}
 use Rattle.kept_rows.specs.cut_rows.Cells.{noted-cleared}
+use Rattle.kept_rows.specs.cut_rows.Rows.{table, columns-equal, keptColumns, markedBy, OfLength, Room, CutPass, RowsNoted}
 use Rattle.table_spec.specs.Columns.{Columns, Sizes, sizesOf}
 use Rattle.text_laws.specs.Tests.{passed, true-of, and-cases}
 use Rattle.text_spec.specs.Cells.{padded}
-use Rattle.kept_rows.specs.cut_rows.Rows.{table, columns-equal, keptColumns, markedBy, OfLength, Room, CutPass, RowsNoted}
-use Rattle.cells.specs.lent.Ends.{Slice, entryColumns, exitColumns}
 
 -- ---- definitions
 -- columns in lent cells, and then zeros

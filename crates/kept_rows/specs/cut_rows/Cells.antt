@@ -6,11 +6,11 @@ use Prim.Native.Nat.{ℕ, _+_, _≤_}
 use native.Mathlib.Omega.{arith}
 use lib.ListN.{length, getD, set, drop, List·getD-append}
 use lib.Seq.{sets, sets-eq, length-sets}
-use Rattle.kept_rows.specs.Joined.{joined, rank, joined-none, joined-marked, joined-unmarked, joined-length}
 use Rattle.cells.specs.row_sets.Columns.{isMarked}
+use Rattle.kept_rows.specs.Joined.{joined, rank, joined-none, joined-marked, joined-unmarked, joined-length}
 pub use Rattle.cells.specs.lent.Cells.{all-cleared}
-use Rattle.cells.specs.lent.Cells.{Cleared}
 use Rattle.cells.specs.lent.Appended.{appended-cleared}
+use Rattle.cells.specs.lent.Cells.{Cleared}
 use Rattle.text_laws.specs.Cells.{sets-append}
 use Rattle.text_spec.specs.Cells.{padded}
 

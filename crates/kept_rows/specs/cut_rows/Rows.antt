@@ -7,14 +7,14 @@ use native.Mathlib.Omega.{arith}
 use borrow.Author.Tests.{eq-eqb, ne-eqb, eqb-true, eqb-false}
 use lib.Dec.{eqb}
 use lib.ListN.{length, getD, set}
+use denote.Ref.{now}
+use Rattle.cells.specs.lent.Ends.{Slice, entryColumns, exitColumns}
+use Rattle.cells.specs.row_sets.Columns.{isMarked, marks, marks-length}
 use Rattle.kept_rows.specs.Joined.{rank, total-marked, total-rises}
 use Rattle.kept_rows.specs.Positions.{positionOf, positions, positions-at, position-marked, position-unmarked, marked-position}
-use Rattle.cells.specs.row_sets.Columns.{isMarked, marks, marks-length}
 use Rattle.kept_rows.specs.cut_rows.Cells.{cellsBefore, Noted, noted-none, noted-unmarked, noted-marked, noted-length}
 use Rattle.table_spec.specs.Columns.{Columns}
 use Rattle.text_laws.specs.Tests.{cond-yes, cond-no}
-use Rattle.cells.specs.lent.Ends.{Slice, entryColumns, exitColumns}
-use denote.Ref.{now}
 pub use Rattle.cells.specs.lent.Columns.{table}
 
 -- ---- definitions

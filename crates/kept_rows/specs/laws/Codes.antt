@@ -6,19 +6,19 @@ use native.Mathlib.Omega.{arith}
 use lib.Dec.{T}
 use lib.ListN.{getD, length-map}
 use Rattle.kept_rows.specs.Kept.{codeCount, KeptColumns}
-use Rattle.names.specs.codes.Laws.{code-below, name-of-its-code}
+use Rattle.kept_rows.specs.laws.Cut.{columnsIn}
 use Rattle.names.specs.SetLaws.{element-every, text-every}
 use Rattle.names.specs.Sets.{everyName}
+use Rattle.names.specs.codes.Codes.{nameOfCode}
+use Rattle.names.specs.codes.Laws.{code-below, name-of-its-code}
 use Rattle.schema_spec.specs.Names.{Name, element, text, codeOf}
 use Rattle.schema_spec.specs.Types.{Types}
 use Rattle.table_laws.specs.Codes.{HasCode, NamesCoded}
 use Rattle.table_laws.specs.Limits.{rows-few as few-rows}
-use Rattle.kept_rows.specs.laws.Cut.{columnsIn}
 use Rattle.table_laws.specs.Parents.{nodes-placed}
 use Rattle.table_laws.specs.WellFormed.{well-formed-alone}
 use Rattle.table_spec.specs.Rows.{Row}
 use Rattle.table_spec.specs.Tables.{wellFormed, wellFormedWith}
-use Rattle.names.specs.codes.Codes.{nameOfCode}
 
 -- ---- definitions
 -- each row's name is that of its code

@@ -8,16 +8,16 @@ use native.Mathlib.Omega.{arith}
 use lib.Dec.{T}
 use lib.ListN.{length, getD, getElem?, length-map, length-append}
 use lib.Seq.{take-append-le}
-use Rattle.kept_rows.specs.cut_rows.Cells.{cellsBefore}
-use Rattle.kept_rows.specs.cut_rows.Rows.{table, columns-equal, keptColumns}
+use Rattle.cells.specs.row_sets.Ancestors.{by-parents}
+use Rattle.cells.specs.row_sets.Columns.{mark, picked, marks-by-rows}
+use Rattle.extract_spec.specs.Cut.{kept, renumbered, cutFrom, cut}
 use Rattle.kept_rows.specs.Joined.{rank}
 use Rattle.kept_rows.specs.Kept.{isKept, keptMarks, kept-root, kept-later}
-use Rattle.cells.specs.row_sets.Columns.{mark, picked, marks-by-rows}
-use Rattle.cells.specs.row_sets.Ancestors.{by-parents}
-use Rattle.extract_spec.specs.Cut.{kept, renumbered, cutFrom, cut}
+use Rattle.kept_rows.specs.cut_rows.Cells.{cellsBefore}
+use Rattle.kept_rows.specs.cut_rows.Rows.{table, columns-equal, keptColumns}
+use Rattle.kept_rows.specs.laws.Picked.{joined-picked, gather-map, tested, tested-rank}
 use Rattle.schema_spec.specs.Names.{Name, Names, codeOf, has}
 use Rattle.schema_spec.specs.Types.{Types}
-use Rattle.kept_rows.specs.laws.Picked.{joined-picked, gather-map, tested, tested-rank}
 use Rattle.table_laws.specs.Fits.{rooted}
 use Rattle.table_laws.specs.Parents.{NodeAt, ChildOf, child-of, Placed, nodes-placed, nodes-named}
 use Rattle.table_laws.specs.Places.{none-some, at-bound, at-some, at-in}

@@ -5,6 +5,8 @@ use mathlib.Core.Path.{_≡_, sym, ap, subst, _∙_}
 use Prim.Native.Nat.{ℕ}
 use lib.Dec.{T}
 use Rattle.kept_rows.specs.Kept.{inSet}
+use Rattle.kept_rows.specs.laws.Codes.{codes-named}
+use Rattle.kept_rows.specs.laws.Cut.{PassesFor}
 use Rattle.names.specs.SetLaws.{has-setOf}
 use Rattle.names.specs.Sets.{member, setIn}
 use Rattle.names.specs.declared.NameSet.{NameSet}
@@ -15,12 +17,10 @@ use Rattle.schema_spec.specs.Reading.{readSchema}
 use Rattle.schema_spec.specs.Schemas.{Schema}
 use Rattle.schema_spec.specs.Types.{typesOf}
 use Rattle.table_laws.specs.Codes.{HasCode, NamesCoded}
-use Rattle.kept_rows.specs.laws.Cut.{PassesFor}
 use Rattle.table_laws.specs.Fits.{row-held}
 use Rattle.table_spec.specs.Rows.{Row}
 use Rattle.table_spec.specs.Tables.{wellFormed}
 use Rattle.text_spec.specs.Refusals.{accepted}
-use Rattle.kept_rows.specs.laws.Codes.{codes-named}
 
 module _ (schema : List ℕ) (s : Schema) (read : readSchema schema ≡ accepted s) where
   -- the root's name, or one that some name holds

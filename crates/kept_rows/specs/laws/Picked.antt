@@ -8,8 +8,8 @@ use native.Mathlib.Omega.{arith}
 use lib.Dec.{eqb}
 use lib.ListN.{length, getElem?, take}
 use lib.Seq.{take-nil}
-use Rattle.kept_rows.specs.Joined.{joined, total, rank}
 use Rattle.cells.specs.row_sets.Columns.{mark, isMarked, picked, mark-test}
+use Rattle.kept_rows.specs.Joined.{joined, total, rank}
 use Rattle.table_laws.specs.Places.{none-some}
 use Rattle.text_laws.specs.Tests.{never}
 use Rattle.text_spec.specs.Lists.{gather, filterBy}

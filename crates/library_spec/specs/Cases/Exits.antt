@@ -4,11 +4,11 @@ use Prim.Native.Nat.{ℕ}
 use lib.ListN.{length}
 use Rattle.library_spec.specs.Calls.{RowText, noText, textAt, rowsAfter, columnsAfter, recordAfter, partAfter, structsAfter}
 use Rattle.library_spec.specs.Hosts.{HostAnswer, Lent, resultOf}
-use Rattle.text_spec.specs.Records.{TextRecord}
 use Rattle.library_spec.specs.Selections.{Selections}
 use Rattle.table_spec.specs.Columns.{Columns, Sizes}
 use Rattle.table_spec.specs.Rows.{Row, Cells}
 use Rattle.text_spec.specs.Calls.{listAfter, cellsAfter}
+use Rattle.text_spec.specs.Records.{TextRecord}
 use Rattle.text_spec.specs.Refusals.{Outcome, accepted, refused, numberOf}
 
 pub record Exit : Type 0 where

@@ -1,18 +1,17 @@
 -- What a case asks of the definitions, and what they answer.
 use mathlib.Core.List.{List, [], _∷_, map}
 use Prim.Native.Nat.{ℕ}
-use Rattle.journal_spec.specs.Reading.{readJournal}
-use Rattle.path_spec.specs.Reading.{readBundle}
-use Rattle.path_spec.specs.Selection.{selectRows}
-use Rattle.library_spec.specs.Cases.Exits.{Exit, hostExit, recordExit, rowsExit, structsExit, wordExit, bytesExit, selectionsExit, textExit}
 use Rattle.extract_spec.specs.Cut.{cut}
 use Rattle.inference_spec.specs.Cases.Needed.{pathsRead, namesNeeded}
 use Rattle.inference_spec.specs.Needed.{needed}
+use Rattle.journal_spec.specs.Reading.{readJournal}
 use Rattle.library_spec.specs.Calls as calls
+use Rattle.library_spec.specs.Cases.Exits.{Exit, hostExit, recordExit, rowsExit, structsExit, wordExit, bytesExit, selectionsExit, textExit}
 use Rattle.library_spec.specs.Hosts.{Lent, extractOf, makeExtract, selectFrom}
 use Rattle.library_spec.specs.Listing.{listing}
 use Rattle.library_spec.specs.Records.{LentTable, tableBeside}
-use Rattle.text_spec.specs.Records.{TextRecord}
+use Rattle.path_spec.specs.Reading.{readBundle}
+use Rattle.path_spec.specs.Selection.{selectRows}
 use Rattle.schema_spec.specs.Names.{Names}
 use Rattle.schema_spec.specs.Reading.{readSchema}
 use Rattle.schema_spec.specs.Records.{schemaIn}
@@ -23,6 +22,7 @@ use Rattle.text_spec.specs.Calls.{handed}
 use Rattle.text_spec.specs.Cases as cases
 use Rattle.text_spec.specs.Cases.{Judgement, judgementOf, copies}
 use Rattle.text_spec.specs.Limits.{maxJournalBytes}
+use Rattle.text_spec.specs.Records.{TextRecord}
 use Rattle.text_spec.specs.Refusals.{accepted, resultOr}
 
 abbrev pub Text : Type 0

@@ -1,10 +1,10 @@
 use mathlib.Core.Path.{sym}
 use Prim.Native.Nat.{ℕ}
-use lib.ListN.{length-replicate}
-use Rattle.listing.specs.Prints.{lent-room, taken}
 use borrow.Author.Needs.{needs}
+use lib.ListN.{length-replicate}
 use Rattle.listing.proofs.print_listing.Statement.{statement}
 use Rattle.listing.proofs.print_listing.Tie as tie
+use Rattle.listing.specs.Prints.{lent-room, taken}
 
 -- from a listing that is not refused back to the call that makes it
 abbrev made : tie.Else1 → tie.After-list-files

@@ -1,8 +1,8 @@
 use native.Mathlib.Omega.{arith}
-use Rattle.listing.specs.Prints.{refusal-fits, taken}
 use borrow.Author.Needs.{needs}
 use Rattle.listing.proofs.print_refusal.Statement.{statement}
 use Rattle.listing.proofs.print_refusal.Tie as tie
+use Rattle.listing.specs.Prints.{refusal-fits, taken}
 
 array-share-prefix-line : tie.Need-array-share-prefix-line
 array-share-prefix-line c =

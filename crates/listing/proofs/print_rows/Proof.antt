@@ -1,11 +1,11 @@
 use mathlib.Core.Path.{_≡_}
 use Prim.Native.Nat.{_-_}
-use lib.ListN.{length}
-use Rattle.listing.specs.Prints.{header-fits, new-long, same-long, row-pass, row-fits, taken}
-use borrow.Author.Needs.{needs}
 use native.Mathlib.Omega.{arith}
+use borrow.Author.Needs.{needs}
+use lib.ListN.{length}
 use Rattle.listing.proofs.print_rows.Statement.{statement}
 use Rattle.listing.proofs.print_rows.Tie as tie
+use Rattle.listing.specs.Prints.{header-fits, new-long, same-long, row-pass, row-fits, taken}
 
 abbrev Inv-loop : tie.InvT-loop
 Inv-loop schema numbers codes parents firsts line₀ size rows names sizes r₀ line r = length line ≡ 2200

@@ -1,11 +1,11 @@
 -- `list_files` meets its contract: the two texts, the journal, its rows.
 use mathlib.Core.Path.{sym, _∙_}
-use lib.Seq.{take-at}
-use Rattle.listing_files.specs.contents.FileLaws.{texts-refused-lists, journal-refused-lists, rows-rooms, firsts-room, rows-asked, rows-list, taken-size}
-use borrow.Author.Needs.{needs}
 use native.Mathlib.Omega.{arith}
+use borrow.Author.Needs.{needs}
+use lib.Seq.{take-at}
 use Rattle.listing_files.proofs.list_files.Statement.{statement}
 use Rattle.listing_files.proofs.list_files.Tie as tie
+use Rattle.listing_files.specs.contents.FileLaws.{texts-refused-lists, journal-refused-lists, rows-rooms, firsts-room, rows-asked, rows-list, taken-size}
 
 -- the states that answers go back to
 abbrev start-before : tie.After-judge-texts → tie.Start

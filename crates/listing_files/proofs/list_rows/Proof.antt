@@ -1,10 +1,10 @@
 -- `list_rows` meets its contract: the needed names, the rows kept, the first paths, the names.
 use mathlib.Core.Path.{refl, sym, _∙_}
-use Rattle.listing_files.specs.contents.Files.{names-all}
-use Rattle.compiled_schema.specs.Places.{compiled-few}
 use borrow.Author.Needs.{needs}
+use Rattle.compiled_schema.specs.Places.{compiled-few}
 use Rattle.listing_files.proofs.list_rows.Statement.{statement}
 use Rattle.listing_files.proofs.list_rows.Tie as tie
+use Rattle.listing_files.specs.contents.Files.{names-all}
 
 -- the states that answers go back to
 abbrev start-before : tie.After-names → tie.Start

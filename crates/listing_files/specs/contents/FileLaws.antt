@@ -8,20 +8,28 @@ use borrow.Author.Tests.{eq-eqb, ne-eqb, le-ltb}
 use lib.Dec.{T, eqb}
 use lib.ListN.{length, take, length-map}
 use lib.Seq.{length-take-le}
+use Rattle.cells.specs.declared.verdicts.Verdict.{Verdict}
+use Rattle.cells.specs.row_sets.Columns.{picked}
+use Rattle.chains.specs.laws.Names.{compiled-names}
+use Rattle.chains.specs.laws.Nodes.{node-chain}
+use Rattle.chains.specs.tags.Chains.{chainAt, chainSize, NamesAt, chain-length}
 use Rattle.compiled_paths.specs.Paths.{pathsIn}
 use Rattle.extract_spec.specs.Cut.{cut}
-use Rattle.selection.specs.first_paths.Firsts.{FirstPaths}
 use Rattle.hosts.specs.columns.Rows.{firstOf, Rooms, RowsRead, rows-read, text-refused, first-columns, rooms}
+use Rattle.hosts.specs.declared.texts.Texts.{Texts}
 use Rattle.hosts.specs.laws.Stages.{bundle-accepted}
 use Rattle.hosts.specs.texts.Texts.{TextsJudged, told-accepted, told-refused}
-use Rattle.hosts.specs.declared.texts.Texts.{Texts}
+use Rattle.inference.specs.relations.Compiled.{compiled-needed}
 use Rattle.inference_spec.specs.Needed.{needed}
 use Rattle.journal.specs.compiled.Compiled.{CompiledRead}
 use Rattle.journal_laws.specs.Accepted.{accepted-well-formed}
 use Rattle.journal_spec.specs.Reading.{readJournal}
 use Rattle.kept_rows.specs.Joined.{rank}
 use Rattle.kept_rows.specs.Kept.{inSet, keptMarks, KeptColumns}
-use Rattle.table_laws.specs.Columns.{codes-map, parentsOf, numbersOf, codesOf, tested-columns}
+use Rattle.kept_rows.specs.laws.Codes.{kept-columns}
+use Rattle.kept_rows.specs.laws.Cut.{columnsIn, renumberedBy, cut-picked, marks-size}
+use Rattle.kept_rows.specs.laws.Known.{rows-coded, set-passes}
+use Rattle.kept_rows.specs.laws.Picked.{picked-length}
 use Rattle.library_spec.specs.Calls.{inColumns}
 use Rattle.library_spec.specs.Chains.{chain}
 use Rattle.library_spec.specs.Hosts.{bundlePaths}
@@ -32,22 +40,18 @@ use Rattle.listing_files.specs.laws.Files.{texts-refused, journal-refuse
 use Rattle.listing_files.specs.laws.Rows.{rowLines, listed-by-rows}
 use Rattle.listing_files.specs.laws.Sizes.{chain-short}
 use Rattle.listing_text.specs.lines.Lines.{refusal, rowLine}
-use Rattle.cells.specs.row_sets.Columns.{picked}
 use Rattle.path_spec.specs.Paths.{LocationPath}
-use Rattle.chains.specs.laws.Names.{compiled-names}
-use Rattle.chains.specs.laws.Nodes.{node-chain}
-use Rattle.chains.specs.tags.Chains.{chainAt, chainSize, NamesAt, chain-length}
-use Rattle.inference.specs.relations.Compiled.{compiled-needed}
 use Rattle.schema_spec.specs.Names.{codeOf}
 use Rattle.schema_spec.specs.Reading.{readSchema}
 use Rattle.schema_spec.specs.Records.{schemaIn}
 use Rattle.schema_spec.specs.Schemas.{Schema}
 use Rattle.schema_spec.specs.Types.{typesOf}
+use Rattle.selection.specs.first_paths.Firsts.{FirstPaths}
 use Rattle.table_laws.specs.Codes.{NamesCoded}
-use Rattle.kept_rows.specs.laws.Cut.{columnsIn, renumberedBy, cut-picked, marks-size}
-use Rattle.kept_rows.specs.laws.Picked.{picked-length}
+use Rattle.table_laws.specs.Columns.{codes-map, parentsOf, numbersOf, codesOf, tested-columns}
 use Rattle.table_laws.specs.Parents.{NodeAt, nodes-placed}
 use Rattle.table_laws.specs.Places.{at-some}
+use Rattle.table_laws.specs.WellFormed.{well-formed-alone}
 use Rattle.table_spec.specs.Columns.{Columns, sizesOf}
 use Rattle.table_spec.specs.Nodes.{Node, nodesOf}
 use Rattle.table_spec.specs.Rows.{Row}
@@ -56,10 +60,6 @@ use Rattle.text_spec.specs.Calls.{inRoom}
 use Rattle.text_spec.specs.Limits.{listingJournalBytes, listingRows}
 use Rattle.text_spec.specs.Refusals.{Outcome, accepted, andThen}
 use Rattle.text_spec.specs.Scans.{nameAt}
-use Rattle.cells.specs.declared.verdicts.Verdict.{Verdict}
-use Rattle.table_laws.specs.WellFormed.{well-formed-alone}
-use Rattle.kept_rows.specs.laws.Codes.{kept-columns}
-use Rattle.kept_rows.specs.laws.Known.{rows-coded, set-passes}
 
 -- what a test that fails gives
 by-failure : {A : Type 0} (b : Bool) (x y : A) → b ≡ false → y ≡ cond b x y

@@ -5,11 +5,12 @@ use mathlib.Core.Path.{_≡_, ap, _∙_}
 use Prim.Native.Nat.{ℕ, _≤_, _<_}
 use lib.Dec.{eqb}
 use lib.ListN.{length, take, replicate}
+use Rattle.cells.specs.columns.Columns.{EqualColumns}
+use Rattle.chains.specs.tags.Chains.{chainAt, chainSize, NamesAt, SizePass}
 use Rattle.compiled_paths.specs.Paths.{pathsIn, Shaped}
 use Rattle.compiled_paths.specs.declared.CompiledPaths.{CompiledPaths}
 use Rattle.compiled_schema.specs.Compiled.{CompiledOf}
 use Rattle.compiled_schema.specs.declared.CompiledSchema.{CompiledSchema}
-use Rattle.selection.specs.first_paths.Firsts.{FirstPaths, selectedCount}
 use Rattle.kept_rows.specs.Joined.{rank}
 use Rattle.kept_rows.specs.Kept.{inSet, keptMarks, KeptColumns}
 use Rattle.library_spec.specs.Listing.{header, listing}
@@ -18,11 +19,10 @@ use Rattle.listing_files.specs.laws.Rows.{rowLines}
 use Rattle.listing_text.specs.lines.Lines.{refusal, rowLine}
 use Rattle.names.specs.declared.NameSet.{NameSet}
 use Rattle.needed_names.specs.sets.Needs.{NeededIn}
-use Rattle.chains.specs.tags.Chains.{chainAt, chainSize, NamesAt, SizePass}
-use Rattle.cells.specs.columns.Columns.{EqualColumns}
 use Rattle.schema.specs.Judging.{declaredAt}
 use Rattle.schema_spec.specs.Machine.{parse}
 use Rattle.schema_spec.specs.Records.{schemaIn}
+use Rattle.selection.specs.first_paths.Firsts.{FirstPaths, selectedCount}
 use Rattle.table_laws.specs.Columns.{TestedColumns}
 use Rattle.table_spec.specs.Columns.{Columns}
 use Rattle.text_laws.specs.Cells.{padded-length}

@@ -7,18 +7,18 @@ use native.Mathlib.Omega.{arith}
 use borrow.Author.Tests.{ne-eqb}
 use lib.Dec.{T, eqb}
 use lib.ListN.{length, getD}
-use Rattle.selection.specs.first_paths.Firsts.{firstMarked, columnsFor}
+use Rattle.axis_passes.specs.steps.Tests.{namesIn}
+use Rattle.cells.specs.row_sets.Columns.{isMarked}
 use Rattle.library_spec.specs.Listing.{isIn, firstSelecting}
 use Rattle.listing_files.specs.laws.Numbers.{numbers-rise, in-picked}
-use Rattle.cells.specs.row_sets.Columns.{isMarked}
-use Rattle.selection_laws.specs.marks.Selection.{pathMarks}
-use Rattle.table_laws.specs.Columns.{parentsOf, numbersOf, codesOf}
 use Rattle.path_spec.specs.Paths.{LocationPath}
 use Rattle.path_spec.specs.Selection.{select, selectRows}
 use Rattle.schema_spec.specs.Types.{Types}
+use Rattle.selection.specs.first_paths.Firsts.{firstMarked, columnsFor}
 use Rattle.selection.specs.laws.Selected.{marked-selected}
+use Rattle.selection_laws.specs.marks.Selection.{pathMarks}
 use Rattle.table_laws.specs.Codes.{NamesCoded}
-use Rattle.axis_passes.specs.steps.Tests.{namesIn}
+use Rattle.table_laws.specs.Columns.{parentsOf, numbersOf, codesOf}
 use Rattle.table_laws.specs.WellFormed.{table-means}
 use Rattle.table_spec.specs.Nodes.{nodesOf}
 use Rattle.table_spec.specs.Rows.{Row}

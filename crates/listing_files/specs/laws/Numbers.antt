@@ -7,10 +7,10 @@ use native.Mathlib.Omega.{arith}
 use borrow.Author.Tests.{eq-eqb, ne-eqb}
 use lib.Dec.{eqb}
 use lib.ListN.{length, getD}
-use Rattle.library_spec.specs.Listing.{isIn}
 use Rattle.cells.specs.row_sets.Columns.{isMarked, picked}
-use Rattle.table_laws.specs.Columns.{numbersOf}
+use Rattle.library_spec.specs.Listing.{isIn}
 use Rattle.schema_spec.specs.Types.{Types}
+use Rattle.table_laws.specs.Columns.{numbersOf}
 use Rattle.table_spec.specs.Conditions.{RowAt, WellFormed}
 use Rattle.table_spec.specs.Rows.{Row}
 

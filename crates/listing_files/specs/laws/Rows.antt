@@ -7,18 +7,18 @@ use Prim.Native.Nat.{ℕ, zero, suc, _+_, _<_}
 use native.Mathlib.Omega.{arith}
 use lib.Dec.{T, eqb}
 use lib.ListN.{length, getD, getElem?, length-map}
-use Rattle.selection.specs.first_paths.Firsts.{firstMarked, columnsFor, FirstPaths, selectedCount}
+use Rattle.chains.specs.laws.Nodes.{cell-of}
 use Rattle.library_spec.specs.Chains.{chain}
 use Rattle.library_spec.specs.Listing.{ListingData, isIn, firstSelecting, listingLine, header, headerOf, listed}
 use Rattle.listing_files.specs.laws.Firsts.{some-selects, first-selects}
 use Rattle.listing_text.specs.lines.Lines.{lineOf, rowLine}
-use Rattle.table_laws.specs.Columns.{parentsOf, numbersOf, codesOf}
 use Rattle.path_spec.specs.Paths.{LocationPath}
 use Rattle.path_spec.specs.Selection.{select}
-use Rattle.chains.specs.laws.Nodes.{cell-of}
 use Rattle.schema_spec.specs.Schemas.{Schema}
 use Rattle.schema_spec.specs.Types.{Types}
+use Rattle.selection.specs.first_paths.Firsts.{firstMarked, columnsFor, FirstPaths, selectedCount}
 use Rattle.table_laws.specs.Codes.{NamesCoded}
+use Rattle.table_laws.specs.Columns.{parentsOf, numbersOf, codesOf}
 use Rattle.table_laws.specs.Parents.{NodeAt, nodes-numbered}
 use Rattle.table_laws.specs.Places.{at-bound}
 use Rattle.table_spec.specs.Nodes.{Node, nodeNumber, nodesOf}

@@ -7,17 +7,17 @@ use Prim.Native.Nat.{ℕ, zero, suc, _*_, _≤_, _<_}
 use native.Mathlib.Omega.{arith}
 use lib.Dec.{T, leb, leb→le}
 use lib.ListN.{length, getD, getElem?, length-append, length-map}
-use Rattle.library_spec.specs.Chains.{tag, chain}
 use Rattle.cells.specs.row_sets.Ancestors.{by-parents}
-use Rattle.table_laws.specs.Columns.{parentsOf}
+use Rattle.chains.specs.laws.Nodes.{at-map, cell-of}
+use Rattle.library_spec.specs.Chains.{tag, chain}
 use Rattle.projection_laws.specs.Documents.{Valid}
 use Rattle.projection_laws.specs.Rows.{rows-valid}
-use Rattle.chains.specs.laws.Nodes.{at-map, cell-of}
 use Rattle.schema_laws.specs.Accepted.{accepted-name}
 use Rattle.schema_spec.specs.Names.{Name, element, text}
 use Rattle.schema_spec.specs.Reading.{readSchema}
 use Rattle.schema_spec.specs.Schemas.{Schema, Element, nameOr, nameAt}
 use Rattle.schema_spec.specs.Types.{typesOf, holds}
+use Rattle.table_laws.specs.Columns.{parentsOf}
 use Rattle.table_laws.specs.Parents.{NodeAt, ChildOf, child-of, Placed, nodes-placed, nodes-named}
 use Rattle.table_laws.specs.Places.{at-bound, at-some, at-in}
 use Rattle.table_laws.specs.WellFormed.{table-means}

@@ -7,8 +7,8 @@ use lib.ListN.{length, take, replicate, length-replicate}
 use lib.Seq.{length-take-le}
 use Rattle.compiled_paths.specs.Paths.{pathsIn, Shaped}
 use Rattle.compiled_paths.specs.declared.CompiledPaths.{CompiledPaths}
-use Rattle.selection.specs.first_paths.Firsts.{FirstsPass, FirstPaths}
 use Rattle.kept_rows.specs.Kept.{KeptColumns, KeptPass}
+use Rattle.selection.specs.first_paths.Firsts.{FirstsPass, FirstPaths}
 use Rattle.table_laws.specs.Columns.{TestedColumns}
 use Rattle.text_spec.specs.Limits.{listingRows}
 

@@ -2,10 +2,10 @@
 use mathlib.Core.List.{List, _++_, append-assoc}
 use mathlib.Core.Path.{_≡_, ap, subst, _∙_}
 use Prim.Native.Nat.{ℕ}
+use Rattle.cells.specs.written_text.Written.{WrittenAt, written-then}
 use Rattle.library_spec.specs.Listing.{decimal, lineFeed, header}
 use Rattle.listing_text.specs.parts.Parts.{NumberAt}
 use Rattle.text_spec.specs.Lists.{bytes}
-use Rattle.cells.specs.written_text.Written.{WrittenAt, written-then}
 
 -- the words and numbers of the line, joined
 module _ (a x b y c z d : List ℕ) where

@@ -7,8 +7,8 @@ use native.Mathlib.Omega.{arith}
 use borrow.Author.Tests.{eq-eqb, ne-eqb}
 use lib.Dec.{eqb}
 use lib.ListN.{length, getD}
-use Rattle.listing_text.specs.nodes.Nodes.{LinePass}
 use Rattle.cells.specs.written_text.Written.{WrittenAt}
+use Rattle.listing_text.specs.nodes.Nodes.{LinePass}
 pub use Rattle.listing_text.specs.nodes.Nodes.{lineOf}
 pub use Rattle.listing_text.specs.parts.Parts.{refusal, refusal-line}
 

@@ -4,11 +4,11 @@ use mathlib.Core.Path.{subst}
 use Prim.Native.Nat.{ℕ, _+_, _≤_}
 use native.Mathlib.Omega.{arith}
 use lib.ListN.{length}
+use Rattle.cells.specs.written_text.Written.{WrittenAt, written-then, written-length, decimal-short}
+use Rattle.chains.specs.tags.Chains.{chainAt, chainSize, NamesAt, SizePass, chain-length}
 use Rattle.library_spec.specs.Listing.{decimal, lineFeed}
 use Rattle.listing_text.specs.parts.Parts.{NumberAt, TagsPass}
-use Rattle.chains.specs.tags.Chains.{chainAt, chainSize, NamesAt, SizePass, chain-length}
 use Rattle.text_spec.specs.Lists.{bytes}
-use Rattle.cells.specs.written_text.Written.{WrittenAt, written-then, written-length, decimal-short}
 
 -- number, place in the bundle, chain
 abbrev pub lineOf : ℕ → ℕ → List ℕ → List ℕ

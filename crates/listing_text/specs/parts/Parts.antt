@@ -5,11 +5,11 @@ use Prim.Native.Nat.{ℕ, _+_, _-_, _≤_}
 use native.Mathlib.Omega.{arith}
 use lib.ListN.{length, take, drop, length-drop}
 use lib.Seq.{sets, sets-eq, take-all, drop-drop, drop-length, length-take-le}
-use Rattle.library_spec.specs.Listing.{decimal, lineFeed, refusedLine}
+use Rattle.cells.specs.written_text.Written.{WrittenAt, written-then, written-length, decimal-short}
 use Rattle.chains.specs.tags.Chains.{chainAt, chainSize, NamesAt, SizePass, ChainPass, Chained, chain-length}
+use Rattle.library_spec.specs.Listing.{decimal, lineFeed, refusedLine}
 use Rattle.text_spec.specs.Lists.{bytes}
 use Rattle.text_spec.specs.Refusals.{Refusal, numberOf}
-use Rattle.cells.specs.written_text.Written.{WrittenAt, written-then, written-length, decimal-short}
 
 -- ---- a word and a number behind it
 pub record NumberAt (was : List ℕ) (at : ℕ) (word : List ℕ) (n r : ℕ) (out : List ℕ) : Type 0 where

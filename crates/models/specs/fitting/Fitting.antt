@@ -9,20 +9,20 @@ use native.Mathlib.Omega.{arith}
 use borrow.Author.Tests.{lt-ltb}
 use lib.Dec.{T, eqb, ltb}
 use lib.ListN.{length, getD}
-use Rattle.models.specs.fitting.Marks.{marked, marked-cong, marked-none, nullable-marked, final-marked, after, Labelled, shift-marked, labels}
 use Rattle.models.specs.Automaton.{AutomatonOf}
 use Rattle.models.specs.Positions.{size, isFirst, isLast, isNext}
-use Rattle.models.specs.fitting.Steps.{positions, comesNext, Stepped, mayEnd}
 use Rattle.models.specs.declared.Ends.{Ends}
 use Rattle.models.specs.declared.fitting.State.{State}
 use Rattle.models.specs.declared.fitting.State.the-variants.{Start, Amid}
+use Rattle.models.specs.fitting.Marks.{marked, marked-cong, marked-none, nullable-marked, final-marked, after, Labelled, shift-marked, labels}
+use Rattle.models.specs.fitting.Steps.{positions, comesNext, Stepped, mayEnd}
 use Rattle.schema_laws.specs.Models.{fits-decides}
 use Rattle.schema_spec.specs.Models.{Particle, uses, Fits, Position, shift, nullable, Progress, amid, started, advance, complete, advanceAll, fits}
 use Rattle.schema_spec.specs.Names.{hasBit}
 use Rattle.text_laws.specs.Searches.{any-cong, any-none}
+use Rattle.text_laws.specs.Tests.{eqb-sym}
 use Rattle.text_spec.specs.Limits.{maxModelNames}
 use Rattle.text_spec.specs.Lists.{anyBelow}
-use Rattle.text_laws.specs.Tests.{eqb-sym}
 
 -- what a state stands for
 abbrev pub progressOf : Particle ℕ → State → Progress

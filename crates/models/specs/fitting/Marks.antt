@@ -13,8 +13,8 @@ use lib.Seq.{getD-append-add}
 use Rattle.models.specs.PositionLaws.{size-uses, not-first, not-next}
 use Rattle.models.specs.Positions.{size, mayBeAbsent, isFirst, isLast, isNext}
 use Rattle.schema_spec.specs.Models.{Particle, named, sequence, choice, repeated, uses, Position, position, unmarked, nullable, final, shift}
-use Rattle.text_laws.specs.Tests.{or-cases, and-cases, true-of, false-of}
 use Rattle.text_laws.specs.Searches.{any-cong, any-only, any-none, any-and, any-or}
+use Rattle.text_laws.specs.Tests.{or-cases, and-cases, true-of, false-of}
 use Rattle.text_spec.specs.Lists.{anyBelow}
 
 -- the particle with a mark on each position that is in a set

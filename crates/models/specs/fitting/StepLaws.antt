@@ -7,12 +7,12 @@ use native.Mathlib.Omega.{arith}
 use borrow.Author.Tests.{le-ltb}
 use lib.Dec.{eqb}
 use lib.ListN.{getD}
-use Rattle.models.specs.fitting.Steps.{goesTo, positions, comesNext, Stepped}
 use Rattle.models.specs.declared.Ends.{Ends}
 use Rattle.models.specs.declared.fitting.State.{State}
 use Rattle.models.specs.declared.fitting.State.the-variants.{Amid}
-use Rattle.schema_spec.specs.Names.{hasBit}
+use Rattle.models.specs.fitting.Steps.{goesTo, positions, comesNext, Stepped}
 use Rattle.names.specs.bits.Bits.{bit-none}
+use Rattle.schema_spec.specs.Names.{hasBit}
 use Rattle.text_laws.specs.Searches.{one-more}
 
 module _ (e : Ends) (elements predecessors : List ℕ) (state : State) (child : ℕ) where

@@ -9,8 +9,8 @@ use Rattle.models.specs.declared.Ends.{Ends}
 use Rattle.models.specs.declared.fitting.State.{State}
 use Rattle.models.specs.declared.fitting.State.the-variants.{Start, Amid}
 use Rattle.schema_spec.specs.Names.{hasBit}
-use Rattle.text_spec.specs.Lists.{anyBelow}
 use Rattle.text_spec.specs.Limits.{maxModelNames}
+use Rattle.text_spec.specs.Lists.{anyBelow}
 
 -- the positions that the last child may have
 abbrev pub inState : State → ℕ → Bool

@@ -7,9 +7,9 @@ use native.Mathlib.Omega.{arith}
 use borrow.Author.Tests.{le-ltb, ltb-false}
 use lib.Dec.{ltb, eqb}
 use lib.ListN.{length, getD, List·getD-eq-default}
-use Rattle.names.specs.closures.Relations.{relatedTo}
 use Rattle.names.specs.SetLaws.{nothing-in, overlap-some}
 use Rattle.names.specs.Sets.{member, overlap, nothing}
+use Rattle.names.specs.closures.Relations.{relatedTo}
 use Rattle.names.specs.declared.NameSet.{NameSet}
 use Rattle.schema_spec.specs.Names.{Name, element, text, sameName}
 use Rattle.text_laws.specs.Searches.{one-more}

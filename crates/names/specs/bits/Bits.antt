@@ -11,8 +11,8 @@ use lib.Bits.{bitAnd, bitOr, bitXor, and-lt, or-shr, or-mod, and-shr, and-mod, x
 use lib.Dec.{T, eqb, eqb→eq, eqb·zero-suc, eqb·suc-zero, eqb·suc-suc}
 use lib.Pow.{pow-pos, pow-lt, pow-mono, pow-add, shl-shr, shr-shr, shr-lt, field, mod-mod-pow}
 use Rattle.schema_spec.specs.Names.{hasBit}
-use Rattle.text_laws.specs.Tests.{passed, failed, false-of, not-intro, not-elim, decided, same-test}
 use Rattle.text_laws.specs.Searches.{any-below, below-any, any-cong}
+use Rattle.text_laws.specs.Tests.{passed, failed, false-of, not-intro, not-elim, decided, same-test}
 use Rattle.text_spec.specs.Lists.{anyBelow}
 
 -- what is left of a number after division by two

@@ -6,16 +6,16 @@ use mathlib.Core.Path.{_≡_, refl, sym, ap, ap₂, subst, _∙_}
 use Prim.Native.Nat.{ℕ, suc, _≤_, _<_}
 use native.Mathlib.Nat.{eq-or-lt-of-le, lt-suc-self}
 use native.Mathlib.Omega.{arith}
+use borrow.Author.Tests.{ltb-true, ltb-false}
 use lib.Dec.{T, ltb}
 use lib.ListN.{length, getD, List·getD-eq-default}
-use borrow.Author.Tests.{ltb-true, ltb-false}
-use Rattle.names.specs.closures.Relations.{relates, Reachable, one, more, throughElement}
-use Rattle.names.specs.Sets.{member, nothing}
 use Rattle.names.specs.SetLaws.{nothing-in}
+use Rattle.names.specs.Sets.{member, nothing}
+use Rattle.names.specs.closures.Relations.{relates, Reachable, one, more, throughElement}
 use Rattle.names.specs.declared.NameSet.{NameSet}
 use Rattle.schema_spec.specs.Names.{Name, element}
-use Rattle.text_laws.specs.Tests.{or-left, or-right, or-cases, and-intro, and-cases, false-of}
 use Rattle.text_laws.specs.Loops.{Passed}
+use Rattle.text_laws.specs.Tests.{or-left, or-right, or-cases, and-intro, and-cases, false-of}
 
 module _ (images : List NameSet) where
   wider : {n a : ℕ} {b : Name} → Reachable images n a b → Reachable images (suc n) a b

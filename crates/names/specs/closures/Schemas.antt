@@ -7,9 +7,9 @@ use Prim.Native.Nat.{ℕ, _≤_}
 use native.Mathlib.Omega.{arith}
 use lib.Dec.{T}
 use lib.ListN.{length, getD}
-use Rattle.names.specs.closures.Relations.{relates, Reachable, one, more, relatedFrom, relatedTo}
 use Rattle.names.specs.SetLaws.{in-setOf, setOf-in, overlap-some, element-overlap, text-overlap}
 use Rattle.names.specs.Sets.{member, setOf, overlap, nothing}
+use Rattle.names.specs.closures.Relations.{relates, Reachable, one, more, relatedFrom, relatedTo}
 use Rattle.names.specs.declared.NameSet.{NameSet}
 use Rattle.schema_laws.specs.Closure.{Closed, holds-model, text-holds-none, holder-in, held-in, isBelow-below, below-isBelow, below-names}
 use Rattle.schema_laws.specs.Names.{in-element, in-text}
@@ -17,10 +17,10 @@ use Rattle.schema_spec.specs.Names.{Name, element, text, namesOf}
 use Rattle.schema_spec.specs.Schemas.{Schema}
 use Rattle.schema_spec.specs.Types.{holds, Below, held, further, typesOf, isBelow}
 use Rattle.text_laws.specs.Lists.{any-in, in-any, filter-cong}
+use Rattle.text_laws.specs.Searches.{any-below, below-any}
 use Rattle.text_laws.specs.Tests.{and-intro, and-cases, false-of, same-test}
 use Rattle.text_spec.specs.Limits.{maxDeclarations}
 use Rattle.text_spec.specs.Lists.{anyOf, filterBy}
-use Rattle.text_laws.specs.Searches.{any-below, below-any}
 
 -- the images of the elements under a test between names
 abbrev pub RelationOf : (Name → Name → Bool) → List NameSet → Type 0

@@ -6,9 +6,9 @@ use Prim.Native.Nat.{ℕ, _+_, _-_, _<_, _≤_}
 use native.Mathlib.Omega.{arith}
 use borrow.Author.Tests.{ne-eqb, lt-ltb, le-ltb, ltb-true, ltb-false}
 use lib.Dec.{T, eqb, ltb, eqb→eq, eqb-refl}
-use Rattle.names.specs.codes.Codes.{nameOfCode}
 use Rattle.names.specs.SetLaws.{every-element, every-text}
 use Rattle.names.specs.Sets.{member, setOf, everyName}
+use Rattle.names.specs.codes.Codes.{nameOfCode}
 use Rattle.names.specs.declared.NameSet.{NameSet}
 use Rattle.schema_laws.specs.Lists.{Distinct, none-twice, next}
 use Rattle.schema_laws.specs.Names.{same-equal, same-name, names-distinct}

@@ -7,9 +7,9 @@ use native.Mathlib.Omega.{arith}
 use borrow.Author.Tests.{lt-ltb, le-ltb}
 use lib.Dec.{T, eqb, ltb, eqb-refl, ltb→lt, lt→ltb}
 use lib.ListN.{length}
+use Rattle.names.specs.Sets.{member}
 use Rattle.names.specs.closures.Relations.{relates}
 use Rattle.names.specs.closures.Schemas.{RelationOf}
-use Rattle.names.specs.Sets.{member}
 use Rattle.names.specs.declared.NameSet.{NameSet}
 use Rattle.schema_laws.specs.Names.{has-in, in-has, element-in, in-element, text-in, in-text}
 use Rattle.schema_spec.specs.Names.{Name, element, text, sameName, has, namesOf}

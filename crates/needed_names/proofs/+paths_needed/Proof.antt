@@ -1,21 +1,21 @@
 -- `needed_names::paths_needed` meets its contract; the paths that are left fall.
 use Prim.Native.Nat.{ℕ, _<_}
-use Rattle.inference.specs.back_steps.Laws.{empty-setIn}
-use Rattle.needed_names.specs.Bundles.{path-steps, later-paths, needed-none, needed-one-and-rest}
-use borrow.Author.Needs.{needs}
 use native.Mathlib.Omega.{arith}
+use borrow.Author.Needs.{needs}
 use borrow.Fn.Kinds.{In}
 use borrow.Fn.PlainCycle.{Measures, is, falls, and}
-use Rattle.needed_names.proofs.paths_needed.Reads as paths-needed
-use Rattle.needed_names.proofs.paths_needed.Kinds as paths-needed-kinds
-use Rattle.needed_names.proofs.+paths_needed.Lts-paths_needed as paths-needed-lts
-use Rattle.names.proofs.NameSet.empty.Reads as empty-reads
-use Rattle.compiled_paths.proofs.ranges.byte_start.Reads as byte-start-reads
 use Rattle.compiled_paths.proofs.ranges.byte_size.Reads as byte-size-reads
-use Rattle.needed_names.proofs.paths.path_needed.Reads as path-needed-reads
+use Rattle.compiled_paths.proofs.ranges.byte_start.Reads as byte-start-reads
 use Rattle.inference.proofs.back_steps.together.Reads as together-reads
+use Rattle.inference.specs.back_steps.Laws.{empty-setIn}
+use Rattle.names.proofs.NameSet.empty.Reads as empty-reads
 use Rattle.needed_names.proofs.+paths_needed.{statement}
+use Rattle.needed_names.proofs.+paths_needed.Lts-paths_needed as paths-needed-lts
 use Rattle.needed_names.proofs.+paths_needed.Tie.{close}
+use Rattle.needed_names.proofs.paths.path_needed.Reads as path-needed-reads
+use Rattle.needed_names.proofs.paths_needed.Kinds as paths-needed-kinds
+use Rattle.needed_names.proofs.paths_needed.Reads as paths-needed
+use Rattle.needed_names.specs.Bundles.{path-steps, later-paths, needed-none, needed-one-and-rest}
 
 abbrev μ-paths-needed : Measures 4 paths-needed-kinds.ps ℕ
 μ-paths-needed κs a = a .1 .1 .1 .1 .1 .1 .1 .1 .0

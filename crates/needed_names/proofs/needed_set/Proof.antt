@@ -1,16 +1,16 @@
 -- `needed_names::needed_set` meets its contract.
-use denote.Ref.{now}
 use mathlib.Core.Path.{_≡_, _∙_}
 use Prim.Native.Nat.{_+_}
 use borrow.Author.Needs.{needs}
 use lib.ListN.{length}
+use denote.Ref.{now}
 use Rattle.compiled_paths.specs.Paths.{pathsIn}
 use Rattle.compiled_paths.specs.Sizes.{writtenSteps, allSteps}
-use Rattle.needed_names.specs.Words.{shaped-paths}
-use Rattle.text_spec.specs.Limits.{maxPaths}
 use Rattle.names.specs.SetLaws.{common-known, common-setIn}
 use Rattle.needed_names.proofs.needed_set.Statement.{statement}
 use Rattle.needed_names.proofs.needed_set.Tie as tie
+use Rattle.needed_names.specs.Words.{shaped-paths}
+use Rattle.text_spec.specs.Limits.{maxPaths}
 
 -- the states that answers go back to
 abbrev all-before : tie.After-paths-needed-arg4 → tie.After-names-of

@@ -3,18 +3,18 @@ use mathlib.Core.Bool.{Bool, not}
 use mathlib.Core.List.{List, [], _∷_, List·Memᴰ}
 use mathlib.Core.Path.{_≡_}
 use Prim.Native.Nat.{ℕ}
+use Rattle.inference.specs.declared.type_steps.Inferred.{Inferred}
+use Rattle.inference.specs.type_steps.Relations.{envIn}
+use Rattle.inference_spec.specs.Needed.{keepsAll, wantsNothing, need}
+use Rattle.inference_spec.specs.Types.{Env, env, cutTo, inferAll}
+use Rattle.names.specs.Sets.{setIn}
 use Rattle.names.specs.codes.Codes.{nameOfCode}
 use Rattle.names.specs.declared.NameSet.{NameSet}
 use Rattle.path_spec.specs.Paths.{PlainStep, expand}
-use Rattle.inference_spec.specs.Needed.{keepsAll, wantsNothing, need}
-use Rattle.inference_spec.specs.Types.{Env, env, cutTo, inferAll}
 use Rattle.schema_spec.specs.Names.{Names, namesOf}
 use Rattle.schema_spec.specs.Schemas.{Schema}
 use Rattle.schema_spec.specs.Types.{typesOf}
 use Rattle.text_spec.specs.Lists.{anyOf, gather, isEmpty}
-use Rattle.inference.specs.type_steps.Relations.{envIn}
-use Rattle.names.specs.Sets.{setIn}
-use Rattle.inference.specs.declared.type_steps.Inferred.{Inferred}
 
 -- one name, in the context k cut to it and above it
 abbrev pub FromName : Schema → NameSet → ℕ → Inferred → Type 0

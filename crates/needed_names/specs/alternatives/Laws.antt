@@ -7,14 +7,14 @@ use native.Mathlib.Omega.{arith}
 use lib.Dec.{T}
 use lib.ListN.{length}
 use Rattle.compiled_paths.specs.Columns.{firstSize, first-size-fits, first-size-some, plainIn, alternativesIn, alternatives-next}
+use Rattle.inference.specs.plain_steps.Columns.{HasSteps}
+use Rattle.inference_spec.specs.Needed.{keepsAll, wantsNothing, need}
+use Rattle.inference_spec.specs.Types.{Env}
 use Rattle.names.specs.SetLaws.{setOf-in, in-setOf, schema-every, every-element, every-text, overlap-some, element-overlap, text-overlap}
 use Rattle.names.specs.Sets.{member, overlap, setIn, NamesOf}
 use Rattle.names.specs.declared.NameSet.{NameSet}
 use Rattle.needed_names.specs.alternatives.Alternatives.{endsSome, anyEndsSome, needOfAll}
 use Rattle.path_spec.specs.Paths.{PlainStep, expand}
-use Rattle.inference.specs.plain_steps.Columns.{HasSteps}
-use Rattle.inference_spec.specs.Needed.{keepsAll, wantsNothing, need}
-use Rattle.inference_spec.specs.Types.{Env}
 use Rattle.schema_laws.specs.Names.{has-in, in-has}
 use Rattle.schema_spec.specs.Names.{Name, Names, element, text, namesOf, within}
 use Rattle.schema_spec.specs.Schemas.{Schema}

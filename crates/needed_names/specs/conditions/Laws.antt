@@ -8,23 +8,23 @@ use native.Mathlib.Omega.{arith}
 use borrow.Author.Tests.{lt-ltb, le-ltb}
 use lib.Dec.{T, eqb, ltb, eqb→eq, eqb-refl, ltb→lt, lt→ltb}
 use lib.ListN.{length}
-use Rattle.inference.specs.back_steps.Laws.{setIn-within}
 use Rattle.compiled_paths.specs.Columns.{alternativesIn, conditionIn, condition-none, condition-some}
-use Rattle.names.specs.codes.Codes.{nameOfCode}
-use Rattle.names.specs.codes.Laws.{code-below, same-name-code, name-of-its-code}
-use Rattle.needed_names.specs.conditions.Conditions.{keepsIn, wantsIn}
+use Rattle.inference.specs.back_steps.Laws.{setIn-within}
 use Rattle.names.specs.SetLaws.{setOf-in, in-setOf, schema-every}
 use Rattle.names.specs.Sets.{member, setOf, everyName, setIn, Known}
+use Rattle.names.specs.codes.Codes.{nameOfCode}
+use Rattle.names.specs.codes.Laws.{code-below, same-name-code, name-of-its-code}
 use Rattle.names.specs.declared.NameSet.{NameSet}
+use Rattle.needed_names.specs.conditions.Conditions.{keepsIn, wantsIn}
 use Rattle.path_spec.specs.Paths.{Condition, unconditional, alternatives}
 use Rattle.schema_laws.specs.Names.{same-name, has-in, in-has}
 use Rattle.schema_spec.specs.Names.{Name, Names, sameName, codeOf, has, within, namesOf}
 use Rattle.schema_spec.specs.Schemas.{Schema}
 use Rattle.text_laws.specs.Lists.{any-in, in-any, filter-cong, filter-filter, in-gather, gather-in}
-use Rattle.text_laws.specs.Tests.{passed, false-of, or-left, or-right, or-cases, and-intro, and-cases, decided, same-test}
-use Rattle.text_spec.specs.Lists.{anyOf, filterBy, gather}
-use Rattle.text_spec.specs.Limits.{maxDeclarations}
 use Rattle.text_laws.specs.Searches.{one-more}
+use Rattle.text_laws.specs.Tests.{passed, false-of, or-left, or-right, or-cases, and-intro, and-cases, decided, same-test}
+use Rattle.text_spec.specs.Limits.{maxDeclarations}
+use Rattle.text_spec.specs.Lists.{anyOf, filterBy, gather}
 
 -- ---- a condition in columns
 module _ (axes tests : List ℕ) (s : Schema) (n i : ℕ) where

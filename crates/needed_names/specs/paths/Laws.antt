@@ -4,23 +4,23 @@ use mathlib.Core.Path.{_≡_, sym, ap, ap₂, subst, _∙_}
 use Prim.Native.Nat.{ℕ, suc, _+_, _-_}
 use native.Mathlib.Omega.{arith}
 use lib.ListN.{getD}
+use Rattle.compiled_paths.specs.Columns.{axisOf, axisNumber, startAt, sizeAt, conditionIn, stepsIn, steps-next}
 use Rattle.inference.specs.back_steps.Laws.{needs-step}
 use Rattle.inference.specs.back_steps.Needs.{StepNeeds, NeedsOf}
 use Rattle.inference.specs.declared.back_steps.Needs.{Needs}
-use Rattle.compiled_paths.specs.Columns.{axisOf, axisNumber, startAt, sizeAt, conditionIn, stepsIn, steps-next}
+use Rattle.inference.specs.plain_steps.Columns.{HasSteps}
+use Rattle.inference_spec.specs.Needed.{keepsName, wantsNames}
+use Rattle.inference_spec.specs.Types.{Env, cutTo, move, narrow, infer}
+use Rattle.names.specs.Sets.{setIn}
 use Rattle.names.specs.declared.NameSet.{NameSet}
 use Rattle.needed_names.specs.conditions.Conditions.{keepsIn}
 use Rattle.needed_names.specs.paths.Columns.{analysedAt, conditionAt, HasWrittenSteps}
 use Rattle.path_spec.specs.Paths.{Step, WrittenStep, Condition, unconditional, expandFrom}
 use Rattle.path_spec.specs.Selection.{passes}
-use Rattle.inference.specs.plain_steps.Columns.{HasSteps}
-use Rattle.inference_spec.specs.Needed.{keepsName, wantsNames}
-use Rattle.inference_spec.specs.Types.{Env, cutTo, move, narrow, infer}
 use Rattle.schema_spec.specs.Names.{Names, namesOf, within}
 use Rattle.schema_spec.specs.Schemas.{Schema}
 use Rattle.schema_spec.specs.Types.{typesOf}
 use Rattle.text_spec.specs.Lists.{gather}
-use Rattle.names.specs.Sets.{setIn}
 
 module _ (axes tests conditions : List ℕ) where
   pub condition-steps : (k n first size : ℕ) → HasWrittenSteps axes tests conditions k n → first ≡ startAt conditions k → size ≡ sizeAt conditions k → HasSteps axes tests first size

@@ -3,21 +3,21 @@ use mathlib.Core.Bool.{Bool, true, false, _&&_, _||_, and-true}
 use mathlib.Core.List.{List, [], _∷_}
 use mathlib.Core.Path.{_≡_, refl, sym, ap, ap₂, subst, _∙_}
 use Prim.Native.Nat.{ℕ, _<_, _≤_}
-use lib.ListN.{List·getD-eq-default}
 use native.Mathlib.Omega.{arith}
 use borrow.Author.Tests.{lt-ltb, ltb-true, ltb-false}
 use lib.Dec.{T, ltb}
+use lib.ListN.{List·getD-eq-default}
 use lib.ListN.{length, getD}
-use Rattle.names.specs.closures.Relations.{relates}
-use Rattle.names.specs.codes.Laws.{single-list}
+use Rattle.inference.specs.type_steps.Relations.{RelationsOf}
 use Rattle.names.specs.SetLaws.{nothing-in}
 use Rattle.names.specs.Sets.{member, nothing, setIn}
+use Rattle.names.specs.closures.Relations.{relates}
+use Rattle.names.specs.codes.Laws.{single-list}
 use Rattle.names.specs.declared.NameSet.{NameSet}
 use Rattle.needed_names.specs.reachable_names.Reached.{HeldInside}
 use Rattle.schema_laws.specs.Names.{same-equal, same-name, element-in}
 use Rattle.schema_spec.specs.Names.{Name, element, sameName}
 use Rattle.schema_spec.specs.Schemas.{Schema}
-use Rattle.inference.specs.type_steps.Relations.{RelationsOf}
 use Rattle.text_laws.specs.Loops.{Passed}
 use Rattle.text_laws.specs.Tests.{same-test}
 

@@ -7,12 +7,12 @@ use Prim.Native.Nat.{ℕ, _≤_}
 use native.Mathlib.Omega.{arith}
 use lib.Dec.{T}
 use lib.ListN.{length}
-use Rattle.names.specs.closures.Relations.{relates, Reachable, one, more}
-use Rattle.names.specs.SetLaws.{setOf-in, in-setOf}
-use Rattle.names.specs.Sets.{member, setOf, setIn}
-use Rattle.names.specs.declared.NameSet.{NameSet}
 use Rattle.inference.specs.back_steps.Laws.{within-member}
 use Rattle.inference_spec.specs.Needed.{fromRoot}
+use Rattle.names.specs.SetLaws.{setOf-in, in-setOf}
+use Rattle.names.specs.Sets.{member, setOf, setIn}
+use Rattle.names.specs.closures.Relations.{relates, Reachable, one, more}
+use Rattle.names.specs.declared.NameSet.{NameSet}
 use Rattle.schema_laws.specs.Closure as chains
 use Rattle.schema_laws.specs.Closure.{Closed, Chain, chain-from, closure-chain, chain-closure, text-holds-none, holder-in, held-in}
 use Rattle.schema_laws.specs.Names.{within-in, in-element}

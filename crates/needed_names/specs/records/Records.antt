@@ -7,16 +7,16 @@ use Prim.Native.Nat.{ℕ}
 use lib.Dec.{T, leb}
 use lib.ListN.{take}
 use Rattle.bundle.specs.reader.Records.{passesBundleRecord}
+use Rattle.compiled_schema.specs.records.Records.{recordWith}
+use Rattle.inference_spec.specs.Needed.{neededWord}
+use Rattle.library_spec.specs.Calls.{neededNames}
+use Rattle.library_spec.specs.Records.{schemaHeld, bundleHeld, passesSchema, passesBundle}
 use Rattle.needed_names.specs.declared.records.Needed.{Needed}
 use Rattle.needed_names.specs.declared.records.Needed.the-variants.{Names, BadRecord}
 use Rattle.needed_names.specs.texts.Texts.{NeededBy}
 use Rattle.path_spec.specs.Reading.{readBundle}
-use Rattle.inference_spec.specs.Needed.{neededWord}
-use Rattle.library_spec.specs.Calls.{neededNames}
-use Rattle.library_spec.specs.Records.{schemaHeld, bundleHeld, passesSchema, passesBundle}
 use Rattle.schema_laws.specs.Records.{record-accepted}
 use Rattle.schema_reader.specs.Records.{passesRecord}
-use Rattle.compiled_schema.specs.records.Records.{recordWith}
 use Rattle.schema_spec.specs.Records.{schemaIn, isSchemaRecord}
 use Rattle.schema_spec.specs.Schemas.{Schema}
 use Rattle.schema_spec.specs.Types.{typesOf}

@@ -6,15 +6,15 @@ use Rattle.bundle.specs.Judging.{JudgedUnder}
 use Rattle.bundle.specs.declared.Judged.{Judged}
 use Rattle.compiled_paths.specs.Paths.{pathsIn}
 use Rattle.compiled_schema.specs.Compiled.{CompiledOf}
+use Rattle.compiled_schema.specs.Places.{namesAt}
 use Rattle.compiled_schema.specs.declared.CompiledSchema.{CompiledSchema}
-use Rattle.path_spec.specs.Reading.{readBundle}
+use Rattle.inference.specs.relations.Compiled.{compiled-needed-word}
 use Rattle.inference_spec.specs.Needed.{needed, neededWord}
 use Rattle.names.specs.Sets.{setOf, everyName}
 use Rattle.names.specs.declared.NameSet.{NameSet}
 use Rattle.needed_names.specs.Words.{word-of-known}
 use Rattle.needed_names.specs.sets.Needs.{NeededIn}
-use Rattle.compiled_schema.specs.Places.{namesAt}
-use Rattle.inference.specs.relations.Compiled.{compiled-needed-word}
+use Rattle.path_spec.specs.Reading.{readBundle}
 use Rattle.schema_spec.specs.Names.{wordOfSet}
 use Rattle.schema_spec.specs.Reading.{readSchema}
 use Rattle.schema_spec.specs.Records.{schemaIn}

@@ -1,6 +1,6 @@
 -- Parts read from left to right, the last first, make the lists of the grammar: alternatives, conditions, paths, bundles.
-use mathlib.Core.List.{List, [], _∷_, _++_, reverse, reverseAux, append-assoc, append-nil}
 use mathlib.Core.Bool.{false}
+use mathlib.Core.List.{List, [], _∷_, _++_, reverse, reverseAux, append-assoc, append-nil}
 use mathlib.Core.Path.{_≡_, refl, subst}
 use Prim.Native.Nat.{ℕ, suc, _+_}
 use native.Mathlib.Nat.{add-zero}

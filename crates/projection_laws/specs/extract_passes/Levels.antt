@@ -8,8 +8,8 @@ use Prim.Native.Nat.{ℕ, suc, _≤_}
 use native.Mathlib.Omega.{arith}
 use lib.Dec.{T, eqb}
 use lib.ListN.{length, getElem?}
-use Rattle.projection_laws.specs.Opens.{Opens, open-root, open-element, open-text}
 use Rattle.extract_spec.specs.Reading.{Placed, openFrom}
+use Rattle.projection_laws.specs.Opens.{Opens, open-root, open-element, open-text}
 use Rattle.schema_spec.specs.Names.{element}
 use Rattle.schema_spec.specs.Types.{Types}
 use Rattle.table_laws.specs.Nodes.{nodes-same}

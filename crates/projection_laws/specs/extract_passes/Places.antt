@@ -10,9 +10,9 @@ use borrow.Author.Tests.{le-leb, lt-leb, eq-eqb, ne-eqb}
 use lib.Dec.{eqb, leb}
 use lib.ListN.{length, getD, take, drop, length-take, length-drop}
 use lib.Seq.{drop-cons, drop-drop}
-use Rattle.projection_laws.specs.extract_passes.Steps.{State, Step, wrong, ended, onward, continued, laterStep, rootStep, sizeAt, pastField, hasField, itemAt, isLast, stepAt, firstStep, rowsFrom, rowsIn, laterItems, tableItems}
 use Rattle.extract_spec.specs.Fields.{elementTag, textTag, countTag}
 use Rattle.extract_spec.specs.Reading.{Item, elementItem, textItem, countItem, noItem, inTwo, elementValue, textValue, countValue, itemOf, itemsFrom, itemsOf, consRow}
+use Rattle.projection_laws.specs.extract_passes.Steps.{State, Step, wrong, ended, onward, continued, laterStep, rootStep, sizeAt, pastField, hasField, itemAt, isLast, stepAt, firstStep, rowsFrom, rowsIn, laterItems, tableItems}
 use Rattle.schema_spec.specs.Types.{Types}
 use Rattle.table_spec.specs.Rows.{Row}
 use Rattle.text_laws.specs.Searches.{below-or-past}

@@ -5,12 +5,12 @@ use mathlib.Core.Option.{Option, none, some}
 use mathlib.Core.Path.{_≡_, refl, sym, ap, _∙_}
 use Prim.Native.Nat.{ℕ}
 use lib.Dec.{T, eqb}
+use Rattle.extract_spec.specs.Reading.{itemsOf, rowsOfItems, isTable, rowsOr, readExtract}
+use Rattle.library_spec.specs.Records.{keptIf}
 use Rattle.projection_laws.specs.extract_passes.Places.{rows-in, all-within}
 use Rattle.projection_laws.specs.extract_passes.Rows.{Apart}
 use Rattle.projection_laws.specs.extract_passes.Steps.{rowsIn}
 use Rattle.projection_laws.specs.extract_passes.Tables.{table-agrees}
-use Rattle.extract_spec.specs.Reading.{itemsOf, rowsOfItems, isTable, rowsOr, readExtract}
-use Rattle.library_spec.specs.Records.{keptIf}
 use Rattle.schema_spec.specs.Models.{Content, empty, pcdata, children, usesIn}
 use Rattle.schema_spec.specs.Names.{element, text}
 use Rattle.schema_spec.specs.Schemas.{Schema, contentAt, isPcdata}

@@ -8,11 +8,11 @@ use Prim.Native.Nat.{ℕ, suc, _+_, _<_, _≤_}
 use native.Mathlib.Omega.{arith}
 use lib.Dec.{T, eqb, leb, ltb, leb→le, le→leb, ltb→lt, eqb-refl}
 use lib.ListN.{length, getElem?, drop, length-append, length-take, length-drop}
-use Rattle.projection_laws.specs.extract_passes.Levels.{FoundLevel, levels-depth, found-few, HeldLevels, next-level, found-first-or-holds, found-held}
-use Rattle.projection_laws.specs.extract_passes.Steps.{State, state, numberFits, elementFits, textFits}
+use Rattle.extract_spec.specs.Reading.{Placed, openFrom}
 use Rattle.projection_laws.specs.Items.{opensAfter}
 use Rattle.projection_laws.specs.Opens.{placed, Opens, open-root, open-element, open-text, opens-grow, opens-first, above-lower}
-use Rattle.extract_spec.specs.Reading.{Placed, openFrom}
+use Rattle.projection_laws.specs.extract_passes.Levels.{FoundLevel, levels-depth, found-few, HeldLevels, next-level, found-first-or-holds, found-held}
+use Rattle.projection_laws.specs.extract_passes.Steps.{State, state, numberFits, elementFits, textFits}
 use Rattle.schema_spec.specs.Names.{Name, element, text, isText}
 use Rattle.schema_spec.specs.Types.{Types}
 use Rattle.table_laws.specs.Nodes.{nodes-equal, nodes-same}

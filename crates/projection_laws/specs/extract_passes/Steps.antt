@@ -6,8 +6,8 @@ use mathlib.Core.Option.{Option, none, some}
 use Prim.Native.Nat.{ℕ, zero, suc, _+_, _-_}
 use lib.Dec.{eqb, leb, ltb}
 use lib.ListN.{length, getD}
-use Rattle.projection_laws.specs.Opens.{placed}
 use Rattle.extract_spec.specs.Reading.{Item, elementItem, textItem, countItem, noItem, inTwo, itemOf, Placed, openFrom, consRow, topRow, topElement}
+use Rattle.projection_laws.specs.Opens.{placed}
 use Rattle.schema_spec.specs.Names.{element, text, sameName}
 use Rattle.schema_spec.specs.Types.{Types}
 use Rattle.table_spec.specs.Rows.{Row, elementRow, textRow}

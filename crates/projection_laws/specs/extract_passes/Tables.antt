@@ -7,13 +7,13 @@ use Prim.Native.Nat.{ℕ, suc}
 use native.Mathlib.Nat.{le-of-eq}
 use native.Mathlib.Omega.{arith}
 use lib.Dec.{T, eqb}
+use Rattle.extract_spec.specs.Reading.{Item, elementItem, textItem, countItem, noItem, Placed, openFrom, consRow, topRow, topElement, rowsOfLaterItems, rowsOfItems}
+use Rattle.library_spec.specs.Records.{keptIf}
+use Rattle.projection_laws.specs.Opens.{placed, open-root}
 use Rattle.projection_laws.specs.extract_passes.Levels.{found-level, root-level}
 use Rattle.projection_laws.specs.extract_passes.Places.{Within, AllWithin, none-within, next-within}
 use Rattle.projection_laws.specs.extract_passes.Rows.{Apart, Reached, node-under, element-test, text-test, reached-element, reached-text}
 use Rattle.projection_laws.specs.extract_passes.Steps.{State, state, wrong, ended, onward, elementFits, textFits, laterStep, rootStep, continued, laterItems, tableItems}
-use Rattle.projection_laws.specs.Opens.{placed, open-root}
-use Rattle.extract_spec.specs.Reading.{Item, elementItem, textItem, countItem, noItem, Placed, openFrom, consRow, topRow, topElement, rowsOfLaterItems, rowsOfItems}
-use Rattle.library_spec.specs.Records.{keptIf}
 use Rattle.schema_spec.specs.Names.{element, text, sameName}
 use Rattle.schema_spec.specs.Types.{Types}
 use Rattle.table_spec.specs.Nodes.{Node, top, under, nodeNumber, nodeAt}

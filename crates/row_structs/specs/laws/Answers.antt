@@ -8,8 +8,10 @@ use borrow.Author.Tests.{le-ltb, ltb-true, ltb-false, eq-eqb}
 use lib.Dec.{ltb}
 use lib.ListN.{length, getD, take, drop, replicate, length-map, length-replicate, List·getD-eq-default}
 use lib.Seq.{length-take-le}
-use Rattle.library_spec.specs.Calls.{rowsAfter, columnsAfter, structsAfter, inColumns}
 use Rattle.cells.specs.columns.ColumnLaws.{same-columns}
+use Rattle.cells.specs.declared.verdicts.Verdict.{Verdict}
+use Rattle.cells.specs.verdicts.Verdicts.{refusedBy, verdict}
+use Rattle.library_spec.specs.Calls.{rowsAfter, columnsAfter, structsAfter, inColumns}
 use Rattle.row_structs.specs.Structs.{emptyCells, columnsIn, cellOf, AnsweredFor}
 use Rattle.row_structs.specs.declared.RowColumns.{RowColumns}
 use Rattle.schema_spec.specs.Names.{codeOf}
@@ -20,8 +22,6 @@ use Rattle.text_spec.specs.Calls.{inRoom}
 use Rattle.text_spec.specs.Cells.{padded}
 use Rattle.text_spec.specs.Limits.{maxNodes}
 use Rattle.text_spec.specs.Refusals.{Outcome, refused, at, badRecord}
-use Rattle.cells.specs.verdicts.Verdicts.{refusedBy, verdict}
-use Rattle.cells.specs.declared.verdicts.Verdict.{Verdict}
 
 -- ---- definitions
 -- the rows of an outcome

@@ -7,25 +7,25 @@ use native.Mathlib.Omega.{arith}
 use borrow.Author.Tests.{ltb-true, ltb-false, ne-eqb}
 use lib.Dec.{ltb}
 use lib.ListN.{length}
+use Rattle.models.specs.declared.Content.{Content as Contents}
+use Rattle.models.specs.declared.Content.the-variants.{Empty, Pcdata, Children}
+use Rattle.schema_spec.specs.Declarations.{Use}
+use Rattle.schema_spec.specs.Machine.{fresh, Head, State, dead, beforeContent, inEmpty, afterOpen, inPcdata, afterPcdata, afterContent, expecting, past, beginning, step, schemaMachine, from}
+use Rattle.schema_spec.specs.Models.{Particle, Content, empty, pcdata, children, usesIn}
 use Rattle.schema.specs.contents.Contents.{PassesAs, ReadsPcdata, ContentBuilt, built-empty, built-pcdata, built-children, ContentAs, ReadsContent, ended, namelessOf}
 use Rattle.schema.specs.declared.contents.ContentEnd.{ContentEnd}
 use Rattle.schema.specs.declared.contents.ContentOutcome.{ContentOutcome}
 use Rattle.schema.specs.declared.contents.ContentOutcome.the-variants.{Past as ContentPast, Fail as ContentFail}
-use Rattle.models.specs.declared.Content.{Content as Contents}
-use Rattle.models.specs.declared.Content.the-variants.{Empty, Pcdata, Children}
-use Rattle.schema.specs.particles.Automata.{Built}
-use Rattle.schema.specs.particles.ReadingLaws.{noted-none, noted-as, reading-from, reading-to, part-read, indicated-reading}
-use Rattle.schema.specs.particles.Readings.{Fails, AroundAt, ReadsGroup, at-closed, PartIndicated}
 use Rattle.schema.specs.declared.particles.Part.{Part}
 use Rattle.schema.specs.declared.particles.PartOutcome.{PartOutcome}
 use Rattle.schema.specs.declared.particles.PartOutcome.the-variants.{Past as PartPast, Fail as PartFail}
-use Rattle.text.specs.scanning.OutcomeLaws.{skipped-same, spelt-end, spelt-past, spelt-fail}
-use Rattle.text.specs.scanning.Outcomes.{Skipped, Spelt}
+use Rattle.schema.specs.particles.Automata.{Built}
+use Rattle.schema.specs.particles.ReadingLaws.{noted-none, noted-as, reading-from, reading-to, part-read, indicated-reading}
+use Rattle.schema.specs.particles.Readings.{Fails, AroundAt, ReadsGroup, at-closed, PartIndicated}
 use Rattle.text.specs.declared.scanning.Read.{Read}
 use Rattle.text.specs.declared.scanning.Read.the-variants.{Past, Fail}
-use Rattle.schema_spec.specs.Declarations.{Use}
-use Rattle.schema_spec.specs.Machine.{fresh, Head, State, dead, beforeContent, inEmpty, afterOpen, inPcdata, afterPcdata, afterContent, expecting, past, beginning, step, schemaMachine, from}
-use Rattle.schema_spec.specs.Models.{Particle, Content, empty, pcdata, children, usesIn}
+use Rattle.text.specs.scanning.OutcomeLaws.{skipped-same, spelt-end, spelt-past, spelt-fail}
+use Rattle.text.specs.scanning.Outcomes.{Skipped, Spelt}
 use Rattle.text_laws.specs.Scans.{step-at, dead-at, same-at, at-end, Keyword}
 use Rattle.text_laws.specs.Tests.{cond-yes, cond-no}
 use Rattle.text_spec.specs.Bytes.{isBlank}

@@ -6,6 +6,8 @@ use Prim.Native.Nat.{ℕ, _+_, _≤_, _<_}
 use native.Mathlib.Omega.{arith}
 use borrow.Author.Tests.{ne-eqb}
 use lib.ListN.{length}
+use Rattle.schema_spec.specs.Declarations.{Declaration}
+use Rattle.schema_spec.specs.Machine.{Opening, Head, State, dead, between, inKeyword, afterKeyword, beforeName, inName, beforeContent, headed, step, schemaMachine, from}
 use Rattle.schema.specs.contents.Contents.{PassesAs, Passes, ReadsContent, ended}
 use Rattle.schema.specs.declarations.Declarations.{ReadsKeyword, ReadsDeclaredName, RestAs, DeclaredRest, DeclarationAs, Declared}
 use Rattle.schema.specs.declared.contents.ContentEnd.{ContentEnd}
@@ -15,12 +17,10 @@ use Rattle.schema.specs.declared.declarations.DeclarationOutcome.{Declar
 use Rattle.schema.specs.declared.declarations.DeclarationOutcome.the-variants.{Past as DeclPast, Fail as DeclFail}
 use Rattle.schema.specs.particles.ReadingLaws.{noted-wider, noted-low}
 use Rattle.schema.specs.particles.Readings.{useAt, Fails}
-use Rattle.text.specs.scanning.OutcomeLaws.{spaced-end, spaced-past, spaced-fail, spelt-end, spelt-past, spelt-fail, named-end, named-past, named-fail}
-use Rattle.text.specs.scanning.Outcomes.{NoBlank, Spaced, Spelt, Named}
 use Rattle.text.specs.declared.scanning.Read.{Read}
 use Rattle.text.specs.declared.scanning.Read.the-variants.{Past, Fail}
-use Rattle.schema_spec.specs.Declarations.{Declaration}
-use Rattle.schema_spec.specs.Machine.{Opening, Head, State, dead, between, inKeyword, afterKeyword, beforeName, inName, beforeContent, headed, step, schemaMachine, from}
+use Rattle.text.specs.scanning.OutcomeLaws.{spaced-end, spaced-past, spaced-fail, spelt-end, spelt-past, spelt-fail, named-end, named-past, named-fail}
+use Rattle.text.specs.scanning.Outcomes.{NoBlank, Spaced, Spelt, Named}
 use Rattle.text_laws.specs.Scans.{step-at, dead-at, at-end, Spacing, Keyword, Naming}
 use Rattle.text_laws.specs.Tests.{cond-yes, cond-no}
 use Rattle.text_spec.specs.Bytes.{isBlank, startsName, continuesName}

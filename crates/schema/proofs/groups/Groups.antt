@@ -9,19 +9,19 @@ use lib.Dec.{eqb, ltb}
 use lib.ListN.{length}
 use lib.Seq.{length-sets}
 use Rattle.models.specs.declared.Ends.{Ends}
-use Rattle.schema.specs.particles.Automata.{Built, PartedBy, parted-none, parted-bar, parted-comma, frameUses, FrameBuilt, built-fresh, built-holding, Joined}
-use Rattle.schema.specs.particles.ReadingLaws.{noted-none, noted-more, noted-wider, noted-as, noted-length, noted-low, reading-from, part-read, indicated-reading}
-use Rattle.schema.specs.particles.Readings.{Noted, Reading, Fails, PartAs, Inside, outside, Around, AroundAt, InsideAt, particleDue, particlePast, groupDue, ReadsParticle, ReadsName, ReadsGroup, at-closed, PartIndicated, separatorOf, Followed, FollowedAs}
+use Rattle.schema_spec.specs.Declarations.{Use}
+use Rattle.schema_spec.specs.Machine.{Frame, fresh, holding, join, dead, expecting, inUse, step, schemaMachine, from}
+use Rattle.schema_spec.specs.Models.{Particle, uses}
 use Rattle.schema.specs.declared.particles.Follow.{Follow}
 use Rattle.schema.specs.declared.particles.Follow.the-variants.{Close, More, Fail as FollowFail}
 use Rattle.schema.specs.declared.particles.Part.{Part}
 use Rattle.schema.specs.declared.particles.PartOutcome.{PartOutcome}
 use Rattle.schema.specs.declared.particles.PartOutcome.the-variants.{Past as PartPast, Fail as PartFail}
+use Rattle.schema.specs.particles.Automata.{Built, PartedBy, parted-none, parted-bar, parted-comma, frameUses, FrameBuilt, built-fresh, built-holding, Joined}
+use Rattle.schema.specs.particles.ReadingLaws.{noted-none, noted-more, noted-wider, noted-as, noted-length, noted-low, reading-from, part-read, indicated-reading}
+use Rattle.schema.specs.particles.Readings.{Noted, Reading, Fails, PartAs, Inside, outside, Around, AroundAt, InsideAt, particleDue, particlePast, groupDue, ReadsParticle, ReadsName, ReadsGroup, at-closed, PartIndicated, separatorOf, Followed, FollowedAs}
 use Rattle.text.specs.scanning.OutcomeLaws.{skipped-same}
 use Rattle.text.specs.scanning.Outcomes.{Skipped}
-use Rattle.schema_spec.specs.Declarations.{Use}
-use Rattle.schema_spec.specs.Machine.{Frame, fresh, holding, join, dead, expecting, inUse, step, schemaMachine, from}
-use Rattle.schema_spec.specs.Models.{Particle, uses}
 use Rattle.text_laws.specs.Scans.{step-at, dead-at, at-end}
 use Rattle.text_laws.specs.Tests.{cond-yes, cond-no}
 use Rattle.text_spec.specs.Bytes.{isBlank, startsName}

@@ -6,10 +6,10 @@ use Prim.Native.Nat.{ℕ, _+_, _≤_, _<_}
 use borrow.Author.Tests.{ne-eqb}
 use lib.Dec.{eqb}
 use lib.ListN.{length, List·getD-eq-default}
-use Rattle.schema.specs.particles.Readings.{Around, Ended, at-name, at-closed, isIndicator, indicatorOf, indicatorAt}
 use Rattle.schema_spec.specs.Declarations.{Use, Indicator, once, optional, any, oneOrMore, indicated}
 use Rattle.schema_spec.specs.Machine.{State, past, following, indicating, step, schemaMachine, atEnd, from}
 use Rattle.schema_spec.specs.Models.{Particle}
+use Rattle.schema.specs.particles.Readings.{Around, Ended, at-name, at-closed, isIndicator, indicatorOf, indicatorAt}
 use Rattle.text_laws.specs.Scans.{step-at, same-at, at-end}
 use Rattle.text_laws.specs.Tests.{never, or-false, cond-no}
 use Rattle.text_spec.specs.Scans.{byteAt}

@@ -10,24 +10,24 @@ use borrow.Author.Tests.{ltb-true, ltb-false, leb-true, leb-false, lt-ltb, le-lt
 use lib.Dec.{leb, ltb}
 use lib.ListN.{length, drop, take, getD, set, length-append, length-set, length-reverse, drop-of-length-le}
 use lib.Seq.{sets, sets-eq, length-sets, take-suc-set, take-at, drop-at, drop-cons, drop-nil, length-take-le, getD-set-same, getD-set-other, drop-set-lt, drop-drop}
-use Rattle.schema.specs.declaration_limits.Limits.{overLimit}
-use Rattle.schema.specs.declarations.DeclarationLaws.{between-skipped}
-use Rattle.schema.specs.declarations.Declarations.{DeclarationRead, Declared}
-use Rattle.schema.specs.particles.ReadingLaws.{between-low, between-from, between-to, between-join}
-use Rattle.schema.specs.particles.Readings.{useAt, Between}
-use Rattle.text.specs.scanning.Outcomes.{Skipped}
-use Rattle.text_laws.specs.Scans.{at-end}
-use Rattle.text_laws.specs.Tests.{cond-yes as yes, cond-no as no}
-use Rattle.schema.specs.places.PlaceLaws.{places-back, between-least, head-least}
-use Rattle.schema.specs.places.Whole.{WithinLimits, Limits, within, passed, UpTo, AllSpelt}
-use Rattle.schema.specs.declared.declarations.DeclarationEnd.{DeclarationEnd}
-use Rattle.schema.specs.declared.declarations.DeclarationOutcome.{DeclarationOutcome}
-use Rattle.schema.specs.declared.declarations.DeclarationOutcome.the-variants.{Past as DeclPast, Fail as DeclFail}
+use Rattle.schema_laws.specs.Lists.{in-nothing as none-in}
 use Rattle.schema_spec.specs.Declarations.{Use, Declaration}
 use Rattle.schema_spec.specs.Machine.{between, schemaMachine, atEnd, from, parse}
 use Rattle.schema_spec.specs.Reading.{limitPlaces, usesOf}
-use Rattle.schema_laws.specs.Lists.{in-nothing as none-in}
+use Rattle.schema.specs.declaration_limits.Limits.{overLimit}
+use Rattle.schema.specs.declarations.DeclarationLaws.{between-skipped}
+use Rattle.schema.specs.declarations.Declarations.{DeclarationRead, Declared}
+use Rattle.schema.specs.declared.declarations.DeclarationEnd.{DeclarationEnd}
+use Rattle.schema.specs.declared.declarations.DeclarationOutcome.{DeclarationOutcome}
+use Rattle.schema.specs.declared.declarations.DeclarationOutcome.the-variants.{Past as DeclPast, Fail as DeclFail}
+use Rattle.schema.specs.particles.ReadingLaws.{between-low, between-from, between-to, between-join}
+use Rattle.schema.specs.particles.Readings.{useAt, Between}
+use Rattle.schema.specs.places.PlaceLaws.{places-back, between-least, head-least}
+use Rattle.schema.specs.places.Whole.{WithinLimits, Limits, within, passed, UpTo, AllSpelt}
+use Rattle.text.specs.scanning.Outcomes.{Skipped}
 use Rattle.text_laws.specs.Lists.{memberless}
+use Rattle.text_laws.specs.Scans.{at-end}
+use Rattle.text_laws.specs.Tests.{cond-yes as yes, cond-no as no}
 use Rattle.text_spec.specs.Limits.{maxDeclarations, maxModelNames}
 use Rattle.text_spec.specs.Lists.{gather}
 use Rattle.text_spec.specs.Machines.{spells, departs}

@@ -3,18 +3,18 @@ use mathlib.Core.List.{List, _∷_}
 use mathlib.Core.Path.{_≡_}
 use Prim.Native.Nat.{ℕ, _≤_, _<_}
 use lib.ListN.{length}
-use Rattle.schema.specs.declared.contents.ContentOutcome.{ContentOutcome}
-use Rattle.schema.specs.declared.contents.ContentOutcome.the-variants.{Past as ContentPast, Fail as ContentFail}
 use Rattle.models.specs.declared.Content.{Content as Contents}
 use Rattle.models.specs.declared.Content.the-variants.{Empty, Pcdata, Children}
 use Rattle.models.specs.declared.Ends.{Ends}
+use Rattle.schema_spec.specs.Declarations.{Use}
+use Rattle.schema_spec.specs.Machine.{Head, State, between, inPcdata, afterContent, declared, from}
+use Rattle.schema_spec.specs.Models.{Particle, Content, empty, pcdata, children, usesIn}
+use Rattle.schema.specs.declared.contents.ContentOutcome.{ContentOutcome}
+use Rattle.schema.specs.declared.contents.ContentOutcome.the-variants.{Past as ContentPast, Fail as ContentFail}
 use Rattle.schema.specs.particles.Automata.{Built}
 use Rattle.schema.specs.particles.Readings.{Reading, Fails}
 use Rattle.text.specs.declared.scanning.Read.{Read}
 use Rattle.text.specs.declared.scanning.Read.the-variants.{Past, Fail}
-use Rattle.schema_spec.specs.Declarations.{Use}
-use Rattle.schema_spec.specs.Machine.{Head, State, between, inPcdata, afterContent, declared, from}
-use Rattle.schema_spec.specs.Models.{Particle, Content, empty, pcdata, children, usesIn}
 use Rattle.text_spec.specs.Lists.{bytes}
 
 -- A part without names, from the state before it to the state after it; of the place past it `End` is known.

@@ -3,12 +3,12 @@ use mathlib.Core.Bool.{true}
 use mathlib.Core.List.{List, [], _∷_, map}
 use mathlib.Core.Path.{_≡_, refl, ap, ap₂}
 use Prim.Native.Nat.{ℕ}
-use Rattle.schema.specs.particles.Readings.{useAt}
-use Rattle.text.specs.scanning.OutcomeLaws.{skipped-same}
-use Rattle.text.specs.scanning.Outcomes.{Skipped}
 use Rattle.schema_spec.specs.Declarations.{Use, Declaration}
 use Rattle.schema_spec.specs.Machine.{between, step, schemaMachine, from}
 use Rattle.schema_spec.specs.Schemas.{declaredNames}
+use Rattle.schema.specs.particles.Readings.{useAt}
+use Rattle.text.specs.scanning.OutcomeLaws.{skipped-same}
+use Rattle.text.specs.scanning.Outcomes.{Skipped}
 use Rattle.text_laws.specs.Tests.{never, cond-yes}
 use Rattle.text_spec.specs.Bytes.{isBlank}
 use Rattle.text_spec.specs.Scans.{nameAt}

@@ -3,16 +3,16 @@ use mathlib.Core.List.{List, _∷_}
 use mathlib.Core.Path.{_≡_}
 use Prim.Native.Nat.{ℕ, _≤_, _<_}
 use lib.ListN.{length}
+use Rattle.schema_spec.specs.Declarations.{Use, Declaration}
+use Rattle.schema_spec.specs.Machine.{between, beforeName, beforeContent, from}
+use Rattle.schema_spec.specs.Models.{Content, usesIn}
 use Rattle.schema.specs.contents.Contents.{Passes, ContentBuilt, ended}
 use Rattle.schema.specs.declared.declarations.DeclarationEnd.{DeclarationEnd}
 use Rattle.schema.specs.declared.declarations.DeclarationOutcome.{DeclarationOutcome}
 use Rattle.schema.specs.declared.declarations.DeclarationOutcome.the-variants.{Past, Fail}
 use Rattle.schema.specs.particles.Readings.{useAt, Noted, Reading, Fails}
-use Rattle.text.specs.scanning.Outcomes.{NoBlank}
 use Rattle.text.specs.declared.scanning.Read.{Read}
-use Rattle.schema_spec.specs.Declarations.{Use, Declaration}
-use Rattle.schema_spec.specs.Machine.{between, beforeName, beforeContent, from}
-use Rattle.schema_spec.specs.Models.{Content, usesIn}
+use Rattle.text.specs.scanning.Outcomes.{NoBlank}
 
 -- `<!ELEMENT` and its blanks
 abbrev pub ReadsKeyword : List ℕ → ℕ → Read → Type 0

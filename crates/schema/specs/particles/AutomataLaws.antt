@@ -6,7 +6,6 @@ use Prim.Native.Nat.{ℕ, _+_, _≤_, _<_}
 use native.Mathlib.Nat.{add-zero}
 use native.Mathlib.Omega.{arith}
 use lib.ListN.{length, length-append}
-use Rattle.schema.specs.particles.Automata.{Built, Repeated, PartedBy, parted-none, parted-bar, parted-comma, frameUses, FrameBuilt, built-fresh, built-holding, Joined}
 use Rattle.models.specs.Building.{EndsOf, LinksAdded}
 use Rattle.models.specs.Placing.{Clear, Placed, placed-name, placed-choice, placed-sequence, placed-once, placed-repeated}
 use Rattle.models.specs.Positions.{size}
@@ -14,6 +13,7 @@ use Rattle.models.specs.declared.Ends.{Ends}
 use Rattle.schema_spec.specs.Declarations.{Use, once, optional, any, oneOrMore}
 use Rattle.schema_spec.specs.Machine.{Frame, join}
 use Rattle.schema_spec.specs.Models.{Particle, named, sequence, choice, repeated, uses, renameIn}
+use Rattle.schema.specs.particles.Automata.{Built, Repeated, PartedBy, parted-none, parted-bar, parted-comma, frameUses, FrameBuilt, built-fresh, built-holding, Joined}
 
 size-renamed : (f : Use → ℕ) (p : Particle Use) → size (renameIn f p) ≡ length (uses p)
 size-renamed f (named u) = refl

@@ -9,20 +9,20 @@ use lib.Dec.{eqb}
 use lib.ListN.{length, set}
 use Rattle.models.specs.Building.{EndsOf}
 use Rattle.models.specs.declared.Ends.{Ends}
-use Rattle.schema.specs.particles.AutomataLaws.{built-name}
-use Rattle.schema.specs.particles.Automata.{Built, PartedBy, parted-none, parted-bar, parted-comma}
-use Rattle.schema.specs.particles.ReadingLaws.{indicated-reading}
-use Rattle.schema.specs.particles.Readings.{useAt, Reading, Fails, Around, Inside, outside, particleDue, particlePast, ReadsName, at-name, PartIndicated, mayPart, parted, FollowedAs}
-use Rattle.schema.specs.declared.particles.Follow.the-variants.{Close, More, Fail as FollowFail}
-use Rattle.schema.specs.declared.particles.Part.{Part}
-use Rattle.schema.specs.declared.particles.PartOutcome.the-variants.{Past as PartPast}
-use Rattle.text.specs.scanning.OutcomeLaws.{skipped-same, named-end, named-past, named-fail}
-use Rattle.text.specs.scanning.Outcomes.{Skipped, Named}
-use Rattle.text.specs.declared.scanning.Read.{Read}
-use Rattle.text.specs.declared.scanning.Read.the-variants.{Past, Fail}
 use Rattle.schema_spec.specs.Declarations.{Use, byBar, byComma}
 use Rattle.schema_spec.specs.Machine.{Frame, fresh, holding, join, State, dead, inUse, closed, step, schemaMachine, from}
 use Rattle.schema_spec.specs.Models.{Particle, named, uses}
+use Rattle.schema.specs.declared.particles.Follow.the-variants.{Close, More, Fail as FollowFail}
+use Rattle.schema.specs.declared.particles.Part.{Part}
+use Rattle.schema.specs.declared.particles.PartOutcome.the-variants.{Past as PartPast}
+use Rattle.schema.specs.particles.Automata.{Built, PartedBy, parted-none, parted-bar, parted-comma}
+use Rattle.schema.specs.particles.AutomataLaws.{built-name}
+use Rattle.schema.specs.particles.ReadingLaws.{indicated-reading}
+use Rattle.schema.specs.particles.Readings.{useAt, Reading, Fails, Around, Inside, outside, particleDue, particlePast, ReadsName, at-name, PartIndicated, mayPart, parted, FollowedAs}
+use Rattle.text.specs.declared.scanning.Read.{Read}
+use Rattle.text.specs.declared.scanning.Read.the-variants.{Past, Fail}
+use Rattle.text.specs.scanning.OutcomeLaws.{skipped-same, named-end, named-past, named-fail}
+use Rattle.text.specs.scanning.Outcomes.{Skipped, Named}
 use Rattle.text_laws.specs.Bytes.{starts-no-blank}
 use Rattle.text_laws.specs.Scans.{step-at, dead-at, at-end, Naming}
 use Rattle.text_laws.specs.Tests.{or-false, cond-yes, cond-no}

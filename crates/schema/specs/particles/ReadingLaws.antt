@@ -6,13 +6,13 @@ use native.Mathlib.Nat.{add-zero}
 use native.Mathlib.Omega.{arith}
 use lib.ListN.{length, length-append, length-map}
 use lib.Seq.{sets}
-use Rattle.schema.specs.particles.Automata.{Built}
-use Rattle.schema.specs.particles.Readings.{useAt, Between, Noted, Reading, PartAs, ReadsPart, Around, Ended, indicatorAt, PartIndicated}
-use Rattle.schema.specs.declared.particles.Part.{Part}
-use Rattle.schema.specs.declared.particles.PartOutcome.{PartOutcome}
 use Rattle.schema_spec.specs.Declarations.{Use, Indicator, once, optional, any, oneOrMore, indicated}
 use Rattle.schema_spec.specs.Machine.{State, past, from}
 use Rattle.schema_spec.specs.Models.{Particle, uses}
+use Rattle.schema.specs.declared.particles.Part.{Part}
+use Rattle.schema.specs.declared.particles.PartOutcome.{PartOutcome}
+use Rattle.schema.specs.particles.Automata.{Built}
+use Rattle.schema.specs.particles.Readings.{useAt, Between, Noted, Reading, PartAs, ReadsPart, Around, Ended, indicatorAt, PartIndicated}
 use Rattle.text_laws.specs.Cells.{sets-append}
 
 -- ---- places in rising order

@@ -7,15 +7,15 @@ use Prim.Native.Nat.{ℕ, suc, _+_, _-_, _≤_, _<_}
 use lib.Dec.{eqb}
 use lib.ListN.{length}
 use lib.Seq.{sets}
-use Rattle.schema.specs.particles.Automata.{Built, Repeated, PartedBy}
+use Rattle.schema_spec.specs.Declarations.{Use, Indicator, once, optional, any, oneOrMore, indicated, Separator, byBar, byComma}
+use Rattle.schema_spec.specs.Machine.{Frame, fresh, holding, join, Head, State, expecting, inUse, closed, past, from}
+use Rattle.schema_spec.specs.Models.{Particle, named, uses}
 use Rattle.schema.specs.declared.particles.Follow.{Follow}
 use Rattle.schema.specs.declared.particles.Follow.the-variants.{Close, More, Fail as FollowFail}
 use Rattle.schema.specs.declared.particles.Part.{Part}
 use Rattle.schema.specs.declared.particles.PartOutcome.{PartOutcome}
 use Rattle.schema.specs.declared.particles.PartOutcome.the-variants.{Past, Fail}
-use Rattle.schema_spec.specs.Declarations.{Use, Indicator, once, optional, any, oneOrMore, indicated, Separator, byBar, byComma}
-use Rattle.schema_spec.specs.Machine.{Frame, fresh, holding, join, Head, State, expecting, inUse, closed, past, from}
-use Rattle.schema_spec.specs.Models.{Particle, named, uses}
+use Rattle.schema.specs.particles.Automata.{Built, Repeated, PartedBy}
 use Rattle.text_spec.specs.Bytes.{continuesName}
 use Rattle.text_spec.specs.Machines.{departs}
 use Rattle.text_spec.specs.Scans.{byteAt, Stops, nameAt}

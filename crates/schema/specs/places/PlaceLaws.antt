@@ -3,9 +3,9 @@ use mathlib.Core.List.{List, [], _∷_, map, List·Memᴰ as In, List·Memᴰ·h
 use mathlib.Core.Path.{_≡_, refl, ap}
 use Prim.Native.Nat.{ℕ, suc, _≤_, _<_}
 use native.Mathlib.Omega.{arith}
+use Rattle.schema_spec.specs.Declarations.{Use}
 use Rattle.schema.specs.particles.ReadingLaws.{between-low}
 use Rattle.schema.specs.particles.Readings.{useAt, Between}
-use Rattle.schema_spec.specs.Declarations.{Use}
 
 pub places-back : (s ps : List ℕ) → map (λ (u : Use). u .place) (map (useAt s) ps) ≡ ps
 places-back s [] = refl

@@ -4,14 +4,14 @@ use mathlib.Core.List.{List, [], map, reverse, List·Memᴰ as In}
 use mathlib.Core.Path.{_≡_}
 use Prim.Native.Nat.{ℕ, _+_, _*_, _≤_, _<_}
 use lib.ListN.{length, take, drop}
-use Rattle.schema.specs.particles.Readings.{useAt, Between}
-use Rattle.text.specs.scanning.Outcomes.{NoBlank}
-use Rattle.schema.specs.declared.places.All.{All}
-use Rattle.schema.specs.declared.places.All.the-variants.{Past, Fail}
-use Rattle.schema.specs.declared.places.Counts.{Counts}
 use Rattle.schema_spec.specs.Declarations.{Declaration}
 use Rattle.schema_spec.specs.Machine.{between, from, parse}
 use Rattle.schema_spec.specs.Reading.{limitPlaces, usesOf}
+use Rattle.schema.specs.declared.places.All.{All}
+use Rattle.schema.specs.declared.places.All.the-variants.{Past, Fail}
+use Rattle.schema.specs.declared.places.Counts.{Counts}
+use Rattle.schema.specs.particles.Readings.{useAt, Between}
+use Rattle.text.specs.scanning.Outcomes.{NoBlank}
 use Rattle.text_spec.specs.Limits.{maxDeclarations, maxModelNames}
 use Rattle.text_spec.specs.Lists.{gather}
 use Rattle.text_spec.specs.Machines.{spells, departs}

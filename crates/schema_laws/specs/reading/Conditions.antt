@@ -6,13 +6,13 @@ use mathlib.Core.Path.{_≡_, refl, sym, ap, subst, _∙_}
 use Prim.Native.Nat.{ℕ, suc}
 use lib.Dec.{T}
 use lib.ListN.{drop}
-use Rattle.text_laws.specs.Texts.{split-first, split-later, drop-split, split-drop, in-split, split-in}
 use Rattle.schema_spec.specs.Conditions.{OverLimit, declaration, modelName, Twice, twice, Undeclared, undeclared}
 use Rattle.schema_spec.specs.Declarations.{Use, Declaration}
 use Rattle.schema_spec.specs.Reading.{usesOf, limitPlaces, twicePlaces, undeclaredPlaces}
 use Rattle.schema_spec.specs.Schemas.{declaredNames}
 use Rattle.text_laws.specs.Lists.{any-in, in-any, in-filter, filter-in, in-gather, gather-in, in-map, map-in, bytes-equal, bytes-same}
 use Rattle.text_laws.specs.Tests.{not-intro, not-elim}
+use Rattle.text_laws.specs.Texts.{split-first, split-later, drop-split, split-drop, in-split, split-in}
 use Rattle.text_spec.specs.Limits.{maxDeclarations, maxModelNames}
 use Rattle.text_spec.specs.Lists.{anyOf, filterBy, gather, sameBytes}
 use Rattle.text_spec.specs.Texts.{SplitAt}

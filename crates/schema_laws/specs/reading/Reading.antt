@@ -6,16 +6,16 @@ use Prim.Native.Nat.{ℕ}
 use native.Mathlib.Omega.{arith}
 use Rattle.schema_laws.specs.reading.Complete.{schema-complete, schema-unique}
 use Rattle.schema_laws.specs.reading.Conditions.{limit-found, limit-listed, twice-found, twice-listed, undeclared-found, undeclared-listed}
-use Rattle.text_laws.specs.Order.{Found, Listed, judged-first, judged-once, found-append, found-all, listed-left, listed-right, listed-all}
 use Rattle.schema_laws.specs.reading.Places.{schema-departs, departs-schema}
 use Rattle.schema_laws.specs.reading.Sound.{schema-sound}
-use Rattle.text_laws.specs.Texts.{length-found, length-listed, bytes-found, bytes-listed}
 use Rattle.schema_spec.specs.Conditions.{SchemaApplies, length-2, byte-3, grammar-4, limit-5, twice-6, undeclared-7, SchemaGives, gives}
 use Rattle.schema_spec.specs.Declarations.{Declaration}
 use Rattle.schema_spec.specs.Grammar.{SchemaText}
 use Rattle.schema_spec.specs.Machine.{parse}
 use Rattle.schema_spec.specs.Reading.{limitPlaces, twicePlaces, undeclaredPlaces, parsedRefusals, parsedSchema, schemaRefusals, readSchema}
 use Rattle.schema_spec.specs.Schemas.{Schema, schemaOf}
+use Rattle.text_laws.specs.Order.{Found, Listed, judged-first, judged-once, found-append, found-all, listed-left, listed-right, listed-all}
+use Rattle.text_laws.specs.Texts.{length-found, length-listed, bytes-found, bytes-listed}
 use Rattle.text_spec.specs.Limits.{maxSchemaBytes}
 use Rattle.text_spec.specs.Machines.{Parsed, spells, departs}
 use Rattle.text_spec.specs.Refusals.{Reason, badSchema, overSchemaLimit, declaredTwice, undeclaredInModel, Refusal, allAt, Outcome, Judged}

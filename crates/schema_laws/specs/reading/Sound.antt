@@ -7,8 +7,8 @@ use native.Mathlib.Omega.{arith}
 use lib.Dec.{T}
 use lib.ListN.{length, length-append}
 use Rattle.schema_laws.specs.Machine.{schema-dead, ends-between}
-use Rattle.schema_laws.specs.reading.Steps.{skip-between, skip-name, skip-content, skip-open, skip-pcdata, skip-particle, in-element, in-empty, in-pcdata, Due, due-first, due-next, Ended, at-name, at-closed, Over, unmarked, at-past, Finished, at-model, at-content, Holds, holds-one, holds-bar, holds-comma, Marks, mark-optional, mark-any, mark-oneOrMore, Goes, idle, begin-declaration, spell, spelt, keyword-blank, begin-name, grow-name, name-blank, begin-empty, open-content, begin-pcdata, close-pcdata, begin-use, grow-use, open-group, mark, over-blank, over-part, over-close, finish-blank, finish, Transitions, stay, go}
 use Rattle.schema_laws.specs.reading.Runs.{live-path}
+use Rattle.schema_laws.specs.reading.Steps.{skip-between, skip-name, skip-content, skip-open, skip-pcdata, skip-particle, in-element, in-empty, in-pcdata, Due, due-first, due-next, Ended, at-name, at-closed, Over, unmarked, at-past, Finished, at-model, at-content, Holds, holds-one, holds-bar, holds-comma, Marks, mark-optional, mark-any, mark-oneOrMore, Goes, idle, begin-declaration, spell, spelt, keyword-blank, begin-name, grow-name, name-blank, begin-empty, open-content, begin-pcdata, close-pcdata, begin-use, grow-use, open-group, mark, over-blank, over-part, over-close, finish-blank, finish, Transitions, stay, go}
 use Rattle.schema_spec.specs.Declarations.{Use, Declaration, elementKeyword, pcdataKeyword, Indicator, once, optional, any, oneOrMore, spellIndicator, indicated, Separator, unparted}
 use Rattle.schema_spec.specs.Grammar.{Blanks, none, blank, space, Parts, Kind, particle, group, rest, Model, a-name, a-group, opened, close, more, ContentText, is-empty, is-pcdata, is-children, DeclarationText, declaration, DeclarationsText, end, next, SchemaText, schema-text}
 use Rattle.schema_spec.specs.Machine.{Frame, fresh, holding, Opening, Head, State, dead, between, inKeyword, afterKeyword, beforeName, inName, beforeContent, inEmpty, afterOpen, inPcdata, afterPcdata, expecting, inUse, closed, past, afterContent, declared, join, headed, schemaMachine, parse}

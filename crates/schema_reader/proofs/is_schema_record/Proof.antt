@@ -1,13 +1,13 @@
 -- `is_schema_record` meets its contract: the length, then the re-reading.
 use mathlib.Core.Path.{_≡_, sym}
-use Rattle.text_spec.specs.Limits.{maxSchemaBytes}
-use borrow.Author.Needs.{needs}
 use native.Mathlib.Omega.{arith}
+use borrow.Author.Needs.{needs}
 use lib.ListN.{length}
 use lib.Seq.{length-take-le}
 use Rattle.schema_reader.proofs.Rereading.{record-long, record-refused, record-size, record-cells}
 use Rattle.schema_reader.proofs.is_schema_record.Statement.{statement}
 use Rattle.schema_reader.proofs.is_schema_record.Tie as tie
+use Rattle.text_spec.specs.Limits.{maxSchemaBytes}
 
 returns : tie.Need-returns
 returns c = sym (record-long (c .before .before .args .schema .bytes) (c .before .before .args .schema .len) (c .if1 .taken))

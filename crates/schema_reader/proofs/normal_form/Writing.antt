@@ -8,8 +8,8 @@ use native.Mathlib.Omega.{arith}
 use borrow.Author.Tests.{eq-eqb, ne-eqb}
 use lib.ListN.{length, drop, getD, set, length-append, length-set, drop-of-length-le}
 use lib.Seq.{drop-cons, set-at}
-use Rattle.schema_reader.specs.normal_form.Normal.{Steps, Stored, Normalized}
 use Rattle.schema_reader.specs.declared.normal_form.NormalStep.{NormalStep}
+use Rattle.schema_reader.specs.normal_form.Normal.{Steps, Stored, Normalized}
 use Rattle.schema_spec.specs.Records.{normalFrom, normal}
 use Rattle.text_laws.specs.Tests.{never, cond-yes, cond-no}
 use Rattle.text_spec.specs.Bytes.{isBlank}

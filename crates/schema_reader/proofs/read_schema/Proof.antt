@@ -1,6 +1,6 @@
 -- `read_schema` meets its contract: the answer, and the record that it hands back.
-use Rattle.schema_reader.proofs.Records.{read-as}
 use borrow.Author.Needs.{needs}
+use Rattle.schema_reader.proofs.Records.{read-as}
 use Rattle.schema_reader.proofs.read_schema.Statement.{statement}
 use Rattle.schema_reader.proofs.read_schema.Tie as tie
 

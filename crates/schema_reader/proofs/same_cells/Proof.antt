@@ -1,13 +1,13 @@
 -- `same_cells` meets its contract: the first i bytes are the same.
 use mathlib.Core.Path.{_≡_, refl, sym, _∙_}
-use borrow.Author.Needs.{needs}
-use native.Mathlib.Omega.{arith}
 use Prim.Native.Nat.{_-_, _≤_}
+use native.Mathlib.Omega.{arith}
+use borrow.Author.Needs.{needs}
 use lib.ListN.{length, drop}
-use Rattle.text_spec.specs.Lists.{sameBytes}
 use Rattle.schema_reader.proofs.Rereading.{cells-sizes, cells-ended, cells-differ, cells-next}
 use Rattle.schema_reader.proofs.same_cells.Statement.{statement}
 use Rattle.schema_reader.proofs.same_cells.Tie as tie
+use Rattle.text_spec.specs.Lists.{sameBytes}
 
 abbrev Inv-loop : tie.InvT-loop
 Inv-loop a b i₀ i = (i ≤ length a) × (sameBytes a b ≡ sameBytes (drop i a) (drop i b))

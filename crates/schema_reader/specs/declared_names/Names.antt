@@ -5,8 +5,8 @@ use mathlib.Core.Path.{_≡_}
 use Prim.Native.Nat.{ℕ, zero, suc}
 use lib.ListN.{length, getD}
 use Rattle.schema_spec.specs.Schemas.{indexFrom}
-use Rattle.text_spec.specs.Scans.{nameAt}
 use Rattle.text_spec.specs.Lists.{anyOf, filterBy, first, valueOr, sameBytes}
+use Rattle.text_spec.specs.Scans.{nameAt}
 
 -- the first of some places, or the text's length
 abbrev pub firstPlace : List ℕ → List ℕ → ℕ

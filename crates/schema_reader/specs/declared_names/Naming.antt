@@ -7,16 +7,16 @@ use native.Mathlib.Numerals.{add-one}
 use native.Mathlib.Omega.{arith}
 use lib.ListN.{length, drop, take, getD, drop-of-length-le}
 use lib.Seq.{drop-cons, take-suc, take-length, length-take-le}
-use Rattle.text_laws.specs.Tests.{never, cond-yes as yes, cond-no as no}
-use Rattle.text.specs.lookup.NameLaws.{found-one, found-none}
-use Rattle.text_spec.specs.Scans.{nameAt}
-use Rattle.schema_reader.specs.declared_names.Names.{firstPlace, namesBefore, isAmong, twiceAt, missingAt}
 use Rattle.schema.specs.declarations.DeclarationLaws.{declared-names}
 use Rattle.schema.specs.particles.Readings.{useAt}
+use Rattle.schema_reader.specs.declared_names.Names.{firstPlace, namesBefore, isAmong, twiceAt, missingAt}
 use Rattle.schema_spec.specs.Declarations.{Use, Declaration}
 use Rattle.schema_spec.specs.Reading.{usesOf, twicePlaces, undeclaredPlaces}
 use Rattle.schema_spec.specs.Schemas.{indexFrom, declaredNames}
+use Rattle.text.specs.lookup.NameLaws.{found-one, found-none}
+use Rattle.text_laws.specs.Tests.{never, cond-yes as yes, cond-no as no}
 use Rattle.text_spec.specs.Lists.{anyOf, filterBy, gather, valueOr, sameBytes}
+use Rattle.text_spec.specs.Scans.{nameAt}
 
 -- ---- a name among others
 any-append : {A : Type 0} (f : A → Bool) (xs : List A) (y : A) → anyOf f (xs ++ (y ∷ [])) ≡ (f y || anyOf f xs)

@@ -8,12 +8,11 @@ use native.Mathlib.Omega.{arith}
 use lib.Dec.{T}
 use lib.ListN.{length, drop, getD, set, length-map, length-set}
 use lib.Seq.{ext-getD, take-length}
-use Rattle.schema.specs.particles.Readings.{useAt}
-use Rattle.schema_reader.specs.declared_names.Naming.{among-found, among-none, missing-here, missing-later, missing-never}
 use Rattle.schema.specs.Judging.{usedIn}
-use Rattle.schema_reader.specs.declared_names.Names.{firstPlace, namesBefore, missingAt, elementAt, Resolved}
+use Rattle.schema.specs.particles.Readings.{useAt}
 use Rattle.schema_laws.specs.Accepted.{indexIn, usesIn-rename, declared-use}
-use Rattle.text_spec.specs.Scans.{nameAt}
+use Rattle.schema_reader.specs.declared_names.Names.{firstPlace, namesBefore, missingAt, elementAt, Resolved}
+use Rattle.schema_reader.specs.declared_names.Naming.{among-found, among-none, missing-here, missing-later, missing-never}
 use Rattle.schema_spec.specs.Declarations.{Use, Declaration}
 use Rattle.schema_spec.specs.Reading.{usesOf, undeclaredPlaces}
 use Rattle.schema_spec.specs.Schemas.{indexFrom, declaredNames, resolved, schemaOf}
@@ -21,6 +20,7 @@ use Rattle.text_laws.specs.Lists.{gather-in}
 use Rattle.text_laws.specs.Loops.{Passed, passed-first, passed-next}
 use Rattle.text_laws.specs.Tests.{never}
 use Rattle.text_spec.specs.Lists.{anyOf, gather, valueOr, sameBytes}
+use Rattle.text_spec.specs.Scans.{nameAt}
 
 -- ---- one by one
 getD-map-within : {A B : Type 0} (f : A → B) (xs : List A) (j : ℕ) (d : A) (e : B) → j < length xs → getD (map f xs) j e ≡ f (getD xs j d)

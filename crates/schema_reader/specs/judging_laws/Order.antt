@@ -9,16 +9,16 @@ use native.Mathlib.Omega.{arith}
 use borrow.Author.Tests.{ltb-true, ltb-false, le-ltb, eq-eqb, ne-eqb}
 use lib.Dec.{ltb}
 use lib.ListN.{length}
-use Rattle.text_laws.specs.Tests.{cond-yes as yes, cond-no as no}
-use Rattle.schema.specs.places.PlaceLaws.{head-least}
 use Rattle.schema.specs.particles.ReadingLaws.{between-low, between-from}
-use Rattle.text_spec.specs.Scans.{nameAt}
-use Rattle.schema_reader.specs.declared_names.Names.{firstPlace, isAmong, twiceAt}
 use Rattle.schema.specs.particles.Readings.{Between}
+use Rattle.schema.specs.places.PlaceLaws.{head-least}
 use Rattle.schema_laws.specs.Lists.{in-nothing}
+use Rattle.schema_reader.specs.declared_names.Names.{firstPlace, isAmong, twiceAt}
 use Rattle.text_laws.specs.Lists.{map-in}
+use Rattle.text_laws.specs.Tests.{cond-yes as yes, cond-no as no}
 use Rattle.text_spec.specs.Lists.{filterBy, placesFrom}
 use Rattle.text_spec.specs.Refusals.{Reason, numberOf, Refusal, at, allAt, before, firstFrom, firstOf}
+use Rattle.text_spec.specs.Scans.{nameAt}
 
 -- all of these refusals have a number above that of r
 abbrev pub Later : Reason → List Refusal → Type 0

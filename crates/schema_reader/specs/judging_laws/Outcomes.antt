@@ -9,38 +9,38 @@ use borrow.Author.Tests.{lt-ltb, le-ltb}
 use lib.Dec.{ltb}
 use lib.ListN.{length, take, drop, replicate, length-map, take-append-drop}
 use lib.Seq.{take-length, take-at, length-take-le}
-use Rattle.schema.specs.places.PlaceLaws.{places-back}
-use Rattle.schema_reader.specs.declared_names.Naming.{twice-places, undeclared-places}
-use Rattle.schema_reader.specs.judging_laws.Order.{Later, later-none, later-all, later-append, least-first, place-found, place-none, places-rise, filter-rise, twice-rise}
-use Rattle.schema_reader.specs.declared_names.Resolving.{used-elements}
 use Rattle.schema.specs.Judging.{reasonOf, sized, JudgedAs, JudgedInto, declaredAt, usedIn}
-use Rattle.schema_reader.specs.judging_laws.Spellings.{JudgedNames, Readable, Spelling}
-use Rattle.schema_reader.specs.declared_names.Names.{firstPlace, namesBefore, twiceAt, missingAt, elementAt, Resolved}
 use Rattle.schema.specs.declarations.DeclarationLaws.{declared-names}
-use Rattle.schema.specs.particles.Readings.{useAt, Between}
-use Rattle.schema.specs.places.Whole.{WithinLimits, Limits, within, passed, AllSpelt, AllRead}
-use Rattle.schema.specs.declared.places.All.{All}
-use Rattle.schema.specs.declared.places.All.the-variants.{Past as AllPast, Fail as AllFail}
-use Rattle.schema.specs.declared.Judgement.the-variants.{Accepted, Refused}
-use Rattle.schema.specs.declared.places.Counts.{Counts}
 use Rattle.schema.specs.declared.Judgement.{Judgement}
+use Rattle.schema.specs.declared.Judgement.the-variants.{Accepted, Refused}
 use Rattle.schema.specs.declared.Kind.{Kind}
 use Rattle.schema.specs.declared.Kind.the-variants.{BadLength, BadByte, BadGrammar, OverLimit, DeclaredTwice, Undeclared}
+use Rattle.schema.specs.declared.places.All.{All}
+use Rattle.schema.specs.declared.places.All.the-variants.{Past as AllPast, Fail as AllFail}
+use Rattle.schema.specs.declared.places.Counts.{Counts}
+use Rattle.schema.specs.particles.Readings.{useAt, Between}
+use Rattle.schema.specs.places.PlaceLaws.{places-back}
+use Rattle.schema.specs.places.Whole.{WithinLimits, Limits, within, passed, AllSpelt, AllRead}
 use Rattle.schema_laws.specs.Accepted.{names-of-elements}
+use Rattle.schema_reader.specs.declared_names.Names.{firstPlace, namesBefore, twiceAt, missingAt, elementAt, Resolved}
+use Rattle.schema_reader.specs.declared_names.Naming.{twice-places, undeclared-places}
+use Rattle.schema_reader.specs.declared_names.Resolving.{used-elements}
+use Rattle.schema_reader.specs.judging_laws.Order.{Later, later-none, later-all, later-append, least-first, place-found, place-none, places-rise, filter-rise, twice-rise}
+use Rattle.schema_reader.specs.judging_laws.Spellings.{JudgedNames, Readable, Spelling}
 use Rattle.schema_spec.specs.Declarations.{Use, Declaration}
 use Rattle.schema_spec.specs.Machine.{parse}
 use Rattle.schema_spec.specs.Reading.{limitPlaces, twicePlaces, undeclaredPlaces, usesOf, parsedRefusals, parsedSchema, schemaRefusals, readSchema}
 use Rattle.schema_spec.specs.Schemas.{Schema, schemaOf, resolved, declaredNames}
 use Rattle.text.specs.Places.{foreignPlace}
-use Rattle.text_spec.specs.Bytes.{isForeign}
 use Rattle.text_laws.specs.Cells.{drop-replicate, padded-content}
 use Rattle.text_laws.specs.Tests.{never}
+use Rattle.text_spec.specs.Bytes.{isForeign}
 use Rattle.text_spec.specs.Cells.{padded}
 use Rattle.text_spec.specs.Limits.{maxDeclarations, maxSchemaBytes}
 use Rattle.text_spec.specs.Lists.{isEmpty, placesFrom, gather}
 use Rattle.text_spec.specs.Machines.{Parsed, spells, departs}
-use Rattle.text_spec.specs.Scans.{nameAt}
 use Rattle.text_spec.specs.Refusals.{Reason, badLength, badByte, badSchema, overSchemaLimit, declaredTwice, undeclaredInModel, numberOf, Refusal, at, allAt, given, firstOf, accepted, refused, byFirst, judged}
+use Rattle.text_spec.specs.Scans.{nameAt}
 use Rattle.text_spec.specs.Texts.{lengthRefusals, byteRefusals}
 
 -- ---- a refusal

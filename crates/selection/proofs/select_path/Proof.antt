@@ -1,9 +1,9 @@
 use Prim.Native.Nat.{_+_}
-use Rattle.selection.specs.Steps.{path-steps, path-marked}
-use borrow.Author.Needs.{needs}
 use native.Mathlib.Omega.{arith}
+use borrow.Author.Needs.{needs}
 use Rattle.selection.proofs.select_path.Statement.{statement}
 use Rattle.selection.proofs.select_path.Tie as tie
+use Rattle.selection.specs.Steps.{path-steps, path-marked}
 
 -- the states that answers go back to
 abbrev start-before : tie.After-slice-known4 → tie.Start

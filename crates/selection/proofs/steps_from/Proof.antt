@@ -1,11 +1,11 @@
 use mathlib.Core.Path.{sym, _∙_}
 use Prim.Native.Nat.{_+_, _-_}
-use borrow.Author.Tests.{not-true}
-use Rattle.selection.specs.Steps.{StepsSoFar, steps-begun, steps-pass, steps-next, steps-all, steps-ended}
-use borrow.Author.Needs.{needs}
 use native.Mathlib.Omega.{arith}
+use borrow.Author.Needs.{needs}
+use borrow.Author.Tests.{not-true}
 use Rattle.selection.proofs.steps_from.Statement.{statement}
 use Rattle.selection.proofs.steps_from.Tie as tie
+use Rattle.selection.specs.Steps.{StepsSoFar, steps-begun, steps-pass, steps-next, steps-all, steps-ended}
 
 abbrev Inv-loop : tie.InvT-loop
 Inv-loop parents codes axes tests conditions first size marks₀ held₀ steps₀ next₀ end k₀ marks held steps next k =

@@ -1,8 +1,8 @@
-use Rattle.selection.specs.Steps.{no-steps, first-at, later-pass, later-marked}
-use borrow.Author.Needs.{needs}
 use native.Mathlib.Omega.{arith}
+use borrow.Author.Needs.{needs}
 use Rattle.selection.proofs.steps_from_root.Statement.{statement}
 use Rattle.selection.proofs.steps_from_root.Tie as tie
+use Rattle.selection.specs.Steps.{no-steps, first-at, later-pass, later-marked}
 
 -- the states that answers go back to
 abbrev else1-before : tie.After-first-step → tie.Else1

@@ -6,14 +6,14 @@ use Prim.Native.Nat.{ℕ, _<_, _≤_}
 use native.Mathlib.Omega.{arith}
 use borrow.Author.Tests.{lt-ltb, le-ltb}
 use lib.ListN.{length}
+use lib.ListN.{length}
+use denote.Ref.{now}
+use Rattle.cells.specs.lent.Ends.{Slice}
 use Rattle.library_spec.specs.Selections.{Selections}
 use Rattle.selection.specs.declared.answers.Selected.{Selected}
 use Rattle.text_spec.specs.Calls.{inRoom, cellsAfter}
 use Rattle.text_spec.specs.Cells.{padded, tooSmall}
 use Rattle.text_spec.specs.Refusals.{Refusal, Outcome, accepted, refused, at, tooFewCells, numberOf}
-use lib.ListN.{length}
-use Rattle.cells.specs.lent.Ends.{Slice}
-use denote.Ref.{now}
 
 -- ---- definitions
 -- the outcome as numbers

@@ -9,18 +9,18 @@ use borrow.Author.Tests.{eq-eqb, ne-eqb}
 use lib.Dec.{eqb}
 use lib.ListN.{length, getD, set, drop, replicate, length-set, length-replicate, getD-replicate}
 use lib.Seq.{drop-cons, drop-length}
+use Rattle.axis_passes.specs.steps.Steps.{TableColumns}
+use Rattle.axis_passes.specs.steps.Tests.{namesIn}
+use Rattle.axis_passes.specs.written_steps.Steps.{Scratch}
+use Rattle.cells.specs.row_sets.Columns.{isMarked}
 use Rattle.compiled_paths.specs.Columns.{bundle-next, bundle-none}
 use Rattle.compiled_paths.specs.Paths.{pathsIn, Shaped}
 use Rattle.compiled_paths.specs.declared.CompiledPaths.{CompiledPaths}
-use Rattle.cells.specs.row_sets.Columns.{isMarked}
-use Rattle.selection_laws.specs.marks.Selection.{pathMarks}
 use Rattle.path_spec.specs.Paths.{LocationPath}
-use Rattle.selection.specs.one_path.Paths.{pathIn, pathsFrom}
+use Rattle.selection_laws.specs.marks.Selection.{pathMarks}
 use Rattle.selection.specs.Steps.{PathPass, path-ranges}
-use Rattle.axis_passes.specs.steps.Steps.{TableColumns}
-use Rattle.axis_passes.specs.steps.Tests.{namesIn}
+use Rattle.selection.specs.one_path.Paths.{pathIn, pathsFrom}
 use Rattle.text_laws.specs.Loops.{Passed, passed-first, passed-next}
-use Rattle.axis_passes.specs.written_steps.Steps.{Scratch}
 
 -- ---- definitions
 -- the first of columns of marks that has the row, its place counted from i; 0 where none has it

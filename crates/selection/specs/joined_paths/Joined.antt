@@ -4,21 +4,21 @@ use mathlib.Core.Path.{_≡_, refl, sym, ap, subst, _∙_}
 use Prim.Native.Nat.{ℕ, zero, suc, _+_, _*_, _-_, _<_, _≤_}
 use native.Mathlib.Omega.{arith}
 use lib.ListN.{length}
+use Rattle.axis_passes.specs.steps.Tests.{namesIn}
+use Rattle.axis_passes.specs.written_steps.Steps.{Scratch}
+use Rattle.cells.specs.lent.Appended.{written, Appended, appended-appended, appended-cleared, appended-one}
+use Rattle.cells.specs.lent.Cells.{Cleared}
 use Rattle.compiled_paths.specs.Columns.{bundleIn}
 use Rattle.compiled_paths.specs.Paths.{Shaped}
 use Rattle.compiled_paths.specs.declared.CompiledPaths.{CompiledPaths}
-use Rattle.selection_laws.specs.marks.Selection.{selectColumns}
 use Rattle.path_spec.specs.Paths.{LocationPath}
-use Rattle.cells.specs.lent.Appended.{written, Appended, appended-appended, appended-cleared, appended-one}
-use Rattle.cells.specs.lent.Cells.{Cleared}
+use Rattle.selection_laws.specs.marks.Selection.{selectColumns}
+use Rattle.selection.specs.Steps.{path-ranges}
 use Rattle.selection.specs.one_path.Paths.{pathIn, pathsFrom, OnePass, selected-few}
 use Rattle.table_laws.specs.Columns.{TestedColumns}
-use Rattle.selection.specs.Steps.{path-ranges}
-use Rattle.axis_passes.specs.steps.Tests.{namesIn}
 use Rattle.text_spec.specs.Cells.{padded}
 use Rattle.text_spec.specs.Limits.{maxNodes}
 use Rattle.text_spec.specs.Lists.{gather}
-use Rattle.axis_passes.specs.written_steps.Steps.{Scratch}
 
 pub record AllPass (c : CompiledPaths) (first end : ℕ) (numbers codes ps m held steps next : List ℕ) : Type 0 where
   pub shaped : Shaped c

@@ -6,20 +6,20 @@ use Prim.Native.Nat.{ℕ, zero, suc, _+_, _-_, _<_}
 use native.Mathlib.Omega.{arith}
 use lib.Dec.{T}
 use lib.ListN.{length, getElem?}
+use Rattle.axis_passes.specs.steps.Tests.{namesIn}
 use Rattle.compiled_paths.specs.Columns.{bundleIn}
 use Rattle.compiled_paths.specs.Paths.{pathsIn}
 use Rattle.compiled_paths.specs.declared.CompiledPaths.{CompiledPaths}
-use Rattle.selection_laws.specs.marks.Selection.{selectColumns}
-use Rattle.table_laws.specs.Columns.{parentsOf, numbersOf, codesOf}
+use Rattle.library_spec.specs.Selections.{askedPaths, selections}
 use Rattle.path_spec.specs.Paths.{LocationPath}
 use Rattle.path_spec.specs.Selection.{selectRows}
-use Rattle.library_spec.specs.Selections.{askedPaths, selections}
 use Rattle.schema_spec.specs.Types.{Types}
-use Rattle.selection.specs.one_path.Paths.{pathIn, pathsFrom}
+use Rattle.selection_laws.specs.marks.Selection.{selectColumns}
 use Rattle.selection.specs.joined_paths.Joined.{itemsOf, countsOf}
 use Rattle.selection.specs.laws.Selected.{marked-selected}
+use Rattle.selection.specs.one_path.Paths.{pathIn, pathsFrom}
 use Rattle.table_laws.specs.Codes.{NamesCoded}
-use Rattle.axis_passes.specs.steps.Tests.{namesIn}
+use Rattle.table_laws.specs.Columns.{parentsOf, numbersOf, codesOf}
 use Rattle.table_spec.specs.Rows.{Row}
 use Rattle.table_spec.specs.Tables.{wellFormed}
 use Rattle.text_spec.specs.Lists.{gather, listOf}

@@ -1,21 +1,21 @@
 -- The rows that the code marks on the columns of a well-formed table are those that the path selects, in document order.
+use mathlib.Core.Bool.{Bool, cond}
 use mathlib.Core.List.{List, [], _∷_, List·Memᴰ·head as here, List·Memᴰ·tail as there}
 use mathlib.Core.Path.{_≡_, refl, sym, ap, _∙_}
 use Prim.Native.Nat.{ℕ, _+_, _-_}
 use native.Mathlib.Omega.{arith}
 use borrow.Author.Tests.{lt-ltb, le-ltb}
 use lib.Dec.{T}
-use mathlib.Core.Bool.{Bool, cond}
+use Rattle.axis_passes.specs.code_ranges.Tests.{nameWithCode, namesIn}
 use Rattle.cells.specs.row_sets.Columns.{picked}
-use Rattle.selection_laws.specs.marks.Selection.{pathMarks, selectColumns}
-use Rattle.table_laws.specs.Columns.{parentsOf, namesOf, numbersOf, codesOf}
 use Rattle.path_spec.specs.Paths.{LocationPath}
 use Rattle.path_spec.specs.Selection.{selectRows}
 use Rattle.schema_spec.specs.Names.{Name, element, text, codeOf}
 use Rattle.schema_spec.specs.Types.{Types}
 use Rattle.selection_laws.specs.Paths.{select-columns}
-use Rattle.axis_passes.specs.code_ranges.Tests.{nameWithCode, namesIn}
+use Rattle.selection_laws.specs.marks.Selection.{pathMarks, selectColumns}
 use Rattle.table_laws.specs.Codes.{HasCode, NamesCoded}
+use Rattle.table_laws.specs.Columns.{parentsOf, namesOf, numbersOf, codesOf}
 use Rattle.table_spec.specs.Rows.{Row}
 use Rattle.table_spec.specs.Tables.{wellFormed}
 use Rattle.text_spec.specs.Limits.{maxDeclarations}

@@ -16,15 +16,15 @@ use Rattle.library_spec.specs.Selections.{Selections}
 use Rattle.path_spec.specs.Paths.{LocationPath}
 use Rattle.schema_spec.specs.Schemas.{Schema}
 use Rattle.schema_spec.specs.Types.{typesOf}
-use Rattle.table_laws.specs.Columns.{TestedColumns}
-use Rattle.selection.specs.table.Tables.{RowsIn, rowsSelected, paths-count}
 use Rattle.selection.specs.answers.Answers.{AnsweredSelections, RefusedBy, refused-as}
 use Rattle.selection.specs.declared.answers.Selected.{Selected}
+use Rattle.selection.specs.table.Tables.{RowsIn, rowsSelected, paths-count}
+use Rattle.table_laws.specs.Columns.{TestedColumns}
 use Rattle.table_laws.specs.passes.Codes.{HeldWords}
-use Rattle.tables.specs.rows.Lent.{Lent}
 use Rattle.table_spec.specs.Rows.{Row}
 use Rattle.table_spec.specs.Tables.{wellFormed, wellFormedWith, textInside}
 use Rattle.tables.specs.Handed.{isBeside}
+use Rattle.tables.specs.rows.Lent.{Lent}
 use Rattle.text_laws.specs.Tests.{never, passed, and-cases}
 use Rattle.text_spec.specs.Calls.{tested, handed}
 use Rattle.text_spec.specs.Lists.{isNone, allOf}

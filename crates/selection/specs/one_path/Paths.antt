@@ -6,19 +6,19 @@ use Prim.Native.Nat.{ℕ, zero, suc, _*_, _≤_}
 use native.Mathlib.Omega.{arith}
 use lib.Dec.{eqb}
 use lib.ListN.{length}
-use Rattle.compiled_paths.specs.Columns.{stepsIn, sizeAt, startAt, pathAt, bundleIn}
-use Rattle.compiled_paths.specs.declared.CompiledPaths.{CompiledPaths}
-use Rattle.cells.specs.row_sets.Columns.{picked}
-use Rattle.selection_laws.specs.marks.Selection.{stepsMarks, pathMarks, rootMarks, selectColumns}
-use Rattle.path_spec.specs.Paths.{LocationPath}
-use Rattle.selection.specs.row_numbers.Cells.{AppendPass}
-use Rattle.cells.specs.lent.Appended.{Appended}
-use Rattle.selection.specs.Steps.{PathRanges, PathPass, root-column}
 use Rattle.axis_passes.specs.steps.Steps.{MarkColumn}
 use Rattle.axis_passes.specs.steps.Tests.{namesIn}
+use Rattle.axis_passes.specs.written_steps.Steps.{Scratch, step-column}
+use Rattle.cells.specs.lent.Appended.{Appended}
+use Rattle.cells.specs.row_sets.Columns.{picked}
+use Rattle.compiled_paths.specs.Columns.{stepsIn, sizeAt, startAt, pathAt, bundleIn}
+use Rattle.compiled_paths.specs.declared.CompiledPaths.{CompiledPaths}
+use Rattle.path_spec.specs.Paths.{LocationPath}
+use Rattle.selection_laws.specs.marks.Selection.{stepsMarks, pathMarks, rootMarks, selectColumns}
+use Rattle.selection.specs.Steps.{PathRanges, PathPass, root-column}
+use Rattle.selection.specs.row_numbers.Cells.{AppendPass}
 use Rattle.table_laws.specs.Columns.{TestedColumns}
 use Rattle.text_spec.specs.Limits.{maxNodes, maxPaths}
-use Rattle.axis_passes.specs.written_steps.Steps.{Scratch, step-column}
 
 -- the path i, and n paths from i on
 abbrev pub pathIn : CompiledPaths → ℕ → LocationPath ℕ

@@ -10,23 +10,23 @@ use Rattle.bundle.specs.declared.Judged.{Judged}
 use Rattle.bundle.specs.reader.Records.{passesBundleRecord}
 use Rattle.compiled_paths.specs.Paths.{pathsIn}
 use Rattle.compiled_schema.specs.Compiled.{CompiledOf}
+use Rattle.compiled_schema.specs.Places.{namesAt}
 use Rattle.compiled_schema.specs.declared.CompiledSchema.{CompiledSchema}
 use Rattle.compiled_schema.specs.held_words.Words.{WordsOf, words-held}
+use Rattle.compiled_schema.specs.records.Records.{recordWith}
 use Rattle.library_spec.specs.Calls.{nodesSelected}
 use Rattle.library_spec.specs.Records.{LentTable, schemaHeld, bundleHeld, passesSchema, passesBundle}
 use Rattle.library_spec.specs.Selections.{Selections}
-use Rattle.compiled_schema.specs.Places.{namesAt}
 use Rattle.path_spec.specs.Paths.{LocationPath}
 use Rattle.path_spec.specs.Reading.{readBundle}
 use Rattle.schema_laws.specs.Accepted.{schemaIn-length}
 use Rattle.schema_reader.specs.Records.{passesRecord}
-use Rattle.compiled_schema.specs.records.Records.{recordWith}
 use Rattle.schema_spec.specs.Records.{schemaIn}
 use Rattle.schema_spec.specs.Schemas.{Schema}
 use Rattle.schema_spec.specs.Types.{typesOf}
-use Rattle.selection.specs.lent.Lent.{SomeSchema, lentSelected}
 use Rattle.selection.specs.answers.Answers.{AnsweredSelections, RefusedBy, refused-as}
 use Rattle.selection.specs.declared.answers.Selected.{Selected}
+use Rattle.selection.specs.lent.Lent.{SomeSchema, lentSelected}
 use Rattle.table_laws.specs.passes.Codes.{HeldWords}
 use Rattle.text_spec.specs.Calls.{tested, handed}
 use Rattle.text_spec.specs.Refusals.{Outcome, refused, at, badRecord, resultOr}

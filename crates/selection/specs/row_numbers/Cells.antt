@@ -11,9 +11,9 @@ use lib.Dec.{eqb}
 use lib.ListN.{length, getD, take, length-append, List·getD-append}
 use lib.Seq.{getD-append-seam, take-all}
 pub use Rattle.cells.specs.lent.Cells.{Cleared}
+use Rattle.cells.specs.lent.Appended.{written, written-length, written-other, written-same, Appended}
 use Rattle.cells.specs.row_sets.Columns.{mark, isMarked, OnlyMarks, picked, mark-at}
 use Rattle.text_spec.specs.Limits.{maxNodes, maxPaths}
-use Rattle.cells.specs.lent.Appended.{written, written-length, written-other, written-same, Appended}
 
 nothing-picked : (xs : List ℕ) → picked [] xs ≡ []
 unfolding picked

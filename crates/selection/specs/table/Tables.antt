@@ -6,30 +6,30 @@ use native.Mathlib.Omega.{arith}
 use lib.Dec.{T}
 use lib.ListN.{length, take, replicate, length-map, length-replicate}
 use lib.Seq.{length-take-le}
-use Rattle.selection.specs.asked.Ranges.{pastAsked, asked-order}
+use denote.Ref.{now}
+use Rattle.axis_passes.specs.written_steps.Steps.{Scratch}
+use Rattle.cells.specs.lent.Ends.{Slice}
 use Rattle.compiled_paths.specs.Columns.{bundleIn}
 use Rattle.compiled_paths.specs.Paths.{Shaped, lentPaths, pathsIn}
 use Rattle.compiled_paths.specs.declared.CompiledPaths.{CompiledPaths}
 use Rattle.library_spec.specs.Selections.{askedPaths, Selections, selections}
-use Rattle.table_laws.specs.Columns.{parentsOf, numbersOf, codesOf, TestedColumns}
 use Rattle.path_spec.specs.Paths.{LocationPath}
 use Rattle.path_spec.specs.Selection.{selectRows}
 use Rattle.schema_spec.specs.Types.{Types}
-use Rattle.selection.specs.one_path.Paths.{pathsFrom}
-use Rattle.selection.specs.joined_paths.Joined.{AllPass, itemsOf, countsOf, JoinedAs}
 use Rattle.selection.specs.answers.Answers.{inCells, AnsweredSelections, Written, AnsweredCells}
+use Rattle.selection.specs.asked.Ranges.{pastAsked, asked-order}
 use Rattle.selection.specs.declared.answers.Selected.{Selected}
+use Rattle.selection.specs.joined_paths.Joined.{AllPass, itemsOf, countsOf, JoinedAs}
 use Rattle.selection.specs.laws.Asked.{asked-range, all-asked, items-selected, counts-of-selected}
+use Rattle.selection.specs.one_path.Paths.{pathsFrom}
 use Rattle.table_laws.specs.Codes.{NamesCoded}
+use Rattle.table_laws.specs.Columns.{parentsOf, numbersOf, codesOf, TestedColumns}
 use Rattle.table_spec.specs.Rows.{Row}
 use Rattle.table_spec.specs.Tables.{wellFormed}
 use Rattle.text_laws.specs.Cells.{padded-length}
 use Rattle.text_spec.specs.Cells.{padded}
 use Rattle.text_spec.specs.Limits.{maxNodes}
 use Rattle.text_spec.specs.Refusals.{Outcome}
-use Rattle.axis_passes.specs.written_steps.Steps.{Scratch}
-use denote.Ref.{now}
-use Rattle.cells.specs.lent.Ends.{Slice}
 
 -- ---- definitions
 -- rows that are well formed under types, in these columns

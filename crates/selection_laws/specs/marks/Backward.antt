@@ -10,11 +10,11 @@ use lib.Bits.{bitOr}
 use lib.Dec.{T, eqb, leb, eqb→eq, eqb-refl, leb→le}
 use lib.ListN.{length, getD, set, length-set}
 use lib.Seq.{getD-set-same, getD-set-other}
+use Rattle.cells.specs.row_sets.Ancestors.{parentOf, ancestorsOf, isIn, root-parent, later-parent, root-ancestors, later-ancestors, by-parents, is-in, in-is}
 use Rattle.cells.specs.row_sets.Columns.{RowSet, mark, marks, marks-length, marks-at, marks-by-rows}
 use Rattle.cells.specs.row_sets.Loops.{or-marks}
-use Rattle.selection_laws.specs.marks.Parents.{rowOnAxis, image, image-cong}
-use Rattle.cells.specs.row_sets.Ancestors.{parentOf, ancestorsOf, isIn, root-parent, later-parent, root-ancestors, later-ancestors, by-parents, is-in, in-is}
 use Rattle.path_spec.specs.Paths.{parent, ancestor, ancestorOrSelf}
+use Rattle.selection_laws.specs.marks.Parents.{rowOnAxis, image, image-cong}
 use Rattle.table_laws.specs.Parents.{ParentsBefore}
 use Rattle.text_laws.specs.Searches.{below-any, any-below, any-never, any-from, any-from-all}
 use Rattle.text_laws.specs.Tests.{or-left, or-right, or-cases, and-intro, and-cases, same-test}

@@ -6,10 +6,10 @@ use mathlib.Core.Path.{_≡_, sym, ap, subst, _∙_}
 use Prim.Native.Nat.{ℕ, _<_}
 use native.Mathlib.Omega.{arith}
 use lib.ListN.{length, getD}
-use Rattle.cells.specs.row_sets.Columns.{RowSet}
-use Rattle.selection_laws.specs.marks.Parents.{rowOnAxis, image, any-member}
 use Rattle.cells.specs.row_sets.Ancestors.{parentOf, ancestorsOf, root-parent, later-parent, root-ancestors, later-ancestors, by-parents}
+use Rattle.cells.specs.row_sets.Columns.{RowSet}
 use Rattle.path_spec.specs.Paths.{self, child, descendant, descendantOrSelf}
+use Rattle.selection_laws.specs.marks.Parents.{rowOnAxis, image, any-member}
 use Rattle.table_laws.specs.Parents.{ParentsBefore}
 use Rattle.text_spec.specs.Lists.{anyOf}
 

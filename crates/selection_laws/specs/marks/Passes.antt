@@ -10,12 +10,12 @@ use lib.Bits.{bitOr, bitAnd}
 use lib.Dec.{eqb, leb}
 use lib.ListN.{length, getD, set, length-set, replicate, length-replicate, getD-replicate}
 use lib.Seq.{ext-getD, getD-set-same}
-use Rattle.selection_laws.specs.marks.Backward.{propagated, propagated-none, propagated-all, propagated-own, propagated-next, ancestor-step, ancestor-or-self-step}
 use Rattle.cells.specs.row_sets.Columns.{RowSet, mark, isMarked, marks, OnlyMarks, union, intersection, mark-test, marks-length, marks-at, marks-marked, marks-cong, mark-at}
-use Rattle.selection_laws.specs.marks.Forward.{image-self, child-root, child-later, descendant-root, descendant-later, descendant-or-self-root, descendant-or-self-later}
 use Rattle.cells.specs.row_sets.Loops.{Forward, forward-next, forward-all, or-marks, and-marks}
-use Rattle.selection_laws.specs.marks.Parents.{image, imageMarks}
 use Rattle.path_spec.specs.Paths.{Axis, self, child, descendant, descendantOrSelf, parent, ancestor, ancestorOrSelf}
+use Rattle.selection_laws.specs.marks.Backward.{propagated, propagated-none, propagated-all, propagated-own, propagated-next, ancestor-step, ancestor-or-self-step}
+use Rattle.selection_laws.specs.marks.Forward.{image-self, child-root, child-later, descendant-root, descendant-later, descendant-or-self-root, descendant-or-self-later}
+use Rattle.selection_laws.specs.marks.Parents.{image, imageMarks}
 use Rattle.table_laws.specs.Parents.{ParentsBefore}
 use Rattle.text_spec.specs.Lists.{anyBelow}
 

@@ -9,14 +9,14 @@ use native.Mathlib.Omega.{arith}
 use borrow.Author.Tests.{eq-eqb, ne-eqb}
 use lib.Dec.{T, eqb, eqb→eq}
 use lib.ListN.{length, getD}
-use Rattle.selection_laws.specs.marks.Backward.{ancestor-or-self-split}
-use Rattle.cells.specs.row_sets.Columns.{RowSet, isMarked, marks, intersection, marks-length, marks-cong, marks-marked}
-use Rattle.selection_laws.specs.marks.Forward.{image-self, child-root, child-later, descendant-root, descendant-later, descendant-or-self-root, descendant-or-self-later}
-use Rattle.selection_laws.specs.marks.Parents.{rowOnAxis, image, imageMarks, image-cong}
 use Rattle.cells.specs.row_sets.Ancestors.{parentOf, ancestorsOf, isIn, root-parent, root-ancestors, by-parents}
-use Rattle.selection_laws.specs.marks.Selection.{rootMarks, noMarks, writtenMarks, testMarks, conditionMarks, stepMarks, stepsMarks}
+use Rattle.cells.specs.row_sets.Columns.{RowSet, isMarked, marks, intersection, marks-length, marks-cong, marks-marked}
 use Rattle.path_spec.specs.Paths.{Axis, self, child, descendant, descendantOrSelf, parent, ancestor, ancestorOrSelf, WrittenAxis, along, WrittenStep, Condition}
 use Rattle.schema_spec.specs.Names.{Name}
+use Rattle.selection_laws.specs.marks.Backward.{ancestor-or-self-split}
+use Rattle.selection_laws.specs.marks.Forward.{image-self, child-root, child-later, descendant-root, descendant-later, descendant-or-self-root, descendant-or-self-later}
+use Rattle.selection_laws.specs.marks.Parents.{rowOnAxis, image, imageMarks, image-cong}
+use Rattle.selection_laws.specs.marks.Selection.{rootMarks, noMarks, writtenMarks, testMarks, conditionMarks, stepMarks, stepsMarks}
 use Rattle.table_laws.specs.Parents.{ParentsBefore}
 use Rattle.text_laws.specs.Searches.{below-any, any-none}
 use Rattle.text_laws.specs.Tests.{and-cases, false-of}

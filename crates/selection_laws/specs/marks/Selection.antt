@@ -5,11 +5,11 @@ use Prim.Native.Nat.{ℕ}
 use lib.Dec.{eqb}
 use lib.ListN.{length}
 use Rattle.cells.specs.row_sets.Columns.{mark, marks, union, intersection, picked}
-use Rattle.selection_laws.specs.marks.Parents.{imageMarks}
 use Rattle.path_laws.specs.Inverses.{inverse}
 use Rattle.path_spec.specs.Paths.{WrittenAxis, along, NodeTest, WrittenStep, PlainStep, Condition, unconditional, alternatives, Start, rootElement, LocationPath}
 use Rattle.path_spec.specs.Selection.{passes}
 use Rattle.schema_spec.specs.Names.{Name}
+use Rattle.selection_laws.specs.marks.Parents.{imageMarks}
 
 -- the rows on a written axis from the marked ones, and those from which it leads to a marked one
 abbrev pub writtenMarks : WrittenAxis → List ℕ → List ℕ → List ℕ

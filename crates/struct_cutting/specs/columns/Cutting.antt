@@ -6,15 +6,16 @@ use mathlib.Core.Path.{_≡_, refl, sym, ap, ap₂, subst, _∙_}
 use Prim.Native.Nat.{ℕ, _<_, _≤_}
 use native.Mathlib.Omega.{arith}
 use lib.ListN.{length}
+use Rattle.cells.specs.declared.verdicts.Verdict.{Verdict}
+use Rattle.cells.specs.verdicts.Verdicts.{verdict}
 use Rattle.cut_table.specs.laws.Answers.{AnsweredTable}
 use Rattle.extract_spec.specs.Cut.{kept, renumbered, cutFrom, cut, cutToWord}
 use Rattle.handed_tables.specs.structs.Tables.{same-held, none-held, held-few}
 use Rattle.library_spec.specs.Calls.{inColumns, columnsAfter, tableCut, tableCutRows, tableOfCells}
 use Rattle.library_spec.specs.Records.{LentTable, schemaHeld, tableHeld}
-use Rattle.text_spec.specs.Records.{TextRecord}
-use Rattle.row_structs.specs.laws.Answers.{Fitting, cellCount, partSizes, front, equal-sizes, room-fitting, room-same, part-sizes, in-front}
 use Rattle.row_structs.specs.Structs.{cellOf, Laid, AnsweredFor}
 use Rattle.row_structs.specs.declared.TableAnswer.{TableAnswer}
+use Rattle.row_structs.specs.laws.Answers.{Fitting, cellCount, partSizes, front, equal-sizes, room-fitting, room-same, part-sizes, in-front}
 use Rattle.schema_spec.specs.Names.{Names, setOfWord}
 use Rattle.schema_spec.specs.Schemas.{Schema}
 use Rattle.schema_spec.specs.Types.{Types, typesOf}
@@ -23,9 +24,8 @@ use Rattle.table_spec.specs.Nodes.{Node, nodeAt}
 use Rattle.table_spec.specs.Rows.{Row, Cells}
 use Rattle.text_spec.specs.Calls.{handed, tested}
 use Rattle.text_spec.specs.Limits.{maxNodes}
+use Rattle.text_spec.specs.Records.{TextRecord}
 use Rattle.text_spec.specs.Refusals.{Outcome, refused, at, badRecord}
-use Rattle.cells.specs.verdicts.Verdicts.{verdict}
-use Rattle.cells.specs.declared.verdicts.Verdict.{Verdict}
 
 -- ---- a cut has no more rows than the table
 cut-from-few : (set : Names) (before : List Node) (rows : List Row) → length (cutFrom set before rows) ≤ length rows

@@ -5,21 +5,21 @@ use mathlib.Core.Option.{Option, none, some}
 use mathlib.Core.Path.{_≡_, refl, sym, ap, ap₂, subst, _∙_}
 use Prim.Native.Nat.{ℕ}
 use native.Mathlib.Omega.{arith}
+use Rattle.cells.specs.declared.verdicts.Verdict.{Verdict}
+use Rattle.cells.specs.verdicts.Verdicts.{verdict}
 use Rattle.journal_spec.specs.Reading.{readJournal}
 use Rattle.library_spec.specs.Calls.{inColumns, columnsAfter, journalRead, journalReadRows}
 use Rattle.library_spec.specs.Records.{schemaHeld}
-use Rattle.text_spec.specs.Records.{TextRecord}
 use Rattle.projection_laws.specs.Limits.{accepted-within}
-use Rattle.row_structs.specs.laws.Answers.{Fitting, partSizes, front, equal-sizes, room-fitting, room-same, part-sizes, in-front}
 use Rattle.row_structs.specs.Structs.{cellOf, AnsweredFor}
+use Rattle.row_structs.specs.laws.Answers.{Fitting, partSizes, front, equal-sizes, room-fitting, room-same, part-sizes, in-front}
 use Rattle.schema_spec.specs.Schemas.{Schema}
 use Rattle.table_spec.specs.Columns.{Sizes, allOfSize, equalSizes, columns}
 use Rattle.table_spec.specs.Rows.{Row}
 use Rattle.text_spec.specs.Calls.{handed, tested}
 use Rattle.text_spec.specs.Limits.{maxJournalBytes}
+use Rattle.text_spec.specs.Records.{TextRecord}
 use Rattle.text_spec.specs.Refusals.{Outcome, accepted, refused, andThen}
-use Rattle.cells.specs.verdicts.Verdicts.{verdict}
-use Rattle.cells.specs.declared.verdicts.Verdict.{Verdict}
 
 module _ (schema : TextRecord) (text : List ℕ) where
   -- the outcome, by what the record holds and by that of the journal

@@ -9,11 +9,10 @@ use lib.ListN.{length}
 use Rattle.handed_tables.specs.structs.Tables.{same-beside, none-beside}
 use Rattle.library_spec.specs.Calls.{nodesSelected, nodesSelectedRows, tableOfCells}
 use Rattle.library_spec.specs.Records.{LentTable, schemaHeld, bundleHeld, tableBeside}
-use Rattle.text_spec.specs.Records.{TextRecord}
 use Rattle.library_spec.specs.Selections.{askedPaths, Selections, selections}
 use Rattle.path_spec.specs.Paths.{LocationPath}
-use Rattle.row_structs.specs.laws.Answers.{cellCount}
 use Rattle.row_structs.specs.Structs.{Laid}
+use Rattle.row_structs.specs.laws.Answers.{cellCount}
 use Rattle.schema_spec.specs.Schemas.{Schema}
 use Rattle.selection.specs.answers.Answers.{AnsweredSelections, RefusedBy, refused-as}
 use Rattle.selection.specs.declared.answers.Selected.{Selected}
@@ -22,6 +21,7 @@ use Rattle.table_spec.specs.Rows.{Row, Cells}
 use Rattle.text_spec.specs.Calls.{tested, handed, inRoom}
 use Rattle.text_spec.specs.Cells.{tooSmall}
 use Rattle.text_spec.specs.Limits.{maxNodes}
+use Rattle.text_spec.specs.Records.{TextRecord}
 use Rattle.text_spec.specs.Refusals.{Outcome, refused, at, badRecord}
 
 module _ (schema bundle : TextRecord) (place : ℕ) (lent : List ℕ) (items counts : ℕ) where

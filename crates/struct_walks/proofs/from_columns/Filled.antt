@@ -2,20 +2,20 @@
 use mathlib.Core.Bool.{Bool, true, false, cond}
 use mathlib.Core.List.{List, [], _∷_, map}
 use mathlib.Core.Path.{_≡_, refl, sym, _∙_, ap, subst}
-use native.Mathlib.Nat.{add-zero}
-use native.Mathlib.Omega.{arith}
 use mathlib.Core.WellFounded.{WellFounded, InvImage·wf}
 use Prim.Native.Nat.{ℕ, zero, suc, _+_, _-_, _<_, _≤_}
+use native.Mathlib.Nat.{add-zero}
+use native.Mathlib.Omega.{arith}
 use borrow.Author.Count.{below-more}
 use borrow.Author.Tests.{ltb-true, ltb-false}
 use lib.Dec.{ltb}
 use lib.ListN.{length, getD, set, length-set, List·getD-eq-default}
-use lib.WfN.{Nat·lt-wfRel}
 use lib.Seq.{getD-set-same, getD-set-other}
-use Rattle.row_structs.specs.laws.Answers.{cellCount}
+use lib.WfN.{Nat·lt-wfRel}
+use Rattle.row_structs.specs.Structs.{cellsIn, columnsIn, emptyRow, emptyCells, cellOf}
 use Rattle.row_structs.specs.declared.Row.{Row}
 use Rattle.row_structs.specs.declared.RowColumns.{RowColumns}
-use Rattle.row_structs.specs.Structs.{cellsIn, columnsIn, emptyRow, emptyCells, cellOf}
+use Rattle.row_structs.specs.laws.Answers.{cellCount}
 use Rattle.table_spec.specs.Columns.{cellsAt, cellsFrom}
 use Rattle.text_spec.specs.Limits.{maxNodes}
 

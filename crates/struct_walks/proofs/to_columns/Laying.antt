@@ -1,18 +1,18 @@
 -- Rows laid in columns, one after another.
-use mathlib.Core.Path.{_≡_, refl, sym, _∙_, subst}
 use mathlib.Core.Bool.{Bool, true, false, cond}
 use mathlib.Core.List.{List, map}
+use mathlib.Core.Path.{_≡_, refl, sym, _∙_, subst}
 use Prim.Native.Nat.{ℕ, _+_, _<_}
 use native.Mathlib.Omega.{arith}
+use borrow.Author.Count.{below-more}
+use borrow.Author.Tests.{ltb-true, ltb-false}
 use lib.Dec.{ltb}
 use lib.ListN.{length, getD, set, length-set, length-map, List·getD-map}
 use lib.Seq.{getD-set-same, getD-set-other}
-use borrow.Author.Count.{below-more}
-use borrow.Author.Tests.{ltb-true, ltb-false}
-use Rattle.row_structs.specs.laws.Answers.{cellCount, cell-low}
 use Rattle.row_structs.specs.Structs.{Laid, cellOf, cellsIn, columnsIn, emptyRow}
 use Rattle.row_structs.specs.declared.Row.{Row}
 use Rattle.row_structs.specs.declared.RowColumns.{RowColumns}
+use Rattle.row_structs.specs.laws.Answers.{cellCount, cell-low}
 use Rattle.table_spec.specs.Columns.{cellsAt}
 use Rattle.text_spec.specs.Limits.{maxNodes}
 

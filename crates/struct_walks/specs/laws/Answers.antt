@@ -1,16 +1,16 @@
 -- An answer with a table, as a call hands it back: the machine values of its two fields.
 use mathlib.Core.List.{[], _∷_}
 use mathlib.Core.Path.{_≡_, ap, subst}
-use mir.Val.{Val, ofList, vstruct}
 use denote.Laws.{Is}
 use denote.Steps.{only}
+use mir.Val.{Val, ofList, vstruct}
+use Rattle.cells.proofs.verdicts.Verdict as Verdict
+use Rattle.cells.proofs.verdicts.Verdict.Laws as Verdict′
 use Rattle.row_structs.proofs.RowColumns as Columns
 use Rattle.row_structs.proofs.RowColumns.Laws as Columns′
 use Rattle.row_structs.proofs.TableAnswer as Table
 use Rattle.row_structs.proofs.TableAnswer.Laws as Table′
 use Rattle.row_structs.specs.declared.TableAnswer.{TableAnswer}
-use Rattle.cells.proofs.verdicts.Verdict as Verdict
-use Rattle.cells.proofs.verdicts.Verdict.Laws as Verdict′
 
 pub record Parts (t : TableAnswer) (v : Val) : Type 0 where
   pub verdict-val : Val

@@ -7,9 +7,9 @@ use Prim.Native.Nat.{ℕ, suc, _+_, _-_, _<_, _≤_}
 use borrow.Author.Tests.{lt-leb, le-leb, ltb-true, ltb-false}
 use lib.Dec.{T, eqb, leb, ltb, leb→le, le→leb, ltb→lt, lt→ltb}
 use lib.ListN.{getD}
+use Rattle.schema_laws.specs.Words.{codeOf-nameOfCode}
 use Rattle.schema_spec.specs.Names.{Name, element, text, isText, hasBit, codeOf, nameOfCode}
 use Rattle.schema_spec.specs.Types.{Types}
-use Rattle.schema_laws.specs.Words.{codeOf-nameOfCode}
 use Rattle.table_laws.specs.passes.Passes.{isTextCode, depthUnder, textCellsFit, laterFits, laterCells}
 use Rattle.table_spec.specs.Nodes.{deeper}
 use Rattle.table_spec.specs.Rows.{Row, cellsOf}

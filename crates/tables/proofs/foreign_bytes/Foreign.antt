@@ -7,9 +7,9 @@ use native.Mathlib.Omega.{arith}
 use lib.Bits.{bitOr}
 use lib.Dec.{eqb}
 use lib.ListN.{length, getD}
-use Rattle.tables.specs.foreign_bytes.Foreign.{foreignBefore}
 use Rattle.cells.specs.row_sets.Columns.{mark, mark-test}
 use Rattle.cells.specs.row_sets.Loops.{or-marks}
+use Rattle.tables.specs.foreign_bytes.Foreign.{foreignBefore}
 use Rattle.text_spec.specs.Bytes.{isForeign}
 use Rattle.text_spec.specs.Lists.{anyBelow}
 

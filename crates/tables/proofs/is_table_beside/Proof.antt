@@ -1,11 +1,11 @@
 -- `is_table_beside` meets its contract: columns that do not fit, rows that do not, or the texts.
-use borrow.Author.Tests.{not-true, not-false}
 use mathlib.Core.Bool.{true}
 use mathlib.Core.Path.{_≡_, sym, _∙_}
+use borrow.Author.Tests.{not-true, not-false}
 use Rattle.library_spec.specs.Records.{LentTable}
-use Rattle.tables.specs.Handed.{lentTable, sizesFit, fit-lent, beside-unfit, beside-ill, beside-well}
 use Rattle.tables.proofs.is_table_beside.Statement.{statement}
 use Rattle.tables.proofs.is_table_beside.Tie as tie
+use Rattle.tables.specs.Handed.{lentTable, sizesFit, fit-lent, beside-unfit, beside-ill, beside-well}
 
 -- The start and the table that is handed in, from where the sizes are tested; sizes that fit.
 abbrev start-before : tie.After-sizes-fit → tie.Start

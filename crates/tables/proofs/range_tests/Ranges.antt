@@ -7,8 +7,8 @@ use native.Mathlib.Omega.{arith}
 use borrow.Author.Tests.{le-leb, lt-leb, eq-eqb, ne-eqb}
 use lib.Dec.{eqb}
 use lib.ListN.{length, getD, take, drop, length-take, length-drop}
-use Rattle.tables.specs.foreign_bytes.Foreign.{foreignBefore}
 use Rattle.table_laws.specs.passes.Texts.{passes, rangePasses}
+use Rattle.tables.specs.foreign_bytes.Foreign.{foreignBefore}
 use Rattle.text_laws.specs.Searches.{any-zero}
 use Rattle.text_spec.specs.Bytes.{isForeign}
 use Rattle.text_spec.specs.Lists.{part, allOf, anyBelow}

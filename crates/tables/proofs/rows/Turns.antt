@@ -12,8 +12,8 @@ use lib.Dec.{eqb, eqb→eq}
 use Rattle.table_laws.specs.passes.Climbs.{Climbed, stopped, nowhere, climb}
 use Rattle.table_laws.specs.passes.Codes.{fits-depth}
 use Rattle.table_laws.specs.passes.Passes.{isTextCode, depthUnder, rootFits, rootCells, openAfter, codeAt, parentAt, fitsUnder, laterPass, rowsPass}
-use Rattle.tables.specs.rows.Lent.{Lent, RowLent, RootAt, rowFits}
 use Rattle.table_spec.specs.Columns.{Columns, cellsAt}
+use Rattle.tables.specs.rows.Lent.{Lent, RowLent, RootAt, rowFits}
 use Rattle.text_laws.specs.Tests.{passed, and-cases}
 use Rattle.text_spec.specs.Limits.{maxDeclarations, maxDepth}
 

@@ -12,9 +12,6 @@ use lib.ListN.{length, getD, getElem?, take, drop}
 use Rattle.library_spec.specs.Calls.{textOfRow, noText, textAt, rowText, partAfter}
 use Rattle.library_spec.specs.Calls as Calls
 use Rattle.library_spec.specs.Records.{LentTable, schemaHeld, rowsLent, keptIf, tableBeside, passesSchema}
-use Rattle.text_spec.specs.Records.{TextRecord, textIn}
-use Rattle.tables.specs.declared.row_text.RowText.{RowText}
-use Rattle.tables.specs.declared.row_text.RowText.the-variants.{Refused, Element, Text}
 use Rattle.schema_spec.specs.Names.{Name, element, text, isText, codeOf}
 use Rattle.schema_spec.specs.Records.{schemaIn}
 use Rattle.schema_spec.specs.Schemas.{Schema}
@@ -28,12 +25,15 @@ use Rattle.table_laws.specs.passes.Tables.{StandFrom, rows-stand}
 use Rattle.table_spec.specs.Columns.{cellsFrom}
 use Rattle.table_spec.specs.Rows.{Row, Cells, rowsOf}
 use Rattle.table_spec.specs.Tables.{wellFormedWith}
-use Rattle.tables.specs.rows.Lent.{Lent}
 use Rattle.tables.specs.Handed.{isBeside, sizesFit, fit-lent}
+use Rattle.tables.specs.declared.row_text.RowText.{RowText}
+use Rattle.tables.specs.declared.row_text.RowText.the-variants.{Refused, Element, Text}
+use Rattle.tables.specs.rows.Lent.{Lent}
 use Rattle.text_laws.specs.Searches.{below-or-past}
 use Rattle.text_laws.specs.Tests.{never, passed}
 use Rattle.text_spec.specs.Calls.{handed}
 use Rattle.text_spec.specs.Lists.{isNone}
+use Rattle.text_spec.specs.Records.{TextRecord, textIn}
 use Rattle.text_spec.specs.Refusals.{Outcome, accepted, refused, at, badRecord}
 
 -- ---- definitions

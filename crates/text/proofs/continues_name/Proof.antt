@@ -1,13 +1,13 @@
 -- `continues_name` meets its contract: the class of the byte tells, but for `-`, `.` and `_`.
 use mathlib.Core.Bool.{true}
 use mathlib.Core.Path.{ap, _∙_}
-use Rattle.text_spec.specs.Bytes.{classOf, continuesName}
-use Rattle.text.specs.classes.Classes.{meant, joinsName, inName}
-use Rattle.text.specs.classes.Runs.{by-class}
 use native.Mathlib.Omega.{arith}
 use borrow.Author.Needs.{needs}
+use Rattle.text_spec.specs.Bytes.{classOf, continuesName}
 use Rattle.text.proofs.continues_name.Statement.{statement}
 use Rattle.text.proofs.continues_name.Tie as tie
+use Rattle.text.specs.classes.Classes.{meant, joinsName, inName}
+use Rattle.text.specs.classes.Runs.{by-class}
 
 returns : tie.Need-returns
 unfolding classOf

@@ -8,11 +8,11 @@ use native.Mathlib.Omega.{arith}
 use borrow.Author.Needs.{needs}
 use lib.ListN.{length, drop, getD, drop-of-length-le}
 use lib.Seq.{drop-cons}
-use Rattle.text.specs.Places.{foreignPlace}
-use Rattle.text.proofs.first_foreign.Statement.{statement}
-use Rattle.text.proofs.first_foreign.Tie as tie
 use Rattle.text_spec.specs.Bytes.{isForeign}
 use Rattle.text_spec.specs.Lists.{first, valueOr, placesFrom}
+use Rattle.text.proofs.first_foreign.Statement.{statement}
+use Rattle.text.proofs.first_foreign.Tie as tie
+use Rattle.text.specs.Places.{foreignPlace}
 
 -- the first place from i on
 abbrev left : List ℕ → ℕ → ℕ

@@ -1,12 +1,12 @@
 -- `is_foreign` meets its contract: the class of the byte tells.
 use mathlib.Core.Path.{_∙_}
-use Rattle.text_spec.specs.Bytes.{classOf, isForeign}
-use Rattle.text.specs.classes.Classes.{isForeignClass}
-use Rattle.text.specs.classes.Runs.{by-class}
 use native.Mathlib.Omega.{arith}
 use borrow.Author.Needs.{needs}
+use Rattle.text_spec.specs.Bytes.{classOf, isForeign}
 use Rattle.text.proofs.is_foreign.Statement.{statement}
 use Rattle.text.proofs.is_foreign.Tie as tie
+use Rattle.text.specs.classes.Classes.{isForeignClass}
+use Rattle.text.specs.classes.Runs.{by-class}
 
 returns : tie.Need-returns
 unfolding classOf

@@ -1,14 +1,14 @@
 -- `starts_name` meets its contract: the class of the byte tells, but for `_`.
 use mathlib.Core.Bool.{false}
 use mathlib.Core.Path.{_∙_}
-use lib.Dec.{eqb}
-use Rattle.text_spec.specs.Bytes.{classOf, startsName}
-use Rattle.text.specs.classes.Classes.{inName}
-use Rattle.text.specs.classes.Runs.{by-class}
 use native.Mathlib.Omega.{arith}
 use borrow.Author.Needs.{needs}
+use lib.Dec.{eqb}
+use Rattle.text_spec.specs.Bytes.{classOf, startsName}
 use Rattle.text.proofs.starts_name.Statement.{statement}
 use Rattle.text.proofs.starts_name.Tie as tie
+use Rattle.text.specs.classes.Classes.{inName}
+use Rattle.text.specs.classes.Runs.{by-class}
 
 returns : tie.Need-returns
 unfolding classOf

@@ -2,10 +2,10 @@
 use mathlib.Core.Bool.{Bool, true, false, _||_}
 use Prim.Native.Nat.{ℕ}
 use lib.Dec.{eqb}
-use Rattle.text.specs.declared.classes.Class.{Class}
-use Rattle.text.specs.declared.classes.Class.the-variants.{Blank, Letter, Digit, Markup, Other, Foreign}
 use Rattle.text_spec.specs.Bytes.{blank, letter, digit, markup, other, foreign}
 use Rattle.text_spec.specs.Bytes as Bytes
+use Rattle.text.specs.declared.classes.Class.{Class}
+use Rattle.text.specs.declared.classes.Class.the-variants.{Blank, Letter, Digit, Markup, Other, Foreign}
 
 abbrev pub meant : Class → Bytes.Class
 meant Blank = blank

@@ -1,20 +1,20 @@
 -- What is computed once over a run of bytes holds at each byte of the run.
-use mathlib.Core.Path.{_≡_, refl, sym, ap, subst, _∙_}
 use mathlib.Core.Bool.{Bool, true, false, cond, not, _||_, _&&_}
 use mathlib.Core.List.{List, [], _∷_}
 use mathlib.Core.Logic.{inl, inr, ⊎-elim}
+use mathlib.Core.Path.{_≡_, refl, sym, ap, subst, _∙_}
 use Prim.Native.Nat.{ℕ, zero, suc, _+_, _≤_, _<_}
 use native.Mathlib.Nat.{eq-or-lt-of-le}
 use native.Mathlib.Omega.{arith}
 use lib.Dec.{T, eqb, eqb→eq}
-use types.Run.{OneOf, hit}
 use mir.Val.{hasKey}
-use Rattle.text.specs.classes.Classes.{meant}
-use Rattle.text.specs.declared.classes.Class.{Class}
+use types.Run.{OneOf, hit}
 use Rattle.text_laws.specs.Tests.{and-cases}
 use Rattle.text_spec.specs.Bytes as Bytes
 use Rattle.text_spec.specs.Bytes.{classOf, blank, letter, digit, markup, other, foreign}
 use Rattle.text_spec.specs.Lists.{allOf}
+use Rattle.text.specs.classes.Classes.{meant}
+use Rattle.text.specs.declared.classes.Class.{Class}
 
 -- b is among no arm's single numbers, as a match's `rest` says it, the last arm's first
 abbrev pub NoneOf : List (List ℕ) → ℕ → Type 0

@@ -7,9 +7,9 @@ use Prim.Native.Nat.{ℕ, min, _+_, _*_, _/_, _%_, _≤_, _<_}
 use native.Mathlib.Omega.{arith}
 use borrow.Author.Tests.{ltb-true, ltb-false, eqb-true, eqb-false}
 use lib.Dec.{eqb, ltb}
-use Rattle.text.specs.fault_keys.Keys.{noKey, placeLimit, keyAt, keyOf, keyOr, leastKey, notedKey, Placed}
 use Rattle.text_laws.specs.Order.{number-injective}
 use Rattle.text_spec.specs.Refusals.{Reason, badRecord, badLength, badByte, badSchema, overSchemaLimit, declaredTwice, undeclaredInModel, badPath, overPathLimit, undeclaredInPath, misspelt, badNesting, overDepth, undeclaredElement, badContent, overNodeLimit, badExtract, tooFewCells, numberOf, Refusal, at, given, before, firstFrom, firstOf}
+use Rattle.text.specs.fault_keys.Keys.{noKey, placeLimit, keyAt, keyOf, keyOr, leastKey, notedKey, Placed}
 
 pub number-bound : (r : Reason) → numberOf r ≤ 18
 number-bound badRecord = omega arith

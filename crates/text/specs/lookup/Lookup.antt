@@ -3,10 +3,10 @@ use mathlib.Core.List.{List, map}
 use mathlib.Core.Option.{Option, none, some}
 use mathlib.Core.Path.{_≡_, ap}
 use Prim.Native.Nat.{ℕ}
+use Rattle.schema_spec.specs.Schemas.{Schema, indexFrom, elementNamed}
 use Rattle.text_spec.specs.Scans.{nameAt}
 use Rattle.text.specs.declared.lookup.Lookup.{Lookup}
 use Rattle.text.specs.declared.lookup.Lookup.the-variants.{Element, Absent}
-use Rattle.schema_spec.specs.Schemas.{Schema, indexFrom, elementNamed}
 
 -- the index that an answer gives
 abbrev pub found : Lookup → Option ℕ

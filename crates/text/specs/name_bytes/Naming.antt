@@ -11,7 +11,6 @@ use borrow.Author.Tests.{ltb-true, ltb-false, eq-eqb, ne-eqb}
 use lib.Dec.{eqb, ltb}
 use lib.ListN.{length, drop, getD, drop-of-length-le}
 use lib.Seq.{drop-cons}
-use Rattle.text.specs.name_bytes.Names.{nameByte}
 use Rattle.schema_spec.specs.Schemas.{indexFrom}
 use Rattle.text_laws.specs.Lists.{bytes-equal}
 use Rattle.text_laws.specs.Scans.{name-cons, name-stops}
@@ -19,6 +18,7 @@ use Rattle.text_laws.specs.Tests.{false-of, never, cond-yes, cond-no}
 use Rattle.text_spec.specs.Bytes.{continuesName}
 use Rattle.text_spec.specs.Lists.{first, valueOr, sameBytes}
 use Rattle.text_spec.specs.Scans.{byteAt, nameIn, nameAt}
+use Rattle.text.specs.name_bytes.Names.{nameByte}
 
 abbrev head : List ℕ → ℕ
 head n = valueOr 0 (first n)

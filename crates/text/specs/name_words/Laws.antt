@@ -10,12 +10,12 @@ use lib.Arith.{digits-lt, digits-div, digits-mod}
 use lib.Bits.{bitOr, bitXor, xor-self, xor-add-and, or-add-and, and-le-l, and-le-r}
 use lib.Dec.{T, eqb, leb, lit<}
 use lib.ListN.{length}
-use Rattle.text.specs.declared.name_words.Name.{Name}
-use Rattle.text.specs.name_words.Words.{words, newGroup, longerGroup, withByte, withBytes, wordsOf, Spells}
 use Rattle.text_laws.specs.Lists.{bytes-equal, bytes-same}
 use Rattle.text_laws.specs.Tests.{and-cases, true-of, passed, failed}
 use Rattle.text_spec.specs.Bytes.{isBetween}
 use Rattle.text_spec.specs.Lists.{allOf, sameBytes}
+use Rattle.text.specs.declared.name_words.Name.{Name}
+use Rattle.text.specs.name_words.Words.{words, newGroup, longerGroup, withByte, withBytes, wordsOf, Spells}
 
 with-bytes-snoc : (w : Name) (k : ℕ) (n : List ℕ) (x : ℕ) → withBytes w k (n ++ (x ∷ [])) ≡ withByte (withBytes w k n) (k + length n) x
 unfolding withBytes

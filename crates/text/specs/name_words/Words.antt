@@ -5,9 +5,9 @@ use mathlib.Core.Path.{_≡_}
 use Prim.Native.Nat.{ℕ, suc, _+_, _*_, _%_, _^_, _≤_}
 use lib.Dec.{T, eqb}
 use lib.ListN.{length, getD}
-use Rattle.text.specs.declared.name_words.Name.{Name}
 use Rattle.text_spec.specs.Bytes.{isBetween}
 use Rattle.text_spec.specs.Lists.{allOf}
+use Rattle.text.specs.declared.name_words.Name.{Name}
 
 abbrev pub words : ℕ → ℕ → ℕ → ℕ → Name
 words a b c d = record { a = a; b = b; c = c; d = d }

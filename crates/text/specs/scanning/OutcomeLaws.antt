@@ -5,13 +5,13 @@ use mathlib.Core.Path.{_≡_, sym, ap, subst, _∙_}
 use Prim.Native.Nat.{ℕ, _+_, _≤_, _<_}
 use native.Mathlib.Omega.{arith}
 use lib.ListN.{length}
-use Rattle.text.specs.scanning.Outcomes.{NoBlank, Skipped, Spaced, SpacedAs, Spelt, SpeltAs, Named, NamedAs}
-use Rattle.text.specs.declared.scanning.Read.{Read}
-use Rattle.text.specs.declared.scanning.Read.the-variants.{Past, Fail}
 use Rattle.text_laws.specs.Scans.{blanks-same, Spacing, space-same, space-departs, Keyword, due, keyword-spelt, keyword-departs, Naming, name-spelt, name-too-long}
 use Rattle.text_spec.specs.Bytes.{isBlank, continuesName}
 use Rattle.text_spec.specs.Machines.{departs, Machine, from}
 use Rattle.text_spec.specs.Scans.{byteAt, Stops, nameAt}
+use Rattle.text.specs.declared.scanning.Read.{Read}
+use Rattle.text.specs.declared.scanning.Read.the-variants.{Past, Fail}
+use Rattle.text.specs.scanning.Outcomes.{NoBlank, Skipped, Spaced, SpacedAs, Spelt, SpeltAs, Named, NamedAs}
 
 -- ---- blanks, in a state that they leave as it is
 pub skipped-same : {State A : Type 0} (M : Machine State A) {s : List ℕ} {at r : ℕ} → Skipped s at r → (q : State) → M .isDead q ≡ false

@@ -1,13 +1,13 @@
 -- What reading blanks, a keyword or a name answers, by the places of the text.
-use mathlib.Core.Path.{_≡_}
 use mathlib.Core.List.{List}
+use mathlib.Core.Path.{_≡_}
 use Prim.Native.Nat.{ℕ, _+_, _≤_, _<_}
 use lib.ListN.{length}
-use Rattle.text.specs.declared.scanning.Read.{Read}
-use Rattle.text.specs.declared.scanning.Read.the-variants.{Past, Fail}
 use Rattle.text_spec.specs.Bytes.{isBlank, continuesName}
 use Rattle.text_spec.specs.Limits.{maxNameBytes}
 use Rattle.text_spec.specs.Scans.{byteAt, Each, Stops, Begins}
+use Rattle.text.specs.declared.scanning.Read.{Read}
+use Rattle.text.specs.declared.scanning.Read.the-variants.{Past, Fail}
 
 -- ---- blanks
 abbrev pub NoBlank : List ℕ → ℕ → Type 0

@@ -1,9 +1,9 @@
-use Rattle.axis_passes.specs.alternative_steps.Alternatives.{StepsBack, steps-begun, steps-column, steps-pass, steps-next, steps-all}
-use Rattle.axis_passes.specs.steps.Steps.{columns-same-length}
-use borrow.Author.Needs.{needs}
 use native.Mathlib.Omega.{arith}
+use borrow.Author.Needs.{needs}
 use Rattle.axis_passes.proofs.alternative_steps.alternative.Statement.{statement}
 use Rattle.axis_passes.proofs.alternative_steps.alternative.Tie as tie
+use Rattle.axis_passes.specs.alternative_steps.Alternatives.{StepsBack, steps-begun, steps-column, steps-pass, steps-next, steps-all}
+use Rattle.axis_passes.specs.steps.Steps.{columns-same-length}
 
 abbrev Inv-loop : tie.InvT-loop
 Inv-loop parents codes axes tests first size held steps₀ next₀ k₀ steps next k = StepsBack parents codes axes tests first size k steps next

@@ -1,9 +1,9 @@
 use Prim.Native.Nat.{_+_, _-_}
-use Rattle.axis_passes.specs.alternatives.Alternatives.{AlternativesSoFar, alternatives-begun, size-fits, size-some, alternatives-pass, alternatives-next, alternatives-all}
-use borrow.Author.Needs.{needs}
 use native.Mathlib.Omega.{arith}
+use borrow.Author.Needs.{needs}
 use Rattle.axis_passes.proofs.alternatives.condition.Statement.{statement}
 use Rattle.axis_passes.proofs.alternatives.condition.Tie as tie
+use Rattle.axis_passes.specs.alternatives.Alternatives.{AlternativesSoFar, alternatives-begun, size-fits, size-some, alternatives-pass, alternatives-next, alternatives-all}
 
 abbrev Inv-loop : tie.InvT-loop
 Inv-loop parents codes axes tests first count held₀ steps₀ next₀ end k₀ held steps next k = AlternativesSoFar parents codes axes tests first count k held steps next

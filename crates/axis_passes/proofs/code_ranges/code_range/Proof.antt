@@ -1,7 +1,7 @@
-use Rattle.axis_passes.specs.code_ranges.Tests.{element-range, no-range, node-range, text-range, test-named, test-node, test-text, in-range-of}
 use native.Mathlib.Omega.{arith}
 use Rattle.axis_passes.proofs.code_ranges.code_range.Statement.{statement}
 use Rattle.axis_passes.proofs.code_ranges.code_range.Tie as tie
+use Rattle.axis_passes.specs.code_ranges.Tests.{element-range, no-range, node-range, text-range, test-named, test-node, test-text, in-range-of}
 
 returns : tie.Need-returns
 returns c = in-range-of 0 63 _ _ (test-node _ (c .if1 .taken)) node-range

@@ -1,9 +1,9 @@
 use mathlib.Core.Path.{sym, _∙_}
-use Rattle.axis_passes.specs.conditions.Conditions.{condition-columns, condition-kept, all-kept, none-kept}
-use borrow.Author.Needs.{needs}
 use native.Mathlib.Omega.{arith}
+use borrow.Author.Needs.{needs}
 use Rattle.axis_passes.proofs.conditions.keep.Statement.{statement}
 use Rattle.axis_passes.proofs.conditions.keep.Tie as tie
+use Rattle.axis_passes.specs.conditions.Conditions.{condition-columns, condition-kept, all-kept, none-kept}
 
 -- the states that answers go back to
 abbrev then1-before : tie.After-condition-arg3 → tie.Then1

@@ -1,13 +1,13 @@
 use Prim.Native.Nat.{_-_, _<_}
-use lib.ListN.{length}
-use Rattle.selection_laws.specs.marks.Parents.{imageMarks}
-use Rattle.selection_laws.specs.marks.Passes.{AxisPass, children-begun, children-next, forward-image}
-use Rattle.cells.specs.row_sets.Loops.{Forward}
-use Rattle.path_spec.specs.Paths.{child}
-use borrow.Author.Needs.{needs}
 use native.Mathlib.Omega.{arith}
+use borrow.Author.Needs.{needs}
+use lib.ListN.{length}
 use Rattle.axis_passes.proofs.downward.children.Statement.{statement}
 use Rattle.axis_passes.proofs.downward.children.Tie as tie
+use Rattle.cells.specs.row_sets.Loops.{Forward}
+use Rattle.path_spec.specs.Paths.{child}
+use Rattle.selection_laws.specs.marks.Parents.{imageMarks}
+use Rattle.selection_laws.specs.marks.Passes.{AxisPass, children-begun, children-next, forward-image}
 
 abbrev Inv-loop : tie.InvT-loop
 Inv-loop parents from out₀ r₀ out r = (0 < r) × AxisPass parents from out₀ × Forward (imageMarks child parents from) out₀ r out

@@ -1,10 +1,10 @@
 use mathlib.Core.Path.{sym, ap}
 use Prim.Native.Nat.{ℕ}
-use Rattle.compiled_paths.specs.Columns.{axisOf}
-use Rattle.path_laws.specs.Inverses.{inverse}
-use Rattle.axis_passes.specs.inverse_axes.Axes.{axis-other}
 use Rattle.axis_passes.proofs.inverse_axes.inverse_of.Statement.{statement}
 use Rattle.axis_passes.proofs.inverse_axes.inverse_of.Tie as tie
+use Rattle.axis_passes.specs.inverse_axes.Axes.{axis-other}
+use Rattle.compiled_paths.specs.Columns.{axisOf}
+use Rattle.path_laws.specs.Inverses.{inverse}
 
 returns : tie.Need-returns
 unfolding axisOf

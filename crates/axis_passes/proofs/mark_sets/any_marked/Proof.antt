@@ -1,13 +1,13 @@
 use mathlib.Core.Path.{_≡_}
 use Prim.Native.Nat.{_-_, _≤_}
+use native.Mathlib.Omega.{arith}
+use borrow.Author.Needs.{needs}
 use lib.ListN.{length}
+use Rattle.axis_passes.proofs.mark_sets.any_marked.Statement.{statement}
+use Rattle.axis_passes.proofs.mark_sets.any_marked.Tie as tie
 use Rattle.cells.specs.row_sets.Columns.{mark, isMarked}
 use Rattle.selection_laws.specs.marks.Passes.{some-none, some-next, some-all}
 use Rattle.text_spec.specs.Lists.{anyBelow}
-use borrow.Author.Needs.{needs}
-use native.Mathlib.Omega.{arith}
-use Rattle.axis_passes.proofs.mark_sets.any_marked.Statement.{statement}
-use Rattle.axis_passes.proofs.mark_sets.any_marked.Tie as tie
 
 abbrev Inv-loop : tie.InvT-loop
 Inv-loop marks x₀ r₀ x r = (r ≤ length marks) × (x ≡ mark (anyBelow r (isMarked marks)))

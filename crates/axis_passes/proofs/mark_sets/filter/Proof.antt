@@ -1,12 +1,12 @@
 use Prim.Native.Nat.{_-_}
+use native.Mathlib.Omega.{arith}
+use borrow.Author.Needs.{needs}
 use lib.ListN.{length}
+use Rattle.axis_passes.proofs.mark_sets.filter.Statement.{statement}
+use Rattle.axis_passes.proofs.mark_sets.filter.Tie as tie
 use Rattle.cells.specs.row_sets.Columns.{intersection}
 use Rattle.cells.specs.row_sets.Loops.{Forward, forward-none, forward-all}
 use Rattle.selection_laws.specs.marks.Passes.{rangeMarks, filter-next, filter-length}
-use borrow.Author.Needs.{needs}
-use native.Mathlib.Omega.{arith}
-use Rattle.axis_passes.proofs.mark_sets.filter.Statement.{statement}
-use Rattle.axis_passes.proofs.mark_sets.filter.Tie as tie
 
 abbrev Inv-loop : tie.InvT-loop
 Inv-loop codes low high from out₀ r₀ out r = Forward (intersection from (rangeMarks low high codes)) out₀ r out

@@ -1,10 +1,10 @@
-use Prim.Native.Nat.{_≤_}
 use mathlib.Core.Logic.{⊎-elim}
 use mathlib.Core.Path.{_∙_}
-use Rattle.selection_laws.specs.marks.Passes.{code-above, code-below, code-between}
+use Prim.Native.Nat.{_≤_}
 use native.Mathlib.Omega.{arith}
 use Rattle.axis_passes.proofs.mark_sets.in_range.Statement.{statement}
 use Rattle.axis_passes.proofs.mark_sets.in_range.Tie as tie
+use Rattle.selection_laws.specs.marks.Passes.{code-above, code-below, code-between}
 
 returns : tie.Need-returns
 returns c = code-above _ _ _ (c .if2 .taken)

@@ -1,12 +1,12 @@
 use Prim.Native.Nat.{_-_}
-use lib.ListN.{length}
-use Rattle.cells.specs.row_sets.Columns.{intersection}
-use Rattle.selection_laws.specs.marks.Passes.{intersection-next, intersection-length}
-use Rattle.cells.specs.row_sets.Loops.{Forward, forward-none, forward-all}
-use borrow.Author.Needs.{needs}
 use native.Mathlib.Omega.{arith}
+use borrow.Author.Needs.{needs}
+use lib.ListN.{length}
 use Rattle.axis_passes.proofs.mark_sets.intersect.Statement.{statement}
 use Rattle.axis_passes.proofs.mark_sets.intersect.Tie as tie
+use Rattle.cells.specs.row_sets.Columns.{intersection}
+use Rattle.cells.specs.row_sets.Loops.{Forward, forward-none, forward-all}
+use Rattle.selection_laws.specs.marks.Passes.{intersection-next, intersection-length}
 
 abbrev Inv-loop : tie.InvT-loop
 Inv-loop from out₀ r₀ out r = Forward (intersection out₀ from) out₀ r out

@@ -1,12 +1,12 @@
 use Prim.Native.Nat.{_-_}
-use lib.ListN.{length}
-use Rattle.cells.specs.row_sets.Columns.{union}
-use Rattle.selection_laws.specs.marks.Passes.{union-next, union-length}
-use Rattle.cells.specs.row_sets.Loops.{Forward, forward-none, forward-all}
-use borrow.Author.Needs.{needs}
 use native.Mathlib.Omega.{arith}
+use borrow.Author.Needs.{needs}
+use lib.ListN.{length}
 use Rattle.axis_passes.proofs.mark_sets.unite.Statement.{statement}
 use Rattle.axis_passes.proofs.mark_sets.unite.Tie as tie
+use Rattle.cells.specs.row_sets.Columns.{union}
+use Rattle.cells.specs.row_sets.Loops.{Forward, forward-none, forward-all}
+use Rattle.selection_laws.specs.marks.Passes.{union-next, union-length}
 
 abbrev Inv-loop : tie.InvT-loop
 Inv-loop from out₀ r₀ out r = Forward (union out₀ from) out₀ r out

@@ -1,12 +1,12 @@
 use Prim.Native.Nat.{_-_}
-use lib.ListN.{length}
-use Rattle.cells.specs.row_sets.Columns.{marks}
-use Rattle.cells.specs.row_sets.Loops.{Forward, forward-none, forward-next, forward-all}
-use Rattle.axis_passes.specs.root.Roots.{atRoot, at-root-row, at-root-length, children-set}
-use borrow.Author.Needs.{needs}
 use native.Mathlib.Omega.{arith}
+use borrow.Author.Needs.{needs}
+use lib.ListN.{length}
 use Rattle.axis_passes.proofs.root.mark_children.Statement.{statement}
 use Rattle.axis_passes.proofs.root.mark_children.Tie as tie
+use Rattle.axis_passes.specs.root.Roots.{atRoot, at-root-row, at-root-length, children-set}
+use Rattle.cells.specs.row_sets.Columns.{marks}
+use Rattle.cells.specs.row_sets.Loops.{Forward, forward-none, forward-next, forward-all}
 
 abbrev Inv-loop : tie.InvT-loop
 Inv-loop parents out₀ r₀ out r = Forward (marks (length parents) (atRoot parents)) out₀ r out

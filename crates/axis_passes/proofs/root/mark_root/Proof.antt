@@ -1,7 +1,7 @@
-use Rattle.axis_passes.specs.root.Roots.{root-set}
 use borrow.Author.Needs.{needs}
 use Rattle.axis_passes.proofs.root.mark_root.Statement.{statement}
 use Rattle.axis_passes.proofs.root.mark_root.Tie as tie
+use Rattle.axis_passes.specs.root.Roots.{root-set}
 
 returns : tie.Need-returns
 returns c = root-set _ _ (c .before .before .before .before .before .pre) (c .before .before .fill .ensures)

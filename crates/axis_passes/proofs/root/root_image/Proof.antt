@@ -1,12 +1,12 @@
 use mathlib.Core.Bool.{true, false}
 use mathlib.Core.Path.{refl}
 use native.Mathlib.Omega.{arith}
-use Rattle.compiled_paths.specs.Columns.{axisOf}
-use Rattle.selection_laws.specs.marks.Roots.{rootImage}
-use Rattle.axis_passes.specs.root.Roots.{root-axis, filled-axis, later-axis, root-kept}
 use borrow.Author.Needs.{needs}
 use Rattle.axis_passes.proofs.root.root_image.Statement.{statement}
 use Rattle.axis_passes.proofs.root.root_image.Tie as tie
+use Rattle.axis_passes.specs.root.Roots.{root-axis, filled-axis, later-axis, root-kept}
+use Rattle.compiled_paths.specs.Columns.{axisOf}
+use Rattle.selection_laws.specs.marks.Roots.{rootImage}
 
 mark-later-requires : tie.Need-mark-later-requires
 mark-later-requires c κs =

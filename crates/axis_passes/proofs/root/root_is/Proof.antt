@@ -1,8 +1,8 @@
 use mathlib.Core.Path.{sym, ap}
 use borrow.Author.Tests.{eq-eqb, ne-eqb}
-use Rattle.cells.specs.row_sets.Columns.{mark}
 use Rattle.axis_passes.proofs.root.root_is.Statement.{statement}
 use Rattle.axis_passes.proofs.root.root_is.Tie as tie
+use Rattle.cells.specs.row_sets.Columns.{mark}
 
 returns : tie.Need-returns
 returns c = sym (ap mark (eq-eqb _ 0 (c .if1 .taken)))

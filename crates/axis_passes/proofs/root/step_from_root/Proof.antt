@@ -1,7 +1,7 @@
-use Rattle.axis_passes.specs.root.Roots.{first-root, first-test, first-marked}
 use borrow.Author.Needs.{needs}
 use Rattle.axis_passes.proofs.root.step_from_root.Statement.{statement}
 use Rattle.axis_passes.proofs.root.step_from_root.Tie as tie
+use Rattle.axis_passes.specs.root.Roots.{first-root, first-test, first-marked}
 
 -- the states that answers go back to
 abbrev start-before : tie.After-root-image → tie.Start

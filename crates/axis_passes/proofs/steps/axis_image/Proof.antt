@@ -1,9 +1,9 @@
-use Rattle.compiled_paths.specs.Columns.{axisOf}
-use Rattle.axis_passes.specs.inverse_axes.Axes.{axis-other}
-use Rattle.axis_passes.specs.steps.Steps.{axis-number, image-kept}
 use borrow.Author.Needs.{needs}
 use Rattle.axis_passes.proofs.steps.axis_image.Statement.{statement}
 use Rattle.axis_passes.proofs.steps.axis_image.Tie as tie
+use Rattle.axis_passes.specs.inverse_axes.Axes.{axis-other}
+use Rattle.axis_passes.specs.steps.Steps.{axis-number, image-kept}
+use Rattle.compiled_paths.specs.Columns.{axisOf}
 
 returns : tie.Need-returns
 unfolding axisOf

@@ -1,7 +1,7 @@
-use Rattle.axis_passes.specs.steps.Steps.{tested}
 use borrow.Author.Needs.{needs}
 use Rattle.axis_passes.proofs.steps.filter_test.Statement.{statement}
 use Rattle.axis_passes.proofs.steps.filter_test.Tie as tie
+use Rattle.axis_passes.specs.steps.Steps.{tested}
 
 -- the states that answers go back to
 abbrev start-before : tie.After-code-range → tie.Start

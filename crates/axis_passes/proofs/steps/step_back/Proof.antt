@@ -1,9 +1,9 @@
 use mathlib.Core.Path.{sym, _∙_}
-use borrow.Author.Tests.{not-true}
-use Rattle.axis_passes.specs.steps.Steps.{pass-test, tested-marks, tested-axis, moved-back, none-back}
 use borrow.Author.Needs.{needs}
+use borrow.Author.Tests.{not-true}
 use Rattle.axis_passes.proofs.steps.step_back.Statement.{statement}
 use Rattle.axis_passes.proofs.steps.step_back.Tie as tie
+use Rattle.axis_passes.specs.steps.Steps.{pass-test, tested-marks, tested-axis, moved-back, none-back}
 
 -- the states that answers go back to
 abbrev start-before : tie.After-filter-test-arg2 → tie.Start

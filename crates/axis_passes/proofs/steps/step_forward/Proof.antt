@@ -1,7 +1,7 @@
-use Rattle.axis_passes.specs.steps.Steps.{pass-axis, moved-test, moved}
 use borrow.Author.Needs.{needs}
 use Rattle.axis_passes.proofs.steps.step_forward.Statement.{statement}
 use Rattle.axis_passes.proofs.steps.step_forward.Tie as tie
+use Rattle.axis_passes.specs.steps.Steps.{pass-axis, moved-test, moved}
 
 -- the states that answers go back to
 abbrev start-before : tie.After-axis-image-arg2 → tie.Start

@@ -1,8 +1,8 @@
-use Rattle.axis_passes.specs.written_steps.Steps.{at-keep, at-kept}
-use borrow.Author.Needs.{needs}
 use native.Mathlib.Omega.{arith}
+use borrow.Author.Needs.{needs}
 use Rattle.axis_passes.proofs.written_steps.keep_at.Statement.{statement}
 use Rattle.axis_passes.proofs.written_steps.keep_at.Tie as tie
+use Rattle.axis_passes.specs.written_steps.Steps.{at-keep, at-kept}
 
 -- the states that answers go back to
 abbrev range-size-before : tie.After-keep → tie.After-range-size

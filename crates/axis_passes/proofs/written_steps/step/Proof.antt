@@ -1,8 +1,8 @@
-use Rattle.axis_passes.specs.written_steps.Steps.{step-pass, step-kept, step-marked}
-use borrow.Author.Needs.{needs}
 use native.Mathlib.Omega.{arith}
+use borrow.Author.Needs.{needs}
 use Rattle.axis_passes.proofs.written_steps.step.Statement.{statement}
 use Rattle.axis_passes.proofs.written_steps.step.Tie as tie
+use Rattle.axis_passes.specs.written_steps.Steps.{step-pass, step-kept, step-marked}
 
 -- the states that answers go back to
 abbrev start-before : tie.After-axis-number → tie.Start

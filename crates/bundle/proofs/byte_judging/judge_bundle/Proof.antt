@@ -1,10 +1,10 @@
 -- `judge_bundle` meets its contract: 2, then 3, then the others.
 use mathlib.Core.List.{map}
-use Rattle.text_spec.specs.Scans.{nameAt}
-use Rattle.bundle.specs.Outcomes.{judge-empty, judge-long, judge-foreign, readable}
 use borrow.Author.Needs.{needs}
 use Rattle.bundle.proofs.byte_judging.judge_bundle.Statement.{statement}
 use Rattle.bundle.proofs.byte_judging.judge_bundle.Tie as tie
+use Rattle.bundle.specs.Outcomes.{judge-empty, judge-long, judge-foreign, readable}
+use Rattle.text_spec.specs.Scans.{nameAt}
 
 -- the states that answers go back to
 abbrev start-before : tie.Else1 → tie.Start

@@ -1,6 +1,6 @@
 -- `fill` meets its contract.
-use Rattle.bundle.proofs.columns.Columns.{filled-from}
 use borrow.Author.Needs.{needs}
+use Rattle.bundle.proofs.columns.Columns.{filled-from}
 use Rattle.bundle.proofs.columns.fill.Statement.{statement}
 use Rattle.bundle.proofs.columns.fill.Tie as tie
 

@@ -5,9 +5,9 @@ use native.Mathlib.Omega.{arith}
 use borrow.Author.Needs.{needs}
 use lib.ListN.{length, drop, length-set}
 use Rattle.bundle.proofs.last_steps.Marks.{marked-next, marked-all}
-use Rattle.bundle.specs.last_steps.Marks.{marked}
 use Rattle.bundle.proofs.last_steps.mark_last.Statement.{statement}
 use Rattle.bundle.proofs.last_steps.mark_last.Tie as tie
+use Rattle.bundle.specs.last_steps.Marks.{marked}
 
 abbrev Inv-loop : tie.InvT-loop
 Inv-loop ways axes₀ i₀ axes i = (1 ≤ i) × (length axes ≡ length axes₀) × (marked axes (drop i ways) ≡ marked axes₀ (drop 1 ways))

@@ -5,9 +5,9 @@ use native.Mathlib.Omega.{arith}
 use borrow.Author.Needs.{needs}
 use lib.ListN.{length}
 use Rattle.bundle.proofs.names_in_tests.Columns.{CompiledTo, compiled-first, compiled-all, compiled-sizes, compiled-next}
-use Rattle.text_spec.specs.Scans.{nameAt}
 use Rattle.bundle.proofs.names_in_tests.compile_steps.Statement.{statement}
 use Rattle.bundle.proofs.names_in_tests.compile_steps.Tie as tie
+use Rattle.text_spec.specs.Scans.{nameAt}
 
 abbrev Inv-loop : tie.InvT-loop
 Inv-loop schema names text cells at axes₀ tests₀ lost least₀ i₀ axes tests least i =

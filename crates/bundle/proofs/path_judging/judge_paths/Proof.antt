@@ -1,10 +1,10 @@
 -- `judge_paths` meets its contract: 8, then 9, then the names.
 use mathlib.Core.List.{map}
-use Rattle.text_spec.specs.Scans.{nameAt}
-use Rattle.bundle.specs.Outcomes.{judge-departs, judge-over, judge-counts, judge-spelling}
 use borrow.Author.Needs.{needs}
 use Rattle.bundle.proofs.path_judging.judge_paths.Statement.{statement}
 use Rattle.bundle.proofs.path_judging.judge_paths.Tie as tie
+use Rattle.bundle.specs.Outcomes.{judge-departs, judge-over, judge-counts, judge-spelling}
+use Rattle.text_spec.specs.Scans.{nameAt}
 
 -- the states that answers go back to
 abbrev start-before : tie.After-all-paths → tie.Start

@@ -1,9 +1,9 @@
 -- `answer_of` meets its contract.
 use mathlib.Core.Path.{sym, ap}
 use borrow.Author.Needs.{needs}
-use Rattle.bundle.specs.reader.Records.{answerOf}
 use Rattle.bundle.proofs.reader.answer_of.Statement.{statement}
 use Rattle.bundle.proofs.reader.answer_of.Tie as tie
+use Rattle.bundle.specs.reader.Records.{answerOf}
 
 returns : tie.Need-returns
 returns c = sym (ap answerOf (c .before .judgement .given .1))

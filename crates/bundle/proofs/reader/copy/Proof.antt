@@ -6,9 +6,9 @@ use native.Mathlib.Omega.{arith}
 use borrow.Author.Needs.{needs}
 use lib.ListN.{length, take, length-set}
 use lib.Seq.{sets, take-length}
-use Rattle.bundle.specs.names_in_tests.Columns.{column-next-first}
 use Rattle.bundle.proofs.reader.copy.Statement.{statement}
 use Rattle.bundle.proofs.reader.copy.Tie as tie
+use Rattle.bundle.specs.names_in_tests.Columns.{column-next-first}
 
 abbrev Inv-loop : tie.InvT-loop
 Inv-loop text out₀ i₀ out i = (i ≤ length text) × (length out ≡ length out₀) × (out ≡ sets out₀ 0 (map (λ x. x) (take i text)))

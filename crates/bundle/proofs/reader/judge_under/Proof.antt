@@ -1,8 +1,8 @@
 -- `judge_under` meets its contract.
 use mathlib.Core.Path.{sym}
+use borrow.Author.Needs.{needs}
 use lib.Seq.{length-take-le}
 use Rattle.bundle.proofs.reader.Under.{take-few, under-few, under-named, under-none}
-use borrow.Author.Needs.{needs}
 use Rattle.bundle.proofs.reader.judge_under.Statement.{statement}
 use Rattle.bundle.proofs.reader.judge_under.Tie as tie
 

@@ -2,17 +2,17 @@
 use mathlib.Core.Bool.{true}
 use mathlib.Core.Path.{_≡_, sym, _∙_}
 use Prim.Native.Nat.{_≤_}
-use lib.ListN.{length}
-use borrow.Author.Tests.{not-true, not-false}
-use lib.Seq.{length-take-le}
-use Rattle.bundle.proofs.reader.Records.{read-no-schema, read-judged}
-use Rattle.schema_reader.specs.Sizes.{record-low}
-use Rattle.schema_reader.specs.Records.{passesRecord}
-use Rattle.text_spec.specs.Limits.{maxSchemaBytes}
 use native.Mathlib.Omega.{arith}
 use borrow.Author.Needs.{needs}
+use borrow.Author.Tests.{not-true, not-false}
+use lib.ListN.{length}
+use lib.Seq.{length-take-le}
+use Rattle.bundle.proofs.reader.Records.{read-no-schema, read-judged}
 use Rattle.bundle.proofs.reader.read_bundle.Statement.{statement}
 use Rattle.bundle.proofs.reader.read_bundle.Tie as tie
+use Rattle.schema_reader.specs.Records.{passesRecord}
+use Rattle.schema_reader.specs.Sizes.{record-low}
+use Rattle.text_spec.specs.Limits.{maxSchemaBytes}
 
 abbrev start : tie.After-is-schema-record → tie.Start
 start c = c .before .before

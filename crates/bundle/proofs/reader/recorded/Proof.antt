@@ -1,8 +1,8 @@
 -- `recorded` meets its contract.
 use mathlib.Core.Path.{refl}
-use Rattle.bundle.proofs.reader.Records.{copied}
 use native.Mathlib.Omega.{arith}
 use borrow.Author.Needs.{needs}
+use Rattle.bundle.proofs.reader.Records.{copied}
 use Rattle.bundle.proofs.reader.recorded.Statement.{statement}
 use Rattle.bundle.proofs.reader.recorded.Tie as tie
 

@@ -1,13 +1,13 @@
 -- `holds_text` meets its contract: the length, then the cells.
 use mathlib.Core.Path.{_≡_, sym}
+use native.Mathlib.Omega.{arith}
+use borrow.Author.Needs.{needs}
 use lib.ListN.{length}
 use lib.Seq.{length-take-le}
 use Rattle.bundle.proofs.record_cells.Cells.{text-long, text-compared}
-use Rattle.text_spec.specs.Limits.{maxBundleBytes}
-use native.Mathlib.Omega.{arith}
-use borrow.Author.Needs.{needs}
 use Rattle.bundle.proofs.record_cells.holds_text.Statement.{statement}
 use Rattle.bundle.proofs.record_cells.holds_text.Tie as tie
+use Rattle.text_spec.specs.Limits.{maxBundleBytes}
 
 returns : tie.Need-returns
 returns c = text-long (c .before .args .bundle .bytes) (c .before .args .bundle .len) (c .if1 .taken)

@@ -1,14 +1,14 @@
 -- `accepts_text` meets its contract: the judgement of the text.
 use mathlib.Core.Path.{_≡_, sym}
+use native.Mathlib.Omega.{arith}
+use borrow.Author.Needs.{needs}
 use lib.ListN.{length, take}
 use lib.Seq.{length-take-le}
 use Rattle.bundle.proofs.record_tests.Records.{text-accepted, text-refused}
-use Rattle.schema_spec.specs.Records.{schemaIn}
-use Rattle.text_spec.specs.Limits.{maxSchemaBytes, maxBundleBytes}
-use native.Mathlib.Omega.{arith}
-use borrow.Author.Needs.{needs}
 use Rattle.bundle.proofs.record_tests.accepts_text.Statement.{statement}
 use Rattle.bundle.proofs.record_tests.accepts_text.Tie as tie
+use Rattle.schema_spec.specs.Records.{schemaIn}
+use Rattle.text_spec.specs.Limits.{maxSchemaBytes, maxBundleBytes}
 
 array-share-prefix-bytes : tie.Need-array-share-prefix-bytes
 array-share-prefix-bytes c =

@@ -1,14 +1,14 @@
 -- `is_bundle_record` meets its contract: the schema's record, the cells, then the text.
 use mathlib.Core.Path.{sym, _∙_}
-use lib.ListN.{take}
-use borrow.Author.Tests.{not-true, not-false}
-use Rattle.schema_reader.specs.Sizes.{record-low}
-use Rattle.bundle.proofs.record_tests.Records.{text-low, test-no-schema, test-no-text, test-text}
-use Rattle.schema_reader.specs.Records.{passesRecord}
-use Rattle.schema_spec.specs.Records.{schemaIn}
 use borrow.Author.Needs.{needs}
+use borrow.Author.Tests.{not-true, not-false}
+use lib.ListN.{take}
+use Rattle.bundle.proofs.record_tests.Records.{text-low, test-no-schema, test-no-text, test-text}
 use Rattle.bundle.proofs.record_tests.is_bundle_record.Statement.{statement}
 use Rattle.bundle.proofs.record_tests.is_bundle_record.Tie as tie
+use Rattle.schema_reader.specs.Records.{passesRecord}
+use Rattle.schema_reader.specs.Sizes.{record-low}
+use Rattle.schema_spec.specs.Records.{schemaIn}
 
 returns : tie.Need-returns
 returns c =

@@ -6,10 +6,10 @@ use native.Mathlib.Omega.{arith}
 use borrow.Author.Needs.{needs}
 use lib.ListN.{length, take, getD, length-set}
 use lib.Seq.{sets}
-use Rattle.bundle.specs.step_starts.Starts.{bracketStart}
-use Rattle.bundle.specs.names_in_tests.Columns.{column-next-first, column-whole}
 use Rattle.bundle.proofs.step_starts.bracket_starts.Statement.{statement}
 use Rattle.bundle.proofs.step_starts.bracket_starts.Tie as tie
+use Rattle.bundle.specs.names_in_tests.Columns.{column-next-first, column-whole}
+use Rattle.bundle.specs.step_starts.Starts.{bracketStart}
 
 abbrev Inv-loop : tie.InvT-loop
 Inv-loop conditions ways out₀ i₀ out i =

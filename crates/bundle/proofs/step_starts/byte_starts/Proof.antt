@@ -6,9 +6,9 @@ use native.Mathlib.Omega.{arith}
 use borrow.Author.Needs.{needs}
 use lib.ListN.{length, take, length-set}
 use lib.Seq.{sets}
-use Rattle.bundle.specs.names_in_tests.Columns.{column-next-first, column-whole}
 use Rattle.bundle.proofs.step_starts.byte_starts.Statement.{statement}
 use Rattle.bundle.proofs.step_starts.byte_starts.Tie as tie
+use Rattle.bundle.specs.names_in_tests.Columns.{column-next-first, column-whole}
 
 abbrev Inv-loop : tie.InvT-loop
 Inv-loop ends out₀ i₀ out i = (i ≤ length ends) × (length out ≡ length out₀) × (out ≡ sets out₀ 0 (map (λ x. x) (take i ends)))

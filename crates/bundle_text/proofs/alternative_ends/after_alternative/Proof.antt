@@ -1,6 +1,6 @@
 -- `after_alternative` meets its contract: the byte decides, and then the rest of ` or `.
-use Rattle.bundle_text.proofs.alternative_ends.Reading.{follow-end, follow-close, follow-not, follow-more, follow-stops}
 use borrow.Author.Needs.{needs}
+use Rattle.bundle_text.proofs.alternative_ends.Reading.{follow-end, follow-close, follow-not, follow-more, follow-stops}
 use Rattle.bundle_text.proofs.alternative_ends.after_alternative.Statement.{statement}
 use Rattle.bundle_text.proofs.alternative_ends.after_alternative.Tie as tie
 

@@ -1,10 +1,10 @@
 -- `alternative` meets its contract: step by step.
 use Prim.Native.Nat.{_-_}
 use native.Mathlib.Omega.{arith}
+use borrow.Author.Needs.{needs}
 use borrow.Author.Tests.{not-true, not-false}
 use lib.ListN.{length}
 use Rattle.bundle_text.proofs.alternatives.Reading.{UpTo, up-to-start, up-to-size, up-to-place, up-to-fails, up-to-ends, up-to-next, up-to-length}
-use borrow.Author.Needs.{needs}
 use Rattle.bundle_text.proofs.alternatives.alternative.Statement.{statement}
 use Rattle.bundle_text.proofs.alternatives.alternative.Tie as tie
 

@@ -1,6 +1,6 @@
 -- `stands` meets its contract: past the end no byte stands.
-use Rattle.bundle_text.proofs.alternatives.Reading.{stands-none, stands-as}
 use borrow.Author.Needs.{needs}
+use Rattle.bundle_text.proofs.alternatives.Reading.{stands-none, stands-as}
 use Rattle.bundle_text.proofs.alternatives.stands.Statement.{statement}
 use Rattle.bundle_text.proofs.alternatives.stands.Tie as tie
 

@@ -1,10 +1,10 @@
 -- `axis` meets its contract: the first byte says which axes may still be meant.
 use mathlib.Core.Path.{refl}
-use Rattle.bundle_text.proofs.axes.Axes.{axis-end, first-child, first-descendant, first-ancestor, first-parent, first-self, first-not}
-use Rattle.path_spec.specs.Machine.{beginStep}
 use borrow.Author.Needs.{needs}
+use Rattle.bundle_text.proofs.axes.Axes.{axis-end, first-child, first-descendant, first-ancestor, first-parent, first-self, first-not}
 use Rattle.bundle_text.proofs.axes.axis.Statement.{statement}
 use Rattle.bundle_text.proofs.axes.axis.Tie as tie
+use Rattle.path_spec.specs.Machine.{beginStep}
 
 -- the states that answers go back to
 abbrev else1-before : tie.Else4 → tie.Else1

@@ -1,9 +1,9 @@
 -- `either` meets its contract: the keyword, and then where the two axes part.
-use Rattle.bundle_text.proofs.axes.Axes.{both-past, both-fail}
-use Rattle.text.specs.scanning.OutcomeLaws.{spelt-end}
 use borrow.Author.Needs.{needs}
+use Rattle.bundle_text.proofs.axes.Axes.{both-past, both-fail}
 use Rattle.bundle_text.proofs.axes.either.Statement.{statement}
 use Rattle.bundle_text.proofs.axes.either.Tie as tie
+use Rattle.text.specs.scanning.OutcomeLaws.{spelt-end}
 
 -- the states that answers go back to
 abbrev start-before : tie.After-spell → tie.Start

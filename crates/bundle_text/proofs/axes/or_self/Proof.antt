@@ -1,11 +1,11 @@
 -- `or_self` meets its contract: the byte decides between two axes.
 use mathlib.Core.List.{[]}
 use mathlib.Core.Path.{refl}
-use Rattle.bundle_text.proofs.axes.Axes.{axis-end, or-self-not, or-self-colon, or-self-hyphen}
-use Rattle.bundle_text.specs.axes.Readings.{double}
 use borrow.Author.Needs.{needs}
+use Rattle.bundle_text.proofs.axes.Axes.{axis-end, or-self-not, or-self-colon, or-self-hyphen}
 use Rattle.bundle_text.proofs.axes.or_self.Statement.{statement}
 use Rattle.bundle_text.proofs.axes.or_self.Tie as tie
+use Rattle.bundle_text.specs.axes.Readings.{double}
 
 -- the states that answers go back to
 abbrev start-before : tie.Else1 → tie.Start

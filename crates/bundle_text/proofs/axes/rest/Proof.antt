@@ -1,6 +1,6 @@
 -- `rest` meets its contract: the keyword.
-use Rattle.bundle_text.proofs.axes.Axes.{rest-past, rest-fail}
 use borrow.Author.Needs.{needs}
+use Rattle.bundle_text.proofs.axes.Axes.{rest-past, rest-fail}
 use Rattle.bundle_text.proofs.axes.rest.Statement.{statement}
 use Rattle.bundle_text.proofs.axes.rest.Tie as tie
 

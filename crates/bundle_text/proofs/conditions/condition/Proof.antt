@@ -2,11 +2,11 @@
 use mathlib.Core.Path.{_≡_}
 use Prim.Native.Nat.{_-_}
 use native.Mathlib.Omega.{arith}
-use lib.ListN.{length}
-use Rattle.bundle_text.specs.alternatives.ConditionLaws.{Upto, upto-start, upto-size, upto-fails, upto-counts, upto-stop, upto-length, upto-stops, upto-next, upto-closes, upto-later}
 use borrow.Author.Needs.{needs}
+use lib.ListN.{length}
 use Rattle.bundle_text.proofs.conditions.condition.Statement.{statement}
 use Rattle.bundle_text.proofs.conditions.condition.Tie as tie
+use Rattle.bundle_text.specs.alternatives.ConditionLaws.{Upto, upto-start, upto-size, upto-fails, upto-counts, upto-stop, upto-length, upto-stops, upto-next, upto-closes, upto-later}
 
 abbrev Inv-loop : tie.InvT-loop
 Inv-loop s at cells₀ n ways₀ m i₀ count₀ k₀ long₀ cells ways i count k long =

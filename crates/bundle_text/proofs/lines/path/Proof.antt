@@ -2,11 +2,11 @@
 use mathlib.Core.Path.{_≡_}
 use Prim.Native.Nat.{_-_}
 use native.Mathlib.Omega.{arith}
-use lib.ListN.{length}
-use Rattle.bundle_text.specs.written_steps.Lines.{Upto, upto-start, steps-size, upto-fails, upto-length, upto-stops, upto-later, upto-next, upto-closes}
 use borrow.Author.Needs.{needs}
+use lib.ListN.{length}
 use Rattle.bundle_text.proofs.lines.path.Statement.{statement}
 use Rattle.bundle_text.proofs.lines.path.Tie as tie
+use Rattle.bundle_text.specs.written_steps.Lines.{Upto, upto-start, steps-size, upto-fails, upto-length, upto-stops, upto-later, upto-next, upto-closes}
 
 abbrev Inv-loop : tie.InvT-loop
 Inv-loop s at outers₀ conditions₀ k cells₀ n ways₀ m i₀ steps₀ count₀ many₀ over₀ outers conditions cells ways i steps count many over =

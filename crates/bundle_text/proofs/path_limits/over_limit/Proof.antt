@@ -1,6 +1,6 @@
 -- `over_limit` meets its contract: the tests in their order.
-use Rattle.bundle_text.proofs.path_limits.Limits.{limit-known, limit-paths, limit-steps, limit-bytes, limit-condition, limit-kept}
 use borrow.Author.Needs.{needs}
+use Rattle.bundle_text.proofs.path_limits.Limits.{limit-known, limit-paths, limit-steps, limit-bytes, limit-condition, limit-kept}
 use Rattle.bundle_text.proofs.path_limits.over_limit.Statement.{statement}
 use Rattle.bundle_text.proofs.path_limits.over_limit.Tie as tie
 

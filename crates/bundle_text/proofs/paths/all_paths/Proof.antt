@@ -2,9 +2,9 @@
 use mathlib.Core.Path.{_≡_}
 use Prim.Native.Nat.{_-_}
 use native.Mathlib.Omega.{arith}
+use borrow.Author.Needs.{needs}
 use lib.ListN.{length}
 use Rattle.bundle_text.proofs.paths.Bundles.{Upto, upto-start, upto-size, upto-whole, upto-fails, upto-places, upto-next}
-use borrow.Author.Needs.{needs}
 use Rattle.bundle_text.proofs.paths.all_paths.Statement.{statement}
 use Rattle.bundle_text.proofs.paths.all_paths.Tie as tie
 

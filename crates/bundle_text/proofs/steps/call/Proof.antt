@@ -1,10 +1,10 @@
 -- `call` meets its contract: the name is sought twice.
 use mathlib.Core.Path.{refl}
-use Rattle.bundle_text.proofs.steps.Steps.{sought-found, sought-none, call-node, call-text, call-not}
-use Rattle.text_spec.specs.Lists.{bytes}
 use borrow.Author.Needs.{needs}
+use Rattle.bundle_text.proofs.steps.Steps.{sought-found, sought-none, call-node, call-text, call-not}
 use Rattle.bundle_text.proofs.steps.call.Statement.{statement}
 use Rattle.bundle_text.proofs.steps.call.Tie as tie
+use Rattle.text_spec.specs.Lists.{bytes}
 
 -- the states that answers go back to
 abbrev start-before : tie.After-find → tie.Start

@@ -1,6 +1,6 @@
 -- `close` meets its contract: the byte is `)` or not.
-use Rattle.bundle_text.proofs.steps.Steps.{close-end, close-past, close-not}
 use borrow.Author.Needs.{needs}
+use Rattle.bundle_text.proofs.steps.Steps.{close-end, close-past, close-not}
 use Rattle.bundle_text.proofs.steps.close.Statement.{statement}
 use Rattle.bundle_text.proofs.steps.close.Tie as tie
 

@@ -1,8 +1,8 @@
 -- `node_test` meets its contract: a name, and then whether it is called.
 use mathlib.Core.Path.{sym, _∙_}
+use borrow.Author.Needs.{needs}
 use borrow.Author.Tests.{not-true, not-false}
 use Rattle.bundle_text.proofs.steps.Steps.{due-end, due-not, due-long, due-last, due-named, due-called}
-use borrow.Author.Needs.{needs}
 use Rattle.bundle_text.proofs.steps.node_test.Statement.{statement}
 use Rattle.bundle_text.proofs.steps.node_test.Tie as tie
 

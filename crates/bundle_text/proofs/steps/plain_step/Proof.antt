@@ -1,7 +1,7 @@
 -- `plain_step` meets its contract: the axis, and then the test.
 use native.Mathlib.Omega.{arith}
-use Rattle.bundle_text.proofs.steps.Steps.{plain-no-axis, plain-no-test, plain-test, plain-past}
 use borrow.Author.Needs.{needs}
+use Rattle.bundle_text.proofs.steps.Steps.{plain-no-axis, plain-no-test, plain-test, plain-past}
 use Rattle.bundle_text.proofs.steps.plain_step.Statement.{statement}
 use Rattle.bundle_text.proofs.steps.plain_step.Tie as tie
 

@@ -1,6 +1,6 @@
 -- `after_step` meets its contract: the byte decides.
-use Rattle.bundle_text.proofs.written_steps.Steps.{follow-end, follow-slash, follow-line, follow-not}
 use borrow.Author.Needs.{needs}
+use Rattle.bundle_text.proofs.written_steps.Steps.{follow-end, follow-slash, follow-line, follow-not}
 use Rattle.bundle_text.proofs.written_steps.after_step.Statement.{statement}
 use Rattle.bundle_text.proofs.written_steps.after_step.Tie as tie
 

@@ -1,7 +1,7 @@
 -- `brackets` meets its contract: a condition, or none.
 use native.Mathlib.Omega.{arith}
-use Rattle.bundle_text.proofs.written_steps.Steps.{brackets-none, brackets-some}
 use borrow.Author.Needs.{needs}
+use Rattle.bundle_text.proofs.written_steps.Steps.{brackets-none, brackets-some}
 use Rattle.bundle_text.proofs.written_steps.brackets.Statement.{statement}
 use Rattle.bundle_text.proofs.written_steps.brackets.Tie as tie
 

@@ -1,7 +1,7 @@
 -- `written_step` meets its contract: a step without brackets, and then its brackets.
 use native.Mathlib.Omega.{arith}
-use Rattle.bundle_text.proofs.written_steps.Steps.{written-fails, written-place, written-reads}
 use borrow.Author.Needs.{needs}
+use Rattle.bundle_text.proofs.written_steps.Steps.{written-fails, written-place, written-reads}
 use Rattle.bundle_text.proofs.written_steps.written_step.Statement.{statement}
 use Rattle.bundle_text.proofs.written_steps.written_step.Tie as tie
 

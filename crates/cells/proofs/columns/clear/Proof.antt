@@ -1,8 +1,8 @@
 -- `clear` meets its contract: from the first row on no cell is left.
 use borrow.Author.Needs.{needs}
-use Rattle.cells.specs.lent.Columns.{columns-cleared}
 use Rattle.cells.proofs.columns.clear.Statement.{statement}
 use Rattle.cells.proofs.columns.clear.Tie as tie
+use Rattle.cells.specs.lent.Columns.{columns-cleared}
 
 returns : tie.Need-returns
 returns c = columns-cleared _ _ (c .before .before .before .before .before .before .before .before .before .before .clear-columns .ensures)

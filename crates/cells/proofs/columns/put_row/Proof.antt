@@ -1,9 +1,9 @@
-use denote.Ref.{now}
 use borrow.Author.Needs.{needs}
-use Rattle.cells.specs.columns.ColumnLaws.{row-in, row-out}
-use Rattle.cells.specs.columns.Columns.{cells}
+use denote.Ref.{now}
 use Rattle.cells.proofs.columns.put_row.Statement.{statement}
 use Rattle.cells.proofs.columns.put_row.Tie as tie
+use Rattle.cells.specs.columns.ColumnLaws.{row-in, row-out}
+use Rattle.cells.specs.columns.Columns.{cells}
 use Rattle.table_spec.specs.Columns.{columns}
 
 returns : tie.Need-returns

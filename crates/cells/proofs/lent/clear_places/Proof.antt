@@ -1,10 +1,10 @@
 use Prim.Native.Nat.{_-_}
-use lib.ListN.{length}
-use Rattle.cells.specs.lent.Cells.{Clearing, clearing-none, clearing-more, clearing-all}
-use borrow.Author.Needs.{needs}
 use native.Mathlib.Omega.{arith}
+use borrow.Author.Needs.{needs}
+use lib.ListN.{length}
 use Rattle.cells.proofs.lent.clear_places.Statement.{statement}
 use Rattle.cells.proofs.lent.clear_places.Tie as tie
+use Rattle.cells.specs.lent.Cells.{Clearing, clearing-none, clearing-more, clearing-all}
 
 abbrev Inv-loop : tie.InvT-loop
 Inv-loop out₀ n i₀ out i = Clearing out₀ n i out

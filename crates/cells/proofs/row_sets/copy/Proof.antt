@@ -1,11 +1,11 @@
 use mathlib.Core.Path.{refl, sym}
 use Prim.Native.Nat.{_-_}
-use lib.ListN.{length}
-use Rattle.cells.specs.row_sets.Loops.{Forward, forward-none, forward-next, forward-all}
-use borrow.Author.Needs.{needs}
 use native.Mathlib.Omega.{arith}
+use borrow.Author.Needs.{needs}
+use lib.ListN.{length}
 use Rattle.cells.proofs.row_sets.copy.Statement.{statement}
 use Rattle.cells.proofs.row_sets.copy.Tie as tie
+use Rattle.cells.specs.row_sets.Loops.{Forward, forward-none, forward-next, forward-all}
 
 abbrev Inv-loop : tie.InvT-loop
 Inv-loop from out₀ r₀ out r = Forward from out₀ r out

@@ -1,11 +1,11 @@
 use mathlib.Core.Path.{sym}
 use Prim.Native.Nat.{_-_}
-use lib.ListN.{length, replicate, length-replicate}
-use Rattle.cells.specs.row_sets.Loops.{Forward, forward-none, forward-all, fill-next}
-use borrow.Author.Needs.{needs}
 use native.Mathlib.Omega.{arith}
+use borrow.Author.Needs.{needs}
+use lib.ListN.{length, replicate, length-replicate}
 use Rattle.cells.proofs.row_sets.fill.Statement.{statement}
 use Rattle.cells.proofs.row_sets.fill.Tie as tie
+use Rattle.cells.specs.row_sets.Loops.{Forward, forward-none, forward-all, fill-next}
 
 abbrev Inv-loop : tie.InvT-loop
 Inv-loop out₀ byte r₀ out r = Forward (replicate (length out₀) byte) out₀ r out

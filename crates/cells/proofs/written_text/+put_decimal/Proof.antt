@@ -1,17 +1,17 @@
-use lib.ListN.{length-set}
 use mathlib.Core.List.{[]}
 use mathlib.Core.Path.{_∙_}
-use Rattle.cells.specs.written_text.Written.{digit-room, digit-written, more-fits, more-room, more-written}
-use borrow.Author.Needs.{needs}
-use native.Mathlib.Omega.{arith}
 use Prim.Native.Nat.{ℕ, _<_}
+use native.Mathlib.Omega.{arith}
+use borrow.Author.Needs.{needs}
 use borrow.Fn.Kinds.{In}
 use borrow.Fn.PlainCycle.{Measures, is, falls, and}
-use Rattle.cells.proofs.written_text.put_decimal.Reads as put-decimal
-use Rattle.cells.proofs.written_text.put_decimal.Kinds as put-decimal-kinds
-use Rattle.cells.proofs.written_text.+put_decimal.Lts-put_decimal as put-decimal-lts
+use lib.ListN.{length-set}
 use Rattle.cells.proofs.written_text.+put_decimal.{statement}
+use Rattle.cells.proofs.written_text.+put_decimal.Lts-put_decimal as put-decimal-lts
 use Rattle.cells.proofs.written_text.+put_decimal.Tie.{close}
+use Rattle.cells.proofs.written_text.put_decimal.Kinds as put-decimal-kinds
+use Rattle.cells.proofs.written_text.put_decimal.Reads as put-decimal
+use Rattle.cells.specs.written_text.Written.{digit-room, digit-written, more-fits, more-room, more-written}
 
 abbrev μ-put-decimal : Measures 1 put-decimal-kinds.ps ℕ
 μ-put-decimal κs a = a .1 .1 .0

@@ -1,11 +1,11 @@
 use mathlib.Core.Path.{refl}
 use Prim.Native.Nat.{_-_}
-use lib.ListN.{length}
-use Rattle.cells.specs.written_text.Written.{Copying, copying-next, copying-all}
-use borrow.Author.Needs.{needs}
 use native.Mathlib.Omega.{arith}
+use borrow.Author.Needs.{needs}
+use lib.ListN.{length}
 use Rattle.cells.proofs.written_text.put_text.Statement.{statement}
 use Rattle.cells.proofs.written_text.put_text.Tie as tie
+use Rattle.cells.specs.written_text.Written.{Copying, copying-next, copying-all}
 
 abbrev Inv-loop : tie.InvT-loop
 Inv-loop out₀ at text i₀ out i = Copying text out₀ at i out

@@ -1,10 +1,10 @@
 -- `chain_first` meets its contract: the first cells of the columns of names and parents give the chain, and the answer says whether there was room.
 use mathlib.Core.Path.{sym}
-use lib.Seq.{length-take-le}
-use Rattle.chains.specs.handed.Answers.{sized-pass, sized-chain, written, too-few}
 use borrow.Author.Needs.{needs}
+use lib.Seq.{length-take-le}
 use Rattle.chains.proofs.handed.chain_first.Statement.{statement}
 use Rattle.chains.proofs.handed.chain_first.Tie as tie
+use Rattle.chains.specs.handed.Answers.{sized-pass, sized-chain, written, too-few}
 
 -- back to the sizes of the names from the first column that is handed on, and from there to the start
 abbrev sized : tie.After-put-chain-arg2 → tie.After-name-sizes

@@ -1,6 +1,9 @@
 -- `chain_lent` meets its contract: the table and the position, the chain.
 use mathlib.Core.Path.{_≡_}
+use borrow.Author.Needs.{needs}
 use lib.ListN.{length}
+use Rattle.chains.proofs.handed.chain_lent.Statement.{statement}
+use Rattle.chains.proofs.handed.chain_lent.Tie as tie
 use Rattle.chains.specs.handed.Answers.{not-chained, may-be-chained, chain-answered}
 use Rattle.compiled_schema.specs.held_words.Words.{words-held}
 use Rattle.library_spec.specs.Records.{LentTable}
@@ -8,9 +11,6 @@ use Rattle.schema_laws.specs.Accepted.{schemaIn-length}
 use Rattle.schema_spec.specs.Records.{schemaIn}
 use Rattle.schema_spec.specs.Schemas.{Schema}
 use Rattle.tables.specs.Handed.{lentTable, isHeld}
-use borrow.Author.Needs.{needs}
-use Rattle.chains.proofs.handed.chain_lent.Statement.{statement}
-use Rattle.chains.proofs.handed.chain_lent.Tie as tie
 
 -- back from where the table is tested to where the schema is compiled, and from there to the start
 abbrev compiled : tie.After-is-table → tie.After-compile

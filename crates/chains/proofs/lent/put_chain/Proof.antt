@@ -1,8 +1,8 @@
-use Rattle.chains.specs.lent.Answers.{answered-short, answered-whole}
 use native.Mathlib.Omega.{arith}
 use borrow.Author.Needs.{needs}
 use Rattle.chains.proofs.lent.put_chain.Statement.{statement}
 use Rattle.chains.proofs.lent.put_chain.Tie as tie
+use Rattle.chains.specs.lent.Answers.{answered-short, answered-whole}
 
 returns : tie.Need-returns
 returns c =

@@ -1,6 +1,6 @@
-use Rattle.cells.specs.lent.Cells.{all-cleared}
 use native.Mathlib.Omega.{arith}
 use borrow.Author.Needs.{needs}
+use Rattle.cells.specs.lent.Cells.{all-cleared}
 use Rattle.chains.proofs.lent.refuse.Statement.{statement}
 use Rattle.chains.proofs.lent.refuse.Tie as tie
 

@@ -2,19 +2,19 @@
 use mathlib.Core.Bool.{true}
 use mathlib.Core.Path.{_≡_, sym, _∙_}
 use Prim.Native.Nat.{_≤_}
+use native.Mathlib.Omega.{arith}
+use borrow.Author.Needs.{needs}
 use borrow.Author.Tests.{not-true, not-false}
 use lib.ListN.{length}
 use lib.Seq.{length-take-le}
-use Rattle.chains.specs.records.Answers.{no-record, by-record, record-read}
-use Rattle.chains.specs.handed.Answers.{refused-1}
-use Rattle.schema_reader.specs.Sizes.{record-low}
-use Rattle.schema_reader.specs.Records.{passesRecord}
-use Rattle.compiled_schema.specs.records.Records.{passes-schema}
-use Rattle.text_spec.specs.Limits.{maxSchemaBytes}
-use native.Mathlib.Omega.{arith}
-use borrow.Author.Needs.{needs}
 use Rattle.chains.proofs.records.row_chain.Statement.{statement}
 use Rattle.chains.proofs.records.row_chain.Tie as tie
+use Rattle.chains.specs.handed.Answers.{refused-1}
+use Rattle.chains.specs.records.Answers.{no-record, by-record, record-read}
+use Rattle.compiled_schema.specs.records.Records.{passes-schema}
+use Rattle.schema_reader.specs.Records.{passesRecord}
+use Rattle.schema_reader.specs.Sizes.{record-low}
+use Rattle.text_spec.specs.Limits.{maxSchemaBytes}
 
 abbrev start : tie.After-is-schema-record → tie.Start
 start c = c .before .before .before .before .before .before .before

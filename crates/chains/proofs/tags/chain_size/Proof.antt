@@ -1,6 +1,6 @@
-use Rattle.chains.proofs.tags.Loops.{Climbing, climbing-first, climbing-next, climbing-fits, climbing-all}
-use borrow.Author.Needs.{needs}
 use native.Mathlib.Omega.{arith}
+use borrow.Author.Needs.{needs}
+use Rattle.chains.proofs.tags.Loops.{Climbing, climbing-first, climbing-next, climbing-fits, climbing-all}
 use Rattle.chains.proofs.tags.chain_size.Statement.{statement}
 use Rattle.chains.proofs.tags.chain_size.Tie as tie
 

@@ -1,8 +1,8 @@
-use borrow.Author.Needs.{needs}
 use native.Mathlib.Omega.{arith}
-use Rattle.chains.specs.tags.Chains.{link-size-element, link-size-text}
+use borrow.Author.Needs.{needs}
 use Rattle.chains.proofs.tags.link_size.Statement.{statement}
 use Rattle.chains.proofs.tags.link_size.Tie as tie
+use Rattle.chains.specs.tags.Chains.{link-size-element, link-size-text}
 
 add-result : tie.Need-add-result
 add-result c = omega (arith, c .before .before .pre .small (c .before .before .args .code) (omega arith))

@@ -1,11 +1,11 @@
 use Prim.Native.Nat.{_-_}
+use native.Mathlib.Omega.{arith}
+use borrow.Author.Needs.{needs}
 use lib.ListN.{length}
 use Rattle.chains.proofs.tags.Loops.{Sizing, sizing-next, sizing-all}
-use Rattle.text_laws.specs.Loops.{passed-first}
-use borrow.Author.Needs.{needs}
-use native.Mathlib.Omega.{arith}
 use Rattle.chains.proofs.tags.name_sizes.Statement.{statement}
 use Rattle.chains.proofs.tags.name_sizes.Tie as tie
+use Rattle.text_laws.specs.Loops.{passed-first}
 
 abbrev Inv-loop : tie.InvT-loop
 Inv-loop text names sizes₀ e₀ sizes e = Sizing text names sizes₀ e sizes

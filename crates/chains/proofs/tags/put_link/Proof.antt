@@ -1,9 +1,9 @@
 -- `put_link` meets its contract: `/`, then the element's name or `text()`.
 use mathlib.Core.Path.{_∙_}
-use lib.ListN.{length-set}
-use Rattle.chains.proofs.tags.Links.{element-fits, element-room, element-written, text-room, text-written, slash-room}
 use native.Mathlib.Omega.{arith}
 use borrow.Author.Needs.{needs}
+use lib.ListN.{length-set}
+use Rattle.chains.proofs.tags.Links.{element-fits, element-room, element-written, text-room, text-written, slash-room}
 use Rattle.chains.proofs.tags.put_link.Statement.{statement}
 use Rattle.chains.proofs.tags.put_link.Tie as tie
 

@@ -1,16 +1,16 @@
 use mathlib.Core.Path.{_∙_}
-use Rattle.chains.specs.tags.Chains.{chained-root, chained-later, pass-up, pass-falls, pass-link, pass-root}
-use borrow.Author.Needs.{needs}
-use native.Mathlib.Omega.{arith}
 use Prim.Native.Nat.{ℕ, _<_}
+use native.Mathlib.Omega.{arith}
+use borrow.Author.Needs.{needs}
 use borrow.Fn.Kinds.{In}
 use borrow.Fn.PlainCycle.{Measures, is, falls, and}
-use Rattle.chains.proofs.writing.write_chain.Reads as write-chain
-use Rattle.chains.proofs.writing.write_chain.Kinds as write-chain-kinds
-use Rattle.chains.proofs.writing.+write_chain.Lts-write_chain as write-chain-lts
 use Rattle.chains.proofs.tags.put_link.Reads as put-link-reads
 use Rattle.chains.proofs.writing.+write_chain.{statement}
+use Rattle.chains.proofs.writing.+write_chain.Lts-write_chain as write-chain-lts
 use Rattle.chains.proofs.writing.+write_chain.Tie.{close}
+use Rattle.chains.proofs.writing.write_chain.Kinds as write-chain-kinds
+use Rattle.chains.proofs.writing.write_chain.Reads as write-chain
+use Rattle.chains.specs.tags.Chains.{chained-root, chained-later, pass-up, pass-falls, pass-link, pass-root}
 
 abbrev μ-write-chain : Measures 6 write-chain-kinds.ps ℕ
 μ-write-chain κs a = a .1 .1 .1 .1 .1 .0

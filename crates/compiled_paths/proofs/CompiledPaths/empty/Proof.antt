@@ -3,10 +3,10 @@ use mathlib.Core.Path.{_≡_, refl}
 use Prim.Native.Nat.{ℕ, zero, suc}
 use native.Mathlib.Omega.{arith}
 use lib.ListN.{getD, replicate}
-use Rattle.compiled_paths.specs.Columns.{bundle-none}
-use Rattle.compiled_paths.specs.Paths.{pathsIn, AtMost}
 use Rattle.compiled_paths.proofs.CompiledPaths.empty.Statement.{statement}
 use Rattle.compiled_paths.proofs.CompiledPaths.empty.Tie as tie
+use Rattle.compiled_paths.specs.Columns.{bundle-none}
+use Rattle.compiled_paths.specs.Paths.{pathsIn, AtMost}
 
 all-zero : (n k : ℕ) → _≡_ {A = ℕ} (getD (replicate n 0) k 0) 0
 all-zero zero zero = refl

@@ -1,10 +1,10 @@
 -- `element_entry` meets its contract: what was read is the declaration of element d.
 use mathlib.Core.Path.{refl, ap}
+use native.Mathlib.Omega.{arith}
+use borrow.Author.Needs.{needs}
 use lib.ListN.{length}
 use Rattle.compiled_schema.proofs.element_entry.Entries.{entry-fails, entry-few, entry-high, entry-within, entry-small, entry-length, entry-made}
 use Rattle.compiled_schema.proofs.element_entry.Reading.{goes-on}
-use native.Mathlib.Omega.{arith}
-use borrow.Author.Needs.{needs}
 use Rattle.compiled_schema.proofs.element_entry.element_entry.Statement.{statement}
 use Rattle.compiled_schema.proofs.element_entry.element_entry.Tie as tie
 

@@ -1,18 +1,18 @@
 -- `all_entries` meets its contract: the entries of the declarations that were read are filled.
 use mathlib.Core.Path.{_≡_, refl, ap, _∙_}
 use Prim.Native.Nat.{ℕ, _+_, _*_, _-_, _≤_, _<_}
+use native.Mathlib.Omega.{arith}
+use borrow.Author.Needs.{needs}
 use mir.Syntax.{w64}
 use mir.Val.{Fits}
 use Rattle.compiled_schema.proofs.entry_columns.Filling.{Filled, filled-first, filled-next, filled-all}
 use Rattle.compiled_schema.proofs.entry_columns.LentCells.{lent}
+use Rattle.compiled_schema.proofs.entry_columns.all_entries.Statement.{statement}
+use Rattle.compiled_schema.proofs.entry_columns.all_entries.Tie as tie
 use Rattle.compiled_schema.specs.element_entry.Reading.{AtDeclaration}
 use Rattle.compiled_schema.specs.element_entry.ReadingLaws.{at-first, elements-few, used-within}
 use Rattle.schema_spec.specs.Records.{schemaIn}
 use Rattle.text_spec.specs.Limits.{maxDeclarations, maxModelNames}
-use borrow.Author.Needs.{needs}
-use native.Mathlib.Omega.{arith}
-use Rattle.compiled_schema.proofs.entry_columns.all_entries.Statement.{statement}
-use Rattle.compiled_schema.proofs.entry_columns.all_entries.Tie as tie
 
 abbrev Inv-loop : tie.InvT-loop
 Inv-loop s uses count kinds₀ sizes₀ firsts₀ lasts₀ nullables₀ elements₀ predecessors₀ holds₀ at₀ n₀ d₀ kinds sizes firsts lasts nullables elements predecessors holds at n d =

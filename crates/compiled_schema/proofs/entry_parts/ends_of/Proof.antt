@@ -1,9 +1,9 @@
 -- `ends_of` meets its contract.
 use mathlib.Core.Path.{sym, ap}
-use Rattle.compiled_schema.specs.entry_parts.Entries.{endsIn}
 use borrow.Author.Needs.{needs}
 use Rattle.compiled_schema.proofs.entry_parts.ends_of.Statement.{statement}
 use Rattle.compiled_schema.proofs.entry_parts.ends_of.Tie as tie
+use Rattle.compiled_schema.specs.entry_parts.Entries.{endsIn}
 
 returns : tie.Need-returns
 returns c = ap endsIn (sym (c .enum-told .given .1))

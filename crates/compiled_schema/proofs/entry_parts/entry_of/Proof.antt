@@ -1,10 +1,10 @@
 -- `entry_of` meets its contract.
-use borrow.Author.Needs.{needs}
 use mathlib.Core.Path.{ap₂}
 use Prim.Native.Nat.{ℕ}
-use Rattle.models.specs.declared.Ends.{Ends}
+use borrow.Author.Needs.{needs}
 use Rattle.compiled_schema.proofs.entry_parts.entry_of.Statement.{statement}
 use Rattle.compiled_schema.proofs.entry_parts.entry_of.Tie as tie
+use Rattle.models.specs.declared.Ends.{Ends}
 
 returns : tie.Need-returns
 returns c =

@@ -2,14 +2,14 @@
 use mathlib.Core.Bool.{_||_}
 use mathlib.Core.Path.{_≡_}
 use Prim.Native.Nat.{_-_}
-use lib.ListN.{length, drop}
-use Rattle.names.specs.Sets.{member}
-use Rattle.schema_spec.specs.Names.{Name}
-use Rattle.compiled_schema.proofs.entry_parts.Holding.{among-first, among-next, among-all}
-use Rattle.compiled_schema.specs.entry_parts.Entries.{isOneOf}
 use borrow.Author.Needs.{needs}
+use lib.ListN.{length, drop}
+use Rattle.compiled_schema.proofs.entry_parts.Holding.{among-first, among-next, among-all}
 use Rattle.compiled_schema.proofs.entry_parts.set_of.Statement.{statement}
 use Rattle.compiled_schema.proofs.entry_parts.set_of.Tie as tie
+use Rattle.compiled_schema.specs.entry_parts.Entries.{isOneOf}
+use Rattle.names.specs.Sets.{member}
+use Rattle.schema_spec.specs.Names.{Name}
 
 abbrev Inv-loop : tie.InvT-loop
 Inv-loop elements set₀ i₀ set i = (n : Name) → (member set n || isOneOf (drop i elements) n) ≡ isOneOf elements n

@@ -1,14 +1,14 @@
 -- `held_words` meets its contract: the words that the loop has passed are those of their sets.
-use borrow.Author.Needs.{needs}
 use mathlib.Core.Path.{_≡_, _∙_}
 use Prim.Native.Nat.{_≤_, _-_}
+use native.Mathlib.Omega.{arith}
+use borrow.Author.Needs.{needs}
 use lib.ListN.{length, length-set, List·getD-eq-default}
+use Rattle.compiled_schema.proofs.held_words.held_words.Statement.{statement}
+use Rattle.compiled_schema.proofs.held_words.held_words.Tie as tie
 use Rattle.compiled_schema.specs.held_words.Words.{WordAt}
 use Rattle.text_laws.specs.Loops.{Passed, passed-first, passed-next}
 use Rattle.text_spec.specs.Limits.{maxDeclarations}
-use native.Mathlib.Omega.{arith}
-use Rattle.compiled_schema.proofs.held_words.held_words.Statement.{statement}
-use Rattle.compiled_schema.proofs.held_words.held_words.Tie as tie
 
 abbrev Inv-loop : tie.InvT-loop
 Inv-loop sets out₀ i₀ out i = (i ≤ maxDeclarations) × ((length out ≡ maxDeclarations) × Passed (WordAt sets) 0 out₀ i out)

@@ -1,14 +1,14 @@
 -- `schema_words` meets its contract: it compiles the text in the record.
+use mathlib.Core.Path.{_≡_, sym}
 use native.Mathlib.Omega.{arith}
 use borrow.Author.Needs.{needs}
-use mathlib.Core.Path.{_≡_, sym}
 use lib.ListN.{length}
 use lib.Seq.{length-take-le}
+use Rattle.compiled_schema.proofs.record_words.schema_words.Statement.{statement}
+use Rattle.compiled_schema.proofs.record_words.schema_words.Tie as tie
 use Rattle.compiled_schema.specs.held_words.Words.{words-held}
 use Rattle.schema_laws.specs.Accepted.{schemaIn-length}
 use Rattle.text_spec.specs.Limits.{maxSchemaBytes}
-use Rattle.compiled_schema.proofs.record_words.schema_words.Statement.{statement}
-use Rattle.compiled_schema.proofs.record_words.schema_words.Tie as tie
 
 array-share-prefix-bytes : tie.Need-array-share-prefix-bytes
 array-share-prefix-bytes c = let h : length (c .before .args .schema .bytes) ≡ maxSchemaBytes = search needs in omega arith

@@ -1,6 +1,6 @@
 -- `may_cut` meets its contract.
-use borrow.Author.Tests.{not-true, not-false}
 use borrow.Author.Needs.{needs}
+use borrow.Author.Tests.{not-true, not-false}
 use Rattle.cut_table.proofs.answers.Tests.{one-fails, other-decides}
 use Rattle.cut_table.proofs.answers.may_cut.Statement.{statement}
 use Rattle.cut_table.proofs.answers.may_cut.Tie as tie

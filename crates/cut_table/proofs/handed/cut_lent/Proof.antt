@@ -1,9 +1,9 @@
 -- `cut_lent` meets its contract: the table and the lent columns, the rows kept.
 use borrow.Author.Needs.{needs}
-use Rattle.kept_rows.specs.cut_rows.Rows.{table}
 use Rattle.cut_table.proofs.handed.Tests.{not-cut, may-be-cut, cut-answered}
 use Rattle.cut_table.proofs.handed.cut_lent.Statement.{statement}
 use Rattle.cut_table.proofs.handed.cut_lent.Tie as tie
+use Rattle.kept_rows.specs.cut_rows.Rows.{table}
 use Rattle.library_spec.specs.Records.{LentTable}
 use Rattle.table_spec.specs.Columns.{Columns}
 use Rattle.tables.specs.Handed.{lentTable}

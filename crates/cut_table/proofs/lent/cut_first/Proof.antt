@@ -1,7 +1,7 @@
 -- `cut_first` meets its contract: the first cells of each column are cut, and the answer says whether there was room.
 use mathlib.Core.Path.{sym}
-use lib.Seq.{length-take-le}
 use borrow.Author.Needs.{needs}
+use lib.Seq.{length-take-le}
 use Rattle.cut_table.proofs.lent.cut_first.Statement.{statement}
 use Rattle.cut_table.proofs.lent.cut_first.Tie as tie
 

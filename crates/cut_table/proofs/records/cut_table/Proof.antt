@@ -1,12 +1,12 @@
 -- `cut_table` meets its contract: the record, then the rest.
 use mathlib.Core.Path.{sym, _∙_}
-use borrow.Author.Tests.{not-true, not-false}
-use Rattle.cut_table.specs.laws.Answers.{refused-1, no-record, by-record}
-use Rattle.schema_reader.specs.Sizes.{record-low}
-use Rattle.compiled_schema.specs.records.Records.{passes-schema}
 use borrow.Author.Needs.{needs}
+use borrow.Author.Tests.{not-true, not-false}
+use Rattle.compiled_schema.specs.records.Records.{passes-schema}
 use Rattle.cut_table.proofs.records.cut_table.Statement.{statement}
 use Rattle.cut_table.proofs.records.cut_table.Tie as tie
+use Rattle.cut_table.specs.laws.Answers.{refused-1, no-record, by-record}
+use Rattle.schema_reader.specs.Sizes.{record-low}
 
 -- back from the two exits to the calls before them
 abbrev refused : tie.After-slice-known10 → tie.After-refuse

@@ -1,15 +1,15 @@
 -- `schema_sets` meets its contract: both sets come from the compiled text in the record.
 use mathlib.Core.Path.{_≡_, sym}
-use lib.ListN.{length}
-use lib.Seq.{length-take-le}
-use Rattle.compiled_schema.specs.held_words.Words.{words-held}
-use Rattle.schema_laws.specs.Accepted.{schemaIn-length}
-use Rattle.compiled_schema.specs.Places.{compiled-few}
-use Rattle.text_spec.specs.Limits.{maxSchemaBytes}
 use native.Mathlib.Omega.{arith}
 use borrow.Author.Needs.{needs}
+use lib.ListN.{length}
+use lib.Seq.{length-take-le}
+use Rattle.compiled_schema.specs.Places.{compiled-few}
+use Rattle.compiled_schema.specs.held_words.Words.{words-held}
 use Rattle.cut_table.proofs.schema_sets.schema_sets.Statement.{statement}
 use Rattle.cut_table.proofs.schema_sets.schema_sets.Tie as tie
+use Rattle.schema_laws.specs.Accepted.{schemaIn-length}
+use Rattle.text_spec.specs.Limits.{maxSchemaBytes}
 
 array-share-prefix-bytes : tie.Need-array-share-prefix-bytes
 array-share-prefix-bytes c = let h : length (c .before .args .schema .bytes) ≡ maxSchemaBytes = search needs in omega arith

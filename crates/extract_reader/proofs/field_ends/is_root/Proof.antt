@@ -1,6 +1,6 @@
 -- `is_root` meets its contract: the three numbers of the value in turn.
-use borrow.Author.Needs.{needs}
 use mathlib.Core.Path.{refl}
+use borrow.Author.Needs.{needs}
 use denote.Ref.{now}
 use Rattle.extract_reader.proofs.field_ends.Ends.{root-misfit, root-numbered, root-under, root-accepted}
 use Rattle.extract_reader.proofs.field_ends.is_root.Statement.{statement}

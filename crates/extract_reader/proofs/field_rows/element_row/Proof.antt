@@ -1,9 +1,9 @@
 -- `element_row` meets its contract: the row in numbers, and the level set.
 use borrow.Author.Needs.{needs}
 use denote.Ref.{now}
-use Rattle.extract_reader.specs.field_rows.StepLaws.{element-made}
 use Rattle.extract_reader.proofs.field_rows.element_row.Statement.{statement}
 use Rattle.extract_reader.proofs.field_rows.element_row.Tie as tie
+use Rattle.extract_reader.specs.field_rows.StepLaws.{element-made}
 
 returns : tie.Need-returns
 returns c =

@@ -1,8 +1,8 @@
 -- `step` meets its contract: what the field says, as a step of the pass.
 use borrow.Author.Needs.{needs}
-use Rattle.extract_reader.specs.field_rows.StepLaws.{step-wrong, step-ended, element-place, element-step, text-place, text-step}
 use Rattle.extract_reader.proofs.field_rows.step.Statement.{statement}
 use Rattle.extract_reader.proofs.field_rows.step.Tie as tie
+use Rattle.extract_reader.specs.field_rows.StepLaws.{step-wrong, step-ended, element-place, element-step, text-place, text-step}
 
 -- the states that answers go back to
 abbrev start-before : tie.After-read-field → tie.Start

@@ -1,9 +1,9 @@
 -- `text_row` meets its contract: the row in numbers.
 use borrow.Author.Needs.{needs}
 use denote.Ref.{now}
-use Rattle.extract_reader.specs.field_rows.StepLaws.{text-made}
 use Rattle.extract_reader.proofs.field_rows.text_row.Statement.{statement}
 use Rattle.extract_reader.proofs.field_rows.text_row.Tie as tie
+use Rattle.extract_reader.specs.field_rows.StepLaws.{text-made}
 
 returns : tie.Need-returns
 returns c =

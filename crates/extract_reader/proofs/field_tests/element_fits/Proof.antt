@@ -1,8 +1,8 @@
 -- `element_fits` meets its contract: the tests of `elementUnder` in turn.
 use borrow.Author.Needs.{needs}
-use Rattle.extract_reader.specs.field_tests.TestLaws.{element-none, element-deep, element-held, level-known}
 use Rattle.extract_reader.proofs.field_tests.element_fits.Statement.{statement}
 use Rattle.extract_reader.proofs.field_tests.element_fits.Tie as tie
+use Rattle.extract_reader.specs.field_tests.TestLaws.{element-none, element-deep, element-held, level-known}
 
 returns : tie.Need-returns
 returns c = element-none _ _ _ _ (c .if1 .taken)

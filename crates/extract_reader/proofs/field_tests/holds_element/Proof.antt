@@ -1,10 +1,10 @@
 -- `holds_element` meets its contract: an element past the last holds none, else the bit of the word.
-use borrow.Author.Needs.{needs}
 use mathlib.Core.Path.{_∙_}
+use borrow.Author.Needs.{needs}
 use denote.Ref.{now}
-use Rattle.extract_reader.specs.field_tests.TestLaws.{held-past, held-low}
 use Rattle.extract_reader.proofs.field_tests.holds_element.Statement.{statement}
 use Rattle.extract_reader.proofs.field_tests.holds_element.Tie as tie
+use Rattle.extract_reader.specs.field_tests.TestLaws.{held-past, held-low}
 
 returns : tie.Need-returns
 returns c = held-past (now (c .before .args .words)) (c .before .args .parent) _ (c .if1 .taken)

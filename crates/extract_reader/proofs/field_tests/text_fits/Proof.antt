@@ -1,9 +1,9 @@
 -- `text_fits` meets its contract: the tests of `textUnder` in turn.
 use native.Mathlib.Omega.{arith}
 use borrow.Author.Needs.{needs}
-use Rattle.extract_reader.specs.field_tests.TestLaws.{text-none, text-after, text-held, level-known}
 use Rattle.extract_reader.proofs.field_tests.text_fits.Statement.{statement}
 use Rattle.extract_reader.proofs.field_tests.text_fits.Tie as tie
+use Rattle.extract_reader.specs.field_tests.TestLaws.{text-none, text-after, text-held, level-known}
 
 returns : tie.Need-returns
 returns c = text-none _ _ _ _ (c .if1 .taken)

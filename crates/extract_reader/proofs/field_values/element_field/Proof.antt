@@ -1,8 +1,8 @@
 -- `element_field` meets its contract: each test that fails is a wrong step, and all together the element's.
 use mathlib.Core.Path.{refl}
+use borrow.Author.Needs.{needs}
 use borrow.Author.Tests.{not-true, not-false}
 use Rattle.extract_reader.proofs.field_values.Values.{element-misfit, element-numbered, element-placed, element-accepted, value-level}
-use borrow.Author.Needs.{needs}
 use Rattle.extract_reader.proofs.field_values.element_field.Statement.{statement}
 use Rattle.extract_reader.proofs.field_values.element_field.Tie as tie
 

@@ -1,9 +1,9 @@
 -- `text_field` meets its contract: each test that fails is a wrong step, and all together the text's.
 use Prim.Native.Nat.{_-_}
-use borrow.Author.Tests.{not-true, not-false}
-use Rattle.extract_reader.proofs.field_values.Values.{text-under-five, text-over, text-numbered, text-placed, text-foreign, text-accepted, value-level}
 use native.Mathlib.Omega.{arith}
 use borrow.Author.Needs.{needs}
+use borrow.Author.Tests.{not-true, not-false}
+use Rattle.extract_reader.proofs.field_values.Values.{text-under-five, text-over, text-numbered, text-placed, text-foreign, text-accepted, value-level}
 use Rattle.extract_reader.proofs.field_values.text_field.Statement.{statement}
 use Rattle.extract_reader.proofs.field_values.text_field.Tie as tie
 

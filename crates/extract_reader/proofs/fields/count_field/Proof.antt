@@ -1,9 +1,9 @@
 -- `count_field` meets its contract: the end, or nothing that may stand here.
-use borrow.Author.Needs.{needs}
 use mathlib.Core.Path.{sym, _∙_}
-use Rattle.extract_reader.specs.fields.FieldLaws.{count-ended, count-wrong}
+use borrow.Author.Needs.{needs}
 use Rattle.extract_reader.proofs.fields.count_field.Statement.{statement}
 use Rattle.extract_reader.proofs.fields.count_field.Tie as tie
+use Rattle.extract_reader.specs.fields.FieldLaws.{count-ended, count-wrong}
 
 returns : tie.Need-returns
 returns c = count-ended _ _ _ (sym (c .before .is-count .ensures) ∙ c .if1 .taken)

@@ -4,10 +4,10 @@ use mathlib.Core.Path.{_≡_, sym, _∙_}
 use native.Mathlib.Omega.{arith}
 use borrow.Author.Needs.{needs}
 use borrow.Author.Tests.{not-true, not-false}
-use Rattle.projection_laws.specs.extract_passes.Steps.{hasField}
-use Rattle.extract_reader.specs.fields.FieldLaws.{length-inside, value-inside, first-none, first-root, first-other, first-ended, first-uncounted, first-tagged}
 use Rattle.extract_reader.proofs.fields.first_field.Statement.{statement}
 use Rattle.extract_reader.proofs.fields.first_field.Tie as tie
+use Rattle.extract_reader.specs.fields.FieldLaws.{length-inside, value-inside, first-none, first-root, first-other, first-ended, first-uncounted, first-tagged}
+use Rattle.projection_laws.specs.extract_passes.Steps.{hasField}
 
 -- a whole field stands first
 stands : (c : tie.Else1) → hasField (c .before .before .before .args .extract .now) 0 ≡ true

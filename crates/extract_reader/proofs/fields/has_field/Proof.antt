@@ -1,8 +1,8 @@
 -- `has_field` meets its contract: three bytes, and as many as they say.
 use borrow.Author.Needs.{needs}
-use Rattle.extract_reader.specs.fields.FieldLaws.{field-short, field-measured}
 use Rattle.extract_reader.proofs.fields.has_field.Statement.{statement}
 use Rattle.extract_reader.proofs.fields.has_field.Tie as tie
+use Rattle.extract_reader.specs.fields.FieldLaws.{field-short, field-measured}
 
 returns : tie.Need-returns
 returns c = field-short _ _ (c .before .before .pre) (c .if1 .taken)

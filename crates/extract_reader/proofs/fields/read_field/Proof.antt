@@ -4,10 +4,10 @@ use mathlib.Core.Path.{_≡_, sym, _∙_}
 use native.Mathlib.Omega.{arith}
 use borrow.Author.Needs.{needs}
 use borrow.Author.Tests.{not-true, not-false}
-use Rattle.projection_laws.specs.extract_passes.Steps.{hasField}
-use Rattle.extract_reader.specs.fields.FieldLaws.{length-inside, value-inside, value-pass, field-none, field-element, field-text, field-count, field-unknown}
 use Rattle.extract_reader.proofs.fields.read_field.Statement.{statement}
 use Rattle.extract_reader.proofs.fields.read_field.Tie as tie
+use Rattle.extract_reader.specs.fields.FieldLaws.{length-inside, value-inside, value-pass, field-none, field-element, field-text, field-count, field-unknown}
+use Rattle.projection_laws.specs.extract_passes.Steps.{hasField}
 
 abbrev start : tie.After-has-field → tie.Start
 start c = c .before .before

@@ -1,9 +1,9 @@
 -- `level_of` meets its contract: the climb from the innermost open element up.
-use borrow.Author.Needs.{needs}
 use mathlib.Core.Path.{sym, _∙_}
-use Rattle.extract_reader.specs.levels.LevelLaws.{Climbing, climbing-first, climbing-found, climbing-next, climbing-none}
+use borrow.Author.Needs.{needs}
 use Rattle.extract_reader.proofs.levels.level_of.Statement.{statement}
 use Rattle.extract_reader.proofs.levels.level_of.Tie as tie
+use Rattle.extract_reader.specs.levels.LevelLaws.{Climbing, climbing-first, climbing-found, climbing-next, climbing-none}
 
 abbrev Inv-loop : tie.InvT-loop
 Inv-loop levels depth number d₀ d = Climbing levels depth number d

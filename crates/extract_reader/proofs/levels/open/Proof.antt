@@ -1,8 +1,8 @@
 -- `open` meets its contract: one cell is set.
 use borrow.Author.Needs.{needs}
-use Rattle.extract_reader.specs.levels.Levels.{levelWord}
 use Rattle.extract_reader.proofs.levels.open.Statement.{statement}
 use Rattle.extract_reader.proofs.levels.open.Tie as tie
+use Rattle.extract_reader.specs.levels.Levels.{levelWord}
 
 returns : tie.Need-returns
 unfolding levelWord

@@ -1,8 +1,8 @@
 -- `row_of` meets its contract: the lowest part of the cell.
 use borrow.Author.Needs.{needs}
-use Rattle.extract_reader.specs.levels.Levels.{rowIn}
 use Rattle.extract_reader.proofs.levels.row_of.Statement.{statement}
 use Rattle.extract_reader.proofs.levels.row_of.Tie as tie
+use Rattle.extract_reader.specs.levels.Levels.{rowIn}
 
 returns : tie.Need-returns
 unfolding rowIn

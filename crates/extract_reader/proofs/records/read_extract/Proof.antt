@@ -1,18 +1,18 @@
 -- `read_extract` meets its contract: the record, the columns, the extract.
-use denote.Ref.{now}
 use mathlib.Core.Bool.{true}
 use mathlib.Core.Logic.{⊎-elim}
 use mathlib.Core.Path.{_≡_, sym, _∙_}
-use Rattle.extract_reader.specs.records.Calls.{stated, call-no-record, call-no-columns, call-read}
-use Rattle.library_spec.specs.Records.{passesSchema}
-use Rattle.text_spec.specs.Records.{TextRecord}
+use denote.Ref.{now}
 use Rattle.cells.specs.columns.ColumnLaws.{equal-columns}
-use Rattle.schema_reader.specs.Sizes.{record-low}
 use Rattle.compiled_schema.specs.records.Records.{recordWith, passes-schema}
-use Rattle.table_spec.specs.Columns.{Columns, columns}
-use Rattle.text_laws.specs.Tests.{passed}
 use Rattle.extract_reader.proofs.records.read_extract.Statement.{statement}
 use Rattle.extract_reader.proofs.records.read_extract.Tie as tie
+use Rattle.extract_reader.specs.records.Calls.{stated, call-no-record, call-no-columns, call-read}
+use Rattle.library_spec.specs.Records.{passesSchema}
+use Rattle.schema_reader.specs.Sizes.{record-low}
+use Rattle.table_spec.specs.Columns.{Columns, columns}
+use Rattle.text_laws.specs.Tests.{passed}
+use Rattle.text_spec.specs.Records.{TextRecord}
 
 -- The start, and the record and the columns that are handed in, from where the record is tested.
 abbrev start-before : tie.After-is-schema-record → tie.Start

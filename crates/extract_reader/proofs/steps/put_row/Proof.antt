@@ -1,10 +1,10 @@
 -- `put_row` meets its contract: a store in each column, or in none.
 use borrow.Author.Needs.{needs}
 use denote.Ref.{now}
-use Rattle.extract_reader.specs.field_rows.Steps.{rowCells}
 use Rattle.cells.specs.columns.ColumnLaws.{row-in, row-out}
 use Rattle.extract_reader.proofs.steps.put_row.Statement.{statement}
 use Rattle.extract_reader.proofs.steps.put_row.Tie as tie
+use Rattle.extract_reader.specs.field_rows.Steps.{rowCells}
 use Rattle.table_spec.specs.Columns.{columns}
 
 returns : tie.Need-returns

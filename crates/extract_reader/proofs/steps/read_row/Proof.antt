@@ -1,9 +1,9 @@
 -- `read_row` meets its contract: one row more, or the end.
-use borrow.Author.Needs.{needs}
 use mathlib.Core.Path.{refl}
-use Rattle.extract_reader.specs.steps.ReadLaws.{wrong-on, ended-on, row-on}
+use borrow.Author.Needs.{needs}
 use Rattle.extract_reader.proofs.steps.read_row.Statement.{statement}
 use Rattle.extract_reader.proofs.steps.read_row.Tie as tie
+use Rattle.extract_reader.specs.steps.ReadLaws.{wrong-on, ended-on, row-on}
 
 -- from where the field has been read: the start
 abbrev start : tie.After-step → tie.Start

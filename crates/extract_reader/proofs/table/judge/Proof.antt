@@ -2,9 +2,9 @@
 use mathlib.Core.Path.{refl}
 use native.Mathlib.Omega.{arith}
 use borrow.Author.Needs.{needs}
-use Rattle.extract_reader.specs.table.Tables.{judged-2, judged-found}
 use Rattle.extract_reader.proofs.table.judge.Statement.{statement}
 use Rattle.extract_reader.proofs.table.judge.Tie as tie
+use Rattle.extract_reader.specs.table.Tables.{judged-2, judged-found}
 
 returns : tie.Need-returns
 returns c = judged-2 _ _ _ _ _ (c .before .if1 .taken) (c .refused .ensures)

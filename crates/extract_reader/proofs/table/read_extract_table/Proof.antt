@@ -1,8 +1,8 @@
 -- `read_extract_table` meets its contract: the columns hold the rows, or are clear.
 use mathlib.Core.Path.{_∙_}
-use Rattle.extract_reader.specs.table.Tables.{cleared-first, table-kept, table-cleared}
 use Rattle.extract_reader.proofs.table.read_extract_table.Statement.{statement}
 use Rattle.extract_reader.proofs.table.read_extract_table.Tie as tie
+use Rattle.extract_reader.specs.table.Tables.{cleared-first, table-kept, table-cleared}
 
 -- The states that several needs go back to: what is judged, from where its verdict is known; the columns cleared before it; the start.
 abbrev judged : tie.After-struct-known → tie.After-judge

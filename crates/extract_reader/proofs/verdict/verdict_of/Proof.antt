@@ -2,9 +2,9 @@
 use mathlib.Core.Path.{_∙_}
 use borrow.Author.Needs.{needs}
 use borrow.Author.Tests.{not-true, not-false}
-use Rattle.extract_reader.specs.verdict.Verdicts.{verdict-17, verdict-18, verdict-rows}
 use Rattle.extract_reader.proofs.verdict.verdict_of.Statement.{statement}
 use Rattle.extract_reader.proofs.verdict.verdict_of.Tie as tie
+use Rattle.extract_reader.specs.verdict.Verdicts.{verdict-17, verdict-18, verdict-rows}
 
 returns : tie.Need-returns
 returns c = c .refused .ensures ∙ verdict-17 _ _ (not-true _ (c .before .if1 .taken))

@@ -1,8 +1,8 @@
 -- `refuse` meets its contract: the bytes cleared.
 use borrow.Author.Needs.{needs}
-use Rattle.extract_writer.specs.answers.Answers.{refused-by-1}
 use Rattle.extract_writer.proofs.answers.refuse.Statement.{statement}
 use Rattle.extract_writer.proofs.answers.refuse.Tie as tie
+use Rattle.extract_writer.specs.answers.Answers.{refused-by-1}
 
 returns : tie.Need-returns
 returns c = refused-by-1 _ _ _ (c .before .before .before .clear-bytes .ensures) (c .refused .ensures)

@@ -1,8 +1,8 @@
 -- `write_in_room` meets its contract: the bytes, or 18.
 use borrow.Author.Needs.{needs}
-use Rattle.extract_writer.specs.answers.Answers.{too-few, enough}
 use Rattle.extract_writer.proofs.answers.write_in_room.Statement.{statement}
 use Rattle.extract_writer.proofs.answers.write_in_room.Tie as tie
+use Rattle.extract_writer.specs.answers.Answers.{too-few, enough}
 
 write-table-requires : tie.Need-write-table-requires
 write-table-requires c κs = c .before .before .before .before .before .before .before .before .pre

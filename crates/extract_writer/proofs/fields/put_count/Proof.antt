@@ -1,11 +1,11 @@
-use Rattle.extract_spec.specs.Fields.{countTag}
-use lib.ListN.{length-set}
 use mathlib.Core.Path.{_∙_}
-use Rattle.extract_writer.specs.fields.Fields.{stored-length, count-stored}
 use native.Mathlib.Omega.{arith}
 use borrow.Author.Needs.{needs}
+use lib.ListN.{length-set}
+use Rattle.extract_spec.specs.Fields.{countTag}
 use Rattle.extract_writer.proofs.fields.put_count.Statement.{statement}
 use Rattle.extract_writer.proofs.fields.put_count.Tie as tie
+use Rattle.extract_writer.specs.fields.Fields.{stored-length, count-stored}
 
 put-two-requires : tie.Need-put-two-requires
 put-two-requires c κs = simp length-set (omega arith)

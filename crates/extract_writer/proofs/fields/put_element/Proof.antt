@@ -1,9 +1,9 @@
-use Rattle.extract_writer.specs.fields.Fields.{set-length}
-use Rattle.extract_writer.specs.fields.Fields.{stored-length, element-stored}
 use native.Mathlib.Omega.{arith}
 use borrow.Author.Needs.{needs}
 use Rattle.extract_writer.proofs.fields.put_element.Statement.{statement}
 use Rattle.extract_writer.proofs.fields.put_element.Tie as tie
+use Rattle.extract_writer.specs.fields.Fields.{set-length}
+use Rattle.extract_writer.specs.fields.Fields.{stored-length, element-stored}
 
 slice-write-out : tie.Need-slice-write-out
 slice-write-out c = omega (arith, stored-length _ _ _ _ (c .before .before .put-head .ensures))

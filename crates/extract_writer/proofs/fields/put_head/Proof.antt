@@ -1,10 +1,10 @@
-use lib.ListN.{length-set}
 use mathlib.Core.Path.{_∙_}
-use Rattle.extract_writer.specs.fields.Fields.{stored-length, head-stored}
 use native.Mathlib.Omega.{arith}
 use borrow.Author.Needs.{needs}
+use lib.ListN.{length-set}
 use Rattle.extract_writer.proofs.fields.put_head.Statement.{statement}
 use Rattle.extract_writer.proofs.fields.put_head.Tie as tie
+use Rattle.extract_writer.specs.fields.Fields.{stored-length, head-stored}
 
 put-two-requires : tie.Need-put-two-requires
 put-two-requires c κs = simp length-set (omega arith)

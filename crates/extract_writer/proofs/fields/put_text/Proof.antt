@@ -1,7 +1,7 @@
-use Rattle.extract_writer.specs.fields.Fields.{text-stored, text-written}
 use borrow.Author.Needs.{needs}
 use Rattle.extract_writer.proofs.fields.put_text.Statement.{statement}
 use Rattle.extract_writer.proofs.fields.put_text.Tie as tie
+use Rattle.extract_writer.specs.fields.Fields.{text-stored, text-written}
 
 returns : tie.Need-returns
 returns c =

@@ -1,7 +1,7 @@
-use Rattle.extract_writer.specs.rows.Rows.{size-element, size-text}
 use borrow.Author.Needs.{needs}
 use Rattle.extract_writer.proofs.rows.field_size.Statement.{statement}
 use Rattle.extract_writer.proofs.rows.field_size.Tie as tie
+use Rattle.extract_writer.specs.rows.Rows.{size-element, size-text}
 
 returns : tie.Need-returns
 returns c = size-element _ _ (c .if1 .taken)

@@ -1,8 +1,8 @@
 use mathlib.Core.Path.{_∙_}
-use Rattle.extract_writer.specs.rows.Measure.{size-marked, size-unmarked}
 use borrow.Author.Needs.{needs}
 use Rattle.extract_writer.proofs.rows.marked_size.Statement.{statement}
 use Rattle.extract_writer.proofs.rows.marked_size.Tie as tie
+use Rattle.extract_writer.specs.rows.Measure.{size-marked, size-unmarked}
 
 returns : tie.Need-returns
 returns c = c .field-size .ensures ∙ size-marked _ _ _ (c .before .if1 .taken)

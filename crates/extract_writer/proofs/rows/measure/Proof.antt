@@ -1,10 +1,10 @@
 use Prim.Native.Nat.{_-_}
-use lib.ListN.{length}
-use Rattle.extract_writer.specs.rows.Measure.{MeasurePass, Measuring, measuring-none, rows-few, mark-low, measuring-next, measured, marked-bound}
-use borrow.Author.Needs.{needs}
 use native.Mathlib.Omega.{arith}
+use borrow.Author.Needs.{needs}
+use lib.ListN.{length}
 use Rattle.extract_writer.proofs.rows.measure.Statement.{statement}
 use Rattle.extract_writer.proofs.rows.measure.Tie as tie
+use Rattle.extract_writer.specs.rows.Measure.{MeasurePass, Measuring, measuring-none, rows-few, mark-low, measuring-next, measured, marked-bound}
 
 abbrev Inv-loop : tie.InvT-loop
 Inv-loop names lengths marks bytes₀ rows₀ r₀ bytes rows r = MeasurePass names lengths marks × Measuring names lengths marks r bytes rows

@@ -1,10 +1,10 @@
 -- `put_row` meets its contract: no field of a row that is not marked, and that of an element or a text.
-use Rattle.extract_writer.specs.rows.Rows.{row-skipped, row-place, element-room, element-put, text-asked, text-put}
-use Rattle.kept_rows.specs.cut_rows.Rows.{table}
-use Rattle.table_spec.specs.Columns.{Columns}
 use native.Mathlib.Omega.{arith}
 use Rattle.extract_writer.proofs.rows.put_row.Statement.{statement}
 use Rattle.extract_writer.proofs.rows.put_row.Tie as tie
+use Rattle.extract_writer.specs.rows.Rows.{row-skipped, row-place, element-room, element-put, text-asked, text-put}
+use Rattle.kept_rows.specs.cut_rows.Rows.{table}
+use Rattle.table_spec.specs.Columns.{Columns}
 
 -- back from where the row's name is read to where it is marked, and from there to the start
 abbrev marked : tie.After-shared-slice-known10 → tie.Else1

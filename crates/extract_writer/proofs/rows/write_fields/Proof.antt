@@ -1,14 +1,14 @@
 use Prim.Native.Nat.{ℕ, _+_, _-_, _<_, _≤_}
+use native.Mathlib.Omega.{arith}
+use borrow.Author.Needs.{needs}
 use lib.ListN.{length}
-use Rattle.kept_rows.specs.cut_rows.Rows.{table}
+use Rattle.extract_writer.proofs.rows.write_fields.Statement.{statement}
+use Rattle.extract_writer.proofs.rows.write_fields.Tie as tie
 use Rattle.extract_writer.specs.fields.Fields.{stored-length}
 use Rattle.extract_writer.specs.rows.Rows.{fieldAt, FieldsPass, StoredAt, fields-none, fields-row, fields-next, fields-all}
 use Rattle.kept_rows.specs.Joined.{joined}
+use Rattle.kept_rows.specs.cut_rows.Rows.{table}
 use Rattle.table_spec.specs.Columns.{Columns}
-use borrow.Author.Needs.{needs}
-use native.Mathlib.Omega.{arith}
-use Rattle.extract_writer.proofs.rows.write_fields.Statement.{statement}
-use Rattle.extract_writer.proofs.rows.write_fields.Tie as tie
 
 abbrev Inv-loop : tie.InvT-loop
 Inv-loop text numbers names parents starts lengths marks out₀ at₀ r₀ out at r =

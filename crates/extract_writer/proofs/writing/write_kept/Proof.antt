@@ -1,8 +1,8 @@
-use Rattle.extract_writer.specs.writing.Extract.{prefix-length}
 use mathlib.Core.Path.{sym}
 use borrow.Author.Needs.{needs}
 use Rattle.extract_writer.proofs.writing.write_kept.Statement.{statement}
 use Rattle.extract_writer.proofs.writing.write_kept.Tie as tie
+use Rattle.extract_writer.specs.writing.Extract.{prefix-length}
 
 slice-aggregate-write-kept-into : tie.Need-slice-aggregate-write-kept-into
 slice-aggregate-write-kept-into c = prefix-length _ _ 0 (c .before .before .before .before .before .before .before .before .pre .0 .few)

@@ -1,7 +1,7 @@
-use Rattle.extract_writer.specs.writing.Extract.{kept-pass, kept-marked, answered-same}
 use borrow.Author.Needs.{needs}
 use Rattle.extract_writer.proofs.writing.write_kept_into.Statement.{statement}
 use Rattle.extract_writer.proofs.writing.write_kept_into.Tie as tie
+use Rattle.extract_writer.specs.writing.Extract.{kept-pass, kept-marked, answered-same}
 
 mark-kept-requires : tie.Need-mark-kept-requires
 mark-kept-requires c κs = kept-pass _ _ _ (c .before .before .before .before .before .before .before .before .before .pre)

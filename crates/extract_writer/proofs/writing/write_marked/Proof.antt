@@ -1,8 +1,8 @@
-use Rattle.extract_writer.specs.writing.Extract.{measure-pass, extract-low, extract-size, fields-pass, count-room, extract-stored, short-bytes, whole-bytes}
 use native.Mathlib.Omega.{arith}
 use borrow.Author.Needs.{needs}
 use Rattle.extract_writer.proofs.writing.write_marked.Statement.{statement}
 use Rattle.extract_writer.proofs.writing.write_marked.Tie as tie
+use Rattle.extract_writer.specs.writing.Extract.{measure-pass, extract-low, extract-size, fields-pass, count-room, extract-stored, short-bytes, whole-bytes}
 
 -- the states that answers go back to
 abbrev start-before : tie.After-measure → tie.Start

@@ -1,8 +1,8 @@
-use Rattle.extract_writer.specs.writing.Extract.{prefix-length, every-row, all-marked, answered-same}
-use Rattle.text_spec.specs.Limits.{maxNodes}
 use borrow.Author.Needs.{needs}
 use Rattle.extract_writer.proofs.writing.write_table.Statement.{statement}
 use Rattle.extract_writer.proofs.writing.write_table.Tie as tie
+use Rattle.extract_writer.specs.writing.Extract.{prefix-length, every-row, all-marked, answered-same}
+use Rattle.text_spec.specs.Limits.{maxNodes}
 
 slice-aggregate-write-marked : tie.Need-slice-aggregate-write-marked
 slice-aggregate-write-marked c = prefix-length _ _ 1 (c .before .before .before .before .before .before .before .before .pre .few)

@@ -1,8 +1,8 @@
 -- `answer` meets its contract: 18, or the result.
 use borrow.Author.Needs.{needs}
-use Rattle.host_making.specs.accepted.Making.{answer-short, answer-enough}
 use Rattle.host_making.proofs.accepted.answer.Statement.{statement}
 use Rattle.host_making.proofs.accepted.answer.Tie as tie
+use Rattle.host_making.specs.accepted.Making.{answer-short, answer-enough}
 
 -- the states that answers go back to
 abbrev cleared-before : tie.After-refused → tie.After-clear

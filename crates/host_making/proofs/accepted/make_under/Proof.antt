@@ -1,13 +1,13 @@
 -- `make_under` meets its contract: the journal's refusal, or its rows and the bytes.
-use borrow.Author.Needs.{needs}
 use mathlib.Core.Path.{_∙_}
 use native.Mathlib.Omega.{arith}
-use Rattle.host_making.specs.accepted.Making.{refused-made, first-asked, made-exit}
-use Rattle.hosts.specs.columns.Rows.{rows-read}
+use borrow.Author.Needs.{needs}
 use Rattle.compiled_schema.specs.Places.{compiled-few}
-use Rattle.table_spec.specs.Columns.{Columns, columns}
 use Rattle.host_making.proofs.accepted.make_under.Statement.{statement}
 use Rattle.host_making.proofs.accepted.make_under.Tie as tie
+use Rattle.host_making.specs.accepted.Making.{refused-made, first-asked, made-exit}
+use Rattle.hosts.specs.columns.Rows.{rows-read}
+use Rattle.table_spec.specs.Columns.{Columns, columns}
 
 -- The states that several needs go back to: the journal read, from where its verdict is tested; the start, with the columns that are lent.
 abbrev read : tie.After-struct-known → tie.After-read-compiled

@@ -1,6 +1,6 @@
 -- `write_under` meets its contract: the names needed, the bytes, the last test.
-use lib.Seq.{length-take-le}
 use mathlib.Core.Path.{sym}
+use lib.Seq.{length-take-le}
 use Rattle.host_making.proofs.accepted.write_under.Statement.{statement}
 use Rattle.host_making.proofs.accepted.write_under.Tie as tie
 

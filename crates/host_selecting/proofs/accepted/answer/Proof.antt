@@ -1,8 +1,8 @@
 -- `answer` meets its contract: selecting refused, or the result.
 use borrow.Author.Needs.{needs}
-use Rattle.host_selecting.specs.accepted.Choosing.{last-short, last-enough}
 use Rattle.host_selecting.proofs.accepted.answer.Statement.{statement}
 use Rattle.host_selecting.proofs.accepted.answer.Tie as tie
+use Rattle.host_selecting.specs.accepted.Choosing.{last-short, last-enough}
 
 -- the states that answers go back to
 abbrev cleared-before : tie.After-refused → tie.After-clear

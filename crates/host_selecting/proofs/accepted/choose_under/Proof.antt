@@ -1,13 +1,13 @@
 -- `choose_under` meets its contract: the extract's refusal, or its rows and what is selected on them.
-use borrow.Author.Needs.{needs}
 use mathlib.Core.Path.{_∙_}
+use borrow.Author.Needs.{needs}
 use Rattle.compiled_paths.specs.Paths.{lentPaths}
 use Rattle.compiled_paths.specs.declared.CompiledPaths.{CompiledPaths}
+use Rattle.host_selecting.proofs.accepted.choose_under.Statement.{statement}
+use Rattle.host_selecting.proofs.accepted.choose_under.Tie as tie
 use Rattle.host_selecting.specs.accepted.Choosing.{words-read, refused-chosen, rows-asked, chosen-exit}
 use Rattle.hosts.specs.columns.Rows.{rows-read}
 use Rattle.table_spec.specs.Columns.{Columns, columns}
-use Rattle.host_selecting.proofs.accepted.choose_under.Statement.{statement}
-use Rattle.host_selecting.proofs.accepted.choose_under.Tie as tie
 
 -- The states that several needs go back to. From where the extract is to be read: the words, and the start.
 abbrev words-before : tie.After-read-extract-table-arg5 → tie.After-words-of

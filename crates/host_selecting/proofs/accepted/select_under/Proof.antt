@@ -1,6 +1,6 @@
 -- `select_under` meets its contract: what is selected, and the last test.
-use lib.Seq.{length-take-le}
 use mathlib.Core.Path.{sym}
+use lib.Seq.{length-take-le}
 use Rattle.host_selecting.proofs.accepted.select_under.Statement.{statement}
 use Rattle.host_selecting.proofs.accepted.select_under.Tie as tie
 

@@ -1,8 +1,8 @@
 -- `passes` meets its contract: by the columns, then by the number of the refusal.
 use borrow.Author.Tests.{not-true, not-false}
-use Rattle.hosts.specs.refusals.Refusals.{rangeOf, range-refused, range-accepted, unequal-fails, equal-passes}
 use Rattle.hosts.proofs.refusals.passes.Statement.{statement}
 use Rattle.hosts.proofs.refusals.passes.Tie as tie
+use Rattle.hosts.specs.refusals.Refusals.{rangeOf, range-refused, range-accepted, unequal-fails, equal-passes}
 
 returns : tie.Need-returns
 returns c =

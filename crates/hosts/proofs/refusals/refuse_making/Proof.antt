@@ -1,8 +1,8 @@
 -- `refuse_making` meets its contract: every cell cleared.
 use mathlib.Core.List.{[]}
-use Rattle.hosts.specs.refusals.Refusals.{none-cleared, all-refused}
 use Rattle.hosts.proofs.refusals.refuse_making.Statement.{statement}
 use Rattle.hosts.proofs.refusals.refuse_making.Tie as tie
+use Rattle.hosts.specs.refusals.Refusals.{none-cleared, all-refused}
 use Rattle.table_spec.specs.Columns.{columns}
 
 abbrev cleared : tie.After-result → tie.After-clear

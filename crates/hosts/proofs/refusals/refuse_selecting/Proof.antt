@@ -1,7 +1,7 @@
 -- `refuse_selecting` meets its contract: every cell cleared.
-use Rattle.hosts.specs.refusals.Refusals.{all-refused}
 use Rattle.hosts.proofs.refusals.refuse_selecting.Statement.{statement}
 use Rattle.hosts.proofs.refusals.refuse_selecting.Tie as tie
+use Rattle.hosts.specs.refusals.Refusals.{all-refused}
 use Rattle.table_spec.specs.Columns.{columns}
 
 abbrev cleared : tie.After-result → tie.After-clear

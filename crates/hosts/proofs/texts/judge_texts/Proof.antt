@@ -1,9 +1,9 @@
 -- `judge_texts` meets its contract: the schema refused, or the bundle judged under it.
 use borrow.Author.Needs.{needs}
-use Rattle.hosts.specs.texts.Texts.{schema-turned-back, bundle-judged}
 use Rattle.compiled_schema.specs.Places.{names-inside, names-taken, names-few}
 use Rattle.hosts.proofs.texts.judge_texts.Statement.{statement}
 use Rattle.hosts.proofs.texts.judge_texts.Tie as tie
+use Rattle.hosts.specs.texts.Texts.{schema-turned-back, bundle-judged}
 
 returns : tie.Need-returns
 returns c =

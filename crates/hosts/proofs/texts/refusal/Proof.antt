@@ -2,9 +2,9 @@
 use mathlib.Core.Bool.{Bool}
 use mathlib.Core.Path.{sym, ap}
 use borrow.Author.Tests.{not-true, not-false}
-use Rattle.hosts.specs.texts.Texts.{refusalOf}
 use Rattle.hosts.proofs.texts.refusal.Statement.{statement}
 use Rattle.hosts.proofs.texts.refusal.Tie as tie
+use Rattle.hosts.specs.texts.Texts.{refusalOf}
 
 pub refusal-spec : {M : Type 1} → statement M
 refusal-spec =

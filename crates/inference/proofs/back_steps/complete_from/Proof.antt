@@ -1,10 +1,10 @@
 -- `inference::back_steps::complete_from` meets its contract.
 use borrow.Author.Needs.{needs}
-use Rattle.inference.specs.back_steps.Laws.{related-leading}
 use Rattle.compiled_paths.specs.Columns.{axisOf}
-use Rattle.names.specs.Sets.{setIn}
 use Rattle.inference.proofs.back_steps.complete_from.Statement.{statement}
 use Rattle.inference.proofs.back_steps.complete_from.Tie as tie
+use Rattle.inference.specs.back_steps.Laws.{related-leading}
+use Rattle.names.specs.Sets.{setIn}
 
 returns : tie.Need-returns
 returns c = λ s k.

@@ -1,9 +1,9 @@
 -- `inference::back_steps::inner_names` meets its contract.
 use borrow.Author.Needs.{needs}
-use Rattle.inference.specs.back_steps.Laws.{within-inner}
-use Rattle.names.specs.Sets.{setIn}
 use Rattle.inference.proofs.back_steps.inner_names.Statement.{statement}
 use Rattle.inference.proofs.back_steps.inner_names.Tie as tie
+use Rattle.inference.specs.back_steps.Laws.{within-inner}
+use Rattle.names.specs.Sets.{setIn}
 
 returns : tie.Need-returns
 returns c = λ s k.

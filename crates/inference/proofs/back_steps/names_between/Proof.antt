@@ -1,12 +1,12 @@
 -- `inference::back_steps::names_between` meets its contract: by the axis.
 use mathlib.Core.Path.{sym, ap, _∙_}
 use borrow.Author.Needs.{needs}
-use Rattle.path_spec.specs.Paths.{descendant, descendantOrSelf}
-use Rattle.inference.specs.back_steps.Laws.{between-along, none-between, empty-setIn}
 use Rattle.compiled_paths.specs.Columns.{axisOf}
-use Rattle.names.specs.Sets.{setIn}
 use Rattle.inference.proofs.back_steps.names_between.Statement.{statement}
 use Rattle.inference.proofs.back_steps.names_between.Tie as tie
+use Rattle.inference.specs.back_steps.Laws.{between-along, none-between, empty-setIn}
+use Rattle.names.specs.Sets.{setIn}
+use Rattle.path_spec.specs.Paths.{descendant, descendantOrSelf}
 
 returns : tie.Need-returns
 unfolding axisOf

@@ -2,10 +2,10 @@
 use mathlib.Core.Path.{ap, _∙_}
 use borrow.Author.Needs.{needs}
 use Rattle.inference_spec.specs.Types.{unionOf}
-use Rattle.schema_spec.specs.Types.{typesOf}
-use Rattle.names.specs.Sets.{setIn}
 use Rattle.inference.proofs.back_steps.or_below.Statement.{statement}
 use Rattle.inference.proofs.back_steps.or_below.Tie as tie
+use Rattle.names.specs.Sets.{setIn}
+use Rattle.schema_spec.specs.Types.{typesOf}
 
 returns : tie.Need-returns
 returns c = λ s k. c .union-of .ensures s ∙ ap (unionOf (typesOf s) (setIn s (c .before .before .args .h))) (c .before .all-below .ensures s k)

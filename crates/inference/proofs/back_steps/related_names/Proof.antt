@@ -1,13 +1,13 @@
 -- `inference::back_steps::related_names` meets its contract: by the axis.
 use mathlib.Core.Path.{ap}
 use borrow.Author.Needs.{needs}
-use Rattle.path_spec.specs.Paths.{self, child, descendant, descendantOrSelf, parent, ancestor, ancestorOrSelf}
-use Rattle.inference.specs.back_steps.Laws.{holding-related, allAbove-related, descendantOrSelf-related, heldBy-related, allBelow-related, ancestorOrSelf-related, self-related, related-along}
-use Rattle.inference.specs.type_steps.Laws.{axis-self}
 use Rattle.compiled_paths.specs.Columns.{axisOf}
-use Rattle.names.specs.Sets.{setIn}
 use Rattle.inference.proofs.back_steps.related_names.Statement.{statement}
 use Rattle.inference.proofs.back_steps.related_names.Tie as tie
+use Rattle.inference.specs.back_steps.Laws.{holding-related, allAbove-related, descendantOrSelf-related, heldBy-related, allBelow-related, ancestorOrSelf-related, self-related, related-along}
+use Rattle.inference.specs.type_steps.Laws.{axis-self}
+use Rattle.names.specs.Sets.{setIn}
+use Rattle.path_spec.specs.Paths.{self, child, descendant, descendantOrSelf, parent, ancestor, ancestorOrSelf}
 
 returns : tie.Need-returns
 unfolding axisOf

@@ -1,14 +1,14 @@
 -- `inference::back_steps::with_step` meets its contract.
-use mathlib.Core.Path.{refl}
 use mathlib.Core.List.{_++_}
+use mathlib.Core.Path.{refl}
 use borrow.Author.Needs.{needs}
-use Rattle.inference.specs.back_steps.Laws.{setIn-within}
-use Rattle.inference_spec.specs.Needed.{between}
-use Rattle.schema_spec.specs.Types.{typesOf}
 use Rattle.compiled_paths.specs.Columns.{axisOf}
-use Rattle.names.specs.Sets.{setIn}
+use Rattle.inference_spec.specs.Needed.{between}
 use Rattle.inference.proofs.back_steps.with_step.Statement.{statement}
 use Rattle.inference.proofs.back_steps.with_step.Tie as tie
+use Rattle.inference.specs.back_steps.Laws.{setIn-within}
+use Rattle.names.specs.Sets.{setIn}
+use Rattle.schema_spec.specs.Types.{typesOf}
 
 returns : tie.Need-returns
 returns c = λ s k.

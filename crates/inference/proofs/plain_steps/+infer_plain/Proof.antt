@@ -1,24 +1,24 @@
 -- `inference::plain_steps::infer_plain` meets its contract; the steps that are left fall.
 use mathlib.Core.List.{List}
 use mathlib.Core.Path.{sym, ap}
-use borrow.Author.Needs.{needs}
 use Prim.Native.Nat.{ℕ, suc, _<_}
+use borrow.Author.Needs.{needs}
 use borrow.Fn.Kinds.{In}
 use borrow.Fn.PlainCycle.{Measures, is, falls, and}
-use Rattle.inference.proofs.plain_steps.infer_plain.Reads as infer-plain
-use Rattle.inference.proofs.plain_steps.infer_plain.Kinds as infer-plain-kinds
-use Rattle.inference.proofs.plain_steps.+infer_plain.Lts-infer_plain as infer-plain-lts
 use Rattle.compiled_paths.proofs.axis_number.Reads as axis-number-reads
-use Rattle.inference.proofs.type_steps.step.Reads as step-reads
-use Rattle.inference.proofs.plain_steps.+infer_plain.{statement}
-use Rattle.inference.proofs.plain_steps.+infer_plain.Tie.{close}
 use Rattle.compiled_paths.specs.Columns.{plain-none}
-use Rattle.path_spec.specs.Paths.{PlainStep, expandFrom}
-use Rattle.inference.specs.plain_steps.Laws.{infer-plain-step}
 use Rattle.inference_spec.specs.Needed.{keepsAll}
 use Rattle.inference_spec.specs.Types.{inferAll}
-use Rattle.schema_spec.specs.Types.{typesOf}
+use Rattle.inference.proofs.plain_steps.+infer_plain.{statement}
+use Rattle.inference.proofs.plain_steps.+infer_plain.Lts-infer_plain as infer-plain-lts
+use Rattle.inference.proofs.plain_steps.+infer_plain.Tie.{close}
+use Rattle.inference.proofs.plain_steps.infer_plain.Kinds as infer-plain-kinds
+use Rattle.inference.proofs.plain_steps.infer_plain.Reads as infer-plain
+use Rattle.inference.proofs.type_steps.step.Reads as step-reads
+use Rattle.inference.specs.plain_steps.Laws.{infer-plain-step}
 use Rattle.inference.specs.type_steps.Relations.{envIn}
+use Rattle.path_spec.specs.Paths.{PlainStep, expandFrom}
+use Rattle.schema_spec.specs.Types.{typesOf}
 
 abbrev μ-infer-plain : Measures 2 infer-plain-kinds.ps ℕ
 μ-infer-plain κs a = a .1 .1 .1 .1 .1 .0

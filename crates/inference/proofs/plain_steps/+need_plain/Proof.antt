@@ -1,26 +1,26 @@
 -- `inference::plain_steps::need_plain` meets its contract; the steps that are left fall.
 use mathlib.Core.List.{List}
 use mathlib.Core.Path.{refl, sym, subst}
-use borrow.Author.Needs.{needs}
 use Prim.Native.Nat.{ℕ, suc, _<_}
+use borrow.Author.Needs.{needs}
 use borrow.Fn.Kinds.{In}
 use borrow.Fn.PlainCycle.{Measures, is, falls, and}
-use Rattle.inference.proofs.plain_steps.need_plain.Reads as need-plain
-use Rattle.inference.proofs.plain_steps.need_plain.Kinds as need-plain-kinds
-use Rattle.inference.proofs.plain_steps.+need_plain.Lts-need_plain as need-plain-lts
-use Rattle.names.proofs.NameSet.empty.Reads as empty-reads
-use Rattle.inference.proofs.back_steps.with_step.Reads as with-step-reads
 use Rattle.compiled_paths.proofs.axis_number.Reads as axis-number-reads
-use Rattle.inference.proofs.type_steps.step.Reads as step-reads
-use Rattle.inference.proofs.plain_steps.+need_plain.{statement}
-use Rattle.inference.proofs.plain_steps.+need_plain.Tie.{close}
-use Rattle.path_spec.specs.Paths.{PlainStep, expandFrom}
-use Rattle.inference.specs.plain_steps.Laws.{needs-plain-step}
-use Rattle.inference.specs.back_steps.Laws.{needs-last}
-use Rattle.inference.specs.back_steps.Needs.{NeedsOf}
 use Rattle.compiled_paths.specs.Columns.{plain-none}
 use Rattle.inference_spec.specs.Needed.{keepsAll, wantsNothing}
+use Rattle.inference.proofs.back_steps.with_step.Reads as with-step-reads
+use Rattle.inference.proofs.plain_steps.+need_plain.{statement}
+use Rattle.inference.proofs.plain_steps.+need_plain.Lts-need_plain as need-plain-lts
+use Rattle.inference.proofs.plain_steps.+need_plain.Tie.{close}
+use Rattle.inference.proofs.plain_steps.need_plain.Kinds as need-plain-kinds
+use Rattle.inference.proofs.plain_steps.need_plain.Reads as need-plain
+use Rattle.inference.proofs.type_steps.step.Reads as step-reads
+use Rattle.inference.specs.back_steps.Laws.{needs-last}
+use Rattle.inference.specs.back_steps.Needs.{NeedsOf}
+use Rattle.inference.specs.plain_steps.Laws.{needs-plain-step}
 use Rattle.inference.specs.type_steps.Relations.{envIn}
+use Rattle.names.proofs.NameSet.empty.Reads as empty-reads
+use Rattle.path_spec.specs.Paths.{PlainStep, expandFrom}
 
 abbrev μ-need-plain : Measures 2 need-plain-kinds.ps ℕ
 μ-need-plain κs a = a .1 .1 .1 .1 .1 .0

@@ -1,8 +1,8 @@
 -- `inference::type_steps::all_above` meets its contract.
 use borrow.Author.Needs.{needs}
-use Rattle.inference.specs.type_steps.Laws.{related-allAbove}
 use Rattle.inference.proofs.type_steps.all_above.Statement.{statement}
 use Rattle.inference.proofs.type_steps.all_above.Tie as tie
+use Rattle.inference.specs.type_steps.Laws.{related-allAbove}
 
 returns : tie.Need-returns
 returns c = λ s k. related-allAbove s (c .before .args .holds) (c .before .args .below) k (c .before .args .t) (c .related-to .result) (c .related-to .ensures)

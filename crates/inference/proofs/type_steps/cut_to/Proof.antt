@@ -1,9 +1,9 @@
 -- `inference::type_steps::cut_to` meets its contract.
 use borrow.Author.Needs.{needs}
-use Rattle.inference.specs.type_steps.Laws.{near-cutTo}
-use Rattle.names.specs.Sets.{setIn}
 use Rattle.inference.proofs.type_steps.cut_to.Statement.{statement}
 use Rattle.inference.proofs.type_steps.cut_to.Tie as tie
+use Rattle.inference.specs.type_steps.Laws.{near-cutTo}
+use Rattle.names.specs.Sets.{setIn}
 
 returns : tie.Need-returns
 returns c = λ s k.

@@ -1,12 +1,12 @@
 -- `inference::type_steps::moved` meets its contract: by the axis.
 use mathlib.Core.Path.{refl, ap}
 use borrow.Author.Needs.{needs}
-use Rattle.path_spec.specs.Paths.{self, child, descendant, descendantOrSelf, parent, ancestor, ancestorOrSelf}
-use Rattle.inference.specs.type_steps.Laws.{move-along, axis-self}
 use Rattle.compiled_paths.specs.Columns.{axisOf, testOf}
-use Rattle.inference.specs.type_steps.Relations.{envIn}
 use Rattle.inference.proofs.type_steps.moved.Statement.{statement}
 use Rattle.inference.proofs.type_steps.moved.Tie as tie
+use Rattle.inference.specs.type_steps.Laws.{move-along, axis-self}
+use Rattle.inference.specs.type_steps.Relations.{envIn}
+use Rattle.path_spec.specs.Paths.{self, child, descendant, descendantOrSelf, parent, ancestor, ancestorOrSelf}
 
 returns : tie.Need-returns
 unfolding axisOf

@@ -1,8 +1,8 @@
 -- `inference::type_steps::only_element` meets its contract.
 use borrow.Author.Needs.{needs}
-use Rattle.inference.specs.type_steps.Laws.{one-tested}
 use Rattle.inference.proofs.type_steps.only_element.Statement.{statement}
 use Rattle.inference.proofs.type_steps.only_element.Tie as tie
+use Rattle.inference.specs.type_steps.Laws.{one-tested}
 
 returns : tie.Need-returns
 returns c =

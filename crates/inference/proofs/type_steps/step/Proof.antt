@@ -1,15 +1,15 @@
 -- `inference::type_steps::step` meets its contract.
 use mathlib.Core.Path.{ap, _∙_}
 use borrow.Author.Needs.{needs}
-use Rattle.path_spec.specs.Selection.{passes}
-use Rattle.inference_spec.specs.Types.{Env, narrow}
-use Rattle.schema_spec.specs.Types.{typesOf}
-use Rattle.inference.specs.type_steps.Laws.{narrow-parts, tested-filter}
 use Rattle.compiled_paths.specs.Columns.{testOf}
-use Rattle.inference.specs.type_steps.Relations.{envIn}
-use Rattle.names.specs.Sets.{setIn}
+use Rattle.inference_spec.specs.Types.{Env, narrow}
 use Rattle.inference.proofs.type_steps.step.Statement.{statement}
 use Rattle.inference.proofs.type_steps.step.Tie as tie
+use Rattle.inference.specs.type_steps.Laws.{narrow-parts, tested-filter}
+use Rattle.inference.specs.type_steps.Relations.{envIn}
+use Rattle.names.specs.Sets.{setIn}
+use Rattle.path_spec.specs.Selection.{passes}
+use Rattle.schema_spec.specs.Types.{typesOf}
 
 returns : tie.Need-returns
 returns c = λ s k.

@@ -2,11 +2,11 @@
 use mathlib.Core.Path.{sym, ap, _∙_}
 use Prim.Native.Nat.{ℕ}
 use borrow.Author.Needs.{needs}
-use Rattle.path_spec.specs.Paths.{named, anyNode, anyText}
-use Rattle.inference.specs.type_steps.Laws.{tested-along, all-tested, test-named}
 use Rattle.compiled_paths.specs.Columns.{testOf}
 use Rattle.inference.proofs.type_steps.tested.Statement.{statement}
 use Rattle.inference.proofs.type_steps.tested.Tie as tie
+use Rattle.inference.specs.type_steps.Laws.{tested-along, all-tested, test-named}
+use Rattle.path_spec.specs.Paths.{named, anyNode, anyText}
 
 returns : tie.Need-returns
 unfolding testOf

@@ -1,10 +1,10 @@
 -- `inference::type_steps::to_children` meets its contract.
 use borrow.Author.Needs.{needs}
-use Rattle.inference.specs.type_steps.Laws.{move-child, tested-filter}
 use Rattle.compiled_paths.specs.Columns.{testOf}
-use Rattle.names.specs.Sets.{setIn}
 use Rattle.inference.proofs.type_steps.to_children.Statement.{statement}
 use Rattle.inference.proofs.type_steps.to_children.Tie as tie
+use Rattle.inference.specs.type_steps.Laws.{move-child, tested-filter}
+use Rattle.names.specs.Sets.{setIn}
 
 returns : tie.Need-returns
 returns c = λ s k.

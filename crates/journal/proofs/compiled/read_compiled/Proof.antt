@@ -1,8 +1,8 @@
 -- `read_compiled` meets its contract: the words are those of the elements' names, and `read_table` reads under the schema that they are of.
 use denote.Ref.{now}
-use Rattle.journal.specs.compiled.Compiled.{compiled-short, compiled-few, compiled-sized, compiled-read}
 use Rattle.journal.proofs.compiled.read_compiled.Statement.{statement}
 use Rattle.journal.proofs.compiled.read_compiled.Tie as tie
+use Rattle.journal.specs.compiled.Compiled.{compiled-short, compiled-few, compiled-sized, compiled-read}
 
 -- from the columns that are read back to the words of the names, and from before those to the call
 abbrev words-of : tie.After-read-table-arg5 → tie.After-all-words

@@ -1,9 +1,9 @@
 -- `is_lent` meets its contract: the record, then the columns.
 use mathlib.Core.Path.{sym, _∙_}
 use borrow.Author.Tests.{not-true, not-false}
-use Rattle.journal.specs.records.Records.{first-fails, second-decides}
 use Rattle.journal.proofs.records.is_lent.Statement.{statement}
 use Rattle.journal.proofs.records.is_lent.Tie as tie
+use Rattle.journal.specs.records.Records.{first-fails, second-decides}
 
 returns : tie.Need-returns
 returns c = first-fails _ _ (sym (c .before .is-schema-record .ensures) ∙ not-true _ (c .if1 .taken))

@@ -2,12 +2,12 @@
 use mathlib.Core.Bool.{Bool, true, _&&_}
 use mathlib.Core.Path.{_≡_, refl, sym, _∙_}
 use borrow.Author.Tests.{not-true, not-false, ltb-true}
+use Rattle.journal.proofs.records.read_journal.Statement.{statement}
+use Rattle.journal.proofs.records.read_journal.Tie as tie
 use Rattle.journal.specs.records.Records.{refused-1, cleared-1, lent-room, lent-part, lent-equal, read-answer, read-cells}
 use Rattle.schema.specs.declared.Schema.{Schema}
 use Rattle.schema_reader.specs.Records.{passesRecord}
 use Rattle.table_spec.specs.Columns.{Columns, columns, sizesOf, equalSizes}
-use Rattle.journal.proofs.records.read_journal.Statement.{statement}
-use Rattle.journal.proofs.records.read_journal.Tie as tie
 
 -- The start, and the record and the columns that are handed in, from where they are tested.
 abbrev start-before : tie.After-is-lent → tie.Start

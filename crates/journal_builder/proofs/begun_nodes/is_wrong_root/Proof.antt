@@ -1,9 +1,9 @@
-use borrow.Author.Tests.{eq-eqb, ne-eqb, lt-ltb, le-ltb}
 use mathlib.Core.Path.{refl}
-use Rattle.text_spec.specs.Limits.{maxDeclarations}
 use borrow.Author.Needs.{needs}
+use borrow.Author.Tests.{eq-eqb, ne-eqb, lt-ltb, le-ltb}
 use Rattle.journal_builder.proofs.begun_nodes.is_wrong_root.Statement.{statement}
 use Rattle.journal_builder.proofs.begun_nodes.is_wrong_root.Tie as tie
+use Rattle.text_spec.specs.Limits.{maxDeclarations}
 
 returns : tie.Need-returns
 returns c = rw (ne-eqb (c .before .args .depth) 0 (c .if1 .taken)) refl

@@ -1,13 +1,13 @@
-use mathlib.Core.Path.{_≡_, ap, ap₂, _∙_}
 use mathlib.Core.Bool.{Bool}
+use mathlib.Core.Path.{_≡_, ap, ap₂, _∙_}
 use Prim.Native.Nat.{ℕ, _+_}
-use lib.Dec.{leb}
-use Rattle.text.specs.fault_keys.Keys.{notedKey}
-use Rattle.journal_builder.specs.build_state.State.{build, isWrongRoot}
-use Rattle.text_spec.specs.Limits.{maxDeclarations}
 use borrow.Author.Needs.{needs}
+use lib.Dec.{leb}
 use Rattle.journal_builder.proofs.begun_nodes.with_element.Statement.{statement}
 use Rattle.journal_builder.proofs.begun_nodes.with_element.Tie as tie
+use Rattle.journal_builder.specs.build_state.State.{build, isWrongRoot}
+use Rattle.text.specs.fault_keys.Keys.{notedKey}
+use Rattle.text_spec.specs.Limits.{maxDeclarations}
 
 returns : tie.Need-returns
 returns c =

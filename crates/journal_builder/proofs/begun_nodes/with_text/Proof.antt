@@ -1,11 +1,11 @@
 use mathlib.Core.Bool.{Bool}
 use mathlib.Core.Path.{ap, _∙_}
 use Prim.Native.Nat.{_+_}
-use Rattle.text.specs.fault_keys.Keys.{notedKey}
-use Rattle.journal_builder.specs.build_state.State.{build}
 use borrow.Author.Needs.{needs}
 use Rattle.journal_builder.proofs.begun_nodes.with_text.Statement.{statement}
 use Rattle.journal_builder.proofs.begun_nodes.with_text.Tie as tie
+use Rattle.journal_builder.specs.build_state.State.{build}
+use Rattle.text.specs.fault_keys.Keys.{notedKey}
 
 returns : tie.Need-returns
 returns c =

@@ -1,8 +1,8 @@
 use mathlib.Core.Path.{ap}
-use Rattle.journal_builder.specs.build_state.State.{build}
 use borrow.Author.Needs.{needs}
 use Rattle.journal_builder.proofs.build_state.broken.Statement.{statement}
 use Rattle.journal_builder.proofs.build_state.broken.Tie as tie
+use Rattle.journal_builder.specs.build_state.State.{build}
 
 returns : tie.Need-returns
 returns c = let g = c .before .args in ap (build (g .m .depth) (g .m .count)) (c .noted .ensures)

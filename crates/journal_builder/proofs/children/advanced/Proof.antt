@@ -1,11 +1,11 @@
 use Prim.Native.Nat.{_%_}
 use native.Mathlib.Omega.{arith}
-use denote.Ref.{now}
-use Rattle.journal_builder.specs.fillings.FillingLaws.{child-taken}
-use Rattle.text_spec.specs.Limits.{maxDeclarations}
 use borrow.Author.Needs.{needs}
+use denote.Ref.{now}
 use Rattle.journal_builder.proofs.children.advanced.Statement.{statement}
 use Rattle.journal_builder.proofs.children.advanced.Tie as tie
+use Rattle.journal_builder.specs.fillings.FillingLaws.{child-taken}
+use Rattle.text_spec.specs.Limits.{maxDeclarations}
 
 next-state-requires : tie.Need-next-state-requires
 next-state-requires c κs =

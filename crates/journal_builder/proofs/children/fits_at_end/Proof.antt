@@ -1,11 +1,11 @@
 use mathlib.Core.Path.{sym, ap, _∙_}
-use denote.Ref.{now}
-use Rattle.journal_builder.specs.fillings.FillingLaws.{end-judged, other-end}
-use Rattle.models.specs.fitting.Steps.{mayEnd}
-use Rattle.models.specs.declared.Ends.{Ends}
 use borrow.Author.Needs.{needs}
+use denote.Ref.{now}
 use Rattle.journal_builder.proofs.children.fits_at_end.Statement.{statement}
 use Rattle.journal_builder.proofs.children.fits_at_end.Tie as tie
+use Rattle.journal_builder.specs.fillings.FillingLaws.{end-judged, other-end}
+use Rattle.models.specs.declared.Ends.{Ends}
+use Rattle.models.specs.fitting.Steps.{mayEnd}
 
 returns : tie.Need-returns
 returns c s x elements predecessors sizes m h =

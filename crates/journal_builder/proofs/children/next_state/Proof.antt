@@ -1,14 +1,14 @@
 use mathlib.Core.Path.{_≡_, subst}
 use Prim.Native.Nat.{ℕ, _+_, _-_, _*_}
 use native.Mathlib.Omega.{arith}
+use borrow.Author.Needs.{needs}
 use denote.Ref.{now}
 use Rattle.compiled_schema.specs.entry_columns.Columns.{cellsAt}
-use Rattle.models.specs.fitting.Steps.{Stepped}
-use Rattle.models.specs.declared.Ends.{Ends}
-use Rattle.text_spec.specs.Limits.{maxModelNames}
-use borrow.Author.Needs.{needs}
 use Rattle.journal_builder.proofs.children.next_state.Statement.{statement}
 use Rattle.journal_builder.proofs.children.next_state.Tie as tie
+use Rattle.models.specs.declared.Ends.{Ends}
+use Rattle.models.specs.fitting.Steps.{Stepped}
+use Rattle.text_spec.specs.Limits.{maxModelNames}
 
 returns : tie.Need-returns
 returns c =

@@ -1,6 +1,6 @@
-use borrow.Author.Tests.{lt-ltb, le-ltb}
 use mathlib.Core.Path.{refl}
 use borrow.Author.Needs.{needs}
+use borrow.Author.Tests.{lt-ltb, le-ltb}
 use Rattle.journal_builder.proofs.children.takes.Statement.{statement}
 use Rattle.journal_builder.proofs.children.takes.Tie as tie
 

@@ -1,12 +1,12 @@
 use mathlib.Core.List.{[]}
 use mathlib.Core.Path.{_≡_, sym, subst, _∙_}
-use Rattle.journal_builder.specs.declared.fillings.FillingState.{FillingState}
-use Rattle.journal_builder.specs.fillings.Fillings.{StateOf}
-use Rattle.journal_builder.specs.fillings.FillingLaws.{unjudged-child, taken, not-taken}
-use Rattle.journal_spec.specs.Builder.{withChild}
 use borrow.Author.Needs.{needs}
 use Rattle.journal_builder.proofs.children.with_child.Statement.{statement}
 use Rattle.journal_builder.proofs.children.with_child.Tie as tie
+use Rattle.journal_builder.specs.declared.fillings.FillingState.{FillingState}
+use Rattle.journal_builder.specs.fillings.FillingLaws.{unjudged-child, taken, not-taken}
+use Rattle.journal_builder.specs.fillings.Fillings.{StateOf}
+use Rattle.journal_spec.specs.Builder.{withChild}
 
 advanced-requires : tie.Need-advanced-requires
 advanced-requires c κs =

@@ -1,12 +1,12 @@
 use mathlib.Core.Bool.{true≢false}
 use mathlib.Core.Path.{sym, _∙_}
 use native.Mathlib.Omega.{arith}
-use denote.Ref.{now}
-use Rattle.journal_builder.specs.element_names.Names.{found-at}
-use Rattle.schema_spec.specs.Schemas.{nameAt}
 use borrow.Author.Needs.{needs}
+use denote.Ref.{now}
 use Rattle.journal_builder.proofs.element_names.is_named.Statement.{statement}
 use Rattle.journal_builder.proofs.element_names.is_named.Tie as tie
+use Rattle.journal_builder.specs.element_names.Names.{found-at}
+use Rattle.schema_spec.specs.Schemas.{nameAt}
 
 returns : tie.Need-returns
 returns c s n names k p t =

@@ -2,14 +2,14 @@ use mathlib.Core.List.{List}
 use mathlib.Core.Path.{_≡_, sym, _∙_}
 use Prim.Native.Nat.{ℕ, _≤_, _-_}
 use native.Mathlib.Omega.{arith}
-use denote.Ref.{now}
-use lib.ListN.{length}
-use Rattle.journal_builder.specs.element_names.Names.{NamesOf, NoneNamed, found-at, none-more, none-found}
-use Rattle.text.specs.name_words.Words.{Spells}
-use Rattle.schema_spec.specs.Schemas.{Schema, nameAt}
 use borrow.Author.Needs.{needs}
+use lib.ListN.{length}
+use denote.Ref.{now}
 use Rattle.journal_builder.proofs.element_names.scan.Statement.{statement}
 use Rattle.journal_builder.proofs.element_names.scan.Tie as tie
+use Rattle.journal_builder.specs.element_names.Names.{NamesOf, NoneNamed, found-at, none-more, none-found}
+use Rattle.schema_spec.specs.Schemas.{Schema, nameAt}
+use Rattle.text.specs.name_words.Words.{Spells}
 
 abbrev Inv-loop : tie.InvT-loop
 Inv-loop words count name e₀ e = (e ≤ count) × ((s : Schema) (n : List ℕ) → NamesOf s words → count ≡ length s → Spells name n → NoneNamed s n e)

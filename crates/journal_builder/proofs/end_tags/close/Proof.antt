@@ -1,14 +1,14 @@
 use mathlib.Core.Path.{_≡_, refl, sym, ap, subst, _∙_}
 use native.Mathlib.Omega.{arith}
-use denote.Ref.{now}
-use Rattle.journal_builder.specs.laws.Ends.{end-built}
-use Rattle.journal_builder.specs.laws.StateLaws.{innermost, built-as}
-use Rattle.journal_builder.specs.declared.build_state.Build.{Build}
-use Rattle.journal_builder.specs.fillings.Fillings.{StateOf}
-use Rattle.journal_builder.specs.declared.open_levels.Level.{Level}
 use borrow.Author.Needs.{needs}
+use denote.Ref.{now}
 use Rattle.journal_builder.proofs.end_tags.close.Statement.{statement}
 use Rattle.journal_builder.proofs.end_tags.close.Tie as tie
+use Rattle.journal_builder.specs.declared.build_state.Build.{Build}
+use Rattle.journal_builder.specs.declared.open_levels.Level.{Level}
+use Rattle.journal_builder.specs.fillings.Fillings.{StateOf}
+use Rattle.journal_builder.specs.laws.Ends.{end-built}
+use Rattle.journal_builder.specs.laws.StateLaws.{innermost, built-as}
 
 returns : tie.Need-returns
 returns c =

@@ -1,14 +1,14 @@
 use mathlib.Core.Path.{_≡_, sym, ap, subst, _∙_}
 use Prim.Native.Nat.{ℕ}
-use denote.Ref.{now}
-use Rattle.journal_builder.specs.laws.Ends.{own-name}
-use Rattle.journal_builder.specs.laws.StateLaws.{innermost}
-use Rattle.text.specs.name_words.Words.{Spells}
-use Rattle.journal_builder.specs.open_levels.Levels.{levelAt}
-use Rattle.journal_builder.specs.declared.open_levels.Level.{Level}
 use borrow.Author.Needs.{needs}
+use denote.Ref.{now}
 use Rattle.journal_builder.proofs.end_tags.is_own_name.Statement.{statement}
 use Rattle.journal_builder.proofs.end_tags.is_own_name.Tie as tie
+use Rattle.journal_builder.specs.declared.open_levels.Level.{Level}
+use Rattle.journal_builder.specs.laws.Ends.{own-name}
+use Rattle.journal_builder.specs.laws.StateLaws.{innermost}
+use Rattle.journal_builder.specs.open_levels.Levels.{levelAt}
+use Rattle.text.specs.name_words.Words.{Spells}
 
 returns : tie.Need-returns
 returns c s b m n e deep p w =

@@ -1,13 +1,13 @@
 use mathlib.Core.Path.{_≡_, refl, sym, ap, _∙_}
 use native.Mathlib.Omega.{arith}
-use denote.Ref.{now}
-use Rattle.journal_builder.specs.laws.Ends.{end-outside, end-other}
-use Rattle.journal_builder.specs.laws.StateLaws.{breaks-built, built-as}
-use Rattle.journal_builder.specs.declared.build_state.Build.{Build}
-use Rattle.text_spec.specs.Refusals.{badNesting}
 use borrow.Author.Needs.{needs}
+use denote.Ref.{now}
 use Rattle.journal_builder.proofs.end_tags.on_end.Statement.{statement}
 use Rattle.journal_builder.proofs.end_tags.on_end.Tie as tie
+use Rattle.journal_builder.specs.declared.build_state.Build.{Build}
+use Rattle.journal_builder.specs.laws.Ends.{end-outside, end-other}
+use Rattle.journal_builder.specs.laws.StateLaws.{breaks-built, built-as}
+use Rattle.text_spec.specs.Refusals.{badNesting}
 
 returns : tie.Need-returns
 returns c =

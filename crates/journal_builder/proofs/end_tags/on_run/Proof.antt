@@ -1,15 +1,15 @@
 use mathlib.Core.Path.{_≡_, refl, sym, ap, ap₂, _∙_}
 use native.Mathlib.Omega.{arith}
+use borrow.Author.Needs.{needs}
 use borrow.Author.Tests.{eqb-true, eqb-false}
 use denote.Ref.{now}
-use Rattle.journal_builder.specs.laws.Runs.{outside-safe, outside-leaves, run-plain, run-text, text-safe}
-use Rattle.journal_builder.specs.build_state.State.{noRow, step}
-use Rattle.journal_builder.specs.laws.StateLaws.{leaves-as, safe-as}
-use Rattle.journal_builder.specs.declared.build_state.Build.{Build}
 use Rattle.compiled_schema.specs.entry_parts.Entries.{pcdataKind}
-use borrow.Author.Needs.{needs}
 use Rattle.journal_builder.proofs.end_tags.on_run.Statement.{statement}
 use Rattle.journal_builder.proofs.end_tags.on_run.Tie as tie
+use Rattle.journal_builder.specs.build_state.State.{noRow, step}
+use Rattle.journal_builder.specs.declared.build_state.Build.{Build}
+use Rattle.journal_builder.specs.laws.Runs.{outside-safe, outside-leaves, run-plain, run-text, text-safe}
+use Rattle.journal_builder.specs.laws.StateLaws.{leaves-as, safe-as}
 
 returns : tie.Need-returns
 returns c =

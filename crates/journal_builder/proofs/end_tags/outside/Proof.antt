@@ -1,9 +1,9 @@
-use borrow.Author.Tests.{eq-eqb, ne-eqb}
 use mathlib.Core.Path.{refl}
-use Rattle.journal_lexer.specs.state.Places.{noPlace}
 use borrow.Author.Needs.{needs}
+use borrow.Author.Tests.{eq-eqb, ne-eqb}
 use Rattle.journal_builder.proofs.end_tags.outside.Statement.{statement}
 use Rattle.journal_builder.proofs.end_tags.outside.Tie as tie
+use Rattle.journal_lexer.specs.state.Places.{noPlace}
 
 returns : tie.Need-returns
 returns c = rw (eq-eqb (c .before .args .solid) noPlace (c .if1 .taken)) refl

@@ -2,9 +2,9 @@
 use mathlib.Core.Logic.{_⊎_, inl, inr, ⊎-elim}
 use mathlib.Core.Path.{_≡_, refl, sym, _∙_}
 use borrow.Author.Needs.{needs}
-use Rattle.journal_builder.specs.event_handling.Events.{event-quiet, event-run}
 use Rattle.journal_builder.proofs.event_handling.on_data_event.Statement.{statement}
 use Rattle.journal_builder.proofs.event_handling.on_data_event.Tie as tie
+use Rattle.journal_builder.specs.event_handling.Events.{event-quiet, event-run}
 
 returns : tie.Need-returns
 returns c t = event-quiet (c .before .if1 .taken) (c .before .before .before .pre .0) (c .without-row .ensures)

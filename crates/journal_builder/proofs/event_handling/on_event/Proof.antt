@@ -2,9 +2,9 @@
 use mathlib.Core.Bool.{false}
 use mathlib.Core.Path.{_≡_, refl, sym, _∙_}
 use borrow.Author.Needs.{needs}
-use Rattle.journal_builder.specs.event_handling.Events.{isDataEvent, data-event, tag-event, event-tag}
 use Rattle.journal_builder.proofs.event_handling.on_event.Statement.{statement}
 use Rattle.journal_builder.proofs.event_handling.on_event.Tie as tie
+use Rattle.journal_builder.specs.event_handling.Events.{isDataEvent, data-event, tag-event, event-tag}
 
 on-data-event-requires : tie.Need-on-data-event-requires
 on-data-event-requires c κs =

@@ -1,8 +1,8 @@
-use denote.Ref.{now}
-use Rattle.journal_builder.specs.fillings.FillingLaws.{new-declared, new-undeclared}
 use borrow.Author.Needs.{needs}
+use denote.Ref.{now}
 use Rattle.journal_builder.proofs.fillings.filling_for.Statement.{statement}
 use Rattle.journal_builder.proofs.fillings.filling_for.Tie as tie
+use Rattle.journal_builder.specs.fillings.FillingLaws.{new-declared, new-undeclared}
 
 returns : tie.Need-returns
 returns c s o k f = let g = c .before .args in new-undeclared s (now (g .kinds)) (g .e) o (c .if1 .taken) k f

@@ -1,6 +1,6 @@
-use borrow.Author.Tests.{eq-eqb, ne-eqb}
 use mathlib.Core.Path.{refl}
 use borrow.Author.Needs.{needs}
+use borrow.Author.Tests.{eq-eqb, ne-eqb}
 use Rattle.journal_builder.proofs.fillings.is_children.Statement.{statement}
 use Rattle.journal_builder.proofs.fillings.is_children.Tie as tie
 

@@ -1,12 +1,12 @@
 use mathlib.Core.Bool.{Bool, true, false}
 use mathlib.Core.Path.{_≡_, sym, subst, _∙_}
-use Rattle.journal_builder.specs.declared.fillings.FillingState.{FillingState}
-use Rattle.journal_builder.specs.fillings.Fillings.{StateOf, filling, misfitKind}
-use Rattle.journal_builder.specs.fillings.FillingLaws.{empty-run, model-run, blank-run, other-run}
-use Rattle.journal_spec.specs.Builder.{withRun}
 use borrow.Author.Needs.{needs}
 use Rattle.journal_builder.proofs.fillings.with_run.Statement.{statement}
 use Rattle.journal_builder.proofs.fillings.with_run.Tie as tie
+use Rattle.journal_builder.specs.declared.fillings.FillingState.{FillingState}
+use Rattle.journal_builder.specs.fillings.FillingLaws.{empty-run, model-run, blank-run, other-run}
+use Rattle.journal_builder.specs.fillings.Fillings.{StateOf, filling, misfitKind}
+use Rattle.journal_spec.specs.Builder.{withRun}
 
 returns : tie.Need-returns
 returns c s x h =

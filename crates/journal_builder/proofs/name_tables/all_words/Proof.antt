@@ -1,14 +1,14 @@
 use mathlib.Core.Path.{_≡_, _∙_}
 use Prim.Native.Nat.{ℕ, _-_, _≤_, _<_}
 use native.Mathlib.Omega.{arith}
-use denote.Ref.{now}
+use borrow.Author.Needs.{needs}
 use lib.ListN.{length, getD}
+use denote.Ref.{now}
+use Rattle.journal_builder.proofs.name_tables.all_words.Statement.{statement}
+use Rattle.journal_builder.proofs.name_tables.all_words.Tie as tie
 use Rattle.journal_builder.specs.name_tables.Words.{words-more}
 use Rattle.text.specs.name_words.Words.{wordsOf, nameAt as wordsAt}
 use Rattle.text_spec.specs.Scans.{nameAt}
-use borrow.Author.Needs.{needs}
-use Rattle.journal_builder.proofs.name_tables.all_words.Statement.{statement}
-use Rattle.journal_builder.proofs.name_tables.all_words.Tie as tie
 
 abbrev Inv-loop : tie.InvT-loop
 Inv-loop text names count words₀ e₀ words e =

@@ -1,8 +1,8 @@
+use mathlib.Core.Path.{refl}
+use borrow.Author.Needs.{needs}
 use borrow.Author.Tests.{lt-ltb, le-ltb}
 use lib.ListN.{length}
 use denote.Ref.{now}
-use mathlib.Core.Path.{refl}
-use borrow.Author.Needs.{needs}
 use Rattle.journal_builder.proofs.name_tables.goes_on.Statement.{statement}
 use Rattle.journal_builder.proofs.name_tables.goes_on.Tie as tie
 

@@ -1,12 +1,12 @@
 use mathlib.Core.Path.{_≡_, sym, _∙_}
 use Prim.Native.Nat.{_-_}
 use native.Mathlib.Omega.{arith}
-use denote.Ref.{now}
-use lib.ListN.{length}
-use Rattle.journal_builder.specs.name_tables.Words.{ReadTo, read-none, read-more, read-all, goes-on-inside}
 use borrow.Author.Needs.{needs}
+use lib.ListN.{length}
+use denote.Ref.{now}
 use Rattle.journal_builder.proofs.name_tables.words_at.Statement.{statement}
 use Rattle.journal_builder.proofs.name_tables.words_at.Tie as tie
+use Rattle.journal_builder.specs.name_tables.Words.{ReadTo, read-none, read-more, read-all, goes-on-inside}
 
 abbrev Inv-loop : tie.InvT-loop
 Inv-loop text p name₀ i₀ name i = ReadTo text p i name

@@ -1,8 +1,8 @@
-use denote.Ref.{now}
-use Rattle.journal_builder.specs.open_levels.LevelLaws.{refill-stores}
 use borrow.Author.Needs.{needs}
+use denote.Ref.{now}
 use Rattle.journal_builder.proofs.open_levels.refill.Statement.{statement}
 use Rattle.journal_builder.proofs.open_levels.refill.Tie as tie
+use Rattle.journal_builder.specs.open_levels.LevelLaws.{refill-stores}
 
 returns : tie.Need-returns
 returns c = let g = c .args in refill-stores (now (g .cells)) (g .d) (c .pre .0) (c .pre .1) (g .filling)

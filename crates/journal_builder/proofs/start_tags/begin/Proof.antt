@@ -1,16 +1,16 @@
 use mathlib.Core.Path.{_≡_, refl, sym, ap, ap₂, _∙_}
 use Prim.Native.Nat.{_+_, _<_}
 use native.Mathlib.Omega.{arith}
-use denote.Ref.{now}
-use Rattle.journal_builder.specs.laws.Starts.{begin-leaves, begin-safe}
-use Rattle.journal_builder.specs.build_state.State.{step}
-use Rattle.journal_builder.specs.laws.StateLaws.{length-refill, leaves-as, safe-as}
-use Rattle.journal_builder.specs.declared.build_state.Build.{Build}
-use Rattle.journal_spec.specs.Builder.{refill, withChild}
-use Rattle.schema_spec.specs.Schemas.{elementNamed}
 use borrow.Author.Needs.{needs}
+use denote.Ref.{now}
 use Rattle.journal_builder.proofs.start_tags.begin.Statement.{statement}
 use Rattle.journal_builder.proofs.start_tags.begin.Tie as tie
+use Rattle.journal_builder.specs.build_state.State.{step}
+use Rattle.journal_builder.specs.declared.build_state.Build.{Build}
+use Rattle.journal_builder.specs.laws.Starts.{begin-leaves, begin-safe}
+use Rattle.journal_builder.specs.laws.StateLaws.{length-refill, leaves-as, safe-as}
+use Rattle.journal_spec.specs.Builder.{refill, withChild}
+use Rattle.schema_spec.specs.Schemas.{elementNamed}
 
 with-element-requires : tie.Need-with-element-requires
 with-element-requires c κs = let q = c .before .before .before .before .before .before .before .pre in (q .2, q .3)

@@ -1,10 +1,10 @@
 use mathlib.Core.Path.{_≡_, refl, sym, ap, subst, _∙_}
-use denote.Ref.{now}
-use Rattle.journal_builder.specs.laws.StateLaws.{refilled}
-use Rattle.journal_spec.specs.Builder.{withChild}
 use borrow.Author.Needs.{needs}
+use denote.Ref.{now}
 use Rattle.journal_builder.proofs.start_tags.fit_child.Statement.{statement}
 use Rattle.journal_builder.proofs.start_tags.fit_child.Tie as tie
+use Rattle.journal_builder.specs.laws.StateLaws.{refilled}
+use Rattle.journal_spec.specs.Builder.{withChild}
 
 returns : tie.Need-returns
 returns c =

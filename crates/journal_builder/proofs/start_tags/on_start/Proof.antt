@@ -1,16 +1,16 @@
 use mathlib.Core.Path.{_≡_, refl, sym, ap, _∙_}
 use native.Mathlib.Omega.{arith}
-use denote.Ref.{now}
-use Rattle.journal_builder.specs.laws.Starts.{start-second, start-deep, start-begins}
-use Rattle.journal_builder.specs.build_state.State.{noRow, step}
-use Rattle.journal_builder.specs.laws.StateLaws.{breaks-leaves, leaves-as}
-use Rattle.journal_builder.specs.declared.build_state.Build.{Build}
-use Rattle.journal_builder.specs.declared.build_state.BuildStep.{BuildStep}
-use Rattle.journal_builder.specs.start_tags.Starts.{broken-start}
-use Rattle.text_spec.specs.Refusals.{badNesting, overDepth}
 use borrow.Author.Needs.{needs}
+use denote.Ref.{now}
 use Rattle.journal_builder.proofs.start_tags.on_start.Statement.{statement}
 use Rattle.journal_builder.proofs.start_tags.on_start.Tie as tie
+use Rattle.journal_builder.specs.build_state.State.{noRow, step}
+use Rattle.journal_builder.specs.declared.build_state.Build.{Build}
+use Rattle.journal_builder.specs.declared.build_state.BuildStep.{BuildStep}
+use Rattle.journal_builder.specs.laws.Starts.{start-second, start-deep, start-begins}
+use Rattle.journal_builder.specs.laws.StateLaws.{breaks-leaves, leaves-as}
+use Rattle.journal_builder.specs.start_tags.Starts.{broken-start}
+use Rattle.text_spec.specs.Refusals.{badNesting, overDepth}
 
 begin-requires : tie.Need-begin-requires
 begin-requires c κs =

@@ -1,10 +1,10 @@
 use mathlib.Core.Path.{_≡_, refl, sym, ap, subst, _∙_}
 use native.Mathlib.Omega.{arith}
-use denote.Ref.{now}
-use Rattle.journal_builder.specs.open_levels.LevelLaws.{opened-more}
 use borrow.Author.Needs.{needs}
+use denote.Ref.{now}
 use Rattle.journal_builder.proofs.start_tags.open_element.Statement.{statement}
 use Rattle.journal_builder.proofs.start_tags.open_element.Tie as tie
+use Rattle.journal_builder.specs.open_levels.LevelLaws.{opened-more}
 
 returns : tie.Need-returns
 returns c =

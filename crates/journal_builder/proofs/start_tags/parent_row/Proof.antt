@@ -1,12 +1,12 @@
 use mathlib.Core.List.{List, [], _∷_}
 use mathlib.Core.Path.{_≡_, refl, sym, ap, subst, _∙_}
 use Prim.Native.Nat.{ℕ}
-use denote.Ref.{now}
-use Rattle.journal_builder.specs.laws.Starts.{no-parent, own-row}
-use Rattle.journal_builder.specs.declared.open_levels.Level.{Level}
 use borrow.Author.Needs.{needs}
+use denote.Ref.{now}
 use Rattle.journal_builder.proofs.start_tags.parent_row.Statement.{statement}
 use Rattle.journal_builder.proofs.start_tags.parent_row.Tie as tie
+use Rattle.journal_builder.specs.declared.open_levels.Level.{Level}
+use Rattle.journal_builder.specs.laws.Starts.{no-parent, own-row}
 
 returns : tie.Need-returns
 returns c s os e h = no-parent os (c .before .args .d) e (c .if1 .taken)

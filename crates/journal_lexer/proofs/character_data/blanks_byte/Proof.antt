@@ -1,8 +1,8 @@
 -- `blanks_byte` meets its contract: by the kind of the byte.
 use borrow.Author.Needs.{needs}
-use Rattle.journal_lexer.specs.character_data.Laws.{blanks-less, blanks-data}
 use Rattle.journal_lexer.proofs.character_data.blanks_byte.Statement.{statement}
 use Rattle.journal_lexer.proofs.character_data.blanks_byte.Tie as tie
+use Rattle.journal_lexer.specs.character_data.Laws.{blanks-less, blanks-data}
 
 returns : tie.Need-returns
 returns c = blanks-less (c .before .before .before .pre) (c .before .before .if1 .taken) (c .tag-opens .ensures .1) (c .tag-opens .ensures .0)

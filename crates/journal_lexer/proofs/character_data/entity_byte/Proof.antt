@@ -1,8 +1,8 @@
 -- `entity_byte` meets its contract: by the next state.
 use borrow.Author.Needs.{needs}
-use Rattle.journal_lexer.specs.character_data.EntityLaws.{entity-none, entity-past, entity-stop, entity-more}
 use Rattle.journal_lexer.proofs.character_data.entity_byte.Statement.{statement}
 use Rattle.journal_lexer.proofs.character_data.entity_byte.Tie as tie
+use Rattle.journal_lexer.specs.character_data.EntityLaws.{entity-none, entity-past, entity-stop, entity-more}
 
 returns : tie.Need-returns
 returns c = entity-none (c .before .before .before .pre) (c .before .before .if1 .taken)

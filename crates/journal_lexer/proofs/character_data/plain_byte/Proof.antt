@@ -1,8 +1,8 @@
 -- `plain_byte` meets its contract: by the kind of the byte.
 use borrow.Author.Needs.{needs}
-use Rattle.journal_lexer.specs.character_data.Laws.{plain-less, plain-opens, plain-entity, plain-bracket, plain-noted}
 use Rattle.journal_lexer.proofs.character_data.plain_byte.Statement.{statement}
 use Rattle.journal_lexer.proofs.character_data.plain_byte.Tie as tie
+use Rattle.journal_lexer.specs.character_data.Laws.{plain-less, plain-opens, plain-entity, plain-bracket, plain-noted}
 
 returns : tie.Need-returns
 returns c = plain-less (c .before .before .pre) (c .before .if1 .taken) (c .goes .ensures)

@@ -1,7 +1,7 @@
 -- `solid_byte` meets its contract.
-use Rattle.journal_lexer.specs.character_data.Laws.{solid-plain}
 use Rattle.journal_lexer.proofs.character_data.solid_byte.Statement.{statement}
 use Rattle.journal_lexer.proofs.character_data.solid_byte.Tie as tie
+use Rattle.journal_lexer.specs.character_data.Laws.{solid-plain}
 
 returns : tie.Need-returns
 returns c = solid-plain (c .before .before .pre) (c .plain-byte .ensures)

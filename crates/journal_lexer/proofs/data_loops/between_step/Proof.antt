@@ -1,10 +1,10 @@
 -- `between_step` meets its contract: one byte, in its mode.
 use borrow.Author.Tests.{ne-eqb}
 use mir.Facts.{fits-8-64}
-use Rattle.journal_lexer.specs.loop_laws.Laws.{advance-none}
-use Rattle.journal_lexer.specs.loop_laws.Turns.{byte-none, byte-handed, byte-quiet}
 use Rattle.journal_lexer.proofs.data_loops.between_step.Statement.{statement}
 use Rattle.journal_lexer.proofs.data_loops.between_step.Tie as tie
+use Rattle.journal_lexer.specs.loop_laws.Laws.{advance-none}
+use Rattle.journal_lexer.specs.loop_laws.Turns.{byte-none, byte-handed, byte-quiet}
 
 between-byte-requires : tie.Need-between-byte-requires
 between-byte-requires c κs =

@@ -1,7 +1,7 @@
 -- `data_part` meets its contract: one loop after the other.
-use Rattle.journal_lexer.specs.loop_laws.Laws.{ready-after, advance-then}
 use Rattle.journal_lexer.proofs.data_loops.data_part.Statement.{statement}
 use Rattle.journal_lexer.proofs.data_loops.data_part.Tie as tie
+use Rattle.journal_lexer.specs.loop_laws.Laws.{ready-after, advance-then}
 
 blanks-run-requires : tie.Need-blanks-run-requires
 blanks-run-requires c κs =

@@ -1,13 +1,13 @@
 -- `all_kinds` meets its contract: the cells below b hold their kinds.
 use mathlib.Core.Path.{_≡_}
 use Prim.Native.Nat.{ℕ, _≤_, _-_}
-use borrow.Author.Needs.{needs}
 use native.Mathlib.Omega.{arith}
+use borrow.Author.Needs.{needs}
 use lib.ListN.{length, length-set}
-use Rattle.journal_lexer.specs.kinds.Kinds.{kindOf}
-use Rattle.text_laws.specs.Loops.{Passed, passed-first, passed-next}
 use Rattle.journal_lexer.proofs.kinds.all_kinds.Statement.{statement}
 use Rattle.journal_lexer.proofs.kinds.all_kinds.Tie as tie
+use Rattle.journal_lexer.specs.kinds.Kinds.{kindOf}
+use Rattle.text_laws.specs.Loops.{Passed, passed-first, passed-next}
 
 -- the cell b holds its kind
 abbrev Right : ℕ → ℕ → Type 0

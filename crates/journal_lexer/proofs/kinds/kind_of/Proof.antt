@@ -1,9 +1,9 @@
 -- `kind_of` meets its contract: the tests in their order.
 use mathlib.Core.Path.{sym, _∙_}
 use borrow.Author.Needs.{needs}
-use Rattle.journal_lexer.specs.kinds.Kinds.{kindOf}
 use Rattle.journal_lexer.proofs.kinds.kind_of.Statement.{statement}
 use Rattle.journal_lexer.proofs.kinds.kind_of.Tie as tie
+use Rattle.journal_lexer.specs.kinds.Kinds.{kindOf}
 
 returns : tie.Need-returns
 unfolding kindOf

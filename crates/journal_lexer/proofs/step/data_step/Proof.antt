@@ -1,8 +1,8 @@
 -- `data_step` meets its contract: by the mode.
 use native.Mathlib.Omega.{arith}
-use Rattle.journal_lexer.specs.state.Laws.{steps-in}
 use Rattle.journal_lexer.proofs.step.data_step.Statement.{statement}
 use Rattle.journal_lexer.proofs.step.data_step.Tie as tie
+use Rattle.journal_lexer.specs.state.Laws.{steps-in}
 
 returns : tie.Need-returns
 returns c = steps-in (c .before .before .if1 .taken) (c .solid-byte .ensures)

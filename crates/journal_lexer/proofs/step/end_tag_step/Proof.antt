@@ -1,9 +1,9 @@
 -- `end_tag_step` meets its contract: by the mode.
 use native.Mathlib.Omega.{arith}
-use Rattle.journal_lexer.specs.state.Laws.{steps-in}
-use Rattle.journal_lexer.specs.step.Modes.{steps-last}
 use Rattle.journal_lexer.proofs.step.end_tag_step.Statement.{statement}
 use Rattle.journal_lexer.proofs.step.end_tag_step.Tie as tie
+use Rattle.journal_lexer.specs.state.Laws.{steps-in}
+use Rattle.journal_lexer.specs.step.Modes.{steps-last}
 
 returns : tie.Need-returns
 returns c = steps-in (c .before .before .if1 .taken) (c .end-name-byte .ensures)

@@ -1,10 +1,10 @@
 -- `opened_step` meets its contract: one byte, in its mode.
 use borrow.Author.Tests.{ne-eqb}
 use mir.Facts.{fits-8-64}
-use Rattle.journal_lexer.specs.loop_laws.Laws.{advance-none}
-use Rattle.journal_lexer.specs.loop_laws.Turns.{byte-none, byte-handed, byte-quiet}
 use Rattle.journal_lexer.proofs.tag_loops.opened_step.Statement.{statement}
 use Rattle.journal_lexer.proofs.tag_loops.opened_step.Tie as tie
+use Rattle.journal_lexer.specs.loop_laws.Laws.{advance-none}
+use Rattle.journal_lexer.specs.loop_laws.Turns.{byte-none, byte-handed, byte-quiet}
 
 opened-byte-requires : tie.Need-opened-byte-requires
 opened-byte-requires c κs =

@@ -4,11 +4,11 @@ use mathlib.Core.Path.{_≡_, refl, sym, _∙_}
 use Prim.Native.Nat.{_-_}
 use lib.ListN.{length}
 use mir.Facts.{fits-8-64}
+use Rattle.journal_lexer.proofs.tag_loops.rare_run.Statement.{statement}
+use Rattle.journal_lexer.proofs.tag_loops.rare_run.Tie as tie
 use Rattle.journal_lexer.specs.loop_laws.Laws.{advance-end}
 use Rattle.journal_lexer.specs.loop_laws.Turns.{Turn, turn-first, turn-over, turn-handed, turn-falls, turn-next}
 use Rattle.journal_lexer.specs.tag_loops.Modes.{rareMode, rare-not}
-use Rattle.journal_lexer.proofs.tag_loops.rare_run.Statement.{statement}
-use Rattle.journal_lexer.proofs.tag_loops.rare_run.Tie as tie
 
 abbrev Inv-loop : tie.InvT-loop
 Inv-loop t kinds places₀ s₀ places s = Turn t kinds s₀ places₀ s places

@@ -1,7 +1,7 @@
 -- `tag_part` meets its contract: one loop after the other.
-use Rattle.journal_lexer.specs.loop_laws.Laws.{ready-after, advance-then}
 use Rattle.journal_lexer.proofs.tag_loops.tag_part.Statement.{statement}
 use Rattle.journal_lexer.proofs.tag_loops.tag_part.Tie as tie
+use Rattle.journal_lexer.specs.loop_laws.Laws.{ready-after, advance-then}
 
 ending-run-requires : tie.Need-ending-run-requires
 ending-run-requires c κs =

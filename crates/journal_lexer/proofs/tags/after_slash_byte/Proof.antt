@@ -1,8 +1,8 @@
 -- `after_slash_byte` meets its contract: by the kind of the byte.
 use borrow.Author.Needs.{needs}
-use Rattle.journal_lexer.specs.tags.Laws.{slash-closed, slash-stop}
 use Rattle.journal_lexer.proofs.tags.after_slash_byte.Statement.{statement}
 use Rattle.journal_lexer.proofs.tags.after_slash_byte.Tie as tie
+use Rattle.journal_lexer.specs.tags.Laws.{slash-closed, slash-stop}
 
 returns : tie.Need-returns
 returns c = slash-closed (c .before .before .pre) (c .before .if1 .taken) (c .tells .ensures)

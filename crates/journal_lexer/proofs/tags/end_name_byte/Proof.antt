@@ -1,8 +1,8 @@
 -- `end_name_byte` meets its contract: by the kind of the byte.
 use borrow.Author.Needs.{needs}
-use Rattle.journal_lexer.specs.tags.Laws.{in-end-name-longer, in-end-name-past}
 use Rattle.journal_lexer.proofs.tags.end_name_byte.Statement.{statement}
 use Rattle.journal_lexer.proofs.tags.end_name_byte.Tie as tie
+use Rattle.journal_lexer.specs.tags.Laws.{in-end-name-longer, in-end-name-past}
 
 returns : tie.Need-returns
 returns c = in-end-name-longer (c .before .before .pre) (c .before .if1 .taken) (c .longer .ensures)

@@ -1,8 +1,8 @@
 -- `ending_byte` meets its contract: by the kind of the byte.
 use borrow.Author.Needs.{needs}
-use Rattle.journal_lexer.specs.tags.Laws.{ending-letter, ending-stop}
 use Rattle.journal_lexer.proofs.tags.ending_byte.Statement.{statement}
 use Rattle.journal_lexer.proofs.tags.ending_byte.Tie as tie
+use Rattle.journal_lexer.specs.tags.Laws.{ending-letter, ending-stop}
 
 returns : tie.Need-returns
 returns c = ending-letter (c .before .before .pre) (c .before .if1 .taken) (c .begun .ensures)

@@ -1,10 +1,10 @@
 -- `longer` meets its contract.
 use mathlib.Core.Path.{refl}
 use native.Mathlib.Omega.{arith}
-use Rattle.journal_lexer.specs.tags.Names.{fits, over}
 use borrow.Author.Needs.{needs}
 use Rattle.journal_lexer.proofs.tags.longer.Statement.{statement}
 use Rattle.journal_lexer.proofs.tags.longer.Tie as tie
+use Rattle.journal_lexer.specs.tags.Names.{fits, over}
 
 returns : tie.Need-returns
 returns c = λ n h. over (omega (arith, h .counted)) (c .goes .ensures)

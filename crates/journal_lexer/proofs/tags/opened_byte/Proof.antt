@@ -1,8 +1,8 @@
 -- `opened_byte` meets its contract: by the kind of the byte.
 use borrow.Author.Needs.{needs}
-use Rattle.journal_lexer.specs.tags.Laws.{opened-slash, opened-letter, opened-stop}
 use Rattle.journal_lexer.proofs.tags.opened_byte.Statement.{statement}
 use Rattle.journal_lexer.proofs.tags.opened_byte.Tie as tie
+use Rattle.journal_lexer.specs.tags.Laws.{opened-slash, opened-letter, opened-stop}
 
 returns : tie.Need-returns
 returns c = opened-slash (c .before .before .pre) (c .before .if1 .taken) (c .goes .ensures)

@@ -1,8 +1,8 @@
 -- `past_end_name` meets its contract: by the kind of the byte.
 use borrow.Author.Needs.{needs}
-use Rattle.journal_lexer.specs.tags.Laws.{end-blank, end-closed, end-stop}
 use Rattle.journal_lexer.proofs.tags.past_end_name.Statement.{statement}
 use Rattle.journal_lexer.proofs.tags.past_end_name.Tie as tie
+use Rattle.journal_lexer.specs.tags.Laws.{end-blank, end-closed, end-stop}
 
 returns : tie.Need-returns
 returns c = end-blank (c .before .before .pre) (c .before .if1 .taken) (c .goes .ensures)

@@ -1,8 +1,8 @@
 -- `past_name` meets its contract: by the kind of the byte.
 use borrow.Author.Needs.{needs}
-use Rattle.journal_lexer.specs.tags.Laws.{tag-blank, tag-closed, tag-slash, tag-stop}
 use Rattle.journal_lexer.proofs.tags.past_name.Statement.{statement}
 use Rattle.journal_lexer.proofs.tags.past_name.Tie as tie
+use Rattle.journal_lexer.specs.tags.Laws.{tag-blank, tag-closed, tag-slash, tag-stop}
 
 returns : tie.Need-returns
 returns c = tag-blank (c .before .before .pre) (c .before .if1 .taken) (c .goes .ensures)

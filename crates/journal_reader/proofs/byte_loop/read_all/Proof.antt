@@ -9,10 +9,10 @@ use mir.Facts.{fits-8-64}
 use mir.Syntax.{w64}
 use mir.Val.{Fits}
 use Rattle.journal_builder.specs.event_handling.Events.{schemaCells}
-use Rattle.journal_reader.specs.byte_loop.Whole.{SomeRead, none-read, more-read, all-read}
 use Rattle.journal_lexer.specs.state.Places.{noPlace}
 use Rattle.journal_reader.proofs.byte_loop.read_all.Statement.{statement}
 use Rattle.journal_reader.proofs.byte_loop.read_all.Tie as tie
+use Rattle.journal_reader.specs.byte_loop.Whole.{SomeRead, none-read, more-read, all-read}
 use Rattle.table_spec.specs.Columns.{columns}
 
 abbrev Inv-loop : tie.InvT-loop

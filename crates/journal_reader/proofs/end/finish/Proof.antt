@@ -1,9 +1,9 @@
 -- `finish` meets its contract: the last event, its row, then the key.
+use Rattle.journal_reader.proofs.end.finish.Statement.{statement}
+use Rattle.journal_reader.proofs.end.finish.Tie as tie
 use Rattle.journal_reader.specs.end.Ends.{finished}
 use Rattle.journal_reader.specs.event_rows.Events.{event-read}
 use Rattle.journal_reader.specs.state.ReadingLaws.{few-nodes}
-use Rattle.journal_reader.proofs.end.finish.Statement.{statement}
-use Rattle.journal_reader.proofs.end.finish.Tie as tie
 
 -- from the key back to the row, to the event, to the end, to the call
 abbrev row-of : tie.After-build → tie.After-add-row

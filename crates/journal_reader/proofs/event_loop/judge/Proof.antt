@@ -3,9 +3,9 @@ use mathlib.Core.Path.{refl, sym, _∙_}
 use Prim.Native.Nat.{_≤_}
 use borrow.Author.Tests.{not-true, not-false}
 use lib.ListN.{length}
-use Rattle.journal_reader.specs.event_loop.Judging.{judged-2, outside-2, judged-within, within, within-places}
 use Rattle.journal_reader.proofs.event_loop.judge.Statement.{statement}
 use Rattle.journal_reader.proofs.event_loop.judge.Tie as tie
+use Rattle.journal_reader.specs.event_loop.Judging.{judged-2, outside-2, judged-within, within, within-places}
 
 -- from the text that is read back to the test of its length, and to the call
 abbrev test-of : tie.Else1 → tie.After-length-fits

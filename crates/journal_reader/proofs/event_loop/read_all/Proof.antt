@@ -2,11 +2,11 @@
 use mathlib.Core.Path.{_≡_, refl, _∙_}
 use Prim.Native.Nat.{_-_}
 use lib.ListN.{length}
-use Rattle.journal_reader.specs.event_loop.Events.{EventsRead, no-event-read, event-more, events-all}
-use Rattle.journal_reader.specs.event_step.Points.{fewer-left}
 use Rattle.journal_builder.specs.event_handling.Events.{schemaCells}
 use Rattle.journal_reader.proofs.event_loop.read_all.Statement.{statement}
 use Rattle.journal_reader.proofs.event_loop.read_all.Tie as tie
+use Rattle.journal_reader.specs.event_loop.Events.{EventsRead, no-event-read, event-more, events-all}
+use Rattle.journal_reader.specs.event_step.Points.{fewer-left}
 use Rattle.table_spec.specs.Columns.{columns}
 
 abbrev Inv-loop : tie.InvT-loop

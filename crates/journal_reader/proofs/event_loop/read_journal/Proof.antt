@@ -2,10 +2,10 @@
 use mathlib.Core.Path.{sym, subst, _∙_}
 use Prim.Native.Nat.{ℕ, _<_}
 use borrow.Author.Needs.{needs}
-use Rattle.journal_reader.specs.event_loop.Journals.{usable-first, journal-read}
 use Rattle.journal_lexer.specs.state.Places.{noPlace}
 use Rattle.journal_reader.proofs.event_loop.read_journal.Statement.{statement}
 use Rattle.journal_reader.proofs.event_loop.read_journal.Tie as tie
+use Rattle.journal_reader.specs.event_loop.Journals.{usable-first, journal-read}
 
 -- from the exit back to the end, to all bytes, to the table of kinds, to the call
 abbrev end-of : tie.After-slice-known15 → tie.After-finish

@@ -1,7 +1,7 @@
 -- `read_event` meets its contract: the event, then its row.
-use Rattle.journal_reader.specs.event_rows.Events.{event-read}
 use Rattle.journal_reader.proofs.event_rows.read_event.Statement.{statement}
 use Rattle.journal_reader.proofs.event_rows.read_event.Tie as tie
+use Rattle.journal_reader.specs.event_rows.Events.{event-read}
 
 on-event-requires : tie.Need-on-event-requires
 on-event-requires c κs =

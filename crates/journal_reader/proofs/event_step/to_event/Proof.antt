@@ -1,8 +1,8 @@
 -- `to_event` meets its contract: the loops over character data, then those over tags.
-use Rattle.journal_reader.specs.event_step.Onward.{further-all, further-event, quiet-event, quiet-more, quiet-ready, onward}
 use Rattle.journal_lexer.specs.loop_laws.Laws.{ready-after, advance-then}
 use Rattle.journal_reader.proofs.event_step.to_event.Statement.{statement}
 use Rattle.journal_reader.proofs.event_step.to_event.Tie as tie
+use Rattle.journal_reader.specs.event_step.Onward.{further-all, further-event, quiet-event, quiet-more, quiet-ready, onward}
 
 data-part-requires : tie.Need-data-part-requires
 data-part-requires c κs =

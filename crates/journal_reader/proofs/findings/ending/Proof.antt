@@ -1,9 +1,9 @@
 -- `ending` meets its contract: by the mode.
 use mathlib.Core.Path.{sym, _∙_}
 use borrow.Author.Needs.{needs}
-use Rattle.journal_reader.specs.findings.Endings.{ended-run, ended-quiet}
 use Rattle.journal_reader.proofs.findings.ending.Statement.{statement}
 use Rattle.journal_reader.proofs.findings.ending.Tie as tie
+use Rattle.journal_reader.specs.findings.Endings.{ended-run, ended-quiet}
 
 returns : tie.Need-returns
 returns c =

@@ -1,6 +1,6 @@
 -- `length_fits` meets its contract: the tests in their order.
-use borrow.Author.Tests.{le-leb, lt-leb}
 use native.Mathlib.Omega.{arith}
+use borrow.Author.Tests.{le-leb, lt-leb}
 use Rattle.journal_reader.proofs.lengths.length_fits.Statement.{statement}
 use Rattle.journal_reader.proofs.lengths.length_fits.Tie as tie
 

@@ -1,7 +1,7 @@
 -- `add_row` meets its contract: a node has begun, or not.
-use Rattle.journal_reader.specs.rows.Rows.{row-kept, row-begun}
 use Rattle.journal_reader.proofs.rows.add_row.Statement.{statement}
 use Rattle.journal_reader.proofs.rows.add_row.Tie as tie
+use Rattle.journal_reader.specs.rows.Rows.{row-kept, row-begun}
 
 returns : tie.Need-returns
 returns c =

@@ -1,8 +1,8 @@
 -- `read_byte` meets its contract: the lexer's step, then its event.
-use Rattle.journal_reader.specs.step.Steps.{byte-read}
-use Rattle.journal_reader.specs.state.ReadingLaws.{few-nodes}
 use Rattle.journal_reader.proofs.step.read_byte.Statement.{statement}
 use Rattle.journal_reader.proofs.step.read_byte.Tie as tie
+use Rattle.journal_reader.specs.state.ReadingLaws.{few-nodes}
+use Rattle.journal_reader.specs.step.Steps.{byte-read}
 
 -- from the lexer's step to the call
 abbrev start-of : tie.After-step → tie.Start

@@ -2,9 +2,9 @@
 use mathlib.Core.Bool.{true, false}
 use borrow.Author.Needs.{needs}
 use borrow.Author.Tests.{lt-ltb, le-ltb}
-use Rattle.journal_reader.specs.verdict.Verdicts.{verdict-refused, verdict-kept}
 use Rattle.journal_reader.proofs.verdict.verdict_of.Statement.{statement}
 use Rattle.journal_reader.proofs.verdict.verdict_of.Tie as tie
+use Rattle.journal_reader.specs.verdict.Verdicts.{verdict-refused, verdict-kept}
 
 returns : tie.Need-returns
 returns c =

@@ -1,8 +1,8 @@
 -- `cut` meets its contract: scratch for the rows that there are.
-use Rattle.kept_rows.specs.columns.Cut.{scratch-room}
 use mathlib.Core.Path.{sym}
 use Rattle.kept_rows.proofs.columns.cut.Statement.{statement}
 use Rattle.kept_rows.proofs.columns.cut.Tie as tie
+use Rattle.kept_rows.specs.columns.Cut.{scratch-room}
 
 abbrev start-before : tie.After-slice-known5 → tie.Start
 start-before c = c .before .before .before .before .before .before .before .before .before .before

@@ -1,9 +1,9 @@
 -- `cut_into` meets its contract: rows numbered, too little room or the rows written, the rest cleared.
 use mathlib.Core.Path.{_∙_}
 use native.Mathlib.Omega.{arith}
-use Rattle.kept_rows.specs.columns.Cut.{cut-pass, cut-short, cut-done}
 use Rattle.kept_rows.proofs.columns.cut_into.Statement.{statement}
 use Rattle.kept_rows.proofs.columns.cut_into.Tie as tie
+use Rattle.kept_rows.specs.columns.Cut.{cut-pass, cut-short, cut-done}
 
 -- The rows numbered, from where their number is tested, and the start.
 abbrev numbered-before : tie.After-slice-known7 → tie.After-number-kept

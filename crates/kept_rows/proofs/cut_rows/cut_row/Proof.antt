@@ -1,8 +1,8 @@
-use Rattle.kept_rows.specs.cut_rows.Rows.{row-cut, row-kept}
 use native.Mathlib.Omega.{arith}
 use borrow.Author.Needs.{needs}
 use Rattle.kept_rows.proofs.cut_rows.cut_row.Statement.{statement}
 use Rattle.kept_rows.proofs.cut_rows.cut_row.Tie as tie
+use Rattle.kept_rows.specs.cut_rows.Rows.{row-cut, row-kept}
 
 -- the state that answers go back to: the row is kept
 abbrev kept : tie.After-shared-slice-known5 → tie.Else1

@@ -1,11 +1,11 @@
-use Rattle.kept_rows.specs.cut_rows.Cells.{noted-length}
 use Prim.Native.Nat.{_-_, _≤_}
-use lib.ListN.{length}
-use Rattle.kept_rows.specs.cut_rows.Rows.{table, markedBy, CutPass, RowsNoted, rows-none, row-pass, row-next, rows-all}
-use borrow.Author.Needs.{needs}
 use native.Mathlib.Omega.{arith}
+use borrow.Author.Needs.{needs}
+use lib.ListN.{length}
 use Rattle.kept_rows.proofs.cut_rows.write_rows.Statement.{statement}
 use Rattle.kept_rows.proofs.cut_rows.write_rows.Tie as tie
+use Rattle.kept_rows.specs.cut_rows.Cells.{noted-length}
+use Rattle.kept_rows.specs.cut_rows.Rows.{table, markedBy, CutPass, RowsNoted, rows-none, row-pass, row-next, rows-all}
 
 abbrev Inv-loop : tie.InvT-loop
 Inv-loop numbers names parents starts lengths positions out-numbers₀ out-names₀ out-parents₀ out-starts₀ out-lengths₀ r₀ out-numbers out-names out-parents out-starts out-lengths r =

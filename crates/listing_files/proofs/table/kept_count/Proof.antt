@@ -1,8 +1,8 @@
 use mathlib.Core.Path.{sym}
-use Rattle.listing_files.specs.table.Tables.{scratch-size, kept-asked}
 use borrow.Author.Needs.{needs}
 use Rattle.listing_files.proofs.table.kept_count.Statement.{statement}
 use Rattle.listing_files.proofs.table.kept_count.Tie as tie
+use Rattle.listing_files.specs.table.Tables.{scratch-size, kept-asked}
 
 slice-aggregate-number-kept : tie.Need-slice-aggregate-number-kept
 slice-aggregate-number-kept c = sym (scratch-size _ (c .before .before .before .pre .listed))

@@ -1,8 +1,8 @@
 use mathlib.Core.Path.{sym}
-use Rattle.listing_files.specs.table.Tables.{scratch-size, no-rows, paths-asked}
 use borrow.Author.Needs.{needs}
 use Rattle.listing_files.proofs.table.note_paths.Statement.{statement}
 use Rattle.listing_files.proofs.table.note_paths.Tie as tie
+use Rattle.listing_files.specs.table.Tables.{scratch-size, no-rows, paths-asked}
 
 -- the states that answers go back to
 abbrev start-before : tie.Else1 → tie.Start

@@ -1,12 +1,12 @@
-use native.Mathlib.Omega.{arith}
-use mathlib.Core.Path.{subst}
 use mathlib.Core.List.{List}
+use mathlib.Core.Path.{subst}
 use Prim.Native.Nat.{ℕ}
-use Rattle.listing_text.specs.headers.Headers.{header-written}
-use Rattle.cells.specs.written_text.Written.{WrittenAt, written-then}
+use native.Mathlib.Omega.{arith}
 use borrow.Author.Needs.{needs}
+use Rattle.cells.specs.written_text.Written.{WrittenAt, written-then}
 use Rattle.listing_text.proofs.headers.put_header.Statement.{statement}
 use Rattle.listing_text.proofs.headers.put_header.Tie as tie
+use Rattle.listing_text.specs.headers.Headers.{header-written}
 
 -- the states that answers go back to
 abbrev first-before : tie.After-put-number2 → tie.After-put-number

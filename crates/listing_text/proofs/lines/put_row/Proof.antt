@@ -1,8 +1,8 @@
 use native.Mathlib.Omega.{arith}
-use Rattle.listing_text.specs.lines.Lines.{no-line, some-line}
 use borrow.Author.Needs.{needs}
 use Rattle.listing_text.proofs.lines.put_row.Statement.{statement}
 use Rattle.listing_text.proofs.lines.put_row.Tie as tie
+use Rattle.listing_text.specs.lines.Lines.{no-line, some-line}
 
 returns : tie.Need-returns
 returns c = no-line _ _ _ _ _ (c .if1 .taken)

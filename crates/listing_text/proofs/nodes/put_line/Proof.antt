@@ -1,8 +1,8 @@
 use native.Mathlib.Omega.{arith}
-use Rattle.listing_text.specs.nodes.Nodes.{first-room, second-room, third-room, fourth-pass, fifth-room, line-written}
 use borrow.Author.Needs.{needs}
 use Rattle.listing_text.proofs.nodes.put_line.Statement.{statement}
 use Rattle.listing_text.proofs.nodes.put_line.Tie as tie
+use Rattle.listing_text.specs.nodes.Nodes.{first-room, second-room, third-room, fourth-pass, fifth-room, line-written}
 
 -- the states that answers go back to
 abbrev start-before : tie.After-put-decimal → tie.Start

@@ -1,8 +1,8 @@
 use native.Mathlib.Omega.{arith}
-use Rattle.listing_text.specs.parts.Parts.{number-room, number-put}
 use borrow.Author.Needs.{needs}
 use Rattle.listing_text.proofs.parts.put_number.Statement.{statement}
 use Rattle.listing_text.proofs.parts.put_number.Tie as tie
+use Rattle.listing_text.specs.parts.Parts.{number-room, number-put}
 
 put-decimal-requires : tie.Need-put-decimal-requires
 put-decimal-requires c κs =

@@ -1,8 +1,8 @@
 use native.Mathlib.Omega.{arith}
-use Rattle.listing_text.specs.parts.Parts.{refusal-written}
 use borrow.Author.Needs.{needs}
 use Rattle.listing_text.proofs.parts.put_refusal.Statement.{statement}
 use Rattle.listing_text.proofs.parts.put_refusal.Tie as tie
+use Rattle.listing_text.specs.parts.Parts.{refusal-written}
 
 put-number-requires-2 : tie.Need-put-number-requires-2
 put-number-requires-2 c κs =

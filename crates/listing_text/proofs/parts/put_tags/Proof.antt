@@ -1,8 +1,8 @@
 use native.Mathlib.Omega.{arith}
-use Rattle.listing_text.specs.parts.Parts.{tags-pass, tags-low, tags-written}
 use borrow.Author.Needs.{needs}
 use Rattle.listing_text.proofs.parts.put_tags.Statement.{statement}
 use Rattle.listing_text.proofs.parts.put_tags.Tie as tie
+use Rattle.listing_text.specs.parts.Parts.{tags-pass, tags-low, tags-written}
 
 write-chain-requires : tie.Need-write-chain-requires
 write-chain-requires c κs = tags-pass _ _ _ _ _ _ _ _ (c .before .before .before .before .before .before .before .pre)

@@ -1,8 +1,8 @@
 -- `models::in_choice` meets its contract.
-use Rattle.models.specs.BuildingLaws.{choice-ends}
 use borrow.Author.Needs.{needs}
 use Rattle.models.proofs.automata.in_choice.Statement.{statement}
 use Rattle.models.proofs.automata.in_choice.Tie as tie
+use Rattle.models.specs.BuildingLaws.{choice-ends}
 
 returns : tie.Need-returns
 returns c k p q x y =

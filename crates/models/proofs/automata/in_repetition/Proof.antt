@@ -1,8 +1,8 @@
 -- `models::in_repetition` meets its contract.
-use Rattle.models.specs.BuildingLaws.{repeated-ends}
 use borrow.Author.Needs.{needs}
 use Rattle.models.proofs.automata.in_repetition.Statement.{statement}
 use Rattle.models.proofs.automata.in_repetition.Tie as tie
+use Rattle.models.specs.BuildingLaws.{repeated-ends}
 
 returns : tie.Need-returns
 returns c k m p x =

@@ -1,8 +1,8 @@
 -- `models::in_sequence` meets its contract.
-use Rattle.models.specs.BuildingLaws.{sequence-ends}
 use borrow.Author.Needs.{needs}
 use Rattle.models.proofs.automata.in_sequence.Statement.{statement}
 use Rattle.models.proofs.automata.in_sequence.Tie as tie
+use Rattle.models.specs.BuildingLaws.{sequence-ends}
 
 returns : tie.Need-returns
 returns c k p q x y =

@@ -1,10 +1,10 @@
 -- `models::joined_if` meets its contract.
 use mathlib.Core.Bool.{Bool, _&&_, _||_, or-false}
 use mathlib.Core.Path.{sym, ap, _∙_}
-use Rattle.schema_spec.specs.Names.{hasBit}
-use Rattle.names.specs.bits.Bits.{bit-or}
 use Rattle.models.proofs.automata.joined_if.Statement.{statement}
 use Rattle.models.proofs.automata.joined_if.Tie as tie
+use Rattle.names.specs.bits.Bits.{bit-or}
+use Rattle.schema_spec.specs.Names.{hasBit}
 
 returns : tie.Need-returns
 returns c i =

@@ -1,13 +1,13 @@
 -- `models::link` meets its contract: the positions that the loop has passed are linked.
 use mathlib.Core.Path.{_≡_, refl, _∙_}
 use Prim.Native.Nat.{_≤_, _-_}
-use lib.ListN.{length, length-set}
-use Rattle.models.specs.BuildingLaws.{LinkedAt, linked-next, linked-all}
-use Rattle.text_laws.specs.Loops.{Passed, passed-first, passed-next}
-use borrow.Author.Needs.{needs}
 use native.Mathlib.Omega.{arith}
+use borrow.Author.Needs.{needs}
+use lib.ListN.{length, length-set}
 use Rattle.models.proofs.automata.link.Statement.{statement}
 use Rattle.models.proofs.automata.link.Tie as tie
+use Rattle.models.specs.BuildingLaws.{LinkedAt, linked-next, linked-all}
+use Rattle.text_laws.specs.Loops.{Passed, passed-first, passed-next}
 
 abbrev Inv-loop : tie.InvT-loop
 Inv-loop predecessors₀ lasts firsts j₀ predecessors j =

@@ -1,8 +1,8 @@
 -- `models::named` meets its contract.
-use Rattle.models.specs.BuildingLaws.{named-ends}
 use borrow.Author.Needs.{needs}
 use Rattle.models.proofs.automata.named.Statement.{statement}
 use Rattle.models.proofs.automata.named.Tie as tie
+use Rattle.models.specs.BuildingLaws.{named-ends}
 
 returns : tie.Need-returns
 returns c = named-ends (c .before .args .p) (c .with-bit .result) (c .with-bit .ensures)

@@ -5,16 +5,16 @@ use mathlib.Core.Logic.{_↔_}
 use mathlib.Core.Path.{_≡_, sym, ap, subst, _∙_}
 use Prim.Native.Nat.{ℕ, _≤_, _<_, _-_}
 use native.Mathlib.Numerals.{add-one}
+use native.Mathlib.Omega.{arith}
+use borrow.Author.Needs.{needs}
 use lib.Dec.{T}
 use lib.ListN.{length, take}
 use lib.Seq.{take-suc, take-all}
-use Rattle.models.specs.fitting.Fitting.{Run, done, run-more, run-decides}
-use Rattle.models.specs.declared.fitting.State.the-variants.{Start}
-use Rattle.schema_spec.specs.Models.{Fits}
-use borrow.Author.Needs.{needs}
-use native.Mathlib.Omega.{arith}
 use Rattle.models.proofs.fitting.fits.Statement.{statement}
 use Rattle.models.proofs.fitting.fits.Tie as tie
+use Rattle.models.specs.declared.fitting.State.the-variants.{Start}
+use Rattle.models.specs.fitting.Fitting.{Run, done, run-more, run-decides}
+use Rattle.schema_spec.specs.Models.{Fits}
 
 abbrev Inv-loop : tie.InvT-loop
 Inv-loop ends elements predecessors children state₀ i₀ state i =

@@ -1,11 +1,11 @@
 -- `models::fitting::goes` meets its contract.
 use mathlib.Core.Bool.{Bool, _&&_}
 use mathlib.Core.Path.{sym, ap, _∙_}
-use borrow.Author.Tests.{eq-eqb, ne-eqb}
-use Rattle.models.specs.fitting.Steps.{entered}
 use borrow.Author.Needs.{needs}
+use borrow.Author.Tests.{eq-eqb, ne-eqb}
 use Rattle.models.proofs.fitting.goes.Statement.{statement}
 use Rattle.models.proofs.fitting.goes.Tie as tie
+use Rattle.models.specs.fitting.Steps.{entered}
 
 returns : tie.Need-returns
 returns c =

@@ -1,11 +1,11 @@
 -- `models::fitting::step` meets its contract.
 use mathlib.Core.Path.{ap, _∙_}
 use Prim.Native.Nat.{min}
-use Rattle.models.specs.fitting.StepLaws.{stepped}
-use Rattle.text_spec.specs.Limits.{maxModelNames}
 use borrow.Author.Needs.{needs}
 use Rattle.models.proofs.fitting.step.Statement.{statement}
 use Rattle.models.proofs.fitting.step.Tie as tie
+use Rattle.models.specs.fitting.StepLaws.{stepped}
+use Rattle.text_spec.specs.Limits.{maxModelNames}
 
 returns : tie.Need-returns
 returns c =

@@ -2,14 +2,14 @@
 use mathlib.Core.Bool.{Bool, _&&_, _||_, or-false, and-false}
 use mathlib.Core.Path.{sym, ap, _∙_}
 use native.Mathlib.Omega.{arith}
+use native.Mathlib.Omega.{arith}
+use borrow.Author.Needs.{needs}
 use borrow.Author.Tests.{lt-ltb}
 use lib.Dec.{eqb}
-use Rattle.schema_spec.specs.Names.{hasBit}
-use native.Mathlib.Omega.{arith}
-use Rattle.text_spec.specs.Limits.{maxModelNames}
-use borrow.Author.Needs.{needs}
 use Rattle.models.proofs.fitting.with_position.Statement.{statement}
 use Rattle.models.proofs.fitting.with_position.Tie as tie
+use Rattle.schema_spec.specs.Names.{hasBit}
+use Rattle.text_spec.specs.Limits.{maxModelNames}
 
 returns : tie.Need-returns
 returns c j =

@@ -1,8 +1,8 @@
 -- `names::NameSet::from_word` meets its contract.
 use native.Mathlib.Omega.{arith}
-use Rattle.names.specs.Encoding.{split-means-setOfWord}
 use Rattle.names.proofs.NameSet.from_word.Statement.{statement}
 use Rattle.names.proofs.NameSet.from_word.Tie as tie
+use Rattle.names.specs.Encoding.{split-means-setOfWord}
 
 returns : tie.Need-returns
 returns c = split-means-setOfWord (c .args .word) (omega arith)

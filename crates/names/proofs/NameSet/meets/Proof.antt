@@ -2,12 +2,12 @@
 use mathlib.Core.Bool.{Bool, _&&_, _||_}
 use mathlib.Core.Path.{sym, ap, _∙_}
 use borrow.Author.Needs.{needs}
-use Rattle.schema_spec.specs.Names.{text}
-use Rattle.text_spec.specs.Lists.{anyBelow}
-use Rattle.names.specs.declared.NameSet.{NameSet}
-use Rattle.names.specs.Sets.{member, overlap}
 use Rattle.names.proofs.NameSet.meets.Statement.{statement}
 use Rattle.names.proofs.NameSet.meets.Tie as tie
+use Rattle.names.specs.Sets.{member, overlap}
+use Rattle.names.specs.declared.NameSet.{NameSet}
+use Rattle.schema_spec.specs.Names.{text}
+use Rattle.text_spec.specs.Lists.{anyBelow}
 
 texts : NameSet → NameSet → Bool
 texts s t = anyBelow 64 (λ e. member s (text e) && member t (text e))

@@ -3,9 +3,9 @@ use mathlib.Core.Path.{_≡_, ap, _∙_}
 use Prim.Native.Nat.{ℕ, _*_, _%_, _^_}
 use native.Mathlib.Omega.{arith}
 use lib.Bits.{bitOr}
-use Rattle.names.specs.Encoding.{joined-means-wordOfSet}
 use Rattle.names.proofs.NameSet.to_word.Statement.{statement}
 use Rattle.names.proofs.NameSet.to_word.Tie as tie
+use Rattle.names.specs.Encoding.{joined-means-wordOfSet}
 
 shifted : (t : ℕ) → (t % 2 ^ 32 * 2 ^ 32) % 2 ^ 64 ≡ t % 2 ^ 32 * 2 ^ 32
 shifted t = omega arith

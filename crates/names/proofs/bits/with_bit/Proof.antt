@@ -9,10 +9,10 @@ use borrow.Author.Tests.{lt-ltb, le-ltb}
 use lib.Bits.{bitOr}
 use lib.Dec.{eqb, ltb}
 use lib.Pow.{shl-exact}
-use Rattle.schema_spec.specs.Names.{hasBit}
-use Rattle.names.specs.bits.Bits.{bit-or, bit-one}
 use Rattle.names.proofs.bits.with_bit.Statement.{statement}
 use Rattle.names.proofs.bits.with_bit.Tie as tie
+use Rattle.names.specs.bits.Bits.{bit-or, bit-one}
+use Rattle.schema_spec.specs.Names.{hasBit}
 
 shifted : (i : ℕ) → i < 64 → (1 * 2 ^ i) % 2 ^ 64 ≡ 2 ^ i
 shifted i h = shl-exact 1 i 64 (omega arith) (omega arith) ∙ one-mul (2 ^ i)

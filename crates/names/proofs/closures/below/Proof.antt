@@ -3,13 +3,13 @@ use mathlib.Core.Logic.{_⊎_}
 use mathlib.Core.Path.{_≡_, sym, subst}
 use Prim.Native.Nat.{ℕ, _≤_, _-_}
 use native.Mathlib.Numerals.{add-one}
-use lib.ListN.{length}
-use Rattle.names.specs.closures.Rounds.{Reachability, reachability-first, reachability-next, rounds-enough}
-use Rattle.text_spec.specs.Limits.{maxDeclarations}
-use borrow.Author.Needs.{needs}
 use native.Mathlib.Omega.{arith}
+use borrow.Author.Needs.{needs}
+use lib.ListN.{length}
 use Rattle.names.proofs.closures.below.Statement.{statement}
 use Rattle.names.proofs.closures.below.Tie as tie
+use Rattle.names.specs.closures.Rounds.{Reachability, reachability-first, reachability-next, rounds-enough}
+use Rattle.text_spec.specs.Limits.{maxDeclarations}
 
 abbrev Inv-loop : tie.InvT-loop
 Inv-loop count rounds images₀ k₀ images k = (k ≤ rounds) × Reachability images₀ k images

@@ -1,10 +1,10 @@
 -- `names::closures::grown` meets its contract.
 use mathlib.Core.Bool.{Bool, _&&_, _||_, or-false}
 use mathlib.Core.Path.{sym, ap, _∙_}
-use Rattle.names.specs.Sets.{member}
 use borrow.Author.Needs.{needs}
 use Rattle.names.proofs.closures.grown.Statement.{statement}
 use Rattle.names.proofs.closures.grown.Tie as tie
+use Rattle.names.specs.Sets.{member}
 
 returns : tie.Need-returns
 returns c b =

@@ -1,15 +1,15 @@
 -- `names::closures::round` meets its contract: the images that the loop has passed have had the round.
 use mathlib.Core.Path.{_≡_, _∙_}
 use Prim.Native.Nat.{_≤_, _-_}
-use lib.ListN.{length, length-set}
-use Rattle.names.specs.closures.Rounds.{AfterRound, round-at, round-all}
-use Rattle.names.specs.Sets.{nothing}
-use Rattle.text_laws.specs.Loops.{Passed, passed-first, passed-next}
-use Rattle.text_spec.specs.Limits.{maxDeclarations}
-use borrow.Author.Needs.{needs}
 use native.Mathlib.Omega.{arith}
+use borrow.Author.Needs.{needs}
+use lib.ListN.{length, length-set}
 use Rattle.names.proofs.closures.round.Statement.{statement}
 use Rattle.names.proofs.closures.round.Tie as tie
+use Rattle.names.specs.Sets.{nothing}
+use Rattle.names.specs.closures.Rounds.{AfterRound, round-at, round-all}
+use Rattle.text_laws.specs.Loops.{Passed, passed-first, passed-next}
+use Rattle.text_spec.specs.Limits.{maxDeclarations}
 
 abbrev Inv-loop : tie.InvT-loop
 Inv-loop k image out₀ i₀ out i = (i ≤ maxDeclarations) × ((length out ≡ maxDeclarations) × Passed (AfterRound out₀ k) nothing out₀ i out)

@@ -1,9 +1,9 @@
 -- `names::codes::single` meets its contract.
 use native.Mathlib.Omega.{arith}
 use borrow.Author.Needs.{needs}
-use Rattle.names.specs.codes.Laws.{single-element, single-text}
 use Rattle.names.proofs.codes.single.Statement.{statement}
 use Rattle.names.proofs.codes.single.Tie as tie
+use Rattle.names.specs.codes.Laws.{single-element, single-text}
 
 returns : tie.Need-returns
 returns c = single-element (c .before .before .before .args .c) (c .before .before .empty .result) (c .insert-element .result) (c .before .if1 .taken) (c .before .before .empty .ensures) (c .insert-element .ensures)

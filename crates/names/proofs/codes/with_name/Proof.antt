@@ -2,11 +2,11 @@
 use mathlib.Core.Bool.{Bool, _&&_, _||_, and-true, and-false, or-false}
 use mathlib.Core.Path.{sym, ap, _∙_}
 use borrow.Author.Needs.{needs}
-use Rattle.names.specs.codes.Codes.{nameOfCode}
-use Rattle.names.specs.Sets.{member}
-use Rattle.schema_spec.specs.Names.{sameName}
 use Rattle.names.proofs.codes.with_name.Statement.{statement}
 use Rattle.names.proofs.codes.with_name.Tie as tie
+use Rattle.names.specs.Sets.{member}
+use Rattle.names.specs.codes.Codes.{nameOfCode}
+use Rattle.schema_spec.specs.Names.{sameName}
 
 returns : tie.Need-returns
 returns c = λ n.

@@ -1,10 +1,10 @@
 -- `names::known::handed_in` meets its contract.
 use mathlib.Core.Path.{_∙_}
 use borrow.Author.Needs.{needs}
-use Rattle.names.specs.Encoding.{handed-in}
-use Rattle.names.specs.SetLaws.{common-known, common-setIn}
 use Rattle.names.proofs.known.handed_in.Statement.{statement}
 use Rattle.names.proofs.known.handed_in.Tie as tie
+use Rattle.names.specs.Encoding.{handed-in}
+use Rattle.names.specs.SetLaws.{common-known, common-setIn}
 
 returns : tie.Need-returns
 returns c = λ s small named.

@@ -1,13 +1,13 @@
 -- `names::known::names_of` meets its contract.
 use mathlib.Core.Path.{_≡_, refl, _∙_}
 use Prim.Native.Nat.{_≤_, _-_}
-use Rattle.names.specs.known.Known.{ofElementsBefore, before-none, before-next, before-all}
-use Rattle.names.specs.Sets.{member}
-use Rattle.schema_spec.specs.Names.{Name}
-use borrow.Author.Needs.{needs}
 use native.Mathlib.Omega.{arith}
+use borrow.Author.Needs.{needs}
 use Rattle.names.proofs.known.names_of.Statement.{statement}
 use Rattle.names.proofs.known.names_of.Tie as tie
+use Rattle.names.specs.Sets.{member}
+use Rattle.names.specs.known.Known.{ofElementsBefore, before-none, before-next, before-all}
+use Rattle.schema_spec.specs.Names.{Name}
 
 abbrev Inv-loop : tie.InvT-loop
 Inv-loop count images out₀ i₀ out i = (i ≤ count) × ((n : Name) → member out n ≡ ofElementsBefore images i n)

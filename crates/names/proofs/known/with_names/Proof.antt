@@ -2,9 +2,9 @@
 use mathlib.Core.Path.{sym, _∙_}
 use native.Mathlib.Omega.{arith}
 use borrow.Author.Needs.{needs}
-use Rattle.names.specs.known.Known.{element-and-text, element-alone}
 use Rattle.names.proofs.known.with_names.Statement.{statement}
 use Rattle.names.proofs.known.with_names.Tie as tie
+use Rattle.names.specs.known.Known.{element-and-text, element-alone}
 
 returns : tie.Need-returns
 returns c =

@@ -3,15 +3,15 @@ use mathlib.Core.Bool.{Bool, _&&_, _||_}
 use mathlib.Core.Path.{_≡_, ap, _∙_}
 use Prim.Native.Nat.{ℕ, _≤_, _-_}
 use native.Mathlib.Numerals.{add-one}
-use Rattle.names.specs.closures.Relations.{relates}
-use Rattle.names.specs.Sets.{member}
-use Rattle.schema_spec.specs.Names.{Name, element}
-use Rattle.text_spec.specs.Lists.{anyBelow}
-use Rattle.text_spec.specs.Limits.{maxDeclarations}
-use borrow.Author.Needs.{needs}
 use native.Mathlib.Omega.{arith}
+use borrow.Author.Needs.{needs}
 use Rattle.names.proofs.related.related_from.Statement.{statement}
 use Rattle.names.proofs.related.related_from.Tie as tie
+use Rattle.names.specs.Sets.{member}
+use Rattle.names.specs.closures.Relations.{relates}
+use Rattle.schema_spec.specs.Names.{Name, element}
+use Rattle.text_spec.specs.Limits.{maxDeclarations}
+use Rattle.text_spec.specs.Lists.{anyBelow}
 
 abbrev Inv-loop : tie.InvT-loop
 Inv-loop s images out₀ i₀ out i = (i ≤ maxDeclarations) × ((b : Name) → member out b ≡ anyBelow i (λ a. member s (element a) && relates images a b))

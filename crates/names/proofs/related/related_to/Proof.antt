@@ -1,15 +1,15 @@
 -- `related_to` meets its contract.
 use mathlib.Core.Path.{_≡_, _∙_}
 use Prim.Native.Nat.{_≤_, _-_}
+use native.Mathlib.Omega.{arith}
+use borrow.Author.Needs.{needs}
 use lib.ListN.{length}
 use Rattle.names.proofs.related.Holders.{holdersBefore, holders-first, holders-all, holders-next}
+use Rattle.names.proofs.related.related_to.Statement.{statement}
+use Rattle.names.proofs.related.related_to.Tie as tie
 use Rattle.names.specs.Sets.{member}
 use Rattle.schema_spec.specs.Names.{Name}
 use Rattle.text_spec.specs.Limits.{maxDeclarations}
-use borrow.Author.Needs.{needs}
-use native.Mathlib.Omega.{arith}
-use Rattle.names.proofs.related.related_to.Statement.{statement}
-use Rattle.names.proofs.related.related_to.Tie as tie
 
 abbrev Inv-loop : tie.InvT-loop
 Inv-loop s images out₀ i₀ out i = (i ≤ maxDeclarations) × ((n : Name) → member out n ≡ holdersBefore images s i n)

@@ -2,13 +2,13 @@
 use mathlib.Core.Bool.{Bool, true, _&&_, _||_, or-false, and-false}
 use mathlib.Core.Path.{_≡_, sym, ap, _∙_}
 use native.Mathlib.Omega.{arith}
-use borrow.Author.Tests.{lt-ltb}
-use Rattle.names.specs.Sets.{member, overlap}
-use Rattle.schema_spec.specs.Names.{element, sameName}
 use native.Mathlib.Omega.{arith}
 use borrow.Author.Needs.{needs}
+use borrow.Author.Tests.{lt-ltb}
 use Rattle.names.proofs.related.with_holder.Statement.{statement}
 use Rattle.names.proofs.related.with_holder.Tie as tie
+use Rattle.names.specs.Sets.{member, overlap}
+use Rattle.schema_spec.specs.Names.{element, sameName}
 
 returns : tie.Need-returns
 returns c n =

@@ -1,20 +1,20 @@
 -- `needed_names::alternatives::any_ends_some` meets its contract; the steps that are left fall.
 use mathlib.Core.Path.{sym, ap}
 use Prim.Native.Nat.{ℕ, _<_}
-use Rattle.compiled_paths.specs.Columns.{first-size-fits, alternatives-none}
-use Rattle.needed_names.specs.alternatives.Alternatives.{anyEndsSome}
-use Rattle.needed_names.specs.alternatives.Laws.{first-steps, later-steps, fewer-steps, first-ends, later-ends}
-use Rattle.inference.specs.type_steps.Relations.{envIn}
 use native.Mathlib.Omega.{arith}
 use borrow.Fn.Kinds.{In}
 use borrow.Fn.PlainCycle.{Measures, is, falls, and}
-use Rattle.needed_names.proofs.alternatives.any_ends_some.Reads as any-ends-some
-use Rattle.needed_names.proofs.alternatives.any_ends_some.Kinds as any-ends-some-kinds
-use Rattle.needed_names.proofs.alternatives.+any_ends_some.Lts-any_ends_some as any-ends-some-lts
 use Rattle.compiled_paths.proofs.first_size.Reads as first-size-reads
-use Rattle.needed_names.proofs.alternatives.ends_some.Reads as ends-some-reads
+use Rattle.compiled_paths.specs.Columns.{first-size-fits, alternatives-none}
+use Rattle.inference.specs.type_steps.Relations.{envIn}
 use Rattle.needed_names.proofs.alternatives.+any_ends_some.{statement}
+use Rattle.needed_names.proofs.alternatives.+any_ends_some.Lts-any_ends_some as any-ends-some-lts
 use Rattle.needed_names.proofs.alternatives.+any_ends_some.Tie.{close}
+use Rattle.needed_names.proofs.alternatives.any_ends_some.Kinds as any-ends-some-kinds
+use Rattle.needed_names.proofs.alternatives.any_ends_some.Reads as any-ends-some
+use Rattle.needed_names.proofs.alternatives.ends_some.Reads as ends-some-reads
+use Rattle.needed_names.specs.alternatives.Alternatives.{anyEndsSome}
+use Rattle.needed_names.specs.alternatives.Laws.{first-steps, later-steps, fewer-steps, first-ends, later-ends}
 
 abbrev μ-any-ends-some : Measures 2 any-ends-some-kinds.ps ℕ
 μ-any-ends-some κs a = a .1 .1 .1 .1 .1 .1 .0

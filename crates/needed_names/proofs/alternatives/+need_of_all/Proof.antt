@@ -2,28 +2,28 @@
 use mathlib.Core.List.{List, []}
 use mathlib.Core.Path.{sym, ap, _∙_}
 use Prim.Native.Nat.{ℕ, _+_, _-_, _<_}
-use Rattle.inference.specs.back_steps.Laws.{empty-setIn, setIn-within}
+use native.Mathlib.Omega.{arith}
+use borrow.Author.Needs.{needs}
+use borrow.Fn.Kinds.{In}
+use borrow.Fn.PlainCycle.{Measures, is, falls, and}
+use Rattle.compiled_paths.proofs.first_size.Reads as first-size-reads
 use Rattle.compiled_paths.specs.Columns.{first-size-fits, plainIn, alternativesIn, alternatives-none}
+use Rattle.inference.proofs.back_steps.together.Reads as together-reads
+use Rattle.inference.proofs.plain_steps.need_plain.Reads as need-plain-reads
+use Rattle.inference.specs.back_steps.Laws.{empty-setIn, setIn-within}
+use Rattle.inference.specs.type_steps.Relations.{envIn}
+use Rattle.inference_spec.specs.Needed.{keepsAll, wantsNothing, need}
+use Rattle.names.proofs.NameSet.empty.Reads as empty-reads
+use Rattle.needed_names.proofs.alternatives.+need_of_all.{statement}
+use Rattle.needed_names.proofs.alternatives.+need_of_all.Lts-need_of_all as need-of-all-lts
+use Rattle.needed_names.proofs.alternatives.+need_of_all.Tie.{close}
+use Rattle.needed_names.proofs.alternatives.need_of_all.Kinds as need-of-all-kinds
+use Rattle.needed_names.proofs.alternatives.need_of_all.Reads as need-of-all
 use Rattle.needed_names.specs.alternatives.Alternatives.{needOfAll}
 use Rattle.needed_names.specs.alternatives.Laws.{first-steps, later-steps, fewer-steps, need-one-and-rest}
 use Rattle.path_spec.specs.Paths.{PlainStep, expand}
-use Rattle.inference_spec.specs.Needed.{keepsAll, wantsNothing, need}
 use Rattle.schema_spec.specs.Names.{namesOf, within}
 use Rattle.schema_spec.specs.Types.{typesOf}
-use Rattle.inference.specs.type_steps.Relations.{envIn}
-use borrow.Author.Needs.{needs}
-use native.Mathlib.Omega.{arith}
-use borrow.Fn.Kinds.{In}
-use borrow.Fn.PlainCycle.{Measures, is, falls, and}
-use Rattle.needed_names.proofs.alternatives.need_of_all.Reads as need-of-all
-use Rattle.needed_names.proofs.alternatives.need_of_all.Kinds as need-of-all-kinds
-use Rattle.needed_names.proofs.alternatives.+need_of_all.Lts-need_of_all as need-of-all-lts
-use Rattle.names.proofs.NameSet.empty.Reads as empty-reads
-use Rattle.compiled_paths.proofs.first_size.Reads as first-size-reads
-use Rattle.inference.proofs.plain_steps.need_plain.Reads as need-plain-reads
-use Rattle.inference.proofs.back_steps.together.Reads as together-reads
-use Rattle.needed_names.proofs.alternatives.+need_of_all.{statement}
-use Rattle.needed_names.proofs.alternatives.+need_of_all.Tie.{close}
 
 abbrev μ-need-of-all : Measures 2 need-of-all-kinds.ps ℕ
 μ-need-of-all κs a = a .1 .1 .1 .1 .1 .0

@@ -2,11 +2,11 @@
 use mathlib.Core.Bool.{not}
 use mathlib.Core.Path.{ap, _∙_}
 use borrow.Author.Needs.{needs}
-use Rattle.needed_names.specs.alternatives.Laws.{overlap-some-setIn}
 use Rattle.inference_spec.specs.Types.{Env}
-use Rattle.text_spec.specs.Lists.{isEmpty}
 use Rattle.needed_names.proofs.alternatives.ends_some.Statement.{statement}
 use Rattle.needed_names.proofs.alternatives.ends_some.Tie as tie
+use Rattle.needed_names.specs.alternatives.Laws.{overlap-some-setIn}
+use Rattle.text_spec.specs.Lists.{isEmpty}
 
 returns : tie.Need-returns
 returns c = λ s k named.

@@ -1,14 +1,14 @@
 -- `needed_names::alternatives::from_name` meets its contract.
 use mathlib.Core.Path.{ap, ap₂, _∙_}
 use borrow.Author.Needs.{needs}
-use Rattle.names.specs.codes.Laws.{single-list}
-use Rattle.names.specs.codes.Codes.{nameOfCode}
 use Rattle.inference_spec.specs.Types.{env, cutTo}
-use Rattle.schema_spec.specs.Names.{Names}
-use Rattle.schema_spec.specs.Types.{typesOf}
 use Rattle.names.specs.Sets.{setIn}
+use Rattle.names.specs.codes.Codes.{nameOfCode}
+use Rattle.names.specs.codes.Laws.{single-list}
 use Rattle.needed_names.proofs.alternatives.from_name.Statement.{statement}
 use Rattle.needed_names.proofs.alternatives.from_name.Tie as tie
+use Rattle.schema_spec.specs.Names.{Names}
+use Rattle.schema_spec.specs.Types.{typesOf}
 
 returns : tie.Need-returns
 returns c = λ s k i.

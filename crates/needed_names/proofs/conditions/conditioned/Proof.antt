@@ -1,13 +1,13 @@
 -- `needed_names::conditions::conditioned` meets its contract.
 use borrow.Author.Needs.{needs}
 use Rattle.compiled_paths.specs.Columns.{conditionIn}
-use Rattle.needed_names.specs.conditions.Conditions.{keepsIn}
-use Rattle.needed_names.specs.conditions.Laws.{kept-filter}
 use Rattle.inference.specs.type_steps.Laws.{narrow-parts}
 use Rattle.inference.specs.type_steps.Relations.{envIn}
 use Rattle.names.specs.Sets.{setIn}
 use Rattle.needed_names.proofs.conditions.conditioned.Statement.{statement}
 use Rattle.needed_names.proofs.conditions.conditioned.Tie as tie
+use Rattle.needed_names.specs.conditions.Conditions.{keepsIn}
+use Rattle.needed_names.specs.conditions.Laws.{kept-filter}
 
 returns : tie.Need-returns
 returns c = λ s k named.

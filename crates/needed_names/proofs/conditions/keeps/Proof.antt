@@ -2,14 +2,14 @@
 use mathlib.Core.Bool.{Bool, _&&_}
 use mathlib.Core.Path.{sym, ap, _∙_}
 use borrow.Author.Needs.{needs}
-use Rattle.names.specs.codes.Codes.{nameOfCode}
 use Rattle.compiled_paths.specs.Columns.{alternativesIn}
-use Rattle.path_spec.specs.Paths.{alternatives}
-use Rattle.needed_names.specs.alternatives.Alternatives.{anyEndsSome}
-use Rattle.needed_names.specs.conditions.Conditions.{keepsIn}
 use Rattle.inference_spec.specs.Types.{Env}
+use Rattle.names.specs.codes.Codes.{nameOfCode}
 use Rattle.needed_names.proofs.conditions.keeps.Statement.{statement}
 use Rattle.needed_names.proofs.conditions.keeps.Tie as tie
+use Rattle.needed_names.specs.alternatives.Alternatives.{anyEndsSome}
+use Rattle.needed_names.specs.conditions.Conditions.{keepsIn}
+use Rattle.path_spec.specs.Paths.{alternatives}
 
 any-ends-some-requires : tie.Need-any-ends-some-requires
 any-ends-some-requires c κs = (c .before .before .before .before .before .pre .0)

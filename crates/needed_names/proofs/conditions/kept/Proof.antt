@@ -1,8 +1,8 @@
 -- `needed_names::conditions::kept` meets its contract.
 use borrow.Author.Needs.{needs}
-use Rattle.needed_names.specs.conditions.Laws.{keeps-unconditional, keeps-conditional}
 use Rattle.needed_names.proofs.conditions.kept.Statement.{statement}
 use Rattle.needed_names.proofs.conditions.kept.Tie as tie
+use Rattle.needed_names.specs.conditions.Laws.{keeps-unconditional, keeps-conditional}
 
 returns : tie.Need-returns
 returns c = λ s k named m i.

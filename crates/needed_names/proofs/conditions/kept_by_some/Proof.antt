@@ -3,19 +3,19 @@ use mathlib.Core.Bool.{_&&_}
 use mathlib.Core.List.{List·Memᴰ}
 use mathlib.Core.Path.{_≡_}
 use Prim.Native.Nat.{_≤_, _-_}
+use native.Mathlib.Omega.{arith}
+use borrow.Author.Needs.{needs}
 use lib.Dec.{ltb}
 use Rattle.compiled_paths.specs.Columns.{alternativesIn}
-use Rattle.path_spec.specs.Paths.{alternatives}
-use Rattle.names.specs.Sets.{member, NamesOf}
-use Rattle.needed_names.specs.conditions.Conditions.{keepsIn}
-use Rattle.needed_names.specs.conditions.Laws.{kept-none, kept-one-more, kept-all}
-use Rattle.schema_spec.specs.Names.{Name, codeOf, namesOf}
-use Rattle.schema_spec.specs.Schemas.{Schema}
 use Rattle.inference.specs.type_steps.Relations.{RelationsOf}
-use borrow.Author.Needs.{needs}
-use native.Mathlib.Omega.{arith}
+use Rattle.names.specs.Sets.{member, NamesOf}
 use Rattle.needed_names.proofs.conditions.kept_by_some.Statement.{statement}
 use Rattle.needed_names.proofs.conditions.kept_by_some.Tie as tie
+use Rattle.needed_names.specs.conditions.Conditions.{keepsIn}
+use Rattle.needed_names.specs.conditions.Laws.{kept-none, kept-one-more, kept-all}
+use Rattle.path_spec.specs.Paths.{alternatives}
+use Rattle.schema_spec.specs.Names.{Name, codeOf, namesOf}
+use Rattle.schema_spec.specs.Schemas.{Schema}
 
 abbrev Inv-loop : tie.InvT-loop
 Inv-loop all holds below axes tests i n t k out₀ c₀ out c =

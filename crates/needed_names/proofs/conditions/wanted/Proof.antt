@@ -1,9 +1,9 @@
 -- `needed_names::conditions::wanted` meets its contract.
 use borrow.Author.Needs.{needs}
 use Rattle.inference.specs.back_steps.Laws.{empty-setIn}
-use Rattle.needed_names.specs.conditions.Laws.{wants-unconditional, wants-conditional}
 use Rattle.needed_names.proofs.conditions.wanted.Statement.{statement}
 use Rattle.needed_names.proofs.conditions.wanted.Tie as tie
+use Rattle.needed_names.specs.conditions.Laws.{wants-unconditional, wants-conditional}
 
 returns : tie.Need-returns
 returns c = λ s k named.

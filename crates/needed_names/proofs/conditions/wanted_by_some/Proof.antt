@@ -2,19 +2,19 @@
 use mathlib.Core.List.{List·Memᴰ}
 use mathlib.Core.Path.{_≡_}
 use Prim.Native.Nat.{_≤_, _-_}
-use Rattle.compiled_paths.specs.Columns.{alternativesIn}
-use Rattle.path_spec.specs.Paths.{alternatives}
-use Rattle.names.specs.Sets.{member, setIn, Known}
-use Rattle.needed_names.specs.conditions.Conditions.{wantsIn}
-use Rattle.needed_names.specs.conditions.Laws.{wantedBelow, wanted-none, wanted-one-more, wanted-gather}
-use Rattle.schema_spec.specs.Names.{Name, namesOf}
-use Rattle.schema_spec.specs.Schemas.{Schema}
-use Rattle.names.specs.SetLaws.{common-known, common-setIn}
-use Rattle.inference.specs.type_steps.Relations.{RelationsOf}
-use borrow.Author.Needs.{needs}
 use native.Mathlib.Omega.{arith}
+use borrow.Author.Needs.{needs}
+use Rattle.compiled_paths.specs.Columns.{alternativesIn}
+use Rattle.inference.specs.type_steps.Relations.{RelationsOf}
+use Rattle.names.specs.SetLaws.{common-known, common-setIn}
+use Rattle.names.specs.Sets.{member, setIn, Known}
 use Rattle.needed_names.proofs.conditions.wanted_by_some.Statement.{statement}
 use Rattle.needed_names.proofs.conditions.wanted_by_some.Tie as tie
+use Rattle.needed_names.specs.conditions.Conditions.{wantsIn}
+use Rattle.needed_names.specs.conditions.Laws.{wantedBelow, wanted-none, wanted-one-more, wanted-gather}
+use Rattle.path_spec.specs.Paths.{alternatives}
+use Rattle.schema_spec.specs.Names.{Name, namesOf}
+use Rattle.schema_spec.specs.Schemas.{Schema}
 
 abbrev Inv-loop : tie.InvT-loop
 Inv-loop holds below axes tests i n k g out₀ c₀ out c =

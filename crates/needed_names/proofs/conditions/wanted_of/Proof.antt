@@ -2,18 +2,18 @@
 use mathlib.Core.Bool.{Bool, _&&_}
 use mathlib.Core.Path.{sym, ap, _∙_}
 use borrow.Author.Needs.{needs}
-use Rattle.names.specs.codes.Codes.{nameOfCode}
 use Rattle.compiled_paths.specs.Columns.{alternativesIn}
-use Rattle.path_spec.specs.Paths.{alternatives}
-use Rattle.needed_names.specs.alternatives.Alternatives.{needOfAll}
-use Rattle.needed_names.specs.conditions.Conditions.{wantsIn}
 use Rattle.inference.specs.back_steps.Laws.{within-member}
-use Rattle.inference_spec.specs.Types.{Env}
-use Rattle.schema_spec.specs.Names.{has}
-use Rattle.text_laws.specs.Tests.{passed}
 use Rattle.inference.specs.type_steps.Relations.{envIn}
+use Rattle.inference_spec.specs.Types.{Env}
+use Rattle.names.specs.codes.Codes.{nameOfCode}
 use Rattle.needed_names.proofs.conditions.wanted_of.Statement.{statement}
 use Rattle.needed_names.proofs.conditions.wanted_of.Tie as tie
+use Rattle.needed_names.specs.alternatives.Alternatives.{needOfAll}
+use Rattle.needed_names.specs.conditions.Conditions.{wantsIn}
+use Rattle.path_spec.specs.Paths.{alternatives}
+use Rattle.schema_spec.specs.Names.{has}
+use Rattle.text_laws.specs.Tests.{passed}
 
 need-of-all-requires : tie.Need-need-of-all-requires
 need-of-all-requires c κs = (c .before .before .before .before .before .pre .0)

@@ -2,27 +2,27 @@
 use mathlib.Core.List.{List}
 use mathlib.Core.Path.{refl, sym, subst}
 use Prim.Native.Nat.{ℕ, suc, _<_}
-use Rattle.inference.specs.back_steps.Laws.{needs-last}
-use Rattle.inference.specs.back_steps.Needs.{NeedsOf}
-use Rattle.compiled_paths.specs.Columns.{steps-none}
-use Rattle.needed_names.specs.paths.Laws.{first-step, later-steps, needs-written-step}
-use Rattle.path_spec.specs.Paths.{WrittenStep, Condition, unconditional, expandFrom}
-use Rattle.inference_spec.specs.Needed.{keepsName, wantsNames}
-use Rattle.schema_spec.specs.Types.{typesOf}
-use Rattle.inference.specs.type_steps.Relations.{envIn}
-use borrow.Author.Needs.{needs}
 use native.Mathlib.Omega.{arith}
+use borrow.Author.Needs.{needs}
 use borrow.Fn.Kinds.{In}
 use borrow.Fn.PlainCycle.{Measures, is, falls, and}
-use Rattle.needed_names.proofs.paths.need_steps.Reads as need-steps
-use Rattle.needed_names.proofs.paths.need_steps.Kinds as need-steps-kinds
-use Rattle.needed_names.proofs.paths.+need_steps.Lts-need_steps as need-steps-lts
 use Rattle.compiled_paths.proofs.axis_number.Reads as axis-number-reads
-use Rattle.needed_names.proofs.paths.infer_step.Reads as infer-step-reads
-use Rattle.needed_names.proofs.paths.wanted_at.Reads as wanted-at-reads
+use Rattle.compiled_paths.specs.Columns.{steps-none}
 use Rattle.inference.proofs.back_steps.with_step.Reads as with-step-reads
+use Rattle.inference.specs.back_steps.Laws.{needs-last}
+use Rattle.inference.specs.back_steps.Needs.{NeedsOf}
+use Rattle.inference.specs.type_steps.Relations.{envIn}
+use Rattle.inference_spec.specs.Needed.{keepsName, wantsNames}
 use Rattle.needed_names.proofs.paths.+need_steps.{statement}
+use Rattle.needed_names.proofs.paths.+need_steps.Lts-need_steps as need-steps-lts
 use Rattle.needed_names.proofs.paths.+need_steps.Tie.{close}
+use Rattle.needed_names.proofs.paths.infer_step.Reads as infer-step-reads
+use Rattle.needed_names.proofs.paths.need_steps.Kinds as need-steps-kinds
+use Rattle.needed_names.proofs.paths.need_steps.Reads as need-steps
+use Rattle.needed_names.proofs.paths.wanted_at.Reads as wanted-at-reads
+use Rattle.needed_names.specs.paths.Laws.{first-step, later-steps, needs-written-step}
+use Rattle.path_spec.specs.Paths.{WrittenStep, Condition, unconditional, expandFrom}
+use Rattle.schema_spec.specs.Types.{typesOf}
 
 abbrev μ-need-steps : Measures 3 need-steps-kinds.ps ℕ
 μ-need-steps κs a = a .1 .1 .1 .1 .1 .1 .1 .0

@@ -1,12 +1,12 @@
 -- `needed_names::paths::infer_step` meets its contract.
 use mathlib.Core.Path.{refl}
-use borrow.Author.Needs.{needs}
 use native.Mathlib.Omega.{arith}
+use borrow.Author.Needs.{needs}
 use Rattle.compiled_paths.specs.Columns.{conditionIn}
-use Rattle.needed_names.specs.paths.Laws.{condition-steps, condition-range, infer-written-step}
 use Rattle.inference.specs.type_steps.Relations.{envIn}
 use Rattle.needed_names.proofs.paths.infer_step.Statement.{statement}
 use Rattle.needed_names.proofs.paths.infer_step.Tie as tie
+use Rattle.needed_names.specs.paths.Laws.{condition-steps, condition-range, infer-written-step}
 
 -- the states that answers go back to
 abbrev start-before : tie.After-start → tie.Start

@@ -2,13 +2,13 @@
 use mathlib.Core.Path.{ap, ap₂, _∙_}
 use borrow.Author.Needs.{needs}
 use Rattle.compiled_paths.specs.Columns.{stepsIn}
-use Rattle.path_spec.specs.Paths.{unconditional, expand}
 use Rattle.inference_spec.specs.Needed.{keepsName, wantsNames, need, fromRoot, neededBeforeFilter, neededByPath}
 use Rattle.inference_spec.specs.Types.{Env, env}
-use Rattle.schema_spec.specs.Types.{typesOf}
 use Rattle.names.specs.Sets.{setIn}
 use Rattle.needed_names.proofs.paths.path_needed.Statement.{statement}
 use Rattle.needed_names.proofs.paths.path_needed.Tie as tie
+use Rattle.path_spec.specs.Paths.{unconditional, expand}
+use Rattle.schema_spec.specs.Types.{typesOf}
 
 -- the states that answers go back to
 abbrev start-before : tie.After-from-root → tie.Start

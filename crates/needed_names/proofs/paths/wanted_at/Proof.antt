@@ -1,15 +1,15 @@
 -- `needed_names::paths::wanted_at` meets its contract.
 use mathlib.Core.Path.{ap, _∙_}
-use native.Mathlib.Omega.{arith}
 use Prim.Native.Nat.{ℕ}
+use native.Mathlib.Omega.{arith}
+use Rattle.names.specs.Sets.{setIn}
+use Rattle.needed_names.proofs.paths.wanted_at.Statement.{statement}
+use Rattle.needed_names.proofs.paths.wanted_at.Tie as tie
 use Rattle.needed_names.specs.conditions.Conditions.{wantsIn}
 use Rattle.needed_names.specs.paths.Laws.{condition-steps, condition-range}
 use Rattle.path_spec.specs.Paths.{Condition}
 use Rattle.schema_spec.specs.Names.{namesOf, within}
 use Rattle.text_spec.specs.Lists.{gather}
-use Rattle.names.specs.Sets.{setIn}
-use Rattle.needed_names.proofs.paths.wanted_at.Statement.{statement}
-use Rattle.needed_names.proofs.paths.wanted_at.Tie as tie
 
 -- the states that answers go back to
 abbrev start-before : tie.After-start → tie.Start

@@ -1,11 +1,11 @@
 -- `needed_names::reachable_names::from_root` meets its contract.
-use lib.ListN.{getD}
 use borrow.Author.Needs.{needs}
+use lib.ListN.{getD}
 use Rattle.names.specs.Sets.{nothing}
-use Rattle.needed_names.specs.reachable_names.Reached.{reached-fromRoot}
-use Rattle.needed_names.specs.reachable_names.Images.{inside-holds, root-or-reached}
 use Rattle.needed_names.proofs.reachable_names.from_root.Statement.{statement}
 use Rattle.needed_names.proofs.reachable_names.from_root.Tie as tie
+use Rattle.needed_names.specs.reachable_names.Images.{inside-holds, root-or-reached}
+use Rattle.needed_names.specs.reachable_names.Reached.{reached-fromRoot}
 
 returns : tie.Need-returns
 returns c = λ s k l e.

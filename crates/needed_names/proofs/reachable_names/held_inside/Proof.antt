@@ -1,14 +1,14 @@
 -- `needed_names::reachable_names::held_inside` meets its contract: the images that the loop has passed are cut.
 use mathlib.Core.Path.{_≡_, _∙_}
 use Prim.Native.Nat.{_≤_, _-_}
+use native.Mathlib.Omega.{arith}
+use borrow.Author.Needs.{needs}
 use lib.ListN.{length, length-set}
 use Rattle.names.specs.Sets.{nothing}
-use Rattle.needed_names.specs.reachable_names.Images.{ImageInside, image-is-inside, images-inside}
-use Rattle.text_laws.specs.Loops.{Passed, passed-first, passed-next}
-use borrow.Author.Needs.{needs}
-use native.Mathlib.Omega.{arith}
 use Rattle.needed_names.proofs.reachable_names.held_inside.Statement.{statement}
 use Rattle.needed_names.proofs.reachable_names.held_inside.Tie as tie
+use Rattle.needed_names.specs.reachable_names.Images.{ImageInside, image-is-inside, images-inside}
+use Rattle.text_laws.specs.Loops.{Passed, passed-first, passed-next}
 
 abbrev Inv-loop : tie.InvT-loop
 Inv-loop m out₀ i₀ out i =

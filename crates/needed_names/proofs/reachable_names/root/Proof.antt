@@ -1,8 +1,8 @@
 -- `needed_names::reachable_names::root` meets its contract.
 use borrow.Author.Needs.{needs}
-use Rattle.needed_names.specs.reachable_names.Images.{root-list}
 use Rattle.needed_names.proofs.reachable_names.root.Statement.{statement}
 use Rattle.needed_names.proofs.reachable_names.root.Tie as tie
+use Rattle.needed_names.specs.reachable_names.Images.{root-list}
 
 returns : tie.Need-returns
 returns c = λ s full. root-list s (c .before .empty .result) (c .insert-element .result) full (c .before .empty .ensures) (c .insert-element .ensures)

@@ -1,16 +1,16 @@
 -- `needed_names` meets its contract: the records, and then what their texts need.
 use mathlib.Core.Path.{_≡_, sym, _∙_}
 use Prim.Native.Nat.{_≤_}
+use native.Mathlib.Omega.{arith}
+use borrow.Author.Needs.{needs}
 use borrow.Author.Tests.{not-true, not-false}
 use lib.ListN.{length}
 use lib.Seq.{length-take-le}
-use Rattle.needed_names.specs.records.Records.{not-records, both-records}
 use Rattle.bundle.specs.records.Records.{schema-size, bundle-size}
-use Rattle.text_spec.specs.Limits.{maxSchemaBytes, maxBundleBytes}
-use borrow.Author.Needs.{needs}
-use native.Mathlib.Omega.{arith}
 use Rattle.needed_names.proofs.records.needed_names.Statement.{statement}
 use Rattle.needed_names.proofs.records.needed_names.Tie as tie
+use Rattle.needed_names.specs.records.Records.{not-records, both-records}
+use Rattle.text_spec.specs.Limits.{maxSchemaBytes, maxBundleBytes}
 
 abbrev start : tie.After-is-bundle-record → tie.Start
 start c = c .before

@@ -1,9 +1,9 @@
-use Rattle.needed_names.specs.texts.Texts.{judged-needed}
+use borrow.Author.Needs.{needs}
 use Rattle.bundle.specs.records.Compiled.{judged-shaped}
 use Rattle.compiled_schema.specs.Places.{names-inside, names-taken, names-few, compiled-few}
-use borrow.Author.Needs.{needs}
 use Rattle.needed_names.proofs.texts.needed_by_texts.Statement.{statement}
 use Rattle.needed_names.proofs.texts.needed_by_texts.Tie as tie
+use Rattle.needed_names.specs.texts.Texts.{judged-needed}
 
 -- the states that answers go back to
 abbrev judged-before : tie.After-needed-under-arg4 → tie.After-judge-bundle

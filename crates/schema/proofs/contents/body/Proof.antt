@@ -1,6 +1,6 @@
 -- `body` meets its contract: a content and `>`.
-use Rattle.schema.proofs.contents.Contents.{content-high, body-fails, body-end, body-close, body-not}
 use borrow.Author.Needs.{needs}
+use Rattle.schema.proofs.contents.Contents.{content-high, body-fails, body-end, body-close, body-not}
 use Rattle.schema.proofs.contents.body.Statement.{statement}
 use Rattle.schema.proofs.contents.body.Tie as tie
 

@@ -1,6 +1,6 @@
 -- `content` meets its contract: `(`, `EMPTY` or neither.
-use Rattle.schema.proofs.contents.Contents.{content-end, content-model, content-empty, content-not}
 use borrow.Author.Needs.{needs}
+use Rattle.schema.proofs.contents.Contents.{content-end, content-model, content-empty, content-not}
 use Rattle.schema.proofs.contents.content.Statement.{statement}
 use Rattle.schema.proofs.contents.content.Tie as tie
 

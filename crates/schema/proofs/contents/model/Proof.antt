@@ -1,6 +1,6 @@
 -- `model` meets its contract: `#` or a group.
-use Rattle.schema.proofs.contents.Contents.{model-end, model-pcdata, model-fails, model-high, model-reads}
 use borrow.Author.Needs.{needs}
+use Rattle.schema.proofs.contents.Contents.{model-end, model-pcdata, model-fails, model-high, model-reads}
 use Rattle.schema.proofs.contents.model.Statement.{statement}
 use Rattle.schema.proofs.contents.model.Tie as tie
 

@@ -1,10 +1,10 @@
 -- `nameless` meets its contract.
 use mathlib.Core.Path.{sym, ap}
-use Rattle.schema.specs.contents.Contents.{namelessOf}
-use Rattle.text.specs.declared.scanning.Read.{Read}
 use borrow.Author.Needs.{needs}
 use Rattle.schema.proofs.contents.nameless.Statement.{statement}
 use Rattle.schema.proofs.contents.nameless.Tie as tie
+use Rattle.schema.specs.contents.Contents.{namelessOf}
+use Rattle.text.specs.declared.scanning.Read.{Read}
 
 returns : tie.Need-returns
 returns c = sym (ap (λ (r : Read). namelessOf r (c .before .before .before .args .n) (c .before .before .before .args .content)) (c .before .r .given .1))

@@ -1,9 +1,9 @@
 -- `pcdata` meets its contract: the keyword, blanks, and the byte after them.
-use Rattle.schema.proofs.contents.Contents.{pcdata-fails, pcdata-end, pcdata-close, pcdata-not}
-use Rattle.text.specs.scanning.OutcomeLaws.{spelt-end}
 use borrow.Author.Needs.{needs}
+use Rattle.schema.proofs.contents.Contents.{pcdata-fails, pcdata-end, pcdata-close, pcdata-not}
 use Rattle.schema.proofs.contents.pcdata.Statement.{statement}
 use Rattle.schema.proofs.contents.pcdata.Tie as tie
+use Rattle.text.specs.scanning.OutcomeLaws.{spelt-end}
 
 skip-requires : tie.Need-skip-requires
 skip-requires c κs = spelt-end (c .before .before .before .spell .ensures) (c .before .j2 .given .1) .1

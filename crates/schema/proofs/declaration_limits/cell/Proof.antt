@@ -1,7 +1,7 @@
 -- `cell` meets its contract.
 use mathlib.Core.Path.{sym}
-use lib.ListN.{List·getD-eq-default}
 use borrow.Author.Needs.{needs}
+use lib.ListN.{List·getD-eq-default}
 use Rattle.schema.proofs.declaration_limits.cell.Statement.{statement}
 use Rattle.schema.proofs.declaration_limits.cell.Tie as tie
 

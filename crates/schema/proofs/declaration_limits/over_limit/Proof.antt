@@ -1,12 +1,12 @@
 -- `over_limit` meets its contract: the tests in their order.
 use mathlib.Core.Path.{sym, _∙_}
 use Prim.Native.Nat.{_-_}
-use borrow.Author.Tests.{lt-ltb, le-ltb, le-leb, lt-leb}
-use Rattle.text_laws.specs.Tests.{cond-yes as yes, cond-no as no}
-use Rattle.text_spec.specs.Limits.{maxDeclarations, maxModelNames}
 use borrow.Author.Needs.{needs}
+use borrow.Author.Tests.{lt-ltb, le-ltb, le-leb, lt-leb}
 use Rattle.schema.proofs.declaration_limits.over_limit.Statement.{statement}
 use Rattle.schema.proofs.declaration_limits.over_limit.Tie as tie
+use Rattle.text_laws.specs.Tests.{cond-yes as yes, cond-no as no}
+use Rattle.text_spec.specs.Limits.{maxDeclarations, maxModelNames}
 
 returns : tie.Need-returns
 returns c =

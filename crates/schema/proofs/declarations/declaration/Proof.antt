@@ -1,7 +1,7 @@
 -- `declaration` meets its contract: keyword, name, content and end.
 use native.Mathlib.Omega.{arith}
-use Rattle.schema.proofs.declarations.Declarations.{declaration-fails, name-known, declaration-name-fails, content-known, declaration-reads}
 use borrow.Author.Needs.{needs}
+use Rattle.schema.proofs.declarations.Declarations.{declaration-fails, name-known, declaration-name-fails, content-known, declaration-reads}
 use Rattle.schema.proofs.declarations.declaration.Statement.{statement}
 use Rattle.schema.proofs.declarations.declaration.Tie as tie
 

@@ -1,6 +1,6 @@
 -- `declared` meets its contract.
-use Rattle.schema.proofs.declarations.Declarations.{rest-reads, rest-fails}
 use borrow.Author.Needs.{needs}
+use Rattle.schema.proofs.declarations.Declarations.{rest-reads, rest-fails}
 use Rattle.schema.proofs.declarations.declared.Statement.{statement}
 use Rattle.schema.proofs.declarations.declared.Tie as tie
 

@@ -1,11 +1,11 @@
 -- `declared_name` meets its contract.
 use mathlib.Core.Path.{sym, _∙_}
+use borrow.Author.Needs.{needs}
 use borrow.Author.Tests.{not-true, not-false}
 use Rattle.schema.proofs.declarations.Declarations.{name-end, name-not, name-fails, name-reads}
-use Rattle.text.specs.scanning.OutcomeLaws.{named-end}
-use borrow.Author.Needs.{needs}
 use Rattle.schema.proofs.declarations.declared_name.Statement.{statement}
 use Rattle.schema.proofs.declarations.declared_name.Tie as tie
+use Rattle.text.specs.scanning.OutcomeLaws.{named-end}
 
 returns : tie.Need-returns
 returns c = record { says = name-end (c .before .before .args .s .now) (c .before .before .args .i) (c .if1 .taken) }

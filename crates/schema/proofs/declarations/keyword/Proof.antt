@@ -1,9 +1,9 @@
 -- `keyword` meets its contract.
-use Rattle.schema.proofs.declarations.Declarations.{keyword-not, keyword-fails, keyword-reads}
-use Rattle.text.specs.scanning.OutcomeLaws.{spelt-end}
 use borrow.Author.Needs.{needs}
+use Rattle.schema.proofs.declarations.Declarations.{keyword-not, keyword-fails, keyword-reads}
 use Rattle.schema.proofs.declarations.keyword.Statement.{statement}
 use Rattle.schema.proofs.declarations.keyword.Tie as tie
+use Rattle.text.specs.scanning.OutcomeLaws.{spelt-end}
 
 returns : tie.Need-returns
 returns c =

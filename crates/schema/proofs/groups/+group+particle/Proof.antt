@@ -6,22 +6,22 @@ use borrow.Author.Needs.{needs}
 use borrow.Fn.Kinds.{In}
 use borrow.Fn.PlainCycle.{Measures, is, falls, and}
 use lib.ListN.{length}
-use Rattle.schema.proofs.groups.Groups.{particle-end, particle-name, particle-not, particle-deep, open-fails, open-high, open-reads, GroupUpTo, group-start, group-length, group-links, group-many, group-fails, particle-high, group-stops, group-closes, group-next}
-use Rattle.text_spec.specs.Limits.{maxGroups}
-use Rattle.schema.proofs.groups.group.Reads as group
-use Rattle.schema.proofs.groups.group.Kinds as group-kinds
+use Rattle.schema.proofs.groups.+group+particle.{statement}
 use Rattle.schema.proofs.groups.+group+particle.Lts-group as group-lts
-use Rattle.schema.proofs.groups.particle.Reads as particle
-use Rattle.schema.proofs.groups.particle.Kinds as particle-kinds
 use Rattle.schema.proofs.groups.+group+particle.Lts-particle as particle-lts
-use Rattle.schema.proofs.separators.after_particle.Reads as after-particle-reads
+use Rattle.schema.proofs.groups.+group+particle.Tie.{close}
+use Rattle.schema.proofs.groups.Groups.{particle-end, particle-name, particle-not, particle-deep, open-fails, open-high, open-reads, GroupUpTo, group-start, group-length, group-links, group-many, group-fails, particle-high, group-stops, group-closes, group-next}
+use Rattle.schema.proofs.groups.group.Kinds as group-kinds
+use Rattle.schema.proofs.groups.group.Reads as group
+use Rattle.schema.proofs.groups.particle.Kinds as particle-kinds
+use Rattle.schema.proofs.groups.particle.Reads as particle
 use Rattle.schema.proofs.indicators.indicated.Reads as indicated-reads
+use Rattle.schema.proofs.separators.after_particle.Reads as after-particle-reads
 use Rattle.schema.proofs.separators.join.Reads as join-reads
 use Rattle.schema.proofs.used_names.use_name.Reads as use-name-reads
 use Rattle.text.proofs.scanning.skip.Reads as skip-reads
 use Rattle.text.proofs.starts_name.Reads as starts-name-reads
-use Rattle.schema.proofs.groups.+group+particle.{statement}
-use Rattle.schema.proofs.groups.+group+particle.Tie.{close}
+use Rattle.text_spec.specs.Limits.{maxGroups}
 
 abbrev μ-group : Measures 3 group-kinds.ps ℕ
 μ-group κs a = 2 * (maxGroups - a .1 .1 .0) + 1

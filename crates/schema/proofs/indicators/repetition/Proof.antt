@@ -1,11 +1,11 @@
 -- `repetition` meets its contract: `?`, `*`, `+` or no indicator.
 use mathlib.Core.Path.{ap}
-use Rattle.schema.specs.particles.AutomataLaws.{repeated-none, repeated-optional, repeated-any, repeated-more}
-use Rattle.schema.proofs.indicators.Indicators.{once-past, once-other}
-use Rattle.schema.specs.particles.Readings.{indicatorOf}
 use borrow.Author.Needs.{needs}
+use Rattle.schema.proofs.indicators.Indicators.{once-past, once-other}
 use Rattle.schema.proofs.indicators.repetition.Statement.{statement}
 use Rattle.schema.proofs.indicators.repetition.Tie as tie
+use Rattle.schema.specs.particles.AutomataLaws.{repeated-none, repeated-optional, repeated-any, repeated-more}
+use Rattle.schema.specs.particles.Readings.{indicatorOf}
 
 returns : tie.Need-returns
 returns c = rw (once-past _ _ (c .if1 .taken)) (repeated-none _ _)

@@ -1,13 +1,13 @@
 -- `all_declarations` meets its contract: what was read up to i.
 use mathlib.Core.Path.{_≡_, refl, sym, _∙_}
 use Prim.Native.Nat.{_-_}
+use native.Mathlib.Omega.{arith}
+use borrow.Author.Needs.{needs}
 use lib.ListN.{length}
 use Rattle.schema.proofs.places.Limits.{all-start, all-none, all-spelt, all-fail, all-known, all-next}
-use Rattle.schema.specs.places.Whole.{UpTo}
-use borrow.Author.Needs.{needs}
-use native.Mathlib.Omega.{arith}
 use Rattle.schema.proofs.places.all_declarations.Statement.{statement}
 use Rattle.schema.proofs.places.all_declarations.Tie as tie
+use Rattle.schema.specs.places.Whole.{UpTo}
 
 abbrev Inv-loop : tie.InvT-loop
 Inv-loop s names₀ uses₀ size i₀ d₀ n₀ over₀ unused₀ names uses i d n over unused = UpTo s i d n over names₀ names uses × (length unused ≡ 1)

@@ -1,9 +1,9 @@
 -- `after_particle` meets its contract: the byte after the blanks decides.
 use mathlib.Core.Path.{sym, _∙_}
-use Rattle.schema.specs.particles.ParticleLaws.{follow-end, follow-close, follow-more, follow-not}
 use borrow.Author.Needs.{needs}
 use Rattle.schema.proofs.separators.after_particle.Statement.{statement}
 use Rattle.schema.proofs.separators.after_particle.Tie as tie
+use Rattle.schema.specs.particles.ParticleLaws.{follow-end, follow-close, follow-more, follow-not}
 
 returns : tie.Need-returns
 returns c =

@@ -1,8 +1,8 @@
 -- `join` meets its contract: nothing, `,` or `|` parts the group.
-use Rattle.schema.specs.particles.AutomataLaws.{joined-first, joined-comma, joined-bar}
 use borrow.Author.Needs.{needs}
 use Rattle.schema.proofs.separators.join.Statement.{statement}
 use Rattle.schema.proofs.separators.join.Tie as tie
+use Rattle.schema.specs.particles.AutomataLaws.{joined-first, joined-comma, joined-bar}
 
 returns : tie.Need-returns
 returns c = joined-first _ _ _ (c .if1 .taken)

@@ -1,9 +1,9 @@
 -- `use_name` meets its contract: the name, then its indicator.
-use Rattle.schema.specs.particles.ParticleLaws.{name-fails, name-reads}
-use Rattle.text.specs.scanning.OutcomeLaws.{named-end}
 use borrow.Author.Needs.{needs}
 use Rattle.schema.proofs.used_names.use_name.Statement.{statement}
 use Rattle.schema.proofs.used_names.use_name.Tie as tie
+use Rattle.schema.specs.particles.ParticleLaws.{name-fails, name-reads}
+use Rattle.text.specs.scanning.OutcomeLaws.{named-end}
 
 indicated-requires : tie.Need-indicated-requires
 indicated-requires c κs = named-end (c .before .before .before .before .before .name-end .ensures) (c .before .before .before .e .given .1) .1

@@ -1,9 +1,9 @@
 -- `judge` meets its contract: 4, then 5, then the names.
-use Rattle.schema_reader.specs.judging_laws.Outcomes.{refused-into, judge-departs, judge-over, judge-room, judge-spelling, judge-into}
 use native.Mathlib.Omega.{arith}
 use borrow.Author.Needs.{needs}
 use Rattle.schema_reader.proofs.declaration_judging.judge.Statement.{statement}
 use Rattle.schema_reader.proofs.declaration_judging.judge.Tie as tie
+use Rattle.schema_reader.specs.judging_laws.Outcomes.{refused-into, judge-departs, judge-over, judge-room, judge-spelling, judge-into}
 
 -- the states that answers go back to
 abbrev start-before : tie.After-all-declarations → tie.Start

@@ -1,11 +1,11 @@
 -- `resolve` meets its contract: the first i names are declared and resolved.
 use Prim.Native.Nat.{_-_}
-use lib.ListN.{length}
-use Rattle.schema_reader.specs.declared_names.Resolving.{ResolvedBefore, resolved-first, resolved-stops, resolved-next, resolved-all}
-use borrow.Author.Needs.{needs}
 use native.Mathlib.Omega.{arith}
+use borrow.Author.Needs.{needs}
+use lib.ListN.{length}
 use Rattle.schema_reader.proofs.declared_names.resolve.Statement.{statement}
 use Rattle.schema_reader.proofs.declared_names.resolve.Tie as tie
+use Rattle.schema_reader.specs.declared_names.Resolving.{ResolvedBefore, resolved-first, resolved-stops, resolved-next, resolved-all}
 
 abbrev Inv-loop : tie.InvT-loop
 Inv-loop s names uses₀ i₀ uses i = ResolvedBefore s names uses₀ i uses

@@ -1,15 +1,15 @@
 -- `twice` meets its contract: none of the first i names is declared before it.
-use mathlib.Core.Path.{_≡_, refl, sym, _∙_}
-use borrow.Author.Needs.{needs}
-use native.Mathlib.Omega.{arith}
 use mathlib.Core.List.{[]}
+use mathlib.Core.Path.{_≡_, refl, sym, _∙_}
 use Prim.Native.Nat.{_-_, _≤_}
+use native.Mathlib.Omega.{arith}
+use borrow.Author.Needs.{needs}
 use lib.ListN.{length, drop, getD}
 use lib.Seq.{length-take-le}
-use Rattle.schema_reader.specs.declared_names.Names.{firstPlace, namesBefore, twiceAt}
-use Rattle.schema_reader.specs.declared_names.Naming.{among-found, among-none, twice-here, twice-later, twice-never}
 use Rattle.schema_reader.proofs.declared_names.twice.Statement.{statement}
 use Rattle.schema_reader.proofs.declared_names.twice.Tie as tie
+use Rattle.schema_reader.specs.declared_names.Names.{firstPlace, namesBefore, twiceAt}
+use Rattle.schema_reader.specs.declared_names.Naming.{among-found, among-none, twice-here, twice-later, twice-never}
 
 abbrev Inv-loop : tie.InvT-loop
 Inv-loop s names i₀ i =

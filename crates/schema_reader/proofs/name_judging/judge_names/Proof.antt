@@ -1,9 +1,9 @@
 -- `judge_names` meets its contract: 6, then 7, then acceptance.
 use mathlib.Core.Path.{refl}
-use Rattle.schema_reader.specs.judging_laws.Outcomes.{refused-names, read-twice, read-undeclared, read-accepted}
 use borrow.Author.Needs.{needs}
 use Rattle.schema_reader.proofs.name_judging.judge_names.Statement.{statement}
 use Rattle.schema_reader.proofs.name_judging.judge_names.Tie as tie
+use Rattle.schema_reader.specs.judging_laws.Outcomes.{refused-names, read-twice, read-undeclared, read-accepted}
 
 returns : tie.Need-returns
 returns c = refused-names (read-twice (c .before .before .before .before .before .pre) (c .before .twice .ensures) (c .if1 .taken)) refl

@@ -1,9 +1,9 @@
 -- `store` meets its contract.
 use mathlib.Core.Path.{sym}
-use Rattle.text_laws.specs.Tests.{cond-yes, cond-no}
 use borrow.Author.Needs.{needs}
 use Rattle.schema_reader.proofs.normal_form.store.Statement.{statement}
 use Rattle.schema_reader.proofs.normal_form.store.Tie as tie
+use Rattle.text_laws.specs.Tests.{cond-yes, cond-no}
 
 returns : tie.Need-returns
 returns c = record { count = sym (cond-yes _ _ (c .if1 .taken)); wrote = sym (cond-yes _ _ (c .if1 .taken)) }

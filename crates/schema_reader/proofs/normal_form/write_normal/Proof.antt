@@ -1,7 +1,7 @@
 -- `write_normal` meets its contract: what was written of the text up to i.
-use borrow.Author.Needs.{needs}
-use native.Mathlib.Omega.{arith}
 use Prim.Native.Nat.{_-_}
+use native.Mathlib.Omega.{arith}
+use borrow.Author.Needs.{needs}
 use lib.ListN.{length}
 use Rattle.schema_reader.proofs.normal_form.Writing.{WrittenTo, written-start, written-end, written-next}
 use Rattle.schema_reader.proofs.normal_form.write_normal.Statement.{statement}

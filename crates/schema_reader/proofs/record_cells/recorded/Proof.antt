@@ -1,10 +1,10 @@
 -- `recorded` meets its contract.
-use Rattle.schema_reader.proofs.record_cells.Cells.{normal-cells}
 use native.Mathlib.Omega.{arith}
-use Rattle.text_spec.specs.Limits.{maxSchemaBytes}
 use borrow.Author.Needs.{needs}
+use Rattle.schema_reader.proofs.record_cells.Cells.{normal-cells}
 use Rattle.schema_reader.proofs.record_cells.recorded.Statement.{statement}
 use Rattle.schema_reader.proofs.record_cells.recorded.Tie as tie
+use Rattle.text_spec.specs.Limits.{maxSchemaBytes}
 
 returns : tie.Need-returns
 returns c = record { bytes = λ h. absurd (omega arith); size = λ h. absurd (omega arith) }

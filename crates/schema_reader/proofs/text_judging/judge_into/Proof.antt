@@ -1,9 +1,9 @@
 -- `judge_into` meets its contract: 2, then 3, then the others.
-use Rattle.schema_reader.specs.judging_laws.Outcomes.{refused-into, read-empty, read-long, read-foreign, readable}
 use native.Mathlib.Omega.{arith}
 use borrow.Author.Needs.{needs}
 use Rattle.schema_reader.proofs.text_judging.judge_into.Statement.{statement}
 use Rattle.schema_reader.proofs.text_judging.judge_into.Tie as tie
+use Rattle.schema_reader.specs.judging_laws.Outcomes.{refused-into, read-empty, read-long, read-foreign, readable}
 
 returns : tie.Need-returns
 returns c = refused-into (read-empty (c .before .before .before .before .args .text .now) (c .if1 .taken))

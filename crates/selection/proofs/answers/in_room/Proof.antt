@@ -1,9 +1,9 @@
 -- `in_room` meets its contract: 18 by the items, by the counts, or the answer.
 use mathlib.Core.Path.{refl}
-use Rattle.selection.specs.answers.Answers.{short-items, short-counts, all-answered}
 use borrow.Author.Needs.{needs}
 use Rattle.selection.proofs.answers.in_room.Statement.{statement}
 use Rattle.selection.proofs.answers.in_room.Tie as tie
+use Rattle.selection.specs.answers.Answers.{short-items, short-counts, all-answered}
 
 returns : tie.Need-returns
 returns c a w = short-items a _ _ _ _ w _ _ _ (c .before .before .before .before .refused .ensures) (c .before .before .before .before .before .before .before .if1 .taken)

@@ -1,7 +1,7 @@
 -- `refused` meets its contract: both outputs are cleared.
 use mathlib.Core.Path.{refl}
-use Rattle.cells.specs.lent.Cells.{all-cleared}
 use borrow.Author.Needs.{needs}
+use Rattle.cells.specs.lent.Cells.{all-cleared}
 use Rattle.selection.proofs.answers.refused.Statement.{statement}
 use Rattle.selection.proofs.answers.refused.Tie as tie
 

@@ -1,7 +1,7 @@
 -- `past_asked` meets its contract: all paths, or one.
-use Rattle.selection.specs.asked.Ranges.{past-all, past-one}
 use Rattle.selection.proofs.asked.past_asked.Statement.{statement}
 use Rattle.selection.proofs.asked.past_asked.Tie as tie
+use Rattle.selection.specs.asked.Ranges.{past-all, past-one}
 
 returns : tie.Need-returns
 returns c = past-all _ _ (c .if1 .taken)

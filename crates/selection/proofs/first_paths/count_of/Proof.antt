@@ -1,6 +1,6 @@
-use Rattle.selection.specs.first_paths.Firsts.{count-none, count-one}
 use Rattle.selection.proofs.first_paths.count_of.Statement.{statement}
 use Rattle.selection.proofs.first_paths.count_of.Tie as tie
+use Rattle.selection.specs.first_paths.Firsts.{count-none, count-one}
 
 returns : tie.Need-returns
 returns c = count-none _ (c .if1 .taken)

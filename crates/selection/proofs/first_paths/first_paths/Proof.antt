@@ -1,12 +1,12 @@
 use mathlib.Core.Path.{_∙_}
 use Prim.Native.Nat.{_-_}
-use Rattle.compiled_paths.specs.Paths.{lentPaths}
-use Rattle.selection.specs.first_paths.Firsts.{FirstsSoFar, firsts-begun, firsts-path, firsts-next, firsts-all}
-use borrow.Author.Needs.{needs}
 use native.Mathlib.Omega.{arith}
+use borrow.Author.Needs.{needs}
+use Rattle.compiled_paths.specs.Paths.{lentPaths}
+use Rattle.selection.proofs.first_paths.first_paths.Reads as reads
 use Rattle.selection.proofs.first_paths.first_paths.Statement.{statement}
 use Rattle.selection.proofs.first_paths.first_paths.Tie as tie
-use Rattle.selection.proofs.first_paths.first_paths.Reads as reads
+use Rattle.selection.specs.first_paths.Firsts.{FirstsSoFar, firsts-begun, firsts-path, firsts-next, firsts-all}
 
 abbrev Inv-loop : tie.InvT-loop
 Inv-loop axes tests conditions paths total parents codes firsts₀ marks₀ held₀ steps₀ next₀ i₀ firsts marks held steps next i =

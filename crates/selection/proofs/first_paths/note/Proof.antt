@@ -1,11 +1,11 @@
 use Prim.Native.Nat.{_-_}
-use lib.ListN.{length}
-use Rattle.selection.specs.first_paths.Firsts.{Noting, noting-first, noting-next, noting-all}
-use borrow.Author.Needs.{needs}
 use native.Mathlib.Omega.{arith}
+use borrow.Author.Needs.{needs}
+use lib.ListN.{length}
+use Rattle.selection.proofs.first_paths.note.Reads as reads
 use Rattle.selection.proofs.first_paths.note.Statement.{statement}
 use Rattle.selection.proofs.first_paths.note.Tie as tie
-use Rattle.selection.proofs.first_paths.note.Reads as reads
+use Rattle.selection.specs.first_paths.Firsts.{Noting, noting-first, noting-next, noting-all}
 
 abbrev Inv-loop : tie.InvT-loop
 Inv-loop marks place firsts₀ r₀ firsts r = Noting marks place firsts₀ r firsts

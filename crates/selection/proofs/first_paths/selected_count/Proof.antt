@@ -1,11 +1,11 @@
 use Prim.Native.Nat.{_-_}
-use lib.ListN.{length}
-use Rattle.selection.specs.first_paths.Firsts.{Counting, counting-first, counting-next, counting-all, counted-low}
-use borrow.Author.Needs.{needs}
 use native.Mathlib.Omega.{arith}
+use borrow.Author.Needs.{needs}
+use lib.ListN.{length}
+use Rattle.selection.proofs.first_paths.selected_count.Reads as reads
 use Rattle.selection.proofs.first_paths.selected_count.Statement.{statement}
 use Rattle.selection.proofs.first_paths.selected_count.Tie as tie
-use Rattle.selection.proofs.first_paths.selected_count.Reads as reads
+use Rattle.selection.specs.first_paths.Firsts.{Counting, counting-first, counting-next, counting-all, counted-low}
 
 abbrev Inv-loop : tie.InvT-loop
 Inv-loop firsts n₀ r₀ n r = Counting firsts r n

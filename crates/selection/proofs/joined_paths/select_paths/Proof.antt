@@ -1,10 +1,10 @@
 use Prim.Native.Nat.{_-_}
-use Rattle.compiled_paths.specs.Paths.{lentPaths}
-use Rattle.selection.specs.joined_paths.Joined.{PathsSoFar, paths-begun, paths-one, one-fits, paths-next, paths-all}
-use borrow.Author.Needs.{needs}
 use native.Mathlib.Omega.{arith}
+use borrow.Author.Needs.{needs}
+use Rattle.compiled_paths.specs.Paths.{lentPaths}
 use Rattle.selection.proofs.joined_paths.select_paths.Statement.{statement}
 use Rattle.selection.proofs.joined_paths.select_paths.Tie as tie
+use Rattle.selection.specs.joined_paths.Joined.{PathsSoFar, paths-begun, paths-one, one-fits, paths-next, paths-all}
 
 abbrev Inv-loop : tie.InvT-loop
 Inv-loop axes tests conditions paths first end numbers codes parents items₀ counts₀ marks₀ held₀ steps₀ next₀ n₀ i₀ items counts marks held steps next n i =

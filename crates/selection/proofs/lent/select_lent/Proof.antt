@@ -1,14 +1,14 @@
 -- `select_lent` meets its contract: the place, the table, what is selected.
-use denote.Ref.{now}
 use mathlib.Core.Path.{sym}
+use borrow.Author.Needs.{needs}
 use borrow.Author.Tests.{not-true, not-false}
 use lib.Seq.{length-take-le}
-use Rattle.selection.specs.lent.Lent.{beside-inside, beside-columns, no-place, no-table, table-selected}
-use Rattle.tables.specs.rows.Lent.{Lent}
-use Rattle.table_spec.specs.Columns.{columns}
-use borrow.Author.Needs.{needs}
+use denote.Ref.{now}
 use Rattle.selection.proofs.lent.select_lent.Statement.{statement}
 use Rattle.selection.proofs.lent.select_lent.Tie as tie
+use Rattle.selection.specs.lent.Lent.{beside-inside, beside-columns, no-place, no-table, table-selected}
+use Rattle.table_spec.specs.Columns.{columns}
+use Rattle.tables.specs.rows.Lent.{Lent}
 
 -- the states that answers go back to
 abbrev start-before : tie.Else1 → tie.Start

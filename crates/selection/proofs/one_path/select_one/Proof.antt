@@ -1,7 +1,7 @@
-use Rattle.selection.specs.one_path.Paths.{one-path, one-append, one-selected, none-selected}
 use borrow.Author.Needs.{needs}
 use Rattle.selection.proofs.one_path.select_one.Statement.{statement}
 use Rattle.selection.proofs.one_path.select_one.Tie as tie
+use Rattle.selection.specs.one_path.Paths.{one-path, one-append, one-selected, none-selected}
 
 -- the states that answers go back to
 abbrev else1-before : tie.After-select-path → tie.Else1

@@ -2,16 +2,16 @@
 use mathlib.Core.Bool.{true}
 use mathlib.Core.Path.{_≡_, sym, _∙_}
 use Prim.Native.Nat.{_≤_}
+use native.Mathlib.Omega.{arith}
+use borrow.Author.Needs.{needs}
 use borrow.Author.Tests.{not-true, not-false}
 use lib.ListN.{length}
 use lib.Seq.{length-take-le}
 use Rattle.bundle.specs.records.Records.{schema-size, bundle-size}
-use Rattle.selection.specs.records.Records.{bothPass as BothPass, not-records, both-records}
-use Rattle.text_spec.specs.Limits.{maxSchemaBytes, maxBundleBytes}
-use native.Mathlib.Omega.{arith}
-use borrow.Author.Needs.{needs}
 use Rattle.selection.proofs.records.select_nodes.Statement.{statement}
 use Rattle.selection.proofs.records.select_nodes.Tie as tie
+use Rattle.selection.specs.records.Records.{bothPass as BothPass, not-records, both-records}
+use Rattle.text_spec.specs.Limits.{maxSchemaBytes, maxBundleBytes}
 
 -- the states that answers go back to
 abbrev start-before : tie.After-is-bundle-record → tie.Start

@@ -1,10 +1,10 @@
 -- `select_texts` meets its contract: both texts compiled, and the table judged by what they give.
+use borrow.Author.Needs.{needs}
 use Rattle.bundle.specs.records.Compiled.{judged-shaped}
 use Rattle.compiled_schema.specs.Places.{names-inside, names-taken, names-few}
-use Rattle.selection.specs.records.Records.{some-schema, texts-selected}
-use borrow.Author.Needs.{needs}
 use Rattle.selection.proofs.records.select_texts.Statement.{statement}
 use Rattle.selection.proofs.records.select_texts.Tie as tie
+use Rattle.selection.specs.records.Records.{some-schema, texts-selected}
 
 -- the states that answers go back to
 abbrev compile-before : tie.After-held-words → tie.After-compile

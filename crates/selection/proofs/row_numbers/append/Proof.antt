@@ -1,10 +1,10 @@
 use Prim.Native.Nat.{_-_}
-use lib.ListN.{length}
-use Rattle.selection.specs.row_numbers.Cells.{Appending, appending-none, appending-next, appending-all, mark-small}
-use borrow.Author.Needs.{needs}
 use native.Mathlib.Omega.{arith}
+use borrow.Author.Needs.{needs}
+use lib.ListN.{length}
 use Rattle.selection.proofs.row_numbers.append.Statement.{statement}
 use Rattle.selection.proofs.row_numbers.append.Tie as tie
+use Rattle.selection.specs.row_numbers.Cells.{Appending, appending-none, appending-next, appending-all, mark-small}
 
 abbrev Inv-loop : tie.InvT-loop
 Inv-loop numbers marks out₀ at n₀ r₀ out n r = Appending marks numbers out₀ at r n out

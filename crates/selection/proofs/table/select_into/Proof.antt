@@ -1,10 +1,10 @@
 -- `select_into` meets its contract: the range of the paths asked for, what they select, the room.
-use Rattle.selection.specs.asked.Ranges.{asked-order}
-use Rattle.selection.specs.table.Tables.{asked-pass, asked-answered}
 use mathlib.Core.Path.{_∙_}
 use borrow.Author.Needs.{needs}
 use Rattle.selection.proofs.table.select_into.Statement.{statement}
 use Rattle.selection.proofs.table.select_into.Tie as tie
+use Rattle.selection.specs.asked.Ranges.{asked-order}
+use Rattle.selection.specs.table.Tables.{asked-pass, asked-answered}
 
 -- the states that answers go back to
 abbrev start-before : tie.After-past-asked → tie.Start

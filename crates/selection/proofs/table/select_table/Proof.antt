@@ -1,8 +1,8 @@
 -- `select_table` meets its contract: scratch of as many cells as the table has rows.
-use Rattle.selection.specs.table.Tables.{scratch-long, with-scratch}
 use borrow.Author.Needs.{needs}
 use Rattle.selection.proofs.table.select_table.Statement.{statement}
 use Rattle.selection.proofs.table.select_table.Tie as tie
+use Rattle.selection.specs.table.Tables.{scratch-long, with-scratch}
 
 slice-aggregate-select-into : tie.Need-slice-aggregate-select-into
 slice-aggregate-select-into c = scratch-long _ _ _ (c .before .before .before .before .before .before .before .before .pre .2 .few)

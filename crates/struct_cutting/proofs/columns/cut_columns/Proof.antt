@@ -3,11 +3,11 @@ use mathlib.Core.Path.{sym, _∙_}
 use native.Mathlib.Omega.{arith}
 use borrow.Author.Needs.{needs}
 use borrow.Author.Tests.{ltb-true, ltb-false}
-use Rattle.struct_cutting.specs.columns.Cutting.{cut-many}
 use Rattle.compiled_schema.specs.records.Records.{recordWith}
-use Rattle.text_spec.specs.Limits.{maxNodes}
 use Rattle.struct_cutting.proofs.columns.cut_columns.Statement.{statement}
 use Rattle.struct_cutting.proofs.columns.cut_columns.Tie as tie
+use Rattle.struct_cutting.specs.columns.Cutting.{cut-many}
+use Rattle.text_spec.specs.Limits.{maxNodes}
 
 returns : tie.Need-returns
 returns c = λ rows long laid.

@@ -3,14 +3,14 @@ use mathlib.Core.Path.{_≡_, sym}
 use Prim.Native.Nat.{_≤_}
 use borrow.Author.Needs.{needs}
 use lib.ListN.{length}
-use Rattle.struct_cutting.specs.columns.Cutting.{cut-for}
-use Rattle.handed_tables.specs.structs.Tables.{sizes-of}
-use Rattle.row_structs.specs.laws.Answers.{cellCount, zerosIn, cell-inside, cell-part}
-use Rattle.row_structs.specs.Structs.{columnsIn}
 use Rattle.compiled_schema.specs.records.Records.{recordWith}
-use Rattle.table_spec.specs.Columns.{allOfSize, sizesOf}
+use Rattle.handed_tables.specs.structs.Tables.{sizes-of}
+use Rattle.row_structs.specs.Structs.{columnsIn}
+use Rattle.row_structs.specs.laws.Answers.{cellCount, zerosIn, cell-inside, cell-part}
 use Rattle.struct_cutting.proofs.columns.cut_laid.Statement.{statement}
 use Rattle.struct_cutting.proofs.columns.cut_laid.Tie as tie
+use Rattle.struct_cutting.specs.columns.Cutting.{cut-for}
+use Rattle.table_spec.specs.Columns.{allOfSize, sizesOf}
 
 -- the columns have a cell for each row, by their type
 module _ (c : tie.Start) where

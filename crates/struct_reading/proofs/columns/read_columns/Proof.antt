@@ -1,14 +1,14 @@
 -- `read_columns` meets its contract: what the reader answers in the first cells of columns of zeros.
-use denote.Ref.{now}
 use mathlib.Core.Path.{_≡_}
 use Prim.Native.Nat.{_≤_}
-use lib.ListN.{length}
 use borrow.Author.Needs.{needs}
-use Rattle.struct_reading.specs.columns.Reading.{read-for}
-use Rattle.row_structs.specs.laws.Answers.{cellCount, zerosIn, cell-inside, cell-part}
+use lib.ListN.{length}
+use denote.Ref.{now}
 use Rattle.compiled_schema.specs.records.Records.{recordWith}
+use Rattle.row_structs.specs.laws.Answers.{cellCount, zerosIn, cell-inside, cell-part}
 use Rattle.struct_reading.proofs.columns.read_columns.Statement.{statement}
 use Rattle.struct_reading.proofs.columns.read_columns.Tie as tie
+use Rattle.struct_reading.specs.columns.Reading.{read-for}
 
 -- the part of a column that is lent, once its size is known
 inside : (c : tie.After-cell-of) → c .cell-of .result ≤ cellCount

@@ -3,15 +3,15 @@ use mathlib.Core.Path.{_≡_, sym, _∙_}
 use native.Mathlib.Omega.{arith}
 use borrow.Author.Needs.{needs}
 use borrow.Author.Tests.{ltb-true, ltb-false}
-use Rattle.row_structs.specs.laws.Answers.{cellCount}
-use Rattle.struct_selecting.specs.columns.Selecting.{selected-laid, selected-many}
+use Rattle.compiled_schema.specs.records.Records.{recordWith}
 use Rattle.handed_tables.specs.structs.Tables.{sizes-of}
 use Rattle.row_structs.specs.Structs.{columnsIn}
-use Rattle.table_spec.specs.Columns.{sizesOf, allOfSize}
-use Rattle.compiled_schema.specs.records.Records.{recordWith}
-use Rattle.text_spec.specs.Limits.{maxNodes}
+use Rattle.row_structs.specs.laws.Answers.{cellCount}
 use Rattle.struct_selecting.proofs.columns.select_columns.Statement.{statement}
 use Rattle.struct_selecting.proofs.columns.select_columns.Tie as tie
+use Rattle.struct_selecting.specs.columns.Selecting.{selected-laid, selected-many}
+use Rattle.table_spec.specs.Columns.{sizesOf, allOfSize}
+use Rattle.text_spec.specs.Limits.{maxNodes}
 
 -- the columns have a cell for each row, by their type
 columns-long : (c : tie.Start) → sizesOf (columnsIn (c .args .columns)) ≡ allOfSize cellCount

@@ -1,14 +1,14 @@
 -- `any_foreign` meets its contract. The invariant: the mark says whether a byte before `i` is foreign.
 use mathlib.Core.Path.{_≡_}
 use Prim.Native.Nat.{_-_, _≤_}
-use borrow.Author.Needs.{needs}
 use native.Mathlib.Omega.{arith}
+use borrow.Author.Needs.{needs}
 use lib.ListN.{length}
 use Rattle.cells.specs.row_sets.Columns.{mark}
 use Rattle.tables.proofs.foreign_bytes.Foreign.{none-before, one-more, all-before}
-use Rattle.tables.specs.foreign_bytes.Foreign.{foreignBefore}
 use Rattle.tables.proofs.foreign_bytes.any_foreign.Statement.{statement}
 use Rattle.tables.proofs.foreign_bytes.any_foreign.Tie as tie
+use Rattle.tables.specs.foreign_bytes.Foreign.{foreignBefore}
 
 abbrev Inv-loop : tie.InvT-loop
 Inv-loop text x₀ i₀ x i = (i ≤ length text) × (x ≡ mark (foreignBefore text i))

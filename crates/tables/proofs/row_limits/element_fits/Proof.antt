@@ -1,7 +1,7 @@
 -- `element_fits` meets its contract: the tests in their order.
-use borrow.Author.Tests.{le-leb, lt-leb, eq-eqb, ne-eqb}
 use Prim.Native.Nat.{suc}
 use native.Mathlib.Omega.{arith}
+use borrow.Author.Tests.{le-leb, lt-leb, eq-eqb, ne-eqb}
 use Rattle.tables.proofs.row_limits.element_fits.Statement.{statement}
 use Rattle.tables.proofs.row_limits.element_fits.Tie as tie
 

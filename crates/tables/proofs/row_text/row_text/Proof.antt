@@ -1,9 +1,9 @@
 -- `row_text` meets its contract: the part that the answer says, which lies inside the lent text.
 use native.Mathlib.Omega.{arith}
 use borrow.Author.Needs.{needs}
-use Rattle.tables.specs.row_text.Answers.{text-inside, part-refused, part-element, part-text}
 use Rattle.tables.proofs.row_text.row_text.Statement.{statement}
 use Rattle.tables.proofs.row_text.row_text.Tie as tie
+use Rattle.tables.specs.row_text.Answers.{text-inside, part-refused, part-element, part-text}
 
 add-end : tie.Need-add-end
 add-end c =

@@ -1,12 +1,12 @@
 -- `row_text_place` meets its contract: the record, the table, the row.
+use mathlib.Core.Path.{sym, ap, _∙_}
 use borrow.Author.Needs.{needs}
 use borrow.Author.Tests.{not-true, not-false}
-use mathlib.Core.Path.{sym, ap, _∙_}
-use Rattle.tables.specs.row_text.Answers.{outcomeOf, no-record, no-table, row-found, beside-lent}
-use Rattle.schema_reader.specs.Sizes.{record-low}
 use Rattle.compiled_schema.specs.records.Records.{passes-schema}
+use Rattle.schema_reader.specs.Sizes.{record-low}
 use Rattle.tables.proofs.row_text.row_text_place.Statement.{statement}
 use Rattle.tables.proofs.row_text.row_text_place.Tie as tie
+use Rattle.tables.specs.row_text.Answers.{outcomeOf, no-record, no-table, row-found, beside-lent}
 
 returns : tie.Need-returns
 returns c = no-record _ _ _ _ (sym (passes-schema _ _) ∙ sym (c .before .is-schema-record .ensures) ∙ not-true _ (c .if1 .taken))

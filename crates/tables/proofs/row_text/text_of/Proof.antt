@@ -1,8 +1,8 @@
 -- `text_of` meets its contract: past the rows, a text, or an element.
+use mathlib.Core.Path.{sym, _∙_}
 use native.Mathlib.Omega.{arith}
 use borrow.Author.Needs.{needs}
 use borrow.Author.Tests.{le-leb, lt-leb}
-use mathlib.Core.Path.{sym, _∙_}
 use Rattle.tables.proofs.row_text.text_of.Statement.{statement}
 use Rattle.tables.proofs.row_text.text_of.Tie as tie
 

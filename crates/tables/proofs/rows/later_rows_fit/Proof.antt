@@ -1,14 +1,14 @@
 -- `later_rows_fit` meets its contract. The outer invariant: the pass from this row on is the whole pass; the inner one: the climb from this row on is the whole climb.
-use borrow.Author.Needs.{needs}
-use borrow.Author.Tests.{not-true, not-false}
-use mathlib.Core.Path.{refl, sym, _∙_}
 use mathlib.Core.Logic.{⊎-elim}
+use mathlib.Core.Path.{refl, sym, _∙_}
 use Prim.Native.Nat.{_-_}
 use native.Mathlib.Omega.{arith}
+use borrow.Author.Needs.{needs}
+use borrow.Author.Tests.{not-true, not-false}
+use Rattle.table_spec.specs.Columns.{Columns, columns}
 use Rattle.tables.proofs.rows.Turns.{Rows, Climbing, row-lent, rows-first, climb-first, climb-next, rows-past, rows-fail, rows-text, rows-element, rows-done}
 use Rattle.tables.proofs.rows.later_rows_fit.Statement.{statement}
 use Rattle.tables.proofs.rows.later_rows_fit.Tie as tie
-use Rattle.table_spec.specs.Columns.{Columns, columns}
 
 abbrev Inv-loop : tie.InvT-loop
 Inv-loop numbers codes parents starts lengths count words element₀ depth₀ row parent element depth = Climbing (columns numbers codes parents starts lengths) row parent element₀ depth₀ element depth

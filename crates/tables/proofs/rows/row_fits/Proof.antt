@@ -1,6 +1,6 @@
 -- `row_fits` meets its contract: it hands the cells of two rows on.
-use borrow.Author.Needs.{needs, scaled-fits}
 use native.Mathlib.Omega.{arith}
+use borrow.Author.Needs.{needs, scaled-fits}
 use Rattle.tables.proofs.rows.row_fits.Statement.{statement}
 use Rattle.tables.proofs.rows.row_fits.Tie as tie
 

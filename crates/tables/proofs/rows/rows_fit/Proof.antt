@@ -1,11 +1,11 @@
 -- `rows_fit` meets its contract: no row, no root, or the pass over the later rows.
-use borrow.Author.Tests.{not-true, not-false}
 use mathlib.Core.Path.{sym, _∙_}
 use native.Mathlib.Omega.{arith}
+use borrow.Author.Tests.{not-true, not-false}
+use Rattle.table_spec.specs.Columns.{Columns, columns}
 use Rattle.tables.proofs.rows.Turns.{root-at, rows-none, rows-rootless, rows-rooted}
 use Rattle.tables.proofs.rows.rows_fit.Statement.{statement}
 use Rattle.tables.proofs.rows.rows_fit.Tie as tie
-use Rattle.table_spec.specs.Columns.{Columns, columns}
 
 -- The start, from where there are rows; and from where the root is tested, back to there.
 abbrev start-before : tie.After-shared-slice-known5 → tie.Start

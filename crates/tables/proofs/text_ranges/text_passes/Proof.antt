@@ -1,6 +1,6 @@
 -- `text_passes` meets its contract: by the code.
-use borrow.Author.Needs.{needs}
 use mathlib.Core.Path.{sym, _∙_}
+use borrow.Author.Needs.{needs}
 use Rattle.tables.proofs.text_ranges.text_passes.Statement.{statement}
 use Rattle.tables.proofs.text_ranges.text_passes.Tie as tie
 

@@ -1,8 +1,8 @@
 -- `texts_pass` meets its contract. The invariant: what is left of the rows decides.
-use borrow.Author.Needs.{needs}
-use borrow.Author.Tests.{not-true, not-false}
 use mathlib.Core.Path.{sym, _∙_}
 use Prim.Native.Nat.{_-_}
+use borrow.Author.Needs.{needs}
+use borrow.Author.Tests.{not-true, not-false}
 use Rattle.tables.proofs.text_ranges.Ranges.{Left, left-first, left-fails, left-next, left-done}
 use Rattle.tables.proofs.text_ranges.texts_pass.Statement.{statement}
 use Rattle.tables.proofs.text_ranges.texts_pass.Tie as tie

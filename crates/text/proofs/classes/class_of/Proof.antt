@@ -3,10 +3,10 @@ use mathlib.Core.List.{List, [], _∷_}
 use Prim.Native.Nat.{ℕ}
 use native.Mathlib.Omega.{arith}
 use Rattle.text_spec.specs.Bytes.{classOf}
-use Rattle.text.specs.declared.classes.Class.the-variants.{Blank, Letter, Digit, Markup, Other, Foreign}
 use Rattle.text.proofs.classes.class_of.Statement.{statement}
 use Rattle.text.proofs.classes.class_of.Tie as tie
 use Rattle.text.specs.classes.Runs.{ranged, listed, isClass, class-is}
+use Rattle.text.specs.declared.classes.Class.the-variants.{Blank, Letter, Digit, Markup, Other, Foreign}
 
 abbrev markups : List ℕ
 markups = 33 ∷ 35 ∷ 38 ∷ 47 ∷ 91 ∷ 93 ∷ 124 ∷ []

@@ -3,13 +3,13 @@ use mathlib.Core.List.{List, map}
 use mathlib.Core.Path.{sym, ap, _∙_}
 use Prim.Native.Nat.{ℕ}
 use native.Mathlib.Nat.{zero-add}
-use Rattle.text_spec.specs.Scans.{nameAt}
-use Rattle.text.specs.name_bytes.Naming.{name-whole, never-found}
-use Rattle.text.specs.lookup.NameLaws.{found-one, found-none}
-use Rattle.schema_spec.specs.Schemas.{indexFrom}
 use borrow.Author.Needs.{needs}
+use Rattle.schema_spec.specs.Schemas.{indexFrom}
+use Rattle.text_spec.specs.Scans.{nameAt}
 use Rattle.text.proofs.lookup.element_named.Statement.{statement}
 use Rattle.text.proofs.lookup.element_named.Tie as tie
+use Rattle.text.specs.lookup.NameLaws.{found-one, found-none}
+use Rattle.text.specs.name_bytes.Naming.{name-whole, never-found}
 
 returns : tie.Need-returns
 returns c = let g = c .before .before .before .before .before .args in

@@ -2,14 +2,14 @@
 use mathlib.Core.List.{map}
 use mathlib.Core.Path.{_≡_, refl, sym, ap, _∙_}
 use Prim.Native.Nat.{_-_, _≤_}
+use borrow.Author.Needs.{needs}
 use lib.ListN.{length, drop}
-use Rattle.text_spec.specs.Scans.{nameAt}
 use Rattle.schema_spec.specs.Schemas.{indexFrom}
 use Rattle.text_spec.specs.Lists.{valueOr}
-use Rattle.text.specs.name_bytes.Naming.{index-here, index-later, index-none}
-use borrow.Author.Needs.{needs}
+use Rattle.text_spec.specs.Scans.{nameAt}
 use Rattle.text.proofs.lookup.find.Statement.{statement}
 use Rattle.text.proofs.lookup.find.Tie as tie
+use Rattle.text.specs.name_bytes.Naming.{index-here, index-later, index-none}
 
 abbrev Inv-loop : tie.InvT-loop
 Inv-loop s names t p end i₀ i =

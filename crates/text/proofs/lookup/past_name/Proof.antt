@@ -1,13 +1,13 @@
 -- `past_name` meets its contract: what is left of the name starts at i.
 use mathlib.Core.Path.{_≡_, refl, ap}
 use Prim.Native.Nat.{_+_, _-_}
+use native.Mathlib.Omega.{arith}
+use borrow.Author.Needs.{needs}
 use lib.ListN.{length}
 use Rattle.text_spec.specs.Scans.{nameAt}
-use Rattle.text.specs.name_bytes.Naming.{byte-over, byte-on}
-use borrow.Author.Needs.{needs}
-use native.Mathlib.Omega.{arith}
 use Rattle.text.proofs.lookup.past_name.Statement.{statement}
 use Rattle.text.proofs.lookup.past_name.Tie as tie
+use Rattle.text.specs.name_bytes.Naming.{byte-over, byte-on}
 
 abbrev Inv-loop : tie.InvT-loop
 Inv-loop t p i₀ i = p + length (nameAt t p) ≡ i + length (nameAt t i)

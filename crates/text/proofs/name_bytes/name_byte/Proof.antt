@@ -1,10 +1,10 @@
 -- `name_byte` meets its contract.
 use mathlib.Core.Path.{sym, _∙_}
-use borrow.Author.Needs.{needs}
 use native.Mathlib.Omega.{arith}
-use Rattle.text.specs.name_bytes.Naming.{byte-none, byte-there}
+use borrow.Author.Needs.{needs}
 use Rattle.text.proofs.name_bytes.name_byte.Statement.{statement}
 use Rattle.text.proofs.name_bytes.name_byte.Tie as tie
+use Rattle.text.specs.name_bytes.Naming.{byte-none, byte-there}
 
 returns : tie.Need-returns
 returns c = byte-none (c .before .before .args .s .now) (c .before .before .args .i) (λ l. absurd (omega arith))

@@ -1,14 +1,14 @@
 -- `same_name` meets its contract: the names are the same if what is left of them is.
 use mathlib.Core.Path.{_≡_, refl, sym, _∙_}
 use Prim.Native.Nat.{_+_, _-_}
-use lib.ListN.{length}
-use Rattle.text_spec.specs.Scans.{nameAt}
-use Rattle.text_spec.specs.Lists.{sameBytes}
-use Rattle.text.specs.name_bytes.Naming.{name-goes-on, names-differ, names-agree, names-ended}
-use borrow.Author.Needs.{needs}
 use native.Mathlib.Omega.{arith}
+use borrow.Author.Needs.{needs}
+use lib.ListN.{length}
+use Rattle.text_spec.specs.Lists.{sameBytes}
+use Rattle.text_spec.specs.Scans.{nameAt}
 use Rattle.text.proofs.name_bytes.same_name.Statement.{statement}
 use Rattle.text.proofs.name_bytes.same_name.Tie as tie
+use Rattle.text.specs.name_bytes.Naming.{name-goes-on, names-differ, names-agree, names-ended}
 
 abbrev Inv-loop : tie.InvT-loop
 Inv-loop t p end s q i₀ j₀ i j =

@@ -5,11 +5,11 @@ use native.Mathlib.Omega.{arith}
 use borrow.Author.Needs.{needs}
 use borrow.Author.Tests.{not-true, not-false}
 use lib.ListN.{length}
-use Rattle.text.proofs.scanning.Bytes.{each-none, each-more}
 use Rattle.text_laws.specs.Bytes.{starts-continues}
-use Rattle.text_spec.specs.Scans.{byteAt, Each}
 use Rattle.text_spec.specs.Bytes.{continuesName}
 use Rattle.text_spec.specs.Limits.{maxNameBytes}
+use Rattle.text_spec.specs.Scans.{byteAt, Each}
+use Rattle.text.proofs.scanning.Bytes.{each-none, each-more}
 use Rattle.text.proofs.scanning.name_end.Statement.{statement}
 use Rattle.text.proofs.scanning.name_end.Tie as tie
 

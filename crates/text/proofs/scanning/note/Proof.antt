@@ -1,7 +1,7 @@
 -- `note` meets its contract.
 use mathlib.Core.Path.{sym}
-use lib.Seq.{set-out}
 use borrow.Author.Needs.{needs}
+use lib.Seq.{set-out}
 use Rattle.text.proofs.scanning.note.Statement.{statement}
 use Rattle.text.proofs.scanning.note.Tie as tie
 

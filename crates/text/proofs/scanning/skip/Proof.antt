@@ -5,9 +5,9 @@ use native.Mathlib.Omega.{arith}
 use borrow.Author.Needs.{needs}
 use borrow.Author.Tests.{not-true, not-false}
 use lib.ListN.{length}
-use Rattle.text.proofs.scanning.Bytes.{each-none, each-more}
-use Rattle.text_spec.specs.Scans.{Each}
 use Rattle.text_spec.specs.Bytes.{isBlank}
+use Rattle.text_spec.specs.Scans.{Each}
+use Rattle.text.proofs.scanning.Bytes.{each-none, each-more}
 use Rattle.text.proofs.scanning.skip.Statement.{statement}
 use Rattle.text.proofs.scanning.skip.Tie as tie
 

@@ -3,9 +3,9 @@ use mathlib.Core.Path.{_≡_, subst}
 use Prim.Native.Nat.{ℕ}
 use native.Mathlib.Omega.{arith}
 use borrow.Author.Needs.{needs}
-use Rattle.text.specs.scanning.Outcomes.{NoBlank}
 use Rattle.text.proofs.scanning.space.Statement.{statement}
 use Rattle.text.proofs.scanning.space.Tie as tie
+use Rattle.text.specs.scanning.Outcomes.{NoBlank}
 
 returns : tie.Need-returns
 returns c =

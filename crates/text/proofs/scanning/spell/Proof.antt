@@ -3,8 +3,8 @@ use Prim.Native.Nat.{_-_, _≤_}
 use native.Mathlib.Omega.{arith}
 use borrow.Author.Needs.{needs}
 use lib.ListN.{length}
-use Rattle.text.proofs.scanning.Bytes.{begins-more}
 use Rattle.text_spec.specs.Scans.{Begins}
+use Rattle.text.proofs.scanning.Bytes.{begins-more}
 use Rattle.text.proofs.scanning.spell.Statement.{statement}
 use Rattle.text.proofs.scanning.spell.Tie as tie
 

@@ -1,8 +1,8 @@
 -- `Name::first` meets its contract.
 use borrow.Author.Needs.{needs}
-use Rattle.text.specs.name_words.Words.{wordsOf, withBytes}
 use Rattle.text.proofs.name_words.Name.first.Statement.{statement}
 use Rattle.text.proofs.name_words.Name.first.Tie as tie
+use Rattle.text.specs.name_words.Words.{wordsOf, withBytes}
 
 returns : tie.Need-returns
 unfolding wordsOf withBytes

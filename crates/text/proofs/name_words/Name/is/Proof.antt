@@ -1,9 +1,9 @@
 -- `Name::is` meets its contract: no word differs in a bit.
 use borrow.Author.Needs.{needs}
-use Rattle.text.specs.name_words.Laws.{words-decide}
-use Rattle.text.specs.name_words.Words.{nameAt}
 use Rattle.text.proofs.name_words.Name.is.Statement.{statement}
 use Rattle.text.proofs.name_words.Name.is.Tie as tie
+use Rattle.text.specs.name_words.Laws.{words-decide}
+use Rattle.text.specs.name_words.Words.{nameAt}
 
 returns : tie.Need-returns
 returns c =

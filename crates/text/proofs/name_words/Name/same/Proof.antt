@@ -1,7 +1,7 @@
 -- `Name::same` meets its contract: no word differs in a bit.
-use Rattle.text.specs.name_words.Laws.{words-decide}
 use Rattle.text.proofs.name_words.Name.same.Statement.{statement}
 use Rattle.text.proofs.name_words.Name.same.Tie as tie
+use Rattle.text.specs.name_words.Laws.{words-decide}
 
 returns : tie.Need-returns
 returns c =

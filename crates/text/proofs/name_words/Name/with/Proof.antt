@@ -1,8 +1,8 @@
 -- `Name::with` meets its contract: a new group after each eighth byte.
 use borrow.Author.Needs.{needs}
-use Rattle.text.specs.name_words.Laws.{new-group, longer-group}
 use Rattle.text.proofs.name_words.Name.with.Statement.{statement}
 use Rattle.text.proofs.name_words.Name.with.Tie as tie
+use Rattle.text.specs.name_words.Laws.{new-group, longer-group}
 
 returns : tie.Need-returns
 returns c =
