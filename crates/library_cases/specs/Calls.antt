@@ -10,7 +10,7 @@ use Rattle.library_spec.specs.Cases.Hosts.{bundleP, bundleT, undeclared, misfit
 use Rattle.library_spec.specs.Cases.Opened.{computing}
 use Rattle.library_spec.specs.Cases.Questions.{Text, readsSchema, readsBundle, readsJournal, givesNeeded, cutsTable, readsExtract, Answer, leaves, answerTo, Case, AllHold, zeros}
 use Rattle.library_spec.specs.Records.{LentTable}
-use Rattle.table_spec.specs.Columns.{Columns, Sizes, allOfSize}
+use Rattle.table_spec.specs.Columns.{Columns, columns, Sizes, allOfSize}
 use Rattle.text_spec.specs.Cases.{case, answered, copies, joined}
 use Rattle.text_spec.specs.Lists.{bytes}
 use Rattle.text_spec.specs.Records.{TextRecord}
@@ -109,9 +109,6 @@ records-hold = answered records
 -- ---- tables
 abbrev pub table : Columns → ℕ → LentTable
 table columns count = record { columns = columns; count = count }
-
-abbrev pub columns : List ℕ → List ℕ → List ℕ → List ℕ → List ℕ → Columns
-columns numbers names parents starts lengths = record { numbers = numbers; names = names; parents = parents; starts = starts; lengths = lengths }
 
 -- J's table, and a cell of each column that is no row
 abbrev pub lentJ : LentTable
