@@ -5,7 +5,8 @@ ghost use lib.ListN.{length};
 ghost use Rattle.axis_passes.specs.steps.Tests.{namesIn};
 ghost use Rattle.axis_passes.specs.written_steps.Steps.{StepAtPass, FirstAtPass};
 ghost use Rattle.cells.specs.row_sets.Columns.{intersection};
-ghost use Rattle.compiled_paths.specs.Columns.{sizeAt, startAt, conditionIn, stepAt};
+ghost use Rattle.compiled_paths.specs.Columns.{stepAt};
+ghost use Rattle.compiled_paths.specs.Paths.{entryCondition};
 ghost use Rattle.selection_laws.specs.marks.Selection.{conditionMarks, stepMarks, rootMarks};
 use crate::conditions::keep;
 use crate::root::step_from_root;
@@ -39,7 +40,7 @@ fn keep_at<'a>(
     next: &mut [u8],
 )
     requires { ⌜ StepAtPass (now parents) (now codes) (now conditions) k (now marks) (now held) (now steps) (now next) ⌝ }
-    ensures { λ _. ⌜ now (marks .exit) ≡ intersection (now (marks .entry)) (conditionMarks (now (parents .entry)) (namesIn (now (codes .entry))) (conditionIn (now (axes .entry)) (now (tests .entry)) (sizeAt (now (conditions .entry)) k) (startAt (now (conditions .entry)) k))) ⌝ }
+    ensures { λ _. ⌜ now (marks .exit) ≡ intersection (now (marks .entry)) (conditionMarks (now (parents .entry)) (namesIn (now (codes .entry))) (entryCondition axes tests conditions k)) ⌝ }
 {
     let start = conditions[k];
     let count = range_size(start, conditions[k + 1]);

@@ -1,7 +1,7 @@
 // All paths of a bundle text: where it departs from the grammar (8), or what it has and the first path that passes a limit (9).
 ghost use Prim.Native.Nat.{_≤_, _<_};
 ghost use lib.ListN.{length};
-ghost use Rattle.bundle_text.specs.paths.Readings.{ReadsBundle};
+ghost use Rattle.bundle_text.specs.paths.Readings.{ReadsBundleIn};
 ghost use Rattle.text_spec.specs.Limits.{maxBundleBytes};
 use crate::lines;
 use crate::path_limits;
@@ -34,7 +34,7 @@ pub fn all_paths(
     ways: &mut [usize],
 ) -> BundleOutcome
     requires { ⌜ (0 < length (now s)) × (length (now s) ≤ maxBundleBytes) ⌝ }
-    ensures { λ r. ⌜ ReadsBundle (now (s .entry)) (now (outers .entry)) (now (outers .exit)) (now (conditions .entry)) (now (conditions .exit)) (now (paths .entry)) (now (paths .exit)) (now (cells .entry)) (now (cells .exit)) (now (ways .entry)) (now (ways .exit)) r ⌝ }
+    ensures { λ r. ⌜ ReadsBundleIn s outers conditions paths cells ways r ⌝ }
 {
     let mut i = 0;
     let mut d = 0;

@@ -2,10 +2,10 @@
 // from `starts` on, `sizes` bytes each.
 ghost use mathlib.Core.List.{map};
 ghost use mathlib.Core.Path.{_≡_};
-ghost use Prim.Native.Nat.{_+_, _≤_};
+ghost use Prim.Native.Nat.{_+_};
 ghost use lib.ListN.{length};
 ghost use lib.Seq.{sets};
-ghost use Rattle.chains.specs.tags.Chains.{linkAt, linkSize, chainSize, SizesFit, LinkPass, SizePass};
+ghost use Rattle.chains.specs.tags.Chains.{linkSize, chainSize, SizesFit, LinkPass, SizePass, entryLink};
 ghost use Rattle.text_spec.specs.Scans.{nameAt};
 use cells::written_text::put_text;
 use names::MAX_ELEMENTS;
@@ -43,7 +43,7 @@ pub fn put_link(
     at: usize,
 ) -> usize
     requires { ⌜ LinkPass (now text) (now starts) (now sizes) code (now out) at ⌝ }
-    ensures { λ n. ⌜ (n ≡ at + length (linkAt (now (text .entry)) (now (starts .entry)) (now (sizes .entry)) code)) × (now (out .exit) ≡ sets (now (out .entry)) at (linkAt (now (text .entry)) (now (starts .entry)) (now (sizes .entry)) code)) ⌝ }
+    ensures { λ n. ⌜ (n ≡ at + length (entryLink text starts sizes code)) × (now (out .exit) ≡ sets (now (out .entry)) at (entryLink text starts sizes code)) ⌝ }
 {
     let e = code as usize;
     out[at] = b'/';

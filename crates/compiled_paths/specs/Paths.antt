@@ -4,10 +4,10 @@ use Prim.Native.Nat.{ℕ, _≤_}
 use lib.ListN.{getD}
 use denote.Ref.{now}
 use Rattle.cells.specs.lent.Ends.{Slice}
-use Rattle.compiled_paths.specs.Columns.{bundleIn}
+use Rattle.compiled_paths.specs.Columns.{bundleIn, pathAt, stepsIn, conditionIn, alternativesIn, sizeAt, startAt}
 use Rattle.compiled_paths.specs.Sizes.{writtenSteps, allSteps}
 use Rattle.compiled_paths.specs.declared.CompiledPaths.{CompiledPaths}
-use Rattle.path_spec.specs.Paths.{LocationPath}
+use Rattle.path_spec.specs.Paths.{LocationPath, WrittenStep, Condition, alternatives}
 use Rattle.text_spec.specs.Limits.{maxPaths}
 
 -- compiled paths by their columns and their count, as they are lent
@@ -16,6 +16,20 @@ lentPaths axes tests conditions paths count = record { count = count; paths = pa
 
 abbrev pub entryPaths : Slice → Slice → Slice → Slice → ℕ → CompiledPaths
 entryPaths axes tests conditions paths count = lentPaths (now (axes .entry)) (now (tests .entry)) (now (conditions .entry)) (now (paths .entry)) count
+
+-- what cells of lent columns stand for: a path, written steps, the condition of one, and the alternatives of a condition
+abbrev pub entryPath : Slice → Slice → Slice → Slice → ℕ → LocationPath ℕ
+entryPath axes tests conditions paths i = pathAt (now (axes .entry)) (now (tests .entry)) (now (conditions .entry)) (now (paths .entry)) i
+
+abbrev pub entrySteps : Slice → Slice → Slice → ℕ → ℕ → List (WrittenStep ℕ (Condition ℕ))
+entrySteps axes tests conditions n k = stepsIn (now (axes .entry)) (now (tests .entry)) (now (conditions .entry)) n k
+
+abbrev pub entryCondition : Slice → Slice → Slice → ℕ → Condition ℕ
+entryCondition axes tests conditions k =
+    conditionIn (now (axes .entry)) (now (tests .entry)) (sizeAt (now (conditions .entry)) k) (startAt (now (conditions .entry)) k)
+
+abbrev pub entryAlternatives : Slice → Slice → ℕ → ℕ → Condition ℕ
+entryAlternatives axes tests n k = alternatives (alternativesIn (now (axes .entry)) (now (tests .entry)) n k)
 
 unfoldable pub pathsIn : CompiledPaths → List (LocationPath ℕ)
 pathsIn c = bundleIn (c .axes) (c .tests) (c .conditions) (c .paths) (c .count) 0

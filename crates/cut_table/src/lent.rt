@@ -1,6 +1,6 @@
 // Cutting a table that has passed its test into other lent columns.
-ghost use Rattle.cells.specs.lent.Ends.{exitColumns, entryColumns, heldColumns};
-ghost use Rattle.cut_table.specs.laws.Answers.{Cuttable, CutFirst};
+ghost use Rattle.cells.specs.lent.Ends.{entryColumns, heldColumns};
+ghost use Rattle.cut_table.specs.laws.Answers.{Cuttable, CutFirstIn};
 ghost use Rattle.handed_tables.specs.calls.Rows.{firstCells};
 ghost use Rattle.kept_rows.specs.Kept.{inSet};
 ghost use Rattle.tables.specs.Handed.{lentTable};
@@ -25,7 +25,7 @@ pub fn cut_first(
     out_lengths: &mut [u16],
 ) -> Verdict
     requires { ⌜ Cuttable (lentTable (now numbers) (now codes) (now parents) (now starts) (now lengths) count) (heldColumns «out_numbers» «out_names» «out_parents» «out_starts» «out_lengths») ⌝ }
-    ensures { λ r. ⌜ CutFirst (inSet set) (firstCells count (entryColumns numbers codes parents starts lengths)) (entryColumns «out_numbers» «out_names» «out_parents» «out_starts» «out_lengths») r (exitColumns «out_numbers» «out_names» «out_parents» «out_starts» «out_lengths») ⌝ }
+    ensures { λ r. ⌜ CutFirstIn (inSet set) (firstCells count (entryColumns numbers codes parents starts lengths)) «out_numbers» «out_names» «out_parents» «out_starts» «out_lengths» r ⌝ }
 {
     let room = out_numbers.len();
     let n = cut(

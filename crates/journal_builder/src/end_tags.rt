@@ -1,12 +1,10 @@
 // End tags and runs of character data: the end of the innermost open element, its text; refusals 12, 15 and 16 there.
-ghost use mathlib.Core.Bool.{true};
 ghost use mathlib.Core.List.{List};
 ghost use mathlib.Core.Path.{_≡_};
 ghost use Prim.Native.Nat.{ℕ, _≤_, _<_};
 ghost use lib.Dec.{eqb};
-ghost use lib.ListN.{length};
 ghost use Rattle.compiled_schema.specs.entry_parts.Entries.{pcdataKind};
-ghost use Rattle.journal_builder.specs.build_state.State.{Safe, Built, Leaves, SafeStep, outsideBy};
+ghost use Rattle.journal_builder.specs.build_state.State.{Safe, Built, SafeStep, outsideBy, LeavesUnbroken};
 ghost use Rattle.journal_builder.specs.laws.Starts.{isInnermost};
 ghost use Rattle.journal_builder.specs.laws.Tags.{Closes, Ends};
 ghost use Rattle.journal_lexer.specs.state.Places.{placeOr};
@@ -15,8 +13,7 @@ ghost use Rattle.journal_spec.specs.Lexer.{run};
 ghost use Rattle.schema_spec.specs.Schemas.{Schema};
 ghost use Rattle.text.specs.fault_keys.Keys.{placeLimit};
 ghost use Rattle.text.specs.name_words.Words.{Spells};
-ghost use Rattle.text_spec.specs.Limits.{maxDeclarations, maxDepth};
-ghost use Rattle.text_spec.specs.Lists.{isNone};
+ghost use Rattle.text_spec.specs.Limits.{maxDepth};
 use crate::begun_nodes;
 use crate::build_state;
 use crate::build_state::Build;
@@ -102,7 +99,7 @@ fn is_text(kind: u64) -> bool
 // A run of character data: where it starts, its first byte that is not a blank or NONE, how many bytes it has.
 pub fn on_run(levels: &mut [u64; LEVELS], m: Build, start: u32, solid: u32, size: u32) -> BuildStep
     requires { ⌜ Safe (now levels) m × (m .count < placeLimit) ⌝ }
-    ensures { λ r. ⌜ SafeStep (now (levels .exit)) m r × ((s : Schema) (b : Building) → length s ≤ maxDeclarations → isNone (b .broken) ≡ true → Built s (now (levels .entry)) m b → Leaves s (now (levels .exit)) m b r (onRun (run start (placeOr solid)) size b)) ⌝ }
+    ensures { λ r. ⌜ SafeStep (now (levels .exit)) m r × LeavesUnbroken (λ s b. onRun (run start (placeOr solid)) size b) levels m r ⌝ }
 {
     let d = m.depth;
     if d == 0 {

@@ -1,16 +1,12 @@
 // A journal read up to an event, in loops for the modes that last.
-ghost use Prim.Native.Nat.{_≤_, _<_};
+ghost use Prim.Native.Nat.{_<_};
 ghost use lib.ListN.{length};
 ghost use Rattle.cells.specs.lent.Ends.{heldColumns};
 ghost use Rattle.journal_builder.specs.event_handling.Events.{entrySchema};
-ghost use Rattle.journal_builder.specs.fillings.Fillings.{Sized};
-ghost use Rattle.journal_lexer.specs.kinds.Kinds.{KindTable};
 ghost use Rattle.journal_lexer.specs.loop_laws.Advance.{Ready};
-ghost use Rattle.journal_lexer.specs.state.Places.{noPlace};
 ghost use Rattle.journal_reader.specs.event_step.Onward.{Onward};
 ghost use Rattle.journal_reader.specs.event_step.Points.{ReadOnIn};
-ghost use Rattle.journal_reader.specs.state.Reading.{Usable};
-ghost use Rattle.text_spec.specs.Limits.{maxDeclarations};
+ghost use Rattle.journal_reader.specs.state.Reading.{ByteAhead};
 use crate::event_rows;
 use crate::findings;
 use crate::state::ReaderState;
@@ -62,7 +58,7 @@ pub fn read_on(
     places: &mut [u32; 4],
     x: ReaderState,
 ) -> ReaderState
-    requires { ⌜ Usable (now levels) (now places) (heldColumns numbers names parents starts lengths) x × KindTable (now table) × (length (now text) < noPlace) × (x .lex .place < length (now text)) × Sized (now sizes) × (count ≤ maxDeclarations) ⌝ }
+    requires { ⌜ ByteAhead (now text) (now table) (now levels) (now places) (now sizes) count (heldColumns numbers names parents starts lengths) x ⌝ }
     ensures { λ r. ⌜ ReadOnIn (entrySchema words count kinds firsts lasts nullables elements predecessors sizes) text levels places numbers names parents starts lengths x r ⌝ }
 {
     let l: Lex = x.lex;

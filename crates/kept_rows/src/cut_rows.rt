@@ -1,7 +1,6 @@
 // The rows of a table that have a position, written into other columns, parents renumbered.
-ghost use mathlib.Core.Path.{_≡_};
-ghost use Rattle.cells.specs.lent.Ends.{exitColumns, entryColumns, heldColumns};
-ghost use Rattle.kept_rows.specs.cut_rows.Rows.{rowAdded, RowPass, CutPass, RowsNotedIn};
+ghost use Rattle.cells.specs.lent.Ends.{entryColumns, heldColumns};
+ghost use Rattle.kept_rows.specs.cut_rows.Rows.{RowPass, CutPass, RowsNotedIn, RowAddedIn};
 use crate::NOT_KEPT;
 
 // Writes row `r` at its position, if it has one; its parent's row becomes that row's position.
@@ -20,7 +19,7 @@ fn cut_row(
     r: usize,
 )
     requires { ⌜ RowPass (now positions) (heldColumns numbers names parents starts lengths) (heldColumns «out_numbers» «out_names» «out_parents» «out_starts» «out_lengths») r ⌝ }
-    ensures { λ _. ⌜ exitColumns «out_numbers» «out_names» «out_parents» «out_starts» «out_lengths» ≡ rowAdded (now (positions .entry)) (entryColumns numbers names parents starts lengths) r (entryColumns «out_numbers» «out_names» «out_parents» «out_starts» «out_lengths») ⌝ }
+    ensures { λ _. ⌜ RowAddedIn positions (entryColumns numbers names parents starts lengths) r «out_numbers» «out_names» «out_parents» «out_starts» «out_lengths» ⌝ }
 {
     let x = positions[r];
     if x == NOT_KEPT {

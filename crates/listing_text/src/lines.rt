@@ -1,6 +1,6 @@
 // What `listing` prints of a row, in a lent buffer.
 ghost use Rattle.cells.specs.written_text.Written.{WrittenAt};
-ghost use Rattle.chains.specs.tags.Chains.{chainAt};
+ghost use Rattle.chains.specs.tags.Chains.{entryChain};
 ghost use Rattle.listing_text.specs.lines.Lines.{rowLine, RowPass};
 use crate::nodes::put_line;
 
@@ -17,7 +17,7 @@ pub fn put_row(
     out: &mut [u8],
 ) -> usize
     requires { ⌜ RowPass (now text) (now starts) (now sizes) (now codes) (now parents) (now numbers) (now firsts) row (now out) ⌝ }
-    ensures { λ r. ⌜ WrittenAt (now (out .entry)) 0 (rowLine (now (numbers .entry)) (now (firsts .entry)) (chainAt (now (text .entry)) (now (starts .entry)) (now (sizes .entry)) (now (codes .entry)) (now (parents .entry))) row) r (now (out .exit)) ⌝ }
+    ensures { λ r. ⌜ WrittenAt (now (out .entry)) 0 (rowLine (now (numbers .entry)) (now (firsts .entry)) (entryChain text starts sizes codes parents) row) r (now (out .exit)) ⌝ }
 {
     let place = firsts[row];
     if place == 0 {

@@ -3,14 +3,14 @@ ghost use mathlib.Core.Bool.{_&&_};
 ghost use mathlib.Core.List.{List·Memᴰ};
 ghost use mathlib.Core.Path.{_≡_};
 ghost use Prim.Native.Nat.{_<_};
-ghost use Rattle.compiled_paths.specs.Columns.{alternativesIn, conditionIn};
+ghost use Rattle.compiled_paths.specs.Columns.{conditionIn};
+ghost use Rattle.compiled_paths.specs.Paths.{entryAlternatives};
 ghost use Rattle.inference.specs.plain_steps.Columns.{HasSteps};
 ghost use Rattle.inference.specs.type_steps.Relations.{RelationsOf, envIn};
 ghost use Rattle.inference_spec.specs.Types.{narrow};
 ghost use Rattle.names.specs.Sets.{member, setIn, NamesOf, Known};
 ghost use Rattle.names.specs.codes.Codes.{nameOfCode};
 ghost use Rattle.needed_names.specs.conditions.Conditions.{keepsIn, wantsIn};
-ghost use Rattle.path_spec.specs.Paths.{alternatives};
 ghost use Rattle.schema_spec.specs.Names.{Name, has, namesOf, within};
 ghost use Rattle.schema_spec.specs.Schemas.{Schema};
 ghost use Rattle.schema_spec.specs.Types.{typesOf};
@@ -40,7 +40,7 @@ fn keeps(
     c: usize,
 ) -> bool
     requires { ⌜ HasSteps (now axes) (now tests) i n × (c < 64) ⌝ }
-    ensures { λ r. ⌜ ((s : Schema) → RelationsOf s holds below → NamesOf s all → List·Memᴰ (nameOfCode c) (namesOf s) → r ≡ (member t (nameOfCode c) && keepsIn s k (alternatives (alternativesIn (now (axes .entry)) (now (tests .entry)) n i)) (nameOfCode c))) ⌝ }
+    ensures { λ r. ⌜ ((s : Schema) → RelationsOf s holds below → NamesOf s all → List·Memᴰ (nameOfCode c) (namesOf s) → r ≡ (member t (nameOfCode c) && keepsIn s k (entryAlternatives axes tests n i) (nameOfCode c))) ⌝ }
 {
     if codes::has(t, c) {
         let e = from_name(holds, below, k, c);
@@ -63,7 +63,7 @@ fn kept_by_some(
     k: NameSet,
 ) -> NameSet
     requires { ⌜ HasSteps (now axes) (now tests) i n ⌝ }
-    ensures { λ r. ⌜ ((s : Schema) → RelationsOf s holds below → NamesOf s all → (m : Name) → List·Memᴰ m (namesOf s) → member r m ≡ (member t m && keepsIn s k (alternatives (alternativesIn (now (axes .entry)) (now (tests .entry)) n i)) m)) ⌝ }
+    ensures { λ r. ⌜ ((s : Schema) → RelationsOf s holds below → NamesOf s all → (m : Name) → List·Memᴰ m (namesOf s) → member r m ≡ (member t m && keepsIn s k (entryAlternatives axes tests n i) m)) ⌝ }
 {
     let mut out = NameSet::empty();
     let mut c = 0;
@@ -132,7 +132,7 @@ fn wanted_of(
     c: usize,
 ) -> NameSet
     requires { ⌜ HasSteps (now axes) (now tests) i n × (c < 64) ⌝ }
-    ensures { λ r. ⌜ ((s : Schema) → RelationsOf s holds below → Known s g → (m : Name) → List·Memᴰ m (namesOf s) → member r m ≡ (member g (nameOfCode c) && has m (wantsIn s k (alternatives (alternativesIn (now (axes .entry)) (now (tests .entry)) n i)) (nameOfCode c)))) ⌝ }
+    ensures { λ r. ⌜ ((s : Schema) → RelationsOf s holds below → Known s g → (m : Name) → List·Memᴰ m (namesOf s) → member r m ≡ (member g (nameOfCode c) && has m (wantsIn s k (entryAlternatives axes tests n i) (nameOfCode c)))) ⌝ }
 {
     if codes::has(g, c) {
         let e = from_name(holds, below, k, c);
@@ -155,7 +155,7 @@ fn wanted_by_some(
     k: NameSet,
 ) -> NameSet
     requires { ⌜ HasSteps (now axes) (now tests) i n ⌝ }
-    ensures { λ r. ⌜ ((s : Schema) → RelationsOf s holds below → NamesOf s all → setIn s r ≡ within (namesOf s) (gather (wantsIn s k (alternatives (alternativesIn (now (axes .entry)) (now (tests .entry)) n i))) (setIn s h))) ⌝ }
+    ensures { λ r. ⌜ ((s : Schema) → RelationsOf s holds below → NamesOf s all → setIn s r ≡ within (namesOf s) (gather (wantsIn s k (entryAlternatives axes tests n i)) (setIn s h))) ⌝ }
 {
     let g = h.common(all);
     let mut out = NameSet::empty();

@@ -1,14 +1,14 @@
 // What a path needs: written steps with their conditions, and the last filter.
 ghost use mathlib.Core.Path.{_≡_};
 ghost use Prim.Native.Nat.{ℕ};
-ghost use Rattle.compiled_paths.specs.Columns.{stepsIn};
+ghost use Rattle.compiled_paths.specs.Paths.{entrySteps};
 ghost use Rattle.inference.specs.back_steps.Needs.{NeedsOf};
 ghost use Rattle.inference.specs.type_steps.Relations.{RelationsOf, envIn};
 ghost use Rattle.inference_spec.specs.Needed.{keepsName, wantsNames, neededByPath};
 ghost use Rattle.inference_spec.specs.Types.{infer};
 ghost use Rattle.names.specs.Sets.{NamesOf, setIn};
 ghost use Rattle.needed_names.specs.conditions.Conditions.{wantsIn};
-ghost use Rattle.needed_names.specs.paths.Columns.{conditionAt, analysedAt, HasWrittenSteps};
+ghost use Rattle.needed_names.specs.paths.Columns.{conditionAt, HasWrittenSteps, entryAnalysed};
 ghost use Rattle.path_spec.specs.Paths.{unconditional, expandFrom, fromRootElement};
 ghost use Rattle.schema_spec.specs.Names.{namesOf, within};
 ghost use Rattle.schema_spec.specs.Schemas.{Schema};
@@ -38,7 +38,7 @@ fn infer_step(
     e: Inferred,
 ) -> Inferred
     requires { ⌜ HasWrittenSteps (now axes) (now tests) (now conditions) k 1 ⌝ }
-    ensures { λ r. ⌜ ((s : Schema) → RelationsOf s holds below → NamesOf s all → (i : ℕ) → envIn s r ≡ infer (typesOf s) (keepsName (typesOf s)) (analysedAt (now (axes .entry)) (now (tests .entry)) (now (conditions .entry)) i k) (envIn s e)) ⌝ }
+    ensures { λ r. ⌜ ((s : Schema) → RelationsOf s holds below → NamesOf s all → (i : ℕ) → envIn s r ≡ infer (typesOf s) (keepsName (typesOf s)) (entryAnalysed axes tests conditions i k) (envIn s e)) ⌝ }
 {
     let first = ranges::start(conditions, k);
     let size = ranges::size(conditions, k);
@@ -80,7 +80,7 @@ fn need_steps(
     e: Inferred,
 ) -> Needs
     requires { ⌜ HasWrittenSteps (now axes) (now tests) (now conditions) k n ⌝ }
-    ensures { λ r. ⌜ ((s : Schema) → RelationsOf s holds below → NamesOf s all → (i : ℕ) → NeedsOf s (keepsName (typesOf s)) (wantsNames (typesOf s)) (expandFrom unconditional i (stepsIn (now (axes .entry)) (now (tests .entry)) (now (conditions .entry)) n k)) (envIn s e) r) ⌝ }
+    ensures { λ r. ⌜ ((s : Schema) → RelationsOf s holds below → NamesOf s all → (i : ℕ) → NeedsOf s (keepsName (typesOf s)) (wantsNames (typesOf s)) (expandFrom unconditional i (entrySteps axes tests conditions n k)) (envIn s e) r) ⌝ }
 {
     let t = e.types;
     if n == 0 {
@@ -119,7 +119,7 @@ pub fn path_needed(
     n: usize,
 ) -> NameSet
     requires { ⌜ HasWrittenSteps (now axes) (now tests) (now conditions) k n ⌝ }
-    ensures { λ r. ⌜ ((s : Schema) → RelationsOf s holds below → NamesOf s all → setIn s r ≡ neededByPath (typesOf s) (fromRootElement (stepsIn (now (axes .entry)) (now (tests .entry)) (now (conditions .entry)) n k))) ⌝ }
+    ensures { λ r. ⌜ ((s : Schema) → RelationsOf s holds below → NamesOf s all → setIn s r ≡ neededByPath (typesOf s) (fromRootElement (entrySteps axes tests conditions n k))) ⌝ }
 {
     let root = reachable_names::root();
     let start = Inferred {

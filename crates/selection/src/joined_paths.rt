@@ -1,6 +1,6 @@
 // The numbers that compiled paths select on a table in columns, joined and counted, in lent cells.
 ghost use Rattle.compiled_paths.specs.Paths.{lentPaths, entryPaths};
-ghost use Rattle.selection.specs.joined_paths.Joined.{AllPass, JoinedAs};
+ghost use Rattle.selection.specs.joined_paths.Joined.{AllPass, JoinedIn};
 use crate::one_path::select_one;
 use crate::row_numbers::put_count;
 use cells::lent::clear_numbers;
@@ -29,7 +29,7 @@ pub fn select_paths<'a>(
     next: &mut [u8],
 ) -> usize
     requires { ⌜ AllPass (lentPaths (now axes) (now tests) (now conditions) (now paths) end) first end (now numbers) (now codes) (now parents) (now marks) (now held) (now steps) (now next) ⌝ }
-    ensures { λ n. ⌜ JoinedAs (entryPaths axes tests conditions paths end) first end (now (numbers .entry)) (now (codes .entry)) (now (parents .entry)) (now (items .entry)) (now (counts .entry)) n (now (items .exit)) (now (counts .exit)) ⌝ }
+    ensures { λ n. ⌜ JoinedIn (entryPaths axes tests conditions paths end) first end numbers codes parents items counts n ⌝ }
 {
     let mut n: usize = 0;
     let mut i = first;

@@ -2,8 +2,7 @@
 ghost use Rattle.compiled_paths.specs.Paths.{Shaped, lentPaths, pathsIn, entryPaths};
 ghost use Rattle.schema_spec.specs.Schemas.{Schema};
 ghost use Rattle.schema_spec.specs.Types.{typesOf};
-ghost use Rattle.selection.specs.answers.Answers.{AnsweredCells};
-ghost use Rattle.selection.specs.lent.Lent.{SomeSchema, lentSelected};
+ghost use Rattle.selection.specs.lent.Lent.{SomeSchema, SelectsLent};
 ghost use Rattle.table_laws.specs.passes.Codes.{HeldWords};
 ghost use Rattle.tables.specs.Handed.{entryTable};
 use crate::answers::Selected;
@@ -35,7 +34,7 @@ pub fn select_lent<'a>(
     counts: &mut [u32],
 ) -> Selected
     requires { ⌜ Shaped (lentPaths (now axes) (now tests) (now conditions) (now paths) total) × SomeSchema (now words) ⌝ }
-    ensures { λ r. ⌜ ((s : Schema) → HeldWords (typesOf s) (now (words .entry)) → AnsweredCells (lentSelected s (pathsIn (entryPaths axes tests conditions paths total)) place (entryTable numbers codes parents starts lengths count) (now (lent .entry))) r items counts) ⌝ }
+    ensures { λ r. ⌜ ((s : Schema) → HeldWords (typesOf s) (now (words .entry)) → SelectsLent s (pathsIn (entryPaths axes tests conditions paths total)) place (entryTable numbers codes parents starts lengths count) lent items counts r) ⌝ }
 {
     if total < place {
         return bad_record(items, counts);

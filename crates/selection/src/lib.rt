@@ -12,7 +12,8 @@ pub mod table;
 ghost use mathlib.Core.Path.{_≡_};
 ghost use lib.ListN.{length};
 ghost use Rattle.axis_passes.specs.steps.Tests.{namesIn};
-ghost use Rattle.compiled_paths.specs.Columns.{stepsIn, pathAt};
+ghost use Rattle.compiled_paths.specs.Columns.{pathAt};
+ghost use Rattle.compiled_paths.specs.Paths.{entrySteps};
 ghost use Rattle.selection_laws.specs.marks.Selection.{stepsMarks, pathMarks, rootMarks};
 ghost use Rattle.selection.specs.Steps.{StepsPass, RootStepsPass, PathPass};
 use axis_passes::mark_sets::any_marked;
@@ -39,7 +40,7 @@ fn steps_from<'a>(
     next: &mut [u8],
 )
     requires { ⌜ StepsPass (now parents) (now codes) (now conditions) first size (now marks) (now held) (now steps) (now next) ⌝ }
-    ensures { λ _. ⌜ now (marks .exit) ≡ stepsMarks (now (parents .entry)) (namesIn (now (codes .entry))) (stepsIn (now (axes .entry)) (now (tests .entry)) (now (conditions .entry)) size first) (now (marks .entry)) ⌝ }
+    ensures { λ _. ⌜ now (marks .exit) ≡ stepsMarks (now (parents .entry)) (namesIn (now (codes .entry))) (entrySteps axes tests conditions size first) (now (marks .entry)) ⌝ }
 {
     let end = first + size;
     let mut k = first;
@@ -78,7 +79,7 @@ fn steps_from_root<'a>(
     next: &mut [u8],
 )
     requires { ⌜ RootStepsPass (now parents) (now codes) (now conditions) first size (now marks) (now held) (now steps) (now next) ⌝ }
-    ensures { λ _. ⌜ now (marks .exit) ≡ stepsMarks (now (parents .entry)) (namesIn (now (codes .entry))) (stepsIn (now (axes .entry)) (now (tests .entry)) (now (conditions .entry)) size first) (rootMarks (length (now (parents .entry)))) ⌝ }
+    ensures { λ _. ⌜ now (marks .exit) ≡ stepsMarks (now (parents .entry)) (namesIn (now (codes .entry))) (entrySteps axes tests conditions size first) (rootMarks (length (now (parents .entry)))) ⌝ }
 {
     if size == 0 {
         mark_root(marks);

@@ -1,7 +1,7 @@
 // The numbers that one compiled path selects on a table in columns, in lent cells.
 ghost use Rattle.axis_passes.specs.steps.Tests.{namesIn};
 ghost use Rattle.cells.specs.lent.Appended.{Appended};
-ghost use Rattle.compiled_paths.specs.Columns.{pathAt};
+ghost use Rattle.compiled_paths.specs.Paths.{entryPath};
 ghost use Rattle.selection_laws.specs.marks.Selection.{selectColumns};
 ghost use Rattle.selection.specs.one_path.Paths.{OnePass};
 use crate::row_numbers::append;
@@ -29,7 +29,7 @@ pub fn select_one<'a>(
     next: &mut [u8],
 ) -> usize
     requires { ⌜ OnePass (now conditions) (now paths) i (now numbers) (now codes) (now parents) at (now marks) (now held) (now steps) (now next) ⌝ }
-    ensures { λ n. ⌜ Appended (now (items .entry)) at (selectColumns (now (parents .entry)) (namesIn (now (codes .entry))) (now (numbers .entry)) (pathAt (now (axes .entry)) (now (tests .entry)) (now (conditions .entry)) (now (paths .entry)) i)) n (now (items .exit)) ⌝ }
+    ensures { λ n. ⌜ Appended (now (items .entry)) at (selectColumns (now (parents .entry)) (namesIn (now (codes .entry))) (now (numbers .entry)) (entryPath axes tests conditions paths i)) n (now (items .exit)) ⌝ }
 {
     if parents.len() == 0 {
         return at;

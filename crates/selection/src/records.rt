@@ -1,13 +1,10 @@
 // Selecting on a table by a schema's and a bundle's record: refusal 1 of the records, the place and the table, 18 last.
-ghost use mathlib.Core.List.{[]};
 ghost use Rattle.compiled_schema.specs.records.Records.{recordWith};
 ghost use Rattle.library_spec.specs.Calls.{nodesSelected};
-ghost use Rattle.path_spec.specs.Reading.{readBundle};
 ghost use Rattle.schema_spec.specs.Records.{schemaIn};
 ghost use Rattle.selection.specs.answers.Answers.{AnsweredCells};
-ghost use Rattle.selection.specs.lent.Lent.{lentSelected};
+ghost use Rattle.selection.specs.lent.Lent.{SelectsLent, entryBundle};
 ghost use Rattle.tables.specs.Handed.{entryTable};
-ghost use Rattle.text_spec.specs.Refusals.{resultOr};
 use crate::answers::Selected;
 use crate::answers::bad_record;
 use crate::lent::select_lent;
@@ -35,7 +32,7 @@ fn select_texts(
     items: &mut [u16],
     counts: &mut [u32],
 ) -> Selected
-    ensures { λ r. ⌜ AnsweredCells (lentSelected (schemaIn (now (schema .entry))) (resultOr [] (readBundle (schemaIn (now (schema .entry))) (now (text .entry)))) place (entryTable numbers codes parents starts lengths count) (now (lent .entry))) r items counts ⌝ }
+    ensures { λ r. ⌜ SelectsLent (schemaIn (now (schema .entry))) (entryBundle schema text) place (entryTable numbers codes parents starts lengths count) lent items counts r ⌝ }
 {
     let compiled = compiled_schema::compile(schema);
     let elements = compiled.count;

@@ -1,12 +1,7 @@
 // Selecting on a table of row structs that are laid in columns, under the records of a schema and a bundle.
-ghost use mathlib.Core.List.{List};
-ghost use mathlib.Core.Path.{_≡_};
-ghost use lib.ListN.{length};
 ghost use Rattle.compiled_schema.specs.records.Records.{recordWith};
-ghost use Rattle.library_spec.specs.Calls.{nodesSelectedRows};
-ghost use Rattle.row_structs.specs.Structs.{Laid, columnsIn};
-ghost use Rattle.selection.specs.answers.Answers.{AnsweredCells};
-ghost use Rattle.table_spec.specs.Rows.{Cells};
+ghost use Rattle.row_structs.specs.Structs.{columnsIn};
+ghost use Rattle.struct_selecting.specs.columns.Selecting.{SelectsRows};
 use bundle::reader::Bundle;
 use row_structs::RowColumns;
 use schema::Schema;
@@ -26,7 +21,7 @@ pub fn select_columns(
     items: &mut [u16],
     counts: &mut [u32],
 ) -> Selected
-    ensures { λ r. ⌜ ((rows : List Cells) → length rows ≡ count → Laid rows (columnsIn columns) → AnsweredCells (nodesSelectedRows (recordWith (schema .bytes) (schema .len)) (recordWith (bundle .bytes) (bundle .len)) place rows (now (lent .entry))) r items counts) ⌝ }
+    ensures { λ r. ⌜ SelectsRows (recordWith (schema .bytes) (schema .len)) (recordWith (bundle .bytes) (bundle .len)) place (columnsIn columns) count lent items counts r ⌝ }
 {
     if are_too_many(count) {
         return bad_record(items, counts);

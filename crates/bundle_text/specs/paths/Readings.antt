@@ -5,10 +5,12 @@ use mathlib.Core.Path.{_≡_}
 use Prim.Native.Nat.{ℕ, suc, _+_}
 use lib.ListN.{length}
 use lib.Seq.{sets}
-use Rattle.bundle_text.specs.declared.paths.BundleOutcome.{BundleOutcome}
+use denote.Ref.{now}
 use Rattle.bundle_text.specs.declared.paths.BundleOutcome.the-variants.{Past, Fail}
+use Rattle.bundle_text.specs.declared.paths.BundleOutcome.{BundleOutcome}
 use Rattle.bundle_text.specs.declared.paths.Bundled.{Bundled}
 use Rattle.bundle_text.specs.written_steps.Readings.{Written, stepNoted, overCondition, Steps}
+use Rattle.cells.specs.lent.Ends.{Slice}
 use Rattle.path_spec.specs.Grammar.{PathRead, pathRead}
 use Rattle.path_spec.specs.Machine.{parse}
 use Rattle.path_spec.specs.Reading.{passesLimit}
@@ -52,3 +54,9 @@ BundleAs s outers outers′ conditions conditions′ paths paths′ cells cells�
 
 pub record ReadsBundle (s outers outers′ conditions conditions′ paths paths′ cells cells′ ways ways′ : List ℕ) (r : BundleOutcome) : Type 0 where
   pub says : BundleAs s outers outers′ conditions conditions′ paths paths′ cells cells′ ways ways′ r
+
+-- the same of lent slices
+abbrev pub ReadsBundleIn : Slice → Slice → Slice → Slice → Slice → Slice → BundleOutcome → Type 0
+ReadsBundleIn s outers conditions paths cells ways r =
+    ReadsBundle (now (s .entry)) (now (outers .entry)) (now (outers .exit)) (now (conditions .entry)) (now (conditions .exit)) (now (paths .entry)) (now (paths .exit))
+    (now (cells .entry)) (now (cells .exit)) (now (ways .entry)) (now (ways .exit)) r

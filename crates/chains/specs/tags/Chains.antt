@@ -8,6 +8,8 @@ use borrow.Author.Tests.{lt-ltb, le-ltb, ltb-true}
 use lib.Dec.{ltb}
 use lib.ListN.{length, getD, drop, length-append, length-take, length-drop}
 use lib.Seq.{sets, length-sets}
+use denote.Ref.{now}
+use Rattle.cells.specs.lent.Ends.{Slice}
 use Rattle.cells.specs.row_sets.Ancestors.{ancestorsOf, root-ancestors, later-ancestors}
 use Rattle.table_laws.specs.Parents.{ParentsBefore}
 use Rattle.text_laws.specs.Cells.{sets-append}
@@ -18,6 +20,9 @@ use Rattle.text_spec.specs.Lists.{bytes, part}
 -- "/" and the tag of the name with a code
 unfoldable pub linkAt : List ℕ → List ℕ → List ℕ → ℕ → List ℕ
 linkAt text starts sizes c = bytes "/" ++ cond (ltb c maxDeclarations) (part (getD starts c 0) (getD sizes c 0) text) (bytes "text()")
+
+abbrev pub entryLink : Slice → Slice → Slice → ℕ → List ℕ
+entryLink text starts sizes c = linkAt (now (text .entry)) (now (starts .entry)) (now (sizes .entry)) c
 
 unfoldable pub linkSize : List ℕ → ℕ → ℕ
 linkSize sizes c = cond (ltb c maxDeclarations) (getD sizes c 0 + 1) 7
@@ -34,6 +39,9 @@ summed f (r ∷ rs) = summed f rs + f r
 -- the row and those above it, from the root down
 unfoldable pub chainAt : List ℕ → List ℕ → List ℕ → List ℕ → List ℕ → ℕ → List ℕ
 chainAt text starts sizes codes ps r = linked (λ q. linkAt text starts sizes (getD codes q 0)) (r ∷ ancestorsOf ps r)
+
+abbrev pub entryChain : Slice → Slice → Slice → Slice → Slice → ℕ → List ℕ
+entryChain text starts sizes codes parents row = chainAt (now (text .entry)) (now (starts .entry)) (now (sizes .entry)) (now (codes .entry)) (now (parents .entry)) row
 
 unfoldable pub chainSize : List ℕ → List ℕ → List ℕ → ℕ → ℕ
 chainSize sizes codes ps r = summed (λ q. linkSize sizes (getD codes q 0)) (r ∷ ancestorsOf ps r)

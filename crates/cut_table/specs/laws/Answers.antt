@@ -10,7 +10,7 @@ use lib.ListN.{length, getD, take, length-map}
 use lib.Seq.{length-take-le}
 use Rattle.cells.specs.columns.ColumnLaws.{equal-columns}
 use Rattle.cells.specs.declared.verdicts.Verdict.{Verdict}
-use Rattle.cells.specs.lent.Ends.{Slice, entrySizes, exitColumns}
+use Rattle.cells.specs.lent.Ends.{Slice, entrySizes, exitColumns, entryColumns}
 use Rattle.cells.specs.row_sets.Columns.{picked}
 use Rattle.cells.specs.verdicts.Verdicts.{refusedBy, answeredOf, verdict}
 use Rattle.extract_spec.specs.Cut.{cut, cutToWord}
@@ -68,6 +68,11 @@ pub record CutFirst (f : ℕ → Bool) (c o : Columns) (r : Verdict) (x : Column
   pub count : ℕ
   pub answer : r ≡ cond (ltb (length (o .numbers)) count) (refusedBy 18 0) (answeredOf count)
   pub cells : CutAs f c o count x
+
+-- the same of lent slices
+abbrev pub CutFirstIn : (ℕ → Bool) → Columns → Slice → Slice → Slice → Slice → Slice → Verdict → Type 0
+CutFirstIn f c numbers names parents starts lengths r =
+    CutFirst f c (entryColumns numbers names parents starts lengths) r (exitColumns numbers names parents starts lengths)
 
 -- ---- the columns of a table that is handed in
 module _ (s : Schema) (t : LentTable) (rows : List Row) (h : Holds s t rows) where

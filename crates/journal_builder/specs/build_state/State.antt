@@ -5,8 +5,10 @@ use mathlib.Core.Path.{_≡_}
 use Prim.Native.Nat.{ℕ, suc, _+_, _%_, _≤_, _<_}
 use lib.Dec.{eqb, leb, ltb}
 use lib.ListN.{length}
+use denote.Ref.{now}
 use Rattle.cells.specs.columns.Columns.{cells}
 use Rattle.cells.specs.declared.columns.RowCells.{RowCells}
+use Rattle.cells.specs.lent.Ends.{Slice}
 use Rattle.journal_builder.specs.declared.build_state.Build.{Build}
 use Rattle.journal_builder.specs.declared.build_state.BuildStep.{BuildStep}
 use Rattle.journal_builder.specs.open_levels.Levels.{AllLevels, Opened}
@@ -63,6 +65,17 @@ pub record Leaves (s : Schema) (levels : List ℕ) (m : Build) (b : Building) (x
 pub record SafeStep (levels : List ℕ) (m : Build) (x : BuildStep) : Type 0 where
   pub safe : Safe levels (x .build)
   pub counted : x .build .count ≤ m .count + 1
+
+-- a step by the levels as they were lent, that leaves what the definition builds of what is built then
+abbrev pub LeavesBy : (Schema → Building → Building) → Slice → Build → BuildStep → Type 0
+LeavesBy given levels m r =
+    (s : Schema) (b : Building) → length s ≤ maxDeclarations → Built s (now (levels .entry)) m b → Leaves s (now (levels .exit)) m b r (given s b)
+
+-- the same while nesting is unbroken
+abbrev pub LeavesUnbroken : (Schema → Building → Building) → Slice → Build → BuildStep → Type 0
+LeavesUnbroken given levels m r =
+    (s : Schema) (b : Building) → length s ≤ maxDeclarations → isNone (b .broken) ≡ true → Built s (now (levels .entry)) m b
+    → Leaves s (now (levels .exit)) m b r (given s b)
 
 -- ---- what the transitions give
 abbrev pub isSecondRoot : Build → Bool

@@ -8,6 +8,8 @@ use lib.Dec.{eqb}
 use lib.ListN.{length}
 use Rattle.cells.specs.columns.Columns.{EqualColumns}
 use Rattle.journal_builder.specs.build_state.State.{build, Safe, Built}
+use Rattle.journal_builder.specs.fillings.Fillings.{Sized}
+use Rattle.journal_lexer.specs.kinds.Kinds.{KindTable}
 use Rattle.journal_lexer.specs.loop_laws.Advance.{Valid}
 use Rattle.journal_lexer.specs.state.Places.{noPlace, foreignAt}
 use Rattle.journal_lexer.specs.state.Relation.{MeansMode, initially}
@@ -16,6 +18,7 @@ use Rattle.journal_spec.specs.Reading.{Machine}
 use Rattle.schema_spec.specs.Schemas.{Schema}
 use Rattle.table_spec.specs.Columns.{Columns, Sizes, columnsOf}
 use Rattle.text.specs.fault_keys.Keys.{noKey, keyAt, leastKey, Placed}
+use Rattle.text_spec.specs.Limits.{maxDeclarations}
 use Rattle.text_spec.specs.Refusals.{Refusal}
 
 abbrev pub started : ReaderState
@@ -38,6 +41,11 @@ pub record Usable (levels places : List ℕ) (c : Columns) (x : ReaderState) : T
   pub safe : Safe levels (x .build)
   pub counted : x .build .count ≤ x .lex .place
   pub equal : EqualColumns c
+
+-- what the next byte of a text asks
+abbrev pub ByteAhead : List ℕ → List ℕ → List ℕ → List ℕ → List ℕ → ℕ → Columns → ReaderState → Type 0
+ByteAhead text table levels places sizes count c x =
+    Usable levels places c x × KindTable table × (length text < noPlace) × (x .lex .place < length text) × Sized sizes × (count ≤ maxDeclarations)
 
 -- The state, the levels, the places and the columns are those of the machine. Columns are exact unless some refusal applies.
 pub record ReadAs (s : Schema) (z : Sizes) (levels places : List ℕ) (c : Columns) (x : ReaderState) (m : Machine) : Type 0 where

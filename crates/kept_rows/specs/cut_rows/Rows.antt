@@ -53,6 +53,11 @@ rowAdded pos c r x =
     cond (eqb (getD pos r 0) 0) x
     (stored x (getD pos r 0 - 1) (getD (c .numbers) r 0) (getD (c .names) r 0) (getD pos (getD (c .parents) r 0) 0 - 1) (getD (c .starts) r 0) (getD (c .lengths) r 0))
 
+-- the same of lent slices
+abbrev pub RowAddedIn : Slice → Columns → ℕ → Slice → Slice → Slice → Slice → Slice → Type 0
+RowAddedIn positions c r numbers names parents starts lengths =
+    exitColumns numbers names parents starts lengths ≡ rowAdded (now (positions .entry)) c r (entryColumns numbers names parents starts lengths)
+
 -- ---- what the functions ask
 -- columns of n cells each
 pub record OfLength (x : Columns) (n : ℕ) : Type 0 where

@@ -3,6 +3,8 @@ use mathlib.Core.List.{List}
 use mathlib.Core.Path.{_≡_}
 use Prim.Native.Nat.{ℕ, _+_, _≤_, _<_}
 use lib.ListN.{length, getD}
+use denote.Ref.{now}
+use Rattle.cells.specs.lent.Ends.{Slice}
 use Rattle.compiled_paths.specs.Columns.{axisOf, axisNumber, testOf, startAt, sizeAt, conditionIn}
 use Rattle.path_spec.specs.Paths.{Step, Condition}
 
@@ -20,3 +22,7 @@ module _ (axes tests conditions : List ℕ) where
     pub counted : k + n < length conditions
     pub tests-size : length tests ≡ length axes
     pub conditions-inside : (j : ℕ) → getD conditions j 0 ≤ length axes
+
+-- a step of lent columns, as it is analysed
+abbrev pub entryAnalysed : Slice → Slice → Slice → ℕ → ℕ → Step ℕ (Condition ℕ)
+entryAnalysed axes tests conditions i k = analysedAt (now (axes .entry)) (now (tests .entry)) (now (conditions .entry)) i k

@@ -4,10 +4,12 @@ use mathlib.Core.Path.{_≡_, refl, sym, ap, subst, _∙_}
 use Prim.Native.Nat.{ℕ, zero, suc, _+_, _*_, _-_, _<_, _≤_}
 use native.Mathlib.Omega.{arith}
 use lib.ListN.{length}
+use denote.Ref.{now}
 use Rattle.axis_passes.specs.steps.Tests.{namesIn}
 use Rattle.axis_passes.specs.written_steps.Steps.{Scratch}
 use Rattle.cells.specs.lent.Appended.{written, Appended, appended-appended, appended-cleared, appended-one}
 use Rattle.cells.specs.lent.Cells.{Cleared}
+use Rattle.cells.specs.lent.Ends.{Slice}
 use Rattle.compiled_paths.specs.Columns.{bundleIn}
 use Rattle.compiled_paths.specs.Paths.{Shaped}
 use Rattle.compiled_paths.specs.declared.CompiledPaths.{CompiledPaths}
@@ -41,6 +43,11 @@ pub record JoinedAs (c : CompiledPaths) (first end : ℕ) (numbers codes ps item
   pub items-are : items ≡ padded (length items₀) (itemsOf c numbers codes ps (end - first) first)
   pub counts-are : counts ≡ padded (length counts₀) (countsOf c numbers codes ps (end - first) first)
   pub total : n ≡ length (itemsOf c numbers codes ps (end - first) first)
+
+-- the same of lent slices
+abbrev pub JoinedIn : CompiledPaths → ℕ → ℕ → Slice → Slice → Slice → Slice → Slice → ℕ → Type 0
+JoinedIn c first end numbers codes parents items counts n =
+    JoinedAs c first end (now (numbers .entry)) (now (codes .entry)) (now (parents .entry)) (now (items .entry)) (now (counts .entry)) n (now (items .exit)) (now (counts .exit))
 
 -- ---- one path more
 paths-more : (c : CompiledPaths) (n i : ℕ) → pathsFrom c (suc n) i ≡ pathsFrom c n i ++ (pathIn c (i + n) ∷ [])

@@ -1,6 +1,6 @@
 -- Selecting on a table that is handed in, as the library's outcome.
 use mathlib.Core.Bool.{Bool, true, false, cond, not}
-use mathlib.Core.List.{List}
+use mathlib.Core.List.{List, []}
 use mathlib.Core.Option.{Option, none, some}
 use mathlib.Core.Path.{_≡_, refl, sym, ap, subst, _∙_}
 use Prim.Native.Nat.{ℕ, _<_, _≤_}
@@ -8,15 +8,19 @@ use native.Mathlib.Omega.{arith}
 use borrow.Author.Tests.{le-leb, lt-leb}
 use lib.Dec.{T, leb}
 use lib.ListN.{length, take}
+use denote.Ref.{now}
+use Rattle.cells.specs.lent.Ends.{Slice}
 use Rattle.compiled_paths.specs.Paths.{pathsIn}
 use Rattle.compiled_paths.specs.declared.CompiledPaths.{CompiledPaths}
 use Rattle.handed_tables.specs.columns.Rows.{lent-cells, lent-coded, lent-numbers, lent-codes, lent-parents, lent-columns}
 use Rattle.library_spec.specs.Records.{LentTable, rowsLent, keptIf, tableBeside}
 use Rattle.library_spec.specs.Selections.{Selections}
 use Rattle.path_spec.specs.Paths.{LocationPath}
+use Rattle.path_spec.specs.Reading.{readBundle}
+use Rattle.schema_spec.specs.Records.{schemaIn}
 use Rattle.schema_spec.specs.Schemas.{Schema}
 use Rattle.schema_spec.specs.Types.{typesOf}
-use Rattle.selection.specs.answers.Answers.{AnsweredSelections, RefusedBy, refused-as}
+use Rattle.selection.specs.answers.Answers.{AnsweredSelections, RefusedBy, refused-as, AnsweredCells}
 use Rattle.selection.specs.declared.answers.Selected.{Selected}
 use Rattle.selection.specs.table.Tables.{RowsIn, rowsSelected, paths-count}
 use Rattle.table_laws.specs.Columns.{TestedColumns}
@@ -28,13 +32,21 @@ use Rattle.tables.specs.rows.Lent.{Lent}
 use Rattle.text_laws.specs.Tests.{never, passed, and-cases}
 use Rattle.text_spec.specs.Calls.{tested, handed}
 use Rattle.text_spec.specs.Lists.{isNone, allOf}
-use Rattle.text_spec.specs.Refusals.{Outcome, at, badRecord}
+use Rattle.text_spec.specs.Refusals.{Outcome, at, badRecord, resultOr}
 
 -- ---- definitions
 -- refusal 1 of the place and of the table beside its text, and what the paths asked for select
 abbrev pub lentSelected : Schema → List (LocationPath ℕ) → ℕ → LentTable → List ℕ → ℕ → ℕ → Outcome Selections
 lentSelected s ps place table lent items counts =
     tested (leb place (length ps)) (handed (tableBeside s lent table) (λ rows. rowsSelected lent rows place ps items counts))
+
+-- a call that selects so on a lent table beside a lent text
+abbrev pub SelectsLent : Schema → List (LocationPath ℕ) → ℕ → LentTable → Slice → Slice → Slice → Selected → Type 0
+SelectsLent s ps place table lent items counts r = AnsweredCells (lentSelected s ps place table (now (lent .entry))) r items counts
+
+-- the paths of a bundle's text under a schema's, both lent
+abbrev pub entryBundle : Slice → Slice → List (LocationPath ℕ)
+entryBundle schema text = resultOr [] (readBundle (schemaIn (now (schema .entry))) (now (text .entry)))
 
 -- the words are those of a schema
 pub record SomeSchema (words : List ℕ) : Type 0 where

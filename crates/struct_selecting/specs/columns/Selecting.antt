@@ -6,6 +6,8 @@ use mathlib.Core.Path.{_≡_, refl, sym, ap, subst, _∙_}
 use Prim.Native.Nat.{ℕ, _<_, _≤_}
 use lib.Dec.{leb}
 use lib.ListN.{length}
+use denote.Ref.{now}
+use Rattle.cells.specs.lent.Ends.{Slice}
 use Rattle.handed_tables.specs.structs.Tables.{same-beside, none-beside}
 use Rattle.library_spec.specs.Calls.{nodesSelected, nodesSelectedRows, tableOfCells}
 use Rattle.library_spec.specs.Records.{LentTable, schemaHeld, bundleHeld, tableBeside}
@@ -14,7 +16,7 @@ use Rattle.path_spec.specs.Paths.{LocationPath}
 use Rattle.row_structs.specs.Structs.{Laid}
 use Rattle.row_structs.specs.laws.Answers.{cellCount}
 use Rattle.schema_spec.specs.Schemas.{Schema}
-use Rattle.selection.specs.answers.Answers.{AnsweredSelections, RefusedBy, refused-as}
+use Rattle.selection.specs.answers.Answers.{AnsweredSelections, RefusedBy, refused-as, AnsweredCells}
 use Rattle.selection.specs.declared.answers.Selected.{Selected}
 use Rattle.table_spec.specs.Columns.{Columns, allOfSize, sizesOf}
 use Rattle.table_spec.specs.Rows.{Row, Cells}
@@ -23,6 +25,11 @@ use Rattle.text_spec.specs.Cells.{tooSmall}
 use Rattle.text_spec.specs.Limits.{maxNodes}
 use Rattle.text_spec.specs.Records.{TextRecord}
 use Rattle.text_spec.specs.Refusals.{Outcome, refused, at, badRecord}
+
+-- a call on so many row structs, as many of them laid in columns as a table can have
+abbrev pub SelectsRows : TextRecord → TextRecord → ℕ → Columns → ℕ → Slice → Slice → Slice → Selected → Type 0
+SelectsRows schema bundle place columns count lent items counts r =
+    (rows : List Cells) → length rows ≡ count → Laid rows columns → AnsweredCells (nodesSelectedRows schema bundle place rows (now (lent .entry))) r items counts
 
 module _ (schema bundle : TextRecord) (place : ℕ) (lent : List ℕ) (items counts : ℕ) where
   -- the outcome by the rows that the table holds
