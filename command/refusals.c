@@ -101,7 +101,7 @@ static void say_bundle(struct message *m, uint64_t number) {
     case LOZHYMET_PATH_SYNTAX:
         say(m, at_end ? "the last path stops short" : "the path is misspelt here",
             "A step is axis::test, as child::tile or parent::node(), then at most one condition, as [child::focus or child::image]; "
-            "steps are joined by /, and each path ends with a line feed.");
+            "steps are joined by /, and each path ends with a line feed. lozhymet(1) lists the axes.");
         break;
     case LOZHYMET_PATH_LIMIT:
         say(m, "this path passes a limit", "A bundle has at most 8 paths; a path has at most 512 bytes and 16 steps, a condition 4 alternatives of 4 steps.");

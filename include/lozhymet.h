@@ -1,7 +1,9 @@
 /* lozhymet.h: making an extract of a scan journal, and selecting from an extract, for a host in C on x86-64 Linux.
 
-   A journal is an XML text that is valid under a schema (a DTD). A bundle is a text of 1 to 8 paths, each ended by a line feed. An extract holds the
-   rows of a journal that the paths of a bundle need, and each path selects the same nodes on the extract as on the whole journal.
+   A journal is an XML text that is valid under a schema (a DTD). A bundle is a text of 1 to 8 paths, each ended by a line feed. A path is steps joined by
+   `/`, each axis::test, then at most one condition in brackets, as descendant::skipped/following-sibling::tile[child::image]; the axes are those of
+   XPath 1.0 but attribute and namespace (lozhymet(1) has them). An extract holds the rows of a journal that the paths of a bundle need, and each path
+   selects the same nodes on the extract as on the whole journal.
 
    Both functions are proved, in Rattle, to do what crates/library_spec/specs/Hosts.antt defines, for all arguments that meet "What a caller owes":
    - For each input there is one result and one content of the lent memory.
@@ -37,7 +39,7 @@ extern "C" {
 #define LOZHYMET_MAX_ROWS 65535 /* of a journal or an extract */
 
 /* Bytes of stack to have free for a call: a bound to which tests/host/run holds what it measures on a journal of 65,521 nodes. Measured there:
-   making 183,592 bytes, selecting 369,096. */
+   making 183,592 bytes, selecting 369,064. */
 #define LOZHYMET_STACK_BYTES 524288
 
 /* ---- how many cells to lend, so that 18 cannot come

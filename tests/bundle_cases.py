@@ -3,7 +3,7 @@
 
 First the bundle cases of tests/vectors: each text after its length in two bytes, a schema's where 128 is added to the first byte, and the
 outcome that the case itself gives. Then each limit on both sides, undeclared names, and bundles made by a generator that always gives the
-same. What is compiled of an accepted one is worked out here from document 01 alone, by regular expressions: for each path its steps, for each
+same. What is compiled of an accepted one is worked out here from documents 01 and 02 alone, by regular expressions: for each path its steps, for each
 step the steps in its brackets, and of each step the axis, with a mark at the last of an alternative, and the test."""
 import itertools
 import os
@@ -15,9 +15,11 @@ from vector_cases import cases
 
 HERE = os.path.dirname(os.path.abspath(__file__))
 CASES = os.path.join(HERE, "cases", "bundle_cases")
-AXES = ["self", "child", "descendant", "descendant-or-self", "parent", "ancestor", "ancestor-or-self"]
+# each at the place that is its number
+AXES = ["self", "child", "descendant", "descendant-or-self", "parent", "ancestor", "ancestor-or-self", "following", "following-sibling", "preceding",
+        "preceding-sibling"]
 # the cells before those of steps in brackets, and what is added to the axis of an alternative's last step
-WRITTEN, LAST = 128, 8
+WRITTEN, LAST = 128, 16
 TESTS = {"node()": 254, "text()": 255}
 SCHEMA = "<!ELEMENT a (b|c|%s)*><!ELEMENT b (#PCDATA)><!ELEMENT c EMPTY><!ELEMENT %s EMPTY>" % ("n" * 31, "n" * 31)
 
@@ -62,7 +64,8 @@ def limits():
     for count in (8, 9):
         yield first * count, None if count == 8 else refused(9, 8 * len(first))
     for count in (16, 17):
-        yield first + "/".join(["child::b"] * count) + "\n", None if count == 16 else refused(9, len(first))
+        for written in ("child::b", "following::b", "preceding-sibling::b"):
+            yield first + "/".join([written] * count) + "\n", None if count == 16 else refused(9, len(first))
     for count in (4, 5):
         some = ["child::b"] * count
         for joined in (" or ".join(some), "/".join(some)):
@@ -82,7 +85,14 @@ def limits():
     yield first + "self::a\n\tself::a\n", refused(8, 2 * len(first))
     yield first + "self::a[child::b\tor child::c]\n", refused(8, len(first) + len("self::a[child::b"))
     yield first + "self::a[child::b or\tchild::c]\n", refused(8, len(first) + len("self::a[child::b or"))
-    yield first + "chil::a\n", refused(8, len(first) + 4)
+    for text, place in (("chil::a", 4), ("following-or-self::a", 10), ("descendant-sibling::a", 11), ("following-siblings::a", 17)):
+        yield first + text + "\n", refused(8, len(first) + place)
+    # at each byte of an axis, the end of the text and a byte that no axis has there
+    for axis in AXES:
+        for size in range(1, len(axis) + 2):
+            part = (axis + "::")[:size]
+            yield first + part, refused(8, len(first) + size)
+            yield first + part + "#", refused(8, len(first) + size)
 
 
 def path_of(size):
@@ -123,7 +133,7 @@ def text_case(text, schema):
 
 def main():
     read, written, last = b"", "", None
-    for case in cases(85, "bundle"):
+    for case in cases(219, "bundle"):
         schema, bundle = case["texts"]
         if schema != last:
             read += text_case(schema, True)

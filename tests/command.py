@@ -43,6 +43,7 @@ REFUSED = [
     (6, "schema", "<!ELEMENT a EMPTY>\n<!ELEMENT a EMPTY>", "2:11", "element a is declared a second time", "<!ELEMENT a EMPTY>", 10),
     (7, "schema", "<!ELEMENT a (b)>", "1:14", "element b is not declared", "<!ELEMENT a (b)>", 13),
     (8, "paths", "self::scan\nchilds::plate\n", "2:6", "the path is misspelt here", "childs::plate", 5),
+    (8, "paths", "child::plate/following-siblings::plate\n", "1:31", "the path is misspelt here", "child::plate/following-siblings::plate", 30),
     (8, "paths", "self::scan", "1:11", "the last path stops short", "self::scan", 10),
     (9, "paths", "self::scan\n" + "/".join(["self::scan"] * 17) + "\n", "2:1", "this path passes a limit",
      ("/".join(["self::scan"] * 17))[:72] + "...", 0),
@@ -147,6 +148,9 @@ def try_success(runs):
     runs.expect("to standard output", runs.run(["extract", "schema", "paths", "journal", "-q", "-o", "-"]), (0, runs.get("tray").decode("latin-1"), ""))
     status, out, err = runs.run(["select", "schema", "paths", "tray", "-p", "3"])
     runs.expect("no such path", (status, out, err.split("\n")[0]), (1, "", "paths: refused 1: there is no path 3 here"))
+    runs.put("siblings", "descendant::well/following-sibling::tile\ndescendant::tile/preceding::focus\n")
+    runs.expect("extract by siblings", runs.run(["extract", "schema", "siblings", "journal", "-q", "-o", "tray.siblings"]), (0, "", ""))
+    runs.expect("select by siblings", runs.run(["select", "schema", "siblings", "tray.siblings", "-q"]), (0, "1 6\n2 4\n", ""))
     status, out, err = runs.run(["--help"])
     runs.expect("help", (status, out[:6], "Exit status: 0 done, 1 a text is refused" in out, err), (0, "usage:", True, ""))
 
@@ -205,7 +209,7 @@ def try_example(prefix, folder):
     subprocess.run(["gcc", "-std=c11", "-pedantic", "-Wall", "-Wextra", "-Werror", "-o", program, source, *flags], check=True)
     files = [os.path.join(TRAY, name) for name in ("schema.dtd", "paths.txt", "journal.xml")]
     done = subprocess.run([program, *files, os.path.join(folder, "sent")], stdout=subprocess.PIPE, text=True, check=True)
-    wanted = "path 1: 11 28 61\npath 2: 11 61\npath 3: 5\npath 4: 8 58\npath 5: 13 30 63\npath 6: 15 32 65\n"
+    wanted = "path 1: 11 28 66\npath 2: 11 66\npath 3: 5\npath 4: 8 63\npath 5: 13 30 68\npath 6: 15 32 70\npath 7: 43\n"
     if done.stdout != wanted:
         sys.exit("command: the example host prints\n%s" % done.stdout)
     if subprocess.run([program, files[0], files[1], "/dev/null", "x"], stderr=subprocess.DEVNULL).returncode != 1:

@@ -88,6 +88,10 @@ abbrev selections : List ℕ → List ℕ → List ℕ → Outcome (List (List �
 selections s b j =
     andThen (readSchema s) (λ e. andThen (readBundle e b) (λ ps. andThen (readJournal JOURNAL_LIMIT e j) (λ rows. accepted (map (selectRows j rows) ps))))
 
+abbrev selectionsFrom : List ℕ → List ℕ → List ℕ → Outcome (List (List ℕ))
+selectionsFrom s b x =
+    andThen (readSchema s) (λ e. andThen (readBundle e b) (λ ps. andThen (readExtract (typesOf e) x) (λ rows. accepted (map (selectRows x rows) ps))))
+
 abbrev extracts : List ℕ → List ℕ → List ℕ → Outcome (List (List ℕ))
 extracts s b j =
     andThen (readSchema s) (λ e.
@@ -142,7 +146,7 @@ def expected(case):
         return lists(decimals(filter(None, lines[1:])))
     if does == "needed":
         return lists([[int(line, 16) for line in lines if line]])
-    if does == "select":
+    if does in ("select", "select-extract"):
         return lists(decimals(lines[:-1]))
     head, rest = gives.split("\n", 1)
     return lists([[int(head.split()[1])], [ord(ch) for ch in rest]])
@@ -164,6 +168,8 @@ def asked(case):
         return "seen same (words %s %s)" % (t[0], t[1])
     if does == "select":
         return "seen same (selections %s %s %s)" % tuple(t)
+    if does == "select-extract":
+        return "seen same (selectionsFrom %s %s %s)" % tuple(t)
     if does == "extract":
         return "seen same (extracts %s %s %s)" % tuple(t)
     if does == "schema-record":
@@ -223,7 +229,7 @@ def evaluate(cases):
 
 
 def main():
-    cases = vector_cases(930)
+    cases = vector_cases(1279)
     words = sys.argv[1:]
     cases = [c for c in cases if not words or any(word in c["case"] for word in words)]
     chosen = [c for c in cases if c["case"] not in NOT_EVALUATED]

@@ -37,7 +37,7 @@ def rows(*cells):
 
 def vectors():
     """A schema, the pieces of a journal, the limit of its length, the cells lent and what is written."""
-    for case in vector_cases(178, "journal"):
+    for case in vector_cases(198, "journal"):
         schema, journal = case["texts"]
         limit, lent = (case["limits"] + [LONGEST, LENT][len(case["limits"]):])[:2]
         yield schema, [once(journal)], limit, lent, case["gives"]

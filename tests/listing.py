@@ -23,6 +23,8 @@ CASES = [
     ("document 01's example", (S, P, J), "selected 2 kept 5 of 7\n2 2 /scan/plate/well\n6 1 /scan/plate/tile\n"),
     ("an empty selection", (S, "self::plate\n", J), "selected 0 kept 0 of 7\n"),
     ("a text", (S, "descendant::text()\n", J), "selected 1 kept 7 of 7\n5 1 /scan/plate/well/tile/focus/text()\n"),
+    ("siblings", (S, "child::plate/child::tile/preceding-sibling::well\ndescendant::focus/following::tile\n", J),
+     "selected 2 kept 6 of 7\n2 1 /scan/plate/well\n6 2 /scan/plate/tile\n"),
     ("no schema", (None, P, J), "refused 2 at 0\n"),
     ("no paths", (S, None, J), "refused 2 at 0\n"),
     ("no journal", (S, P, None), "refused 2 at 0\n"),
@@ -40,6 +42,8 @@ CASES = [
     ("6", ("<!ELEMENT a EMPTY><!ELEMENT a EMPTY>", P, J), "refused 6 at 28\n"),
     ("7", ("<!ELEMENT a (b)>", P, J), "refused 7 at 13\n"),
     ("8", (S, "childs::plate\n", J), "refused 8 at 5\n"),
+    ("8, in a sibling axis", (S, "child::plate/preceding-siblin::plate\n", J), "refused 8 at 29\n"),
+    ("8, after the name of an axis", (S, P + "preceding-::plate\n", J), "refused 8 at %d\n" % (len(P) + 10)),
     ("9", (S, P + "self::scan\n" * 7, J), "refused 9 at %d\n" % (len(P) + 66)),
     ("10", (S, "child::cell\n", J), "refused 10 at 7\n"),
     ("11", (S, P, "<scan a='1'/>"), "refused 11 at 0\n"),
@@ -71,7 +75,7 @@ def printed(program, texts):
 
 def main():
     program = os.path.abspath(os.environ.get("LISTING", os.path.join(HERE, "..", "target", "bin", "listing")))
-    cases = CASES + [(case["case"], case["texts"], case["gives"]) for case in vector_cases(62, "listing")]
+    cases = CASES + [(case["case"], case["texts"], case["gives"]) for case in vector_cases(98, "listing")]
     wrong = 0
     for name, texts, gives in cases:
         got, status = printed(program, texts)

@@ -23,7 +23,7 @@ TRIED = 5
 
 def shown():
     """Accepted schemas, each once."""
-    for case in cases(480, "schema", "needed", "select", "extract"):
+    for case in cases(601, "schema", "needed", "select", "extract"):
         if not case["gives"].startswith("refused"):
             yield case["texts"][0]
     yield from made()
@@ -95,7 +95,7 @@ def tables(text):
 
 def main():
     read, written = b"", ""
-    for case in cases(75, "schema"):
+    for case in cases(77, "schema"):
         read += len(case["texts"][0]).to_bytes(2, "big") + case["texts"][0].encode("latin-1")
         written += case["gives"]
     for case in cases(2, "schema-record"):

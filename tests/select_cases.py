@@ -17,7 +17,10 @@ CASES = os.path.join(HERE, "cases", "select_cases")
 
 
 def vectors():
-    for case in cases(170, "select"):
+    for case in cases(212, "select"):
+        # the function takes records, and one of a text that is refused is none
+        if case["gives"].startswith("refused"):
+            continue
         paths = [[int(n) for n in path.split()] for path in case["gives"].splitlines()]
         texts = [text.encode("latin-1") for text in case["texts"]]
         assert len(paths) == texts[1].count(b"\n"), case["case"]

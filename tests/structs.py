@@ -44,6 +44,14 @@ PATHS = [
     ("descendant::text()", [5]),
     ("descendant-or-self::node()", [0, 1, 2, 3, 4, 5, 6]),
 ]
+SIBLINGS = [
+    ("descendant::well/following-sibling::node()", [6]),
+    ("descendant::tile/preceding-sibling::node()", [2]),
+    ("descendant::text()/following::node()", [6]),
+    ("child::plate/child::tile/preceding::node()", [2, 3, 4, 5]),
+    ("descendant::tile[following::tile]", [3]),
+    ("following-sibling::node()", []),
+]
 ALL = 2 ** 64 - 1
 
 
@@ -183,6 +191,13 @@ def renumbered():
     return g
 
 
+def siblings():
+    g = Group(S, SIBLINGS, J)
+    g.read(7)
+    g.select(7, 0, 8, 6)
+    return g
+
+
 def undeclared():
     g = Group(S, PATHS[:1], J.replace("<tile/>", "<cell/>"))
     g.read(9, 14, J.index("<tile/>"))
@@ -248,7 +263,7 @@ def tried(folder, groups):
 
 def main():
     crates = os.path.abspath(sys.argv[1]) if len(sys.argv) > 1 else os.path.join(ROOT, "crates")
-    small, many = [on_example(), renumbered(), undeclared()], [large()]
+    small, many = [on_example(), renumbered(), siblings(), undeclared()], [large()]
     with tempfile.TemporaryDirectory() as folder:
         os.makedirs(os.path.join(folder, "crates", PROGRAM, "src"))
         laid_out(folder, crates)

@@ -9,7 +9,8 @@
 #include <string.h>
 #include <time.h>
 
-enum { KINDS = 3, KEPT = 256, MOST = 1 << 15, GUARDS = 8 };
+/* GOOD is how many inputs it starts from, which stay */
+enum { KINDS = 3, GOOD = 5, KEPT = 256, MOST = 1 << 15, GUARDS = 8 };
 enum { SCHEMA, BUNDLE, JOURNAL };
 
 struct input {
@@ -57,8 +58,9 @@ static void check(int holds, const char *what, const struct input *i, struct tex
 
 static const char *const words[] = {
     "<!ELEMENT ", " EMPTY>", "(#PCDATA)", "(", ")", "*", "?", "+", "|", ",", "scan", "plate", "well", "tile", "focus", "child::", "descendant::", "self::",
-    "parent::", "ancestor::", "descendant-or-self::", "ancestor-or-self::", "node()", "text()", "[", "]", " or ", "/", "\n", "<", ">", "</", "/>", "&lt;",
-    "&amp;", "]]>", " ", "\t", "<scan>", "</scan>", "<tile/>", "<plate>", "</plate>", "\x01", "\x02", "\x03", "\x7F", "\x80",
+    "parent::", "ancestor::", "descendant-or-self::", "ancestor-or-self::", "following::", "following-sibling::", "preceding::", "preceding-sibling::",
+    "node()", "text()", "[", "]", " or ", "/", "\n", "<", ">", "</", "/>", "&lt;", "&amp;", "]]>", " ", "\t", "<scan>", "</scan>", "<tile/>", "<plate>",
+    "</plate>", "\x01", "\x02", "\x03", "\x7F", "\x80",
 };
 
 static void replace(uint8_t **bytes, size_t *len, size_t from, size_t to, const uint8_t *with, size_t with_len) {
@@ -104,7 +106,7 @@ static void change(uint8_t **bytes, size_t *len, struct text other) {
 }
 
 static void keep(const struct input *i) {
-    size_t at = kept_count < KEPT ? kept_count++ : 4 + below(KEPT - 4);
+    size_t at = kept_count < KEPT ? kept_count++ : GOOD + below(KEPT - GOOD);
     for (int k = 0; k < KINDS; k++) {
         free(kept[at].bytes[k]);
         kept[at].bytes[k] = malloc(i->len[k] + 1);
@@ -239,7 +241,7 @@ static void try_input(struct input *i) {
 /* ---- */
 
 static void start(void) {
-    static const char *const good[][KINDS] = {
+    static const char *const good[GOOD][KINDS] = {
         { "<!ELEMENT scan (plate*)><!ELEMENT plate (well|tile)*><!ELEMENT well (tile*)><!ELEMENT tile (focus?)><!ELEMENT focus (#PCDATA)>",
             "child::plate[child::well]/child::tile\ndescendant::tile/parent::well\n",
             "<scan><plate><well><tile><focus>12</focus></tile></well><tile/></plate></scan>" },
@@ -248,9 +250,12 @@ static void start(void) {
         { "<!ELEMENT r ((x,y?)+|(z*,(x|y)))><!ELEMENT x EMPTY><!ELEMENT y (r?)><!ELEMENT z (#PCDATA)>",
             "child::x/parent::r/child::y[child::r]\ndescendant::z/ancestor-or-self::node()\nself::r[descendant::text()]\n",
             "<r><x/><y><r><z>t</z><x/></r></y><x/></r>" },
+        { "<!ELEMENT r (a|b)*><!ELEMENT a (b|t)*><!ELEMENT b EMPTY><!ELEMENT t (#PCDATA)>",
+            "child::b/following-sibling::a[preceding::t]\ndescendant::t/preceding::node()/following::b\ndescendant::b[preceding-sibling::t]\n",
+            "<r><a><b/><t>1</t><b/></a><b/><a><t>2</t></a></r>" },
         { "<!ELEMENT only EMPTY>", "self::only\n", "<only/>" },
     };
-    for (size_t i = 0; i < sizeof good / sizeof *good; i++) {
+    for (size_t i = 0; i < GOOD; i++) {
         struct input made = { { 0 }, { 0 } };
         for (int k = 0; k < KINDS; k++) made.bytes[k] = (uint8_t *)good[i][k], made.len[k] = strlen(good[i][k]);
         keep(&made);

@@ -14,6 +14,8 @@ static int faults;
 static const char schema_s[] =
     "<!ELEMENT scan (plate*)><!ELEMENT plate (well|tile)*><!ELEMENT well (tile*)><!ELEMENT tile (focus?)><!ELEMENT focus (#PCDATA)>";
 static const char journal_j[] = "<scan><plate><well><tile><focus>12</focus></tile></well><tile/></plate></scan>";
+static const char schema_r[] = "<!ELEMENT r (a|b|c)*><!ELEMENT a (b|t)*><!ELEMENT b EMPTY><!ELEMENT c (t?)><!ELEMENT t (#PCDATA)>";
+static const char journal_k[] = "<r><a><b/><t>1</t><b/></a><b/><c><t>2</t></c><a/></r>";
 static const char fourth[] = "child::plate/child::tile[child::focus]\n";
 static const char two_paths[] = "descendant::text()\ndescendant::tile/parent::node()\n";
 static const char foreign[] = "<scan>\x7F";
@@ -130,6 +132,15 @@ static void made_then_selected(const char *name, const char *schema, const char 
 
 /* ---- cases */
 
+static void tried_paths(const char *schema, const char *const *paths, size_t count, const char *journal) {
+    for (size_t i = 0; i < count; i++) {
+        char name[80];
+        snprintf(name, sizeof name, "%.*s", (int)(strlen(paths[i]) - 1), paths[i]);
+        if (strchr(name, '\n')) snprintf(name, sizeof name, "the two paths of the listing");
+        made_then_selected(name, schema, paths[i], journal);
+    }
+}
+
 /* document 01, "Paths tried on S and J", and its example of two paths */
 static void worked_cases(void) {
     static const char *const paths[] = {
@@ -137,16 +148,21 @@ static void worked_cases(void) {
         "descendant::tile/parent::well\n", "child::plate/child::tile/parent::node()\n", "descendant::text()\n", "parent::node()\n",
         "child::plate[child::well]/child::tile\ndescendant::tile/parent::well\n",
     };
-    for (size_t i = 0; i < sizeof paths / sizeof *paths; i++) {
-        char name[80];
-        snprintf(name, sizeof name, "%.*s", (int)(strlen(paths[i]) - 1), paths[i]);
-        if (strchr(name, '\n')) snprintf(name, sizeof name, "the two paths of the listing");
-        made_then_selected(name, schema_s, paths[i], journal_j);
-    }
+    tried_paths(schema_s, paths, sizeof paths / sizeof *paths, journal_j);
     making("the first row's extract", schema_s, "self::scan\n", journal_j, 7, 13);
     making("an empty set's extract", schema_s, "self::plate\n", journal_j, 9, 8);
     making("the fourth row's extract", schema_s, fourth, journal_j, 9, 31);
     making("all of J", schema_s, two_paths, journal_j, 9, 63);
+}
+
+/* document 02, R-1: each axis, the condition of a rewritten step, what lies above a deep node, and a root without siblings */
+static void sibling_axes(void) {
+    static const char *const paths[] = {
+        "child::b/following-sibling::node()\n", "child::b/preceding-sibling::node()\n", "child::a/following::node()\n", "child::a/child::t/preceding::node()\n",
+        "child::b/following-sibling::c[child::t]\n", "child::c/child::t/child::text()/preceding::b\n", "following-sibling::node()\n",
+    };
+    tried_paths(schema_r, paths, sizeof paths / sizeof *paths, journal_k);
+    made_then_selected("a root that holds itself", "<!ELEMENT a (a*)>", "following-sibling::a\npreceding::a\n", "<a><a/><a/></a>");
 }
 
 /* document 01, "Accepted and turned back" */
@@ -313,6 +329,7 @@ int main(int argc, char **argv) {
     int exact = argc == 2 && strcmp(argv[1], "exact") == 0;
     if (exact) guards = 0;
     worked_cases();
+    sibling_axes();
     both_sides_of_limits();
     each_refusal_of_making();
     selections();

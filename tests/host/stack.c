@@ -17,10 +17,14 @@ static size_t journal_len, extract_len;
 #define COLUMNS numbers, LOZHYMET_MAX_ROWS, names, LOZHYMET_MAX_ROWS, parents, LOZHYMET_MAX_ROWS, starts, LOZHYMET_MAX_ROWS, lengths, LOZHYMET_MAX_ROWS
 
 static const char schema[] = "<!ELEMENT a ((((((((b|c)*)?)+)*)?)+)*)?><!ELEMENT b (c?)><!ELEMENT c (#PCDATA)>";
+/* the last path has as many steps as there may be, outside and inside brackets, each of an axis that is rewritten to four */
+#define FOUR(axis) axis "::node()/" axis "::node()/" axis "::node()/" axis "::node()"
 static const char bundle[] =
     "descendant::c[child::text()/parent::c/parent::b or parent::a]/ancestor::node()[child::b or child::c]/descendant::text()\n"
     "descendant-or-self::node()/ancestor-or-self::node()[descendant::b/child::c/child::text()/ancestor::a]\n"
-    "child::b/child::c/parent::b/ancestor::a/descendant::c/child::text()\n";
+    "child::b/child::c/parent::b/ancestor::a/descendant::c/child::text()\n"
+    "child::b/following-sibling::b[preceding-sibling::b/child::c]/preceding::text()\n"
+    "descendant::b/following::c/preceding::b/self::b/" FOUR("following") "/" FOUR("preceding") "/" FOUR("following") "[" FOUR("preceding") "]\n";
 
 static void *make(void *number) {
     struct lozhymet_result r = host_make_extract((const uint8_t *)schema, strlen(schema), (const uint8_t *)bundle, strlen(bundle), journal, journal_len,

@@ -18,7 +18,7 @@ MISSPELT = b"<"  # a journal that is refused by 11 at 0, so that a schema and a 
 NO_ROWS = bytes([3, 0, 2, 0, 0])
 ANY = b"self::node()\n"
 # of the cases so many are shown by the two functions, at the least
-SHOWN = 700
+SHOWN = 1003
 MAX_JOURNAL, MAX_LISTED_BYTES, MAX_LISTED_ROWS = 1048576, 32768, 4096
 
 
@@ -127,7 +127,7 @@ def outcome(library, case):
         return lines(library.select(texts[0], ANY, 0, texts[1], limits[1:])[0], (0, 1, 2, 4))
     if does == "listing":
         return listing(library, *texts)
-    extract = library.make(*texts)[1]
+    extract = texts[2] if does == "select-extract" else library.make(*texts)[1]
     if does == "extract":
         return "ok %d %d\n" % (extract[-2] * 256 + extract[-1], len(extract)) + extract.decode("latin-1")
     return "".join(" ".join(map(str, nodes)) + "\n" for nodes in each_path(library, texts[0], texts[1], extract))
@@ -135,7 +135,7 @@ def outcome(library, case):
 
 def main():
     archive = os.environ.get("LOZHYMET_LIB", os.path.join(ROOT, "target", "staticlib", "liblibrary.a"))
-    cases = vector_cases(930)
+    cases = vector_cases(1279)
     ran, left, wrong = collections.Counter(), collections.Counter(), 0
     with tempfile.TemporaryDirectory() as folder:
         library = Library(archive, folder)

@@ -1,8 +1,8 @@
 #!/usr/bin/env python3
 """Do tests/compare and tests/compare_inner notice a mistake? Each edit puts one into a copy of the second implementation. For tests/compare that is then
-built as the archive to compare with; the comparison must fail, and where an edit says so the C host of tests/host must, too. For tests/compare_inner it
-is compared with the archives of the proved crates (rt staticlib). Takes some minutes; not part of the gate. Needs gcc and rustc. The words after the
-program's name choose edits by a part of their names."""
+built as the archive to compare with; the comparison must fail, and where an edit says so the C host of tests/host must, too, and the cases of
+tests/vectors. For tests/compare_inner it is compared with the archives of the proved crates (rt staticlib). Takes some minutes; not part of the gate.
+Needs gcc and rustc. The words after the program's name choose edits by a part of their names."""
 import os
 import shutil
 import subprocess
@@ -41,9 +41,34 @@ EDITS = [
     ("a wrong root is 14", "journal.rs", "return Err(refused(15, e.place));", "return Err(refused(if wrong_root { 14 } else { 15 }, e.place));", False),
 ]
 
+# those of document 02's R-1, which the cases of tests/vectors must notice, too
+SIBLING_EDITS = [
+    ("a node its own sibling", "table.rs", "Axis::FollowingSibling => y > x && siblings(),", "Axis::FollowingSibling => y >= x && siblings(),", True),
+    ("the root a sibling of its children", "table.rs", "x > 0 && y > 0 && rows[x].parent == rows[y].parent", "rows[x].parent == rows[y].parent", True),
+    ("following with descendants", "table.rs", "y > x && !is_above(x, y)", "y > x", True),
+    ("preceding with ancestors", "table.rs", "y < x && !is_above(y, x)", "y < x", True),
+    ("preceding as following", "table.rs", "y < x && !is_above(y, x)", "y > x && !is_above(x, y)", True),
+    ("sibling axes exchanged", "table.rs", "        Axis::FollowingSibling => y > x && siblings(),\n        Axis::Preceding => y < x && !is_above(y, x),\n"
+     "        Axis::PrecedingSibling => y < x && siblings(),\n", "        Axis::FollowingSibling => y < x && siblings(),\n"
+     "        Axis::Preceding => y < x && !is_above(y, x),\n        Axis::PrecedingSibling => y > x && siblings(),\n", True),
+    ("a condition on the inserted step", "needed.rs", "        all.push(Step { axis: *last, test: step.test.clone(), condition });",
+     "        let condition = if before.is_empty() { condition } else { std::mem::replace(&mut all.last_mut().unwrap().condition, condition) };\n"
+     "        all.push(Step { axis: *last, test: step.test.clone(), condition });", True),
+    ("a test on the inserted steps", "needed.rs", "test: Test::Node, condition: None", "test: [Test::Node, step.test.clone()][1].clone(), condition: None", True),
+    ("following without what is above", "needed.rs", "vec![Axis::AncestorOrSelf, Axis::Parent, Axis::Child, Axis::DescendantOrSelf]",
+     "vec![Axis::Parent, Axis::Child, Axis::DescendantOrSelf]", True),
+    ("following without what is below", "needed.rs", "vec![Axis::AncestorOrSelf, Axis::Parent, Axis::Child, Axis::DescendantOrSelf]",
+     "vec![Axis::AncestorOrSelf, Axis::Parent, Axis::Child]", True),
+    ("a rewritten step counted as its parts", "bundle.rs", "l.steps.len() > MAX_STEPS",
+     "l.steps.iter().map(|s| if matches!(s.axis, Axis::Following | Axis::Preceding) { 4 } else { 1 }).sum::<usize>() > MAX_STEPS", False),
+    ("a rewritten step in brackets counted as its parts", "bundle.rs", "c.iter().any(|a| a.len() > MAX_ALTERNATIVE_STEPS)",
+     "c.iter().any(|a| a.iter().map(|s| 1 + matches!(s.axis, Axis::FollowingSibling) as usize).sum::<usize>() > MAX_ALTERNATIVE_STEPS)", False),
+]
+
 # for tests/compare_inner: name, file, what stands there, what is put in its place
 INNER_EDITS = [
-    ("a needed name that the root does not reach", "needed.rs", "reached(s, &needs(s, path, &root, &root))", "[reached(s, &root), needs(s, path, &root, &root)][1].clone()"),
+    ("a needed name that the root does not reach", "needed.rs", "reached(s, &needs(s, &rewritten(path), &root, &root))",
+     "[reached(s, &root), needs(s, &rewritten(path), &root, &root)][1].clone()"),
     ("names between the ends of a descendant step dropped", "needed.rs", "all.extend(s.below(a).into_iter().filter(|&c| s.is_below(b, c)));", "let _ = (a, b);"),
     ("parent rows of a cut not renumbered", "table.rs", "parent: place(rows[i].parent),", "parent: rows[i].parent.max(place(rows[i].parent)),"),
     ("a name kept under one that is cut", "table.rs", "above(rows, i).iter().all(|&k| set.contains(&rows[k].name))",
@@ -78,7 +103,7 @@ def edited(folder, name, file, old, new):
     return copy, None if text.count(old) == 1 else "%s: its text stands %d times in %s" % (name, text.count(old), file)
 
 
-def attempt(folder, edit):
+def attempt(folder, edit, by_cases=False):
     name, file, old, new, by_host = edit
     archive = os.path.join(folder, "second.a")
     copy, fault = edited(folder, name, file, old, new)
@@ -90,6 +115,8 @@ def attempt(folder, edit):
         return "%s: the comparison does not notice" % name
     if by_host and not notices([os.path.join(TESTS, "host", "run")], archive):
         return "%s: the C host does not notice" % name
+    if by_cases and not notices([sys.executable, os.path.join(TESTS, "host", "vectors.py")], archive):
+        return "%s: the cases of tests/vectors do not notice" % name
     return None
 
 
@@ -107,7 +134,8 @@ def main():
     def chosen(edits):
         return [edit for edit in edits if not sys.argv[1:] or any(word in edit[0] for word in sys.argv[1:])]
     with tempfile.TemporaryDirectory() as folder:
-        tried = [attempt(folder, edit) for edit in chosen(EDITS)] + [attempt_inner(folder, edit) for edit in chosen(INNER_EDITS)]
+        tried = [attempt(folder, edit) for edit in chosen(EDITS)] + [attempt(folder, edit, True) for edit in chosen(SIBLING_EDITS)]
+        tried += [attempt_inner(folder, edit) for edit in chosen(INNER_EDITS)]
     faults = [fault for fault in tried if fault]
     if faults:
         sys.exit("mistakes: " + "\n          ".join(faults))

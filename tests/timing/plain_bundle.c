@@ -4,8 +4,9 @@
 #include <string.h>
 
 typedef unsigned char byte;
-enum { PATHS = 8, STEPS = 16, ALTERNATIVES = 4, INNER = 4, PATH_BYTES = 512, BYTES = 4104, NAME = 31, ELEMENTS = 32 };
-static const char *const axes[] = {"self::", "child::", "descendant::", "descendant-or-self::", "parent::", "ancestor::", "ancestor-or-self::"};
+enum { AXES = 11, PATHS = 8, STEPS = 16, ALTERNATIVES = 4, INNER = 4, PATH_BYTES = 512, BYTES = 4104, NAME = 31, ELEMENTS = 32 };
+static const char *const axes[] = {"self::", "child::", "descendant::", "descendant-or-self::", "parent::", "ancestor::", "ancestor-or-self::",
+    "following::", "following-sibling::", "preceding::", "preceding-sibling::"};
 
 struct step { byte axis, low, high; };
 static struct { int count, steps, ways, inner; int paths[PATHS + 1], conditions[PATHS * STEPS + 1], ends[PATHS * STEPS * ALTERNATIVES + 1];
@@ -21,7 +22,7 @@ static int goes_on(int b) { return starts(b) || (b >= '0' && b <= '9') || b == '
 
 static int axis(void) {
     int best = 0;
-    for (int a = 0; a < 7; a++) {
+    for (int a = 0; a < AXES; a++) {
         int k = 0, size = strlen(axes[a]);
         while (k < size && at + k < n && s[at + k] == (byte)axes[a][k]) k++;
         if (k == size) { at += size; return a; }
@@ -125,7 +126,7 @@ static void read_schema(void) {
 }
 
 int main(void) {
-    static byte input[65536];
+    static byte input[1 << 18];
     int size = fread(input, 1, sizeof input, stdin);
     for (int k = 0; k + 2 <= size; k += 2 + n) {
         n = input[k] % 128 * 256 + input[k + 1];

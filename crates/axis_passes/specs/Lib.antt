@@ -5,6 +5,7 @@ pub mod conditions
 pub mod downward
 pub mod inverse_axes
 pub mod root
+pub mod siblings
 pub mod steps
 pub mod upward
 pub mod written_steps

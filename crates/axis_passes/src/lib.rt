@@ -7,6 +7,7 @@ pub mod downward;
 pub mod inverse_axes;
 pub mod mark_sets;
 pub mod root;
+pub mod siblings;
 pub mod steps;
 pub mod upward;
 pub mod written_steps;

@@ -1,4 +1,4 @@
-// The first step of a path: an axis from the root needs no pass over marks. Every other row is below the root, none is above it.
+// The first step of a path: an axis from the root needs no pass over marks. Every other row is below the root, none is above it, before it or after it.
 ghost use mathlib.Core.Bool.{not};
 ghost use mathlib.Core.Path.{_≡_};
 ghost use Prim.Native.Nat.{_<_};
@@ -7,11 +7,10 @@ ghost use lib.ListN.{length};
 ghost use Rattle.axis_passes.specs.root.Roots.{RootPass, FirstPass};
 ghost use Rattle.axis_passes.specs.steps.Steps.{forwardMarks};
 ghost use Rattle.cells.specs.row_sets.Columns.{mark, marks};
-ghost use Rattle.compiled_paths.specs.Columns.{axisOf};
+ghost use Rattle.compiled_paths.specs.Columns.{writtenOf};
 ghost use Rattle.path_spec.specs.Paths.{child};
-ghost use Rattle.selection_laws.specs.marks.Parents.{imageMarks};
 ghost use Rattle.selection_laws.specs.marks.Roots.{rootImage};
-ghost use Rattle.selection_laws.specs.marks.Selection.{rootMarks};
+ghost use Rattle.selection_laws.specs.marks.Selection.{writtenMarks, rootMarks};
 use crate::steps::filter_test;
 use cells::row_sets::MARKED;
 use cells::row_sets::UNMARKED;
@@ -20,7 +19,11 @@ use compiled_paths::ANCESTOR;
 use compiled_paths::CHILD;
 use compiled_paths::DESCENDANT;
 use compiled_paths::DESCENDANT_OR_SELF;
+use compiled_paths::FOLLOWING;
+use compiled_paths::FOLLOWING_SIBLING;
 use compiled_paths::PARENT;
+use compiled_paths::PRECEDING;
+use compiled_paths::PRECEDING_SIBLING;
 
 // The root alone.
 pub fn mark_root(out: &mut [u8])
@@ -63,7 +66,7 @@ fn mark_children(parents: &[u16], out: &mut [u8])
 // The rows on an axis from the root.
 fn root_image(axis: u8, parents: &[u16], out: &mut [u8])
     requires { ⌜ RootPass (now parents) (now out) ⌝ }
-    ensures { λ _. ⌜ now (out .exit) ≡ imageMarks (axisOf axis) (now (parents .entry)) (rootMarks (length (now (parents .entry)))) ⌝ }
+    ensures { λ _. ⌜ now (out .exit) ≡ writtenMarks (writtenOf axis) (now (parents .entry)) (rootMarks (length (now (parents .entry)))) ⌝ }
 {
     match axis {
         CHILD => mark_children(parents, out),
@@ -71,6 +74,10 @@ fn root_image(axis: u8, parents: &[u16], out: &mut [u8])
         DESCENDANT_OR_SELF => fill(out, MARKED),
         PARENT => fill(out, UNMARKED),
         ANCESTOR => fill(out, UNMARKED),
+        FOLLOWING => fill(out, UNMARKED),
+        FOLLOWING_SIBLING => fill(out, UNMARKED),
+        PRECEDING => fill(out, UNMARKED),
+        PRECEDING_SIBLING => fill(out, UNMARKED),
         _ => mark_root(out),
     }
 }

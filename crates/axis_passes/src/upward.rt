@@ -10,8 +10,8 @@ use cells::row_sets::UNMARKED;
 use cells::row_sets::copy;
 use cells::row_sets::fill;
 
-// The last row that a pass takes: row 0 has no parent.
-const LAST_TAKEN: usize = 1;
+// The last row that a pass from the last row to the first takes: row 0 has no parent.
+pub const LAST_TAKEN: usize = 1;
 
 // Row r marks its parent, if it is marked by `x`.
 fn mark_parent(parents: &[u16], r: usize, x: u8, out: &mut [u8])

@@ -21,7 +21,7 @@ pub const TEXT: usize = 1;
 pub const NAMES: usize = 2;
 
 // The number of axes.
-pub const AXES: usize = 7;
+pub const AXES: usize = 11;
 
 // The number of a test or a step and the place past it, or where the text departs from it.
 pub enum StepOutcome {

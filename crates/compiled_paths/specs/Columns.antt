@@ -8,7 +8,7 @@ use native.Mathlib.Omega.{arith}
 use borrow.Author.Tests.{lt-ltb, le-ltb}
 use lib.Dec.{eqb, ltb}
 use lib.ListN.{getD}
-use Rattle.path_spec.specs.Paths.{Axis, self, child, descendant, descendantOrSelf, parent, ancestor, ancestorOrSelf, along, NodeTest, named, anyNode, anyText, WrittenStep, PlainStep, Condition, unconditional, alternatives, LocationPath, fromRootElement}
+use Rattle.path_spec.specs.Paths.{Axis, self, child, descendant, descendantOrSelf, parent, ancestor, ancestorOrSelf, WrittenAxis, along, following, followingSibling, preceding, precedingSibling, NodeTest, named, anyNode, anyText, WrittenStep, PlainStep, Condition, unconditional, alternatives, LocationPath, fromRootElement}
 
 -- ---- one step
 -- an axis by its number
@@ -17,9 +17,14 @@ axisOf c =
     cond (eqb c 1) child (cond (eqb c 2) descendant (cond (eqb c 3) descendantOrSelf
     (cond (eqb c 4) parent (cond (eqb c 5) ancestor (cond (eqb c 6) ancestorOrSelf self)))))
 
--- the cell of an axis has its number, and 8 more at the last step of an alternative
+-- a written axis by its number: the four of document 02, R-1, come after the seven
+unfoldable pub writtenOf : ℕ → WrittenAxis
+writtenOf c =
+    cond (eqb c 7) following (cond (eqb c 8) followingSibling (cond (eqb c 9) preceding (cond (eqb c 10) precedingSibling (along (axisOf c)))))
+
+-- the cell of an axis has its number, and 16 more at the last step of an alternative
 abbrev pub lastMark : ℕ
-lastMark = 8
+lastMark = 16
 
 unfoldable pub axisNumber : ℕ → ℕ
 axisNumber c = cond (ltb c lastMark) c (c - lastMark)
@@ -87,10 +92,14 @@ module _ (axes : List ℕ) where
   first-size-some zero k d = absurd (d refl)
   first-size-some (suc n) k d = omega arith
 
+-- the axis of the step k
+abbrev pub axisAt : List ℕ → ℕ → WrittenAxis
+axisAt axes k = writtenOf (axisNumber (getD axes k 0))
+
 module _ (axes tests : List ℕ) where
   -- ---- n steps without brackets from k on
   abbrev pub plainAt : ℕ → PlainStep ℕ
-  plainAt k = record { axis = along (axisOf (axisNumber (getD axes k 0))); test = testOf (getD tests k 0); condition = tt }
+  plainAt k = record { axis = axisAt axes k; test = testOf (getD tests k 0); condition = tt }
 
   unfoldable pub plainIn : ℕ → ℕ → List (PlainStep ℕ)
   plainIn zero k = []
@@ -155,13 +164,11 @@ module _ (axes tests : List ℕ) where
 
   module _ (conditions : List ℕ) where
     -- ---- n written steps from k on; the steps in the alternatives of each are a range
+    abbrev pub conditionAt : ℕ → Condition ℕ
+    conditionAt k = conditionIn (sizeAt conditions k) (startAt conditions k)
+
     abbrev pub stepAt : ℕ → WrittenStep ℕ (Condition ℕ)
-    stepAt k =
-        record {
-          axis = along (axisOf (axisNumber (getD axes k 0)));
-          test = testOf (getD tests k 0);
-          condition = conditionIn (sizeAt conditions k) (startAt conditions k);
-        }
+    stepAt k = record { axis = axisAt axes k; test = testOf (getD tests k 0); condition = conditionAt k }
 
     unfoldable pub stepsIn : ℕ → ℕ → List (WrittenStep ℕ (Condition ℕ))
     stepsIn zero k = []

@@ -4,7 +4,7 @@ use Prim.Native.Nat.{ℕ, _≤_}
 use lib.ListN.{getD}
 use denote.Ref.{now}
 use Rattle.cells.specs.lent.Ends.{Slice}
-use Rattle.compiled_paths.specs.Columns.{bundleIn, pathAt, stepsIn, conditionIn, alternativesIn, sizeAt, startAt}
+use Rattle.compiled_paths.specs.Columns.{alternativesIn, conditionAt, stepsIn, pathAt, bundleIn}
 use Rattle.compiled_paths.specs.Sizes.{writtenSteps, allSteps}
 use Rattle.compiled_paths.specs.declared.CompiledPaths.{CompiledPaths}
 use Rattle.path_spec.specs.Paths.{LocationPath, WrittenStep, Condition, alternatives}
@@ -25,8 +25,7 @@ abbrev pub entrySteps : Slice → Slice → Slice → ℕ → ℕ → List (Writ
 entrySteps axes tests conditions n k = stepsIn (now (axes .entry)) (now (tests .entry)) (now (conditions .entry)) n k
 
 abbrev pub entryCondition : Slice → Slice → Slice → ℕ → Condition ℕ
-entryCondition axes tests conditions k =
-    conditionIn (now (axes .entry)) (now (tests .entry)) (sizeAt (now (conditions .entry)) k) (startAt (now (conditions .entry)) k)
+entryCondition axes tests conditions k = conditionAt (now (axes .entry)) (now (tests .entry)) (now (conditions .entry)) k
 
 abbrev pub entryAlternatives : Slice → Slice → ℕ → ℕ → Condition ℕ
 entryAlternatives axes tests n k = alternatives (alternativesIn (now (axes .entry)) (now (tests .entry)) n k)

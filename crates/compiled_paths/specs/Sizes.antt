@@ -5,7 +5,7 @@ use native.Mathlib.Omega.{arith}
 use lib.Dec.{T}
 use lib.ListN.{length, length-append}
 use Rattle.path_spec.specs.Grammar.{PathRead, TestText, a-name, any-node, any-text, PlainText, plain, AlternativeText, one-step, more-steps, ConditionText, one-alternative, more-alternatives, StepText, bare, conditional, PathText, last-step, next-step, BundleText, last-path, next-path, orWord}
-use Rattle.path_spec.specs.Paths.{self, child, descendant, descendantOrSelf, parent, ancestor, ancestorOrSelf, WrittenAxis, along, spellAxis, NodeTest, WrittenStep, PlainStep, Condition, conditionPaths}
+use Rattle.path_spec.specs.Paths.{self, child, descendant, descendantOrSelf, parent, ancestor, ancestorOrSelf, WrittenAxis, along, following, followingSibling, preceding, precedingSibling, spellAxis, NodeTest, WrittenStep, PlainStep, Condition, conditionPaths}
 use Rattle.schema_spec.specs.Declarations.{Use}
 use Rattle.text_spec.specs.Bytes.{isName}
 use Rattle.text_spec.specs.Limits.{maxPaths, maxSteps, maxAlternatives, maxBundleBytes}
@@ -51,6 +51,10 @@ axis-bytes (along descendantOrSelf) = omega arith
 axis-bytes (along parent) = omega arith
 axis-bytes (along ancestor) = omega arith
 axis-bytes (along ancestorOrSelf) = omega arith
+axis-bytes following = omega arith
+axis-bytes followingSibling = omega arith
+axis-bytes preceding = omega arith
+axis-bytes precedingSibling = omega arith
 
 name-bytes : (n : List ℕ) → T (isName n) → 1 ≤ length n
 name-bytes [] t = absurd t

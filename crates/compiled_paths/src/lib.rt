@@ -11,7 +11,7 @@ use text::limits::MAX_PATH_BYTES;
 use text::limits::MAX_PATHS;
 use text::limits::MAX_STEPS;
 
-// The axes by their numbers, in the order of document 01.
+// The axes by their numbers: in the order of document 01, then those of document 02, R-1, each before its sibling axis.
 pub const SELF: u8 = 0;
 
 pub const CHILD: u8 = 1;
@@ -26,8 +26,16 @@ pub const ANCESTOR: u8 = 5;
 
 pub const ANCESTOR_OR_SELF: u8 = 6;
 
+pub const FOLLOWING: u8 = 7;
+
+pub const FOLLOWING_SIBLING: u8 = 8;
+
+pub const PRECEDING: u8 = 9;
+
+pub const PRECEDING_SIBLING: u8 = 10;
+
 // Added to the number of the axis at the last step of an alternative.
-pub const LAST: u8 = 8;
+pub const LAST: u8 = 16;
 
 // The tests by their numbers: these two, and of a name the index of its element.
 pub const ANY_NODE: u8 = 254;
@@ -56,7 +64,7 @@ pub struct CompiledPaths {
     // for each written step the range of the steps in its condition's alternatives, empty where it has no condition
     pub conditions: [u16; CONDITION_STARTS],
     // the steps: those outside brackets, and from 128 on those in brackets
-    // an axis by its number; 8 more where an alternative ends
+    // an axis by its number; 16 more where an alternative ends
     pub axes: [u8; STEPS],
     // a test by its number
     pub tests: [u8; STEPS],

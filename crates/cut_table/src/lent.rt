@@ -1,7 +1,7 @@
 // Cutting a table that has passed its test into other lent columns.
+ghost use Rattle.cells.specs.lent.Columns.{firstCells};
 ghost use Rattle.cells.specs.lent.Ends.{entryColumns, heldColumns};
 ghost use Rattle.cut_table.specs.laws.Answers.{Cuttable, CutFirstIn};
-ghost use Rattle.handed_tables.specs.calls.Rows.{firstCells};
 ghost use Rattle.kept_rows.specs.Kept.{inSet};
 ghost use Rattle.tables.specs.Handed.{lentTable};
 use crate::answers::answer_in;

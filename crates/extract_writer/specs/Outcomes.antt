@@ -5,7 +5,8 @@ use mathlib.Core.Option.{Option, none, some}
 use mathlib.Core.Path.{_≡_, refl, sym, ap, _∙_}
 use Prim.Native.Nat.{ℕ}
 use lib.Dec.{T}
-use lib.ListN.{length, take, length-map}
+use lib.ListN.{length, length-map}
+use Rattle.cells.specs.lent.Columns.{firstCells}
 use Rattle.cells.specs.row_sets.Columns.{marks}
 use Rattle.cells.specs.verdicts.Verdicts.{inBytes}
 use Rattle.extract_spec.specs.Fields.{writeExtract}
@@ -13,8 +14,8 @@ use Rattle.extract_writer.specs.asked.Asked.{text-columns}
 use Rattle.extract_writer.specs.row_laws.Written.{table-extract}
 use Rattle.extract_writer.specs.rows.Rows.{TextColumns}
 use Rattle.extract_writer.specs.writing.Extract.{extractIn}
-use Rattle.handed_tables.specs.columns.Held.{held-coded, held-columns, beside-held}
-use Rattle.kept_rows.specs.cut_rows.Rows.{table}
+use Rattle.handed_tables.specs.calls.Calls.{beside-some}
+use Rattle.handed_tables.specs.columns.Rows.{lent-coded, held-columns}
 use Rattle.kept_rows.specs.laws.Codes.{codes-named}
 use Rattle.kept_rows.specs.laws.Cut.{columnsIn}
 use Rattle.library_spec.specs.Calls.{extractWritten}
@@ -47,12 +48,12 @@ module _ (s : Schema) (lent : List ℕ) (t : LentTable) (beside : isBeside s len
   rows = found .0
 
   held : (rowsLent t ≡ some rows) × T (wellFormedWith (typesOf s) lent rows)
-  held = beside-held s lent t rows (found .1)
+  held = beside-some s lent t rows (found .1)
 
   -- the columns up to the count
   abbrev columns : Columns
   columns =
-      table (take (t .count) (t .columns .numbers)) (take (t .count) (t .columns .names)) (take (t .count) (t .columns .parents)) (take (t .count) (t .columns .starts)) (take (t .count) (t .columns .lengths))
+      firstCells (t .count) (t .columns)
 
   same : columnsIn rows ≡ columns
   same = held-columns t rows (held .0)
@@ -61,12 +62,12 @@ module _ (s : Schema) (lent : List ℕ) (t : LentTable) (beside : isBeside s len
   long = sym (length-map rows (λ r. r .number)) ∙ ap (λ (c : Columns). length (c .numbers)) same
 
   pub table-columns : TextColumns lent columns (length (columns .numbers))
-  table-columns = rw (← same, ← long) (text-columns (typesOf s) lent rows (held .1) (held-coded t rows (held .0)))
+  table-columns = rw (← same, ← long) (text-columns (typesOf s) lent rows (held .1) (lent-coded t rows (held .0)))
 
   rows-written : extractIn lent columns (marks (length (columns .numbers)) (λ r. true)) ≡ writeExtract lent rows
   rows-written =
       ap (λ (n : ℕ). extractIn lent columns (marks n (λ r. true))) (sym long) ∙ ap (λ (c : Columns). extractIn lent c (marks (length rows) (λ r. true))) (sym same)
-      ∙ table-extract (typesOf s) lent rows (well-formed-alone (typesOf s) lent rows (held .1)) (codes-named rows (held-coded t rows (held .0)))
+      ∙ table-extract (typesOf s) lent rows (well-formed-alone (typesOf s) lent rows (held .1)) (codes-named rows (lent-coded t rows (held .0)))
 
 -- ---- the outcome by the record and by the table
 abbrev afterTable : Option (List Row) → List ℕ → ℕ → Outcome (List ℕ)

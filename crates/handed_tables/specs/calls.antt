@@ -1,4 +1,2 @@
--- Theorems: calls that are handed a schema's record and a table, refusal 1 of either (`Calls`), and the rows that the table holds in the first
--- cells of its columns (`Rows`).
+-- Theorems: calls that are handed a schema's record and a table, and refusal 1 of either (`Calls`).
 pub mod Calls
-pub mod Rows

@@ -1,3 +1,2 @@
--- Theorems: the columns of a table that is handed in are those of the rows that it holds, and are those of a tested table (`Rows`, `Held`).
+-- Theorems: the columns of a table that is handed in are those of the rows that it holds, and are those of a tested table (`Rows`).
 pub mod Rows
-pub mod Held

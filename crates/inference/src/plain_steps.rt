@@ -11,9 +11,9 @@ ghost use Rattle.path_spec.specs.Paths.{expandFrom};
 ghost use Rattle.schema_spec.specs.Schemas.{Schema};
 ghost use Rattle.schema_spec.specs.Types.{typesOf};
 use crate::back_steps::Needs;
-use crate::back_steps::with_step;
 use crate::type_steps::Inferred;
-use crate::type_steps::step;
+use crate::written_steps::with_written_step;
+use crate::written_steps::written_step;
 use compiled_paths::axis_number;
 use names::MAX_ELEMENTS;
 use names::NameSet;
@@ -35,7 +35,7 @@ pub fn infer_plain(
         e
     } else {
         let axis = axis_number(axes[k]);
-        let f = step(holds, below, axis, tests[k], e);
+        let f = written_step(holds, below, axis, tests[k], e);
         infer_plain(holds, below, axes, tests, k + 1, n - 1, f)
     }
 }
@@ -61,9 +61,9 @@ pub fn need_plain(
         }
     } else {
         let axis = axis_number(axes[k]);
-        let f = step(holds, below, axis, tests[k], e);
+        let f = written_step(holds, below, axis, tests[k], e);
         let later = need_plain(holds, below, axes, tests, k + 1, n - 1, f);
         let none = NameSet::empty();
-        with_step(holds, below, axis, t, none, later)
+        with_written_step(holds, below, axis, e, none, later)
     }
 }

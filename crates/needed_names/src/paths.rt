@@ -1,14 +1,15 @@
 // What a path needs: written steps with their conditions, and the last filter.
 ghost use mathlib.Core.Path.{_≡_};
 ghost use Prim.Native.Nat.{ℕ};
-ghost use Rattle.compiled_paths.specs.Paths.{entrySteps};
+ghost use Rattle.compiled_paths.specs.Paths.{entryCondition, entrySteps};
 ghost use Rattle.inference.specs.back_steps.Needs.{NeedsOf};
 ghost use Rattle.inference.specs.type_steps.Relations.{RelationsOf, envIn};
+ghost use Rattle.inference.specs.written_steps.Parts.{beforeLast};
 ghost use Rattle.inference_spec.specs.Needed.{keepsName, wantsNames, neededByPath};
 ghost use Rattle.inference_spec.specs.Types.{infer};
 ghost use Rattle.names.specs.Sets.{NamesOf, setIn};
 ghost use Rattle.needed_names.specs.conditions.Conditions.{wantsIn};
-ghost use Rattle.needed_names.specs.paths.Columns.{conditionAt, HasWrittenSteps, entryAnalysed};
+ghost use Rattle.needed_names.specs.paths.Columns.{HasWrittenSteps, entryAxis, entryLast};
 ghost use Rattle.path_spec.specs.Paths.{unconditional, expandFrom, fromRootElement};
 ghost use Rattle.schema_spec.specs.Names.{namesOf, within};
 ghost use Rattle.schema_spec.specs.Schemas.{Schema};
@@ -20,9 +21,9 @@ use crate::reachable_names;
 use compiled_paths::axis_number;
 use compiled_paths::ranges;
 use inference::back_steps::Needs;
-use inference::back_steps::with_step;
 use inference::type_steps::Inferred;
-use inference::type_steps::step;
+use inference::written_steps::with_written_step;
+use inference::written_steps::written_step;
 use names::MAX_ELEMENTS;
 use names::NameSet;
 
@@ -38,12 +39,12 @@ fn infer_step(
     e: Inferred,
 ) -> Inferred
     requires { ⌜ HasWrittenSteps (now axes) (now tests) (now conditions) k 1 ⌝ }
-    ensures { λ r. ⌜ ((s : Schema) → RelationsOf s holds below → NamesOf s all → (i : ℕ) → envIn s r ≡ infer (typesOf s) (keepsName (typesOf s)) (entryAnalysed axes tests conditions i k) (envIn s e)) ⌝ }
+    ensures { λ r. ⌜ ((s : Schema) → RelationsOf s holds below → NamesOf s all → (i : ℕ) → envIn s r ≡ infer (typesOf s) (keepsName (typesOf s)) (entryLast axes tests conditions i k) (beforeLast (typesOf s) (entryAxis axes k) (envIn s e))) ⌝ }
 {
     let first = ranges::start(conditions, k);
     let size = ranges::size(conditions, k);
     let axis = axis_number(axes[k]);
-    let gone = step(holds, below, axis, tests[k], e);
+    let gone = written_step(holds, below, axis, tests[k], e);
     conditioned(all, holds, below, axes, tests, first, size, gone)
 }
 
@@ -60,7 +61,7 @@ fn wanted_at(
     context: NameSet,
 ) -> NameSet
     requires { ⌜ HasWrittenSteps (now axes) (now tests) (now conditions) k 1 ⌝ }
-    ensures { λ r. ⌜ ((s : Schema) → RelationsOf s holds below → NamesOf s all → setIn s r ≡ within (namesOf s) (gather (wantsIn s context (conditionAt (now (axes .entry)) (now (tests .entry)) (now (conditions .entry)) k)) (setIn s h))) ⌝ }
+    ensures { λ r. ⌜ ((s : Schema) → RelationsOf s holds below → NamesOf s all → setIn s r ≡ within (namesOf s) (gather (wantsIn s context (entryCondition axes tests conditions k)) (setIn s h))) ⌝ }
 {
     let first = ranges::start(conditions, k);
     let size = ranges::size(conditions, k);
@@ -103,7 +104,7 @@ fn need_steps(
             later.complete,
             f.context,
         );
-        with_step(holds, below, axis, t, want, later)
+        with_written_step(holds, below, axis, e, want, later)
     }
 }
 

@@ -1,11 +1,12 @@
 -- Each axis has an inverse: a node lies on it from another exactly if the other lies on the inverse from the first.
-use mathlib.Core.Bool.{Bool, _||_}
+use mathlib.Core.Bool.{Bool, _&&_, _||_}
 use mathlib.Core.Path.{_≡_, refl, ap, subst}
-use lib.Dec.{T}
-use Rattle.path_spec.specs.Paths.{Axis, self, child, descendant, descendantOrSelf, parent, ancestor, ancestorOrSelf}
-use Rattle.path_spec.specs.Selection.{OnAxis, on-self, on-child, on-descendant, here-or-below, below-or-here, on-parent, on-ancestor, here-or-above, above-or-here, onAxis}
+use lib.Dec.{T, ltb}
+use Rattle.path_spec.specs.Paths.{Axis, self, child, descendant, descendantOrSelf, parent, ancestor, ancestorOrSelf, WrittenAxis, along, following, followingSibling, preceding, precedingSibling}
+use Rattle.path_spec.specs.Selection.{OnAxis, on-self, on-child, on-descendant, here-or-below, below-or-here, on-parent, on-ancestor, here-or-above, above-or-here, Siblings, siblings, onAxis, areSiblings, onWritten}
+use Rattle.path_laws.specs.Selection.{test-siblings, siblings-test}
 use Rattle.table_laws.specs.Nodes.{nodes-equal, nodes-same}
-use Rattle.table_spec.specs.Nodes.{Node, same, isAbove}
+use Rattle.table_spec.specs.Nodes.{Node, nodeNumber, same, isAbove}
 use Rattle.text_laws.specs.Tests.{same-test}
 
 abbrev pub inverse : Axis → Axis
@@ -52,3 +53,27 @@ inverse-axis descendantOrSelf x y = ap (λ (b : Bool). b || isAbove y x) (same-s
 inverse-axis parent x y = refl
 inverse-axis ancestor x y = refl
 inverse-axis ancestorOrSelf x y = ap (λ (b : Bool). b || isAbove x y) (same-swapped x y)
+
+-- ---- written axes
+abbrev pub inverseWritten : WrittenAxis → WrittenAxis
+inverseWritten (along a) = along (inverse a)
+inverseWritten following = preceding
+inverseWritten followingSibling = precedingSibling
+inverseWritten preceding = following
+inverseWritten precedingSibling = followingSibling
+
+siblings-turned : {x y : Node} → Siblings x y → Siblings y x
+siblings-turned (siblings e f) = siblings f e
+
+siblings-swapped : (x y : Node) → areSiblings x y ≡ areSiblings y x
+siblings-swapped x y = same-test (areSiblings x y) (areSiblings y x) (turn x y) (turn y x)
+  where
+    turn : (u v : Node) → T (areSiblings u v) → T (areSiblings v u)
+    turn u v t = siblings-test (siblings-turned (test-siblings u v t))
+
+pub inverse-written : (a : WrittenAxis) (x y : Node) → onWritten (inverseWritten a) x y ≡ onWritten a y x
+inverse-written (along a) x y = inverse-axis a x y
+inverse-written following x y = refl
+inverse-written followingSibling x y = ap (λ (b : Bool). b && ltb (nodeNumber y) (nodeNumber x)) (siblings-swapped x y)
+inverse-written preceding x y = refl
+inverse-written precedingSibling x y = ap (λ (b : Bool). b && ltb (nodeNumber x) (nodeNumber y)) (siblings-swapped x y)

@@ -1,22 +1,71 @@
--- Written steps keep their number through the expansion.
-use mathlib.Core.List.{List, [], _∷_, _++_, map, List·Memᴰ as In, List·Memᴰ·head as here, List·Memᴰ·tail as there, List·Memᴰ·append-cases as append-cases}
+-- Written steps keep their number through the expansion, and their test and condition stand on the last part.
+use mathlib.Core.List.{List, [], _∷_, _++_, List·Memᴰ as In, List·Memᴰ·head as here, List·Memᴰ·tail as there, List·Memᴰ·append-cases as append-cases}
 use mathlib.Core.Logic.{_⊎_, inl, inr}
 use mathlib.Core.Option.{some}
 use mathlib.Core.Path.{_≡_, refl, sym, ap, subst}
 use Prim.Native.Nat.{ℕ, suc, _+_}
 use native.Mathlib.Omega.{arith}
 use lib.ListN.{getElem?}
-use Rattle.path_spec.specs.Paths.{WrittenAxis, along, NodeTest, WrittenStep, Step, expandStep, expandFrom, expand}
+use Rattle.path_spec.specs.Paths.{Axis, child, descendantOrSelf, parent, ancestorOrSelf, WrittenAxis, along, following, followingSibling, preceding, precedingSibling, NodeTest, anyNode, WrittenStep, Step, passing, siblingSteps, expandStep, expandFrom}
 
--- the numbers from i on, one for each element
-abbrev pub numbersFrom : {A : Type 0} → ℕ → List A → List ℕ
-numbersFrom i [] = []
-numbersFrom i (x ∷ xs) = i ∷ numbersFrom (suc i) xs
+-- the axis of the last part of a written step
+abbrev pub lastAxis : WrittenAxis → Axis
+lastAxis (along a) = a
+lastAxis following = descendantOrSelf
+lastAxis followingSibling = child
+lastAxis preceding = descendantOrSelf
+lastAxis precedingSibling = child
 
 module _ {A C : Type 0} (noCondition : C) where
+  -- ---- the parts of a written step
+  -- the steps in front of its last part
+  abbrev pub passingSteps : ℕ → WrittenAxis → List (Step A C)
+  passingSteps i (along a) = []
+  passingSteps i following = passing noCondition i ancestorOrSelf ∷ siblingSteps noCondition i anyNode noCondition
+  passingSteps i followingSibling = passing noCondition i parent ∷ []
+  passingSteps i preceding = passing noCondition i ancestorOrSelf ∷ siblingSteps noCondition i anyNode noCondition
+  passingSteps i precedingSibling = passing noCondition i parent ∷ []
+
+  -- the condition of a rewritten step stands on its last part, and so does its test
+  pub step-parts : (i : ℕ) (a : WrittenAxis) (t : NodeTest A) (c : C)
+      → expandStep noCondition i a t c ≡ passingSteps i a ++ (record { written = i; axis = lastAxis a; test = t; condition = c } ∷ [])
+  step-parts i (along a) t c = refl
+  step-parts i following t c = refl
+  step-parts i followingSibling t c = refl
+  step-parts i preceding t c = refl
+  step-parts i precedingSibling t c = refl
+
+  -- a step in front of it: `node()` without a condition, of the same number
+  pub data Passing (i : ℕ) : Step A C → Type 0 where
+    passing-along : (a : Axis) → Passing i (passing noCondition i a)
+
+  by-parent : (i : ℕ) (q : Step A C) → In q (passing noCondition i parent ∷ []) → Passing i q
+  by-parent i q (here e) = rw e (passing-along parent)
+  by-parent i q (there m) = elim m [ ]
+
+  by-order : (i : ℕ) (q : Step A C) → In q (passing noCondition i ancestorOrSelf ∷ siblingSteps noCondition i anyNode noCondition) → Passing i q
+  by-order i q (here e) = rw e (passing-along ancestorOrSelf)
+  by-order i q (there (here e)) = rw e (passing-along parent)
+  by-order i q (there (there (here e))) = rw e (passing-along child)
+  by-order i q (there (there (there m))) = elim m [ ]
+
+  pub passing-steps : (i : ℕ) (a : WrittenAxis) (q : Step A C) → In q (passingSteps i a) → Passing i q
+  passing-steps i (along a) q m = elim m [ ]
+  passing-steps i following q m = by-order i q m
+  passing-steps i followingSibling q m = by-parent i q m
+  passing-steps i preceding q m = by-order i q m
+  passing-steps i precedingSibling q m = by-parent i q m
+
   step-numbered : (i : ℕ) (a : WrittenAxis) (t : NodeTest A) (c : C) (q : Step A C) → In q (expandStep noCondition i a t c) → q .written ≡ i
-  step-numbered i (along a) t c q (here e) = ap (λ (p : Step A C). p .written) e
-  step-numbered i (along a) t c q (there m) = elim m [ ]
+  step-numbered i a t c q m = by (append-cases (passingSteps i a) (subst (In q) (step-parts i a t c) m))
+    where
+      of-passing : {p : Step A C} → Passing i p → p .written ≡ i
+      of-passing (passing-along b) = refl
+
+      by : In q (passingSteps i a) ⊎ In q (record { written = i; axis = lastAxis a; test = t; condition = c } ∷ []) → q .written ≡ i
+      by (inl n) = of-passing (passing-steps i a q n)
+      by (inr (here e)) = ap (λ (p : Step A C). p .written) e
+      by (inr (there n)) = elim n [ ]
 
   -- a step by which the written steps ps are analysed, the first of them having the number i: it is one of those of the written step
   -- whose number it has
@@ -45,15 +94,3 @@ module _ {A C : Type 0} (noCondition : C) where
       by (inr n) later =
           let r = later n in
           record { place = suc (r .place); step = r .step; present = r .present; number = omega arith; analysed = r .analysed }
-
-  -- In the base the expansion is one to one, so the numbers are 1, 2, .., one for each written step.
-  expand-numbered-from : (i : ℕ) (ps : List (WrittenStep A C)) → map (λ q. q .written) (expandFrom noCondition i ps) ≡ numbersFrom i ps
-  expand-numbered-from i [] = refl
-  expand-numbered-from i (p ∷ ps) = by (p .axis) (expand-numbered-from (suc i) ps)
-    where
-      by : (a : WrittenAxis) → map (λ q. q .written) (expandFrom noCondition (suc i) ps) ≡ numbersFrom (suc i) ps
-          → map (λ q. q .written) (expandStep noCondition i a (p .test) (p .condition) ++ expandFrom noCondition (suc i) ps) ≡ i ∷ numbersFrom (suc i) ps
-      by (along a) e = rw e
-
-  pub expand-numbered : (ps : List (WrittenStep A C)) → map (λ q. q .written) (expand noCondition ps) ≡ numbersFrom 1 ps
-  expand-numbered ps = expand-numbered-from 1 ps

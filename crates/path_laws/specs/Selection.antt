@@ -6,18 +6,18 @@ use mathlib.Core.Path.{_≡_, refl, sym, ap, subst}
 use Prim.Native.Nat.{ℕ, suc, _<_}
 use native.Mathlib.Bridge.{le-prop}
 use native.Mathlib.Omega.{arith}
-use lib.Dec.{T, eqb→eq, eqb-refl}
-use Rattle.path_spec.specs.Paths.{Axis, self, child, descendant, descendantOrSelf, parent, ancestor, ancestorOrSelf, WrittenAxis, along, NodeTest, named, anyNode, anyText, WrittenStep, PlainStep, Condition, unconditional, alternatives, Start, rootElement, LocationPath}
-use Rattle.path_spec.specs.Selection.{NodeSet, Passes, passes-name, passes-node, passes-text, OnAxis, on-self, on-child, on-descendant, here-or-below, below-or-here, on-parent, on-ancestor, here-or-above, above-or-here, OnWritten, on-along, StepSet, PathSet, Always, Only, Holds, no-condition, alternative, StartSet, Selected, passes, onAxis, onWritten, stepFrom, pathFrom, always, holdsAt, startNodes, selected, select, selectRows}
+use lib.Dec.{T, eqb→eq, eqb-refl, ltb, ltb→lt, lt→ltb}
+use Rattle.path_spec.specs.Paths.{Axis, self, child, descendant, descendantOrSelf, parent, ancestor, ancestorOrSelf, WrittenAxis, along, following, followingSibling, preceding, precedingSibling, NodeTest, named, anyNode, anyText, WrittenStep, PlainStep, Condition, unconditional, alternatives, Start, rootElement, LocationPath}
+use Rattle.path_spec.specs.Selection.{NodeSet, Passes, passes-name, passes-node, passes-text, OnAxis, on-self, on-child, on-descendant, here-or-below, below-or-here, on-parent, on-ancestor, here-or-above, above-or-here, Siblings, siblings, Follows, OnWritten, on-along, on-following, on-following-sibling, on-preceding, on-preceding-sibling, StepSet, PathSet, Always, Only, Holds, no-condition, alternative, StartSet, Selected, passes, onAxis, areSiblings, follows, onWritten, stepFrom, pathFrom, always, holdsAt, startNodes, selected, select, selectRows}
 use Rattle.schema_spec.specs.Names.{Name, element, text}
 use Rattle.schema_spec.specs.Types.{Types}
 use Rattle.table_laws.specs.Nodes.{nodes-equal, nodes-same, parent-edge, edge-parent, test-above, above-test}
 use Rattle.table_laws.specs.Parents.{nodes-numbered}
 use Rattle.table_spec.specs.Conditions.{RowAt, WellFormed}
-use Rattle.table_spec.specs.Nodes.{Node, nodesOf, nodeNumber, nameOf, isTop, same, isAbove}
+use Rattle.table_spec.specs.Nodes.{Node, top, under, nodesOf, nodeNumber, nameOf, isTop, same, edge, isAbove}
 use Rattle.table_spec.specs.Rows.{Row}
 use Rattle.text_laws.specs.Lists.{any-in, in-any, in-filter, filter-in, member-fills}
-use Rattle.text_laws.specs.Tests.{or-left, or-right, or-cases, and-intro, and-cases, not-intro}
+use Rattle.text_laws.specs.Tests.{or-left, or-right, or-cases, and-intro, and-cases, not-intro, not-elim}
 use Rattle.text_spec.specs.Lists.{anyOf, filterBy, isEmpty}
 
 -- ---- tests and axes
@@ -57,11 +57,46 @@ on-axis-test (on-ancestor a) = above-test a
 on-axis-test (here-or-above {x = x}) = or-left (same x x) (isAbove x x) (nodes-same x)
 on-axis-test (above-or-here {x = x} {y = y} a) = or-right (same x y) (isAbove y x) (above-test a)
 
+pub test-siblings : (x y : Node) → T (areSiblings x y) → Siblings x y
+test-siblings (top k n) y t = absurd t
+test-siblings (under k n w p) y t = siblings edge (parent-edge p y t)
+
+pub siblings-test : {x y : Node} → Siblings x y → T (areSiblings x y)
+siblings-test (siblings edge e) = edge-parent e
+
+pub test-follows : (x y : Node) → T (follows x y) → Follows x y
+test-follows x y t =
+    let c = and-cases (ltb (nodeNumber x) (nodeNumber y)) (not (isAbove x y) && not (isAbove y x)) t in
+    let d = and-cases (not (isAbove x y)) (not (isAbove y x)) (c .1) in
+    record {
+      after = ltb→lt (nodeNumber x) (nodeNumber y) (c .0);
+      no-descendant = λ a. not-elim (isAbove x y) (d .0) (above-test a);
+      no-ancestor = λ a. not-elim (isAbove y x) (d .1) (above-test a);
+    }
+
+pub follows-test : {x y : Node} → Follows x y → T (follows x y)
+follows-test {x} {y} f =
+    and-intro (ltb (nodeNumber x) (nodeNumber y)) (not (isAbove x y) && not (isAbove y x)) (lt→ltb (nodeNumber x) (nodeNumber y) (f .after))
+    (and-intro (not (isAbove x y)) (not (isAbove y x)) (not-intro (isAbove x y) (λ t. f .no-descendant (test-above x y t)))
+    (not-intro (isAbove y x) (λ t. f .no-ancestor (test-above y x t))))
+
 pub test-on-written : (a : WrittenAxis) (x y : Node) → T (onWritten a x y) → OnWritten a x y
 test-on-written (along a) x y t = on-along (test-on-axis a x y t)
+test-on-written following x y t = on-following (test-follows x y t)
+test-on-written followingSibling x y t =
+    let c = and-cases (areSiblings x y) (ltb (nodeNumber x) (nodeNumber y)) t in
+    on-following-sibling (test-siblings x y (c .0)) (ltb→lt (nodeNumber x) (nodeNumber y) (c .1))
+test-on-written preceding x y t = on-preceding (test-follows y x t)
+test-on-written precedingSibling x y t =
+    let c = and-cases (areSiblings x y) (ltb (nodeNumber y) (nodeNumber x)) t in
+    on-preceding-sibling (test-siblings x y (c .0)) (ltb→lt (nodeNumber y) (nodeNumber x) (c .1))
 
 pub on-written-test : {a : WrittenAxis} {x y : Node} → OnWritten a x y → T (onWritten a x y)
 on-written-test (on-along o) = on-axis-test o
+on-written-test (on-following f) = follows-test f
+on-written-test (on-following-sibling {x = x} {y = y} s l) = and-intro (areSiblings x y) (ltb (nodeNumber x) (nodeNumber y)) (siblings-test s) (lt→ltb (nodeNumber x) (nodeNumber y) l)
+on-written-test (on-preceding f) = follows-test f
+on-written-test (on-preceding-sibling {x = x} {y = y} s l) = and-intro (areSiblings x y) (ltb (nodeNumber y) (nodeNumber x)) (siblings-test s) (lt→ltb (nodeNumber y) (nodeNumber x) l)
 
 -- a list has exactly the members of a set
 pub record Members (xs : List Node) (S : NodeSet) : Type 0 where

@@ -1,2 +1,4 @@
 pub mod Opened
 pub mod Bundles
+pub mod Expanded
+pub mod Selected

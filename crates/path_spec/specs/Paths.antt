@@ -9,12 +9,16 @@ use Rattle.text_spec.specs.Lists.{bytes, gather, valueOr}
 pub data Axis : Type 0 where
   self child descendant descendantOrSelf parent ancestor ancestorOrSelf : Axis
 
--- the axes that a path may be written with; each is analysed by way of the seven
+-- The axes that a path may be written with: the seven, and by document 02, R-1, "following-sibling, preceding-sibling, following and
+-- preceding". Each is analysed by way of the seven.
 pub data WrittenAxis : Type 0 where
   along : Axis → WrittenAxis
+  following followingSibling preceding precedingSibling : WrittenAxis
 
 abbrev pub writtenAxes : List WrittenAxis
-writtenAxes = along self ∷ along child ∷ along descendant ∷ along descendantOrSelf ∷ along parent ∷ along ancestor ∷ along ancestorOrSelf ∷ []
+writtenAxes =
+    along self ∷ along child ∷ along descendant ∷ along descendantOrSelf ∷ along parent ∷ along ancestor ∷ along ancestorOrSelf ∷ following ∷ followingSibling ∷ preceding
+    ∷ precedingSibling ∷ []
 
 -- how an axis is written, with its `::`
 abbrev pub spellAxis : WrittenAxis → List ℕ
@@ -25,6 +29,10 @@ spellAxis (along descendantOrSelf) = bytes "descendant-or-self::"
 spellAxis (along parent) = bytes "parent::"
 spellAxis (along ancestor) = bytes "ancestor::"
 spellAxis (along ancestorOrSelf) = bytes "ancestor-or-self::"
+spellAxis following = bytes "following::"
+spellAxis followingSibling = bytes "following-sibling::"
+spellAxis preceding = bytes "preceding::"
+spellAxis precedingSibling = bytes "preceding-sibling::"
 
 -- "Tests: an element name, `node()`, `text()`", over names of some kind
 pub data NodeTest (A : Type 0) : Type 0 where
@@ -71,10 +79,25 @@ pub record Step (A C : Type 0) : Type 0 where
   pub condition : C
 
 module _ {A C : Type 0} (noCondition : C) where
-  -- The steps by which the written step of number i is analysed: in the base, the one step. A step that is put in front of it carries
-  -- `noCondition`.
+  -- a step `node()` without a condition, in front of the last part of the written step of number i
+  abbrev pub passing : ℕ → Axis → Step A C
+  passing i a = record { written = i; axis = a; test = anyNode; condition = noCondition }
+
+  -- "a sibling axis counts as parent::node()/child::test"
+  abbrev pub siblingSteps : ℕ → NodeTest A → C → List (Step A C)
+  siblingSteps i t c = passing i parent ∷ record { written = i; axis = child; test = t; condition = c } ∷ []
+
+  -- "Following and preceding are first rewritten by way of ancestor-or-self, the sibling axis and descendant-or-self"
+  abbrev pub orderSteps : ℕ → NodeTest A → C → List (Step A C)
+  orderSteps i t c = passing i ancestorOrSelf ∷ (siblingSteps i anyNode noCondition ++ (record { written = i; axis = descendantOrSelf; test = t; condition = c } ∷ []))
+
+  -- The steps by which the written step of number i is analysed. Test and condition stand on the last part.
   abbrev pub expandStep : ℕ → WrittenAxis → NodeTest A → C → List (Step A C)
   expandStep i (along a) t c = record { written = i; axis = a; test = t; condition = c } ∷ []
+  expandStep i following t c = orderSteps i t c
+  expandStep i followingSibling t c = siblingSteps i t c
+  expandStep i preceding t c = orderSteps i t c
+  expandStep i precedingSibling t c = siblingSteps i t c
 
   -- the first step has the number i
   abbrev pub expandFrom : ℕ → List (WrittenStep A C) → List (Step A C)

@@ -2,11 +2,11 @@
 use mathlib.Core.Bool.{Bool, true, false, not, _&&_, _||_}
 use mathlib.Core.List.{List, [], _∷_, map, List·Memᴰ}
 use mathlib.Core.Path.{_≡_}
-use Prim.Native.Nat.{ℕ}
-use lib.Dec.{T, eqb}
-use Rattle.path_spec.specs.Paths.{Axis, self, child, descendant, descendantOrSelf, parent, ancestor, ancestorOrSelf, WrittenAxis, along, NodeTest, named, anyNode, anyText, WrittenStep, PlainStep, Condition, unconditional, alternatives, Start, rootElement, LocationPath}
+use Prim.Native.Nat.{ℕ, _<_}
+use lib.Dec.{T, eqb, ltb}
+use Rattle.path_spec.specs.Paths.{Axis, self, child, descendant, descendantOrSelf, parent, ancestor, ancestorOrSelf, WrittenAxis, along, following, followingSibling, preceding, precedingSibling, NodeTest, named, anyNode, anyText, WrittenStep, PlainStep, Condition, unconditional, alternatives, Start, rootElement, LocationPath}
 use Rattle.schema_spec.specs.Names.{Name, element, text}
-use Rattle.table_spec.specs.Nodes.{Node, nodeNumber, nameOf, isTop, same, Edge, Above, isParent, isAbove, nodesOf}
+use Rattle.table_spec.specs.Nodes.{Node, top, under, nodeNumber, nameOf, isTop, same, Edge, Above, isParent, isAbove, nodesOf}
 use Rattle.table_spec.specs.Rows.{Row}
 use Rattle.text_spec.specs.Lists.{anyOf, filterBy, isEmpty}
 
@@ -32,8 +32,25 @@ pub data OnAxis : Axis → Node → Node → Type 0 where
   here-or-above : {x : Node} → OnAxis ancestorOrSelf x x
   above-or-here : {x y : Node} → Above y x → OnAxis ancestorOrSelf x y
 
+-- nodes that have one parent, elements and texts alike
+pub data Siblings : Node → Node → Type 0 where
+  siblings : {p x y : Node} → Edge p x → Edge p y → Siblings x y
+
+-- y comes after x "in document order", in which numbers rise, "excluding any descendants"; nor is y an ancestor of x
+pub record Follows (x y : Node) : Type 0 where
+  pub after : nodeNumber x < nodeNumber y
+  pub no-descendant : Above x y → ⊥
+  pub no-ancestor : Above y x → ⊥
+
+-- XPath 1.0, 2.2. following: "all nodes in the same document as the context node that are after the context node in document order, excluding any
+-- descendants"; following-sibling: "all the following siblings of the context node"; preceding: all nodes "that are before the context node in
+-- document order, excluding any ancestors"; preceding-sibling: "all the preceding siblings of the context node"
 pub data OnWritten : WrittenAxis → Node → Node → Type 0 where
   on-along : {a : Axis} {x y : Node} → OnAxis a x y → OnWritten (along a) x y
+  on-following : {x y : Node} → Follows x y → OnWritten following x y
+  on-following-sibling : {x y : Node} → Siblings x y → nodeNumber x < nodeNumber y → OnWritten followingSibling x y
+  on-preceding : {x y : Node} → Follows y x → OnWritten preceding x y
+  on-preceding-sibling : {x y : Node} → Siblings x y → nodeNumber y < nodeNumber x → OnWritten precedingSibling x y
 
 -- definition 3.3, with conditions (3.2): ⟦Axis::Test[C]⟧(S), and ⟦P/Q⟧(S) = ⟦Q⟧(⟦P⟧(S)), in a document
 module _ {C : Type 0} (doc : List Node) (Meets : C → NodeSet) where
@@ -86,8 +103,19 @@ onAxis parent x y = isParent y x
 onAxis ancestor x y = isAbove y x
 onAxis ancestorOrSelf x y = same x y || isAbove y x
 
+abbrev pub areSiblings : Node → Node → Bool
+areSiblings (top k n) y = false
+areSiblings (under k n w p) y = isParent p y
+
+abbrev pub follows : Node → Node → Bool
+follows x y = ltb (nodeNumber x) (nodeNumber y) && (not (isAbove x y) && not (isAbove y x))
+
 abbrev pub onWritten : WrittenAxis → Node → Node → Bool
 onWritten (along a) x y = onAxis a x y
+onWritten following x y = follows x y
+onWritten followingSibling x y = areSiblings x y && ltb (nodeNumber x) (nodeNumber y)
+onWritten preceding x y = follows y x
+onWritten precedingSibling x y = areSiblings x y && ltb (nodeNumber y) (nodeNumber x)
 
 module _ {C : Type 0} (meets : List Node → C → Node → Bool) (doc : List Node) where
   -- the nodes that one step leads to from the nodes xs

@@ -2,19 +2,22 @@
 -- nodes. It is symmetric in the documents, and speaks of any start, any type and context, and any conditions with five laws.
 use mathlib.Core.Bool.{Bool}
 use mathlib.Core.List.{List, [], _∷_, _++_, List·Memᴰ as In, List·Memᴰ·head as here, Memᴰ·append-left as append-left, Memᴰ·append-right as append-right}
-use mathlib.Core.Path.{_≡_, refl}
+use mathlib.Core.Path.{_≡_, refl, ap, subst}
 use Prim.Native.Nat.{ℕ, suc}
+use native.Mathlib.Omega.{arith}
 use lib.Dec.{T}
 use Rattle.inference_spec.specs.Needed.{linked, between, complete, need}
 use Rattle.inference_spec.specs.Types.{Env, cutTo, move, narrow, infer, inferAll}
+use Rattle.path_laws.specs.Paths.{passingSteps, step-parts}
 use Rattle.path_laws.specs.Selection.{test-passes}
-use Rattle.path_spec.specs.Paths.{WrittenAxis, along, NodeTest, WrittenStep, Step, expandStep, expandFrom}
-use Rattle.path_spec.specs.Selection.{NodeSet, Passes, passes, OnAxis, OnWritten, on-along, StepSet, PathSet}
-use Rattle.projection_laws.specs.Documents.{SubsetOf, Within, Valid, AllValid, Lawful}
+use Rattle.path_spec.specs.Paths.{Axis, WrittenAxis, NodeTest, WrittenStep, Step, passing, siblingSteps, orderSteps, expandStep, expandFrom}
+use Rattle.path_spec.specs.Selection.{NodeSet, Passes, passes-node, passes, OnAxis, on-child, on-parent, Siblings, siblings, OnWritten, on-along, on-following, on-following-sibling, on-preceding, on-preceding-sibling, StepSet, PathSet}
+use Rattle.projection_laws.specs.Documents.{SubsetOf, Within, Valid, AllValid, Lawful, edge-valid}
+use Rattle.projection_laws.specs.Siblings.{SiblingsAbove, siblings-above, up-valid, down-valid}
 use Rattle.projection_laws.specs.Soundness.{Typed, cut-within, narrow-typed, move-typed, axis-linked, axis-within}
 use Rattle.schema_spec.specs.Names.{Name, Names}
 use Rattle.schema_spec.specs.Types.{Types}
-use Rattle.table_spec.specs.Nodes.{Node, nameOf}
+use Rattle.table_spec.specs.Nodes.{Node, nodeNumber, nameOf}
 use Rattle.text_laws.specs.Lists.{any-in, in-filter, in-gather}
 use Rattle.text_spec.specs.Lists.{anyOf, gather}
 
@@ -78,18 +81,50 @@ module _ {C : Type 0} (s : Types) (Meets : List Node → C → Node → Type 0) 
       of-navigation (StepSet doc (Meets doc) p S) (record { from = x; member = i; axis = h .axis; present = h .present; test = h .test; condition = h .condition }) t
 
 module _ {C : Type 0} (s : Types) (Meets : List Node → C → Node → Type 0) (noCondition : C) (none-met : (doc : List Node) (y : Node) → Meets doc noCondition y) (doc : List Node) where
-  -- a written step, in valid nodes, is a navigation of the steps by which it is analysed
-  pub written-navigation : (i : ℕ) {a : WrittenAxis} {t : NodeTest ℕ} {c : C} {x y : Node} → OnWritten a x y → Valid s y → Passes t (nameOf y) → Meets doc c y
-      → Navigation s Meets doc (expandStep noCondition i a t c) x y
-  written-navigation i (on-along o) v q m = step-along (record { valid = v; axis = o; test = q; condition = m }) stay
+  -- a step in front of the last part of a written step, and the last part
+  passed : (i : ℕ) {a : Axis} {x y : Node} → OnAxis a x y → Valid s y → StepMade s Meets doc (passing noCondition i a) x y
+  passed i {y = y} o v = record { valid = v; axis = o; test = passes-node; condition = none-met doc y }
 
-  pub written-expands : AllValid s doc → (i : ℕ) {ps : List (WrittenStep ℕ C)} {x m : Node} → WrittenNavigation s Meets doc ps x m → Navigation s Meets doc (expandFrom noCondition i ps) x m
-  written-expands ok i stay = stay
-  written-expands ok i (written-step {y = y} h t) = navigation-join s Meets doc (written-navigation i (h .axis) (ok y (h .present)) (h .test) (h .condition)) (written-expands ok (suc i) t)
+  last-part : {i : ℕ} {a : Axis} {t : NodeTest ℕ} {c : C} {x y : Node} → OnAxis a x y → Valid s y → Passes t (nameOf y) → Meets doc c y
+      → Navigation s Meets doc (record { written = i; axis = a; test = t; condition = c } ∷ []) x y
+  last-part o v q m = step-along (record { valid = v; axis = o; test = q; condition = m }) stay
+
+  sibling-navigation : (i : ℕ) {t : NodeTest ℕ} {c : C} {x y : Node} → Siblings x y → Valid s y → Passes t (nameOf y) → Meets doc c y
+      → Navigation s Meets doc (siblingSteps noCondition i t c) x y
+  sibling-navigation i (siblings e f) v q m = step-along (passed i (on-parent e) (edge-valid s f v)) (last-part (on-child f) v q m)
+
+  order-navigation : (i : ℕ) {t : NodeTest ℕ} {c : C} {x y : Node} → Valid s x → SiblingsAbove x y → Valid s y → Passes t (nameOf y) → Meets doc c y
+      → Navigation s Meets doc (orderSteps noCondition i t c) x y
+  order-navigation i w r v q m =
+      let second : Valid s (r .second) = down-valid s (r .down) v in
+      step-along (passed i (r .up) (up-valid s (r .up) w))
+      (navigation-join s Meets doc (sibling-navigation i (siblings (r .first-edge) (r .second-edge)) second passes-node (none-met doc (r .second))) (last-part (r .down) v q m))
+
+  -- a written step, in valid nodes, is a navigation of the steps by which it is analysed
+  pub written-navigation : (i : ℕ) {a : WrittenAxis} {t : NodeTest ℕ} {c : C} {x y : Node} → OnWritten a x y → Valid s x → Valid s y → Passes t (nameOf y) → Meets doc c y
+      → Navigation s Meets doc (expandStep noCondition i a t c) x y
+  written-navigation i (on-along o) w v q m = last-part o v q m
+  written-navigation i (on-following {x = x} {y = y} f) w v q m =
+      order-navigation i w (siblings-above s x y w v (λ e. (let k = ap nodeNumber e in omega (arith, f .after))) (f .no-descendant) (f .no-ancestor)) v q m
+  written-navigation i (on-following-sibling h l) w v q m = sibling-navigation i h v q m
+  written-navigation i (on-preceding {x = x} {y = y} f) w v q m =
+      order-navigation i w (siblings-above s x y w v (λ e. (let k = ap nodeNumber e in omega (arith, f .after))) (f .no-ancestor) (f .no-descendant)) v q m
+  written-navigation i (on-preceding-sibling h l) w v q m = sibling-navigation i h v q m
+
+  pub written-expands : AllValid s doc → (i : ℕ) {ps : List (WrittenStep ℕ C)} {x m : Node} → Valid s x → WrittenNavigation s Meets doc ps x m → Navigation s Meets doc (expandFrom noCondition i ps) x m
+  written-expands ok i w stay = stay
+  written-expands ok i w (written-step {y = y} h t) =
+      let v : Valid s y = ok y (h .present) in
+      navigation-join s Meets doc (written-navigation i (h .axis) w v (h .test) (h .condition)) (written-expands ok (suc i) v t)
+
+  last-condition : (qs : List (Step ℕ C)) (p : Step ℕ C) (x y : Node) → Navigation s Meets doc (qs ++ (p ∷ [])) x y → Meets doc (p .condition) y
+  last-condition [] p x y (step-along h stay) = h .condition
+  last-condition (q ∷ qs) p x y (step-along {y = z} h l) = last-condition qs p z y l
 
   -- the condition of a written step stands at the end of its navigation
   pub navigation-condition : (i : ℕ) (a : WrittenAxis) (t : NodeTest ℕ) (c : C) (x y : Node) → Navigation s Meets doc (expandStep noCondition i a t c) x y → Meets doc c y
-  navigation-condition i (along a) t c x y (step-along h stay) = h .condition
+  navigation-condition i a t c x y n =
+      last-condition (passingSteps noCondition i a) _ x y (subst (λ (l : List (Step ℕ C)). Navigation s Meets doc l x y) (step-parts noCondition i a t c) n)
 
 module _ {C : Type 0} (s : Types) (law : Lawful s) (Meets : List Node → C → Node → Type 0) (keeps : Names → C → Name → Bool) (wants : Names → C → Name → Names) (noCondition : C) (laws : ConditionLaws s Meets keeps wants noCondition) where
   -- ---- in one document: types and contexts follow a navigation, and it runs along a complete walk
@@ -167,7 +202,7 @@ module _ {C : Type 0} (s : Types) (law : Lawful s) (Meets : List Node → C → 
         let q = expandStep noCondition i (p .axis) (p .test) (p .condition) in
         let u : Valid s y = dv y (h .present) in
         let a : Arrived r e q (expandFrom noCondition (suc i) ps) v x y =
-        navigation-alike v o f w sub (written-navigation s Meets noCondition (laws .none-met) d i (h .axis) u (h .test) (h .condition)) (written-expands s Meets noCondition (laws .none-met) d dv (suc i) t) in
+        navigation-alike v o f w sub (written-navigation s Meets noCondition (laws .none-met) d i (h .axis) o u (h .test) (h .condition)) (written-expands s Meets noCondition (laws .none-met) d dv (suc i) u t) in
         let z = written-alike (suc i) (inferAll s keeps q v) u (a .typed) (a .safe) (a .left) t in (
           written-step
               (record {

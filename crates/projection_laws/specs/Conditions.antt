@@ -38,7 +38,7 @@ module _ (s : Types) (law : Lawful s) where
       let e = env (nameOf y ∷ []) k in
       let laws = free-fair s in
       let reached : List (PlainStep ℕ) → Bool = λ l. not (isEmpty (inferAll s keepsAll (expand tt l) e .type)) in
-      let typed = navigation-typed s law Free keepsAll wantsNothing tt laws doc ok e v (here refl, w) (written-expands s Free tt (laws .none-met) doc ok 1 (alternative-navigation s doc q y z p)) in
+      let typed = navigation-typed s law Free keepsAll wantsNothing tt laws doc ok e v (here refl, w) (written-expands s Free tt (laws .none-met) doc ok 1 v (alternative-navigation s doc q y z p)) in
       any-in reached i (not-intro (isEmpty (inferAll s keepsAll (expand tt q) e .type)) (member-fills (typed .0)))
 
   condition-agrees : (r : Names) (d e : List Node) → AllValid s d → AllValid s e → Alike r d e → (c : Condition ℕ) (k : Names) (y : Node) → Valid s y → Within k y

@@ -19,9 +19,10 @@ abbrev pub Within : Names → Node → Type 0
 Within a (top k n) = In n a
 Within a (under k n w p) = In n a × Within a p
 
--- the root has the root's name, and each other node's name is held by its parent's
+-- the root has number 0 and the root's name, so that all nodes of a document stand under one root, and each other node's name is held by its
+-- parent's
 abbrev pub Valid : Types → Node → Type 0
-Valid s (top k n) = n ≡ s .root
+Valid s (top k n) = (k ≡ 0) × (n ≡ s .root)
 Valid s (under k n w p) = T (s .holds (nameOf p) n) × Valid s p
 
 abbrev pub AllValid : Types → List Node → Type 0
@@ -72,7 +73,7 @@ edge-holds s edge v = v .0
 
 module _ (s : Types) (law : Lawful s) where
   pub name-in : (y : Node) → Valid s y → In (nameOf y) (s .names)
-  name-in (top k n) v = subst (λ (z : Name). In z (s .names)) (sym v) (law .rooted)
+  name-in (top k n) v = subst (λ (z : Name). In z (s .names)) (sym (v .1)) (law .rooted)
   name-in (under k n w p) v = law .closed (nameOf p) n (v .0) .1
 
   pub above-below : {x y : Node} → Above x y → Valid s y → T (isBelow s (nameOf x) (nameOf y))

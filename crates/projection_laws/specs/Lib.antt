@@ -1,4 +1,5 @@
 pub mod Documents
+pub mod Siblings
 pub mod Soundness
 pub mod Agreement
 pub mod Conditions

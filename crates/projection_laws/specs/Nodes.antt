@@ -19,7 +19,7 @@ use Rattle.schema_laws.specs.Names.{same-equal, same-name, in-within}
 use Rattle.schema_spec.specs.Closure.{related, closure}
 use Rattle.schema_spec.specs.Names.{Name, Names, sameName, within}
 use Rattle.schema_spec.specs.Types.{Types}
-use Rattle.table_spec.specs.Nodes.{Node, top, under, nameOf, nodeNumber, isTop}
+use Rattle.table_spec.specs.Nodes.{Node, top, under, nameOf, nodeNumber}
 use Rattle.text_laws.specs.Lists.{in-filter, filter-in, filter-filter, in-gather}
 use Rattle.text_laws.specs.Tests.{or-left, or-right, or-cases}
 use Rattle.text_spec.specs.Lists.{filterBy}
@@ -37,7 +37,7 @@ module _ (s : Types) (law : Lawful s) (r : Names) where
 
   node-reached : (y : Node) → Valid s y → Within r y → T (reached (nameOf y))
   node-reached (top k n) v w =
-      or-left (sameName (s .root) n) (related (closure inside (s .holds)) (s .root) n) (subst (λ (z : Name). T (sameName (s .root) z)) (sym v) (same-name (s .root)))
+      or-left (sameName (s .root) n) (related (closure inside (s .holds)) (s .root) n) (subst (λ (z : Name). T (sameName (s .root) z)) (sym (v .1)) (same-name (s .root)))
   node-reached (under k n x p) v w =
       let step : Chain inside (s .holds) (nameOf p) n = one (member p (v .1) (w .1)) (member (under k n x p) v w) (v .0) in
       or-right (sameName (s .root) n) (related (closure inside (s .holds)) (s .root) n)
@@ -59,7 +59,7 @@ start-valid : (s : Types) (a : Start) (d : List Node) → AllValid s d → (x : 
 start-valid s rootElement d ok x h = ok x (h .0)
 
 start-typed : (s : Types) (a : Start) (d : List Node) (x : Node) → Valid s x → StartSet a d x → Typed (atStart s a) x
-start-typed s rootElement d (top k n) v h = (here v, here v)
+start-typed s rootElement d (top k n) v h = (here (v .1), here (v .1))
 start-typed s rootElement d (under k n w p) v h = absurd (h .1)
 
 start-within : (a : Start) (d : List Node) (r : Names) (x : Node) → StartSet a d x → In (nameOf x) r → Within r x
@@ -87,7 +87,7 @@ module _ (s : Types) (law : Lawful s) (p : LocationPath ℕ) where
       let w : Within r x =
       start-within a d r x (t .1)
       (complete-needed s law Holds keeps wants unconditional laws (expand unconditional (p .steps)) start (nameOf x)
-      (navigation-complete s law Holds keeps wants unconditional laws d dv start v f (written-expands s Holds unconditional (laws .none-met) d dv 1 (t .2)))) in
+      (navigation-complete s law Holds keeps wants unconditional laws d dv start v f (written-expands s Holds unconditional (laws .none-met) d dv 1 v (t .2)))) in
       of-navigation s Holds e (StartSet a e) (start-alike a r d e al x w (t .1))
       (written-alike s law Holds keeps wants unconditional laws r d e dv ev al 1 start v f w (λ n j. j) (t .2) .0)
 

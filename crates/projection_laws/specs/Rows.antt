@@ -140,8 +140,8 @@ unfolding nodesOf
 rows-valid s lent [] t y i = elim i [ ]
 rows-valid s lent (r ∷ rs) t y i = pick i
   where
-    root : r .name ≡ s .root
-    root = rooted s r rs t .name
+    root : Valid s (top (r .number) (r .name))
+    root = (rooted s r rs t .number, rooted s r rs t .name)
 
     first : AllValid s (top (r .number) (r .name) ∷ [])
     first z (here e) = subst (λ (w : Node). Valid s w) (sym e) root

@@ -5,11 +5,10 @@ use mathlib.Core.Path.{_≡_, refl, sym, ap, _∙_}
 use Prim.Native.Nat.{ℕ}
 use lib.ListN.{length}
 use Rattle.cells.specs.row_sets.Columns.{marks, union, intersection, picked}
-use Rattle.path_laws.specs.Inverses.{inverse, inverse-axis}
-use Rattle.path_spec.specs.Paths.{WrittenAxis, along, PlainStep, Condition, unconditional, alternatives}
-use Rattle.path_spec.specs.Selection.{passes, onAxis, onWritten, stepFrom, pathFrom, always, holdsAt}
-use Rattle.selection_laws.specs.Marked.{Marked, marked-picked, rows-marked, intersection-marked, union-marked, same-marked, test-marked, image-marked}
-use Rattle.selection_laws.specs.marks.Parents.{imageMarks}
+use Rattle.path_laws.specs.Inverses.{inverseWritten, inverse-written}
+use Rattle.path_spec.specs.Paths.{WrittenAxis, PlainStep, Condition, unconditional, alternatives}
+use Rattle.path_spec.specs.Selection.{passes, onWritten, stepFrom, pathFrom, always, holdsAt}
+use Rattle.selection_laws.specs.Marked.{Marked, marked-picked, rows-marked, intersection-marked, union-marked, same-marked, test-marked, written-marked}
 use Rattle.selection_laws.specs.marks.Selection.{inverseMarks, noMarks, testMarks, alternativeMarks, alternativesMarks, conditionMarks}
 use Rattle.table_laws.specs.Parents.{Placed}
 use Rattle.table_spec.specs.Nodes.{Node, nameOf}
@@ -45,13 +44,14 @@ module _ (ps : List ℕ) (doc : List Node) (tree : Placed ps doc) where
   none-marked = rows-marked doc (length ps) (λ r. false) (λ y. false) (sym (tree .size)) (λ r y a. refl)
 
   inverse-marked : (a : WrittenAxis) (g : Node → Bool) (m : List ℕ) → Marked doc g m → Marked doc (λ x. anyOf (λ y. onWritten a x y && g y) doc) (inverseMarks a ps m)
-  inverse-marked (along a) g m u =
-      same-marked doc (λ x. anyOf (λ y. onAxis (inverse a) y x) (picked m doc)) (λ x. anyOf (λ y. onAxis a x y && g y) doc) (imageMarks (inverse a) ps m)
+  inverse-marked a g m u =
+      same-marked doc (λ x. anyOf (λ y. onWritten (inverseWritten a) y x) (picked m doc)) (λ x. anyOf (λ y. onWritten a x y && g y) doc) (inverseMarks a ps m)
       (λ r x at-r.
-      ap (anyOf (λ y. onAxis (inverse a) y x)) (sym (marked-picked doc g m u))
-      ∙ any-of-filter (λ y. onAxis (inverse a) y x) g doc
-      ∙ any-of-cong (λ y. g y && onAxis (inverse a) y x) (λ y. onAxis a x y && g y) doc (λ y. and-comm (g y) (onAxis (inverse a) y x) ∙ ap (λ (b : Bool). b && g y) (inverse-axis a y x)))
-      (image-marked ps doc tree (inverse a) m (u .size))
+      ap (anyOf (λ y. onWritten (inverseWritten a) y x)) (sym (marked-picked doc g m u))
+      ∙ any-of-filter (λ y. onWritten (inverseWritten a) y x) g doc
+      ∙ any-of-cong (λ y. g y && onWritten (inverseWritten a) y x) (λ y. onWritten a x y && g y) doc
+      (λ y. and-comm (g y) (onWritten (inverseWritten a) y x) ∙ ap (λ (b : Bool). b && g y) (inverse-written a y x)))
+      (written-marked ps doc tree (inverseWritten a) m (u .size))
 
   pub steps-lead-marked : (q : List (PlainStep ℕ)) → Marked doc (leads doc q) (alternativeMarks ps (map nameOf doc) q)
   unfolding alternativeMarks

@@ -8,11 +8,11 @@ use native.Mathlib.Omega.{arith}
 use lib.Dec.{eqb}
 use lib.ListN.{length, getD, getElem?, length-map}
 use Rattle.cells.specs.row_sets.Columns.{RowSet, mark, isMarked, marks, union, intersection, picked, mark-test, marks-length, marks-marked}
-use Rattle.path_spec.specs.Paths.{Axis, NodeTest}
-use Rattle.path_spec.specs.Selection.{passes, onAxis}
-use Rattle.selection_laws.specs.Axes.{axis-rows}
-use Rattle.selection_laws.specs.marks.Parents.{rowOnAxis, image, imageMarks}
-use Rattle.selection_laws.specs.marks.Selection.{testMarks}
+use Rattle.path_spec.specs.Paths.{WrittenAxis, NodeTest}
+use Rattle.path_spec.specs.Selection.{passes, onWritten}
+use Rattle.selection_laws.specs.Axes.{written-axis-rows}
+use Rattle.selection_laws.specs.marks.Order.{rowOnWritten, written-rows}
+use Rattle.selection_laws.specs.marks.Selection.{writtenMarks, testMarks}
 use Rattle.table_laws.specs.Parents.{NodeAt, Placed}
 use Rattle.table_laws.specs.Places.{at-bound, none-some}
 use Rattle.table_spec.specs.Nodes.{Node, nameOf}
@@ -93,11 +93,11 @@ test-marked t doc =
     }
 
 -- ---- an axis: a row is marked after exactly if a marked row's node has its node on the axis
-pub image-marked : (ps : List ℕ) (doc : List Node) → Placed ps doc → (a : Axis) (m : List ℕ) → length m ≡ length doc
-    → Marked doc (λ y. anyOf (λ x. onAxis a x y) (picked m doc)) (imageMarks a ps m)
-unfolding imageMarks image
-image-marked ps doc tree a m e =
-    rows-marked doc (length ps) (λ r. anyBelow (length ps) (λ q. isMarked m q && rowOnAxis a ps q r)) (λ y. anyOf (λ x. onAxis a x y) (picked m doc)) (sym (tree .size))
+pub written-marked : (ps : List ℕ) (doc : List Node) → Placed ps doc → (a : WrittenAxis) (m : List ℕ) → length m ≡ length doc
+    → Marked doc (λ y. anyOf (λ x. onWritten a x y) (picked m doc)) (writtenMarks a ps m)
+written-marked ps doc tree a m e =
+    rw (written-rows ps (tree .before) m (tree .opens) a)
+    (rows-marked doc (length ps) (λ r. anyBelow (length ps) (λ q. isMarked m q && rowOnWritten a ps q r)) (λ y. anyOf (λ x. onWritten a x y) (picked m doc)) (sym (tree .size))
     (λ r y at-r.
-    ap (λ (n : ℕ). anyBelow n (λ q. isMarked m q && rowOnAxis a ps q r)) (sym (tree .size))
-    ∙ sym (any-picked (λ x. onAxis a x y) (λ q. rowOnAxis a ps q r) m doc e (λ q x at-q. axis-rows ps doc tree a q r x y at-q at-r)))
+    ap (λ (n : ℕ). anyBelow n (λ q. isMarked m q && rowOnWritten a ps q r)) (sym (tree .size))
+    ∙ sym (any-picked (λ x. onWritten a x y) (λ q. rowOnWritten a ps q r) m doc e (λ q x at-q. written-axis-rows ps doc tree a q r x y at-q at-r))))

@@ -10,12 +10,12 @@ use borrow.Author.Tests.{eq-eqb, ne-eqb}
 use lib.Dec.{T, eqb}
 use lib.ListN.{length, getElem?}
 use Rattle.cells.specs.row_sets.Columns.{intersection, picked}
-use Rattle.path_spec.specs.Paths.{WrittenAxis, along, WrittenStep, Condition, Start, rootElement, LocationPath}
+use Rattle.path_spec.specs.Paths.{WrittenStep, Condition, Start, rootElement, LocationPath}
 use Rattle.path_spec.specs.Selection.{passes, onWritten, stepFrom, pathFrom, holdsAt, startNodes, selected, select, selectRows}
 use Rattle.schema_spec.specs.Names.{Name}
 use Rattle.schema_spec.specs.Types.{Types}
 use Rattle.selection_laws.specs.Conditions.{condition-marked}
-use Rattle.selection_laws.specs.Marked.{Marked, marked-picked, map-picked, rows-marked, intersection-marked, same-marked, test-marked, image-marked}
+use Rattle.selection_laws.specs.Marked.{Marked, marked-picked, map-picked, rows-marked, intersection-marked, same-marked, test-marked, written-marked}
 use Rattle.selection_laws.specs.marks.Selection.{writtenMarks, testMarks, conditionMarks, stepMarks, stepsMarks, rootMarks, startMarks, pathMarks, selectColumns}
 use Rattle.table_laws.specs.Columns.{parentsOf, namesOf, numbersOf}
 use Rattle.table_laws.specs.Parents.{NodeAt, ChildOf, child-of, Placed, nodes-placed, nodes-numbered, nodes-named}
@@ -26,9 +26,6 @@ use Rattle.text_laws.specs.Tests.{true-of}
 use Rattle.text_spec.specs.Lists.{anyOf}
 
 module _ (ps : List ℕ) (doc : List Node) (tree : Placed ps doc) where
-  written-marked : (a : WrittenAxis) (m : List ℕ) → length m ≡ length doc → Marked doc (λ y. anyOf (λ x. onWritten a x y) (picked m doc)) (writtenMarks a ps m)
-  written-marked (along a) m e = image-marked ps doc tree a m e
-
   -- the nodes that a step leads to from those at marked rows are at the rows that the step marks
   pub step-marked : (p : WrittenStep ℕ (Condition ℕ)) (m : List ℕ) → length m ≡ length doc
       → (stepFrom holdsAt doc p (picked m doc) ≡ picked (stepMarks ps (map nameOf doc) p m) doc) × (length (stepMarks ps (map nameOf doc) p m) ≡ length doc)
@@ -51,7 +48,7 @@ module _ (ps : List ℕ) (doc : List Node) (tree : Placed ps doc) where
       whole =
           same-marked doc (λ y. (reached y && tested y) && held y) (λ y. reached y && (tested y && held y)) out (λ r y a. and-assoc (reached y) (tested y) (held y))
           (intersection-marked doc (λ y. reached y && tested y) held (intersection (writtenMarks (p .axis) ps m) (testMarks (p .test) (map nameOf doc))) (conditionMarks ps (map nameOf doc) (p .condition))
-          (intersection-marked doc reached tested (writtenMarks (p .axis) ps m) (testMarks (p .test) (map nameOf doc)) (written-marked (p .axis) m e) (test-marked (p .test) doc))
+          (intersection-marked doc reached tested (writtenMarks (p .axis) ps m) (testMarks (p .test) (map nameOf doc)) (written-marked ps doc tree (p .axis) m e) (test-marked (p .test) doc))
           (condition-marked ps doc tree (p .condition)))
 
   pub steps-marked : (path : List (WrittenStep ℕ (Condition ℕ))) (m : List ℕ) → length m ≡ length doc

@@ -14,7 +14,7 @@ use Rattle.schema_spec.specs.Types.{Types}
 use Rattle.table_laws.specs.Fits.{attached-number, row-fits, fitting, rooted}
 use Rattle.table_laws.specs.Places.{at-before, at-end, at-bound, at-some}
 use Rattle.table_laws.specs.WellFormed.{table-means}
-use Rattle.table_spec.specs.Conditions.{WellFormed}
+use Rattle.table_spec.specs.Conditions.{RowAbove, parent, higher, WellFormed}
 use Rattle.table_spec.specs.Nodes.{Node, top, under, nodeNumber, nameOf, isTop, attachTo, nodeAt, nodesFrom, nodesOf}
 use Rattle.table_spec.specs.Rows.{Row, textOf}
 use Rattle.table_spec.specs.Tables.{rowFits, laterRows, wellFormed}
@@ -47,6 +47,15 @@ nodes-named lent rows =
 abbrev pub ParentsBefore : List ℕ → Type 0
 ParentsBefore ps = (r : ℕ) → 0 < r → r < length ps → getD ps r 0 < r
 
+-- row a is row r or above it, by a column of parents; nothing is above row 0
+pub data AtOrAbove (ps : List ℕ) (a : ℕ) : ℕ → Type 0 where
+  at-row : AtOrAbove ps a a
+  above-row : {r : ℕ} → 0 < r → AtOrAbove ps a (getD ps r 0) → AtOrAbove ps a r
+
+-- a column in which "each later parent is the row before or one above that"
+abbrev pub ParentsOpen : List ℕ → Type 0
+ParentsOpen ps = (i : ℕ) → suc i < length ps → AtOrAbove ps (getD ps (suc i) 0) i
+
 abbrev pub NodeAt : List Node → ℕ → Node → Type 0
 NodeAt doc r y = getElem? doc r ≡ some y
 
@@ -57,9 +66,17 @@ pub data ChildOf (doc : List Node) (p : ℕ) : Node → Type 0 where
 pub record Placed (ps : List ℕ) (doc : List Node) : Type 0 where
   pub size : length doc ≡ length ps
   pub before : ParentsBefore ps
+  pub opens : ParentsOpen ps
   pub root : (y : Node) → NodeAt doc 0 y → T (isTop y)
   pub later : (r : ℕ) (y : Node) → 0 < r → NodeAt doc r y → ChildOf doc (getD ps r 0) y
-  pub once : (q r : ℕ) (x : Node) → NodeAt doc q x → NodeAt doc r x → q ≡ r
+  pub rises : (q r : ℕ) (x y : Node) → NodeAt doc q x → NodeAt doc r y → q < r → nodeNumber x < nodeNumber y
+
+-- no node stands twice
+pub node-once : (ps : List ℕ) (doc : List Node) → Placed ps doc → (q r : ℕ) (x : Node) → NodeAt doc q x → NodeAt doc r x → q ≡ r
+node-once ps doc tree q r x a b =
+    let left : q < r → ⊥ = λ l. omega (arith, tree .rises q r x x a b l) in
+    let right : r < q → ⊥ = λ l. omega (arith, tree .rises r q x x b a l) in
+    omega arith
 
 -- ---- each row's parent is one of the k rows before it
 data Grows : ℕ → List Row → Type 0 where
@@ -123,7 +140,7 @@ module _ (lent : List ℕ) where
           subst (λ (d : List Node). ChildOf d (getD (front ++ (q .parent ∷ map (λ q. q .parent) rs)) r 0) y) u
           (subst (λ (c : List ℕ). ChildOf ((before ++ (z ∷ [])) ++ rest) (getD c r 0) y) v i)
 
--- ---- numbers rise, so no node stands twice
+-- ---- numbers rise, and parents are open
 getD-of : {A : Type 0} (f : A → ℕ) (xs : List A) (i : ℕ) (x : A) → getElem? xs i ≡ some x → getD (map f xs) i 0 ≡ f x
 getD-of f [] i x e = absurd (omega (arith, at-bound [] i x e))
 getD-of {A} f (a ∷ xs) zero x e = let h : a ≡ x = cc in ap f h
@@ -146,6 +163,21 @@ rise-far s rows w i (suc d) l =
     let e : suc (suc (i + d)) ≡ suc (i + suc d) = omega arith in
     subst (λ (k : ℕ). getD (numbers rows) i 0 < getD (numbers rows) k 0) e (omega arith)
 
+-- a row above another by the rows' parents is above it by their column
+row-column : (rows : List Row) {p i : ℕ} → RowAbove rows p i → AtOrAbove (map (λ r. r .parent) rows) p i
+row-column rows (parent {i = i} {r = r} a) =
+    above-row {r = suc i} (omega arith) (subst (AtOrAbove (map (λ q. q .parent) rows) (r .parent)) (sym (getD-of (λ q. q .parent) rows (suc i) r a)) at-row)
+row-column rows (higher {p = p} {i = i} {r = r} a h) =
+    above-row {r = suc i} (omega arith) (subst (AtOrAbove (map (λ q. q .parent) rows) p) (sym (getD-of (λ q. q .parent) rows (suc i) r a)) (row-column rows h))
+
+parents-open : (s : Types) (rows : List Row) → WellFormed s rows → ParentsOpen (map (λ r. r .parent) rows)
+parents-open s rows w i l =
+    let b : suc i < length rows = omega (arith, length-map rows (λ r. r .parent)) in
+    let q = at-some rows i (omega arith) in
+    let r = at-some rows (suc i) b in
+    subst (λ (k : ℕ). AtOrAbove (map (λ z. z .parent) rows) k i) (sym (getD-of (λ z. z .parent) rows (suc i) (r .0) (r .1)))
+    (⊎-elim (λ e. subst (AtOrAbove (map (λ z. z .parent) rows) (r .0 .parent)) e at-row) (row-column rows) (w .laterRow i (q .0) (r .0) (q .1) (r .1) .parentOpen))
+
 -- ---- the nodes of a table
 pub nodes-placed : (s : Types) (lent : List ℕ) (rows : List Row) → T (wellFormed s rows) → Placed (map (λ r. r .parent) rows) (nodesOf lent rows)
 unfolding nodesOf
@@ -153,12 +185,20 @@ nodes-placed s lent [] t =
     record {
       size = refl;
       before = λ r p l. absurd (omega arith);
+      opens = λ i l. absurd (omega arith);
       root = λ y a. absurd (omega (arith, at-bound [] 0 y a));
       later = λ r y p a. absurd (omega (arith, at-bound [] r y a));
-      once = λ q r x a b. absurd (omega (arith, at-bound [] q x a));
+      rises = λ q r x y a b l. absurd (omega (arith, at-bound [] q x a));
     }
 nodes-placed s lent (x ∷ rs) t =
-    record { size = long; before = first; root = λ y a. (let h : y ≡ top (x .number) (x .name) = cc in rw h tt); later = under-parent; once = only }
+    record {
+      size = long;
+      before = first;
+      opens = parents-open s (x ∷ rs) (table-means s (x ∷ rs) t);
+      root = λ y a. (let h : y ≡ top (x .number) (x .name) = cc in rw h tt);
+      later = under-parent;
+      rises = numbers-rise;
+    }
   where
     doc : List Node
     doc = nodesFrom lent [] (x ∷ rs)
@@ -179,16 +219,10 @@ nodes-placed s lent (x ∷ rs) t =
     number-at : (r : ℕ) (y : Node) → NodeAt doc r y → getD (numbers (x ∷ rs)) r 0 ≡ nodeNumber y
     number-at r y a = ap (λ (k : List ℕ). getD k r 0) (sym (nodes-numbered lent (x ∷ rs))) ∙ getD-of nodeNumber doc r y a
 
-    apart : (q r : ℕ) (y : Node) → NodeAt doc q y → NodeAt doc r y → q < r → ⊥
-    apart q r y a b l =
+    numbers-rise : (q r : ℕ) (y z : Node) → NodeAt doc q y → NodeAt doc r z → q < r → nodeNumber y < nodeNumber z
+    numbers-rise q r y z a b l =
         let w = table-means s (x ∷ rs) t in
         let e : suc (q + (r - suc q)) ≡ r = omega arith in
-        let bound : r < length (x ∷ rs) = omega (arith, at-bound doc r y b, nodes-length lent [] (x ∷ rs)) in
+        let bound : r < length (x ∷ rs) = omega (arith, at-bound doc r z b, nodes-length lent [] (x ∷ rs)) in
         let far = rise-far s (x ∷ rs) w q (r - suc q) (omega arith) in
-        omega (arith, subst (λ (k : ℕ). getD (numbers (x ∷ rs)) q 0 < getD (numbers (x ∷ rs)) k 0) e far, number-at q y a, number-at r y b)
-
-    only : (q r : ℕ) (y : Node) → NodeAt doc q y → NodeAt doc r y → q ≡ r
-    only q r y a b =
-        let left : q < r → ⊥ = apart q r y a b in
-        let right : r < q → ⊥ = apart r q y b a in
-        omega arith
+        omega (arith, subst (λ (k : ℕ). getD (numbers (x ∷ rs)) q 0 < getD (numbers (x ∷ rs)) k 0) e far, number-at q y a, number-at r z b)

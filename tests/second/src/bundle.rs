@@ -11,9 +11,13 @@ pub enum Axis {
     Parent,
     Ancestor,
     AncestorOrSelf,
+    Following,
+    FollowingSibling,
+    Preceding,
+    PrecedingSibling,
 }
 
-const AXES: [(&str, Axis); 7] = [
+pub const AXES: [(&str, Axis); 11] = [
     ("self::", Axis::SelfAxis),
     ("child::", Axis::Child),
     ("descendant::", Axis::Descendant),
@@ -21,6 +25,10 @@ const AXES: [(&str, Axis); 7] = [
     ("parent::", Axis::Parent),
     ("ancestor::", Axis::Ancestor),
     ("ancestor-or-self::", Axis::AncestorOrSelf),
+    ("following::", Axis::Following),
+    ("following-sibling::", Axis::FollowingSibling),
+    ("preceding::", Axis::Preceding),
+    ("preceding-sibling::", Axis::PrecedingSibling),
 ];
 
 #[derive(Clone, Debug, PartialEq, Eq)]

@@ -1,4 +1,5 @@
 //! Random texts and extracts with one fault each, so that every refusal comes.
+use crate::bundle::AXES;
 use crate::random::{damaged, Random};
 use crate::schema::Schema;
 
@@ -35,8 +36,22 @@ pub fn bundle(r: &mut Random, valid: &str, s: &Schema) -> Vec<u8> {
         10 if r.chance(30) => Vec::new(),
         11 if r.chance(30) => with("self::node()\n".repeat(330)),
         12 => with(vec!["descendant-or-self::node()"; 18 + r.below(3)].join("/") + "\n"),
+        // of one axis, which may stand for several steps
+        13 => with(vec![any_axis(r).to_string() + "node()"; 15 + r.below(3)].join("/") + "\n"),
+        14 => with(format!("self::node()[{}]\n", vec![any_axis(r).to_string() + "node()"; 3 + r.below(3)].join("/"))),
+        15..=16 => with(misspelt_axis(r) + "node()\n"),
         _ => valid.as_bytes().to_vec(),
     }
+}
+
+fn any_axis(r: &mut Random) -> &'static str {
+    AXES[r.below(AXES.len())].0
+}
+
+/// The first bytes of an axis, then the rest of one, most often of another.
+fn misspelt_axis(r: &mut Random) -> String {
+    let (first, second) = (any_axis(r), any_axis(r));
+    first[..r.below(first.len())].to_string() + &second[r.below(second.len())..]
 }
 
 /// A journal for a valid one, beside damage: too deep, empty, with a bare byte outside the root.

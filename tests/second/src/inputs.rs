@@ -1,5 +1,5 @@
 //! Random inputs of the comparisons, and how often each thing came in them.
-use crate::bundle::{Axis, Path};
+use crate::bundle::{Path, AXES};
 use crate::faults;
 use crate::guided;
 use crate::journal::read_journal;
@@ -29,18 +29,26 @@ impl Seen {
 
     pub fn path(&mut self, path: &Path, nodes: usize) {
         self.note(if nodes > 0 { "a selection with nodes" } else { "a selection without" }.to_string());
+        let selected = if nodes > 0 { "nodes selected" } else { "none" };
         for step in path {
             let conditional = if step.condition.is_some() { " with a condition" } else { "" };
-            self.note(format!("{:?}{conditional}, {}", step.axis, if nodes > 0 { "nodes selected" } else { "none" }));
+            self.note(format!("{:?}{conditional}, {selected}", step.axis));
+            for inner in step.condition.iter().flatten().flatten() {
+                self.note(format!("{:?} in brackets, {selected}", inner.axis));
+            }
         }
     }
 }
 
-/// What a comparison of selections must see: each axis with and without a condition, with nodes and without.
+/// What a comparison of selections must see: each axis with and without a condition and in brackets, with nodes and without.
 pub fn wanted_steps() -> Vec<String> {
-    let axes = [Axis::SelfAxis, Axis::Child, Axis::Descendant, Axis::DescendantOrSelf, Axis::Parent, Axis::Ancestor, Axis::AncestorOrSelf];
-    let steps = axes.iter().flat_map(|a| ["", " with a condition"].map(|c| [", nodes selected", ", none"].map(|n| format!("{a:?}{c}{n}")))).flatten();
-    steps.chain(["a selection with nodes", "a selection without"].map(String::from)).collect()
+    let steps = AXES.iter().flat_map(|(_, a)| ["", " with a condition", " in brackets"].map(|c| [", nodes selected", ", none"].map(|n| format!("{a:?}{c}{n}"))));
+    steps.flatten().chain(["a selection with nodes", "a selection without"].map(String::from)).collect()
+}
+
+/// What is wanted and never came.
+pub fn missing(seen: &Seen, wanted: Vec<String>) -> Vec<String> {
+    wanted.into_iter().filter(|w| !seen.counts.contains_key(w)).collect()
 }
 
 /// Prints what came how often; ends the program with 1 where something wanted never came.
@@ -49,7 +57,7 @@ pub fn report(name: &str, seen: &Seen, inputs: usize, wanted: Vec<String>) {
         println!("{times:8} {what}");
     }
     println!("{name}: {} calls on {inputs} random inputs answer alike", seen.calls);
-    let missing: Vec<String> = wanted.into_iter().filter(|w| !seen.counts.contains_key(w)).collect();
+    let missing = missing(seen, wanted);
     if !missing.is_empty() {
         println!("{name}: these never came: {}", missing.join("; "));
         std::process::exit(1);

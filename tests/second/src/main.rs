@@ -1,9 +1,15 @@
-//! A second implementation of document 01, written from it and not from the proved code, to compare with. Nothing here is proved.
+//! A second implementation of document 01 and of document 02's R-1, written from them and not from the proved code, to compare with. Nothing here is
+//! proved.
 //! `second journals SEED COUNT CASES OUTCOMES` writes random journals under random schemas and their outcomes into two files, in the form of
 //! tests/timing/plain_journal.c. `second demand3 SEED COUNT` tries demand 3 on random schemas, bundles and journals. Without arguments standard input holds cases: what is done (a line), the number of texts (a line), the limits (a line), then each text after
 //! its length in four bytes. Standard output holds for each the outcome as in tests/vectors, after its length in four bytes.
 mod bundle;
 mod extract;
+#[allow(dead_code)]
+mod faults;
+mod guided;
+#[allow(dead_code)]
+mod inputs;
 mod journal;
 mod listing;
 mod needed;
@@ -15,14 +21,13 @@ mod table;
 mod text;
 
 use crate::bundle::read_bundle;
+use crate::inputs::{missing, random_bundle, random_texts, wanted_steps, Seen, MAX_JOURNAL};
 use crate::journal::read_journal;
 use crate::needed::{bits, bundle_needs, path_needs};
 use crate::schema::{read_schema, Name, Names, Schema};
 use crate::table::Row;
 use crate::text::{refused, Refused};
 use std::io::{stdin, stdout, BufRead, Read, Write};
-
-const MAX_JOURNAL: usize = 1_048_576;
 
 fn lines<'a>(rows: &'a [Row], cells: impl Fn(&'a Row) -> Vec<usize>) -> Vec<u8> {
     let mut out = format!("ok {}\n", rows.len());
@@ -41,6 +46,12 @@ fn table(text: &[u8]) -> Option<Vec<Row>> {
             Some(Row { number: n[0], name: Name::of_code(n[1] as u32)?, parent: n[2], start: n[3], size: n[4] })
         })
         .collect()
+}
+
+/// For each path a line of node numbers.
+fn selections(paths: &[bundle::Path], rows: &[Row]) -> Vec<u8> {
+    let line = |p| numbers(rows, p).iter().map(usize::to_string).collect::<Vec<_>>().join(" ") + "\n";
+    paths.iter().map(line).collect::<String>().into_bytes()
 }
 
 fn outcome(does: &str, texts: &[Vec<u8>], limits: &[usize]) -> Result<Vec<u8>, Refused> {
@@ -72,8 +83,11 @@ fn outcome(does: &str, texts: &[Vec<u8>], limits: &[usize]) -> Result<Vec<u8>, R
         "select" => {
             let ps = read_bundle(&s, &texts[1])?;
             let rows = read_journal(&s, &texts[2], journal_limit)?;
-            let line = |p| table::selected(&rows, p).iter().map(|&i| rows[i].number.to_string()).collect::<Vec<_>>().join(" ") + "\n";
-            Ok(ps.iter().map(line).collect::<String>().into_bytes())
+            Ok(selections(&ps, &rows))
+        }
+        "select-extract" => {
+            let ps = read_bundle(&s, &texts[1])?;
+            Ok(selections(&ps, &extract::read_extract(&s, &texts[2])?))
         }
         "extract" => {
             let ps = read_bundle(&s, &texts[1])?;
@@ -170,10 +184,11 @@ fn numbers(rows: &[Row], path: &bundle::Path) -> Vec<usize> {
 fn try_demand3(seed: u64, count: usize) {
     let mut r = random::Random::new(seed);
     let (mut tried, mut found, mut smaller) = (0, 0, 0);
+    let mut seen = Seen::default();
     while tried < count {
-        let (_, s) = random_schema(&mut r);
-        let text = random::journal(&mut r, &s);
-        let (Ok(paths), Ok(rows)) = (read_bundle(&s, random::bundle(&mut r, &s).as_bytes()), read_journal(&s, &text, MAX_JOURNAL)) else { continue };
+        let (_, s, text) = random_texts(&mut r);
+        let bundle = random_bundle(&mut r, &s, &text);
+        let (Ok(paths), Ok(rows)) = (read_bundle(&s, bundle.as_bytes()), read_journal(&s, &text, MAX_JOURNAL)) else { continue };
         let needed = bundle_needs(&s, &paths);
         let more: Names = (0..64).filter_map(Name::of_code).filter(|n| needed.contains(n) || r.chance(30)).collect();
         let kept = table::cut(&rows, &needed);
@@ -182,12 +197,15 @@ fn try_demand3(seed: u64, count: usize) {
             let whole = numbers(&rows, p);
             assert!(whole == numbers(&kept, p) && whole == numbers(&table::cut(&rows, &more), p) && whole == numbers(&read, p), "{p:?}");
             found += !whole.is_empty() as usize;
+            seen.path(p, whole.len());
         }
         smaller += (kept.len() < rows.len()) as usize;
         tried += 1;
     }
     println!("demand 3 held {tried} times; {found} selections had nodes, {smaller} extracts had fewer rows than their journals");
     assert!(found > count / 10 && smaller > count / 10);
+    let never = missing(&seen, wanted_steps());
+    assert!(never.is_empty(), "these never came: {}", never.join("; "));
 }
 
 fn main() {

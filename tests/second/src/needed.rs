@@ -1,7 +1,28 @@
-//! Needed names: types and contexts step by step, then every complete walk.
-use crate::bundle::{Axis, Path, Step};
+//! Needed names: paths rewritten to axes up and down, types and contexts step by step, then every complete walk.
+use crate::bundle::{Axis, Path, Step, Test};
 use crate::schema::{Name, Names, Schema};
 use crate::table::passes;
+
+/// The axes that stand for one, of which the last takes the step's test and condition (document 02, R-1; 000, 4.3).
+fn parts(axis: Axis) -> Vec<Axis> {
+    match axis {
+        Axis::FollowingSibling | Axis::PrecedingSibling => vec![Axis::Parent, Axis::Child],
+        Axis::Following | Axis::Preceding => vec![Axis::AncestorOrSelf, Axis::Parent, Axis::Child, Axis::DescendantOrSelf],
+        _ => vec![axis],
+    }
+}
+
+fn rewritten(steps: &[Step<usize>]) -> Path {
+    let mut all = Path::new();
+    for step in steps {
+        let parts = parts(step.axis);
+        let (last, before) = parts.split_last().unwrap();
+        all.extend(before.iter().map(|&axis| Step { axis, test: Test::Node, condition: None }));
+        let condition = step.condition.as_ref().map(|c| c.iter().map(|a| rewritten(a)).collect());
+        all.push(Step { axis: *last, test: step.test.clone(), condition });
+    }
+    all
+}
 
 fn all_below(s: &Schema, t: &Names) -> Names {
     t.iter().flat_map(|&n| s.below(n)).collect()
@@ -32,6 +53,7 @@ fn by_axis(s: &Schema, step: &Step<usize>, t: &Names, k: &Names) -> (Names, Name
         Axis::Parent => up(k.iter().copied().filter(|&n| t.iter().any(|&m| s.holds(n, m))).collect()),
         Axis::Ancestor => up(in_context_above),
         Axis::AncestorOrSelf => up(with_own(in_context_above)),
+        _ => unreachable!("rewritten"),
     }
 }
 
@@ -64,6 +86,7 @@ fn related(s: &Schema, axis: Axis, a: Name, b: Name) -> bool {
         Axis::Parent => s.holds(b, a),
         Axis::Ancestor => s.is_below(a, b),
         Axis::AncestorOrSelf => a == b || s.is_below(a, b),
+        _ => unreachable!("rewritten"),
     }
 }
 
@@ -120,7 +143,7 @@ fn reached(s: &Schema, set: &Names) -> Names {
 
 pub fn path_needs(s: &Schema, path: &Path) -> Names {
     let root = Names::from([Name::Element(0)]);
-    reached(s, &needs(s, path, &root, &root))
+    reached(s, &needs(s, &rewritten(path), &root, &root))
 }
 
 pub fn bundle_needs(s: &Schema, paths: &[Path]) -> Names {

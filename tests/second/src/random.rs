@@ -1,4 +1,5 @@
 //! Random schemas, bundles and journals, most of them accepted, some damaged. The same seed gives the same texts.
+use crate::bundle::AXES;
 use crate::schema::{Content, Particle, Schema};
 
 /// Marsaglia's xorshift, 64 bits.
@@ -222,14 +223,15 @@ pub fn retagged(r: &mut Random, text: &[u8]) -> Vec<u8> {
 }
 
 fn step(r: &mut Random, s: &Schema) -> String {
-    let axis = r.one(&["self", "child", "child", "child", "descendant", "descendant", "descendant-or-self", "parent", "ancestor", "ancestor-or-self"]);
+    // axes down more often than others, so that paths select nodes
+    let axis = if r.chance(30) { r.one(&["child::", "child::", "descendant::"]) } else { AXES[r.below(AXES.len())].0 };
     let test = match r.below(10) {
         0..=2 => "node()".to_string(),
         3 => "text()".to_string(),
         4 if r.chance(4) => NAMES[r.below(NAMES.len())].to_string(),
         _ => String::from_utf8(s.names[r.below(s.names.len())].clone()).unwrap(),
     };
-    axis.to_string() + "::" + &test
+    axis.to_string() + &test
 }
 
 fn steps(r: &mut Random, s: &Schema, most: usize) -> Vec<String> {

@@ -59,8 +59,10 @@ pub fn cut(rows: &[Row], set: &Names) -> Vec<Row> {
     kept.iter().map(|&i| Row { parent: place(rows[i].parent), ..rows[i].clone() }).collect()
 }
 
+/// Whether y is on the axis from x. Rows stand in document order, so that a later row is one after it in that order.
 fn on_axis(rows: &[Row], axis: Axis, x: usize, y: usize) -> bool {
     let is_above = |a: usize, b: usize| above(rows, b).contains(&a);
+    let siblings = || x > 0 && y > 0 && rows[x].parent == rows[y].parent;
     match axis {
         Axis::SelfAxis => x == y,
         Axis::Child => above(rows, y).first() == Some(&x),
@@ -69,6 +71,10 @@ fn on_axis(rows: &[Row], axis: Axis, x: usize, y: usize) -> bool {
         Axis::Parent => above(rows, x).first() == Some(&y),
         Axis::Ancestor => is_above(y, x),
         Axis::AncestorOrSelf => x == y || is_above(y, x),
+        Axis::Following => y > x && !is_above(x, y),
+        Axis::FollowingSibling => y > x && siblings(),
+        Axis::Preceding => y < x && !is_above(y, x),
+        Axis::PrecedingSibling => y < x && siblings(),
     }
 }
 

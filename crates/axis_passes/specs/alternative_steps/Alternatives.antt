@@ -5,16 +5,16 @@ use mathlib.Core.Path.{_≡_, sym, ap, _∙_}
 use Prim.Native.Nat.{ℕ, suc, _+_, _-_, _<_, _≤_}
 use native.Mathlib.Omega.{arith}
 use lib.ListN.{length, getD, replicate, length-replicate}
-use Rattle.axis_passes.specs.steps.Steps.{backwardMarks, TableColumns, MarkColumn, StepPass, marks-column, image-column}
+use Rattle.axis_passes.specs.steps.Steps.{backwardMarks, TableColumns, MarkColumn, StepPass, marks-column, written-column}
 use Rattle.axis_passes.specs.steps.Tests.{namesIn}
 use Rattle.cells.specs.row_sets.Columns.{union}
 use Rattle.compiled_paths.specs.Columns.{axisNumber, plainIn}
 use Rattle.compiled_paths.specs.Sizes.{allSteps}
-use Rattle.path_laws.specs.Inverses.{inverse}
-use Rattle.path_spec.specs.Paths.{WrittenAxis, along, PlainStep}
+use Rattle.path_laws.specs.Inverses.{inverseWritten}
+use Rattle.path_spec.specs.Paths.{PlainStep}
 use Rattle.schema_spec.specs.Names.{Name}
 use Rattle.selection_laws.specs.marks.Passes.{fill-marks}
-use Rattle.selection_laws.specs.marks.Selection.{inverseMarks, alternativeMarks}
+use Rattle.selection_laws.specs.marks.Selection.{alternativeMarks}
 
 -- ---- what the pass asks
 pub record AlternativePass (ps codes : List ℕ) (first size : ℕ) (held steps next : List ℕ) : Type 0 where
@@ -25,13 +25,10 @@ pub record AlternativePass (ps codes : List ℕ) (first size : ℕ) (held steps 
   pub room-next : length next ≡ length ps
 
 -- ---- columns stay columns
-inverse-column : (a : WrittenAxis) (ps m : List ℕ) → MarkColumn ps (inverseMarks a ps m)
-inverse-column (along a) ps m = image-column (inverse a) ps m
-
 pub alternative-column : (ps : List ℕ) (ns : List Name) (q : List (PlainStep ℕ)) → MarkColumn ps (alternativeMarks ps ns q)
 unfolding alternativeMarks
 alternative-column ps ns [] = marks-column ps (λ r. true)
-alternative-column ps ns (q ∷ qs) = inverse-column (q .axis) ps _
+alternative-column ps ns (q ∷ qs) = written-column (inverseWritten (q .axis)) ps _
 
 -- ---- the steps of an alternative, those from k on behind the loop
 pub record StepsBack (ps codes axes tests : List ℕ) (first size k : ℕ) (steps next : List ℕ) : Type 0 where

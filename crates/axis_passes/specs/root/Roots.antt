@@ -8,15 +8,14 @@ use borrow.Author.Tests.{eq-eqb, ne-eqb}
 use lib.Dec.{eqb}
 use lib.ListN.{length, getD, set, length-set, replicate}
 use lib.Seq.{getD-set-same, getD-set-other}
-use Rattle.axis_passes.specs.steps.Steps.{forwardMarks, TableColumns, TestPass, image-column, column-test}
+use Rattle.axis_passes.specs.steps.Steps.{forwardMarks, TableColumns, TestPass, written-column, column-test}
 use Rattle.axis_passes.specs.steps.Tests.{namesIn}
 use Rattle.cells.specs.row_sets.Columns.{RowSet, mark, marks, intersection, marks-length, marks-at, marks-by-rows}
-use Rattle.compiled_paths.specs.Columns.{axisOf, testOf}
-use Rattle.path_spec.specs.Paths.{self, child, ancestorOrSelf}
-use Rattle.selection_laws.specs.marks.Parents.{imageMarks}
+use Rattle.compiled_paths.specs.Columns.{axisOf, writtenOf, testOf}
+use Rattle.path_spec.specs.Paths.{self, child, ancestorOrSelf, along}
 use Rattle.selection_laws.specs.marks.Passes.{fill-marks}
-use Rattle.selection_laws.specs.marks.Roots.{rootImage, root-image-marks}
-use Rattle.selection_laws.specs.marks.Selection.{rootMarks, testMarks}
+use Rattle.selection_laws.specs.marks.Roots.{rootImage, rootWritten, root-written-marks}
+use Rattle.selection_laws.specs.marks.Selection.{writtenMarks, rootMarks, testMarks}
 use Rattle.table_laws.specs.Parents.{ParentsBefore}
 
 -- the parents of a table that is not empty, and room for a column
@@ -73,11 +72,11 @@ at-root-row ps r x l e = e ∙ sym (marks-at (length ps) (atRoot ps) r l)
 -- ---- the axes by their numbers
 module _ (ps was : List ℕ) (h : RootPass ps was) where
   -- the axis k, whose rows from the root are given for as many rows as the column has
-  pub root-axis : (c k : ℕ) (out : List ℕ) → c ≡ k → out ≡ marks (length ps) (rootImage (axisOf k) ps) → out ≡ imageMarks (axisOf c) ps (rootMarks (length ps))
-  root-axis c k out e d = rw e (d ∙ sym (root-image-marks ps (h .before) (axisOf k)))
+  pub root-axis : (c k : ℕ) (out : List ℕ) → c ≡ k → out ≡ marks (length ps) (rootWritten (writtenOf k) ps) → out ≡ writtenMarks (writtenOf c) ps (rootMarks (length ps))
+  root-axis c k out e d = rw e (d ∙ sym (root-written-marks ps (h .before) (writtenOf k)))
 
-  pub filled-axis : (c k byte : ℕ) (b : Bool) (out : List ℕ) → c ≡ k → byte ≡ mark b → rootImage (axisOf k) ps ≡ (λ r. b) → out ≡ replicate (length was) byte
-      → out ≡ imageMarks (axisOf c) ps (rootMarks (length ps))
+  pub filled-axis : (c k byte : ℕ) (b : Bool) (out : List ℕ) → c ≡ k → byte ≡ mark b → rootWritten (writtenOf k) ps ≡ (λ r. b) → out ≡ replicate (length was) byte
+      → out ≡ writtenMarks (writtenOf c) ps (rootMarks (length ps))
   filled-axis c k byte b out e d i f =
       root-axis c k out e
       (f ∙ ap (λ (x : ℕ). replicate (length was) x) d ∙ ap (λ (n : ℕ). replicate n (mark b)) (h .room) ∙ fill-marks (length ps) b ∙ ap (marks (length ps)) (sym i))
@@ -86,27 +85,30 @@ module _ (ps was : List ℕ) (h : RootPass ps was) where
   later-axis out e = e ∙ ap (λ (n : ℕ). marks n (λ r. not (eqb r 0))) (h .room)
 
   -- the other axes lead from the root to itself alone
-  rest-axis : (c : ℕ) → (c ≡ 1 → ⊥) → (c ≡ 2 → ⊥) → (c ≡ 3 → ⊥) → (c ≡ 4 → ⊥) → (c ≡ 5 → ⊥) → marks (length ps) (rootImage (axisOf c) ps) ≡ rootMarks (length ps)
-  unfolding axisOf rootImage rootMarks
-  rest-axis c h1 h2 h3 h4 h5 = rw (ne-eqb c 1 h1, ne-eqb c 2 h2, ne-eqb c 3 h3, ne-eqb c 4 h4, ne-eqb c 5 h5) (pick (eqb c 6))
+  rest-axis : (c : ℕ) → (c ≡ 1 → ⊥) → (c ≡ 2 → ⊥) → (c ≡ 3 → ⊥) → (c ≡ 4 → ⊥) → (c ≡ 5 → ⊥) → (c ≡ 7 → ⊥) → (c ≡ 8 → ⊥) → (c ≡ 9 → ⊥) → (c ≡ 10 → ⊥)
+      → marks (length ps) (rootWritten (writtenOf c) ps) ≡ rootMarks (length ps)
+  unfolding writtenOf axisOf rootWritten rootImage rootMarks
+  rest-axis c h1 h2 h3 h4 h5 h7 h8 h9 h10 =
+      rw (ne-eqb c 7 h7, ne-eqb c 8 h8, ne-eqb c 9 h9, ne-eqb c 10 h10, ne-eqb c 1 h1, ne-eqb c 2 h2, ne-eqb c 3 h3, ne-eqb c 4 h4, ne-eqb c 5 h5)
+      (pick (eqb c 6))
     where
-      pick : (b : Bool) → marks (length ps) (rootImage (cond b ancestorOrSelf self) ps) ≡ rootMarks (length ps)
+      pick : (b : Bool) → marks (length ps) (rootWritten (along (cond b ancestorOrSelf self)) ps) ≡ rootMarks (length ps)
       pick true = refl
       pick false = refl
 
-  pub root-kept : (c : ℕ) (out : List ℕ) → (c ≡ 1 → ⊥) → (c ≡ 2 → ⊥) → (c ≡ 3 → ⊥) → (c ≡ 4 → ⊥) → (c ≡ 5 → ⊥) → out ≡ rootMarks (length was)
-      → out ≡ imageMarks (axisOf c) ps (rootMarks (length ps))
-  root-kept c out h1 h2 h3 h4 h5 d =
-      d ∙ ap rootMarks (h .room) ∙ sym (rest-axis c h1 h2 h3 h4 h5) ∙ sym (root-image-marks ps (h .before) (axisOf c))
+  pub root-kept : (c : ℕ) (out : List ℕ) → (c ≡ 1 → ⊥) → (c ≡ 2 → ⊥) → (c ≡ 3 → ⊥) → (c ≡ 4 → ⊥) → (c ≡ 5 → ⊥) → (c ≡ 7 → ⊥) → (c ≡ 8 → ⊥) → (c ≡ 9 → ⊥) → (c ≡ 10 → ⊥)
+      → out ≡ rootMarks (length was) → out ≡ writtenMarks (writtenOf c) ps (rootMarks (length ps))
+  root-kept c out h1 h2 h3 h4 h5 h7 h8 h9 h10 d =
+      d ∙ ap rootMarks (h .room) ∙ sym (rest-axis c h1 h2 h3 h4 h5 h7 h8 h9 h10) ∙ sym (root-written-marks ps (h .before) (writtenOf c))
 
 -- ---- the axis from the root, then the test
 module _ (ps codes m out : List ℕ) (h : FirstPass ps codes m out) where
   pub first-root : RootPass ps out
   first-root = record { before = h .table .before; filled = h .table .filled; room = h .room-next }
 
-  module _ (axis : ℕ) (x : List ℕ) (e : x ≡ imageMarks (axisOf axis) ps (rootMarks (length ps))) where
+  module _ (axis : ℕ) (x : List ℕ) (e : x ≡ writtenMarks (writtenOf axis) ps (rootMarks (length ps))) where
     pub first-test : TestPass codes x m
-    first-test = column-test (h .table) (rw e (image-column (axisOf axis) ps (rootMarks (length ps)))) (h .room-marks)
+    first-test = column-test (h .table) (rw e (written-column (writtenOf axis) ps (rootMarks (length ps)))) (h .room-marks)
 
     pub first-marked : (test : ℕ) (y : List ℕ) → y ≡ intersection x (testMarks (testOf test) (namesIn codes))
         → y ≡ forwardMarks ps codes axis test (rootMarks (length ps))

@@ -9,7 +9,7 @@ use Rattle.axis_passes.specs.root.Roots.{FirstPass}
 use Rattle.axis_passes.specs.steps.Steps.{forwardMarks, TableColumns, MarkColumn, StepPass, intersection-column, forward-column}
 use Rattle.axis_passes.specs.steps.Tests.{namesIn}
 use Rattle.cells.specs.row_sets.Columns.{intersection}
-use Rattle.compiled_paths.specs.Columns.{axisNumber, sizeAt, startAt, conditionIn, stepAt}
+use Rattle.compiled_paths.specs.Columns.{axisNumber, conditionIn, conditionAt, stepAt}
 use Rattle.compiled_paths.specs.Paths.{AtMost}
 use Rattle.compiled_paths.specs.Sizes.{writtenSteps, allSteps}
 use Rattle.selection_laws.specs.marks.Selection.{conditionMarks, stepMarks, rootMarks}
@@ -39,7 +39,7 @@ pub record FirstAtPass (ps codes conditions : List ℕ) (k : ℕ) (m held steps 
 module _ (ps codes axes tests conditions : List ℕ) (k : ℕ) where
   -- the rows where it holds
   abbrev holding : List ℕ
-  holding = conditionMarks ps (namesIn codes) (conditionIn axes tests (sizeAt conditions k) (startAt conditions k))
+  holding = conditionMarks ps (namesIn codes) (conditionAt axes tests conditions k)
 
   module _ (m held steps next : List ℕ) (h : StepAtPass ps codes conditions k m held steps next) where
     pub at-keep : (n : ℕ) → n ≡ getD conditions (k + 1) 0 - getD conditions k 0 → KeepPass ps codes (getD conditions k 0) n m held steps next
@@ -101,5 +101,5 @@ unfolding stepMarks forwardMarks
 step-column ps codes axes tests conditions k m x c e =
     rw e
     (intersection-column ps (forwardMarks ps codes (axisNumber (getD axes k 0)) (getD tests k 0) m)
-    (conditionMarks ps (namesIn codes) (conditionIn axes tests (sizeAt conditions k) (startAt conditions k)))
+    (conditionMarks ps (namesIn codes) (conditionAt axes tests conditions k))
     (forward-column ps codes (axisNumber (getD axes k 0)) (getD tests k 0) m))

@@ -14,8 +14,8 @@ use Rattle.bundle_text.specs.alternatives.Laws.{cells-append}
 use Rattle.bundle_text.specs.paths.Readings.{LineCells, pathNoted, allSteps, pathEnds}
 use Rattle.bundle_text.specs.steps.Readings.{stepAxis, stepTest, plainNoted}
 use Rattle.bundle_text.specs.written_steps.Readings.{Written, stepNoted, conditionOf, allPaths}
-use Rattle.compiled_paths.specs.Columns.{axisOf, lastMark, axisNumber, testOf, startAt, sizeAt, joined, plainAt, alternativesIn, conditionIn, condition-none, condition-some, stepAt, stepsIn, bundleIn}
-use Rattle.path_spec.specs.Paths.{along, WrittenAxis, NodeTest, PlainStep, WrittenStep, Condition, alternatives, LocationPath, fromRootElement, renameTest, renamePlain, renameCondition, renameStep, renamePath}
+use Rattle.compiled_paths.specs.Columns.{lastMark, testOf, joined, axisAt, plainAt, alternativesIn, conditionIn, condition-none, condition-some, conditionAt, stepAt, stepsIn, bundleIn}
+use Rattle.path_spec.specs.Paths.{WrittenAxis, NodeTest, PlainStep, WrittenStep, Condition, alternatives, LocationPath, fromRootElement, renameTest, renamePlain, renameCondition, renameStep, renamePath}
 use Rattle.schema_spec.specs.Declarations.{Use}
 
 -- ---- a list stands along a column
@@ -55,7 +55,7 @@ holds-same l l′ k (x ∷ xs) h s = (h k (omega arith) ∙ s .0, holds-same l l
 -- ---- steps, over any way to give names their elements
 module _ (text : List ℕ) (f : Use → ℕ) (axes tests : List ℕ) where
   abbrev pub Step : ℕ → ℕ → Type 0
-  Step k c = (along (axisOf (axisNumber (getD axes k 0))) ≡ stepAxis c) × (testOf (getD tests k 0) ≡ renameTest f (stepTest text c))
+  Step k c = (axisAt axes k ≡ stepAxis c) × (testOf (getD tests k 0) ≡ renameTest f (stepTest text c))
 
   abbrev renamed : ℕ → PlainStep ℕ
   renamed c = renamePlain f (plainNoted text c)
@@ -148,7 +148,7 @@ module _ (text : List ℕ) (f : Use → ℕ) (axes tests : List ℕ) where
         let a : getD conditions (k + 1) 0 ≡ n + length (cellsOf (w .paths)) = ap (λ (j : ℕ). getD conditions j 0) (add-one k) ∙ stand-start (suc k) _ ws (S .3) in
         let e = S .0 in
         let b : getD conditions (k + 1) 0 - getD conditions k 0 ≡ length (cellsOf (w .paths)) = omega arith in
-        ap₂ (λ (x : WrittenAxis) (t : NodeTest ℕ). record { axis = x; test = t; condition = conditionIn axes tests (sizeAt conditions k) (startAt conditions k) }) (S .1 .0) (S .1 .1)
+        ap₂ (λ (x : WrittenAxis) (t : NodeTest ℕ). record { axis = x; test = t; condition = conditionAt axes tests conditions k }) (S .1 .0) (S .1 .1)
         ∙ ap (λ (z : Condition ℕ). record { axis = stepAxis (w .cell); test = renameTest f (stepTest text (w .cell)); condition = z })
         (ap₂ (λ (x y : ℕ). conditionIn axes tests x y) b e ∙ condition-stands n (w .paths) (S .2))
 

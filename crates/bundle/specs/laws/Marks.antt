@@ -14,9 +14,9 @@ use Rattle.bundle.specs.laws.Columns.{Along, Holds, along-append, holds-
 use Rattle.bundle.specs.laws.Limits.{EachSome}
 use Rattle.bundle.specs.laws.Names.{Test, node, texts, known, lost, test-by-number, index-below}
 use Rattle.bundle.specs.names_in_tests.Steps.{axisCell, testCell}
-use Rattle.compiled_paths.specs.Columns.{axisOf, lastMark, axisNumber, number-going-on, number-of-last, testOf}
+use Rattle.compiled_paths.specs.Columns.{writtenOf, lastMark, axisNumber, number-going-on, number-of-last, testOf}
 use Rattle.compiled_paths.specs.Sizes.{writtenSteps}
-use Rattle.path_spec.specs.Paths.{along, NodeTest, named, renameTest}
+use Rattle.path_spec.specs.Paths.{NodeTest, named, renameTest}
 use Rattle.schema_spec.specs.Declarations.{Use}
 use Rattle.schema_spec.specs.Schemas.{indexFrom}
 use Rattle.text_laws.specs.Tests.{cond-no}
@@ -105,7 +105,7 @@ module _ (names : List (List ℕ)) (few : length names ≤ maxDeclarations) (tex
 
   step-at : (k c : ℕ) → axisNumber (getD axes k 0) ≡ axisCell c → getD tests k 0 ≡ testCell names text c → Step text f axes tests k c
   unfolding stepAxis stepTest
-  step-at k c a b = (ap (λ (n : ℕ). along (axisOf n)) a, ap testOf b ∙ test-same (test-by-number names text (c / axisCount)))
+  step-at k c a b = (ap writtenOf a, ap testOf b ∙ test-same (test-by-number names text (c / axisCount)))
 
   unmarked : (k c : ℕ) → getD axes k 0 ≡ axisCell c → axisNumber (getD axes k 0) ≡ axisCell c
   unmarked k c a = ap axisNumber a ∙ number-going-on (axisCell c) (omega arith)

@@ -9,12 +9,13 @@ use borrow.Author.Tests.{eq-eqb, ne-eqb}
 use lib.Dec.{T}
 use lib.ListN.{length, take, drop, length-append}
 use lib.Seq.{take-append-seam}
-use Rattle.bundle_text.specs.axes.Readings.{maxAxis, axisNumbered, AxisAs, ReadsAxis}
+use Rattle.bundle_text.specs.axes.Readings.{maxAxis, AxisAs, ReadsAxis}
 use Rattle.bundle_text.specs.declared.axes.AxisOutcome.{AxisOutcome}
 use Rattle.bundle_text.specs.declared.axes.AxisOutcome.the-variants.{Past as AxisPast, Fail as AxisFail}
 use Rattle.bundle_text.specs.declared.steps.StepOutcome.{StepOutcome}
 use Rattle.bundle_text.specs.declared.steps.StepOutcome.the-variants.{Past, Fail}
 use Rattle.bundle_text.specs.steps.Readings.{axisCount, useAt, testNoted, stepAxis, stepTest, testsIn, TestAs, ReadsTest, named-at, called, ReadsPlain, Packed}
+use Rattle.compiled_paths.specs.Columns.{writtenOf}
 use Rattle.path_laws.specs.Grammar.Machine.{test-naming}
 use Rattle.path_spec.specs.Grammar.{PathRead}
 use Rattle.path_spec.specs.Machine.{Context, State, dead, beforeTest, inTest, inCall, afterCall, callOf, beginStep, step, ends, bundleMachine}
@@ -203,7 +204,7 @@ module _ {s : List ℕ} {at : ℕ} {r : AxisOutcome} (A : ReadsAxis beginStep s 
     test-as v = subst (ReadsTest beforeTest s i) v T .says
 
     pub plain-no-test : {j : ℕ} → o ≡ Fail j → ReadsPlain s at (Fail j)
-    plain-no-test v = record { says = λ x. axis-as u .3 x ∙ test-as v (axisNumbered a) x }
+    plain-no-test v = record { says = λ x. axis-as u .3 x ∙ test-as v (writtenOf a) x }
 
     pub plain-test : {t j : ℕ} → o ≡ Past t j → (a ≤ maxAxis) × (t ≤ testsIn s)
     plain-test v = (axis-as u .2, test-as v .2)
@@ -217,7 +218,7 @@ module _ {s : List ℕ} {at : ℕ} {r : AxisOutcome} (A : ReadsAxis beginStep s 
           says = (
             omega arith,
             test-as v .1,
-            λ x. axis-as u .3 x ∙ test-as v .3 (axisNumbered a) x
-                ∙ ap₂ (λ (m k : ℕ). from bundleMachine (afterCall (axisNumbered m) (testNoted s k) x) s j) (sym (P .axis)) (sym (P .test)),
+            λ x. axis-as u .3 x ∙ test-as v .3 (writtenOf a) x
+                ∙ ap₂ (λ (m k : ℕ). from bundleMachine (afterCall (writtenOf m) (testNoted s k) x) s j) (sym (P .axis)) (sym (P .test)),
           );
         }

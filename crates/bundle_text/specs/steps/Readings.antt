@@ -5,9 +5,10 @@ use mathlib.Core.Path.{_≡_}
 use Prim.Native.Nat.{ℕ, _+_, _-_, _/_, _%_, _≤_, _<_}
 use lib.Dec.{eqb}
 use lib.ListN.{length}
-use Rattle.bundle_text.specs.axes.Readings.{maxAxis, axisNumbered}
+use Rattle.bundle_text.specs.axes.Readings.{maxAxis}
 use Rattle.bundle_text.specs.declared.steps.StepOutcome.{StepOutcome}
 use Rattle.bundle_text.specs.declared.steps.StepOutcome.the-variants.{Past, Fail}
+use Rattle.compiled_paths.specs.Columns.{writtenOf}
 use Rattle.path_spec.specs.Machine.{Context, State, inTest, inCall, afterCall, beginStep, bundleMachine}
 use Rattle.path_spec.specs.Paths.{WrittenAxis, NodeTest, named, anyNode, anyText, PlainStep}
 use Rattle.schema_spec.specs.Declarations.{Use}
@@ -27,7 +28,7 @@ axisCount = maxAxis + 1
 
 -- a step by its number: so many times that of its test, and that of its axis
 unfoldable pub stepAxis : ℕ → WrittenAxis
-stepAxis c = axisNumbered (c % axisCount)
+stepAxis c = writtenOf (c % axisCount)
 
 unfoldable pub stepTest : List ℕ → ℕ → NodeTest Use
 stepTest s c = testNoted s (c / axisCount)

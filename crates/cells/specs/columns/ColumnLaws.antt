@@ -1,12 +1,13 @@
 -- One row more in the columns is one row more in what they hold.
 use mathlib.Core.Bool.{Bool, true, false, cond, _&&_}
 use mathlib.Core.List.{List, [], _∷_, _++_, map, map-append}
-use mathlib.Core.Path.{_≡_, refl, sym, ap, subst, _∙_}
+use mathlib.Core.Path.{_≡_, refl, sym, ap, _∙_}
 use Prim.Native.Nat.{ℕ, zero, suc, _≤_, _<_}
 use native.Mathlib.Omega.{arith}
 use borrow.Author.Tests.{lt-ltb, le-ltb, ltb-true, ltb-false, eqb-true}
 use lib.Dec.{T, eqb, ltb}
 use lib.ListN.{length, set, length-set, length-map}
+use Rattle.cells.specs.lent.Columns.{same-columns}
 use Rattle.cells.specs.columns.Columns.{EqualColumns, put, withRow}
 use Rattle.schema_spec.specs.Names.{codeOf}
 use Rattle.table_spec.specs.Columns.{Columns, Sizes, sizesOf, equalSizes, columnsOf, columns}
@@ -48,9 +49,6 @@ put-length column r x = pick (ltb r (length column))
     pick false = refl
 
 -- ---- one row more
-pub same-columns : {a b d e f a' b' d' e' f' : List ℕ} → a ≡ a' → b ≡ b' → d ≡ d' → e ≡ e' → f ≡ f' → columns a b d e f ≡ columns a' b' d' e' f'
-same-columns p q r s t = rw (p, q, r, s, t)
-
 module _ (c : Columns) (r : ℕ) (x : Cells) (e : EqualColumns c) where
   pub row-in : r < length (c .numbers)
       → columns (set (c .numbers) r (x .number)) (set (c .names) r (x .name)) (set (c .parents) r (x .parent)) (set (c .starts) r (x .start)) (set (c .lengths) r (x .size)) ≡ withRow c r x

@@ -1,12 +1,14 @@
--- The five columns that are lent for a table, cleared from a row on.
+-- The five columns that are lent for a table: their first cells, and columns cleared from a row on.
 use mathlib.Core.List.{List, []}
 use mathlib.Core.Path.{_≡_}
 use Prim.Native.Nat.{ℕ}
+use lib.ListN.{take}
 use Rattle.cells.specs.lent.Cells.{Cleared, all-cleared}
-use Rattle.table_spec.specs.Columns.{Columns, sizesOf, columnsOf}
+use Rattle.table_spec.specs.Columns.{Columns, columns, sizesOf, columnsOf}
 
-abbrev pub table : List ℕ → List ℕ → List ℕ → List ℕ → List ℕ → Columns
-table numbers names parents starts lengths = record { numbers = numbers; names = names; parents = parents; starts = starts; lengths = lengths }
+-- the first n cells of each column
+abbrev pub firstCells : ℕ → Columns → Columns
+firstCells n c = columns (take n (c .numbers)) (take n (c .names)) (take n (c .parents)) (take n (c .starts)) (take n (c .lengths))
 
 -- the cells past n rows are cleared
 pub record ClearedFrom (x : Columns) (n : ℕ) (y : Columns) : Type 0 where
@@ -16,7 +18,8 @@ pub record ClearedFrom (x : Columns) (n : ℕ) (y : Columns) : Type 0 where
   pub starts : Cleared (x .starts) n (y .starts)
   pub lengths : Cleared (x .lengths) n (y .lengths)
 
-same-columns : {a b d e f a' b' d' e' f' : List ℕ} → a ≡ a' → b ≡ b' → d ≡ d' → e ≡ e' → f ≡ f' → table a b d e f ≡ table a' b' d' e' f'
+-- tables that agree in each column
+pub same-columns : {a b d e f a' b' d' e' f' : List ℕ} → a ≡ a' → b ≡ b' → d ≡ d' → e ≡ e' → f ≡ f' → columns a b d e f ≡ columns a' b' d' e' f'
 same-columns p q r s t = rw (p, q, r, s, t)
 
 -- no row is left

@@ -6,9 +6,9 @@ use Prim.Native.Nat.{ℕ}
 use borrow.Author.Tests.{not-true, not-false}
 use lib.Dec.{T}
 use Rattle.cells.specs.declared.verdicts.Verdict.{Verdict}
+use Rattle.cells.specs.lent.Columns.{firstCells}
 use Rattle.cells.specs.verdicts.Verdicts.{refusedBy}
 use Rattle.cut_table.specs.laws.Answers.{Cuttable, CutFirst, AnsweredTable, cutHeld, refused-1, no-table, no-sizes, cut-asked, cut-found}
-use Rattle.handed_tables.specs.calls.Rows.{firstCells}
 use Rattle.kept_rows.specs.Kept.{inSet}
 use Rattle.library_spec.specs.Records.{LentTable}
 use Rattle.names.specs.Sets.{Known, setIn}

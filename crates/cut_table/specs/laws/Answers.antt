@@ -10,17 +10,17 @@ use lib.ListN.{length, getD, take, length-map}
 use lib.Seq.{length-take-le}
 use Rattle.cells.specs.columns.ColumnLaws.{equal-columns}
 use Rattle.cells.specs.declared.verdicts.Verdict.{Verdict}
+use Rattle.cells.specs.lent.Columns.{firstCells}
 use Rattle.cells.specs.lent.Ends.{Slice, entrySizes, exitColumns, entryColumns}
 use Rattle.cells.specs.row_sets.Columns.{picked}
 use Rattle.cells.specs.verdicts.Verdicts.{refusedBy, answeredOf, verdict}
 use Rattle.extract_spec.specs.Cut.{cut, cutToWord}
 use Rattle.handed_tables.specs.calls.Calls.{Holds, table-holds, record-refused, record-held, table-refused, table-held}
-use Rattle.handed_tables.specs.calls.Rows.{firstCells, held-columns}
-use Rattle.handed_tables.specs.columns.Rows.{lent-coded, lent-cells, lent-columns}
+use Rattle.handed_tables.specs.columns.Rows.{lent-coded, lent-cells, held-columns, lent-columns}
 use Rattle.kept_rows.specs.Joined.{rank}
 use Rattle.kept_rows.specs.Kept.{inSet, keptMarks}
 use Rattle.kept_rows.specs.columns.Cut.{answered, paddedColumns, TableColumns, CutAs}
-use Rattle.kept_rows.specs.cut_rows.Rows.{table, OfLength}
+use Rattle.kept_rows.specs.cut_rows.Rows.{OfLength}
 use Rattle.kept_rows.specs.laws.Cut.{columnsIn, PassesFor, renumberedBy, parents-first, cut-picked, marks-size, cut-columns}
 use Rattle.kept_rows.specs.laws.Picked.{picked-length}
 use Rattle.library_spec.specs.Calls.{inColumns, columnsAfter, tableCut}
@@ -35,7 +35,7 @@ use Rattle.schema_spec.specs.Records.{schemaIn}
 use Rattle.schema_spec.specs.Schemas.{Schema}
 use Rattle.schema_spec.specs.Types.{Types, typesOf}
 use Rattle.table_laws.specs.Codes.{HasCode, NamesCoded}
-use Rattle.table_spec.specs.Columns.{Columns, Sizes, sizesOf, equalSizes, columnsOf}
+use Rattle.table_spec.specs.Columns.{Columns, Sizes, sizesOf, equalSizes, columnsOf, columns}
 use Rattle.table_spec.specs.Rows.{Row}
 use Rattle.table_spec.specs.Tables.{wellFormed}
 use Rattle.tables.specs.Handed.{isHeld}
@@ -101,7 +101,7 @@ module _ (s : Schema) (t : LentTable) (rows : List Row) (h : Holds s t rows) whe
             starts = length-take-le n (c .starts) (l .started) ∙ sym long;
             lengths = length-take-le n (c .lengths) (l .sized) ∙ sym long;
           };
-          root = sym (ap (λ (x : Columns). getD (x .parents) 0 0) (held-columns s t rows h)) ∙ root-first;
+          root = sym (ap (λ (x : Columns). getD (x .parents) 0 0) (held-columns t rows (h .lent))) ∙ root-first;
         };
         room = room;
       }
@@ -150,7 +150,7 @@ module _ (s : Types) (rows : List Row) (ok : T (wellFormed s rows)) (f : ℕ →
   unfolding answered paddedColumns columnsAfter
   room-cells z cuts = pick (ltb (z .numbers) (length cuts))
     where
-      pick : (b : Bool) → paddedColumns z (cond b (table [] [] [] [] []) (columnsIn cuts)) ≡ columnsAfter z (λ x. x) (cond b (refused (at tooFewCells 0)) (accepted cuts))
+      pick : (b : Bool) → paddedColumns z (cond b (columns [] [] [] [] []) (columnsIn cuts)) ≡ columnsAfter z (λ x. x) (cond b (refused (at tooFewCells 0)) (accepted cuts))
       pick true = refl
       pick false = refl
 
@@ -198,7 +198,7 @@ module _ (s : Schema) (t : LentTable) (o : Columns) (held : isHeld s t ≡ true)
   cut-found word set (same, known) r x w =
       rw (by-sizes s t word (sizesOf o) held true equal)
       (cut-answers (typesOf s) (found .0) (found .1 .passes) (inSet set) (setOfWord (namesOf s) word) (set-passes s word set same known (found .0) (lent-coded t (found .0) (found .1 .lent)))
-      o r x (subst (λ (c : Columns). CutFirst (inSet set) c o r x) (sym (held-columns s t (found .0) (found .1))) w))
+      o r x (subst (λ (c : Columns). CutFirst (inSet set) c o r x) (sym (held-columns t (found .0) (found .1 .lent))) w))
 
 -- ---- and a schema's record
 module _ (schema : TextRecord) (t : LentTable) (word : ℕ) (z : Sizes) where

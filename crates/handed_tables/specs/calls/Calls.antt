@@ -4,12 +4,13 @@ use mathlib.Core.List.{List}
 use mathlib.Core.Option.{Option, none, some}
 use mathlib.Core.Path.{_≡_, refl, ap, subst}
 use lib.Dec.{T}
-use Rattle.library_spec.specs.Records.{LentTable, schemaHeld, rowsLent, keptIf, tableHeld, passesSchema}
+use Prim.Native.Nat.{ℕ}
+use Rattle.library_spec.specs.Records.{LentTable, schemaHeld, rowsLent, keptIf, tableHeld, passesSchema, tableBeside}
 use Rattle.schema_spec.specs.Records.{schemaIn}
 use Rattle.schema_spec.specs.Schemas.{Schema}
 use Rattle.schema_spec.specs.Types.{typesOf}
 use Rattle.table_spec.specs.Rows.{Row}
-use Rattle.table_spec.specs.Tables.{wellFormed}
+use Rattle.table_spec.specs.Tables.{wellFormed, wellFormedWith}
 use Rattle.tables.specs.Handed.{isHeld}
 use Rattle.text_laws.specs.Tests.{never, passed}
 use Rattle.text_spec.specs.Calls.{handed}
@@ -34,6 +35,11 @@ kept-some test (some xs) rows e = pick (test xs) refl e
 table-some : (s : Schema) (t : LentTable) (rows : List Row) → tableHeld s t ≡ some rows → (rowsLent t ≡ some rows) × T (wellFormed (typesOf s) rows)
 unfolding tableHeld
 table-some s t rows e = kept-some (wellFormed (typesOf s)) (rowsLent t) rows e
+
+-- the same beside a text
+pub beside-some : (s : Schema) (lent : List ℕ) (t : LentTable) (rows : List Row) → tableBeside s lent t ≡ some rows → (rowsLent t ≡ some rows) × T (wellFormedWith (typesOf s) lent rows)
+unfolding tableBeside
+beside-some s lent t rows e = kept-some (wellFormedWith (typesOf s) lent) (rowsLent t) rows e
 
 -- a table that passes its test holds rows
 pub table-holds : (s : Schema) (t : LentTable) → isHeld s t ≡ true → (rows : List Row) × Holds s t rows

@@ -9,6 +9,8 @@ use borrow.Author.Tests.{ltb-false}
 use lib.Dec.{T, ltb}
 use lib.ListN.{length, getD, take, drop}
 use lib.Seq.{drop-cons}
+use Rattle.cells.specs.lent.Columns.{firstCells, same-columns}
+use Rattle.kept_rows.specs.laws.Cut.{columnsIn}
 use Rattle.library_spec.specs.Records.{LentTable, rowsLent}
 use Rattle.schema_spec.specs.Names.{Name, element, text, codeOf, nameOfCode}
 use Rattle.schema_spec.specs.Schemas.{Schema}
@@ -16,6 +18,7 @@ use Rattle.schema_spec.specs.Types.{typesOf}
 use Rattle.table_laws.specs.Codes.{NamesCoded, cells-coded}
 use Rattle.table_laws.specs.Columns.{parentsOf, numbersOf, codesOf, tested-columns, TestedColumns, codes-map}
 use Rattle.table_laws.specs.Places.{none-some}
+use Rattle.table_laws.specs.passes.Tables.{rows-stand}
 use Rattle.table_spec.specs.Columns.{Columns, cellsAt, cellsFrom}
 use Rattle.table_spec.specs.Rows.{Row, row, Cells, rowWith, rowOf, consOf, rowsOf}
 use Rattle.table_spec.specs.Tables.{wellFormed}
@@ -118,7 +121,13 @@ module _ (t : LentTable) (rows : List Row) (held : rowsLent t ≡ some rows) whe
   pub lent-cells : Lent (t .columns) (t .count)
   lent-cells = fit-lent t sizes-fit
 
+  pub lent-size : length rows ≡ t .count
+  lent-size = rows-stand (t .columns) 0 (t .count) rows rows-held .size
+
   -- the columns up to the count
+  pub held-columns : columnsIn rows ≡ firstCells (t .count) (t .columns)
+  held-columns = same-columns lent-numbers (sym (codes-map rows) ∙ lent-codes) lent-parents lent-starts lent-lengths
+
   pub lent-columns : (s : Schema) → T (wellFormed (typesOf s) rows)
       → TestedColumns (take (t .count) (t .columns .numbers)) (take (t .count) (t .columns .names)) (take (t .count) (t .columns .parents))
   lent-columns s ok =

@@ -8,9 +8,8 @@ use native.Mathlib.Omega.{arith}
 use lib.Dec.{T, leb, le→leb}
 use lib.ListN.{length, getD, length-map, List·getD-map}
 use lib.Seq.{length-take-le}
-use Rattle.handed_tables.specs.calls.Calls.{table-holds}
-use Rattle.handed_tables.specs.columns.Held.{beside-held, held-size}
-use Rattle.handed_tables.specs.columns.Rows.{lent-cells, lent-columns}
+use Rattle.handed_tables.specs.calls.Calls.{beside-some, table-holds}
+use Rattle.handed_tables.specs.columns.Rows.{lent-cells, lent-size, lent-columns}
 use Rattle.library_spec.specs.Calls.{tableOfCells}
 use Rattle.library_spec.specs.Records.{LentTable, rowsLent, keptIf, tableHeld, tableBeside}
 use Rattle.row_structs.specs.Structs.{emptyCells, Laid}
@@ -111,7 +110,7 @@ module _ (s : Schema) (t : LentTable) where
       let h = table-holds s t (ap (λ (o : Option (List Row)). not (isNone o)) e) in
       let same : some (h .0) ≡ some rows = sym (h .1 .held) ∙ e in
       let size : h .0 ≡ rows = cc in
-      omega (arith, rows-few (h .0) (h .1 .lent) (h .1 .passes), held-size t (h .0) (h .1 .lent), ap (λ (l : List Row). length l) size)
+      omega (arith, rows-few (h .0) (h .1 .lent) (h .1 .passes), lent-size t (h .0) (h .1 .lent), ap (λ (l : List Row). length l) size)
 
   module _ (many : maxNodes < t .count) where
     pub none-held : tableHeld s t ≡ none
@@ -130,5 +129,5 @@ module _ (s : Schema) (t : LentTable) where
         by : (o : Option (List Row)) → tableBeside s lent t ≡ o → o ≡ none
         by none e = refl
         by (some rows) e =
-            let h = beside-held s lent t rows e in
+            let h = beside-some s lent t rows e in
             absurd (omega (arith, rows-few rows (h .0) (well-formed-alone (typesOf s) lent rows (h .1))))

@@ -11,6 +11,7 @@ use denote.Ref.{now}
 use Rattle.cells.specs.columns.Columns.{EqualColumns}
 use Rattle.cells.specs.declared.verdicts.Verdict.{Verdict}
 use Rattle.cells.specs.lent.Cells.{Cleared}
+use Rattle.cells.specs.lent.Columns.{firstCells}
 use Rattle.cells.specs.lent.Ends.{Slice, entryColumns, exitColumns}
 use Rattle.cells.specs.verdicts.Verdicts.{verdict}
 use Rattle.compiled_paths.specs.Paths.{pathsIn, Shaped}
@@ -21,7 +22,7 @@ use Rattle.extract_writer.specs.asked.Asked.{text-columns}
 use Rattle.extract_writer.specs.row_laws.Written.{cut-extract}
 use Rattle.extract_writer.specs.rows.Rows.{TextColumns}
 use Rattle.extract_writer.specs.writing.Extract.{extractIn, inLentBytes, BytesWritten}
-use Rattle.hosts.specs.columns.Rows.{firstOf, Rooms, RowsRead, refused-exit-by, staged-by, sizes-after, first-columns, rooms}
+use Rattle.hosts.specs.columns.Rows.{Rooms, RowsRead, refused-exit-by, staged-by, sizes-after, first-columns, rooms}
 use Rattle.hosts.specs.declared.results.HostResult.{HostResult}
 use Rattle.hosts.specs.laws.Stages.{madeOf, madeUnder}
 use Rattle.hosts.specs.results.Exits.{lentOf, refusedBy, answeredOf, Exits, refused-exit, answered-exit, same-exit}
@@ -64,8 +65,8 @@ pub record UnderTexts (schema : List ℕ) (t : CompiledSchema) (paths : Compiled
 -- the first rows of columns are rows whose extract can be written
 pub record FirstAsked (journal : List ℕ) (c : Columns) (n : ℕ) : Type 0 where
   pub rooms : Rooms c n
-  pub texts : TextColumns journal (firstOf c n) (length (firstOf c n .numbers))
-  pub kept : KeptColumns (firstOf c n .names) (firstOf c n .parents)
+  pub texts : TextColumns journal (firstCells n c) (length (firstCells n c .numbers))
+  pub kept : KeptColumns (firstCells n c .names) (firstCells n c .parents)
 
 -- the last test
 pub record AnswerAs (n m room : ℕ) (c d : Columns) (r : HostResult) : Type 0 where
@@ -77,7 +78,7 @@ pub record WrittenUnder (t : CompiledSchema) (paths : CompiledPaths) (journal : 
   pub set : NameSet
   pub need : NeededIn t paths set
   pub size : ℕ
-  pub bytes : BytesWritten was (extractIn journal (firstOf c n) (keptMarks (inSet set) (firstOf c n .names) (firstOf c n .parents))) size out
+  pub bytes : BytesWritten was (extractIn journal (firstCells n c) (keptMarks (inSet set) (firstCells n c .names) (firstCells n c .parents))) size out
   pub last : AnswerAs n size (length out) c d r
 
 -- the same of lent slices
@@ -111,7 +112,7 @@ module _ (schema : List ℕ) (s : Schema) (read : readSchema schema ≡ accepted
   alone : T (wellFormed (typesOf s) rows)
   alone = well-formed-alone (typesOf s) journal rows beside
 
-  same-columns : firstOf d n ≡ columnsIn rows
+  same-columns : firstCells n d ≡ columnsIn rows
   same-columns = first-columns (readJournal maxJournalBytes s journal) c equal n d w
 
   pub first-asked : FirstAsked journal d n
@@ -127,7 +128,7 @@ module _ (schema : List ℕ) (s : Schema) (read : readSchema schema ≡ accepted
 
   -- the bytes of the rows that the bundle needs
   module _ (t : CompiledSchema) (made : CompiledOf schema s t) (paths : CompiledPaths) (x : NameSet) (need : NeededIn t paths x) where
-    bytes-needed : extractIn journal (firstOf d n) (keptMarks (inSet x) (firstOf d n .names) (firstOf d n .parents)) ≡ extractOf s (pathsIn paths) journal rows
+    bytes-needed : extractIn journal (firstCells n d) (keptMarks (inSet x) (firstCells n d .names) (firstCells n d .parents)) ≡ extractOf s (pathsIn paths) journal rows
     unfolding extractOf
     bytes-needed =
         ap (λ (y : Columns). extractIn journal y (keptMarks (inSet x) (y .names) (y .parents))) same-columns

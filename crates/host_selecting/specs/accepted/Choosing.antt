@@ -10,6 +10,7 @@ use denote.Ref.{now}
 use Rattle.cells.specs.columns.Columns.{EqualColumns}
 use Rattle.cells.specs.declared.verdicts.Verdict.{Verdict}
 use Rattle.cells.specs.lent.Cells.{Cleared}
+use Rattle.cells.specs.lent.Columns.{firstCells}
 use Rattle.cells.specs.lent.Ends.{Slice, entryColumns, exitColumns}
 use Rattle.cells.specs.verdicts.Verdicts.{verdict}
 use Rattle.compiled_paths.specs.Paths.{pathsIn, Shaped}
@@ -19,7 +20,7 @@ use Rattle.compiled_schema.specs.declared.CompiledSchema.{CompiledSchema}
 use Rattle.compiled_schema.specs.held_words.Words.{WordsOf, words-held}
 use Rattle.extract_reader.specs.table.Words.{ReadWords, read-words}
 use Rattle.extract_spec.specs.Reading.{readExtract}
-use Rattle.hosts.specs.columns.Rows.{firstOf, Rooms, RowsRead, refused-exit-by, staged-by, sizes-after, first-columns, rooms}
+use Rattle.hosts.specs.columns.Rows.{Rooms, RowsRead, refused-exit-by, staged-by, sizes-after, first-columns, rooms}
 use Rattle.hosts.specs.declared.results.HostResult.{HostResult}
 use Rattle.hosts.specs.laws.Extracts.{read-well-formed}
 use Rattle.hosts.specs.laws.Stages.{chosenOf, chosenUnder}
@@ -69,7 +70,7 @@ pub record WordsIn (t : CompiledSchema) (words : List ℕ) : Type 0 where
 -- the first rows of columns are rows on which paths select
 pub record RowsAsked (c : Columns) (n : ℕ) : Type 0 where
   pub rooms : Rooms c n
-  pub columns : TestedColumns (firstOf c n .numbers) (firstOf c n .names) (firstOf c n .parents)
+  pub columns : TestedColumns (firstCells n c .numbers) (firstCells n c .names) (firstCells n c .parents)
 
 -- the last test
 pub record LastAs (n : ℕ) (a : Selected) (c d : Columns) (r : HostResult) : Type 0 where
@@ -79,7 +80,7 @@ pub record LastAs (n : ℕ) (a : Selected) (c d : Columns) (r : HostResult) : Ty
 -- what is selected on the first rows, and the last test
 pub record SelectedUnder (paths : CompiledPaths) (place n : ℕ) (c d : Columns) (items counts items′ counts′ : List ℕ) (r : HostResult) : Type 0 where
   pub selected : Selected
-  pub answer : (s : Types) (text : List ℕ) (rows : List Row) → RowsIn s rows (firstOf c n .numbers) (firstOf c n .names) (firstOf c n .parents)
+  pub answer : (s : Types) (text : List ℕ) (rows : List Row) → RowsIn s rows (firstCells n c .numbers) (firstCells n c .names) (firstCells n c .parents)
       → AnsweredSelections (rowsSelected text rows place (pathsIn paths) (length items) (length counts)) (length items) (length counts) selected items′ counts′
   pub last : LastAs n selected c d r
 
@@ -119,7 +120,7 @@ module _ (schema : List ℕ) (s : Schema) (read : readSchema schema ≡ accepted
   alone : T (wellFormed (typesOf s) rows)
   alone = well-formed-alone (typesOf s) extract rows (read-well-formed (typesOf s) extract rows (w .read))
 
-  same-columns : firstOf d n ≡ columnsIn rows
+  same-columns : firstCells n d ≡ columnsIn rows
   same-columns = first-columns (readExtract (typesOf s) extract) c equal n d w
 
   codes-same : columnsIn rows .names ≡ codesOf rows
@@ -129,7 +130,7 @@ module _ (schema : List ℕ) (s : Schema) (read : readSchema schema ≡ accepted
       pick [] = refl
       pick (r ∷ rs) = ap (λ (l : List ℕ). codeOf (r .name) ∷ l) (pick rs)
 
-  rows-in : RowsIn (typesOf s) rows (firstOf d n .numbers) (firstOf d n .names) (firstOf d n .parents)
+  rows-in : RowsIn (typesOf s) rows (firstCells n d .numbers) (firstCells n d .names) (firstCells n d .parents)
   rows-in =
       record {
         well-formed = alone;

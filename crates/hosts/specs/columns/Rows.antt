@@ -9,11 +9,11 @@ use lib.Dec.{ltb}
 use lib.ListN.{length, take, length-map}
 use Rattle.cells.specs.columns.Columns.{EqualColumns}
 use Rattle.cells.specs.declared.verdicts.Verdict.{Verdict}
+use Rattle.cells.specs.lent.Columns.{firstCells, same-columns}
 use Rattle.cells.specs.verdicts.VerdictLaws.{number-some}
 use Rattle.cells.specs.verdicts.Verdicts.{verdict}
 use Rattle.hosts.specs.declared.results.HostResult.{HostResult}
 use Rattle.hosts.specs.results.Exits.{lentOf, refusedBy, Exits, refused-exit, same-exit}
-use Rattle.kept_rows.specs.cut_rows.Rows.{table, columns-equal}
 use Rattle.kept_rows.specs.laws.Cut.{columnsIn}
 use Rattle.library_spec.specs.Calls.{inColumns, columnsAfter}
 use Rattle.library_spec.specs.Hosts.{HostAnswer}
@@ -26,10 +26,6 @@ use Rattle.text_spec.specs.Cells.{padded}
 use Rattle.text_spec.specs.Refusals.{Refusal, Outcome, accepted, refused, andThen, numberOf}
 
 -- ---- definitions
--- the first rows of columns
-abbrev pub firstOf : Columns → ℕ → Columns
-firstOf c n = table (take n (c .numbers)) (take n (c .names)) (take n (c .parents)) (take n (c .starts)) (take n (c .lengths))
-
 -- each column has so many cells
 pub record Rooms (c : Columns) (n : ℕ) : Type 0 where
   pub numbers : n ≤ length (c .numbers)
@@ -107,10 +103,10 @@ module _ (o : Outcome (List Row)) (c : Columns) (equal : EqualColumns c) (n : �
   abbrev rows : List Row
   rows = w .rows
 
-  pub first-columns : firstOf d n ≡ columnsIn rows
+  pub first-columns : firstCells n d ≡ columnsIn rows
   first-columns =
-      ap (λ (x : Columns). firstOf x n) (w .columns-are)
-      ∙ columns-equal (firstOf (columnsOf (sizesOf c) rows) n) (columnsIn rows) (first-cells (λ r. r .number) rows (length (c .numbers)) n (w .size) (w .room))
+      ap (λ (x : Columns). firstCells n x) (w .columns-are)
+      ∙ same-columns (first-cells (λ r. r .number) rows (length (c .numbers)) n (w .size) (w .room))
       (first-cells (λ r. codeOf (r .name)) rows (length (c .names)) n (w .size) (omega (arith, w .room, equal .of-names)))
       (first-cells (λ r. r .parent) rows (length (c .parents)) n (w .size) (omega (arith, w .room, equal .of-parents)))
       (first-cells (λ r. r .start) rows (length (c .starts)) n (w .size) (omega (arith, w .room, equal .of-starts)))

@@ -129,9 +129,9 @@ module _ (s : Schema) where
       abbrev pub wantedBy : Env → Names → Names
       wantedBy f h = gather (λ a. wants (cutTo types (a ∷ []) (f .context)) (p .condition) a) h
 
-      pub needs-step : (t wanted : NameSet) (later r : Needs) (f : Env) → f ≡ infer types keeps p e → setIn s t ≡ e .type → NeedsOf s keeps wants ps f later
-          → setIn s wanted ≡ within (namesOf s) (wantedBy f (setIn s (later .complete))) → StepNeeds s (p .axis) (setIn s t) wanted later r → NeedsOf s keeps wants (p ∷ ps) e r
-      needs-step t wanted later r f same start n w k = record { complete = g; names = names }
+      pub needs-step : (wanted : NameSet) (later r : Needs) (f : Env) → f ≡ infer types keeps p e → NeedsOf s keeps wants ps f later
+          → setIn s wanted ≡ within (namesOf s) (wantedBy f (setIn s (later .complete))) → StepNeeds s (p .axis) (e .type) wanted later r → NeedsOf s keeps wants (p ∷ ps) e r
+      needs-step wanted later r f same n w k = record { complete = g; names = names }
         where
           after : Env
           after = infer types keeps p e
@@ -140,7 +140,7 @@ module _ (s : Schema) where
           h = n .complete ∙ ap (complete types keeps wants ps) same
 
           g : setIn s (r .complete) ≡ complete types keeps wants (p ∷ ps) e
-          g = k .complete ∙ ap₂ (leading types (p .axis)) h start
+          g = k .complete ∙ ap (λ (x : Names). leading types (p .axis) x (e .type)) h
 
           rest : setIn s (later .names) ≡ within (namesOf s) (need types keeps wants ps after)
           rest = n .names ∙ ap (λ (x : Env). within (namesOf s) (need types keeps wants ps x)) same

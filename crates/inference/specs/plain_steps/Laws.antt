@@ -1,84 +1,51 @@
 -- Laws of steps without brackets, one step and those after it.
-use mathlib.Core.Bool.{Bool, true, false}
-use mathlib.Core.List.{List, [], _∷_, _++_}
-use mathlib.Core.Path.{_≡_, refl, sym, ap, ap₂, subst, _∙_}
+use mathlib.Core.Bool.{false}
+use mathlib.Core.List.{List, _++_}
+use mathlib.Core.Path.{_≡_, refl, sym, ap, subst, _∙_}
 use Prim.Native.Nat.{ℕ, suc, _+_, _-_}
 use lib.ListN.{getD}
-use Rattle.compiled_paths.specs.Columns.{axisOf, axisNumber, testOf, plainIn, plain-next}
-use Rattle.inference_spec.specs.Needed.{complete, keepsAll, wantsNothing}
-use Rattle.inference_spec.specs.Types.{Env, env, allAbove, cutTo, move, narrow, infer, inferAll}
-use Rattle.inference.specs.back_steps.Laws.{setIn-within, empty-setIn, needs-step}
-use Rattle.inference.specs.back_steps.Needs.{StepNeeds, NeedsOf}
+use Rattle.compiled_paths.specs.Columns.{writtenOf, axisNumber, testOf, plainIn, plain-next}
+use Rattle.inference_spec.specs.Needed.{keepsAll, wantsNothing}
+use Rattle.inference_spec.specs.Types.{Env, infer, inferAll}
+use Rattle.inference.specs.back_steps.Needs.{NeedsOf}
 use Rattle.inference.specs.declared.back_steps.Needs.{Needs}
+use Rattle.inference.specs.written_steps.Laws.{unconditional-infer, written-infer, nothing-wanted, written-needs}
+use Rattle.inference.specs.written_steps.Parts.{lastPart, beforeLast, reached, WrittenNeeds}
 use Rattle.names.specs.Sets.{member, setIn}
 use Rattle.names.specs.declared.NameSet.{NameSet}
-use Rattle.path_spec.specs.Paths.{Step, expandFrom}
-use Rattle.path_spec.specs.Selection.{passes}
-use Rattle.schema_spec.specs.Names.{Name, Names, has, within, namesOf}
+use Rattle.path_laws.specs.Paths.{lastAxis}
+use Rattle.path_spec.specs.Paths.{NodeTest, Step, expandStep, expandFrom}
+use Rattle.schema_spec.specs.Names.{Name}
 use Rattle.schema_spec.specs.Schemas.{Schema}
-use Rattle.schema_spec.specs.Types.{Types, typesOf}
-use Rattle.text_laws.specs.Lists.{filter-filter}
-use Rattle.text_spec.specs.Lists.{filterBy, gather}
-
-filter-all : (xs : Names) → filterBy (λ a. true) xs ≡ xs
-filter-all [] = refl
-filter-all (x ∷ xs) = ap (λ (l : Names). x ∷ l) (filter-all xs)
-
-abbrev nobody : Name → Names
-nobody a = []
-
-gather-none : (xs : Names) → gather (λ a. nobody a) xs ≡ []
-gather-none [] = refl
-gather-none (x ∷ xs) = gather-none xs
-
-module _ (s : Schema) where
-  abbrev types : Types
-  types = typesOf s
-
-  -- ---- steps without brackets: the second cut changes nothing
-  pub narrow-all : (f : Name → Bool) (e : Env) → narrow types (λ a. true) (narrow types f e) ≡ narrow types f e
-  narrow-all f e =
-      ap₂ env (filter-all (filterBy f (e .type)))
-      (ap (λ (t : Names). cutTo types t (cutTo types (filterBy f (e .type)) (e .context))) (filter-all (filterBy f (e .type))) ∙ twice (filterBy f (e .type)) (e .context))
-    where
-      twice : (t k : Names) → cutTo types t (cutTo types t k) ≡ cutTo types t k
-      twice t k =
-          sym (filter-filter (λ n. has n (t ++ allAbove types t)) (λ n. has n (t ++ allAbove types t)) (λ n. has n (t ++ allAbove types t)) k (λ n i h. (h, h)) (λ n i h g. g))
-
-  pub plain-infer : (p : Step ℕ (Unit {0})) (e : Env) → infer types keepsAll p e ≡ narrow types (passes (p .test)) (move types (p .axis) (p .test) e)
-  plain-infer p e = narrow-all (passes (p .test)) (move types (p .axis) (p .test) e)
-
-  pub nothing-wanted : (r : NameSet) (k h : Names) → setIn s r ≡ [] → setIn s r ≡ within (namesOf s) (gather (λ a. wantsNothing (cutTo types (a ∷ []) k) tt a) h)
-  nothing-wanted r k h e = setIn-within s r _ (e ∙ sym (gather-none h))
+use Rattle.schema_spec.specs.Types.{typesOf}
 
 -- ---- steps in columns
 module _ (axes tests : List ℕ) where
   -- the step k of some axis, which is written as the step of number i, and the n - 1 steps after it
   module _ (s : Schema) (i n k axis : ℕ) (left : n ≡ 0 → ⊥) (number : axis ≡ axisNumber (getD axes k 0)) where
-    abbrev hereAlong : ℕ → Step ℕ (Unit {0})
-    hereAlong a = record { written = i; axis = axisOf a; test = testOf (getD tests k 0); condition = tt }
-
-    abbrev here : Step ℕ (Unit {0})
-    here = hereAlong axis
-
-    abbrev after : Env → Env
-    after e = narrow (typesOf s) (passes (here .test)) (move (typesOf s) (here .axis) (here .test) e)
+    abbrev test : NodeTest ℕ
+    test = testOf (getD tests k 0)
 
     abbrev rest : List (Step ℕ (Unit {0}))
     rest = expandFrom tt (suc i) (plainIn axes tests (n - 1) (k + 1))
 
-    here-and-rest : here ∷ rest ≡ expandFrom tt i (plainIn axes tests n k)
-    here-and-rest = ap (λ (a : ℕ). hereAlong a ∷ rest) number ∙ ap (expandFrom tt i) (sym (plain-next axes tests n k left))
+    abbrev whole : List (Step ℕ (Unit {0}))
+    whole = expandFrom tt i (plainIn axes tests n k)
 
-    pub infer-plain-step : (e f r : Env) → f ≡ after e → r ≡ inferAll (typesOf s) keepsAll rest f → r ≡ inferAll (typesOf s) keepsAll (expandFrom tt i (plainIn axes tests n k)) e
+    here-and-rest : expandStep tt i (writtenOf axis) test tt ++ rest ≡ whole
+    here-and-rest = ap (λ (a : ℕ). expandStep tt i (writtenOf a) test tt ++ rest) number ∙ ap (expandFrom tt i) (sym (plain-next axes tests n k left))
+
+    last-infer : (e f : Env) → f ≡ reached (typesOf s) (writtenOf axis) test e → f ≡ infer (typesOf s) keepsAll (lastPart i (writtenOf axis) test tt) (beforeLast (typesOf s) (writtenOf axis) e)
+    last-infer e f d = d ∙ sym (unconditional-infer s tt keepsAll (λ k a. refl) i (lastAxis (writtenOf axis)) test (beforeLast (typesOf s) (writtenOf axis) e))
+
+    pub infer-plain-step : (e f r : Env) → f ≡ reached (typesOf s) (writtenOf axis) test e → r ≡ inferAll (typesOf s) keepsAll rest f → r ≡ inferAll (typesOf s) keepsAll whole e
     infer-plain-step e f r d h =
-        h ∙ ap (inferAll (typesOf s) keepsAll rest) (d ∙ sym (plain-infer s here e))
+        h ∙ ap (inferAll (typesOf s) keepsAll rest) (last-infer e f d) ∙ sym (written-infer s tt keepsAll (λ k a. refl) i (writtenOf axis) test tt rest e)
         ∙ ap (λ (ps : List (Step ℕ (Unit {0}))). inferAll (typesOf s) keepsAll ps e) here-and-rest
 
-    pub needs-plain-step : (e f : Env) (t none : NameSet) (later r : Needs) → f ≡ after e → setIn s t ≡ e .type → ((m : Name) → member none m ≡ false)
-        → NeedsOf s keepsAll wantsNothing rest f later → StepNeeds s (here .axis) (setIn s t) none later r
-        → NeedsOf s keepsAll wantsNothing (expandFrom tt i (plainIn axes tests n k)) e r
-    needs-plain-step e f t none later r d h empty m w =
+    pub needs-plain-step : (e f : Env) (none : NameSet) (later r : Needs) → f ≡ reached (typesOf s) (writtenOf axis) test e → ((m : Name) → member none m ≡ false)
+        → NeedsOf s keepsAll wantsNothing rest f later → WrittenNeeds s (writtenOf axis) e none later r → NeedsOf s keepsAll wantsNothing whole e r
+    needs-plain-step e f none later r d empty m w =
         subst (λ (ps : List (Step ℕ (Unit {0}))). NeedsOf s keepsAll wantsNothing ps e r) here-and-rest
-        (needs-step s keepsAll wantsNothing here rest e t none later r f (d ∙ sym (plain-infer s here e)) h m
-        (nothing-wanted s none (f .context) (setIn s (later .complete)) (empty-setIn s none empty)) w)
+        (written-needs s tt keepsAll (λ k a. refl) wantsNothing (λ k a. refl) i (writtenOf axis) test tt rest e f none later r (last-infer e f d) m
+        (nothing-wanted s tt keepsAll (λ k a. refl) wantsNothing (λ k a. refl) none (f .context) (setIn s (later .complete)) empty) w)

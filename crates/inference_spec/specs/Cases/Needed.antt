@@ -66,6 +66,10 @@ schemaCycle = bytes "<!ELEMENT r (x)*><!ELEMENT x (y)*><!ELEMENT y (a)*><!ELEMEN
 abbrev pub schemaOther : List ℕ
 schemaOther = bytes "<!ELEMENT r (x|y)*><!ELEMENT x (a|q)*><!ELEMENT y (b)*><!ELEMENT a EMPTY><!ELEMENT q EMPTY><!ELEMENT b EMPTY>"
 
+-- the root holds itself
+abbrev pub schemaSelf : List ℕ
+schemaSelf = bytes "<!ELEMENT r (r|x)*><!ELEMENT x EMPTY>"
+
 -- a schema for which the last filter drops a name: elements r, m, z, y, x, a, q
 abbrev pub schemaR : List ℕ
 schemaR = bytes "<!ELEMENT r (x|m)*><!ELEMENT m (z)*><!ELEMENT z (y|q)*><!ELEMENT y (a)*><!ELEMENT x (a|q)*><!ELEMENT a EMPTY><!ELEMENT q EMPTY>"
@@ -142,6 +146,26 @@ cases =
     ∷ needs schemaX "child::x[parent::r/child::y]\n" (r ∷ x ∷ y ∷ [])
     ∷ needs schemaX "child::node()[child::a/parent::node()]/child::q\n" (r ∷ x ∷ a ∷ q ∷ [])
     ∷ needs schemaOther "child::node()[child::node()]/child::q\n" (r ∷ x ∷ a ∷ q ∷ [])
+    -- a sibling axis "counts as parent::node()/child::test", with the context of that parent; the root has a parent only if it holds itself
+    ∷ needs schemaX "child::x/following-sibling::y\n" (r ∷ x ∷ y ∷ [])
+    ∷ needs schemaX "child::x/preceding-sibling::r\n" []
+    ∷ needs schemaX "child::x/child::a/preceding-sibling::node()\n" (r ∷ x ∷ a ∷ q ∷ [])
+    ∷ needs schemaX "child::x[preceding-sibling::y]\n" (r ∷ x ∷ y ∷ [])
+    ∷ needs schemaX "following-sibling::x\n" []
+    ∷ needs schemaSelf "following-sibling::x\n" (r ∷ x ∷ [])
+    -- the condition of a rewritten step stands on its last part: y holds a, r does not; r holds y, y does not
+    ∷ needs schemaX "child::x/following-sibling::y[child::a]\n" (r ∷ x ∷ y ∷ a ∷ [])
+    ∷ needs schemaX "child::x/preceding-sibling::y[child::y]\n" []
+    -- "Following and preceding are first rewritten by way of ancestor-or-self, the sibling axis and descendant-or-self": y is needed as a sibling
+    -- of x, which is above q; x itself is stayed at, and so is y; y is between x and a
+    ∷ needs schemaX "child::x/child::q/following::a\n" (r ∷ x ∷ y ∷ a ∷ q ∷ [])
+    ∷ needs schemaX "child::x/preceding::y\n" (r ∷ x ∷ y ∷ [])
+    ∷ needs schemaChain "child::x/following::a\n" (r ∷ x ∷ y ∷ a ∷ [])
+    ∷ needs schemaX "child::x[following::y]\n" (r ∷ x ∷ y ∷ [])
+    ∷ needs schemaX "preceding::x\n" []
+    -- with the condition on the last part: of all names on the way a alone has a parent y
+    ∷ needs schemaX "child::y/following::a[parent::y]\n" (r ∷ x ∷ y ∷ a ∷ [])
+    ∷ needs schemaX "child::y/preceding::a[parent::y]\n" (r ∷ x ∷ y ∷ a ∷ [])
     -- the last filter drops z, element 2
     ∷ asked schemaR filtered (0 ∷ 4 ∷ 5 ∷ 6 ∷ [])
     -- "A bundle's needed names are the union", after the last filter of each: z stays dropped beside m, element 1

@@ -11,15 +11,15 @@ use lib.Dec.{T, eqb, ltb}
 use lib.ListN.{length, getD, take, replicate, length-replicate}
 use lib.Seq.{length-take-le}
 use Rattle.cells.specs.lent.Cells.{all-cleared}
-use Rattle.cells.specs.lent.Columns.{ClearedFrom}
+use Rattle.cells.specs.lent.Columns.{ClearedFrom, same-columns}
 use Rattle.cells.specs.lent.Ends.{Slice, entryColumns, exitColumns}
 use Rattle.cells.specs.row_sets.Columns.{isMarked, marks, marks-length, marks-marked, marks-cong}
 use Rattle.kept_rows.specs.Joined.{rank}
 use Rattle.kept_rows.specs.Kept.{isKept, keptMarks, KeptColumns, kept-later}
 use Rattle.kept_rows.specs.Positions.{Numbered as Counted, nonzero-position, positions, positions-length, positions-at}
 use Rattle.kept_rows.specs.cut_rows.Cells.{noted-cleared}
-use Rattle.kept_rows.specs.cut_rows.Rows.{table, columns-equal, keptColumns, markedBy, OfLength, Room, CutPass, RowsNoted}
-use Rattle.table_spec.specs.Columns.{Columns, Sizes, sizesOf}
+use Rattle.kept_rows.specs.cut_rows.Rows.{keptColumns, markedBy, OfLength, Room, CutPass, RowsNoted}
+use Rattle.table_spec.specs.Columns.{Columns, Sizes, sizesOf, columns}
 use Rattle.text_laws.specs.Tests.{passed, true-of, and-cases}
 use Rattle.text_spec.specs.Cells.{padded}
 
@@ -37,14 +37,14 @@ paddedColumns z c =
 
 -- n rows where there is room, else zeros
 unfoldable pub answered : Sizes → ℕ → Columns → Columns
-answered z n c = paddedColumns z (cond (ltb (z .numbers) n) (table [] [] [] [] []) c)
+answered z n c = paddedColumns z (cond (ltb (z .numbers) n) (columns [] [] [] [] []) c)
 
 -- ---- the cells past n rows are cleared
 pub short-answered : (o : Columns) (n : ℕ) (c y : Columns) → length (o .numbers) < n → ClearedFrom o 0 y → y ≡ answered (sizesOf o) n c
 unfolding answered paddedColumns
 short-answered o n c y l w =
     rw (lt-ltb (length (o .numbers)) n l)
-    (columns-equal y (paddedColumns (sizesOf o) (table [] [] [] [] [])) (all-cleared (o .numbers) (y .numbers) (w .numbers)) (all-cleared (o .names) (y .names) (w .names))
+    (same-columns (all-cleared (o .numbers) (y .numbers) (w .numbers)) (all-cleared (o .names) (y .names) (w .names))
     (all-cleared (o .parents) (y .parents) (w .parents)) (all-cleared (o .starts) (y .starts) (w .starts)) (all-cleared (o .lengths) (y .lengths) (w .lengths)))
 
 module _ (m : List ℕ) (c o : Columns) (r : ℕ) (x : Columns) (w : RowsNoted m c o r x) (room : Room (rank m r) o) where
@@ -58,7 +58,7 @@ module _ (m : List ℕ) (c o : Columns) (r : ℕ) (x : Columns) (w : RowsNoted m
       noted-cleared _ _ _ r (x .parents) (y .parents) n (w .parents) q (omega (arith, room .sizes .parents)) (v .parents) in
       let e = noted-cleared _ _ _ r (x .starts) (y .starts) n (w .starts) q (omega (arith, room .sizes .starts)) (v .starts) in
       let f = noted-cleared _ _ _ r (x .lengths) (y .lengths) n (w .lengths) q (omega (arith, room .sizes .lengths)) (v .lengths) in
-      rw (le-ltb (length (o .numbers)) n l) (columns-equal y (paddedColumns (sizesOf o) (keptColumns m c r)) a b d e f)
+      rw (le-ltb (length (o .numbers)) n l) (same-columns a b d e f)
 
 -- ---- cutting
 -- the columns of a table that passes refusal 1, as far as cutting depends on it

@@ -13,20 +13,10 @@ use Rattle.cells.specs.row_sets.Columns.{isMarked, marks, marks-length}
 use Rattle.kept_rows.specs.Joined.{rank, total-marked, total-rises}
 use Rattle.kept_rows.specs.Positions.{positionOf, positions, positions-at, position-marked, position-unmarked, marked-position}
 use Rattle.kept_rows.specs.cut_rows.Cells.{cellsBefore, Noted, noted-none, noted-unmarked, noted-marked, noted-length}
-use Rattle.table_spec.specs.Columns.{Columns}
+use Rattle.table_spec.specs.Columns.{Columns, columns}
 use Rattle.text_laws.specs.Tests.{cond-yes, cond-no}
-pub use Rattle.cells.specs.lent.Columns.{table}
 
 -- ---- definitions
--- two tables that agree in each column
-pub columns-equal : (x y : Columns) → x .numbers ≡ y .numbers → x .names ≡ y .names → x .parents ≡ y .parents → x .starts ≡ y .starts → x .lengths ≡ y .lengths → x ≡ y
-columns-equal x y a b c d e =
-    ap (λ (l : List ℕ). table l (x .names) (x .parents) (x .starts) (x .lengths)) a
-    ∙ ap (λ (l : List ℕ). table (y .numbers) l (x .parents) (x .starts) (x .lengths)) b
-    ∙ ap (λ (l : List ℕ). table (y .numbers) (y .names) l (x .starts) (x .lengths)) c
-    ∙ ap (λ (l : List ℕ). table (y .numbers) (y .names) (y .parents) l (x .lengths)) d
-    ∙ ap (λ (l : List ℕ). table (y .numbers) (y .names) (y .parents) (y .starts) l) e
-
 -- the marked rows before r in columns: parents' rows become their positions among the marked rows
 unfoldable pub keptColumns : List ℕ → Columns → ℕ → Columns
 keptColumns m c r =
@@ -45,7 +35,7 @@ markedBy pos = marks (length pos) (λ r. not (eqb (getD pos r 0) 0))
 -- a row written at a cell of each column
 abbrev pub stored : Columns → ℕ → ℕ → ℕ → ℕ → ℕ → ℕ → Columns
 stored x at number name parent start size =
-    table (set (x .numbers) at number) (set (x .names) at name) (set (x .parents) at parent) (set (x .starts) at start) (set (x .lengths) at size)
+    columns (set (x .numbers) at number) (set (x .names) at name) (set (x .parents) at parent) (set (x .starts) at start) (set (x .lengths) at size)
 
 -- row r of a table written at its position, if it has one
 unfoldable pub rowAdded : List ℕ → Columns → ℕ → Columns → Columns

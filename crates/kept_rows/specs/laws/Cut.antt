@@ -8,20 +8,21 @@ use native.Mathlib.Omega.{arith}
 use lib.Dec.{T}
 use lib.ListN.{length, getD, getElem?, length-map, length-append}
 use lib.Seq.{take-append-le}
+use Rattle.cells.specs.lent.Columns.{same-columns}
 use Rattle.cells.specs.row_sets.Ancestors.{by-parents}
 use Rattle.cells.specs.row_sets.Columns.{mark, picked, marks-by-rows}
 use Rattle.extract_spec.specs.Cut.{kept, renumbered, cutFrom, cut}
 use Rattle.kept_rows.specs.Joined.{rank}
 use Rattle.kept_rows.specs.Kept.{isKept, keptMarks, kept-root, kept-later}
 use Rattle.kept_rows.specs.cut_rows.Cells.{cellsBefore}
-use Rattle.kept_rows.specs.cut_rows.Rows.{table, columns-equal, keptColumns}
+use Rattle.kept_rows.specs.cut_rows.Rows.{keptColumns}
 use Rattle.kept_rows.specs.laws.Picked.{joined-picked, gather-map, tested, tested-rank}
 use Rattle.schema_spec.specs.Names.{Name, Names, codeOf, has}
 use Rattle.schema_spec.specs.Types.{Types}
 use Rattle.table_laws.specs.Fits.{rooted}
 use Rattle.table_laws.specs.Parents.{NodeAt, ChildOf, child-of, Placed, nodes-placed, nodes-named}
 use Rattle.table_laws.specs.Places.{none-some, at-bound, at-some, at-in}
-use Rattle.table_spec.specs.Columns.{Columns}
+use Rattle.table_spec.specs.Columns.{Columns, columns}
 use Rattle.table_spec.specs.Nodes.{Node, top, under, nameOf, isTop, nodeAt, nodesFrom, nodesOf}
 use Rattle.table_spec.specs.Rows.{Row, withParent}
 use Rattle.table_spec.specs.Tables.{wellFormed}
@@ -30,7 +31,7 @@ use Rattle.text_spec.specs.Lists.{filterBy}
 -- the columns of rows
 abbrev pub columnsIn : List Row → Columns
 columnsIn rows =
-    table (map (λ r. r .number) rows) (map (λ r. codeOf (r .name)) rows) (map (λ r. r .parent) rows) (map (λ r. r .start) rows) (map (λ r. r .size) rows)
+    columns (map (λ r. r .number) rows) (map (λ r. codeOf (r .name)) rows) (map (λ r. r .parent) rows) (map (λ r. r .start) rows) (map (λ r. r .size) rows)
 
 -- the codes of the rows' names that pass are those of the names in the set
 abbrev pub PassesFor : (ℕ → Bool) → Names → List Row → Type 0
@@ -163,7 +164,7 @@ module _ (s : Types) (rows : List Row) (ok : T (wellFormed s rows)) where
     unfolding keptColumns renumberedBy
     cut-columns =
         ap (keptColumns m (columnsIn rows)) (length-map rows (λ q. q .parent))
-        ∙ columns-equal (keptColumns m (columnsIn rows) (length rows)) (columnsIn (map (renumberedBy m) (picked m rows))) (cut-column (λ r. r .number) (λ x. x) m marks-size (λ r. r .number) (λ r. refl))
+        ∙ same-columns (cut-column (λ r. r .number) (λ x. x) m marks-size (λ r. r .number) (λ r. refl))
         (cut-column (λ r. codeOf (r .name)) (λ x. x) m marks-size (λ r. codeOf (r .name)) (λ r. refl)) (cut-column (λ r. r .parent) (rank m) m marks-size (λ r. r .parent) (λ r. refl))
         (cut-column (λ r. r .start) (λ x. x) m marks-size (λ r. r .start) (λ r. refl)) (cut-column (λ r. r .size) (λ x. x) m marks-size (λ r. r .size) (λ r. refl))
         ∙ ap columnsIn (sym cut-picked)

@@ -9,13 +9,14 @@ use lib.Dec.{T, eqb}
 use lib.ListN.{length, take, length-map}
 use lib.Seq.{length-take-le}
 use Rattle.cells.specs.declared.verdicts.Verdict.{Verdict}
+use Rattle.cells.specs.lent.Columns.{firstCells}
 use Rattle.cells.specs.row_sets.Columns.{picked}
 use Rattle.chains.specs.laws.Names.{compiled-names}
 use Rattle.chains.specs.laws.Nodes.{node-chain}
 use Rattle.chains.specs.tags.Chains.{chainAt, chainSize, NamesAt, chain-length}
 use Rattle.compiled_paths.specs.Paths.{pathsIn}
 use Rattle.extract_spec.specs.Cut.{cut}
-use Rattle.hosts.specs.columns.Rows.{firstOf, Rooms, RowsRead, rows-read, text-refused, first-columns, rooms}
+use Rattle.hosts.specs.columns.Rows.{Rooms, RowsRead, rows-read, text-refused, first-columns, rooms}
 use Rattle.hosts.specs.declared.texts.Texts.{Texts}
 use Rattle.hosts.specs.laws.Stages.{bundle-accepted}
 use Rattle.hosts.specs.texts.Texts.{TextsJudged, told-accepted, told-refused}
@@ -127,7 +128,7 @@ module _ (schema bundle journal : List ℕ) where
           coded : NamesCoded rows
           coded = rows-coded schema s read rows alone
 
-          same : firstOf d (v .size) ≡ columnsIn rows
+          same : firstCells (v .size) d ≡ columnsIn rows
           same = first-columns journalOutcome c (lent .equal) (v .size) d rowsRead
 
           numbers-are : take (v .size) (d .numbers) ≡ numbersOf rows

@@ -65,7 +65,7 @@ module _ (source : List ℕ) (s : Schema) (read : readSchema source ≡ accepted
 
   node-chain-short : (y : Node) → Valid (typesOf s) y → depthOf y ≤ maxDepth → length (chain s y) ≤ 2055
   unfolding typesOf holds
-  node-chain-short (top k n) v l = let u = element-chain (top k n) v 0 v in omega arith
+  node-chain-short (top k n) v l = let u = element-chain (top k n) v 0 (v .1) in omega arith
   node-chain-short (under k (element e) w p) v l = let u = element-chain (under k (element e) w p) v e refl in omega arith
   node-chain-short (under k (text e) w p) v l = by (nameOf p) refl (v .0)
     where

@@ -1,20 +1,18 @@
--- Columns that have some written steps, and a written step as it is analysed.
+-- Columns that have some written steps, and the last part of a written step as it is analysed.
 use mathlib.Core.List.{List}
 use mathlib.Core.Path.{_≡_}
 use Prim.Native.Nat.{ℕ, _+_, _≤_, _<_}
 use lib.ListN.{length, getD}
 use denote.Ref.{now}
 use Rattle.cells.specs.lent.Ends.{Slice}
-use Rattle.compiled_paths.specs.Columns.{axisOf, axisNumber, testOf, startAt, sizeAt, conditionIn}
-use Rattle.path_spec.specs.Paths.{Step, Condition}
+use Rattle.compiled_paths.specs.Columns.{testOf, axisAt, conditionAt}
+use Rattle.inference.specs.written_steps.Parts.{lastPart}
+use Rattle.path_spec.specs.Paths.{WrittenAxis, Step, Condition}
 
 module _ (axes tests conditions : List ℕ) where
-  abbrev pub conditionAt : ℕ → Condition ℕ
-  conditionAt k = conditionIn axes tests (sizeAt conditions k) (startAt conditions k)
-
-  -- the step k, written as the step of number i
-  abbrev pub analysedAt : ℕ → ℕ → Step ℕ (Condition ℕ)
-  analysedAt i k = record { written = i; axis = axisOf (axisNumber (getD axes k 0)); test = testOf (getD tests k 0); condition = conditionAt k }
+  -- the last part of the step k, written as the step of number i
+  abbrev pub lastAt : ℕ → ℕ → Step ℕ (Condition ℕ)
+  lastAt i k = lastPart i (axisAt axes k) (testOf (getD tests k 0)) (conditionAt axes tests conditions k)
 
   -- n steps from k on, with their conditions
   pub record HasWrittenSteps (k n : ℕ) : Type 0 where
@@ -23,6 +21,9 @@ module _ (axes tests conditions : List ℕ) where
     pub tests-size : length tests ≡ length axes
     pub conditions-inside : (j : ℕ) → getD conditions j 0 ≤ length axes
 
--- a step of lent columns, as it is analysed
-abbrev pub entryAnalysed : Slice → Slice → Slice → ℕ → ℕ → Step ℕ (Condition ℕ)
-entryAnalysed axes tests conditions i k = analysedAt (now (axes .entry)) (now (tests .entry)) (now (conditions .entry)) i k
+-- the axis of a step of lent columns, and its last part
+abbrev pub entryAxis : Slice → ℕ → WrittenAxis
+entryAxis axes k = axisAt (now (axes .entry)) k
+
+abbrev pub entryLast : Slice → Slice → Slice → ℕ → ℕ → Step ℕ (Condition ℕ)
+entryLast axes tests conditions i k = lastAt (now (axes .entry)) (now (tests .entry)) (now (conditions .entry)) i k

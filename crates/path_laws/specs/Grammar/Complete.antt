@@ -11,7 +11,7 @@ use Rattle.path_laws.specs.Grammar.Joined.{reversed-filled}
 use Rattle.path_laws.specs.Grammar.Machine.{bundle-dead, test-naming}
 use Rattle.path_spec.specs.Grammar.{PathRead, pathRead, orWord, TestText, a-name, any-node, any-text, PlainText, plain, AlternativeText, one-step, more-steps, ConditionText, one-alternative, more-alternatives, StepText, bare, conditional, PathText, last-step, next-step, BundleText, last-path, next-path}
 use Rattle.path_spec.specs.Machine.{Outer, Inner, Context, outside, inside, State, lineStart, beforeTest, inTest, afterCall, afterBrackets, beginStep, withStep, withPlain, withAlternative, bracketed, tested, step, ends, bundleMachine, parse}
-use Rattle.path_spec.specs.Paths.{self, child, descendant, descendantOrSelf, parent, ancestor, ancestorOrSelf, WrittenAxis, along, spellAxis, NodeTest, named, WrittenStep, PlainStep, Condition, unconditional, alternatives}
+use Rattle.path_spec.specs.Paths.{self, child, descendant, descendantOrSelf, parent, ancestor, ancestorOrSelf, WrittenAxis, along, following, followingSibling, preceding, precedingSibling, spellAxis, NodeTest, named, WrittenStep, PlainStep, Condition, unconditional, alternatives}
 use Rattle.schema_spec.specs.Declarations.{Use}
 use Rattle.text_laws.specs.Machines.{final, final-append, final-spells}
 use Rattle.text_laws.specs.Scans.{name-final}
@@ -31,6 +31,10 @@ axis-read (along descendantOrSelf) x k = refl
 axis-read (along parent) x k = refl
 axis-read (along ancestor) x k = refl
 axis-read (along ancestorOrSelf) x k = refl
+axis-read following x k = refl
+axis-read followingSibling x k = refl
+axis-read preceding x k = refl
+axis-read precedingSibling x k = refl
 
 -- a state in which a step's axis and test stand complete
 data TestEnd : State → WrittenAxis → NodeTest Use → Context → Type 0 where
@@ -161,6 +165,10 @@ axis-filled (along descendantOrSelf) w = refl
 axis-filled (along parent) w = refl
 axis-filled (along ancestor) w = refl
 axis-filled (along ancestorOrSelf) w = refl
+axis-filled following w = refl
+axis-filled followingSibling w = refl
+axis-filled preceding w = refl
+axis-filled precedingSibling w = refl
 
 append-filled : (w v : List ℕ) → isEmpty w ≡ false → isEmpty (w ++ v) ≡ false
 append-filled [] v e = cc

@@ -1,6 +1,6 @@
 -- What the machine spells is a bundle text of the grammar: what each state says of the text read so far.
 use mathlib.Core.Bool.{Bool, true, false, cond}
-use mathlib.Core.List.{List, [], _∷_, _++_, reverse, append-assoc, append-nil}
+use mathlib.Core.List.{List, [], _∷_, _++_, map, reverse, append-assoc, append-nil}
 use mathlib.Core.Path.{_≡_, refl, sym, ap, subst, _∙_}
 use Prim.Native.Nat.{ℕ, suc, _+_, _-_}
 use native.Mathlib.Nat.{zero-add}
@@ -11,7 +11,7 @@ use Rattle.path_laws.specs.Grammar.Joined.{Before, none-before, one-more
 use Rattle.path_laws.specs.Grammar.Machine.{ends-line}
 use Rattle.path_spec.specs.Grammar.{PathRead, pathRead, nodeCall, textCall, orWord, TestText, a-name, any-node, any-text, PlainText, plain, AlternativeText, StepText, bare, conditional, PathText, BundleText}
 use Rattle.path_spec.specs.Machine.{Choice, allChoices, Outer, Inner, Context, outside, inside, State, dead, lineStart, inAxis, beforeTest, inTest, inCall, afterCall, inOr, afterBrackets, goesOn, goingOn, axisBy, beginStep, withStep, withPlain, withAlternative, bracketed, stepDone, tested, callOf, step, bundleMachine, parse}
-use Rattle.path_spec.specs.Paths.{WrittenAxis, spellAxis, NodeTest, named, WrittenStep, PlainStep, Condition, alternatives}
+use Rattle.path_spec.specs.Paths.{WrittenAxis, writtenAxes, spellAxis, NodeTest, named, WrittenStep, PlainStep, Condition, alternatives}
 use Rattle.schema_spec.specs.Declarations.{Use}
 use Rattle.text_laws.specs.Bytes.{one-byte-name, name-snoc}
 use Rattle.text_laws.specs.Lists.{bytes-equal}
@@ -110,8 +110,12 @@ by-byte : {q r : State} (u : List ℕ) (b c : ℕ) → Read q (u ++ (c ∷ [])) 
 by-byte {q} u b c f g = by-test (eqb b c) (λ t. subst (λ (d : ℕ). Read q (u ++ (d ∷ []))) (sym (eqb→eq b c t)) f) (λ e. g)
 
 -- ---- axes
+meant-by : (axes : List WrittenAxis) → Meant [] (map (λ a. record { axis = a; rest = spellAxis a }) axes)
+meant-by [] = none-meant
+meant-by (a ∷ axes) = also-meant refl (meant-by axes)
+
 all-meant : Meant [] allChoices
-all-meant = also-meant refl (also-meant refl (also-meant refl (also-meant refl (also-meant refl (also-meant refl (also-meant refl none-meant))))))
+all-meant = meant-by writtenAxes
 
 begins : {x : Context} {u : List ℕ} → InContext x u → Read (beginStep x) u
 begins {x} {u} i = subst (Read (beginStep x)) (append-nil u) (in-axis i all-meant)

@@ -8,8 +8,14 @@ use Rattle.text_spec.specs.Cases.{Case, case, AllHold, answered, Judgement, tak
 use Rattle.text_spec.specs.Lists.{bytes}
 
 -- so many steps, so many alternatives of one step
+abbrev pub stepsOf : List ℕ → ℕ → List ℕ
+stepsOf step n = joined n (bytes "/") step
+
 abbrev pub stepsJoined : ℕ → List ℕ
-stepsJoined n = joined n (bytes "/") (bytes "self::scan")
+stepsJoined = stepsOf (bytes "self::scan")
+
+abbrev pub followingSteps : ℕ → List ℕ
+followingSteps = stepsOf (bytes "following::scan")
 
 abbrev pub alternatives : ℕ → List ℕ
 alternatives n = joined n (bytes " or ") (bytes "self::scan")
@@ -40,6 +46,25 @@ cases =
     ∷ case (steps 1 ++ onFirst (alternatives 5)) (turnedBack 9 11)
     ∷ case (onSecond (alternatives 4)) taken
     ∷ case (onSecond (alternatives 5)) (turnedBack 9 0)
+    -- 8: where no axis goes on, in the text or at its end
+    ∷ case (bytes "f") (turnedBack 8 1)
+    ∷ case (bytes "followin") (turnedBack 8 8)
+    ∷ case (bytes "following-\n") (turnedBack 8 10)
+    ∷ case (bytes "following:scan\n") (turnedBack 8 10)
+    ∷ case (bytes "following-or-self::scan\n") (turnedBack 8 10)
+    ∷ case (bytes "following-siblings::scan\n") (turnedBack 8 17)
+    ∷ case (bytes "precedes::scan\n") (turnedBack 8 6)
+    ∷ case (bytes "precedin\n") (turnedBack 8 8)
+    ∷ case (bytes "preceding-") (turnedBack 8 10)
+    ∷ case (bytes "descendant-sibling::scan\n") (turnedBack 8 11)
+    ∷ case (bytes "following::scan\nfollowing-sibling::scan\npreceding::scan\npreceding-sibling::scan\nparent::scan\n") taken
+    -- 9: a step along such an axis counts as one
+    ∷ case (followingSteps 16 ++ bytes "\n") taken
+    ∷ case (steps 1 ++ (followingSteps 17 ++ bytes "\n")) (turnedBack 9 11)
+    ∷ case (onFirst (followingSteps 4)) taken
+    ∷ case (steps 1 ++ onFirst (followingSteps 5)) (turnedBack 9 11)
+    -- 10: the place of the name
+    ∷ case (bytes "following::scan/preceding-sibling::zz\n") (turnedBack 10 35)
     ∷ []
 
 pub all-hold : AllHold (λ bundle. judgementOf (readBundle (schemaIn (bytes "<!ELEMENT scan EMPTY>")) bundle)) cases

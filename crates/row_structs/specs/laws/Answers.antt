@@ -8,7 +8,7 @@ use borrow.Author.Tests.{le-ltb, ltb-true, ltb-false, eq-eqb}
 use lib.Dec.{ltb}
 use lib.ListN.{length, getD, take, drop, replicate, length-map, length-replicate, List·getD-eq-default}
 use lib.Seq.{length-take-le}
-use Rattle.cells.specs.columns.ColumnLaws.{same-columns}
+use Rattle.cells.specs.lent.Columns.{same-columns}
 use Rattle.cells.specs.declared.verdicts.Verdict.{Verdict}
 use Rattle.cells.specs.verdicts.Verdicts.{refusedBy, verdict}
 use Rattle.library_spec.specs.Calls.{rowsAfter, columnsAfter, structsAfter, inColumns}

@@ -24,9 +24,13 @@ rowOnAxis parent ps q r = isIn r (parentOf ps q)
 rowOnAxis ancestor ps q r = isIn r (ancestorsOf ps q)
 rowOnAxis ancestorOrSelf ps q r = isIn r (q ∷ ancestorsOf ps q)
 
+-- of n rows those that a relation leads to from some row of a set
+abbrev pub reachedBy : (ℕ → ℕ → Bool) → ℕ → RowSet → RowSet
+reachedBy leads n f r = anyBelow n (λ q. f q && leads q r)
+
 -- the rows on the axis from some row of a set
 unfoldable pub image : Axis → List ℕ → RowSet → RowSet
-image a ps f r = anyBelow (length ps) (λ q. f q && rowOnAxis a ps q r)
+image a ps f r = reachedBy (rowOnAxis a ps) (length ps) f r
 
 unfoldable pub imageMarks : Axis → List ℕ → List ℕ → List ℕ
 imageMarks a ps m = marks (length ps) (image a ps (isMarked m))

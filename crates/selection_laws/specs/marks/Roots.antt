@@ -1,4 +1,4 @@
--- The axes from the root: every other row is below it, none is above it. From no row nothing is reached.
+-- The axes from the root: every other row is below it, none is above it, before it or after it. From no row nothing is reached.
 use mathlib.Core.Bool.{Bool, true, false, not, _&&_, _||_, or-true, or-false}
 use mathlib.Core.List.{List, [], _∷_}
 use mathlib.Core.Logic.{⊎-elim}
@@ -11,15 +11,16 @@ use lib.Dec.{T, eqb, eqb→eq}
 use lib.ListN.{length, getD}
 use Rattle.cells.specs.row_sets.Ancestors.{parentOf, ancestorsOf, isIn, root-parent, root-ancestors, by-parents}
 use Rattle.cells.specs.row_sets.Columns.{RowSet, isMarked, marks, intersection, marks-length, marks-cong, marks-marked}
-use Rattle.path_spec.specs.Paths.{Axis, self, child, descendant, descendantOrSelf, parent, ancestor, ancestorOrSelf, WrittenAxis, along, WrittenStep, Condition}
+use Rattle.path_spec.specs.Paths.{Axis, self, child, descendant, descendantOrSelf, parent, ancestor, ancestorOrSelf, WrittenAxis, along, following, followingSibling, preceding, precedingSibling, WrittenStep, Condition}
 use Rattle.schema_spec.specs.Names.{Name}
 use Rattle.selection_laws.specs.marks.Backward.{ancestor-or-self-split}
 use Rattle.selection_laws.specs.marks.Forward.{image-self, child-root, child-later, descendant-root, descendant-later, descendant-or-self-root, descendant-or-self-later}
-use Rattle.selection_laws.specs.marks.Parents.{rowOnAxis, image, imageMarks, image-cong}
+use Rattle.selection_laws.specs.marks.Parents.{rowOnAxis, reachedBy, image, imageMarks, image-cong}
 use Rattle.selection_laws.specs.marks.Selection.{rootMarks, noMarks, writtenMarks, testMarks, conditionMarks, stepMarks, stepsMarks}
+use Rattle.selection_laws.specs.marks.Siblings.{isLaterSibling, followingSiblingMarks, precedingSiblingMarks}
 use Rattle.table_laws.specs.Parents.{ParentsBefore}
-use Rattle.text_laws.specs.Searches.{below-any, any-none}
-use Rattle.text_laws.specs.Tests.{and-cases, false-of}
+use Rattle.text_laws.specs.Searches.{below-any, any-never}
+use Rattle.text_laws.specs.Tests.{false-of, failed, and-cases}
 
 -- the rows on an axis from the root
 unfoldable pub rootImage : Axis → List ℕ → RowSet
@@ -101,12 +102,78 @@ module _ (ps : List ℕ) (before : ParentsBefore ps) where
       (λ r l. image-cong a ps (isMarked (marks (length ps) root)) root (λ q b. marks-marked (length ps) root q b) r ∙ root-image a r l)
 
 -- ---- from no row nothing is reached
+reached-none : (leads : ℕ → ℕ → Bool) (n : ℕ) → marks n (reachedBy leads n (isMarked (noMarks n))) ≡ noMarks n
+reached-none leads n =
+    marks-cong n (reachedBy leads n (isMarked (noMarks n))) (λ r. false)
+    (λ r l.
+    any-never n (λ q. isMarked (noMarks n) q && leads q r) (λ q b t. failed (marks-marked n (λ i. false) q b) (and-cases (isMarked (noMarks n) q) (leads q r) t .0)))
+
 pub image-none : (a : Axis) (ps : List ℕ) → imageMarks a ps (noMarks (length ps)) ≡ noMarks (length ps)
 unfolding imageMarks image
-image-none a ps =
-    marks-cong (length ps) (image a ps (isMarked (noMarks (length ps)))) (λ r. false)
-    (λ r l. image-cong a ps (isMarked (noMarks (length ps))) (λ q. false) (λ q b. marks-marked (length ps) (λ i. false) q b) r ∙ any-none (length ps))
+image-none a ps = reached-none (rowOnAxis a ps) (length ps)
 
+following-siblings-none : (ps : List ℕ) → followingSiblingMarks ps (noMarks (length ps)) ≡ noMarks (length ps)
+unfolding followingSiblingMarks
+following-siblings-none ps = reached-none (λ q r. isLaterSibling ps q r) (length ps)
+
+preceding-siblings-none : (ps : List ℕ) → precedingSiblingMarks ps (noMarks (length ps)) ≡ noMarks (length ps)
+unfolding precedingSiblingMarks
+preceding-siblings-none ps = reached-none (λ q r. isLaterSibling ps r q) (length ps)
+
+-- where the second of the three passes finds nothing, the third does
+no-row-below : (ps m : List ℕ) → m ≡ noMarks (length ps) → imageMarks descendantOrSelf ps m ≡ noMarks (length ps)
+no-row-below ps m e = ap (imageMarks descendantOrSelf ps) e ∙ image-none descendantOrSelf ps
+
+pub written-none : (a : WrittenAxis) (ps : List ℕ) → writtenMarks a ps (noMarks (length ps)) ≡ noMarks (length ps)
+written-none (along a) ps = image-none a ps
+written-none following ps = no-row-below ps _ (ap (followingSiblingMarks ps) (image-none ancestorOrSelf ps) ∙ following-siblings-none ps)
+written-none followingSibling ps = following-siblings-none ps
+written-none preceding ps = no-row-below ps _ (ap (precedingSiblingMarks ps) (image-none ancestorOrSelf ps) ∙ preceding-siblings-none ps)
+written-none precedingSibling ps = preceding-siblings-none ps
+
+-- ---- the written axes from the root
+unfoldable pub rootWritten : WrittenAxis → List ℕ → RowSet
+rootWritten (along a) ps r = rootImage a ps r
+rootWritten following ps r = false
+rootWritten followingSibling ps r = false
+rootWritten preceding ps r = false
+rootWritten precedingSibling ps r = false
+
+-- a relation that leads nowhere from the root
+reached-root : (leads : ℕ → ℕ → Bool) (n : ℕ) → ((r : ℕ) → T (leads 0 r) → ⊥) → marks n (reachedBy leads n (isMarked (rootMarks n))) ≡ noMarks n
+unfolding rootMarks
+reached-root leads n none =
+    marks-cong n (reachedBy leads n (isMarked (rootMarks n))) (λ r. false)
+    (λ r l.
+    any-never n (λ q. isMarked (rootMarks n) q && leads q r) (λ q b t.
+    let c = and-cases (isMarked (rootMarks n) q) (leads q r) t in
+    let e : q ≡ 0 = eqb→eq q 0 (subst T (marks-marked n (λ i. eqb i 0) q b) (c .0)) in
+    none r (subst (λ (k : ℕ). T (leads k r)) e (c .1))))
+
+root-following-siblings : (ps : List ℕ) → followingSiblingMarks ps (rootMarks (length ps)) ≡ noMarks (length ps)
+unfolding followingSiblingMarks isLaterSibling
+root-following-siblings ps = reached-root (λ q r. isLaterSibling ps q r) (length ps) (λ r t. t)
+
+root-preceding-siblings : (ps : List ℕ) → precedingSiblingMarks ps (rootMarks (length ps)) ≡ noMarks (length ps)
+unfolding precedingSiblingMarks isLaterSibling
+root-preceding-siblings ps =
+    reached-root (λ q r. isLaterSibling ps r q) (length ps) (λ r t. and-cases (not (eqb r 0)) false t .1)
+
+module _ (ps : List ℕ) (before : ParentsBefore ps) where
+  -- the root is above itself alone
+  root-above : imageMarks ancestorOrSelf ps (rootMarks (length ps)) ≡ rootMarks (length ps)
+  unfolding rootImage rootMarks
+  root-above = root-image-marks ps before ancestorOrSelf
+
+  pub root-written-marks : (a : WrittenAxis) → writtenMarks a ps (rootMarks (length ps)) ≡ marks (length ps) (rootWritten a ps)
+  unfolding rootWritten
+  root-written-marks (along a) = root-image-marks ps before a
+  root-written-marks following = no-row-below ps _ (ap (followingSiblingMarks ps) root-above ∙ root-following-siblings ps)
+  root-written-marks followingSibling = root-following-siblings ps
+  root-written-marks preceding = no-row-below ps _ (ap (precedingSiblingMarks ps) root-above ∙ root-preceding-siblings ps)
+  root-written-marks precedingSibling = root-preceding-siblings ps
+
+-- ---- a path from no row
 pub intersection-none : (n : ℕ) (k : List ℕ) → intersection (noMarks n) k ≡ noMarks n
 unfolding intersection
 intersection-none n k =
@@ -114,13 +181,10 @@ intersection-none n k =
     ∙ marks-cong n (λ r. isMarked (noMarks n) r && isMarked k r) (λ r. false) (λ r l. ap (λ (b : Bool). b && isMarked k r) (marks-marked n (λ i. false) r l))
 
 module _ (ps : List ℕ) (ns : List Name) where
-  written-none : (a : WrittenAxis) → writtenMarks a ps (noMarks (length ps)) ≡ noMarks (length ps)
-  written-none (along a) = image-none a ps
-
   pub step-none : (p : WrittenStep ℕ (Condition ℕ)) → stepMarks ps ns p (noMarks (length ps)) ≡ noMarks (length ps)
   unfolding stepMarks
   step-none p =
-      ap (λ (m : List ℕ). intersection (intersection m (testMarks (p .test) ns)) (conditionMarks ps ns (p .condition))) (written-none (p .axis))
+      ap (λ (m : List ℕ). intersection (intersection m (testMarks (p .test) ns)) (conditionMarks ps ns (p .condition))) (written-none (p .axis) ps)
       ∙ ap (λ (m : List ℕ). intersection m (conditionMarks ps ns (p .condition))) (intersection-none (length ps) (testMarks (p .test) ns))
       ∙ intersection-none (length ps) (conditionMarks ps ns (p .condition))
 

@@ -5,18 +5,23 @@ use Prim.Native.Nat.{ℕ}
 use lib.Dec.{eqb}
 use lib.ListN.{length}
 use Rattle.cells.specs.row_sets.Columns.{mark, marks, union, intersection, picked}
-use Rattle.path_laws.specs.Inverses.{inverse}
-use Rattle.path_spec.specs.Paths.{WrittenAxis, along, NodeTest, WrittenStep, PlainStep, Condition, unconditional, alternatives, Start, rootElement, LocationPath}
+use Rattle.path_laws.specs.Inverses.{inverseWritten}
+use Rattle.path_spec.specs.Paths.{descendantOrSelf, ancestorOrSelf, WrittenAxis, along, following, followingSibling, preceding, precedingSibling, NodeTest, WrittenStep, PlainStep, Condition, unconditional, alternatives, Start, rootElement, LocationPath}
 use Rattle.path_spec.specs.Selection.{passes}
 use Rattle.schema_spec.specs.Names.{Name}
 use Rattle.selection_laws.specs.marks.Parents.{imageMarks}
+use Rattle.selection_laws.specs.marks.Siblings.{followingSiblingMarks, precedingSiblingMarks}
 
 -- the rows on a written axis from the marked ones, and those from which it leads to a marked one
 abbrev pub writtenMarks : WrittenAxis → List ℕ → List ℕ → List ℕ
 writtenMarks (along a) ps m = imageMarks a ps m
+writtenMarks following ps m = imageMarks descendantOrSelf ps (followingSiblingMarks ps (imageMarks ancestorOrSelf ps m))
+writtenMarks followingSibling ps m = followingSiblingMarks ps m
+writtenMarks preceding ps m = imageMarks descendantOrSelf ps (precedingSiblingMarks ps (imageMarks ancestorOrSelf ps m))
+writtenMarks precedingSibling ps m = precedingSiblingMarks ps m
 
 abbrev pub inverseMarks : WrittenAxis → List ℕ → List ℕ → List ℕ
-inverseMarks (along a) ps m = imageMarks (inverse a) ps m
+inverseMarks a ps m = writtenMarks (inverseWritten a) ps m
 
 -- no row and every row
 abbrev pub noMarks : ℕ → List ℕ

@@ -37,10 +37,10 @@ axis-image-requires c κs =
 
 returns-2 : tie.Need-returns-2
 returns-2 c =
-    let after-inverse-of = c .before .before .before .before .before in
+    let after-inverse-of = c .before .before .before .before .before .before .before in
     let after-filter-test = filter-test-before (after-inverse-of .before .before) in
     moved-back _ _ _ _ ((start-before-2 after-filter-test) .pre) _ _ (after-filter-test .filter-test .ensures) _ _ _ (after-inverse-of .inverse-of .ensures)
-    (c .before .before .axis-image .ensures)
+    (c .before .before .before .before .axis-image .ensures)
 
 pub step-back-spec : {M : Type 1} → statement M
 step-back-spec =

@@ -1,3 +1,4 @@
+use native.Mathlib.Omega.{arith}
 use borrow.Author.Needs.{needs}
 use Rattle.axis_passes.proofs.steps.step_forward.Statement.{statement}
 use Rattle.axis_passes.proofs.steps.step_forward.Tie as tie
@@ -10,16 +11,16 @@ start-before c = c .before .before .before .before .before .before
 abbrev start-before-2 : tie.After-axis-image → tie.Start
 start-before-2 c = c .before .before .before .before .before .before .before
 
-abbrev axis-image-before : tie.After-slice-known4 → tie.After-axis-image
-axis-image-before c = c .before .before .before .before .before .before .before
+abbrev axis-image-before : tie.After-slice-known5 → tie.After-axis-image
+axis-image-before c = c .before .before .before .before .before .before .before .before .before
 
 axis-image-requires : tie.Need-axis-image-requires
 axis-image-requires c κs = pass-axis _ _ _ _ ((start-before c) .pre)
 
 filter-test-requires : tie.Need-filter-test-requires
 filter-test-requires c κs =
-    let after-axis-image = c .before .before .before .before in
-    moved-test _ _ _ _ ((start-before-2 after-axis-image) .pre) _ _ (after-axis-image .axis-image .ensures)
+    let after-axis-image = c .before .before .before .before .before .before in
+    moved-test _ _ _ _ ((start-before-2 after-axis-image) .pre) _ _ _ (after-axis-image .axis-image .ensures) (omega arith)
 
 returns : tie.Need-returns
 returns c =

@@ -1,7 +1,7 @@
 -- `axis` meets its contract: the first byte says which axes may still be meant.
 use mathlib.Core.Path.{refl}
 use borrow.Author.Needs.{needs}
-use Rattle.bundle_text.proofs.axes.Axes.{axis-end, first-child, first-descendant, first-ancestor, first-parent, first-self, first-not}
+use Rattle.bundle_text.proofs.axes.Axes.{axis-end, first-child, first-self, first-descendant, first-ancestor, first-following, first-p, first-not}
 use Rattle.bundle_text.proofs.axes.axis.Statement.{statement}
 use Rattle.bundle_text.proofs.axes.axis.Tie as tie
 use Rattle.path_spec.specs.Machine.{beginStep}
@@ -20,23 +20,28 @@ returns-2 c =
 
 returns-3 : tie.Need-returns-3
 returns-3 c =
-    first-descendant _ _ (c .before .before .before .before .before .if1 .left) (c .before .before .if3 .taken) (c .either .ensures)
+    first-descendant _ _ (c .before .before .before .before .before .before .if1 .left) (c .before .before .before .if3 .taken) (c .either .ensures)
 
 returns-4 : tie.Need-returns-4
 returns-4 c =
-    first-ancestor _ _ (c .before .before .before .before .before .before .if1 .left) (c .before .before .if4 .taken) (c .either2 .ensures)
+    first-ancestor _ _ (c .before .before .before .before .before .before .before .if1 .left) (c .before .before .before .if4 .taken) (c .either2 .ensures)
 
 returns-5 : tie.Need-returns-5
 returns-5 c =
-    first-parent _ _ (else1-before (c .before .before .before) .if1 .left) (c .before .before .if5 .taken) (c .rest2 .ensures)
+    first-p _ _ (else1-before (c .before .before) .if1 .left) (c .before .if5 .taken) (c .parent-or-preceding .ensures)
 
 returns-6 : tie.Need-returns-6
 returns-6 c =
-    first-self _ _ (else1-before (c .before .before .before .before) .if1 .left) (c .before .before .if6 .taken) (c .rest3 .ensures)
+    first-self _ _ (else1-before (c .before .before .before .before) .if1 .left) (c .before .before .if6 .taken) (c .rest2 .ensures)
 
 returns-7 : tie.Need-returns-7
 returns-7 c =
-    first-not _ _ (else1-before (c .before .before) .if1 .left) (c .before .before .before .before .if2 .left) (c .before .before .before .if3 .left) (c .before .before .if4 .left) (c .before .if5 .left) (c .if6 .left)
+    first-following _ _ (else1-before (c .before .before .before .before .before .before) .if1 .left) (c .before .before .before .if7 .taken) (c .either3 .ensures)
+
+returns-8 : tie.Need-returns-8
+returns-8 c =
+    let else4 = c .before .before .before in
+    first-not _ _ (else1-before else4 .if1 .left) (else4 .before .before .if2 .left) (else4 .before .if3 .left) (else4 .if4 .left) (c .before .before .if5 .left) (c .before .if6 .left) (c .if7 .left)
 
 pub axis-spec : {M : Type 1} → statement M
 axis-spec =
@@ -50,13 +55,14 @@ axis-spec =
     returns-2
     (λ c. search needs)
     (λ c. search needs)
+    (λ c. search needs)
     (λ c κs. search needs)
     returns-3
     (λ c. search needs)
     (λ c. search needs)
+    (λ c. search needs)
     (λ c κs. search needs)
     returns-4
-    (λ c. search needs)
     (λ c. search needs)
     (λ c κs. search needs)
     returns-5
@@ -64,4 +70,9 @@ axis-spec =
     (λ c. search needs)
     (λ c κs. search needs)
     returns-6
-    returns-7)
+    (λ c. search needs)
+    (λ c. search needs)
+    (λ c. search needs)
+    (λ c κs. search needs)
+    returns-7
+    returns-8)

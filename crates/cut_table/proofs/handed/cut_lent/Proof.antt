@@ -3,9 +3,8 @@ use borrow.Author.Needs.{needs}
 use Rattle.cut_table.proofs.handed.Tests.{not-cut, may-be-cut, cut-answered}
 use Rattle.cut_table.proofs.handed.cut_lent.Statement.{statement}
 use Rattle.cut_table.proofs.handed.cut_lent.Tie as tie
-use Rattle.kept_rows.specs.cut_rows.Rows.{table}
 use Rattle.library_spec.specs.Records.{LentTable}
-use Rattle.table_spec.specs.Columns.{Columns}
+use Rattle.table_spec.specs.Columns.{Columns, columns}
 use Rattle.tables.specs.Handed.{lentTable}
 
 -- back to the start from where both tests are told, and what is handed in and lent there
@@ -16,7 +15,7 @@ abbrev given : tie.After-may-cut → LentTable
 given c = let at = start c .args in lentTable (at .numbers .now) (at .codes .now) (at .parents .now) (at .starts .now) (at .lengths .now) (at .count)
 
 abbrev lent : tie.After-may-cut → Columns
-lent c = let at = start c .args in table (at .out-numbers .now) (at .out-names .now) (at .out-parents .now) (at .out-starts .now) (at .out-lengths .now)
+lent c = let at = start c .args in columns (at .out-numbers .now) (at .out-names .now) (at .out-parents .now) (at .out-starts .now) (at .out-lengths .now)
 
 -- back from the two exits to the calls before them
 abbrev refused : tie.After-slice-known10 → tie.After-refuse

@@ -3,8 +3,7 @@ use native.Mathlib.Omega.{arith}
 use Rattle.extract_writer.proofs.rows.put_row.Statement.{statement}
 use Rattle.extract_writer.proofs.rows.put_row.Tie as tie
 use Rattle.extract_writer.specs.rows.Rows.{row-skipped, row-place, element-room, element-put, text-asked, text-put}
-use Rattle.kept_rows.specs.cut_rows.Rows.{table}
-use Rattle.table_spec.specs.Columns.{Columns}
+use Rattle.table_spec.specs.Columns.{Columns, columns}
 
 -- back from where the row's name is read to where it is marked, and from there to the start
 abbrev marked : tie.After-shared-slice-known10 → tie.Else1
@@ -19,7 +18,7 @@ text-start c = start (marked (c .before))
 
 -- what is lent
 abbrev lent : tie.Start → Columns
-lent c = table (c .args .numbers .now) (c .args .names .now) (c .args .parents .now) (c .args .starts .now) (c .args .lengths .now)
+lent c = columns (c .args .numbers .now) (c .args .names .now) (c .args .parents .now) (c .args .starts .now) (c .args .lengths .now)
 
 put-element-requires : tie.Need-put-element-requires
 put-element-requires c κs =

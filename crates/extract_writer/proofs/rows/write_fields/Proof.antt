@@ -7,13 +7,12 @@ use Rattle.extract_writer.proofs.rows.write_fields.Tie as tie
 use Rattle.extract_writer.specs.fields.Fields.{stored-length}
 use Rattle.extract_writer.specs.rows.Rows.{fieldAt, FieldsPass, StoredAt, fields-none, fields-row, fields-next, fields-all}
 use Rattle.kept_rows.specs.Joined.{joined}
-use Rattle.kept_rows.specs.cut_rows.Rows.{table}
-use Rattle.table_spec.specs.Columns.{Columns}
+use Rattle.table_spec.specs.Columns.{Columns, columns}
 
 abbrev Inv-loop : tie.InvT-loop
 Inv-loop text numbers names parents starts lengths marks out₀ at₀ r₀ out at r =
-    (r ≤ length marks) × FieldsPass text (table numbers names parents starts lengths) marks out₀
-    × StoredAt out₀ 0 (joined (fieldAt text (table numbers names parents starts lengths)) marks r) at out
+    (r ≤ length marks) × FieldsPass text (columns numbers names parents starts lengths) marks out₀
+    × StoredAt out₀ 0 (joined (fieldAt text (columns numbers names parents starts lengths)) marks r) at out
 
 abbrev μ-loop : tie.MeasureT-loop
 μ-loop text numbers names parents starts lengths marks out₀ at₀ r₀ out at r = length marks - r
@@ -26,7 +25,7 @@ abbrev start-before : tie.After-slice-known Inv-loop μ-loop → tie.Start Inv-l
 start-before c = c .before .before .before .before .before .before .before .before
 
 abbrev lent : tie.Start Inv-loop μ-loop → Columns
-lent c = table (c .args .numbers .now) (c .args .names .now) (c .args .parents .now) (c .args .starts .now) (c .args .lengths .now)
+lent c = columns (c .args .numbers .now) (c .args .names .now) (c .args .parents .now) (c .args .starts .now) (c .args .lengths .now)
 
 abbrev loop-before : tie.After-put-row-arg Inv-loop μ-loop → tie.At-loop Inv-loop μ-loop
 loop-before c = c .before .before .before

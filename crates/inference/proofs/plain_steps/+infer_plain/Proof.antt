@@ -14,7 +14,7 @@ use Rattle.inference.proofs.plain_steps.+infer_plain.Lts-infer_plain as
 use Rattle.inference.proofs.plain_steps.+infer_plain.Tie.{close}
 use Rattle.inference.proofs.plain_steps.infer_plain.Kinds as infer-plain-kinds
 use Rattle.inference.proofs.plain_steps.infer_plain.Reads as infer-plain
-use Rattle.inference.proofs.type_steps.step.Reads as step-reads
+use Rattle.inference.proofs.written_steps.written_step.Reads as written-step-reads
 use Rattle.inference.specs.plain_steps.Laws.{infer-plain-step}
 use Rattle.inference.specs.type_steps.Relations.{envIn}
 use Rattle.path_spec.specs.Paths.{PlainStep, expandFrom}
@@ -31,7 +31,7 @@ infer-plain-below t = and 2 infer-plain-kinds.ps (falls 2 infer-plain-kinds.ps _
 
 -- what the functions that are called ask and ensure
 abbrev claims : ℕ → infer-plain-lts.Claims
-claims t = (axis-number-reads.Asked, axis-number-reads.Learnt, step-reads.Asked, step-reads.Learnt, infer-plain-below t, infer-plain.Post)
+claims t = (axis-number-reads.Asked, axis-number-reads.Learnt, written-step-reads.Asked, written-step-reads.Learnt, infer-plain-below t, infer-plain.Post)
 
 infer-plain-returns : (t : ℕ) → infer-plain-lts.Need-returns (claims t) (infer-plain-at t) infer-plain.Post
 infer-plain-returns t c =
@@ -47,7 +47,7 @@ infer-plain-returns-2 t c =
     let left = axis .before .before in
     let start = left .before .before .before .args in
     infer-plain-step (start .axes .now) (start .tests .now) s i (start .n) (start .k) (axis .axis-number .result) (left .if1 .left) (axis .axis-number .ensures)
-    (envIn s (start .e)) (envIn s (c .before .step .result)) (envIn s (c .infer-plain .result)) (c .before .step .ensures s k) (c .infer-plain .ensures s k (suc i))
+    (envIn s (start .e)) (envIn s (c .before .written-step .result)) (envIn s (c .infer-plain .result)) (c .before .written-step .ensures s k) (c .infer-plain .ensures s k (suc i))
 
 pub +infer-plain-spec : {M : Type 1} → statement M
 +infer-plain-spec = close μ-infer-plain λ t. infer-plain-lts.spec (claims t)

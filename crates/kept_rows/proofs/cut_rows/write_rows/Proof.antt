@@ -5,13 +5,14 @@ use lib.ListN.{length}
 use Rattle.kept_rows.proofs.cut_rows.write_rows.Statement.{statement}
 use Rattle.kept_rows.proofs.cut_rows.write_rows.Tie as tie
 use Rattle.kept_rows.specs.cut_rows.Cells.{noted-length}
-use Rattle.kept_rows.specs.cut_rows.Rows.{table, markedBy, CutPass, RowsNoted, rows-none, row-pass, row-next, rows-all}
+use Rattle.kept_rows.specs.cut_rows.Rows.{markedBy, CutPass, RowsNoted, rows-none, row-pass, row-next, rows-all}
+use Rattle.table_spec.specs.Columns.{columns}
 
 abbrev Inv-loop : tie.InvT-loop
 Inv-loop numbers names parents starts lengths positions out-numbers₀ out-names₀ out-parents₀ out-starts₀ out-lengths₀ r₀ out-numbers out-names out-parents out-starts out-lengths r =
-    (r ≤ length positions) × CutPass positions (table numbers names parents starts lengths) (table out-numbers₀ out-names₀ out-parents₀ out-starts₀ out-lengths₀)
-    × RowsNoted (markedBy positions) (table numbers names parents starts lengths) (table out-numbers₀ out-names₀ out-parents₀ out-starts₀ out-lengths₀) r
-    (table out-numbers out-names out-parents out-starts out-lengths)
+    (r ≤ length positions) × CutPass positions (columns numbers names parents starts lengths) (columns out-numbers₀ out-names₀ out-parents₀ out-starts₀ out-lengths₀)
+    × RowsNoted (markedBy positions) (columns numbers names parents starts lengths) (columns out-numbers₀ out-names₀ out-parents₀ out-starts₀ out-lengths₀) r
+    (columns out-numbers out-names out-parents out-starts out-lengths)
 
 abbrev μ-loop : tie.MeasureT-loop
 μ-loop numbers names parents starts lengths positions out-numbers₀ out-names₀ out-parents₀ out-starts₀ out-lengths₀ r₀ out-numbers out-names out-parents out-starts out-lengths r = length positions - r

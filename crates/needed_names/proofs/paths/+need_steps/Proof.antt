@@ -8,7 +8,7 @@ use borrow.Fn.Kinds.{In}
 use borrow.Fn.PlainCycle.{Measures, is, falls, and}
 use Rattle.compiled_paths.proofs.axis_number.Reads as axis-number-reads
 use Rattle.compiled_paths.specs.Columns.{steps-none}
-use Rattle.inference.proofs.back_steps.with_step.Reads as with-step-reads
+use Rattle.inference.proofs.written_steps.with_written_step.Reads as with-written-step-reads
 use Rattle.inference.specs.back_steps.Laws.{needs-last}
 use Rattle.inference.specs.back_steps.Needs.{NeedsOf}
 use Rattle.inference.specs.type_steps.Relations.{envIn}
@@ -35,7 +35,7 @@ need-steps-below t = and 3 need-steps-kinds.ps (falls 3 need-steps-kinds.ps _<_ 
 
 -- what the functions that are called ask and ensure
 abbrev claims : ℕ → need-steps-lts.Claims
-claims t = (axis-number-reads.Asked, axis-number-reads.Learnt, infer-step-reads.Asked, infer-step-reads.Learnt, need-steps-below t, need-steps.Post, wanted-at-reads.Asked, wanted-at-reads.Learnt, with-step-reads.Asked, with-step-reads.Learnt)
+claims t = (axis-number-reads.Asked, axis-number-reads.Learnt, infer-step-reads.Asked, infer-step-reads.Learnt, need-steps-below t, need-steps.Post, wanted-at-reads.Asked, wanted-at-reads.Learnt, with-written-step-reads.Asked, with-written-step-reads.Learnt)
 
 need-steps-infer-step-requires : (t : ℕ) → need-steps-lts.Need-infer-step-requires (claims t) (need-steps-at t) need-steps.Post
 need-steps-infer-step-requires t c κs =
@@ -71,8 +71,8 @@ need-steps-returns-2 t c =
     let f = c .before .before .before .infer-step in
     let later = c .before .before .need-steps in
     let want = c .before .wanted-at in
-    needs-written-step (start .axes .now) (start .tests .now) (start .conditions .now) s i (start .k) (axis .axis-number .result) (axis .axis-number .ensures) (start .n) (left .if1 .left) (envIn s (start .e)) (envIn s (f .result)) (start .e .types) (want .result) (later .result) (c .with-step .result)
-    (f .ensures s k named i) refl (later .ensures s k named (suc i)) (want .ensures s k named) (c .with-step .ensures s k)
+    needs-written-step (start .axes .now) (start .tests .now) (start .conditions .now) s i (start .k) (axis .axis-number .result) (axis .axis-number .ensures) (start .n) (left .if1 .left) (envIn s (start .e)) (envIn s (f .result)) (want .result) (later .result) (c .with-written-step .result)
+    (f .ensures s k named i) (later .ensures s k named (suc i)) (want .ensures s k named) (c .with-written-step .ensures s k)
 
 pub +need-steps-spec : {M : Type 1} → statement M
 +need-steps-spec = close μ-need-steps λ t. need-steps-lts.spec (claims t)

@@ -40,7 +40,7 @@ returns c =
     let first = after-start .start in
     let size = after-size .size in
     let axis = c .before .before .before .axis-number in
-    let gone = c .before .step in
+    let gone = c .before .written-step in
     infer-written-step (start .axes .now) (start .tests .now) (start .conditions .now) s i (start .k) (axis .result) (axis .ensures) (conditionIn (start .axes .now) (start .tests .now) (size .result) (first .result))
     (envIn s (start .e)) (envIn s (gone .result)) (envIn s (c .conditioned .result)) (gone .result .context)
     (condition-range (start .axes .now) (start .tests .now) (start .conditions .now) (start .k) (first .result) (size .result) (first .ensures) (size .ensures)) (gone .ensures s k) refl (c .conditioned .ensures s k named)
