@@ -1,5 +1,5 @@
 // One pass over columns of marks for siblings after and before a marked row, and the axes following and preceding, which are made of it.
-// A cell of a parent remembers whether the pass has met a marked child.
+// In a pass the cell of a parent says whether a marked child of it was passed.
 ghost use mathlib.Core.Path.{_≡_};
 ghost use Rattle.path_spec.specs.Paths.{following, preceding};
 ghost use Rattle.selection_laws.specs.marks.Passes.{AxisPass};
@@ -11,7 +11,7 @@ use crate::upward::ancestors_or_self;
 use cells::row_sets::UNMARKED;
 use cells::row_sets::fill;
 
-// `from` is used up: a row that is passed needs its own mark no more, and its cell is the memory for its children.
+// `from` is used up: a row that is passed needs its own mark no more, and its cell says whether a marked child of it was passed.
 pub fn following_siblings(parents: &[u16], from: &mut [u8], out: &mut [u8])
     requires { ⌜ AxisPass (now parents) (now from) (now out) ⌝ }
     ensures { λ _. ⌜ now (out .exit) ≡ followingSiblingMarks (now (parents .entry)) (now (from .entry)) ⌝ }
@@ -30,7 +30,7 @@ pub fn following_siblings(parents: &[u16], from: &mut [u8], out: &mut [u8])
     }
 }
 
-// The cell of a row that the pass has still to reach is the memory for its children.
+// The cell of a row that the pass has still to reach says whether a marked child of it was passed.
 pub fn preceding_siblings(parents: &[u16], from: &[u8], out: &mut [u8])
     requires { ⌜ AxisPass (now parents) (now from) (now out) ⌝ }
     ensures { λ _. ⌜ now (out .exit) ≡ precedingSiblingMarks (now (parents .entry)) (now (from .entry)) ⌝ }

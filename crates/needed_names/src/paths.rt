@@ -4,12 +4,10 @@ ghost use Prim.Native.Nat.{ℕ};
 ghost use Rattle.compiled_paths.specs.Paths.{entryCondition, entrySteps};
 ghost use Rattle.inference.specs.back_steps.Needs.{NeedsOf};
 ghost use Rattle.inference.specs.type_steps.Relations.{RelationsOf, envIn};
-ghost use Rattle.inference.specs.written_steps.Parts.{beforeLast};
 ghost use Rattle.inference_spec.specs.Needed.{keepsName, wantsNames, neededByPath};
-ghost use Rattle.inference_spec.specs.Types.{infer};
 ghost use Rattle.names.specs.Sets.{NamesOf, setIn};
 ghost use Rattle.needed_names.specs.conditions.Conditions.{wantsIn};
-ghost use Rattle.needed_names.specs.paths.Columns.{HasWrittenSteps, entryAxis, entryLast};
+ghost use Rattle.needed_names.specs.paths.Columns.{HasWrittenSteps, afterStep};
 ghost use Rattle.path_spec.specs.Paths.{unconditional, expandFrom, fromRootElement};
 ghost use Rattle.schema_spec.specs.Names.{namesOf, within};
 ghost use Rattle.schema_spec.specs.Schemas.{Schema};
@@ -39,7 +37,7 @@ fn infer_step(
     e: Inferred,
 ) -> Inferred
     requires { ⌜ HasWrittenSteps (now axes) (now tests) (now conditions) k 1 ⌝ }
-    ensures { λ r. ⌜ ((s : Schema) → RelationsOf s holds below → NamesOf s all → (i : ℕ) → envIn s r ≡ infer (typesOf s) (keepsName (typesOf s)) (entryLast axes tests conditions i k) (beforeLast (typesOf s) (entryAxis axes k) (envIn s e))) ⌝ }
+    ensures { λ r. ⌜ ((s : Schema) → RelationsOf s holds below → NamesOf s all → (i : ℕ) → envIn s r ≡ afterStep s axes tests conditions i k (envIn s e)) ⌝ }
 {
     let first = ranges::start(conditions, k);
     let size = ranges::size(conditions, k);

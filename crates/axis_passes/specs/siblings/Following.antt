@@ -1,4 +1,4 @@
--- The pass for siblings after a marked row: with r rows behind it, the cells before r of the column that it uses up remember marked children.
+-- The pass for siblings after a marked row: with r rows behind it, the cells before r of the column that it uses up say whether a marked child was passed.
 use mathlib.Core.Bool.{Bool, true, false, _&&_, _||_, or-false, and-true, and-false}
 use mathlib.Core.List.{List}
 use mathlib.Core.Path.{_≡_, refl, sym, ap, subst, _∙_}
@@ -105,7 +105,7 @@ pub record Following (ps m was : List ℕ) (r : ℕ) (from out : List ℕ) : Typ
   pub pass : AxisPass ps m was
   pub some : 0 < r
   pub size : length from ≡ length ps
-  pub memory : (k : ℕ) → k < r → getD from k 0 ≡ mark (parentsBefore ps (isMarked m) r k)
+  pub child-passed : (k : ℕ) → k < r → getD from k 0 ≡ mark (parentsBefore ps (isMarked m) r k)
   pub ahead : (k : ℕ) → r ≤ k → getD from k 0 ≡ getD m k 0
   pub rows : Forward (followingSiblingMarks ps m) was r out
 
@@ -132,7 +132,7 @@ module _ (ps m was : List ℕ) (h : AxisPass ps m was) where
         };
         some = omega arith;
         size = length-set m 0 0 ∙ h .size;
-        memory = λ k l.
+        child-passed = λ k l.
             (let z : k ≡ 0 = omega arith in
             rw z (getD-set-same m 0 0 0 (omega (arith, h .filled, h .size)) ∙ ap mark (sym (own-parents ps (h .before) (isMarked (set m 0 0)) 1 0 (omega arith) (omega (arith, h .filled))))));
         ahead = λ k l. refl;
@@ -176,7 +176,7 @@ module _ (ps m was : List ℕ) (r : ℕ) (from out : List ℕ) (w : Following ps
 
   met-is : met ≡ mark (parentsBefore ps (isMarked m) r at || isMarked m r)
   met-is =
-      ap (λ (x : ℕ). bitOr x (getD from r 0)) (w .memory at parent-before)
+      ap (λ (x : ℕ). bitOr x (getD from r 0)) (w .child-passed at parent-before)
       ∙ ap (bitOr (mark (parentsBefore ps (isMarked m) r at))) (w .ahead r (omega arith) ∙ mark-at m (w .pass .marked) r (omega (arith, w .pass .size, row-inside)))
       ∙ or-marks (parentsBefore ps (isMarked m) r at) (isMarked m r)
 
@@ -186,11 +186,11 @@ module _ (ps m was : List ℕ) (r : ℕ) (from out : List ℕ) (w : Following ps
         pass = w .pass;
         some = omega arith;
         size = length-set (set from at met) r 0 ∙ length-set from at met ∙ w .size;
-        memory = λ k b. here k b (eqb k r) refl;
+        child-passed = λ k b. here k b (eqb k r) refl;
         ahead = λ k b.
             getD-set-other (set from at met) r k 0 0 (λ e. omega arith) ∙ getD-set-other from at k met 0 (λ e. omega (arith, parent-before)) ∙ w .ahead k (omega arith);
         rows = forward-next (followingSiblingMarks ps m) was r out (getD from at 0) (w .rows) l
-            (w .memory at parent-before ∙ sym (following-at ps m r row-inside ∙ ap mark (following-later ps (w .pass .before) (isMarked m) r (w .some) row-inside)));
+            (w .child-passed at parent-before ∙ sym (following-at ps m r row-inside ∙ ap mark (following-later ps (w .pass .before) (isMarked m) r (w .some) row-inside)));
       }
     where
       before-r : (k : ℕ) → k < r → (b : Bool) → eqb k at ≡ b → getD (set from at met) k 0 ≡ mark (parentsBefore ps (isMarked m) (r + 1) k)
@@ -201,7 +201,7 @@ module _ (ps m was : List ℕ) (r : ℕ) (from out : List ℕ) (w : Following ps
           ∙ ap (λ (v : Bool). parentsBefore ps (isMarked m) r k || v) (sym (and-true (isMarked m r)) ∙ ap (λ (v : Bool). isMarked m r && v) (sym q))
           ∙ sym (next-parents ps (w .pass .before) (isMarked m) r (w .some) k))
       before-r k b false q =
-          getD-set-other from at k met 0 (eqb-false k at q) ∙ w .memory k b
+          getD-set-other from at k met 0 (eqb-false k at q) ∙ w .child-passed k b
           ∙ ap mark (sym (or-false (parentsBefore ps (isMarked m) r k))
           ∙ ap (λ (v : Bool). parentsBefore ps (isMarked m) r k || v) (sym (and-false (isMarked m r)) ∙ ap (λ (v : Bool). isMarked m r && v) (sym q))
           ∙ sym (next-parents ps (w .pass .before) (isMarked m) r (w .some) k))

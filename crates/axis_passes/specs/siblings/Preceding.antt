@@ -1,4 +1,4 @@
--- The pass for siblings before a marked row, with the rows from r on behind it: the cells before r remember marked children.
+-- The pass for siblings before a marked row, with the rows from r on behind it: the cells before r say whether a marked child was passed.
 use mathlib.Core.Bool.{Bool, true, false, _&&_}
 use mathlib.Core.List.{List}
 use mathlib.Core.Path.{_≡_, refl, sym, ap, _∙_}
@@ -66,10 +66,10 @@ preceding-length : (ps m : List ℕ) → length (precedingSiblingMarks ps m) ≡
 unfolding precedingSiblingMarks
 preceding-length ps m = marks-length (length ps) (reachedBy (λ q r. isLaterSibling ps r q) (length ps) (isMarked m))
 
--- what the memory holds of a row's parent is the row's own mark
-memory-at : (ps m : List ℕ) → ParentsBefore ps → (r : ℕ) → 0 < r → r < length ps → getD (propagatedMarks to-parent ps m (suc r)) (getD ps r 0) 0 ≡ getD (precedingSiblingMarks ps m) r 0
+-- what the cell of a row's parent says is the row's own mark
+child-passed-at : (ps m : List ℕ) → ParentsBefore ps → (r : ℕ) → 0 < r → r < length ps → getD (propagatedMarks to-parent ps m (suc r)) (getD ps r 0) 0 ≡ getD (precedingSiblingMarks ps m) r 0
 unfolding propagatedMarks propagating initial
-memory-at ps m before r p l =
+child-passed-at ps m before r p l =
     marks-at (length ps) (propagated ps (λ c. false) (isMarked m) (suc r)) (getD ps r 0) (omega (arith, before r p l))
     ∙ sym (preceding-at ps m r l ∙ ap mark (preceding-later ps before (isMarked m) r p l))
 
@@ -78,7 +78,7 @@ pub record Preceding (ps m : List ℕ) (r : ℕ) (out : List ℕ) : Type 0 where
   pub pass : AxisPass ps m out
   pub some : 0 < r
   pub within : r ≤ length ps
-  pub memory : (k : ℕ) → k < r → getD out k 0 ≡ getD (propagatedMarks to-parent ps m r) k 0
+  pub child-passed : (k : ℕ) → k < r → getD out k 0 ≡ getD (propagatedMarks to-parent ps m r) k 0
   pub done : (k : ℕ) → r ≤ k → k < length ps → getD out k 0 ≡ getD (precedingSiblingMarks ps m) k 0
 
 pub preceding-begun : (ps m was out : List ℕ) → AxisPass ps m was → out ≡ replicate (length was) 0 → Preceding ps m (length out) out
@@ -87,7 +87,7 @@ preceding-begun ps m was out h e =
       pass = record { before = h .before; filled = h .filled; marked = h .marked; size = h .size; room = long };
       some = omega (arith, h .filled, long);
       within = omega (arith, long);
-      memory = λ k l. ap (λ (o : List ℕ). getD o k 0) (e ∙ ap (λ (n : ℕ). replicate n 0) (h .room) ∙ parents-start ps m was h ∙ ap (propagatedMarks to-parent ps m) (sym long));
+      child-passed = λ k l. ap (λ (o : List ℕ). getD o k 0) (e ∙ ap (λ (n : ℕ). replicate n 0) (h .room) ∙ parents-start ps m was h ∙ ap (propagatedMarks to-parent ps m) (sym long));
       done = λ k a b. absurd (omega (arith, long));
     }
   where
@@ -120,14 +120,14 @@ module _ (ps m : List ℕ) (r : ℕ) (out : List ℕ) (w : Preceding ps m r out)
         pass = record { before = w .pass .before; filled = w .pass .filled; marked = w .pass .marked; size = w .pass .size; room = long ∙ w .pass .room };
         some = omega arith;
         within = omega (arith, w .within);
-        memory = λ k l. memory k l (eqb k at) refl;
+        child-passed = λ k l. child-passed k l (eqb k at) refl;
         done = λ k a b. getD-set-other shown at k met 0 (λ e. omega (arith, parent-before)) ∙ done k a b (eqb k (r - 1)) refl;
       }
     where
       long : length (set shown at met) ≡ length out
       long = length-set shown at met ∙ length-set out (r - 1) (getD out at 0)
 
-      -- the memory before and after the turn
+      -- the cells before and after the turn
       held : List ℕ
       held = propagatedMarks to-parent ps m r
 
@@ -140,19 +140,19 @@ module _ (ps m : List ℕ) (r : ℕ) (out : List ℕ) (w : Preceding ps m r out)
           ∙ parents-turn ps m out (w .pass) (r - 1) (omega arith) (omega (arith, w .within))
 
       seen : getD out at 0 ≡ getD held at 0
-      seen = w .memory at (omega (arith, parent-before))
+      seen = w .child-passed at (omega (arith, parent-before))
 
-      memory : (k : ℕ) → k < r - 1 → (b : Bool) → eqb k at ≡ b → getD (set shown at met) k 0 ≡ getD (propagatedMarks to-parent ps m (r - 1)) k 0
-      memory k l true q =
+      child-passed : (k : ℕ) → k < r - 1 → (b : Bool) → eqb k at ≡ b → getD (set shown at met) k 0 ≡ getD (propagatedMarks to-parent ps m (r - 1)) k 0
+      child-passed k l true q =
           let z : k ≡ at = eqb-true k at q in
           rw z
           (getD-set-same shown at met 0 parent-kept
           ∙ ap (λ (x : ℕ). bitOr x (getD m (r - 1) 0)) seen
           ∙ sym (getD-set-same held at (bitOr (getD held at 0) (getD m (r - 1) 0)) 0 (omega (arith, propagated-length to-parent ps m r, w .within, parent-before)))
           ∙ ap (λ (o : List ℕ). getD o at 0) turn)
-      memory k l false q =
+      child-passed k l false q =
           let d : k ≡ at → ⊥ = eqb-false k at q in
-          getD-set-other shown at k met 0 d ∙ getD-set-other out (r - 1) k (getD out at 0) 0 (λ e. omega arith) ∙ w .memory k (omega arith)
+          getD-set-other shown at k met 0 d ∙ getD-set-other out (r - 1) k (getD out at 0) 0 (λ e. omega arith) ∙ w .child-passed k (omega arith)
           ∙ sym (getD-set-other held at k (bitOr (getD held at 0) (getD m (r - 1) 0)) 0 d) ∙ ap (λ (o : List ℕ). getD o k 0) turn
 
       done : (k : ℕ) → r - 1 ≤ k → k < length ps → (b : Bool) → eqb k (r - 1) ≡ b → getD shown k 0 ≡ getD (precedingSiblingMarks ps m) k 0
@@ -161,7 +161,7 @@ module _ (ps m : List ℕ) (r : ℕ) (out : List ℕ) (w : Preceding ps m r out)
           rw z
           (getD-set-same out (r - 1) (getD out at 0) 0 (omega (arith, w .pass .room, w .within)) ∙ seen
           ∙ ap (λ (i : ℕ). getD (propagatedMarks to-parent ps m i) at 0) (sym same)
-          ∙ memory-at ps m (w .pass .before) (r - 1) (omega arith) (omega (arith, w .within)))
+          ∙ child-passed-at ps m (w .pass .before) (r - 1) (omega arith) (omega (arith, w .within)))
       done k a b false q =
           let d : k ≡ r - 1 → ⊥ = eqb-false k (r - 1) q in
           getD-set-other out (r - 1) k (getD out at 0) 0 d ∙ w .done k (omega arith) b

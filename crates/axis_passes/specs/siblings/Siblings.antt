@@ -21,6 +21,6 @@ pub next-pass : {ps m was k : List ℕ} (x y : List ℕ) → AxisPass ps m was �
 next-pass x y h c d e = rw d (record { before = h .before; filled = h .filled; marked = c .marked; size = c .size; room = e })
 
 -- up, to siblings, down
-pub three-passes : (ps m : List ℕ) (siblings : List ℕ → List ℕ) (x y z : List ℕ) → x ≡ imageMarks ancestorOrSelf ps m → y ≡ siblings x → z ≡ imageMarks descendantOrSelf ps y
+pub passes-joined : (ps m : List ℕ) (siblings : List ℕ → List ℕ) (x y z : List ℕ) → x ≡ imageMarks ancestorOrSelf ps m → y ≡ siblings x → z ≡ imageMarks descendantOrSelf ps y
     → z ≡ imageMarks descendantOrSelf ps (siblings (imageMarks ancestorOrSelf ps m))
-three-passes ps m siblings x y z d e f = f ∙ ap (imageMarks descendantOrSelf ps) (e ∙ ap siblings d)
+passes-joined ps m siblings x y z d e f = f ∙ ap (imageMarks descendantOrSelf ps) (e ∙ ap siblings d)

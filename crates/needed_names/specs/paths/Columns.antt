@@ -1,4 +1,4 @@
--- Columns that have some written steps, and the last part of a written step as it is analysed.
+-- Columns that have some written steps, the last part of a written step as it is analysed, and what is inferred after it.
 use mathlib.Core.List.{List}
 use mathlib.Core.Path.{_≡_}
 use Prim.Native.Nat.{ℕ, _+_, _≤_, _<_}
@@ -6,8 +6,12 @@ use lib.ListN.{length, getD}
 use denote.Ref.{now}
 use Rattle.cells.specs.lent.Ends.{Slice}
 use Rattle.compiled_paths.specs.Columns.{testOf, axisAt, conditionAt}
-use Rattle.inference.specs.written_steps.Parts.{lastPart}
-use Rattle.path_spec.specs.Paths.{WrittenAxis, Step, Condition}
+use Rattle.inference.specs.written_steps.Parts.{lastPart, beforeLast}
+use Rattle.inference_spec.specs.Needed.{keepsName}
+use Rattle.inference_spec.specs.Types.{Env, infer}
+use Rattle.path_spec.specs.Paths.{Step, Condition}
+use Rattle.schema_spec.specs.Schemas.{Schema}
+use Rattle.schema_spec.specs.Types.{typesOf}
 
 module _ (axes tests conditions : List ℕ) where
   -- the last part of the step k, written as the step of number i
@@ -21,9 +25,8 @@ module _ (axes tests conditions : List ℕ) where
     pub tests-size : length tests ≡ length axes
     pub conditions-inside : (j : ℕ) → getD conditions j 0 ≤ length axes
 
--- the axis of a step of lent columns, and its last part
-abbrev pub entryAxis : Slice → ℕ → WrittenAxis
-entryAxis axes k = axisAt (now (axes .entry)) k
-
-abbrev pub entryLast : Slice → Slice → Slice → ℕ → ℕ → Step ℕ (Condition ℕ)
-entryLast axes tests conditions i k = lastAt (now (axes .entry)) (now (tests .entry)) (now (conditions .entry)) i k
+-- the type and the context after the step k of lent columns
+abbrev pub afterStep : Schema → Slice → Slice → Slice → ℕ → ℕ → Env → Env
+afterStep s axes tests conditions i k e =
+    infer (typesOf s) (keepsName (typesOf s)) (lastAt (now (axes .entry)) (now (tests .entry)) (now (conditions .entry)) i k)
+    (beforeLast (typesOf s) (axisAt (now (axes .entry)) k) e)

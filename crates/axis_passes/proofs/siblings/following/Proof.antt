@@ -2,7 +2,7 @@ use native.Mathlib.Omega.{arith}
 use borrow.Author.Needs.{needs}
 use Rattle.axis_passes.proofs.siblings.following.Statement.{statement}
 use Rattle.axis_passes.proofs.siblings.following.Tie as tie
-use Rattle.axis_passes.specs.siblings.Siblings.{next-pass, three-passes}
+use Rattle.axis_passes.specs.siblings.Siblings.{next-pass, passes-joined}
 use Rattle.axis_passes.specs.steps.Steps.{image-column, following-column}
 use Rattle.path_spec.specs.Paths.{ancestorOrSelf}
 use Rattle.selection_laws.specs.marks.Siblings.{followingSiblingMarks}
@@ -28,7 +28,7 @@ returns c =
     let below = c .before .before in
     let aside = c .before .before .before .before .before .before .before .before .before in
     let above = c .before .before .before .before .before .before .before .before .before .before .before .before .before .before in
-    three-passes _ _ (followingSiblingMarks _) _ _ _ (above .ancestors-or-self .ensures) (aside .following-siblings .ensures) (below .descendants-or-self .ensures)
+    passes-joined _ _ (followingSiblingMarks _) _ _ _ (above .ancestors-or-self .ensures) (aside .following-siblings .ensures) (below .descendants-or-self .ensures)
 
 pub following-spec : {M : Type 1} → statement M
 following-spec =
