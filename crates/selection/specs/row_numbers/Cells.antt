@@ -49,6 +49,11 @@ pub record AppendPass (numbers m : List ℕ) (at : ℕ) : Type 0 where
   pub few : length m ≤ maxNodes
   pub low : at ≤ maxPaths * maxNodes
 
+-- and there is a cell for each row
+pub record RoomPass (numbers m out : List ℕ) (at : ℕ) : Type 0 where
+  pub pass : AppendPass numbers m at
+  pub room : at + length m ≤ length out
+
 -- r rows behind the loop
 pub record Appending (m xs was : List ℕ) (at r n : ℕ) (out : List ℕ) : Type 0 where
   pub within : r ≤ length m

@@ -2,8 +2,8 @@ use Prim.Native.Nat.{_-_}
 use native.Mathlib.Omega.{arith}
 use borrow.Author.Needs.{needs}
 use lib.ListN.{length}
-use Rattle.selection.proofs.row_numbers.append.Statement.{statement}
-use Rattle.selection.proofs.row_numbers.append.Tie as tie
+use Rattle.selection.proofs.row_numbers.append_checked.Statement.{statement}
+use Rattle.selection.proofs.row_numbers.append_checked.Tie as tie
 use Rattle.selection.specs.row_numbers.Cells.{Appending, appending-none, appending-next, appending-all, mark-small}
 
 abbrev Inv-loop : tie.InvT-loop
@@ -44,8 +44,8 @@ returns c =
     let at = c .before .loop in
     appending-all _ _ _ _ (at .r) (at .n) (at .out) (at .inv) (omega arith)
 
-pub append-spec : {M : Type 1} → statement M
-append-spec =
+pub append-checked-spec : {M : Type 1} → statement M
+append-checked-spec =
     tie.close
     (tie.spec
     Inv-loop
