@@ -6,6 +6,7 @@ use crate::field_tests::text_fits;
 use crate::field_tests::two_bytes;
 use crate::levels::level_of;
 use names::MAX_ELEMENTS;
+use text::foreign_bytes::any_foreign;
 use text::limits::MAX_DEPTH;
 use text::limits::MAX_TEXT_BYTES;
 
@@ -94,7 +95,7 @@ pub fn text_field(
     }
     let start = from + 4;
     let end = from + size;
-    if text::first_foreign(&extract[start..end]) < end - start {
+    if any_foreign(&extract[start..end]) {
         return FieldRead::Wrong;
     }
     FieldRead::Text {

@@ -1,5 +1,4 @@
 // Tables that are handed in as lent columns: the test of refusal 1, without a text beside them and with one.
-pub mod foreign_bytes;
 pub mod later_rows;
 pub mod range_tests;
 pub mod row_counts;

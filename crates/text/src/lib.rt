@@ -1,6 +1,7 @@
 // Bytes of a text: blanks, names, and the first byte that may stand in no text.
 pub mod classes;
 pub mod fault_keys;
+pub mod foreign_bytes;
 pub mod limits;
 pub mod lookup;
 pub mod name_bytes;
@@ -42,10 +43,13 @@ pub fn continues_name(b: u8) -> bool
     classes::in_name(classes::class_of(b), true, classes::joins_name(b))
 }
 
-// The place of the first byte that fails refusal 3, or the length.
+// The place of the first byte that fails refusal 3, or the length. Most texts have no such byte, and the first test is the quicker one.
 pub fn first_foreign(text: &[u8]) -> usize
     ensures { λ r. ⌜ r ≡ foreignPlace (now (text .entry)) ⌝ }
 {
+    if !foreign_bytes::any_foreign(text) {
+        return text.len();
+    }
     let mut i = 0;
     while i < text.len() {
         if is_foreign(text[i]) {

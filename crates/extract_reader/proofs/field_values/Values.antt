@@ -7,8 +7,7 @@ use Prim.Native.Nat.{ℕ, zero, suc, _+_, _-_, _<_, _≤_}
 use native.Mathlib.Omega.{arith}
 use borrow.Author.Tests.{le-leb, lt-leb}
 use lib.Dec.{T, eqb, leb, ltb, ltb→lt, leb→le}
-use lib.ListN.{length, getD, take, drop, length-take, length-drop}
-use Rattle.extract_reader.proofs.field_values.Bytes.{foreign-found, foreign-absent}
+use lib.ListN.{getD, take, drop}
 use Rattle.extract_reader.specs.declared.field_values.Carried.{Carried}
 use Rattle.extract_reader.specs.declared.field_values.FieldRead.the-variants.{Wrong, Ended, Element, Text}
 use Rattle.extract_reader.specs.field_ends.Values.{no-element, five, no-text, four, value-long, value-at, in-two, numberIn, parentIn}
@@ -21,12 +20,12 @@ use Rattle.projection_laws.specs.Opens.{placed}
 use Rattle.projection_laws.specs.extract_passes.Steps.{wrong, onward, state, elementFits, textFits, laterStep}
 use Rattle.schema_spec.specs.Names.{element, text}
 use Rattle.table_spec.specs.Rows.{elementRow, textRow}
-use Rattle.text.specs.Places.{foreignPlace}
+use Rattle.text.specs.foreign_bytes.Laws.{none-foreign}
 use Rattle.text_laws.specs.Searches.{below-or-past}
 use Rattle.text_laws.specs.Tests.{cond-yes, cond-no, passed, and-cases}
 use Rattle.text_spec.specs.Bytes.{isForeign}
 use Rattle.text_spec.specs.Limits.{maxDeclarations, maxNodes, maxDepth, maxTextBytes}
-use Rattle.text_spec.specs.Lists.{allOf, isEmpty, part}
+use Rattle.text_spec.specs.Lists.{anyOf, allOf, isEmpty, part}
 
 positive : (d : ℕ) → T (not (eqb d 0)) → 0 < d
 positive zero v = absurd v
@@ -180,23 +179,24 @@ module _ (bs words levels : List ℕ) (c : Carried) (size : ℕ) (h : ValuePass 
     text-placed level r q t = text-refused level (ap (λ (b : Bool). numberPass && (b && bytesPass)) (sym q ∙ t) ∙ and-nothing numberPass)
 
     -- the bytes as the part of the extract from the text's start up to its end
-    module _ (x y k : ℕ) (start : x ≡ c .at + 7) (end : y ≡ x + n) (found : k ≡ foreignPlace (take (y - x) (drop x bs))) where
-      text-part : take (y - x) (drop x bs) ≡ part (c .at + 7) n bs
-      text-part = let l : y - x ≡ n = omega arith in ap₂ (λ (i j : ℕ). take i (drop j bs)) l start
+    module _ (f : Bool) (found : f ≡ anyOf isForeign (take (place + size - (place + 4)) (drop (place + 4) bs))) where
+      text-part : take (place + size - (place + 4)) (drop (place + 4) bs) ≡ part (c .at + 7) n bs
+      text-part =
+          let s : place + 4 ≡ c .at + 7 = omega arith in
+          let l : place + size - (place + 4) ≡ n = omega arith in
+          ap₂ (λ (i j : ℕ). take i (drop j bs)) l s
 
-      part-long : length (part (c .at + 7) n bs) ≡ n
-      part-long = omega (arith, length-take n (drop (c .at + 7) bs), length-drop (c .at + 7) bs, h .inside)
+      tested : {t : Bool} → f ≡ t → allOf (λ b. not (isForeign b)) (part (c .at + 7) n bs) ≡ not t
+      tested e = sym (none-foreign (part (c .at + 7) n bs)) ∙ ap not (sym (found ∙ ap (anyOf isForeign) text-part) ∙ e)
 
-      pub text-foreign : k < y - x → TextAs bs words levels c size Wrong
-      text-foreign l =
-          let e = foreign-found (part (c .at + 7) n bs) (omega (arith, ap foreignPlace text-part, part-long)) in
-          text-misfit (ap (λ (b : Bool). leb 1 n && (leb n maxTextBytes && b)) e ∙ ap (λ (b : Bool). leb 1 n && b) (and-nothing (leb n maxTextBytes)) ∙ and-nothing (leb 1 n))
+      pub text-foreign : f ≡ true → TextAs bs words levels c size Wrong
+      text-foreign e =
+          text-misfit (ap (λ (b : Bool). leb 1 n && (leb n maxTextBytes && b)) (tested e) ∙ ap (λ (b : Bool). leb 1 n && b) (and-nothing (leb n maxTextBytes)) ∙ and-nothing (leb 1 n))
 
       pub text-accepted : LevelOf levels (c .depth) parent d → (r t : Bool) → r ≡ numberPass → r ≡ true → t ≡ textUnder words levels d (c .text) → t ≡ true
-          → 1 ≤ n → n ≤ maxTextBytes → y - x ≤ k → TextAs bs words levels c size (Text number d n)
-      text-accepted level r t q v u w low high l =
-          let e = foreign-absent (part (c .at + 7) n bs) (omega (arith, ap foreignPlace text-part, part-long)) in
-          text-right level (sym q ∙ v) (sym u ∙ w) (ap₂ _&&_ (le-leb 1 n low) (ap₂ _&&_ (le-leb n maxTextBytes high) e))
+          → 1 ≤ n → n ≤ maxTextBytes → f ≡ false → TextAs bs words levels c size (Text number d n)
+      text-accepted level r t q v u w low high e =
+          text-right level (sym q ∙ v) (sym u ∙ w) (ap₂ _&&_ (le-leb 1 n low) (ap₂ _&&_ (le-leb n maxTextBytes high) (tested e)))
 
   pub text-short : size < 4 → TextAs bs words levels c size Wrong
   unfolding laterStep

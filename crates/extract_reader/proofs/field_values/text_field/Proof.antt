@@ -35,14 +35,14 @@ returns-4 c =
 returns-5 : tie.Need-returns-5
 returns-5 c =
     let level = c .before .before .before .before .before .before .before in
-    text-foreign _ _ _ _ _ (start level .pre) (start level .args .size - 4) (omega arith) _ _ 0 (level .before .before .two-bytes .ensures) (level .before .two-bytes2 .ensures) _ _ _ (omega arith) (omega arith) (c .before .first-foreign .ensures) (c .if5 .taken)
+    text-foreign _ _ _ _ _ (start level .pre) (start level .args .size - 4) (omega arith) _ _ 0 (level .before .before .two-bytes .ensures) (level .before .two-bytes2 .ensures) _ (c .before .any-foreign .ensures) (c .if5 .taken)
 
 returns-6 : tie.Need-returns-6
 returns-6 c =
     let level = c .before .before .before .before .before .before .before in
     let placed = c .before .before .before in
     let numbered = placed .before .before in
-    text-accepted _ _ _ _ _ (start level .pre) (start level .args .size - 4) (omega arith) _ _ _ (level .before .before .two-bytes .ensures) (level .before .two-bytes2 .ensures) _ _ _ (omega arith) (omega arith) (c .before .first-foreign .ensures) (level .level-of .ensures) _ _ (numbered .before .number-fits .ensures) (not-false _ (numbered .if3 .left)) (placed .before .text-fits .ensures) (not-false _ (placed .if4 .left)) (omega arith) (omega arith) (c .if5 .left)
+    text-accepted _ _ _ _ _ (start level .pre) (start level .args .size - 4) (omega arith) _ _ _ (level .before .before .two-bytes .ensures) (level .before .two-bytes2 .ensures) _ (c .before .any-foreign .ensures) (level .level-of .ensures) _ _ (numbered .before .number-fits .ensures) (not-false _ (numbered .if3 .left)) (placed .before .text-fits .ensures) (not-false _ (placed .if4 .left)) (omega arith) (omega arith) (c .if5 .left)
 
 pub text-field-spec : {M : Type 1} → statement M
 text-field-spec =
@@ -66,7 +66,6 @@ text-field-spec =
     (λ c. search needs)
     (λ c. search needs)
     (λ c κs. search needs)
-    (λ c. search needs)
     returns-5
     (λ c. search needs)
     returns-6)

@@ -4,11 +4,9 @@ use Prim.Native.Nat.{_-_, _≤_}
 use native.Mathlib.Omega.{arith}
 use borrow.Author.Needs.{needs}
 use lib.ListN.{length}
-use Rattle.cells.specs.row_sets.Columns.{mark}
-use Rattle.tables.proofs.foreign_bytes.Foreign.{none-before, one-more, all-before}
-use Rattle.tables.proofs.foreign_bytes.any_foreign.Statement.{statement}
-use Rattle.tables.proofs.foreign_bytes.any_foreign.Tie as tie
-use Rattle.tables.specs.foreign_bytes.Foreign.{foreignBefore}
+use Rattle.text.proofs.foreign_bytes.Foreign.{foreignBefore, mark, none-before, one-more, all-before}
+use Rattle.text.proofs.foreign_bytes.any_foreign.Statement.{statement}
+use Rattle.text.proofs.foreign_bytes.any_foreign.Tie as tie
 
 abbrev Inv-loop : tie.InvT-loop
 Inv-loop text x₀ i₀ x i = (i ≤ length text) × (x ≡ mark (foreignBefore text i))

@@ -1,7 +1,7 @@
 -- `foreign_mark` meets its contract: the tests in their order.
 use borrow.Author.Tests.{eq-eqb, ne-eqb, le-leb, lt-leb}
-use Rattle.tables.proofs.foreign_bytes.foreign_mark.Statement.{statement}
-use Rattle.tables.proofs.foreign_bytes.foreign_mark.Tie as tie
+use Rattle.text.proofs.foreign_bytes.foreign_mark.Statement.{statement}
+use Rattle.text.proofs.foreign_bytes.foreign_mark.Tie as tie
 
 returns : tie.Need-returns
 returns c = simp (eq-eqb _ _ (c .if1 .taken))
