@@ -96,24 +96,26 @@ static int read_words(struct options *o, int argc, char **argv) {
 
 struct columns {
     size_t rows;
-    uint16_t *numbers, *parents, *lengths;
+    uint16_t *numbers, *parents, *lengths, *decoded;
     uint8_t *names;
     uint32_t *starts;
 };
 
 static struct columns lend(size_t rows) {
-    return (struct columns){ rows, cells(rows, 2), cells(rows, 2), cells(rows, 2), cells(rows, 1), cells(rows, 4) };
+    return (struct columns){ rows, cells(rows, 2), cells(rows, 2), cells(rows, 2), cells(rows, 2), cells(rows, 1), cells(rows, 4) };
 }
 
 static void give_back(struct columns *c) {
     free(c->numbers);
     free(c->parents);
     free(c->lengths);
+    free(c->decoded);
     free(c->names);
     free(c->starts);
 }
 
-#define COLUMNS(c) (c).numbers, (c).rows, (c).names, (c).rows, (c).parents, (c).rows, (c).starts, (c).rows, (c).lengths, (c).rows
+#define COLUMNS(c) \
+    (c).numbers, (c).rows, (c).names, (c).rows, (c).parents, (c).rows, (c).starts, (c).rows, (c).lengths, (c).rows, (c).decoded, (c).rows
 #define TEXT(t) (t).bytes, (t).len
 
 static struct lozhymet_result make(const struct call *c, uint8_t *extract, size_t size) {

@@ -9,11 +9,12 @@
 /* what is lent, of the largest size, so that refusal 18 cannot come */
 static uint8_t schema[LOZHYMET_MAX_SCHEMA_BYTES + 1], bundle[LOZHYMET_MAX_BUNDLE_BYTES + 1], journal[MOST + 1];
 static uint8_t extract[LOZHYMET_EXTRACT_BYTES(MOST)], names[LOZHYMET_MAX_ROWS];
-static uint16_t numbers[LOZHYMET_MAX_ROWS], parents[LOZHYMET_MAX_ROWS], lengths[LOZHYMET_MAX_ROWS], items[LOZHYMET_MAX_PATHS * LOZHYMET_MAX_ROWS];
+static uint16_t numbers[LOZHYMET_MAX_ROWS], parents[LOZHYMET_MAX_ROWS], lengths[LOZHYMET_MAX_ROWS], decoded[LOZHYMET_MAX_ROWS];
+static uint16_t items[LOZHYMET_MAX_PATHS * LOZHYMET_MAX_ROWS];
 static uint32_t starts[LOZHYMET_MAX_ROWS], counts[LOZHYMET_MAX_PATHS];
 
 #define LEND(cells) cells, sizeof(cells) / sizeof *(cells)
-#define COLUMNS LEND(numbers), LEND(names), LEND(parents), LEND(starts), LEND(lengths)
+#define COLUMNS LEND(numbers), LEND(names), LEND(parents), LEND(starts), LEND(lengths), LEND(decoded)
 
 static const char *const reasons[] = {
     "accepted", "no such path", "a text is empty or too long", "a byte is not plain ASCII", "the schema is misspelt",

@@ -39,7 +39,7 @@ extern "C" {
 #define LOZHYMET_MAX_ROWS 65535 /* of a journal or an extract */
 
 /* Bytes of stack to have free for a call: a bound to which tests/host/run holds what it measures on a journal of 65,521 nodes. Measured there:
-   making 183,592 bytes, selecting 369,064. */
+   making 183,608 bytes, selecting 369,064. */
 #define LOZHYMET_STACK_BYTES 524288
 
 /* ---- how many cells to lend, so that 18 cannot come
@@ -54,14 +54,14 @@ extern "C" {
 
 #define LOZHYMET_AT_MOST(count, most) ((size_t)(count) < (size_t)(most) ? (size_t)(count) : (size_t)(most))
 
-/* rows of a journal, for each of the five columns of host_make_extract */
+/* rows of a journal, for each of the six columns of host_make_extract */
 #define LOZHYMET_JOURNAL_ROWS(journal_len) LOZHYMET_AT_MOST((size_t)(journal_len) / 4, LOZHYMET_MAX_ROWS)
 
 /* bytes of the extract that is made; 1,310,721 for every journal */
 #define LOZHYMET_EXTRACT_BYTES(journal_len) \
     (LOZHYMET_AT_MOST(journal_len, LOZHYMET_MAX_JOURNAL_BYTES) + 4 * LOZHYMET_JOURNAL_ROWS(journal_len) + 5)
 
-/* rows of an extract, for each of the five columns of host_select */
+/* rows of an extract, for each of the six columns of host_select */
 #define LOZHYMET_EXTRACT_ROWS(extract_len) LOZHYMET_AT_MOST((size_t)(extract_len) / 8, LOZHYMET_MAX_ROWS)
 
 /* selected numbers: no more for a path than there are rows; 8 times that serves every bundle and place */
@@ -98,36 +98,37 @@ enum lozhymet_refusal {
 struct lozhymet_result {
     uint64_t number; /* 0, or why the call is refused: enum lozhymet_refusal */
     uint64_t place;  /* the byte offset in the text refused; 0 where no place is named, and on success */
-    uint64_t rows;   /* rows of the whole journal, or of the extract, in the five columns */
+    uint64_t rows;   /* rows of the whole journal, or of the extract, in the six columns */
     uint64_t items;  /* host_make_extract: bytes of the extract; host_select: selected numbers */
     uint64_t counts; /* host_select: counts, one for each path asked for; host_make_extract: 0 */
 };
 
-/* The five columns hold a table, a cell of each for a row, in document order. All five lengths are equal, else the call is refused (1).
+/* The six columns hold a table, a cell of each for a row, in document order. All six lengths are equal, else the call is refused (1).
      numbers  the node's number; nodes of a journal are numbered from 0 in document order, and keep their numbers in an extract
      names    e for the element that the schema declares as number e (from 0), 32 + e for the text of such an element
      parents  the row of the parent, in the same columns; 0 for the root
      starts   for a text the offset of its first byte in the journal, or in the extract; 0 for an element
      lengths  for a text its bytes, as they stand (entities are not replaced), 1 to 4,096; 0 for an element
+     decoded  the length of the text once decoded; no text is decoded yet, so it equals the length; 0 for an element
    A text can be read from the journal, or from the extract, at starts[row], lengths[row] bytes long. */
 
 /* Makes the extract of a journal for a bundle of paths.
      schema, bundle, journal  the three texts; none needs a 0 at its end
-     numbers .. lengths       outputs: the table of the whole journal, LOZHYMET_JOURNAL_ROWS(journal_len) cells each
+     numbers .. decoded       outputs: the table of the whole journal, LOZHYMET_JOURNAL_ROWS(journal_len) cells each
      out                      output: the extract, LOZHYMET_EXTRACT_BYTES(journal_len) cells; `items` of the result says how many were written.
                               Its last two bytes are the number of rows kept, high byte first
    Refused by 1 to 16 and 18. */
 struct lozhymet_result host_make_extract(
     const uint8_t *schema, size_t schema_len, const uint8_t *bundle, size_t bundle_len, const uint8_t *journal, size_t journal_len,
     uint16_t *numbers, size_t numbers_len, uint8_t *names, size_t names_len, uint16_t *parents, size_t parents_len,
-    uint32_t *starts, size_t starts_len, uint16_t *lengths, size_t lengths_len, uint8_t *out, size_t out_len);
+    uint32_t *starts, size_t starts_len, uint16_t *lengths, size_t lengths_len, uint16_t *decoded, size_t decoded_len, uint8_t *out, size_t out_len);
 
 /* Selects from an extract, by one path of a bundle or by all of them in one reading.
      schema, bundle      the texts that the extract was made with; other ones are not told apart, and the answer is then that of these texts
      place               1 to 8: the path's place in the bundle; 0: all paths in order. A place of no path is refused by 1, whatever the extract;
                          where schema or bundle is refused, by 1 if it is over 8
      extract             the extract's bytes
-     numbers .. lengths  outputs: the extract's table, LOZHYMET_EXTRACT_ROWS(extract_len) cells each
+     numbers .. decoded  outputs: the extract's table, LOZHYMET_EXTRACT_ROWS(extract_len) cells each
      items               output: numbers of the selected nodes, in document order, path after path; LOZHYMET_ITEMS(LOZHYMET_MAX_PATHS, extract_len)
                          cells, or LOZHYMET_ITEMS(1, extract_len) for one path
      counts              output: how many nodes each path asked for selects: LOZHYMET_MAX_PATHS cells, or 1 for one path
@@ -135,7 +136,7 @@ struct lozhymet_result host_make_extract(
 struct lozhymet_result host_select(
     const uint8_t *schema, size_t schema_len, const uint8_t *bundle, size_t bundle_len, size_t place, const uint8_t *extract, size_t extract_len,
     uint16_t *numbers, size_t numbers_len, uint8_t *names, size_t names_len, uint16_t *parents, size_t parents_len,
-    uint32_t *starts, size_t starts_len, uint16_t *lengths, size_t lengths_len,
+    uint32_t *starts, size_t starts_len, uint16_t *lengths, size_t lengths_len, uint16_t *decoded, size_t decoded_len,
     uint16_t *items, size_t items_len, uint32_t *counts, size_t counts_len);
 
 #ifdef __cplusplus

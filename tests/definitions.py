@@ -18,7 +18,7 @@ from vector_cases import cases as vector_cases
 
 HERE = os.path.dirname(os.path.abspath(__file__))
 CRATES = os.path.join(HERE, "..", "crates")
-SPECS = ["text_spec", "schema_spec", "table_spec", "journal_spec", "path_spec", "inference_spec", "extract_spec", "library_spec"]
+SPECS = ["text_spec", "token_spec", "schema_spec", "table_spec", "journal_spec", "path_spec", "inference_spec", "extract_spec", "library_spec"]
 JOURNAL_LIMIT = 1048576
 
 # A case that is not evaluated, with the reason.
@@ -67,10 +67,10 @@ abbrev counted : {A : Type 0} → List A → List (List ℕ)
 counted l = (length l ∷ []) ∷ []
 
 abbrev row : Row → List ℕ
-row r = r .number ∷ codeOf (r .name) ∷ r .parent ∷ r .start ∷ r .size ∷ []
+row r = r .number ∷ codeOf (r .name) ∷ r .parent ∷ r .start ∷ r .size ∷ r .decoded ∷ []
 
 abbrev rowButStart : Row → List ℕ
-rowButStart r = r .number ∷ codeOf (r .name) ∷ r .parent ∷ r .size ∷ []
+rowButStart r = r .number ∷ codeOf (r .name) ∷ r .parent ∷ r .size ∷ r .decoded ∷ []
 
 abbrev lent : ℕ → List Row → Outcome (List Row)
 lent n rows = inRoom (tooSmall n rows) rows
@@ -126,9 +126,8 @@ def decimals(lines):
 
 
 def sizes(cells):
-    """How many cells each column has: one number for all, or five."""
-    numbers, names, parents, starts, lengths = cells * 5 if len(cells) == 1 else cells
-    return "record { numbers = %d; names = %d; parents = %d; starts = %d; lengths = %d }" % (numbers, names, parents, starts, lengths)
+    """How many cells each column has: one number for all, or six."""
+    return "record { numbers = %d; names = %d; parents = %d; starts = %d; lengths = %d; decoded = %d }" % tuple(cells * 6 if len(cells) == 1 else cells)
 
 
 def expected(case):
@@ -181,8 +180,8 @@ def asked(case):
     if does == "listing":
         return "ok (listing %s %s %s ∷ [])" % tuple(t)
     rows = decimals(filter(None, texts[1].split("\n")))
-    columns = [numbers([r[i] for r in rows]) for i in range(5)]
-    table = "record { columns = record { numbers = %s; names = %s; parents = %s; starts = %s; lengths = %s }; count = %d }" % (*columns, len(rows))
+    columns = "numbers = %s; names = %s; parents = %s; starts = %s; lengths = %s; decoded = %s" % tuple(numbers([r[i] for r in rows]) for i in range(6))
+    table = "record { columns = record { %s }; count = %d }" % (columns, len(rows))
     return "seen counted (handed (tableBeside (schemaIn %s) %s (%s)) (λ rows. accepted rows))" % (t[0], t[2], table)
 
 

@@ -32,7 +32,7 @@ def refused(number, place=0):
 
 def rows(*cells):
     shown = cells if len(cells) <= SHOWN else cells[-1:]
-    return "ok %d\n" % len(cells) + "".join("%d %d %d %d %d\n" % row for row in shown)
+    return "ok %d\n" % len(cells) + "".join("%d %d %d %d %d %d\n" % row for row in shown)
 
 
 def vectors():
@@ -45,7 +45,7 @@ def vectors():
 
 def nodes():
     """65,535 and 65,536 nodes: the last one an element, or a text."""
-    full = [(0, 0, 0, 0, 0)] + [(n, 1, 0, 0, 0) for n in range(1, 65535)]
+    full = [(0, 0, 0, 0, 0, 0)] + [(n, 1, 0, 0, 0, 0) for n in range(1, 65535)]
     for count, lent, gives in (
         (65534, 65535, rows(*full)),
         (65534, 65536, rows(*full)),
@@ -55,31 +55,31 @@ def nodes():
     ):
         yield TILES, [once("<r>"), ("<a/>", count), once("</r>")], lent, gives
     texts = [once("<r>"), ("<t>x</t>", 32767), once("</r>")]
-    last = (65534, 33, 65533, 3 + 8 * 32766 + 3, 1)
-    yield TEXTS, texts, 65535, "ok 65535\n%d %d %d %d %d\n" % last
+    last = (65534, 33, 65533, 3 + 8 * 32766 + 3, 1, 1)
+    yield TEXTS, texts, 65535, "ok 65535\n%d %d %d %d %d %d\n" % last
     yield TEXTS, [once("<r><t/>")] + texts[1:], 65536, refused(16, 7 + 8 * 32766 + 3)
 
 
 def lengths():
     """1,048,576 and 1,048,577 bytes, and texts of 4,096 and 4,097."""
-    root = [(0, 0, 0, 0, 0)]
+    root = [(0, 0, 0, 0, 0, 0)]
     for size, gives in ((LONGEST, rows(*root)), (LONGEST + 1, refused(2))):
         yield TILES, [once("<r>"), (" ", size - 7), once("</r>")], LENT, gives
     yield TILES, [once("<r>"), ("\x7f", LONGEST - 2)], LENT, refused(2)
     yield TILES, [("x", LONGEST)], LENT, refused(12)
     yield TILES, [once("<r>"), (" \n\t", 5000), once("</r>")], LENT, rows(*root)
     for text, size in (([("x", 4096)], 4096), ([("x", 4097)], 4097), ([("&amp;", 819), once("x")], 4096), ([("&amp;", 819), once("xx")], 4097)):
-        gives = rows((0, 0, 0, 0, 0), (1, 32, 0, 3, size)) if size == 4096 else refused(16, 3)
+        gives = rows((0, 0, 0, 0, 0, 0), (1, 32, 0, 3, size, size)) if size == 4096 else refused(16, 3)
         yield "<!ELEMENT t (#PCDATA)>", [once("<t>"), *text, once("</t>")], LENT, gives
 
 
 def depths():
     """Depth 64 and 65, opened by a start tag or by an empty one; from there on nothing counts for 12."""
-    levels = [(n, 0, max(n - 1, 0), 0, 0) for n in range(64)]
+    levels = [(n, 0, max(n - 1, 0), 0, 0, 0) for n in range(64)]
     for open_tags, end_tags, gives in ((64, 64, rows(*levels)), (65, 65, refused(13, 192)), (65, 3, refused(13, 192)), (65, 99, refused(13, 192))):
         yield NESTED, [("<a>", open_tags), ("</a>", end_tags)], LENT, gives
     yield NESTED, [("<a>", 64), once("<a/>"), ("</a>", 64)], LENT, refused(13, 192)
-    yield NESTED, [("<a>", 63), once("<t>x</t>"), ("</a>", 63)], LENT, rows(*levels[:63], (63, 1, 62, 0, 0), (64, 33, 63, 192, 1))
+    yield NESTED, [("<a>", 63), once("<t>x</t>"), ("</a>", 63)], LENT, rows(*levels[:63], (63, 1, 62, 0, 0, 0), (64, 33, 63, 192, 1, 1))
     yield NESTED, [("<a>", 64), once("</b>"), ("<a>", 9)], LENT, refused(12, 192)
 
 
@@ -88,8 +88,8 @@ def names():
     name = "n" * 31
     schema = "<!ELEMENT %s EMPTY>" % name
     for text, gives in (
-        ("<%s/>" % name, rows((0, 0, 0, 0, 0))),
-        ("<%s></%s>" % (name, name), rows((0, 0, 0, 0, 0))),
+        ("<%s/>" % name, rows((0, 0, 0, 0, 0, 0))),
+        ("<%s></%s>" % (name, name), rows((0, 0, 0, 0, 0, 0))),
         ("<%sn/>" % name, refused(11)),
         ("<%sn></%sn>" % (name, name), refused(11)),
         ("<%s></%sn>" % (name, name), refused(11, 33)),
@@ -101,7 +101,7 @@ def names():
 def orders():
     """1 before 2, 15 before 18, and each refusal with no cell lent."""
     yield TILES, [once("<r><a/></r>")], 1, refused(18)
-    yield TILES, [once("<r><a/></r>")], 2, rows((0, 0, 0, 0, 0), (1, 1, 0, 0, 0))
+    yield TILES, [once("<r><a/></r>")], 2, rows((0, 0, 0, 0, 0, 0), (1, 1, 0, 0, 0, 0))
     yield TILES, [once("<r><a/></r>")], 0, refused(18)
     yield TILES, [once("<r><a/>x</r>")], 0, refused(15)
     yield TILES, [once("<r><b/></r>")], 1, refused(14, 3)
@@ -127,10 +127,10 @@ def cases():
     for schema, pieces, lent, gives in limits():
         yield case(schema, pieces, LONGEST, lent), gives
     # the program's own limit
-    for size, gives in ((32768, rows((0, 0, 0, 0, 0))), (32769, refused(2))):
+    for size, gives in ((32768, rows((0, 0, 0, 0, 0, 0))), (32769, refused(2))):
         yield case(TILES, [once("<r>"), (" ", size - 7), once("</r>")], 32768, LENT, WITHIN), gives
     # 1, before any text: a column with a cell more, and a record that is none
-    for wider in (1, 2, 3, 4, 5):
+    for wider in (1, 2, 3, 4, 5, 6):
         for journal in ("<r><a/></r>", ""):
             yield case(TILES, [once(journal)], LONGEST, LENT, PUBLIC, wider), refused(1)
     yield case("<!ELEMENT r (a*)>", [once("<r/>")], LONGEST, LENT), refused(1)

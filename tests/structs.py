@@ -65,7 +65,8 @@ def word_of(schema, *names):
 
 
 def rows_of(schema, journal):
-    """The rows of a journal that has no blanks between its tags: number, name's code, parent's row, start and length."""
+    """The rows of a journal that has no blanks between its tags: number, name's code, parent's row, start and the two
+    lengths, which are equal, since no text is decoded yet."""
     known, rows, open_rows = names_in(schema), [], []
     for part in re.finditer(r"<(/?)(\w+)(/?)>|[^<]+", journal):
         close, name, empty = part.groups()
@@ -73,21 +74,22 @@ def rows_of(schema, journal):
         if close:
             open_rows.pop()
         elif name:
-            rows.append((len(rows), known.index(name), parent, 0, 0))
+            rows.append((len(rows), known.index(name), parent, 0, 0, 0))
             if not empty:
                 open_rows.append(len(rows) - 1)
         else:
-            rows.append((len(rows), TEXTS + rows[parent][1], parent, part.start(), len(part.group())))
+            size = len(part.group())
+            rows.append((len(rows), TEXTS + rows[parent][1], parent, part.start(), size, size))
     return rows
 
 
 def cut(rows, word):
     """The rows whose names and whose ancestors' names are in the set, their parents renumbered."""
     kept, places = [], {}
-    for i, (number, code, parent, start, size) in enumerate(rows):
+    for i, (number, code, parent, start, *lengths) in enumerate(rows):
         if word >> code & 1 and (i == 0 or parent in places):
             places[i] = len(kept)
-            kept.append((number, code, places[parent], start, size))
+            kept.append((number, code, places[parent], start, *lengths))
     return kept
 
 
@@ -148,7 +150,7 @@ def sum_of(cells):
 
 def structs(rows, lent):
     """All structs lent, or their sum."""
-    cells = rows + [(0,) * 5] * (lent - len(rows))
+    cells = rows + [(0,) * 6] * (lent - len(rows))
     if lent <= SHOWN:
         return "".join(line(*row) for row in cells)
     return line(sum_of(cell for row in cells for cell in row))

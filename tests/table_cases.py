@@ -1,8 +1,8 @@
 #!/usr/bin/env python3
 """Writes tests/cases/table_cases.in and table_cases.out. With --check it compares instead.
 
-First the table cases of tests/vectors, each with the outcome that the case itself gives; then tables at the limits of depth 64 and 65 and of a
-text of 4,096 and 4,097 bytes, columns of more cells than rows, and a count above the cells. A case is six numbers of two bytes (the lengths of
+First the table cases of tests/vectors, each with the outcome that the case itself gives; then tables at the limits of depth 64 and 65, of a text
+of 4,096 and 4,097 bytes and of decoded lengths, columns of more cells than rows, and a count above the cells. A case is six numbers of two bytes (the lengths of
 the schema, of the table, of the columns and of the text, a row's position, how often the table is judged), then the schema, the columns' cells
 row by row, and the text. What is written after the outcome is the text of the row at that position: refused, an element, or where its text
 starts and its length; and the length of the part that is handed back."""
@@ -26,11 +26,11 @@ def vectors():
 
 def nested(depth):
     """An element in itself, so many times."""
-    return "<!ELEMENT a (a?)>", [(i, 0, max(i - 1, 0), 0, 0) for i in range(depth)]
+    return "<!ELEMENT a (a?)>", [(i, 0, max(i - 1, 0), 0, 0, 0) for i in range(depth)]
 
 
-def with_text(size):
-    return "<!ELEMENT a (#PCDATA)>", [(0, 0, 0, 0, 0), (1, TEXTS, 0, 1, size)]
+def with_text(size, decoded, of_element=0):
+    return "<!ELEMENT a (#PCDATA)>", [(0, 0, 0, 0, 0, of_element), (1, TEXTS, 0, 1, size, decoded)]
 
 
 def limits():
@@ -38,18 +38,24 @@ def limits():
         schema, rows = nested(depth)
         yield schema, rows, len(rows), "", passes
     for size, passes in ((1, True), (4096, True), (4097, False)):
-        schema, rows = with_text(size)
+        schema, rows = with_text(size, size)
         yield schema, rows, 2, "<" + "x" * size, passes
         yield schema, rows, 2, "x" * size, False
         for place in (1, 1 + size // 2, size):
             yield schema, rows, 2, "<" + "x" * (place - 1) + "\x7f" + "x" * (size - place), False
+    # decoded lengths: a text's is its length, since none is decoded yet, and an element's is 0
+    for size, decoded, of_element in ((1, 0, 0), (1, 2, 0), (5, 4, 0), (5, 1, 0), (5, 0, 0), (5, 6, 0), (4096, 4095, 0), (4096, 4097, 0), (1, 1, 1), (1, 0, 1)):
+        schema, rows = with_text(size, decoded, of_element)
+        yield schema, rows, 2, "<&amp;" + "x" * size, False
+    yield *with_text(5, 5), 2, "<&amp;", True
+    yield "<!ELEMENT a (a?)>", [(0, 0, 0, 0, 0, 0), (1, 0, 0, 0, 0, 1)], 2, "", False
     # a text below depth 64; a second text of an element; the same number again; a parent that is closed; fewer rows than cells, and more
     schema = "<!ELEMENT a (a|b)*>\n<!ELEMENT b (#PCDATA)>"
-    deep = [(i, 0, max(i - 1, 0), 0, 0) for i in range(63)] + [(63, 1, 62, 0, 0), (64, TEXTS + 1, 63, 0, 1)]
+    deep = [(i, 0, max(i - 1, 0), 0, 0, 0) for i in range(63)] + [(63, 1, 62, 0, 0, 0), (64, TEXTS + 1, 63, 0, 1, 1)]
     yield schema, deep, len(deep), "x", True
-    yield schema, deep + [(65, TEXTS + 1, 63, 0, 1)], 66, "x", False
-    yield schema, [(0, 0, 0, 0, 0), (1, 0, 0, 0, 0), (1, 0, 0, 0, 0)], 3, "", False
-    closed = [(0, 0, 0, 0, 0), (1, 0, 0, 0, 0), (2, 0, 0, 0, 0), (3, 0, 1, 0, 0)]
+    yield schema, deep + [(65, TEXTS + 1, 63, 0, 1, 1)], 66, "x", False
+    yield schema, [(0, 0, 0, 0, 0, 0), (1, 0, 0, 0, 0, 0), (1, 0, 0, 0, 0, 0)], 3, "", False
+    closed = [(0, 0, 0, 0, 0, 0), (1, 0, 0, 0, 0, 0), (2, 0, 0, 0, 0, 0), (3, 0, 1, 0, 0, 0)]
     yield schema, closed, 4, "", False
     yield schema, closed, 3, "", True
     yield schema, closed[:3], 4, "", False
@@ -57,14 +63,14 @@ def limits():
 
 def case(schema, rows, count, text, position, times=1):
     head = struct.pack(">6H", len(schema), count, len(rows), len(text), position, times)
-    cells = b"".join(struct.pack(">HBHIH", *row) for row in rows)
+    cells = b"".join(struct.pack(">HBHIHH", *row) for row in rows)
     return head + schema.encode("latin-1") + cells + text.encode("latin-1")
 
 
 def answer(rows, count, position, passes):
     if not passes or count <= position:
         return "refused 0"
-    number, code, parent, start, size = rows[position]
+    number, code, parent, start, size, decoded = rows[position]
     return "text %d %d %d" % (start, size, size) if TEXTS <= code else "element 0"
 
 

@@ -5,13 +5,14 @@
 #include "peers.h"
 
 static const struct tray *tray;
-static uint16_t numbers[LOZHYMET_MAX_ROWS], parents[LOZHYMET_MAX_ROWS], lengths[LOZHYMET_MAX_ROWS], items[LOZHYMET_MAX_PATHS * LOZHYMET_MAX_ROWS];
+static uint16_t numbers[LOZHYMET_MAX_ROWS], parents[LOZHYMET_MAX_ROWS], lengths[LOZHYMET_MAX_ROWS], decoded[LOZHYMET_MAX_ROWS];
+static uint16_t items[LOZHYMET_MAX_PATHS * LOZHYMET_MAX_ROWS];
 static uint8_t names[LOZHYMET_MAX_ROWS], extract[LOZHYMET_EXTRACT_BYTES(LOZHYMET_MAX_JOURNAL_BYTES)];
 static uint32_t starts[LOZHYMET_MAX_ROWS], counts[LOZHYMET_MAX_PATHS];
 static size_t extract_len, rows;
 
 /* as many cells as there are rows: what is lent is cleared */
-#define COLUMNS(n) numbers, n, names, n, parents, n, starts, n, lengths, n
+#define COLUMNS(n) numbers, n, names, n, parents, n, starts, n, lengths, n, decoded, n
 
 static int make_for(const char *bundle, size_t bundle_len) {
     size_t most = rows ? rows : LOZHYMET_JOURNAL_ROWS(tray->journal_len);

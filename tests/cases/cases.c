@@ -61,6 +61,7 @@ void check_columns(const struct columns *c) {
     check_cells(c->parents, sizeof c->parents, c->lens[PARENTS] * sizeof *c->parents);
     check_cells(c->starts, sizeof c->starts, c->lens[STARTS] * sizeof *c->starts);
     check_cells(c->lengths, sizeof c->lengths, c->lens[LENGTHS] * sizeof *c->lengths);
+    check_cells(c->decoded, sizeof c->decoded, c->lens[DECODED] * sizeof *c->decoded);
 }
 
 void show_refusal(struct outcome outcome) {

@@ -26,10 +26,10 @@ struct bundle {
 };
 
 /* The first cells of each column are lent or handed in: `lens` says how many. */
-enum { NUMBERS, NAMES, PARENTS, STARTS, LENGTHS, COLUMNS };
+enum { NUMBERS, NAMES, PARENTS, STARTS, LENGTHS, DECODED, COLUMNS };
 
 struct columns {
-    uint16_t numbers[MAX_CELLS], parents[MAX_CELLS], lengths[MAX_CELLS];
+    uint16_t numbers[MAX_CELLS], parents[MAX_CELLS], lengths[MAX_CELLS], decoded[MAX_CELLS];
     uint8_t names[MAX_CELLS];
     uint32_t starts[MAX_CELLS];
     size_t lens[COLUMNS];
@@ -37,7 +37,7 @@ struct columns {
 
 #define LENT(c) \
     (c)->numbers, (c)->lens[NUMBERS], (c)->names, (c)->lens[NAMES], (c)->parents, (c)->lens[PARENTS], (c)->starts, (c)->lens[STARTS], (c)->lengths, \
-        (c)->lens[LENGTHS]
+        (c)->lens[LENGTHS], (c)->decoded, (c)->lens[DECODED]
 
 /* ends the program where the input is no row of whole cases, or a cell that was not lent has changed */
 _Noreturn void fail(const char *why);

@@ -11,12 +11,13 @@ struct outcome {
     uint64_t number, place, size, other;
 };
 
-/* a slice, and the five columns of a table: lent, and handed in */
+/* a slice, and the six columns of a table: lent, and handed in */
 #define SLICE(name) const uint8_t *name, size_t name##_len
 #define RECORD(name) const uint8_t *name, size_t name##_cells, size_t name##_len
-#define LENT_COLUMNS uint16_t *, size_t, uint8_t *, size_t, uint16_t *, size_t, uint32_t *, size_t, uint16_t *, size_t
+#define LENT_COLUMNS uint16_t *, size_t, uint8_t *, size_t, uint16_t *, size_t, uint32_t *, size_t, uint16_t *, size_t, uint16_t *, size_t
 #define HANDED_COLUMNS \
-    const uint16_t *, size_t, const uint8_t *, size_t, const uint16_t *, size_t, const uint32_t *, size_t, const uint16_t *, size_t
+    const uint16_t *, size_t, const uint8_t *, size_t, const uint16_t *, size_t, const uint32_t *, size_t, const uint16_t *, size_t, \
+        const uint16_t *, size_t
 
 struct outcome test_read_schema(SLICE(text), uint8_t *out, size_t out_len);
 bool test_is_schema_record(RECORD(schema));

@@ -19,6 +19,7 @@ static void take_row(struct text *input, size_t row) {
     table.parents[row] = (uint16_t)take_number(input, 2);
     table.starts[row] = (uint32_t)take_number(input, 4);
     table.lengths[row] = (uint16_t)take_number(input, 2);
+    table.decoded[row] = (uint16_t)take_number(input, 2);
 }
 
 /* To measure the time a table is judged again with one row fewer each time: the first rows of a table that passes do so, too. */
@@ -56,7 +57,7 @@ void table_cases(struct text input) {
     while (input.len) table_case(&input);
 }
 
-/* ---- extracts: the lengths of the schema, of the extract and of the five columns, two bytes each, and the two texts. Every lent cell is shown */
+/* ---- extracts: the lengths of the schema, of the extract and of the six columns, two bytes each, and the two texts. Every lent cell is shown */
 
 static void show_cell(int column, size_t i, uint64_t cell) {
     if (i < table.lens[column]) show_number(cell);
@@ -72,6 +73,7 @@ static void show_cells(void) {
         show_cell(NAMES, i, table.names[i]);
         show_cell(PARENTS, i, table.parents[i]);
         show_cell(LENGTHS, i, table.lengths[i]);
+        show_cell(DECODED, i, table.decoded[i]);
         printf("\n");
     }
 }
@@ -118,7 +120,8 @@ static struct text take_journal(struct text *input, size_t pieces) {
 /* of more rows than 100 only the last is shown */
 static void show_rows(size_t count) {
     for (size_t i = count > MAX_SHOWN ? count - 1 : 0; i < count; i++)
-        printf("%u %u %u %u %u\n", table.numbers[i], table.names[i], table.parents[i], (unsigned)table.starts[i], table.lengths[i]);
+        printf("%u %u %u %u %u %u\n", table.numbers[i], table.names[i], table.parents[i], (unsigned)table.starts[i], table.lengths[i],
+            table.decoded[i]);
 }
 
 /* lent cells past the answer are 0 */
@@ -126,7 +129,7 @@ static void show_not_cleared(size_t from) {
     const size_t *lens = table.lens;
     for (size_t i = from; i < MAX_CELLS; i++)
         if ((i < lens[NUMBERS] && table.numbers[i]) || (i < lens[NAMES] && table.names[i]) || (i < lens[PARENTS] && table.parents[i]) ||
-            (i < lens[STARTS] && table.starts[i]) || (i < lens[LENGTHS] && table.lengths[i]))
+            (i < lens[STARTS] && table.starts[i]) || (i < lens[LENGTHS] && table.lengths[i]) || (i < lens[DECODED] && table.decoded[i]))
             printf("not 0: row %zu\n", i);
 }
 

@@ -155,11 +155,12 @@ static void check_table(const struct lent *lent, struct lozhymet_result r, const
         check(row ? cell(lent, PARENTS, row) < row : !cell(lent, PARENTS, 0), "a parent is not before its row", i, extract);
         check(!row || cell(lent, NUMBERS, row) > cell(lent, NUMBERS, row - 1), "numbers do not rise", i, extract);
         check(name >= 32 ? len >= 1 && len <= 4096 && start + (size_t)len <= text_len : !start && !len, "a text is out of range", i, extract);
+        check(cell(lent, DECODED, row) == len, "a decoded length is not the length", i, extract);
     }
 }
 
 static void check_result(int selects, struct lent *lent, struct lozhymet_result r, int enough, const struct input *i, struct text extract) {
-    const size_t answered[OUTPUTS] = { r.rows, r.rows, r.rows, r.rows, r.rows, r.items, r.counts };
+    const size_t answered[OUTPUTS] = { r.rows, r.rows, r.rows, r.rows, r.rows, r.rows, r.items, r.counts };
     check(!lent->damaged, "a guard cell or an input has changed", i, extract);
     check(r.number <= 18 && !(selects ? r.number >= 11 && r.number <= 16 : r.number == 17), "a number that cannot be", i, extract);
     check(!(enough && r.number == LOZHYMET_TOO_FEW_CELLS), "18 with the cells that the header says", i, extract);
@@ -217,7 +218,8 @@ static void try_input(struct input *i) {
     struct lent lent;
     int enough = below(4) != 0;
     size_t len = i->len[JOURNAL], before = seen[0][0];
-    size_t rows = some(LOZHYMET_JOURNAL_ROWS(len), enough), lens[OUTPUTS] = { rows, rows, rows, rows, rows, some(LOZHYMET_EXTRACT_BYTES(len), enough), 0 };
+    size_t rows = some(LOZHYMET_JOURNAL_ROWS(len), enough), bytes = some(LOZHYMET_EXTRACT_BYTES(len), enough);
+    size_t lens[OUTPUTS] = { rows, rows, rows, rows, rows, rows, bytes, 0 };
     if (below(50) == 0) lens[below(ITEMS)]++;
     lend(&lent, 1, lens, GUARDS);
     struct lozhymet_result r = make_extract(&lent, text_of(i, SCHEMA), text_of(i, BUNDLE), text_of(i, JOURNAL));

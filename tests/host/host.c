@@ -53,7 +53,7 @@ static char *repeated(const char *head, const char *part, size_t times, const ch
 /* ---- printing */
 
 static void print_cells(const struct lent *lent, enum output o) {
-    static const char *const names[OUTPUTS] = { "numbers", "names", "parents", "starts", "lengths", "items", "counts" };
+    static const char *const names[OUTPUTS] = { "numbers", "names", "parents", "starts", "lengths", "decoded", "items", "counts" };
     printf("  %s", names[o]);
     for (size_t i = 0; i < lent->outputs[o].len; i++)
         printf(lent->outputs[o].width == 1 && o == ITEMS ? " %02x" : " %u", (unsigned)cell(lent, o, i));
@@ -75,7 +75,7 @@ static int all_zero(const struct lent *lent, enum output o, size_t from) {
 
 /* cells past the answer are 0; on refusal all are, since the counts of the result are 0 then */
 static void judge(const char *name, const struct lent *lent, struct lozhymet_result r) {
-    const size_t answered[OUTPUTS] = { r.rows, r.rows, r.rows, r.rows, r.rows, r.items, r.counts };
+    const size_t answered[OUTPUTS] = { r.rows, r.rows, r.rows, r.rows, r.rows, r.rows, r.items, r.counts };
     if (r.number && (r.rows || r.items || r.counts)) faults++, printf("%s: refused, and something is answered\n", name);
     if (!r.number && r.place) faults++, printf("%s: accepted, and a place is named\n", name);
     if (lent->damaged) faults++, printf("%s: a guard cell or an input has changed\n", name);
@@ -233,8 +233,8 @@ static void unequal_columns(const char *name, int made, const size_t lens[OUTPUT
 
 static void each_refusal_of_making(void) {
     for (int made = 0; made < 2; made++)
-        for (int o = NUMBERS; o <= LENGTHS; o++) {
-            size_t lens[OUTPUTS] = { 9, 9, 9, 9, 9, 31, 3 };
+        for (int o = NUMBERS; o <= DECODED; o++) {
+            size_t lens[OUTPUTS] = { 9, 9, 9, 9, 9, 9, 31, 3 };
             lens[o] = o % 2 ? 8 : 10;
             unequal_columns(made ? "1, making" : "1, selecting", made, lens);
         }

@@ -18,7 +18,7 @@ static void *block(size_t size) {
 }
 
 void lend(struct lent *lent, int made, const size_t lens[OUTPUTS], size_t guards) {
-    const size_t widths[OUTPUTS] = { 2, 1, 2, 4, 2, made ? 1 : 2, 4 };
+    const size_t widths[OUTPUTS] = { 2, 1, 2, 4, 2, 2, made ? 1 : 2, 4 };
     lent->damaged = 0;
     for (int o = 0; o < OUTPUTS; o++) {
         struct cells *c = &lent->outputs[o];
@@ -30,7 +30,7 @@ void lend(struct lent *lent, int made, const size_t lens[OUTPUTS], size_t guards
 }
 
 void lend_rows(struct lent *lent, int made, size_t rows, size_t items, size_t counts, size_t guards) {
-    const size_t lens[OUTPUTS] = { rows, rows, rows, rows, rows, items, counts };
+    const size_t lens[OUTPUTS] = { rows, rows, rows, rows, rows, rows, items, counts };
     lend(lent, made, lens, guards);
 }
 
@@ -98,7 +98,8 @@ static void compare_guards(struct lent *lent) {
 }
 
 #define CELLS(lent, o) (void *)first(lent, o), (lent)->outputs[o].len
-#define COLUMNS(lent) CELLS(lent, NUMBERS), CELLS(lent, NAMES), CELLS(lent, PARENTS), CELLS(lent, STARTS), CELLS(lent, LENGTHS)
+#define COLUMNS(lent) \
+    CELLS(lent, NUMBERS), CELLS(lent, NAMES), CELLS(lent, PARENTS), CELLS(lent, STARTS), CELLS(lent, LENGTHS), CELLS(lent, DECODED)
 
 struct lozhymet_result make_extract(struct lent *lent, struct text schema, struct text bundle, struct text journal) {
     uint8_t *s = copied(lent, schema, 0), *b = copied(lent, bundle, 1), *j = copied(lent, journal, 2);

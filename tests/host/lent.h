@@ -6,7 +6,7 @@
 
 #include "lozhymet.h"
 
-enum output { NUMBERS, NAMES, PARENTS, STARTS, LENGTHS, ITEMS, COUNTS, OUTPUTS };
+enum output { NUMBERS, NAMES, PARENTS, STARTS, LENGTHS, DECODED, ITEMS, COUNTS, OUTPUTS };
 
 struct text {
     const uint8_t *bytes;

@@ -10,11 +10,14 @@
 
 enum { STACK = 1 << 26, PAINT = 0xC3 };
 
-static uint16_t numbers[LOZHYMET_MAX_ROWS], parents[LOZHYMET_MAX_ROWS], lengths[LOZHYMET_MAX_ROWS], items[LOZHYMET_MAX_PATHS * LOZHYMET_MAX_ROWS];
+static uint16_t numbers[LOZHYMET_MAX_ROWS], parents[LOZHYMET_MAX_ROWS], lengths[LOZHYMET_MAX_ROWS], decoded[LOZHYMET_MAX_ROWS];
+static uint16_t items[LOZHYMET_MAX_PATHS * LOZHYMET_MAX_ROWS];
 static uint8_t names[LOZHYMET_MAX_ROWS], journal[LOZHYMET_MAX_JOURNAL_BYTES], extract[2 * LOZHYMET_MAX_JOURNAL_BYTES];
 static uint32_t starts[LOZHYMET_MAX_ROWS], counts[LOZHYMET_MAX_PATHS];
 static size_t journal_len, extract_len;
-#define COLUMNS numbers, LOZHYMET_MAX_ROWS, names, LOZHYMET_MAX_ROWS, parents, LOZHYMET_MAX_ROWS, starts, LOZHYMET_MAX_ROWS, lengths, LOZHYMET_MAX_ROWS
+#define COLUMNS \
+    numbers, LOZHYMET_MAX_ROWS, names, LOZHYMET_MAX_ROWS, parents, LOZHYMET_MAX_ROWS, starts, LOZHYMET_MAX_ROWS, lengths, LOZHYMET_MAX_ROWS, \
+        decoded, LOZHYMET_MAX_ROWS
 
 static const char schema[] = "<!ELEMENT a ((((((((b|c)*)?)+)*)?)+)*)?><!ELEMENT b (c?)><!ELEMENT c (#PCDATA)>";
 /* the last path has as many steps as there may be, outside and inside brackets, each of an axis that is rewritten to four */

@@ -13,7 +13,7 @@ ROOT = os.path.join(os.path.dirname(os.path.abspath(__file__)), "..", "..")
 sys.path.insert(0, os.path.join(ROOT, "tests"))
 from vector_cases import cases as vector_cases  # noqa: E402
 
-WIDTHS = [ctypes.c_uint16, ctypes.c_uint8, ctypes.c_uint16, ctypes.c_uint32, ctypes.c_uint16]
+WIDTHS = [ctypes.c_uint16, ctypes.c_uint8, ctypes.c_uint16, ctypes.c_uint32, ctypes.c_uint16, ctypes.c_uint16]
 MISSPELT = b"<"  # a journal that is refused by 11 at 0, so that a schema and a bundle that are accepted show
 NO_ROWS = bytes([3, 0, 2, 0, 0])
 ANY = b"self::node()\n"
@@ -122,9 +122,9 @@ def outcome(library, case):
         library.accepts(*texts)
         return "ok %d\n" % len(library.select(*texts, 0, NO_ROWS)[1][1])
     if does == "journal":
-        return lines(library.make(texts[0], ANY, texts[1], limits[1] if limits else None)[0], range(5))
+        return lines(library.make(texts[0], ANY, texts[1], limits[1] if limits else None)[0], range(6))
     if does == "read-extract":
-        return lines(library.select(texts[0], ANY, 0, texts[1], limits[1:])[0], (0, 1, 2, 4))
+        return lines(library.select(texts[0], ANY, 0, texts[1], limits[1:])[0], (0, 1, 2, 4, 5))
     if does == "listing":
         return listing(library, *texts)
     extract = texts[2] if does == "select-extract" else library.make(*texts)[1]

@@ -12,16 +12,16 @@ struct outcome {
     uint64_t number, place, size, other;
 };
 struct outcome test_cut_table(const uint8_t *, size_t, size_t, const uint16_t *, size_t, const uint8_t *, size_t, const uint16_t *, size_t,
-                              const uint32_t *, size_t, const uint16_t *, size_t, size_t, uint64_t, uint16_t *, size_t, uint8_t *, size_t, uint16_t *, size_t,
-                              uint32_t *, size_t, uint16_t *, size_t);
+                              const uint32_t *, size_t, const uint16_t *, size_t, const uint16_t *, size_t, size_t, uint64_t, uint16_t *, size_t,
+                              uint8_t *, size_t, uint16_t *, size_t, uint32_t *, size_t, uint16_t *, size_t, uint16_t *, size_t);
 struct outcome test_row_chain(const uint8_t *, size_t, size_t, const uint16_t *, size_t, const uint8_t *, size_t, const uint16_t *, size_t,
-                              const uint32_t *, size_t, const uint16_t *, size_t, size_t, size_t, uint8_t *, size_t);
+                              const uint32_t *, size_t, const uint16_t *, size_t, const uint16_t *, size_t, size_t, size_t, uint8_t *, size_t);
 
 static const char schema[] = "<!ELEMENT a (a|b)*><!ELEMENT b (#PCDATA)>";
 static const char *const names[] = {"a", "b"};
 
 struct columns {
-    uint16_t numbers[ROWS], parents[ROWS], lengths[ROWS];
+    uint16_t numbers[ROWS], parents[ROWS], lengths[ROWS], decoded[ROWS];
     uint8_t codes[ROWS];
     uint32_t starts[ROWS];
 };
@@ -41,7 +41,7 @@ static void make(void) {
         row++;
         if (codes[row - 1] == 1 && row < ROWS) {
             numbers[row] = row, parents[row] = row - 1, codes[row] = TEXTS + 1;
-            starts[row] = state % 8000, lengths[row] = 1 + state % 20;
+            starts[row] = state % 8000, lengths[row] = decoded[row] = 1 + state % 20;
             row++;
         }
     }
@@ -57,20 +57,21 @@ static size_t plain_cut(uint64_t word) {
             positions[row] = 0;
             continue;
         }
-        plain.numbers[n] = numbers[row], plain.codes[n] = codes[row], plain.starts[n] = starts[row], plain.lengths[n] = lengths[row];
+        plain.numbers[n] = numbers[row], plain.codes[n] = codes[row], plain.starts[n] = starts[row];
+        plain.lengths[n] = lengths[row], plain.decoded[n] = decoded[row];
         positions[row] = n + 1;
         plain.parents[n] = positions[parent] - 1;
         n++;
     }
     memset(plain.numbers + n, 0, (ROWS - n) * 2), memset(plain.codes + n, 0, ROWS - n), memset(plain.parents + n, 0, (ROWS - n) * 2);
-    memset(plain.starts + n, 0, (ROWS - n) * 4), memset(plain.lengths + n, 0, (ROWS - n) * 2);
+    memset(plain.starts + n, 0, (ROWS - n) * 4), memset(plain.lengths + n, 0, (ROWS - n) * 2), memset(plain.decoded + n, 0, (ROWS - n) * 2);
     return n;
 }
 
 static size_t proved_cut(uint64_t word) {
     return test_cut_table((const uint8_t *)schema, sizeof schema - 1, sizeof schema - 1, numbers, ROWS, codes, ROWS, parents, ROWS, starts, ROWS,
-                          lengths, ROWS, ROWS, word, proved.numbers, ROWS, proved.codes, ROWS, proved.parents, ROWS, proved.starts, ROWS, proved.lengths,
-                          ROWS)
+                          lengths, ROWS, decoded, ROWS, ROWS, word, proved.numbers, ROWS, proved.codes, ROWS, proved.parents, ROWS, proved.starts, ROWS,
+                          proved.lengths, ROWS, proved.decoded, ROWS)
         .size;
 }
 
@@ -93,7 +94,7 @@ static size_t plain_row(uint64_t row) {
 
 static size_t proved_row(uint64_t row) {
     return test_row_chain((const uint8_t *)schema, sizeof schema - 1, sizeof schema - 1, numbers, ROWS, codes, ROWS, parents, ROWS, starts, ROWS,
-                          lengths, ROWS, ROWS, row, proved_chain, CHAIN)
+                          lengths, ROWS, decoded, ROWS, ROWS, row, proved_chain, CHAIN)
         .size;
 }
 

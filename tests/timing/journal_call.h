@@ -11,11 +11,11 @@ struct outcome {
 };
 struct outcome test_read_schema(const uint8_t *text, size_t, uint8_t *record, size_t);
 struct outcome test_read_journal(const uint8_t *record, size_t, size_t record_size, const uint8_t *text, size_t, uint16_t *numbers, size_t, uint8_t *names,
-    size_t, uint16_t *parents, size_t, uint32_t *starts, size_t, uint16_t *lengths, size_t);
+    size_t, uint16_t *parents, size_t, uint32_t *starts, size_t, uint16_t *lengths, size_t, uint16_t *decoded, size_t);
 
 struct answer { uint64_t number, place, rows; };
 
-struct table { uint16_t numbers[CELLS], parents[CELLS], lengths[CELLS]; uint8_t names[CELLS]; uint32_t starts[CELLS]; };
+struct table { uint16_t numbers[CELLS], parents[CELLS], lengths[CELLS], decoded[CELLS]; uint8_t names[CELLS]; uint32_t starts[CELLS]; };
 
 static struct table ours, theirs;
 
@@ -30,7 +30,7 @@ static struct answer read_proved(const unsigned char *schema, int schema_size, c
         last_size = schema_size;
     }
     struct outcome o = test_read_journal(record, record_size, record_size, journal, size, ours.numbers, cells, ours.names, cells, ours.parents, cells,
-        ours.starts, cells, ours.lengths, cells);
+        ours.starts, cells, ours.lengths, cells, ours.decoded, cells);
     return (struct answer){o.number, o.place, o.size};
 }
 
@@ -41,12 +41,13 @@ static void clear(struct table *t, int from, int cells) {
     memset(t->parents + from, 0, (cells - from) * sizeof *t->parents);
     memset(t->starts + from, 0, (cells - from) * sizeof *t->starts);
     memset(t->lengths + from, 0, (cells - from) * sizeof *t->lengths);
+    memset(t->decoded + from, 0, (cells - from) * sizeof *t->decoded);
 }
 
 static struct answer read_plain(const unsigned char *schema, int schema_size, const unsigned char *journal, int size, int cells) {
     static struct compiled c;
     static struct schema record;
-    struct columns out = {theirs.numbers, theirs.names, theirs.parents, theirs.starts, theirs.lengths, cells};
+    struct columns out = {theirs.numbers, theirs.names, theirs.parents, theirs.starts, theirs.lengths, theirs.decoded, cells};
     int where = 0, number = read_schema(schema, schema_size, &where, &record);
     if (!number) {
         compile(&c);
@@ -59,5 +60,5 @@ static struct answer read_plain(const unsigned char *schema, int schema_size, co
 static int same_tables(int cells) {
     return !memcmp(ours.numbers, theirs.numbers, cells * sizeof *ours.numbers) && !memcmp(ours.names, theirs.names, cells * sizeof *ours.names) &&
         !memcmp(ours.parents, theirs.parents, cells * sizeof *ours.parents) && !memcmp(ours.starts, theirs.starts, cells * sizeof *ours.starts) &&
-        !memcmp(ours.lengths, theirs.lengths, cells * sizeof *ours.lengths);
+        !memcmp(ours.lengths, theirs.lengths, cells * sizeof *ours.lengths) && !memcmp(ours.decoded, theirs.decoded, cells * sizeof *ours.decoded);
 }

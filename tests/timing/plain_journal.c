@@ -21,7 +21,7 @@ static unsigned char *bytes(unsigned *size) {
 }
 
 int main(void) {
-    static uint16_t numbers[1 << 17], parents[1 << 17], lengths[1 << 17];
+    static uint16_t numbers[1 << 17], parents[1 << 17], lengths[1 << 17], decoded[1 << 17];
     static uint8_t names_of_rows[1 << 17];
     static uint32_t starts[1 << 17];
     static struct compiled c;
@@ -30,7 +30,7 @@ int main(void) {
     for (;;) {
         unsigned limit = four(), rows = four(), schema_size, size;
         unsigned char *schema = bytes(&schema_size), *journal = bytes(&size);
-        struct columns out = {numbers, names_of_rows, parents, starts, lengths, rows};
+        struct columns out = {numbers, names_of_rows, parents, starts, lengths, decoded, rows};
         int where, number = read_schema(schema, schema_size, &where, &record);
         if (!number) {
             compile(&c);
@@ -39,7 +39,8 @@ int main(void) {
         if (number) printf("refused %d at %d\n", number, where);
         else {
             printf("ok %d\n", where);
-            for (int k = 0; k < where; k++) printf("%d %d %d %d %d\n", numbers[k], names_of_rows[k], parents[k], starts[k], lengths[k]);
+            for (int k = 0; k < where; k++)
+                printf("%d %d %d %d %d %d\n", numbers[k], names_of_rows[k], parents[k], starts[k], lengths[k], decoded[k]);
         }
         free(schema);
         free(journal);

@@ -102,7 +102,7 @@ static void compile(struct compiled *c) {
     }
 }
 
-struct columns { uint16_t *numbers; uint8_t *names; uint16_t *parents; uint32_t *starts; uint16_t *lengths; int size; };
+struct columns { uint16_t *numbers; uint8_t *names; uint16_t *parents; uint32_t *starts; uint16_t *lengths, *decoded; int size; };
 
 struct level { const unsigned char *name; int size, element, start, row, begun, fits; uint64_t next, reached; };
 
@@ -130,6 +130,7 @@ static void row(struct reading *r, int code, int parent, int start, int length) 
     r->out->parents[k] = parent;
     r->out->starts[k] = start;
     r->out->lengths[k] = length;
+    r->out->decoded[k] = length;
 }
 
 static void child(struct reading *r, struct level *l, int e) {

@@ -5,7 +5,7 @@
 enum { MAX_ROWS = 65535, TEXTS = 32, MAX_DEPTH = 64, MAX_TEXT = 4096, MAX_NAMES = 32 };
 
 static unsigned char codes[MAX_ROWS];
-static unsigned short numbers[MAX_ROWS], parents[MAX_ROWS], lengths[MAX_ROWS];
+static unsigned short numbers[MAX_ROWS], parents[MAX_ROWS], lengths[MAX_ROWS], decoded[MAX_ROWS];
 static unsigned starts[MAX_ROWS];
 static unsigned long long held[MAX_NAMES];
 
@@ -26,7 +26,7 @@ static void read_schema(const unsigned char *s, int size) {
 
 static int well_formed(int count) {
     if (count == 0) return 1;
-    if (numbers[0] || codes[0] || parents[0] || starts[0] || lengths[0]) return 0;
+    if (numbers[0] || codes[0] || parents[0] || starts[0] || lengths[0] || decoded[0]) return 0;
     int element = 0, depth = 1;
     for (int row = 1; row < count; row++) {
         int parent = parents[row], code = codes[row];
@@ -38,10 +38,10 @@ static int well_formed(int count) {
         if (numbers[row] <= numbers[row - 1] || numbers[row] == 65535) return 0;
         if (code >= 64 || !(held[codes[element]] >> code & 1)) return 0;
         if (code < TEXTS) {
-            if (depth == MAX_DEPTH || starts[row] || lengths[row]) return 0;
+            if (depth == MAX_DEPTH || starts[row] || lengths[row] || decoded[row]) return 0;
             element = row;
             depth++;
-        } else if (codes[row - 1] >= TEXTS || lengths[row] < 1 || lengths[row] > MAX_TEXT)
+        } else if (codes[row - 1] >= TEXTS || lengths[row] > MAX_TEXT || decoded[row] < 1 || decoded[row] > lengths[row])
             return 0;
     }
     return 1;

@@ -73,7 +73,7 @@ static const struct path paths[BUNDLES][PATHS] = { {
         { { PRECEDING_SIBLING, NODE } } } },
 } };
 
-static uint16_t numbers[ROWS], parents[ROWS], lengths[ROWS], items[CELLS], plain_items[CELLS];
+static uint16_t numbers[ROWS], parents[ROWS], lengths[ROWS], decoded[ROWS], items[CELLS], plain_items[CELLS];
 static uint32_t starts[ROWS], counts[PATHS], plain_counts[PATHS];
 static uint8_t codes[ROWS], columns[4][ROWS];
 static int rows, chosen; /* the bundle that is timed */
@@ -198,15 +198,15 @@ static void read_records(void) {
 }
 
 static size_t proved(void) {
-    return test_select_nodes(RECORDS, 0, numbers, rows, codes, rows, parents, rows, starts, rows, lengths, rows, rows, (const uint8_t *)"x", 1, items,
-        CELLS, counts, PATHS).size;
+    return test_select_nodes(RECORDS, 0, numbers, rows, codes, rows, parents, rows, starts, rows, lengths, rows, decoded, rows, rows, (const uint8_t *)"x",
+        1, items, CELLS, counts, PATHS).size;
 }
 
 /* ---- a table: trays of wells of images, some of each part missing */
 static unsigned seed = 12345;
 static unsigned random_below(unsigned n) { seed = seed * 1103515245u + 12345u; return (seed >> 16) % n; }
 static int add(int code, int parent) { codes[rows] = code; parents[rows] = parent; numbers[rows] = rows; return rows++; }
-static void add_text(int code, int parent) { lengths[add(32 + code, add(code, parent))] = 1; }
+static void add_text(int code, int parent) { int row = add(32 + code, add(code, parent)); lengths[row] = decoded[row] = 1; }
 
 static void fill_table(void) {
     add(JOURNAL, 0);

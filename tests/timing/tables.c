@@ -12,7 +12,7 @@ static int two(const unsigned char *p) { return p[0] * 256 + p[1]; }
 static int texts_pass(int count, const unsigned char *text, unsigned long size) {
     for (int row = 0; row < count; row++) {
         if (codes[row] < TEXTS) continue;
-        if (starts[row] > size || size - starts[row] < lengths[row]) return 0;
+        if (starts[row] > size || size - starts[row] < lengths[row] || decoded[row] != lengths[row]) return 0;
         const unsigned char *p = text + starts[row];
         for (int i = 0; i < lengths[row]; i++)
             if (foreign[p[i]]) return 0;
@@ -29,10 +29,10 @@ int main(void) {
         at += 12;
         read_schema(input + at, schema);
         at += schema;
-        for (int row = 0; row < cells; row++, at += 11) {
+        for (int row = 0; row < cells; row++, at += 13) {
             const unsigned char *p = input + at;
             numbers[row] = two(p), codes[row] = p[2], parents[row] = two(p + 3);
-            starts[row] = (unsigned)two(p + 5) << 16 | two(p + 7), lengths[row] = two(p + 9);
+            starts[row] = (unsigned)two(p + 5) << 16 | two(p + 7), lengths[row] = two(p + 9), decoded[row] = two(p + 11);
         }
         int passed = 1;
         for (int i = 0; i < times; i++) {

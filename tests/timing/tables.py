@@ -12,32 +12,33 @@ ROWS = 60000
 
 
 def mixed():
-    rows, line, state = [(0, 0, 0, 0, 0)], [0], 1
+    rows, line, state = [(0, 0, 0, 0, 0, 0)], [0], 1
     while len(rows) < ROWS:
         state = (state * 1103515245 + 12345) % 2**31
         del line[1 + (state >> 16) % len(line):]
         number = len(rows)
-        rows.append((number, 0, line[-1], 0, 0) if state >> 8 & 1 else (number, 1, line[-1], 0, 0))
+        rows.append((number, 0 if state >> 8 & 1 else 1, line[-1], 0, 0, 0))
         if rows[-1][1] == 1:
-            rows.append((number + 1, TEXTS + 1, number, state % 8000, 1 + state % 20))
+            size = 1 + state % 20
+            rows.append((number + 1, TEXTS + 1, number, state % 8000, size, size))
         elif len(line) < 60:
             line.append(number)
     return rows[:ROWS], "x" * 8100
 
 
 def comb():
-    rows = [(0, 0, 0, 0, 0)]
+    rows = [(0, 0, 0, 0, 0, 0)]
     while len(rows) < ROWS:
         number = len(rows)
-        rows.append((number, 0, 0 if number % 63 == 1 else number - 1, 0, 0))
+        rows.append((number, 0, 0 if number % 63 == 1 else number - 1, 0, 0, 0))
     return rows, ""
 
 
 def texts():
-    rows = [(0, 0, 0, 0, 0)]
+    rows = [(0, 0, 0, 0, 0, 0)]
     while len(rows) + 1 < ROWS:
         number = len(rows)
-        rows += [(number, 1, 0, 0, 0), (number + 1, TEXTS + 1, number, 0, 4096)]
+        rows += [(number, 1, 0, 0, 0, 0), (number + 1, TEXTS + 1, number, 0, 4096, 4096)]
     return rows, "x" * 4096
 
 

@@ -1,5 +1,6 @@
 // An alternative of a condition of a compiled path judged for all rows at once, from its last step back.
 ghost use mathlib.Core.Path.{_≡_};
+ghost use Rattle.axis_passes.specs.alternative_steps.Texts.{HeldTexts};
 ghost use Rattle.axis_passes.specs.alternative_steps.Alternatives.{AlternativePass};
 ghost use Rattle.axis_passes.specs.steps.Tests.{namesIn};
 ghost use Rattle.cells.specs.row_sets.Columns.{union};
@@ -13,9 +14,14 @@ use compiled_paths::STEPS;
 use compiled_paths::axis_number;
 
 // Adds the rows from which `size` steps, the first of them at `first`, lead to some row; `steps` and `next` are scratch.
+// The texts of the rows, `starts`, `lengths` and `decoded` in `lent`, are here for conditions that compare them: none does.
 pub fn alternative<'a>(
     parents: &[u16],
     codes: &[u8],
+    starts: &[u32],
+    lengths: &[u16],
+    decoded: &[u16],
+    lent: &[u8],
     axes: &'a [u8; STEPS],
     tests: &'a [u8; STEPS],
     first: usize,
@@ -24,7 +30,7 @@ pub fn alternative<'a>(
     steps: &mut [u8],
     next: &mut [u8],
 )
-    requires { ⌜ AlternativePass (now parents) (now codes) first size (now held) (now steps) (now next) ⌝ }
+    requires { ⌜ AlternativePass (now parents) (now codes) first size (now held) (now steps) (now next) × HeldTexts parents starts lengths decoded lent ⌝ }
     ensures { λ _. ⌜ now (held .exit) ≡ union (now (held .entry)) (alternativeMarks (now (parents .entry)) (namesIn (now (codes .entry))) (plainIn (now (axes .entry)) (now (tests .entry)) size first)) ⌝ }
 {
     fill(steps, MARKED);

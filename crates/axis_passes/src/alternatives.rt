@@ -1,6 +1,7 @@
 // The alternatives of a condition judged for all rows at once.
 ghost use mathlib.Core.Path.{_≡_};
 ghost use lib.ListN.{length};
+ghost use Rattle.axis_passes.specs.alternative_steps.Texts.{HeldTexts};
 ghost use Rattle.axis_passes.specs.alternatives.Alternatives.{ConditionPass};
 ghost use Rattle.axis_passes.specs.steps.Tests.{namesIn};
 ghost use Rattle.compiled_paths.specs.Columns.{alternativesIn};
@@ -15,6 +16,10 @@ use compiled_paths::first_size;
 pub fn condition<'a>(
     parents: &[u16],
     codes: &[u8],
+    starts: &[u32],
+    lengths: &[u16],
+    decoded: &[u16],
+    lent: &[u8],
     axes: &'a [u8; STEPS],
     tests: &'a [u8; STEPS],
     first: usize,
@@ -23,7 +28,7 @@ pub fn condition<'a>(
     steps: &mut [u8],
     next: &mut [u8],
 )
-    requires { ⌜ ConditionPass (now parents) (now codes) first count (now held) (now steps) (now next) ⌝ }
+    requires { ⌜ ConditionPass (now parents) (now codes) first count (now held) (now steps) (now next) × HeldTexts parents starts lengths decoded lent ⌝ }
     ensures { λ _. ⌜ now (held .exit) ≡ alternativesMarks (now (parents .entry)) (namesIn (now (codes .entry))) (noMarks (length (now (parents .entry)))) (alternativesIn (now (axes .entry)) (now (tests .entry)) count first) ⌝ }
 {
     fill(held, UNMARKED);
@@ -31,7 +36,21 @@ pub fn condition<'a>(
     let mut k = first;
     while k < end {
         let size = first_size(axes, k, end - k);
-        alternative(parents, codes, axes, tests, k, size, held, steps, next);
+        alternative(
+            parents,
+            codes,
+            starts,
+            lengths,
+            decoded,
+            lent,
+            axes,
+            tests,
+            k,
+            size,
+            held,
+            steps,
+            next,
+        );
         k += size;
     }
 }

@@ -1,5 +1,6 @@
 // A condition of a compiled path judged for all rows at once.
 ghost use mathlib.Core.Path.{_≡_};
+ghost use Rattle.axis_passes.specs.alternative_steps.Texts.{HeldTexts};
 ghost use Rattle.axis_passes.specs.conditions.Conditions.{KeepPass};
 ghost use Rattle.axis_passes.specs.steps.Tests.{namesIn};
 ghost use Rattle.cells.specs.row_sets.Columns.{intersection};
@@ -15,6 +16,10 @@ use compiled_paths::STEPS;
 pub fn keep<'a>(
     parents: &[u16],
     codes: &[u8],
+    starts: &[u32],
+    lengths: &[u16],
+    decoded: &[u16],
+    lent: &[u8],
     axes: &'a [u8; STEPS],
     tests: &'a [u8; STEPS],
     first: usize,
@@ -24,12 +29,26 @@ pub fn keep<'a>(
     steps: &mut [u8],
     next: &mut [u8],
 )
-    requires { ⌜ KeepPass (now parents) (now codes) first count (now marks) (now held) (now steps) (now next) ⌝ }
+    requires { ⌜ KeepPass (now parents) (now codes) first count (now marks) (now held) (now steps) (now next) × HeldTexts parents starts lengths decoded lent ⌝ }
     ensures { λ _. ⌜ now (marks .exit) ≡ intersection (now (marks .entry)) (conditionMarks (now (parents .entry)) (namesIn (now (codes .entry))) (conditionIn (now (axes .entry)) (now (tests .entry)) count first)) ⌝ }
 {
     if count != 0 {
         if any_marked(&marks[..]) {
-            condition(parents, codes, axes, tests, first, count, held, steps, next);
+            condition(
+                parents,
+                codes,
+                starts,
+                lengths,
+                decoded,
+                lent,
+                axes,
+                tests,
+                first,
+                count,
+                held,
+                steps,
+                next,
+            );
             intersect(&held[..], marks);
         }
     }

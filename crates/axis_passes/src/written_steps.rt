@@ -2,6 +2,7 @@
 ghost use mathlib.Core.Path.{_≡_};
 ghost use Prim.Native.Nat.{_-_};
 ghost use lib.ListN.{length};
+ghost use Rattle.axis_passes.specs.alternative_steps.Texts.{HeldTexts};
 ghost use Rattle.axis_passes.specs.steps.Tests.{namesIn};
 ghost use Rattle.axis_passes.specs.written_steps.Steps.{StepAtPass, FirstAtPass};
 ghost use Rattle.cells.specs.row_sets.Columns.{intersection};
@@ -30,6 +31,10 @@ pub fn range_size(start: u16, end: u16) -> usize
 fn keep_at<'a>(
     parents: &[u16],
     codes: &[u8],
+    starts: &[u32],
+    lengths: &[u16],
+    decoded: &[u16],
+    lent: &[u8],
     axes: &'a [u8; STEPS],
     tests: &'a [u8; STEPS],
     conditions: &'a [u16; CONDITION_STARTS],
@@ -39,7 +44,7 @@ fn keep_at<'a>(
     steps: &mut [u8],
     next: &mut [u8],
 )
-    requires { ⌜ StepAtPass (now parents) (now codes) (now conditions) k (now marks) (now held) (now steps) (now next) ⌝ }
+    requires { ⌜ StepAtPass (now parents) (now codes) (now conditions) k (now marks) (now held) (now steps) (now next) × HeldTexts parents starts lengths decoded lent ⌝ }
     ensures { λ _. ⌜ now (marks .exit) ≡ intersection (now (marks .entry)) (conditionMarks (now (parents .entry)) (namesIn (now (codes .entry))) (entryCondition axes tests conditions k)) ⌝ }
 {
     let start = conditions[k];
@@ -47,6 +52,10 @@ fn keep_at<'a>(
     keep(
         parents,
         codes,
+        starts,
+        lengths,
+        decoded,
+        lent,
         axes,
         tests,
         start as usize,
@@ -62,6 +71,10 @@ fn keep_at<'a>(
 pub fn step<'a>(
     parents: &[u16],
     codes: &[u8],
+    starts: &[u32],
+    lengths: &[u16],
+    decoded: &[u16],
+    lent: &[u8],
     axes: &'a [u8; STEPS],
     tests: &'a [u8; STEPS],
     conditions: &'a [u16; CONDITION_STARTS],
@@ -71,7 +84,7 @@ pub fn step<'a>(
     steps: &mut [u8],
     next: &mut [u8],
 )
-    requires { ⌜ StepAtPass (now parents) (now codes) (now conditions) k (now marks) (now held) (now steps) (now next) ⌝ }
+    requires { ⌜ StepAtPass (now parents) (now codes) (now conditions) k (now marks) (now held) (now steps) (now next) × HeldTexts parents starts lengths decoded lent ⌝ }
     ensures { λ _. ⌜ now (marks .exit) ≡ stepMarks (now (parents .entry)) (namesIn (now (codes .entry))) (stepAt (now (axes .entry)) (now (tests .entry)) (now (conditions .entry)) k) (now (marks .entry)) ⌝ }
 {
     let axis = axis_number(axes[k]);
@@ -79,6 +92,10 @@ pub fn step<'a>(
     keep_at(
         parents,
         codes,
+        starts,
+        lengths,
+        decoded,
+        lent,
         axes,
         tests,
         conditions,
@@ -94,6 +111,10 @@ pub fn step<'a>(
 pub fn first_step<'a>(
     parents: &[u16],
     codes: &[u8],
+    starts: &[u32],
+    lengths: &[u16],
+    decoded: &[u16],
+    lent: &[u8],
     axes: &'a [u8; STEPS],
     tests: &'a [u8; STEPS],
     conditions: &'a [u16; CONDITION_STARTS],
@@ -103,7 +124,7 @@ pub fn first_step<'a>(
     steps: &mut [u8],
     next: &mut [u8],
 )
-    requires { ⌜ FirstAtPass (now parents) (now codes) (now conditions) k (now marks) (now held) (now steps) (now next) ⌝ }
+    requires { ⌜ FirstAtPass (now parents) (now codes) (now conditions) k (now marks) (now held) (now steps) (now next) × HeldTexts parents starts lengths decoded lent ⌝ }
     ensures { λ _. ⌜ now (marks .exit) ≡ stepMarks (now (parents .entry)) (namesIn (now (codes .entry))) (stepAt (now (axes .entry)) (now (tests .entry)) (now (conditions .entry)) k) (rootMarks (length (now (parents .entry)))) ⌝ }
 {
     let axis = axis_number(axes[k]);
@@ -111,6 +132,10 @@ pub fn first_step<'a>(
     keep_at(
         parents,
         codes,
+        starts,
+        lengths,
+        decoded,
+        lent,
         axes,
         tests,
         conditions,

@@ -1,4 +1,4 @@
-// Rows in five lent columns: put one after the other, as far as the columns have room, and past them zeros.
+// Rows in six lent columns: put one after the other, as far as the columns have room, and past them zeros.
 ghost use mathlib.Core.List.{[]};
 ghost use mathlib.Core.Path.{_≡_};
 ghost use Rattle.cells.specs.columns.Columns.{EqualColumns, cells, withRow};
@@ -7,12 +7,14 @@ ghost use Rattle.table_spec.specs.Columns.{columnsOf};
 use crate::lent;
 use text::limits::MAX_NODES;
 
-// A row, but for its number, as the columns' cells hold it: the code of its name, its parent's row, the start and the length of its text.
+// A row, but for its number, as the columns' cells hold it: the code of its name, its parent's row, the start of its text and
+// its lengths, raw and decoded.
 pub struct RowCells {
     pub name: u8,
     pub parent: u16,
     pub start: u32,
     pub size: u16,
+    pub decoded: u16,
 }
 
 // Every number of a row is below it.
@@ -25,11 +27,12 @@ pub fn put_row(
     parents: &mut [u16],
     starts: &mut [u32],
     lengths: &mut [u16],
+    decoded: &mut [u16],
     r: usize,
     row: RowCells,
 )
-    requires { ⌜ EqualColumns (heldColumns numbers names parents starts lengths) ⌝ }
-    ensures { λ _. ⌜ exitColumns numbers names parents starts lengths ≡ withRow (entryColumns numbers names parents starts lengths) r (cells r row) ⌝ }
+    requires { ⌜ EqualColumns (heldColumns numbers names parents starts lengths decoded) ⌝ }
+    ensures { λ _. ⌜ exitColumns numbers names parents starts lengths decoded ≡ withRow (entryColumns numbers names parents starts lengths decoded) r (cells r row) ⌝ }
 {
     if r < numbers.len() {
         numbers[r] = (r % ROW_LIMIT) as u16;
@@ -37,6 +40,7 @@ pub fn put_row(
         parents[r] = row.parent;
         starts[r] = row.start;
         lengths[r] = row.size;
+        decoded[r] = row.decoded;
     }
 }
 
@@ -47,8 +51,9 @@ pub fn clear(
     parents: &mut [u16],
     starts: &mut [u32],
     lengths: &mut [u16],
+    decoded: &mut [u16],
 )
-    ensures { λ _. ⌜ exitColumns numbers names parents starts lengths ≡ columnsOf (entrySizes numbers names parents starts lengths) [] ⌝ }
+    ensures { λ _. ⌜ exitColumns numbers names parents starts lengths decoded ≡ columnsOf (entrySizes numbers names parents starts lengths decoded) [] ⌝ }
 {
-    lent::clear_columns(numbers, names, parents, starts, lengths, 0);
+    lent::clear_columns(numbers, names, parents, starts, lengths, decoded, 0);
 }

@@ -1,4 +1,4 @@
-// Lent cells cleared from the cell `n` on: a function for each width, and one for the five columns of a table.
+// Lent cells cleared from the cell `n` on: a function for each width, and one for the six columns of a table.
 ghost use Rattle.cells.specs.lent.Cells.{Cleared};
 ghost use Rattle.cells.specs.lent.Columns.{ClearedFrom};
 ghost use Rattle.cells.specs.lent.Ends.{exitColumns, entryColumns};
@@ -42,13 +42,15 @@ pub fn clear_columns(
     parents: &mut [u16],
     starts: &mut [u32],
     lengths: &mut [u16],
+    decoded: &mut [u16],
     n: usize,
 )
-    ensures { λ _. ⌜ ClearedFrom (entryColumns numbers names parents starts lengths) n (exitColumns numbers names parents starts lengths) ⌝ }
+    ensures { λ _. ⌜ ClearedFrom (entryColumns numbers names parents starts lengths decoded) n (exitColumns numbers names parents starts lengths decoded) ⌝ }
 {
     clear_numbers(numbers, n);
     clear_bytes(names, n);
     clear_numbers(parents, n);
     clear_places(starts, n);
     clear_numbers(lengths, n);
+    clear_numbers(decoded, n);
 }

@@ -8,8 +8,9 @@ pub fn equal_sizes(
     parents: usize,
     starts: usize,
     lengths: usize,
+    decoded: usize,
 ) -> bool
-    ensures { λ r. ⌜ r ≡ equalSizes (record { numbers = numbers; names = codes; parents = parents; starts = starts; lengths = lengths }) ⌝ }
+    ensures { λ r. ⌜ r ≡ equalSizes (record { numbers = numbers; names = codes; parents = parents; starts = starts; lengths = lengths; decoded = decoded }) ⌝ }
 {
     if codes != numbers {
         return false;
@@ -20,5 +21,8 @@ pub fn equal_sizes(
     if starts != numbers {
         return false;
     }
-    lengths == numbers
+    if lengths != numbers {
+        return false;
+    }
+    decoded == numbers
 }

@@ -57,19 +57,29 @@ pub fn chain_lent(
     parents: &[u16],
     starts: &[u32],
     lengths: &[u16],
+    decoded: &[u16],
     count: usize,
     position: usize,
     out: &mut [u8],
 ) -> Verdict
     requires { ⌜ readSchema (now text) ≡ accepted (schemaIn (now text)) ⌝ }
-    ensures { λ r. ⌜ AnsweredSlice (chainHeld (schemaIn (now (text .entry))) (entryTable numbers codes parents starts lengths count) position) r out ⌝ }
+    ensures { λ r. ⌜ AnsweredSlice (chainHeld (schemaIn (now (text .entry))) (entryTable numbers codes parents starts lengths decoded count) position) r out ⌝ }
 {
     let compiled = compile(text);
     let names = compiled.names;
     let entries: Entries = compiled.entries;
     let sets = entries.holds;
     let words = held_words(sets);
-    let held = is_table(numbers, codes, parents, starts, lengths, count, &words);
+    let held = is_table(
+        numbers,
+        codes,
+        parents,
+        starts,
+        lengths,
+        decoded,
+        count,
+        &words,
+    );
     if !has_row(held, count, position) {
         return refuse(out);
     }

@@ -17,11 +17,12 @@ pub fn row_chain(
     parents: &[u16],
     starts: &[u32],
     lengths: &[u16],
+    decoded: &[u16],
     count: usize,
     position: usize,
     out: &mut [u8],
 ) -> Verdict
-    ensures { λ r. ⌜ AnsweredSlice (rowChain (recordWith (schema .bytes) (schema .len)) (entryTable numbers codes parents starts lengths count) position) r out ⌝ }
+    ensures { λ r. ⌜ AnsweredSlice (rowChain (recordWith (schema .bytes) (schema .len)) (entryTable numbers codes parents starts lengths decoded count) position) r out ⌝ }
 {
     if !is_schema_record(schema) {
         return refuse(out);
@@ -35,6 +36,7 @@ pub fn row_chain(
         parents,
         starts,
         lengths,
+        decoded,
         count,
         position,
         out,

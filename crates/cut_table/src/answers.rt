@@ -1,11 +1,10 @@
 // The tests before a table is cut, and the answers of cutting.
 ghost use mathlib.Core.Bool.{cond, _&&_};
-ghost use mathlib.Core.List.{[]};
 ghost use mathlib.Core.Path.{_≡_};
 ghost use lib.Dec.{ltb};
-ghost use Rattle.cells.specs.lent.Ends.{exitColumns, entrySizes};
 ghost use Rattle.cells.specs.verdicts.Verdicts.{refusedBy, answeredOf};
-ghost use Rattle.table_spec.specs.Columns.{equalSizes, columnsOf};
+ghost use Rattle.cut_table.specs.laws.Answers.{RefusedColumns};
+ghost use Rattle.table_spec.specs.Columns.{equalSizes};
 use cells::columns;
 use cells::sizes::equal_sizes;
 use cells::verdicts;
@@ -21,13 +20,14 @@ pub fn may_cut(
     parents: usize,
     starts: usize,
     lengths: usize,
+    decoded: usize,
 ) -> bool
-    ensures { λ r. ⌜ r ≡ (held && equalSizes (record { numbers = numbers; names = codes; parents = parents; starts = starts; lengths = lengths })) ⌝ }
+    ensures { λ r. ⌜ r ≡ (held && equalSizes (record { numbers = numbers; names = codes; parents = parents; starts = starts; lengths = lengths; decoded = decoded })) ⌝ }
 {
     if !held {
         return false;
     }
-    equal_sizes(numbers, codes, parents, starts, lengths)
+    equal_sizes(numbers, codes, parents, starts, lengths, decoded)
 }
 
 // Refusal 1, and no row in the columns.
@@ -37,10 +37,18 @@ pub fn refuse(
     out_parents: &mut [u16],
     out_starts: &mut [u32],
     out_lengths: &mut [u16],
+    out_decoded: &mut [u16],
 ) -> Verdict
-    ensures { λ r. ⌜ (r ≡ refusedBy 1 0) × (exitColumns «out_numbers» «out_names» «out_parents» «out_starts» «out_lengths» ≡ columnsOf (entrySizes «out_numbers» «out_names» «out_parents» «out_starts» «out_lengths») []) ⌝ }
+    ensures { λ r. ⌜ RefusedColumns r «out_numbers» «out_names» «out_parents» «out_starts» «out_lengths» «out_decoded» ⌝ }
 {
-    columns::clear(out_numbers, out_names, out_parents, out_starts, out_lengths);
+    columns::clear(
+        out_numbers,
+        out_names,
+        out_parents,
+        out_starts,
+        out_lengths,
+        out_decoded,
+    );
     verdicts::refused(BAD_RECORD, 0)
 }
 

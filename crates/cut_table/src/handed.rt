@@ -1,5 +1,5 @@
 // Cutting a table that is handed in, under the schema of some sets.
-ghost use Rattle.cut_table.specs.laws.Answers.{cutHeld, AnsweredColumns};
+ghost use Rattle.cut_table.specs.laws.Answers.{HeldCutIn};
 ghost use Rattle.cut_table.specs.schema_sets.Sets.{SetsOf, OfSchema};
 ghost use Rattle.schema_spec.specs.Schemas.{Schema as Elements};
 ghost use Rattle.tables.specs.Handed.{entryTable};
@@ -20,6 +20,7 @@ pub fn cut_lent(
     parents: &[u16],
     starts: &[u32],
     lengths: &[u16],
+    decoded: &[u16],
     count: usize,
     word: u64,
     out_numbers: &mut [u16],
@@ -27,13 +28,23 @@ pub fn cut_lent(
     out_parents: &mut [u16],
     out_starts: &mut [u32],
     out_lengths: &mut [u16],
+    out_decoded: &mut [u16],
 ) -> Verdict
     requires { ⌜ OfSchema sets ⌝ }
-    ensures { λ r. ⌜ ((s : Elements) → SetsOf s sets → AnsweredColumns (cutHeld s (entryTable numbers codes parents starts lengths count) word) r «out_numbers» «out_names» «out_parents» «out_starts» «out_lengths») ⌝ }
+    ensures { λ r. ⌜ ((s : Elements) → SetsOf s sets → HeldCutIn s (entryTable numbers codes parents starts lengths decoded count) word r «out_numbers» «out_names» «out_parents» «out_starts» «out_lengths» «out_decoded») ⌝ }
 {
     let words = sets.words;
     let all: NameSet = sets.all;
-    let held = is_table(numbers, codes, parents, starts, lengths, count, &words);
+    let held = is_table(
+        numbers,
+        codes,
+        parents,
+        starts,
+        lengths,
+        decoded,
+        count,
+        &words,
+    );
     if !may_cut(
         held,
         out_numbers.len(),
@@ -41,8 +52,16 @@ pub fn cut_lent(
         out_parents.len(),
         out_starts.len(),
         out_lengths.len(),
+        out_decoded.len(),
     ) {
-        return refuse(out_numbers, out_names, out_parents, out_starts, out_lengths);
+        return refuse(
+            out_numbers,
+            out_names,
+            out_parents,
+            out_starts,
+            out_lengths,
+            out_decoded,
+        );
     }
     let set = handed_in(word, all);
     cut_first(
@@ -52,11 +71,13 @@ pub fn cut_lent(
         parents,
         starts,
         lengths,
+        decoded,
         count,
         out_numbers,
         out_names,
         out_parents,
         out_starts,
         out_lengths,
+        out_decoded,
     )
 }

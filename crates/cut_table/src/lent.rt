@@ -17,15 +17,17 @@ pub fn cut_first(
     parents: &[u16],
     starts: &[u32],
     lengths: &[u16],
+    decoded: &[u16],
     count: usize,
     out_numbers: &mut [u16],
     out_names: &mut [u8],
     out_parents: &mut [u16],
     out_starts: &mut [u32],
     out_lengths: &mut [u16],
+    out_decoded: &mut [u16],
 ) -> Verdict
-    requires { ⌜ Cuttable (lentTable (now numbers) (now codes) (now parents) (now starts) (now lengths) count) (heldColumns «out_numbers» «out_names» «out_parents» «out_starts» «out_lengths») ⌝ }
-    ensures { λ r. ⌜ CutFirstIn (inSet set) (firstCells count (entryColumns numbers codes parents starts lengths)) «out_numbers» «out_names» «out_parents» «out_starts» «out_lengths» r ⌝ }
+    requires { ⌜ Cuttable (lentTable (now numbers) (now codes) (now parents) (now starts) (now lengths) (now decoded) count) (heldColumns «out_numbers» «out_names» «out_parents» «out_starts» «out_lengths» «out_decoded») ⌝ }
+    ensures { λ r. ⌜ CutFirstIn (inSet set) (firstCells count (entryColumns numbers codes parents starts lengths decoded)) «out_numbers» «out_names» «out_parents» «out_starts» «out_lengths» «out_decoded» r ⌝ }
 {
     let room = out_numbers.len();
     let n = cut(
@@ -35,11 +37,13 @@ pub fn cut_first(
         &parents[..count],
         &starts[..count],
         &lengths[..count],
+        &decoded[..count],
         out_numbers,
         out_names,
         out_parents,
         out_starts,
         out_lengths,
+        out_decoded,
     );
     answer_in(room, n)
 }

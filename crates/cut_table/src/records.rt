@@ -1,7 +1,6 @@
 // Cutting a table that is handed in to the names of 64 bits, into other lent columns.
 ghost use Rattle.compiled_schema.specs.records.Records.{recordWith};
-ghost use Rattle.cut_table.specs.laws.Answers.{AnsweredColumns};
-ghost use Rattle.library_spec.specs.Calls.{tableCut};
+ghost use Rattle.cut_table.specs.laws.Answers.{TableCutIn};
 ghost use Rattle.tables.specs.Handed.{entryTable};
 use crate::answers::refuse;
 use crate::handed::cut_lent;
@@ -18,6 +17,7 @@ pub fn cut_table(
     parents: &[u16],
     starts: &[u32],
     lengths: &[u16],
+    decoded: &[u16],
     count: usize,
     word: u64,
     out_numbers: &mut [u16],
@@ -25,11 +25,19 @@ pub fn cut_table(
     out_parents: &mut [u16],
     out_starts: &mut [u32],
     out_lengths: &mut [u16],
+    out_decoded: &mut [u16],
 ) -> Verdict
-    ensures { λ r. ⌜ AnsweredColumns (tableCut (recordWith (schema .bytes) (schema .len)) (entryTable numbers codes parents starts lengths count) word) r «out_numbers» «out_names» «out_parents» «out_starts» «out_lengths» ⌝ }
+    ensures { λ r. ⌜ TableCutIn (recordWith (schema .bytes) (schema .len)) (entryTable numbers codes parents starts lengths decoded count) word r «out_numbers» «out_names» «out_parents» «out_starts» «out_lengths» «out_decoded» ⌝ }
 {
     if !is_schema_record(schema) {
-        return refuse(out_numbers, out_names, out_parents, out_starts, out_lengths);
+        return refuse(
+            out_numbers,
+            out_names,
+            out_parents,
+            out_starts,
+            out_lengths,
+            out_decoded,
+        );
     }
     let sets = schema_sets(schema);
     cut_lent(
@@ -39,6 +47,7 @@ pub fn cut_table(
         parents,
         starts,
         lengths,
+        decoded,
         count,
         word,
         out_numbers,
@@ -46,5 +55,6 @@ pub fn cut_table(
         out_parents,
         out_starts,
         out_lengths,
+        out_decoded,
     )
 }

@@ -78,7 +78,7 @@ padded-zero zero = refl
 padded-zero (suc n) = refl
 
 root-held : (cols : Columns) → Hold cols [] → Hold cols (elementRow 0 0 0 ∷ [])
-root-held cols h = h ∙ rw (padded-zero (length (cols .numbers)), padded-zero (length (cols .names)), padded-zero (length (cols .parents)), padded-zero (length (cols .starts)), padded-zero (length (cols .lengths)))
+root-held cols h = h ∙ rw (padded-zero (length (cols .numbers)), padded-zero (length (cols .names)), padded-zero (length (cols .parents)), padded-zero (length (cols .starts)), padded-zero (length (cols .lengths)), padded-zero (length (cols .decoded)))
 
 -- a level of zeros is the root's
 root-level : (levels : List ℕ) → getD levels 0 0 ≡ 0 → levelsIn levels 1 ≡ placed 0 0 0 ∷ []
@@ -152,5 +152,5 @@ module _ (bs words levels : List ℕ) (cols : Columns) (p : Progress) (s : Stand
           subst (λ (i : ℕ). RowsRead bs words z cols (found true i)) (sym k) (all-rows done n (h ∙ ap (λ (y : Sizes). columnsOf y done) sizes))
 
 pub same-sizes : (c d : Columns) → length (d .numbers) ≡ length (c .numbers) → length (d .names) ≡ length (c .names) → length (d .parents) ≡ length (c .parents)
-    → length (d .starts) ≡ length (c .starts) → length (d .lengths) ≡ length (c .lengths) → sizesOf d ≡ sizesOf c
-same-sizes c d p q r s t = rw (p, q, r, s, t)
+    → length (d .starts) ≡ length (c .starts) → length (d .lengths) ≡ length (c .lengths) → length (d .decoded) ≡ length (c .decoded) → sizesOf d ≡ sizesOf c
+same-sizes c d p q r s t u = rw (p, q, r, s, t, u)

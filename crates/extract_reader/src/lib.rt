@@ -74,9 +74,10 @@ pub fn read_rows(
     parents: &mut [u16],
     starts: &mut [u32],
     lengths: &mut [u16],
+    decoded: &mut [u16],
 ) -> RowsFound
-    requires { ⌜ EqualColumns (heldColumns numbers names parents starts lengths) × Hold (heldColumns numbers names parents starts lengths) [] ⌝ }
-    ensures { λ r. ⌜ RowsRead (now (extract .entry)) (now (words .entry)) (entrySizes numbers names parents starts lengths) (exitColumns numbers names parents starts lengths) r ⌝ }
+    requires { ⌜ EqualColumns (heldColumns numbers names parents starts lengths decoded) × Hold (heldColumns numbers names parents starts lengths decoded) [] ⌝ }
+    ensures { λ r. ⌜ RowsRead (now (extract .entry)) (now (words .entry)) (entrySizes numbers names parents starts lengths decoded) (exitColumns numbers names parents starts lengths decoded) r ⌝ }
 {
     let mut levels = [0u64; MAX_DEPTH];
     let mut x: Progress = begin(extract);
@@ -90,6 +91,7 @@ pub fn read_rows(
             parents,
             starts,
             lengths,
+            decoded,
             x.carried,
         );
         x = next;

@@ -22,9 +22,10 @@ pub fn read_extract(
     parents: &mut [u16],
     starts: &mut [u32],
     lengths: &mut [u16],
+    decoded: &mut [u16],
 ) -> Verdict
-    ensures { λ r. ⌜ r ≡ verdict (extractRead (recordWith (schema .bytes) (schema .len)) (now (extract .entry)) (entrySizes numbers names parents starts lengths)) ⌝ }
-    ensures { λ r. ⌜ LeftRows (extractRead (recordWith (schema .bytes) (schema .len)) (now (extract .entry))) numbers names parents starts lengths ⌝ }
+    ensures { λ r. ⌜ r ≡ verdict (extractRead (recordWith (schema .bytes) (schema .len)) (now (extract .entry)) (entrySizes numbers names parents starts lengths decoded)) ⌝ }
+    ensures { λ r. ⌜ LeftRows (extractRead (recordWith (schema .bytes) (schema .len)) (now (extract .entry))) numbers names parents starts lengths decoded ⌝ }
 {
     if is_schema_record(schema) {
         if equal_sizes(
@@ -33,11 +34,21 @@ pub fn read_extract(
             parents.len(),
             starts.len(),
             lengths.len(),
+            decoded.len(),
         ) {
             let words = schema_words(schema);
-            return read_extract_table(extract, &words, numbers, names, parents, starts, lengths);
+            return read_extract_table(
+                extract,
+                &words,
+                numbers,
+                names,
+                parents,
+                starts,
+                lengths,
+                decoded,
+            );
         }
     }
-    columns::clear(numbers, names, parents, starts, lengths);
+    columns::clear(numbers, names, parents, starts, lengths, decoded);
     verdicts::refused(BAD_RECORD, 0)
 }

@@ -25,11 +25,12 @@ fn put_row(
     parents: &mut [u16],
     starts: &mut [u32],
     lengths: &mut [u16],
+    decoded: &mut [u16],
     n: usize,
     row: FieldRow,
 )
-    requires { ⌜ EqualColumns (heldColumns numbers names parents starts lengths) ⌝ }
-    ensures { λ _. ⌜ exitColumns numbers names parents starts lengths ≡ withRow (entryColumns numbers names parents starts lengths) n (rowCells row) ⌝ }
+    requires { ⌜ EqualColumns (heldColumns numbers names parents starts lengths decoded) ⌝ }
+    ensures { λ _. ⌜ exitColumns numbers names parents starts lengths decoded ≡ withRow (entryColumns numbers names parents starts lengths decoded) n (rowCells row) ⌝ }
 {
     if n < numbers.len() {
         numbers[n] = row.number;
@@ -37,6 +38,7 @@ fn put_row(
         parents[n] = row.parent;
         starts[n] = row.start;
         lengths[n] = row.size;
+        decoded[n] = row.size;
     }
 }
 
@@ -50,10 +52,11 @@ pub fn read_row(
     parents: &mut [u16],
     starts: &mut [u32],
     lengths: &mut [u16],
+    decoded: &mut [u16],
     carried: Carried,
 ) -> Progress
-    requires { ⌜ Reads (now extract) (now words) (now levels) (heldColumns numbers names parents starts lengths) carried ⌝ }
-    ensures { λ p. ⌜ ReadOn (now (extract .entry)) (now (words .entry)) (carried .at) (now (levels .exit)) (exitColumns numbers names parents starts lengths) p ⌝ }
+    requires { ⌜ Reads (now extract) (now words) (now levels) (heldColumns numbers names parents starts lengths decoded) carried ⌝ }
+    ensures { λ p. ⌜ ReadOn (now (extract .entry)) (now (words .entry)) (carried .at) (now (levels .exit)) (exitColumns numbers names parents starts lengths decoded) p ⌝ }
 {
     match step(extract, words, levels, carried) {
         FieldStep::Wrong => Progress {
@@ -67,7 +70,16 @@ pub fn read_row(
             carried,
         },
         FieldStep::Row { row, next } => {
-            put_row(numbers, names, parents, starts, lengths, carried.rows, row);
+            put_row(
+                numbers,
+                names,
+                parents,
+                starts,
+                lengths,
+                decoded,
+                carried.rows,
+                row,
+            );
             Progress {
                 going: true,
                 whole: false,

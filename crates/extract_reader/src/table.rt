@@ -21,9 +21,10 @@ fn judge(
     parents: &mut [u16],
     starts: &mut [u32],
     lengths: &mut [u16],
+    decoded: &mut [u16],
 ) -> Verdict
-    requires { ⌜ EqualColumns (heldColumns numbers names parents starts lengths) × Hold (heldColumns numbers names parents starts lengths) [] ⌝ }
-    ensures { λ r. ⌜ Judged (now (extract .entry)) (now (words .entry)) (entryColumns numbers names parents starts lengths) (exitColumns numbers names parents starts lengths) r ⌝ }
+    requires { ⌜ EqualColumns (heldColumns numbers names parents starts lengths decoded) × Hold (heldColumns numbers names parents starts lengths decoded) [] ⌝ }
+    ensures { λ r. ⌜ Judged (now (extract .entry)) (now (words .entry)) (entryColumns numbers names parents starts lengths decoded) (exitColumns numbers names parents starts lengths decoded) r ⌝ }
 {
     let size = numbers.len();
     if extract.len() == 0 {
@@ -37,6 +38,7 @@ fn judge(
         parents,
         starts,
         lengths,
+        decoded,
     );
     verdict_of(found, size)
 }
@@ -50,15 +52,25 @@ pub fn read_extract_table(
     parents: &mut [u16],
     starts: &mut [u32],
     lengths: &mut [u16],
+    decoded: &mut [u16],
 ) -> Verdict
-    requires { ⌜ EqualColumns (heldColumns numbers names parents starts lengths) ⌝ }
-    ensures { λ r. ⌜ TableRead (now (extract .entry)) (now (words .entry)) (entryColumns numbers names parents starts lengths) (exitColumns numbers names parents starts lengths) r ⌝ }
+    requires { ⌜ EqualColumns (heldColumns numbers names parents starts lengths decoded) ⌝ }
+    ensures { λ r. ⌜ TableRead (now (extract .entry)) (now (words .entry)) (entryColumns numbers names parents starts lengths decoded) (exitColumns numbers names parents starts lengths decoded) r ⌝ }
 {
-    columns::clear(numbers, names, parents, starts, lengths);
-    let verdict = judge(extract, words, numbers, names, parents, starts, lengths);
+    columns::clear(numbers, names, parents, starts, lengths, decoded);
+    let verdict = judge(
+        extract,
+        words,
+        numbers,
+        names,
+        parents,
+        starts,
+        lengths,
+        decoded,
+    );
     if verdict.number == 0 {
         return verdict;
     }
-    columns::clear(numbers, names, parents, starts, lengths);
+    columns::clear(numbers, names, parents, starts, lengths, decoded);
     verdict
 }

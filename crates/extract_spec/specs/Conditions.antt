@@ -27,6 +27,7 @@ pub record SameButStarts (q r : Row) : Type 0 where
   pub name : q .name ≡ r .name
   pub parent : q .parent ≡ r .parent
   pub size : q .size ≡ r .size
+  pub decoded : q .decoded ≡ r .decoded
 
 -- two tables, each with its text, that are the same but for text starts
 pub data SameTables (lent lent′ : List ℕ) : List Row → List Row → Type 0 where

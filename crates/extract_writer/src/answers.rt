@@ -30,13 +30,14 @@ pub fn write_in_room(
     parents: &[u16],
     starts: &[u32],
     lengths: &[u16],
+    decoded: &[u16],
     out: &mut [u8],
 ) -> Verdict
-    requires { ⌜ TextColumns (now text) (heldColumns numbers codes parents starts lengths) (length (now numbers)) ⌝ }
-    ensures { λ r. ⌜ AnsweredSlice (λ n. inBytes n (extractIn (now (text .entry)) (entryColumns numbers codes parents starts lengths) (marks (length (now (numbers .entry))) (λ r. true)))) r out ⌝ }
+    requires { ⌜ TextColumns (now text) (heldColumns numbers codes parents starts lengths decoded) (length (now numbers)) ⌝ }
+    ensures { λ r. ⌜ AnsweredSlice (λ n. inBytes n (extractIn (now (text .entry)) (entryColumns numbers codes parents starts lengths decoded) (marks (length (now (numbers .entry))) (λ r. true)))) r out ⌝ }
 {
     let room = out.len();
-    let size = write_table(text, numbers, codes, parents, starts, lengths, out);
+    let size = write_table(text, numbers, codes, parents, starts, lengths, decoded, out);
     if room < size {
         return verdicts::refused(TOO_FEW_CELLS, 0);
     }

@@ -1,5 +1,6 @@
 // Writing the extract of a table that is handed in, beside the text that is lent with it.
 pub mod answers;
+pub mod decoded_texts;
 pub mod fields;
 pub mod rows;
 pub mod writing;
@@ -24,11 +25,12 @@ pub fn write_extract(
     parents: &[u16],
     starts: &[u32],
     lengths: &[u16],
+    decoded: &[u16],
     count: usize,
     lent: &[u8],
     out: &mut [u8],
 ) -> Verdict
-    ensures { λ r. ⌜ AnsweredSlice (extractWritten (recordWith (schema .bytes) (schema .len)) (entryTable numbers codes parents starts lengths count) (now (lent .entry))) r out ⌝ }
+    ensures { λ r. ⌜ AnsweredSlice (extractWritten (recordWith (schema .bytes) (schema .len)) (entryTable numbers codes parents starts lengths decoded count) (now (lent .entry))) r out ⌝ }
 {
     if !is_schema_record(schema) {
         return refuse(out);
@@ -40,6 +42,7 @@ pub fn write_extract(
         parents,
         starts,
         lengths,
+        decoded,
         count,
         &words,
         lent,
@@ -53,6 +56,7 @@ pub fn write_extract(
         &parents[..count],
         &starts[..count],
         &lengths[..count],
+        &decoded[..count],
         out,
     )
 }

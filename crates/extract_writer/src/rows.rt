@@ -63,13 +63,14 @@ fn put_row(
     parents: &[u16],
     starts: &[u32],
     lengths: &[u16],
+    decoded: &[u16],
     mark: u8,
     r: usize,
     out: &mut [u8],
     at: usize,
 ) -> usize
-    requires { ⌜ RowPass (now text) (heldColumns numbers names parents starts lengths) mark r (now out) at ⌝ }
-    ensures { λ n. ⌜ StoredAt (now (out .entry)) at (markedField (now (text .entry)) (entryColumns numbers names parents starts lengths) mark r) n (now (out .exit)) ⌝ }
+    requires { ⌜ RowPass (now text) (heldColumns numbers names parents starts lengths decoded) mark r (now out) at ⌝ }
+    ensures { λ n. ⌜ StoredAt (now (out .entry)) at (markedField (now (text .entry)) (entryColumns numbers names parents starts lengths decoded) mark r) n (now (out .exit)) ⌝ }
 {
     if mark != MARKED {
         return at;
@@ -97,11 +98,12 @@ pub fn write_fields(
     parents: &[u16],
     starts: &[u32],
     lengths: &[u16],
+    decoded: &[u16],
     marks: &[u8],
     out: &mut [u8],
 ) -> usize
-    requires { ⌜ FieldsPass (now text) (heldColumns numbers names parents starts lengths) (now marks) (now out) ⌝ }
-    ensures { λ n. ⌜ StoredAt (now (out .entry)) 0 (joined (fieldAt (now (text .entry)) (entryColumns numbers names parents starts lengths)) (now (marks .entry)) (length (now (marks .entry)))) n (now (out .exit)) ⌝ }
+    requires { ⌜ FieldsPass (now text) (heldColumns numbers names parents starts lengths decoded) (now marks) (now out) ⌝ }
+    ensures { λ n. ⌜ StoredAt (now (out .entry)) 0 (joined (fieldAt (now (text .entry)) (entryColumns numbers names parents starts lengths decoded)) (now (marks .entry)) (length (now (marks .entry)))) n (now (out .exit)) ⌝ }
 {
     let mut at = 0;
     let mut r = 0;
@@ -113,6 +115,7 @@ pub fn write_fields(
             parents,
             starts,
             lengths,
+            decoded,
             marks[r],
             r,
             out,

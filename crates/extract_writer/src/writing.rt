@@ -5,7 +5,7 @@ ghost use lib.ListN.{length};
 ghost use Rattle.cells.specs.lent.Ends.{entryColumns, heldColumns};
 ghost use Rattle.cells.specs.row_sets.Columns.{marks};
 ghost use Rattle.extract_writer.specs.rows.Rows.{TextColumns};
-ghost use Rattle.extract_writer.specs.writing.Extract.{extractIn, BytesWritten, ExtractPass, KeptExtract};
+ghost use Rattle.extract_writer.specs.writing.Extract.{extractIn, WrittenIn, ExtractPass, KeptExtract};
 ghost use Rattle.kept_rows.specs.Kept.{inSet, keptMarks, KeptColumns};
 use crate::fields::COUNT_BYTES;
 use crate::fields::put_count;
@@ -26,11 +26,12 @@ fn write_marked(
     parents: &[u16],
     starts: &[u32],
     lengths: &[u16],
+    decoded: &[u16],
     kept: &[u8],
     out: &mut [u8],
 ) -> usize
-    requires { ⌜ ExtractPass (now text) (heldColumns numbers names parents starts lengths) (now kept) ⌝ }
-    ensures { λ n. ⌜ BytesWritten (now (out .entry)) (extractIn (now (text .entry)) (entryColumns numbers names parents starts lengths) (now (kept .entry))) n (now (out .exit)) ⌝ }
+    requires { ⌜ ExtractPass (now text) (heldColumns numbers names parents starts lengths decoded) (now kept) ⌝ }
+    ensures { λ n. ⌜ WrittenIn out (extractIn (now (text .entry)) (entryColumns numbers names parents starts lengths decoded) (now (kept .entry))) n ⌝ }
 {
     let measured = measure(names, lengths, kept);
     let size = measured.bytes + COUNT_BYTES;
@@ -38,7 +39,17 @@ fn write_marked(
         clear_bytes(out, 0);
         return size;
     }
-    let at = write_fields(text, numbers, names, parents, starts, lengths, kept, out);
+    let at = write_fields(
+        text,
+        numbers,
+        names,
+        parents,
+        starts,
+        lengths,
+        decoded,
+        kept,
+        out,
+    );
     put_count(out, at, measured.rows);
     clear_bytes(out, size);
     size
@@ -52,10 +63,11 @@ pub fn write_table(
     parents: &[u16],
     starts: &[u32],
     lengths: &[u16],
+    decoded: &[u16],
     out: &mut [u8],
 ) -> usize
-    requires { ⌜ TextColumns (now text) (heldColumns numbers names parents starts lengths) (length (now numbers)) ⌝ }
-    ensures { λ n. ⌜ BytesWritten (now (out .entry)) (extractIn (now (text .entry)) (entryColumns numbers names parents starts lengths) (marks (length (now (numbers .entry))) (λ r. true))) n (now (out .exit)) ⌝ }
+    requires { ⌜ TextColumns (now text) (heldColumns numbers names parents starts lengths decoded) (length (now numbers)) ⌝ }
+    ensures { λ n. ⌜ WrittenIn out (extractIn (now (text .entry)) (entryColumns numbers names parents starts lengths decoded) (marks (length (now (numbers .entry))) (λ r. true))) n ⌝ }
 {
     let every = [MARKED; MAX_NODES];
     let count = numbers.len();
@@ -66,6 +78,7 @@ pub fn write_table(
         parents,
         starts,
         lengths,
+        decoded,
         &every[..count],
         out,
     )
@@ -80,11 +93,12 @@ fn write_kept_into(
     parents: &[u16],
     starts: &[u32],
     lengths: &[u16],
+    decoded: &[u16],
     kept: &mut [u8],
     out: &mut [u8],
 ) -> usize
-    requires { ⌜ KeptExtract (now text) (heldColumns numbers names parents starts lengths) (now kept) ⌝ }
-    ensures { λ n. ⌜ BytesWritten (now (out .entry)) (extractIn (now (text .entry)) (entryColumns numbers names parents starts lengths) (keptMarks (inSet set) (now (names .entry)) (now (parents .entry)))) n (now (out .exit)) ⌝ }
+    requires { ⌜ KeptExtract (now text) (heldColumns numbers names parents starts lengths decoded) (now kept) ⌝ }
+    ensures { λ n. ⌜ WrittenIn out (extractIn (now (text .entry)) (entryColumns numbers names parents starts lengths decoded) (keptMarks (inSet set) (now (names .entry)) (now (parents .entry)))) n ⌝ }
 {
     mark_kept(set, names, parents, kept);
     write_marked(
@@ -94,6 +108,7 @@ fn write_kept_into(
         parents,
         starts,
         lengths,
+        decoded,
         &kept[..],
         out,
     )
@@ -108,10 +123,11 @@ pub fn write_kept(
     parents: &[u16],
     starts: &[u32],
     lengths: &[u16],
+    decoded: &[u16],
     out: &mut [u8],
 ) -> usize
-    requires { ⌜ TextColumns (now text) (heldColumns numbers names parents starts lengths) (length (now numbers)) × KeptColumns (now names) (now parents) ⌝ }
-    ensures { λ n. ⌜ BytesWritten (now (out .entry)) (extractIn (now (text .entry)) (entryColumns numbers names parents starts lengths) (keptMarks (inSet set) (now (names .entry)) (now (parents .entry)))) n (now (out .exit)) ⌝ }
+    requires { ⌜ TextColumns (now text) (heldColumns numbers names parents starts lengths decoded) (length (now numbers)) × KeptColumns (now names) (now parents) ⌝ }
+    ensures { λ n. ⌜ WrittenIn out (extractIn (now (text .entry)) (entryColumns numbers names parents starts lengths decoded) (keptMarks (inSet set) (now (names .entry)) (now (parents .entry)))) n ⌝ }
 {
     let mut kept = [UNMARKED; MAX_NODES];
     let count = numbers.len();
@@ -123,6 +139,7 @@ pub fn write_kept(
         parents,
         starts,
         lengths,
+        decoded,
         &mut kept[..count],
         out,
     )

@@ -3,8 +3,7 @@
 ghost use Prim.Native.Nat.{_≤_};
 ghost use Rattle.cells.specs.lent.Ends.{exitColumns, entryColumns, heldColumns};
 ghost use Rattle.compiled_paths.specs.Paths.{lentPaths, pathsIn, Shaped, entryPaths};
-ghost use Rattle.host_making.specs.accepted.Making.{AnswerAs, FirstAsked, UnderTexts, WrittenUnderIn};
-ghost use Rattle.hosts.specs.laws.Stages.{madeUnder};
+ghost use Rattle.host_making.specs.accepted.Making.{AnswerAs, FirstAsked, UnderTexts, WrittenUnderIn, madeIn};
 ghost use Rattle.hosts.specs.results.Exits.{MakingExits};
 ghost use Rattle.schema_spec.specs.Records.{schemaIn};
 ghost use Rattle.table_spec.specs.Columns.{columns};
@@ -33,11 +32,12 @@ fn answer(
     parents: &mut [u16],
     starts: &mut [u32],
     lengths: &mut [u16],
+    decoded: &mut [u16],
 ) -> HostResult
-    ensures { λ r. ⌜ AnswerAs rows bytes room (entryColumns numbers names parents starts lengths) (exitColumns numbers names parents starts lengths) r ⌝ }
+    ensures { λ r. ⌜ AnswerAs rows bytes room (entryColumns numbers names parents starts lengths decoded) (exitColumns numbers names parents starts lengths decoded) r ⌝ }
 {
     if room < bytes {
-        columns::clear(numbers, names, parents, starts, lengths);
+        columns::clear(numbers, names, parents, starts, lengths, decoded);
         return results::refused(TOO_FEW_CELLS, 0);
     }
     results::answered(rows, bytes, 0)
@@ -58,10 +58,11 @@ fn write_under<'a>(
     parents: &mut [u16],
     starts: &mut [u32],
     lengths: &mut [u16],
+    decoded: &mut [u16],
     out: &mut [u8],
 ) -> HostResult
-    requires { ⌜ Shaped (lentPaths (now axes) (now tests) (now conditions) (now paths) total) × (compiled .count ≤ maxDeclarations) × FirstAsked (now journal) (heldColumns numbers names parents starts lengths) rows ⌝ }
-    ensures { λ r. ⌜ WrittenUnderIn compiled (entryPaths axes tests conditions paths total) journal rows numbers names parents starts lengths out r ⌝ }
+    requires { ⌜ Shaped (lentPaths (now axes) (now tests) (now conditions) (now paths) total) × (compiled .count ≤ maxDeclarations) × FirstAsked (now journal) (heldColumns numbers names parents starts lengths decoded) rows ⌝ }
+    ensures { λ r. ⌜ WrittenUnderIn compiled (entryPaths axes tests conditions paths total) journal rows numbers names parents starts lengths decoded out r ⌝ }
 {
     let set = needed_under(compiled, axes, tests, conditions, paths, total);
     let bytes = write_kept(
@@ -72,10 +73,21 @@ fn write_under<'a>(
         &parents[..rows],
         &starts[..rows],
         &lengths[..rows],
+        &decoded[..rows],
         out,
     );
     let room = out.len();
-    answer(rows, bytes, room, numbers, names, parents, starts, lengths)
+    answer(
+        rows,
+        bytes,
+        room,
+        numbers,
+        names,
+        parents,
+        starts,
+        lengths,
+        decoded,
+    )
 }
 
 // The journal's rows in the columns, and then the bytes; on refusal no cell is left.
@@ -93,10 +105,11 @@ pub fn make_under<'a>(
     parents: &mut [u16],
     starts: &mut [u32],
     lengths: &mut [u16],
+    decoded: &mut [u16],
     out: &mut [u8],
 ) -> HostResult
-    requires { ⌜ UnderTexts (now schema) compiled (lentPaths (now axes) (now tests) (now conditions) (now paths) total) (heldColumns numbers names parents starts lengths) ⌝ }
-    ensures { λ r. ⌜ MakingExits (λ l. madeUnder (schemaIn (now (schema .entry))) (pathsIn (entryPaths axes tests conditions paths total)) (now (journal .entry)) (l .columns) (l .items)) r numbers names parents starts lengths out ⌝ }
+    requires { ⌜ UnderTexts (now schema) compiled (lentPaths (now axes) (now tests) (now conditions) (now paths) total) (heldColumns numbers names parents starts lengths decoded) ⌝ }
+    ensures { λ r. ⌜ MakingExits (madeIn (schemaIn (now (schema .entry))) (pathsIn (entryPaths axes tests conditions paths total)) (now (journal .entry))) r numbers names parents starts lengths decoded out ⌝ }
 {
     let verdict = read_compiled(
         schema,
@@ -108,6 +121,7 @@ pub fn make_under<'a>(
         parents,
         starts,
         lengths,
+        decoded,
     );
     if verdict.number != 0 {
         clear_bytes(out, 0);
@@ -127,6 +141,7 @@ pub fn make_under<'a>(
         parents,
         starts,
         lengths,
+        decoded,
         out,
     )
 }

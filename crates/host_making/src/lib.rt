@@ -24,9 +24,10 @@ pub fn make_extract(
     parents: &mut [u16],
     starts: &mut [u32],
     lengths: &mut [u16],
+    decoded: &mut [u16],
     out: &mut [u8],
 ) -> HostResult
-    ensures { λ r. ⌜ MakingExits (makeExtract (now (schema .entry)) (now (bundle .entry)) (now (journal .entry))) r numbers names parents starts lengths out ⌝ }
+    ensures { λ r. ⌜ MakingExits (makeExtract (now (schema .entry)) (now (bundle .entry)) (now (journal .entry))) r numbers names parents starts lengths decoded out ⌝ }
 {
     let equal = equal_sizes(
         numbers.len(),
@@ -34,11 +35,12 @@ pub fn make_extract(
         parents.len(),
         starts.len(),
         lengths.len(),
+        decoded.len(),
     );
     let texts = judge_texts(schema, bundle);
     let told = refusal(equal, texts.told);
     if told.number != 0 {
-        return refuse_making(told, numbers, names, parents, starts, lengths, out);
+        return refuse_making(told, numbers, names, parents, starts, lengths, decoded, out);
     }
     make_under(
         schema,
@@ -54,6 +56,7 @@ pub fn make_extract(
         parents,
         starts,
         lengths,
+        decoded,
         out,
     )
 }

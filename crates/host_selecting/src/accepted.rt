@@ -41,11 +41,12 @@ fn answer(
     parents: &mut [u16],
     starts: &mut [u32],
     lengths: &mut [u16],
+    decoded: &mut [u16],
 ) -> HostResult
-    ensures { λ r. ⌜ LastAs rows selected (entryColumns numbers names parents starts lengths) (exitColumns numbers names parents starts lengths) r ⌝ }
+    ensures { λ r. ⌜ LastAs rows selected (entryColumns numbers names parents starts lengths decoded) (exitColumns numbers names parents starts lengths decoded) r ⌝ }
 {
     if selected.number != 0 {
-        columns::clear(numbers, names, parents, starts, lengths);
+        columns::clear(numbers, names, parents, starts, lengths, decoded);
         return results::refused(selected.number, selected.place);
     }
     results::answered(rows, selected.items, selected.counts)
@@ -59,17 +60,19 @@ fn select_under<'a>(
     paths: &'a [u8; PATH_STARTS],
     total: usize,
     place: usize,
+    extract: &[u8],
     rows: usize,
     numbers: &mut [u16],
     names: &mut [u8],
     parents: &mut [u16],
     starts: &mut [u32],
     lengths: &mut [u16],
+    decoded: &mut [u16],
     items: &mut [u16],
     counts: &mut [u32],
 ) -> HostResult
-    requires { ⌜ Shaped (lentPaths (now axes) (now tests) (now conditions) (now paths) total) × (place ≤ total) × RowsAsked (heldColumns numbers names parents starts lengths) rows ⌝ }
-    ensures { λ r. ⌜ SelectedUnderIn (entryPaths axes tests conditions paths total) place rows numbers names parents starts lengths items counts r ⌝ }
+    requires { ⌜ Shaped (lentPaths (now axes) (now tests) (now conditions) (now paths) total) × (place ≤ total) × RowsAsked (heldColumns numbers names parents starts lengths decoded) rows ⌝ }
+    ensures { λ r. ⌜ SelectedUnderIn (entryPaths axes tests conditions paths total) place rows numbers names parents starts lengths decoded items counts r ⌝ }
 {
     let selected = select_table(
         axes,
@@ -81,10 +84,23 @@ fn select_under<'a>(
         &numbers[..rows],
         &names[..rows],
         &parents[..rows],
+        &starts[..rows],
+        &lengths[..rows],
+        &decoded[..rows],
+        extract,
         items,
         counts,
     );
-    answer(rows, selected, numbers, names, parents, starts, lengths)
+    answer(
+        rows,
+        selected,
+        numbers,
+        names,
+        parents,
+        starts,
+        lengths,
+        decoded,
+    )
 }
 
 // The extract's rows in the columns, and then what is selected; on refusal no cell is left.
@@ -102,14 +118,24 @@ pub fn choose_under<'a>(
     parents: &mut [u16],
     starts: &mut [u32],
     lengths: &mut [u16],
+    decoded: &mut [u16],
     items: &mut [u16],
     counts: &mut [u32],
 ) -> HostResult
-    requires { ⌜ UnderSchema compiled (lentPaths (now axes) (now tests) (now conditions) (now paths) total) place (heldColumns numbers names parents starts lengths) ⌝ }
-    ensures { λ r. ⌜ EverySchema compiled (λ s. SelectingExits (chosenUnder s (pathsIn (entryPaths axes tests conditions paths total)) place (now (extract .entry))) r numbers names parents starts lengths items counts) ⌝ }
+    requires { ⌜ UnderSchema compiled (lentPaths (now axes) (now tests) (now conditions) (now paths) total) place (heldColumns numbers names parents starts lengths decoded) ⌝ }
+    ensures { λ r. ⌜ EverySchema compiled (λ s. SelectingExits (chosenUnder s (pathsIn (entryPaths axes tests conditions paths total)) place (now (extract .entry))) r numbers names parents starts lengths decoded items counts) ⌝ }
 {
     let words = words_of(compiled);
-    let verdict = read_extract_table(extract, &words, numbers, names, parents, starts, lengths);
+    let verdict = read_extract_table(
+        extract,
+        &words,
+        numbers,
+        names,
+        parents,
+        starts,
+        lengths,
+        decoded,
+    );
     if verdict.number != 0 {
         clear_numbers(items, 0);
         clear_places(counts, 0);
@@ -122,12 +148,14 @@ pub fn choose_under<'a>(
         paths,
         total,
         place,
+        extract,
         verdict.size,
         numbers,
         names,
         parents,
         starts,
         lengths,
+        decoded,
         items,
         counts,
     )

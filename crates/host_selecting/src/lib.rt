@@ -27,10 +27,11 @@ pub fn select_from(
     parents: &mut [u16],
     starts: &mut [u32],
     lengths: &mut [u16],
+    decoded: &mut [u16],
     items: &mut [u16],
     counts: &mut [u32],
 ) -> HostResult
-    ensures { λ r. ⌜ SelectingExits (selectFrom (now (schema .entry)) (now (bundle .entry)) place (now (extract .entry))) r numbers names parents starts lengths items counts ⌝ }
+    ensures { λ r. ⌜ SelectingExits (selectFrom (now (schema .entry)) (now (bundle .entry)) place (now (extract .entry))) r numbers names parents starts lengths decoded items counts ⌝ }
 {
     let equal = equal_sizes(
         numbers.len(),
@@ -38,6 +39,7 @@ pub fn select_from(
         parents.len(),
         starts.len(),
         lengths.len(),
+        decoded.len(),
     );
     let texts = judge_texts(schema, bundle);
     let passed = passes(equal, place, texts.told.number, texts.paths.count);
@@ -50,6 +52,7 @@ pub fn select_from(
             parents,
             starts,
             lengths,
+            decoded,
             items,
             counts,
         );
@@ -68,6 +71,7 @@ pub fn select_from(
         parents,
         starts,
         lengths,
+        decoded,
         items,
         counts,
     )

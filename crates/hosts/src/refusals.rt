@@ -40,11 +40,12 @@ pub fn refuse_making(
     parents: &mut [u16],
     starts: &mut [u32],
     lengths: &mut [u16],
+    decoded: &mut [u16],
     out: &mut [u8],
 ) -> HostResult
-    ensures { λ r. ⌜ RefusedMaking (told .number) (told .place) r numbers names parents starts lengths out ⌝ }
+    ensures { λ r. ⌜ RefusedMaking (told .number) (told .place) r numbers names parents starts lengths decoded out ⌝ }
 {
-    columns::clear(numbers, names, parents, starts, lengths);
+    columns::clear(numbers, names, parents, starts, lengths, decoded);
     clear_bytes(out, 0);
     result(told)
 }
@@ -57,12 +58,13 @@ pub fn refuse_selecting(
     parents: &mut [u16],
     starts: &mut [u32],
     lengths: &mut [u16],
+    decoded: &mut [u16],
     items: &mut [u16],
     counts: &mut [u32],
 ) -> HostResult
-    ensures { λ r. ⌜ RefusedSelecting (told .number) (told .place) r numbers names parents starts lengths items counts ⌝ }
+    ensures { λ r. ⌜ RefusedSelecting (told .number) (told .place) r numbers names parents starts lengths decoded items counts ⌝ }
 {
-    columns::clear(numbers, names, parents, starts, lengths);
+    columns::clear(numbers, names, parents, starts, lengths, decoded);
     clear_numbers(items, 0);
     clear_places(counts, 0);
     result(told)

@@ -40,11 +40,12 @@ fn read_table(
     parents: &mut [u16],
     starts: &mut [u32],
     lengths: &mut [u16],
+    decoded: &mut [u16],
 ) -> Verdict
-    requires { ⌜ Sized (now sizes) × (count ≤ maxDeclarations) × (limit < noPlace) × EqualColumns (heldColumns numbers names parents starts lengths) ⌝ }
-    ensures { λ r. ⌜ TableReadIn (entrySchema words count kinds firsts lasts nullables elements predecessors sizes) text limit numbers names parents starts lengths r ⌝ }
+    requires { ⌜ Sized (now sizes) × (count ≤ maxDeclarations) × (limit < noPlace) × EqualColumns (heldColumns numbers names parents starts lengths decoded) ⌝ }
+    ensures { λ r. ⌜ TableReadIn (entrySchema words count kinds firsts lasts nullables elements predecessors sizes) text limit numbers names parents starts lengths decoded r ⌝ }
 {
-    columns::clear(numbers, names, parents, starts, lengths);
+    columns::clear(numbers, names, parents, starts, lengths, decoded);
     let verdict = event_loop::judge(
         text,
         limit,
@@ -63,11 +64,12 @@ fn read_table(
         parents,
         starts,
         lengths,
+        decoded,
     );
     if verdict.number == 0 {
         return verdict;
     }
-    columns::clear(numbers, names, parents, starts, lengths);
+    columns::clear(numbers, names, parents, starts, lengths, decoded);
     verdict
 }
 
@@ -82,9 +84,10 @@ pub fn read_compiled(
     parents: &mut [u16],
     starts: &mut [u32],
     lengths: &mut [u16],
+    decoded: &mut [u16],
 ) -> Verdict
-    requires { ⌜ CompiledOf (now schema) (schemaIn (now schema)) compiled × (limit < noPlace) × EqualColumns (heldColumns numbers names parents starts lengths) ⌝ }
-    ensures { λ r. ⌜ CompiledRead (now (schema .entry)) (now (text .entry)) limit (entryColumns numbers names parents starts lengths) (exitColumns numbers names parents starts lengths) r ⌝ }
+    requires { ⌜ CompiledOf (now schema) (schemaIn (now schema)) compiled × (limit < noPlace) × EqualColumns (heldColumns numbers names parents starts lengths decoded) ⌝ }
+    ensures { λ r. ⌜ CompiledRead (now (schema .entry)) (now (text .entry)) limit (entryColumns numbers names parents starts lengths decoded) (exitColumns numbers names parents starts lengths decoded) r ⌝ }
 {
     let count = compiled.count;
     let places = compiled.names;
@@ -116,5 +119,6 @@ pub fn read_compiled(
         parents,
         starts,
         lengths,
+        decoded,
     )
 }

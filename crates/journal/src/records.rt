@@ -25,13 +25,14 @@ fn is_lent(
     parents: usize,
     starts: usize,
     lengths: usize,
+    decoded: usize,
 ) -> bool
-    ensures { λ r. ⌜ r ≡ (passesRecord (schema .bytes) (schema .len) && equalSizes (record { numbers = numbers; names = codes; parents = parents; starts = starts; lengths = lengths })) ⌝ }
+    ensures { λ r. ⌜ r ≡ (passesRecord (schema .bytes) (schema .len) && equalSizes (record { numbers = numbers; names = codes; parents = parents; starts = starts; lengths = lengths; decoded = decoded })) ⌝ }
 {
     if !is_schema_record(schema) {
         return false;
     }
-    equal_sizes(numbers, codes, parents, starts, lengths)
+    equal_sizes(numbers, codes, parents, starts, lengths, decoded)
 }
 
 // The verdict on a journal text, with a row for each node in the columns and then zeros; on refusal every cell is 0.
@@ -43,9 +44,10 @@ pub fn read_journal(
     parents: &mut [u16],
     starts: &mut [u32],
     lengths: &mut [u16],
+    decoded: &mut [u16],
 ) -> Verdict
-    ensures { λ r. ⌜ r ≡ verdict (journalRead (recordWith (schema .bytes) (schema .len)) (now (text .entry)) (entrySizes numbers names parents starts lengths)) ⌝ }
-    ensures { λ _. ⌜ LeftRows (journalRead (recordWith (schema .bytes) (schema .len)) (now (text .entry))) numbers names parents starts lengths ⌝ }
+    ensures { λ r. ⌜ r ≡ verdict (journalRead (recordWith (schema .bytes) (schema .len)) (now (text .entry)) (entrySizes numbers names parents starts lengths decoded)) ⌝ }
+    ensures { λ _. ⌜ LeftRows (journalRead (recordWith (schema .bytes) (schema .len)) (now (text .entry))) numbers names parents starts lengths decoded ⌝ }
 {
     if !is_lent(
         schema,
@@ -54,8 +56,9 @@ pub fn read_journal(
         parents.len(),
         starts.len(),
         lengths.len(),
+        decoded.len(),
     ) {
-        columns::clear(numbers, names, parents, starts, lengths);
+        columns::clear(numbers, names, parents, starts, lengths, decoded);
         return verdicts::refused(BAD_RECORD, 0);
     }
     let bytes = schema.bytes;
@@ -71,5 +74,6 @@ pub fn read_journal(
         parents,
         starts,
         lengths,
+        decoded,
     )
 }

@@ -17,12 +17,12 @@ use Rattle.journal_builder.specs.laws.Ends.{end-none, end-keeps-rows}
 use Rattle.journal_builder.specs.laws.Starts.{isInnermost}
 use Rattle.journal_builder.specs.laws.StateLaws.{leaves-kept, leaves-as, rows-as}
 use Rattle.journal_spec.specs.Builder.{Building, onEnd, onUnbroken, onEvent}
-use Rattle.journal_spec.specs.Lexer.{Event, starts, empties, ends}
 use Rattle.schema_spec.specs.Schemas.{Schema}
 use Rattle.table_spec.specs.Rows.{Row}
 use Rattle.text.specs.declared.name_words.Name.{Name}
 use Rattle.text.specs.name_words.Words.{Spells}
 use Rattle.text_spec.specs.Lists.{isNone}
+use Rattle.token_spec.specs.Lexer.{Event, starts, empties, ends}
 
 -- a start tag or an empty tag; a tag, by the number of its event
 abbrev pub startEvent : Bool → List ℕ → ℕ → Event

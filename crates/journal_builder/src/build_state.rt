@@ -126,6 +126,7 @@ pub fn element_row(e: usize, parent: u64) -> RowCells
         parent: (parent % ROWS) as u16,
         start: 0,
         size: 0,
+        decoded: 0,
     }
 }
 
@@ -138,6 +139,7 @@ pub fn text_row(e: u64, parent: u64, start: u32, size: u32) -> RowCells
         parent: (parent % ROWS) as u16,
         start,
         size: (size % 65536) as u16,
+        decoded: (size % 65536) as u16,
     }
 }
 
@@ -150,6 +152,7 @@ pub fn without_row(m: Build) -> BuildStep
         parent: 0,
         start: 0,
         size: 0,
+        decoded: 0,
     };
     BuildStep { build: m, row }
 }

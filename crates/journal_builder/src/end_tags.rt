@@ -9,7 +9,7 @@ ghost use Rattle.journal_builder.specs.laws.Starts.{isInnermost};
 ghost use Rattle.journal_builder.specs.laws.Tags.{Closes, Ends};
 ghost use Rattle.journal_lexer.specs.state.Places.{placeOr};
 ghost use Rattle.journal_spec.specs.Builder.{Building, onRun};
-ghost use Rattle.journal_spec.specs.Lexer.{run};
+ghost use Rattle.token_spec.specs.Lexer.{run};
 ghost use Rattle.schema_spec.specs.Schemas.{Schema};
 ghost use Rattle.text.specs.fault_keys.Keys.{placeLimit};
 ghost use Rattle.text.specs.name_words.Words.{Spells};
@@ -99,7 +99,7 @@ fn is_text(kind: u64) -> bool
 // A run of character data: where it starts, its first byte that is not a blank or NONE, how many bytes it has.
 pub fn on_run(levels: &mut [u64; LEVELS], m: Build, start: u32, solid: u32, size: u32) -> BuildStep
     requires { ⌜ Safe (now levels) m × (m .count < placeLimit) ⌝ }
-    ensures { λ r. ⌜ SafeStep (now (levels .exit)) m r × LeavesUnbroken (λ s b. onRun (run start (placeOr solid)) size b) levels m r ⌝ }
+    ensures { λ r. ⌜ SafeStep (now (levels .exit)) m r × ((saved : ℕ) → LeavesUnbroken (λ s b. onRun (run start (placeOr solid) saved) size b) levels m r) ⌝ }
 {
     let d = m.depth;
     if d == 0 {

@@ -32,8 +32,8 @@ fn run_size(start: u32, end: u32) -> u32
 }
 
 // No event, or a run of character data. Nothing else is left at the end of a text.
-pub fn on_data_event(levels: &mut [u64; LEVELS], places: &[u32; 4], l: Lex, m: Build) -> BuildStep
-    requires { ⌜ Safe (now levels) m × (m .count < placeLimit) × (length (now places) ≡ 4) × ((l .event ≡ 0) ⊎ (l .event ≡ 4)) ⌝ }
+pub fn on_data_event(levels: &mut [u64; LEVELS], places: &[u32; 5], l: Lex, m: Build) -> BuildStep
+    requires { ⌜ Safe (now levels) m × (m .count < placeLimit) × (length (now places) ≡ 5) × ((l .event ≡ 0) ⊎ (l .event ≡ 4)) ⌝ }
     ensures { λ r. ⌜ ((t : SchemaCells) → EventLeaves t (now (levels .entry)) (now (places .entry)) l m (now (levels .exit)) r) ⌝ }
 {
     if l.event == QUIET {
@@ -65,11 +65,11 @@ pub fn on_event(
     predecessors: &[u64; MAX_CELLS],
     sizes: &[usize; MAX_ELEMENTS],
     levels: &mut [u64; LEVELS],
-    places: &[u32; 4],
+    places: &[u32; 5],
     l: Lex,
     m: Build,
 ) -> BuildStep
-    requires { ⌜ Safe (now levels) m × Sized (now sizes) × (m .count < placeLimit) × (count ≤ maxDeclarations) × (length (now places) ≡ 4) ⌝ }
+    requires { ⌜ Safe (now levels) m × Sized (now sizes) × (m .count < placeLimit) × (count ≤ maxDeclarations) × (length (now places) ≡ 5) ⌝ }
     ensures { λ r. ⌜ EventLeaves (entrySchema words count kinds firsts lasts nullables elements predecessors sizes) (now (levels .entry)) (now (places .entry)) l m (now (levels .exit)) r ⌝ }
 {
     let event = l.event;

@@ -11,13 +11,13 @@ pub mod open_levels;
 pub mod start_tags;
 
 ghost use mathlib.Core.Path.{_≡_};
-ghost use Prim.Native.Nat.{_≤_, _<_};
+ghost use Prim.Native.Nat.{ℕ, _≤_, _<_};
 ghost use Rattle.journal_builder.specs.Events.{startEvent, tagEvent, ClosesBegun, StartBy, TagBy};
 ghost use Rattle.journal_builder.specs.build_state.State.{judgedFrom, Safe, SafeStep, LeavesBy};
 ghost use Rattle.journal_builder.specs.fillings.Fillings.{Sized};
 ghost use Rattle.journal_lexer.specs.state.Places.{placeOr};
 ghost use Rattle.journal_spec.specs.Builder.{onEvent};
-ghost use Rattle.journal_spec.specs.Lexer.{run, runs};
+ghost use Rattle.token_spec.specs.Lexer.{run, runs};
 ghost use Rattle.text.specs.fault_keys.Keys.{placeLimit};
 ghost use Rattle.text_spec.specs.Limits.{maxDeclarations};
 use crate::build_state::Build;
@@ -144,7 +144,7 @@ pub fn on_tag(
 // A run of character data: where it starts, its first byte that is not a blank or journal_lexer::state::NONE, how many bytes it has.
 pub fn on_run(levels: &mut [u64; LEVELS], m: Build, start: u32, solid: u32, size: u32) -> BuildStep
     requires { ⌜ Safe (now levels) m × (m .count < placeLimit) ⌝ }
-    ensures { λ r. ⌜ SafeStep (now (levels .exit)) m r × LeavesBy (λ s b. onEvent s (runs (run start (placeOr solid)) size) b) levels m r ⌝ }
+    ensures { λ r. ⌜ SafeStep (now (levels .exit)) m r × ((saved : ℕ) → LeavesBy (λ s b. onEvent s (runs (run start (placeOr solid) saved) size) b) levels m r) ⌝ }
 {
     if build_state::is_judged(m) {
         return end_tags::on_run(levels, m, start, solid, size);

@@ -10,10 +10,9 @@ use lib.Dec.{T, eqb, leb, eqb-refl, le→leb}
 use lib.ListN.{length, take, drop, getElem?, length-append, length-drop}
 use lib.Seq.{length-take-le}
 use Rattle.journal_laws.specs.Derivations.{Derives, finished, root-begins, child-begins, element-ends, blanks-outside, run-inside, text-inside, opening, MakesNoText, no-text-unjudged, no-text-misfit, no-text-unfilled, no-text-children, Accepts, derivation}
-use Rattle.journal_laws.specs.Events.{eventsFrom, ended-builds, events-in-turn, none-foreign}
+use Rattle.journal_laws.specs.Events.{ended-builds, none-foreign}
 use Rattle.journal_laws.specs.Fillings.{Completable, all-completable, parent-completable, Fills, fills-begun, fills-child, fills-run, child-held, text-held}
 use Rattle.journal_spec.specs.Builder.{Filling, unjudged, misfit, unfilled, filledByText, filledByChildren, fillingOf, withChild, withRun, Open, Building, refill}
-use Rattle.journal_spec.specs.Lexer.{Event, between, misspeltAt}
 use Rattle.journal_spec.specs.Reading.{Machine, initial, run, ended, readJournal, machineRefusals, endsEarly}
 use Rattle.schema_spec.specs.Names.{Name, element, text, isText}
 use Rattle.schema_spec.specs.Schemas.{Schema, contentAt}
@@ -23,7 +22,7 @@ use Rattle.table_laws.specs.Nodes.{nodes-same, nodes-equal}
 use Rattle.table_laws.specs.Places.{none-some, at-before, at-end, at-in}
 use Rattle.table_spec.specs.Nodes.{Node, top, under, nodeNumber, nameOf, same, isAbove, depthOf, nodeAt, attachTo}
 use Rattle.table_spec.specs.Rows.{Row, textOf, elementRow, textRow}
-use Rattle.table_spec.specs.Tables.{sameParent, firstText, rowFits, laterRows, wellFormed, textInside, wellFormedWith}
+use Rattle.table_spec.specs.Tables.{sameParent, firstText, rowFits, laterRows, wellFormed, bytesInside, textInside, wellFormedWith}
 use Rattle.text_laws.specs.Lists.{in-any, in-all, append-empty}
 use Rattle.text_laws.specs.Refusals.{judged-accepted, given-free}
 use Rattle.text_laws.specs.Tests.{or-left, or-right, and-intro, and-cases, not-intro, never}
@@ -32,6 +31,8 @@ use Rattle.text_spec.specs.Limits.{maxDepth, maxNodes, maxTextBytes}
 use Rattle.text_spec.specs.Lists.{anyOf, allOf, isNone, isEmpty, listOf}
 use Rattle.text_spec.specs.Refusals.{Refusal, accepted, at, allAt, given, misspelt, badNesting}
 use Rattle.text_spec.specs.Texts.{lengthRefusals}
+use Rattle.token_laws.specs.Events.{eventsFrom, events-in-turn}
+use Rattle.token_spec.specs.Lexer.{Event, between, misspeltAt}
 
 -- ---- nodes
 
@@ -119,9 +120,9 @@ first-of-parent before n e w p numbered last = not-intro (anyOf (λ z. isText (n
         let r = in-any (λ z. isText (nameOf z) && sameParent z (under n (text e) w p)) before t in
         no-sibling (r .0) (numbered (r .0) (r .1)) (and-cases (isText (nameOf (r .0))) (sameParent (r .0) (under n (text e) w p)) (r .2) .1)
 
--- a text row lies within so many bytes
+-- a text row lies within so many bytes and has two equal lengths
 abbrev TextWithin : ℕ → Row → Type 0
-TextWithin size r = T (isText (r .name)) → r .start + r .size ≤ size
+TextWithin size r = T (isText (r .name)) → (r .start + r .size ≤ size) × (r .decoded ≡ r .size)
 
 -- the rows still to come
 record Later (s : Schema) (size : ℕ) (final : List Row) (before : List Node) (previous : Node) (rs : List Row) : Type 0 where
@@ -311,14 +312,16 @@ text-row s size final before previous n e start l o os rs h f pos small fits few
             held = held-by s (nameOf (h .node)) (text e) (subst (λ (a : Name). T (holds s a (text e))) (sym (named .1)) (text-held s (named .0) e (named .2) f));
             shallow = omega arith;
             oneText = first-of-parent before n e (textOf [] r) (h .node) (h .numbered) (omega arith);
-            cells = and-intro (leb 1 l) (leb l maxTextBytes) (le→leb 1 l pos) (le→leb l maxTextBytes small);
+            cells =
+                and-intro (leb 1 l) _ (le→leb 1 l pos)
+                (and-intro (leb l maxTextBytes) _ (le→leb l maxTextBytes small) (and-intro (leb 1 l) (leb l l) (le→leb 1 l pos) (le→leb l l (omega arith))));
           })
           (z .fit);
       texts = within z;
     }
   where
     within : {b : List Node} {q : Node} (z : Later s size final b q (textRow n e (o .row) start l ∷ rs)) (x : Row) → In x (textRow n e (o .row) start l ∷ z .rows) → TextWithin size x
-    within z x (here g) t = subst (λ (a : Row). a .start + a .size ≤ size) (sym g) fits
+    within z x (here g) t = subst (λ (a : Row). (a .start + a .size ≤ size) × (a .decoded ≡ a .size)) (sym g) (fits, refl)
     within z x (there i) t = z .texts x i t
 
 -- the rows to come of a derivation fit the nodes so far
@@ -393,16 +396,18 @@ module _ (f : ℕ → Bool) where
 text-lies-inside : (lent : List ℕ) (r : Row) → T (allOf (λ b. not (isForeign b)) lent) → TextWithin (length lent) r → T (textInside lent r)
 text-lies-inside lent r native h = by (isText (r .name)) h
   where
-    by : (t : Bool) → (T t → r .start + r .size ≤ length lent)
-        → T (not t || (leb (r .start) (length lent) && (eqb (length (textOf lent r)) (r .size) && allOf (λ b. not (isForeign b)) (textOf lent r))))
+    by : (t : Bool) → (T t → (r .start + r .size ≤ length lent) × (r .decoded ≡ r .size)) → T (not t || (bytesInside lent r && eqb (r .decoded) (r .size)))
     by false h = tt
     by true h =
-        let fits : r .start + r .size ≤ length lent = h tt in
+        let fits : r .start + r .size ≤ length lent = h tt .0 in
+        let equal : r .decoded ≡ r .size = h tt .1 in
         let room : r .size ≤ length (drop (r .start) lent) = omega (arith, length-drop (r .start) lent) in
-        and-intro (leb (r .start) (length lent)) (eqb (length (textOf lent r)) (r .size) && allOf (λ b. not (isForeign b)) (textOf lent r)) (le→leb (r .start) (length lent) (omega arith))
+        and-intro (bytesInside lent r) (eqb (r .decoded) (r .size))
+        (and-intro (leb (r .start) (length lent)) (eqb (length (textOf lent r)) (r .size) && allOf (λ b. not (isForeign b)) (textOf lent r)) (le→leb (r .start) (length lent) (omega arith))
         (and-intro (eqb (length (textOf lent r)) (r .size)) (allOf (λ b. not (isForeign b)) (textOf lent r))
         (subst (λ (m : ℕ). T (eqb m (r .size))) (sym (length-take-le (r .size) (drop (r .start) lent) room)) (eqb-refl (r .size)))
-        (all-take (λ b. not (isForeign b)) (r .size) (drop (r .start) lent) (all-drop (λ b. not (isForeign b)) (r .start) lent native)))
+        (all-take (λ b. not (isForeign b)) (r .size) (drop (r .start) lent) (all-drop (λ b. not (isForeign b)) (r .start) lent native))))
+        (rw equal (eqb-refl (r .size)))
 
 -- ---- acceptance
 

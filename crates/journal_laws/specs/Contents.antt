@@ -10,7 +10,6 @@ use lib.Dec.{T, leb, ltb}
 use lib.ListN.{length}
 use Rattle.journal_laws.specs.Forests.{Held, runHeld, afterRun, atStart, atEnd, afterForest, rootStart, treeHeld, blank-solid}
 use Rattle.journal_laws.specs.Nesting.{Solid, only-blanks, solid-at, solid-of}
-use Rattle.journal_laws.specs.Passes.{solidFrom}
 use Rattle.journal_spec.specs.Builder.{Filling, unjudged, misfit, unfilled, filledByText, filledByChildren, fillingOf, fillingFor, withChild, withRun, fitsAtEnd, wrongRoot}
 use Rattle.journal_spec.specs.Trees.{Forest, nothing, data-node, element-node}
 use Rattle.journal_spec.specs.Validity.{ChildElements, no-children, blanks, child, OnlyData, no-data, more, ContentFits, fits-empty, fits-pcdata, fits-children, Occurs, here as occurs-here, inside, after-element, after-data, InTree, the-root, below}
@@ -23,6 +22,7 @@ use Rattle.text_laws.specs.Tests.{not-elim}
 use Rattle.text_spec.specs.Limits.{maxNodes, maxTextBytes}
 use Rattle.text_spec.specs.Lists.{isNone}
 use Rattle.text_spec.specs.Refusals.{Reason, Refusal, numberOf, at, given, undeclaredElement, badContent, overNodeLimit}
+use Rattle.token_laws.specs.Passes.{solidFrom}
 
 -- the content of an element after a forest
 unfoldable pub fillingAfter : Schema → Filling → Forest → Filling

@@ -6,10 +6,9 @@ use mathlib.Core.Path.{_≡_, refl, sym, ap, subst, _∙_}
 use Prim.Native.Nat.{ℕ, suc, _+_, _≤_, _<_}
 use lib.Dec.{T, eqb, leb, ltb, eqb→eq, nleb→lt, nltb→le}
 use lib.ListN.{length}
-use Rattle.journal_laws.specs.Events.{build, InTurn, no-more, start-next, end-next, run-next}
+use Rattle.journal_laws.specs.Events.{build}
 use Rattle.journal_laws.specs.Kept.{KeptByEnds, KeptByRuns, KeptByStarts, keep-unbroken}
 use Rattle.journal_spec.specs.Builder.{Filling, unjudged, misfit, unfilled, filledByText, filledByChildren, fillingOf, withChild, withRun, fitsAtEnd, Open, Building, building, breaks, parentRow, refill, fillingFor, wrongRoot, begin, onStart, endOf, outside, textNode, inside, onUnbroken, onEvent}
-use Rattle.journal_spec.specs.Lexer.{Run, Event, starts, ends, runs}
 use Rattle.schema_spec.specs.Models.{Progress}
 use Rattle.schema_spec.specs.Schemas.{Schema, elementNamed, contentAt}
 use Rattle.table_laws.specs.Places.{none-some}
@@ -20,6 +19,8 @@ use Rattle.text_laws.specs.Tests.{passed, or-left, or-right, not-intro, not-not
 use Rattle.text_spec.specs.Limits.{maxDepth, maxNodes, maxTextBytes}
 use Rattle.text_spec.specs.Lists.{isNone, valueOr, sameBytes}
 use Rattle.text_spec.specs.Refusals.{Refusal, at, given, badNesting, overDepth, undeclaredElement, badContent, overNodeLimit}
+use Rattle.token_laws.specs.Events.{InTurn, no-more, start-next, end-next, run-next}
+use Rattle.token_spec.specs.Lexer.{Run, Event, starts, ends, runs}
 
 -- ---- what was found stays
 

@@ -8,7 +8,6 @@ use lib.Dec.{T, eqb, eqb-refl}
 use Rattle.journal_laws.specs.Derivations.{Derives, finished, root-begins, child-begins, element-ends, blanks-outside, run-inside, text-inside}
 use Rattle.journal_laws.specs.Progress.{namesOf, started-names, advance-names, completed-name}
 use Rattle.journal_spec.specs.Builder.{Filling, unjudged, misfit, unfilled, filledByText, filledByChildren, fillingOf, withChild, withRun, fitsAtEnd, Open, refill}
-use Rattle.journal_spec.specs.Lexer.{Event}
 use Rattle.schema_spec.specs.Models.{Particle, Content, empty, pcdata, children, uses, usesIn, Progress, complete, advanceAll}
 use Rattle.schema_spec.specs.Names.{element, text}
 use Rattle.schema_spec.specs.Schemas.{Schema, contentAt, isPcdata}
@@ -17,6 +16,7 @@ use Rattle.table_spec.specs.Rows.{Row}
 use Rattle.text_laws.specs.Lists.{any-in}
 use Rattle.text_laws.specs.Tests.{and-intro, never}
 use Rattle.text_spec.specs.Lists.{isNone}
+use Rattle.token_spec.specs.Lexer.{Event}
 
 -- more children can make the content fit
 pub data Completable : Filling → Type 0 where

@@ -10,12 +10,9 @@ use lib.ListN.{length}
 use Rattle.journal_laws.specs.Derivations.{opening}
 use Rattle.journal_laws.specs.Events.{build}
 use Rattle.journal_laws.specs.Nesting.{tokensBuilt, tokenBuilt, tokens-cons, tokens-append, start, fromTokens}
-use Rattle.journal_laws.specs.Passes.{eventsOf, solidFrom}
 use Rattle.journal_laws.specs.Walks.{ShallowFrom, shallow-tail, shallow-head, open-step}
 use Rattle.journal_spec.specs.Builder.{Filling, unjudged, misfit, unfilled, filledByText, filledByChildren, fillingFor, withChild, withRun, fitsAtEnd, Open, Building, building, wrongRoot, textNode, onEvent}
 use Rattle.journal_spec.specs.Conditions.{by-start-tag, by-empty-tag}
-use Rattle.journal_spec.specs.Lexer.{run}
-use Rattle.journal_spec.specs.Tokens.{Token, startTag, emptyTag, endTag, characters, spellToken, spell, openAfter}
 use Rattle.journal_spec.specs.Trees.{Forest, nothing, data-node, element-node, Spells, no-tokens, data-next, empty-tag, tag-pair, OnlyBlanks, no-blanks, blanks, OneRoot, at-once, after-blanks, Nested, height}
 use Rattle.schema_spec.specs.Schemas.{Schema, elementNamed}
 use Rattle.table_spec.specs.Rows.{Row, elementRow, textRow}
@@ -25,6 +22,10 @@ use Rattle.text_spec.specs.Bytes.{isBlank, allBlank}
 use Rattle.text_spec.specs.Limits.{maxDepth, maxNodes, maxTextBytes}
 use Rattle.text_spec.specs.Lists.{isNone, valueOr, sameBytes}
 use Rattle.text_spec.specs.Refusals.{Refusal, at, given, undeclaredElement, badContent, overNodeLimit}
+use Rattle.token_laws.specs.Passes.{eventsOf, solidFrom}
+use Rattle.token_spec.specs.Characters.{savedIn}
+use Rattle.token_spec.specs.Lexer.{run}
+use Rattle.token_spec.specs.Tokens.{Token, startTag, emptyTag, endTag, characters, spellToken, spell, openAfter}
 
 -- what is held while an element is open: its content, and the faults, rows and count so far
 pub record Held : Type 0 where
@@ -77,7 +78,7 @@ unfolding build onEvent
 run-built s k w o os h = by (h .filling) (withRun (isNone (solidFrom k w)) (h .filling))
   where
     by : (f g : Filling)
-        → textNode f (run k (solidFrom k w)) (length w) (o .row) (building (opening (o .name) (o .place) (o .row) g ∷ os) true (h .faults) (h .rows) (h .count))
+        → textNode f (run k (solidFrom k w) (savedIn w)) (length w) (o .row) (building (opening (o .name) (o .place) (o .row) g ∷ os) true (h .faults) (h .rows) (h .count))
         ≡ holding o os (runHeld f (o .row) k (length w) g (h .faults) (h .rows) (h .count))
     by unjudged g = refl
     by misfit g = refl

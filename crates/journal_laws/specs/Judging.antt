@@ -10,19 +10,15 @@ use native.Mathlib.Omega.{arith}
 use lib.Dec.{T, eqb, ltb, eqb→eq, ltb→lt, nltb→le}
 use lib.ListN.{length}
 use Rattle.journal_laws.specs.Contents.{fillingAfter, ends-content, not-declared, not-fitting, tree-faulty, tree-wrong-root, Misplaced, wrong-root, wrong-content, tree-15}
-use Rattle.journal_laws.specs.Events.{build, eventsFrom, modeAfter, ended-builds, run-mode}
+use Rattle.journal_laws.specs.Events.{build, ended-builds, run-mode}
 use Rattle.journal_laws.specs.Forests.{Held, treeHeld, closedBuilding, nested-built, nested-height}
 use Rattle.journal_laws.specs.Nesting.{names, start, fromTokens, builds-walk, broken-applies, early-applies, misnested-found, too-deep-found}
 use Rattle.journal_laws.specs.NodeLimits.{Over, over-split, split-over, AllFitTree, tree-rows, tree-over, over-tree, faultless-fits}
-use Rattle.journal_laws.specs.Passes.{tokens-lexed}
-use Rattle.journal_laws.specs.Spellings.{unmisspelt-tokens, misspelt-applies, misspelt-least}
 use Rattle.journal_laws.specs.Undeclared.{Late, late-14, late-15, late-16, reasons-of, found-14, undeclared-listed}
 use Rattle.journal_laws.specs.Walks.{Walks, spelt-parted, walk-nested}
 use Rattle.journal_spec.specs.Builder.{fillingOf, fillingFor, fitsAtEnd, wrongRoot, Open, Building}
 use Rattle.journal_spec.specs.Conditions.{JournalApplies, length-2, byte-3, misspelt-11, nesting-12, depth-13, undeclared-14, content-15, nodes-16, JournalGives, gives, Misnested, TooDeep, Undeclared, undeclared, Misfit, bad-root, bad-content, OverLimit, over}
-use Rattle.journal_spec.specs.Lexer.{Mode, Event, between, misspeltAt}
 use Rattle.journal_spec.specs.Reading.{Machine, initial, step, run, endsEarly, machineRefusals, readJournal}
-use Rattle.journal_spec.specs.Tokens.{Token, Tokens}
 use Rattle.journal_spec.specs.Trees.{Forest, WellFormedText, height, treeRows, treeStarts, NodeStart}
 use Rattle.journal_spec.specs.Validity.{the-root}
 use Rattle.schema_spec.specs.Schemas.{Schema, elementNamed, contentAt}
@@ -37,6 +33,11 @@ use Rattle.text_spec.specs.Limits.{maxDepth, maxNodes, maxTextBytes}
 use Rattle.text_spec.specs.Lists.{isEmpty, isNone, listOf, anyOf}
 use Rattle.text_spec.specs.Refusals.{Reason, Refusal, numberOf, at, allAt, given, badLength, badByte, misspelt, badNesting, overDepth, undeclaredElement, badContent, overNodeLimit, judged, Judged}
 use Rattle.text_spec.specs.Texts.{SplitAt, lengthRefusals, ByteApplies}
+use Rattle.token_laws.specs.Events.{eventsFrom}
+use Rattle.token_laws.specs.Passes.{tokens-lexed}
+use Rattle.token_laws.specs.Spellings.{unmisspelt-tokens, misspelt-applies, misspelt-least}
+use Rattle.token_spec.specs.Lexer.{modeAfter, Mode, Event, between, misspeltAt}
+use Rattle.token_spec.specs.Tokens.{Token, Tokens}
 pub mod Meaning
 
 -- ---- refusal 3

@@ -5,14 +5,14 @@ use mathlib.Core.Option.{Option, none, some}
 use Prim.Native.Nat.{ℕ, suc}
 use lib.Dec.{leb, ltb}
 use lib.ListN.{length}
-use Rattle.journal_laws.specs.Events.{cond-both}
 use Rattle.journal_spec.specs.Builder.{Filling, unjudged, misfit, unfilled, filledByText, filledByChildren, withRun, fitsAtEnd, Open, Building, building, breaks, refill, begin, onStart, endOf, outside, textNode, inside, onUnbroken, onEvent}
-use Rattle.journal_spec.specs.Lexer.{Run, Event, quiet, starts, empties, ends, runs}
 use Rattle.schema_spec.specs.Schemas.{Schema}
 use Rattle.table_spec.specs.Rows.{Row, textRow}
 use Rattle.text_spec.specs.Limits.{maxDepth, maxNodes, maxTextBytes}
 use Rattle.text_spec.specs.Lists.{isEmpty, isNone, sameBytes}
 use Rattle.text_spec.specs.Refusals.{at, given, badNesting, overDepth, badContent, overNodeLimit}
+use Rattle.token_laws.specs.Events.{cond-both}
+use Rattle.token_spec.specs.Lexer.{Run, Event, quiet, starts, empties, ends, runs}
 
 -- the ways to go on from any building: broken by 12, or with an element ended
 pub record KeptByEnds (P : Building → Type 0) : Type 0 where

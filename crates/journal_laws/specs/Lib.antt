@@ -4,8 +4,6 @@ pub mod Kept
 pub mod Derivations
 pub mod Fillings
 pub mod Accepted
-pub mod Passes
-pub mod Spellings
 pub mod Walks
 pub mod Nesting
 pub mod Forests

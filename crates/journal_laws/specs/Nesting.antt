@@ -10,12 +10,9 @@ use native.Mathlib.Omega.{arith}
 use lib.Dec.{T, leb, leb→le, nleb→lt}
 use lib.ListN.{length, length-append}
 use Rattle.journal_laws.specs.Events.{build}
-use Rattle.journal_laws.specs.Passes.{tokenEvents, eventsOf, solidFrom}
 use Rattle.journal_laws.specs.Walks.{Moves, root-starts, starts-in, root-empty, empty-in, ends-in, blanks-out, data-in, Walks, stays, move, moves-once, walks-append, walks-split, ShallowFrom, shallow-tail, shallow-head, shallow-none, shallow-cons, move-depth, walk-depth, walk-shallow, nested-walk, Parted, spelt-parted, spell-length, walk-nested, walk-beginning, beginning-walk, parted-first}
 use Rattle.journal_spec.specs.Builder.{Filling, unjudged, misfit, unfilled, filledByText, filledByChildren, withRun, fitsAtEnd, Open, Building, building, breaks, refill, begin, onStart, endOf, outside, textNode, inside, onEvent}
 use Rattle.journal_spec.specs.Conditions.{NestedBeginning, Begins, by-start-tag, by-empty-tag, Shallow, OffendsAt, start-tag, empty-tag, end-tag, solid-byte, Misnested, offends, ends-early, TooDeep, too-deep}
-use Rattle.journal_spec.specs.Lexer.{run, Event, ends}
-use Rattle.journal_spec.specs.Tokens.{Token, startTag, emptyTag, endTag, characters, spellToken, spell, Tokens, openAfter}
 use Rattle.journal_spec.specs.Trees.{Forest, Nested}
 use Rattle.schema_spec.specs.Schemas.{Schema}
 use Rattle.table_laws.specs.Places.{none-some}
@@ -26,6 +23,10 @@ use Rattle.text_spec.specs.Bytes.{isBlank, allBlank}
 use Rattle.text_spec.specs.Limits.{maxDepth}
 use Rattle.text_spec.specs.Lists.{isNone, sameBytes}
 use Rattle.text_spec.specs.Refusals.{Refusal, at, badNesting, overDepth}
+use Rattle.token_laws.specs.Passes.{tokenEvents, eventsOf, solidFrom}
+use Rattle.token_spec.specs.Characters.{savedIn}
+use Rattle.token_spec.specs.Lexer.{run, Event, ends}
+use Rattle.token_spec.specs.Tokens.{Token, startTag, emptyTag, endTag, characters, spellToken, spell, Tokens, openAfter}
 
 abbrev pub names : List Open → List (List ℕ)
 names [] = []
@@ -163,7 +164,7 @@ module _ (s : Schema) (k : ℕ) (fs : List Refusal) (rs : List Row) (m : ℕ) wh
           (no-depth (length (o ∷ os)) (λ x b. elim b [ ]))
       by false e = misnests 0 end-tag (here-broken k) (λ ms q x. failed e (subst (λ (y : List ℕ). T (sameBytes n y)) (same-name x) (bytes-same n)))
 
-  run-acts : (w : List ℕ) (os : List Open) (rt : Bool) → Acts k os rt (characters w) (inside os (run k (solidFrom k w)) (length w) (building os rt fs rs m))
+  run-acts : (w : List ℕ) (os : List Open) (rt : Bool) → Acts k os rt (characters w) (inside os (run k (solidFrom k w) (savedIn w)) (length w) (building os rt fs rs m))
   run-acts w [] rt = by (solid-of k w)
     where
       blank-move : {ms : List (List ℕ)} {q : Bool} → Moves [] rt (characters w) ms q → T (allBlank w)
@@ -175,7 +176,7 @@ module _ (s : Schema) (k : ℕ) (fs : List Refusal) (rs : List Row) (m : ℕ) wh
   run-acts w (o ∷ os) rt = by (o .filling)
     where
       by : (f : Filling)
-          → Acts k (o ∷ os) rt (characters w) (textNode f (run k (solidFrom k w)) (length w) (o .row) (building (refill (withRun (isNone (solidFrom k w))) (o ∷ os)) rt fs rs m))
+          → Acts k (o ∷ os) rt (characters w) (textNode f (run k (solidFrom k w) (savedIn w)) (length w) (o .row) (building (refill (withRun (isNone (solidFrom k w))) (o ∷ os)) rt fs rs m))
       by unjudged = goes-on refl data-in (no-depth (length (o ∷ os)) (λ x b. elim b [ ]))
       by misfit = goes-on refl data-in (no-depth (length (o ∷ os)) (λ x b. elim b [ ]))
       by unfilled = goes-on refl data-in (no-depth (length (o ∷ os)) (λ x b. elim b [ ]))

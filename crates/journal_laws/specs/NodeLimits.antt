@@ -13,7 +13,6 @@ use Rattle.journal_laws.specs.Accepted.{reverse-twice}
 use Rattle.journal_laws.specs.Contents.{forest-grows, end-grows, run-filling, given-other, fillingAfter, ends-content, not-declared, not-fitting, tree-faulty}
 use Rattle.journal_laws.specs.Derivations.{MakesNoText, no-text-unjudged, no-text-misfit, no-text-unfilled, no-text-children}
 use Rattle.journal_laws.specs.Forests.{Held, held, runHeld, afterRun, atStart, atEnd, afterForest, rootStart, treeHeld}
-use Rattle.journal_laws.specs.Passes.{solidFrom}
 use Rattle.journal_spec.specs.Builder.{Filling, unjudged, filledByText, fillingOf, fillingFor, withChild, withRun, fitsAtEnd, wrongRoot}
 use Rattle.journal_spec.specs.Trees.{Forest, nothing, data-node, element-node, indexOf, countIn, rowsUnder, treeRows, NodeStart, startsUnder, treeStarts}
 use Rattle.journal_spec.specs.Validity.{OnlyData, more, ContentFits, fits-pcdata, Occurs, here as occurs-here, inside, after-element, after-data, InTree, the-root, below}
@@ -26,6 +25,7 @@ use Rattle.text_spec.specs.Limits.{maxNodes, maxTextBytes}
 use Rattle.text_spec.specs.Lists.{isNone, valueOr}
 use Rattle.text_spec.specs.Refusals.{Refusal, numberOf, at, given, undeclaredElement, badContent, overNodeLimit}
 use Rattle.text_spec.specs.Texts.{SplitAt}
+use Rattle.token_laws.specs.Passes.{solidFrom}
 
 -- each element is declared, and its content fits
 abbrev pub AllFit : Schema → Forest → Type 0

@@ -6,8 +6,6 @@ use Prim.Native.Nat.{ℕ, _+_}
 use native.Mathlib.Omega.{arith}
 use lib.Dec.{T, eqb, leb}
 use lib.ListN.{length}
-use Rattle.journal_laws.specs.Passes.{tagRest, tag-spelling}
-use Rattle.journal_spec.specs.Tokens.{Token, startTag, emptyTag, endTag, characters, spellToken, spell, lt, gt, amp, apos, quot, Pieces, none as no-piece, plain, entity, Spelt, start-spelt, empty-spelt, end-spelt, characters-spelt, TagNext, no-token, start-next, empty-next, end-next, AllSpelt, none as all-none, tag, data-then, Tokens}
 use Rattle.journal_spec.specs.Trees.{Forest, Spells, no-tokens, data-next, empty-tag, tag-pair, OneRoot, at-once, after-blanks, WellFormedText}
 use Rattle.text_laws.specs.Bytes.{each-blank, name-bytes}
 use Rattle.text_laws.specs.Lists.{span-once, append-cancel}
@@ -15,6 +13,8 @@ use Rattle.text_laws.specs.Tests.{never, and-intro, and-cases, not-intro, not-e
 use Rattle.text_spec.specs.Bytes.{isBlank, isName, startsName, continuesName, allBlank}
 use Rattle.text_spec.specs.Limits.{maxNameBytes}
 use Rattle.text_spec.specs.Lists.{allOf}
+use Rattle.token_laws.specs.Passes.{tagRest, tag-spelling}
+use Rattle.token_spec.specs.Tokens.{Token, startTag, emptyTag, endTag, characters, spellToken, spell, lt, gt, amp, apos, quot, Pieces, none as no-piece, plain, entity, Spelt, start-spelt, empty-spelt, end-spelt, characters-spelt, TagNext, no-token, start-next, empty-next, end-next, AllSpelt, none as all-none, tag, data-then, Tokens}
 
 -- ---- one list of tokens
 -- blanks and what follows begin with a byte that goes on with no name

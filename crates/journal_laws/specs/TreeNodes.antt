@@ -12,7 +12,6 @@ use Rattle.journal_laws.specs.OneTree.{one-tree}
 use Rattle.journal_laws.specs.Walks.{spell-append}
 use Rattle.journal_spec.specs.Conditions.{ValidJournal}
 use Rattle.journal_spec.specs.Reading.{readJournal}
-use Rattle.journal_spec.specs.Tokens.{Token, startTag, emptyTag, endTag, spellToken, spell}
 use Rattle.journal_spec.specs.Trees.{Forest, nothing, data-node, element-node, Spells, no-tokens, data-next, empty-tag, tag-pair, OneRoot, at-once, after-blanks, WellFormedText, indexOf, countIn, nodesUnder, treeNodes, rowsUnder, treeRows}
 use Rattle.schema_spec.specs.Names.{element, text}
 use Rattle.schema_spec.specs.Schemas.{Schema, contentAt, isPcdata}
@@ -21,6 +20,7 @@ use Rattle.table_spec.specs.Nodes.{Node, top, under, attachTo, nodeAt, nodesFro
 use Rattle.table_spec.specs.Rows.{Row, elementRow, textRow}
 use Rattle.text_spec.specs.Lists.{part}
 use Rattle.text_spec.specs.Refusals.{accepted}
+use Rattle.token_spec.specs.Tokens.{Token, startTag, emptyTag, endTag, spellToken, spell}
 
 -- ---- the bytes of character data stand in the text where its node says
 abbrev pub OwnBytes : List ℕ → Forest → Type 0

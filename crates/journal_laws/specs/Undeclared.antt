@@ -10,14 +10,11 @@ use native.Mathlib.Omega.{arith}
 use lib.Dec.{T, leb}
 use lib.ListN.{length, length-append}
 use Rattle.journal_laws.specs.Contents.{given-other}
-use Rattle.journal_laws.specs.Events.{build, cond-both}
+use Rattle.journal_laws.specs.Events.{build}
 use Rattle.journal_laws.specs.Kept.{KeptByEnds, KeptByRuns, KeptByStarts, keep-end, keep-run, keep-event}
 use Rattle.journal_laws.specs.Nesting.{tokensBuilt, tokenBuilt, tokens-cons, tokens-append, start, fromTokens, unbroken-before, unbroken-form}
-use Rattle.journal_laws.specs.Passes.{eventsOf, solidFrom}
 use Rattle.journal_spec.specs.Builder.{fitsAtEnd, Open, Building, building, breaks, wrongRoot, begin, onStart, onEnd, onRun, onEvent}
 use Rattle.journal_spec.specs.Conditions.{Begins, by-start-tag, by-empty-tag, Undeclared, undeclared}
-use Rattle.journal_spec.specs.Lexer.{Run, run, Event, starts, ends, runs}
-use Rattle.journal_spec.specs.Tokens.{Token, startTag, emptyTag, endTag, characters, spellToken, spell, Tokens}
 use Rattle.schema_spec.specs.Schemas.{Schema, elementNamed}
 use Rattle.table_laws.specs.Places.{none-some}
 use Rattle.table_spec.specs.Rows.{Row}
@@ -26,6 +23,11 @@ use Rattle.text_laws.specs.Refusals.{in-given, given-in}
 use Rattle.text_spec.specs.Limits.{maxDepth, maxNodes}
 use Rattle.text_spec.specs.Lists.{isEmpty, isNone}
 use Rattle.text_spec.specs.Refusals.{Reason, Refusal, numberOf, at, given, badNesting, overDepth, undeclaredElement, badContent, overNodeLimit}
+use Rattle.token_laws.specs.Events.{cond-both}
+use Rattle.token_laws.specs.Passes.{eventsOf, solidFrom}
+use Rattle.token_spec.specs.Characters.{savedIn}
+use Rattle.token_spec.specs.Lexer.{Run, run, Event, starts, ends, runs}
+use Rattle.token_spec.specs.Tokens.{Token, startTag, emptyTag, endTag, characters, spellToken, spell, Tokens}
 
 -- ---- faults stay
 
@@ -207,7 +209,7 @@ module _ (s : Schema) (j : ℕ) where
       by (inl x) = inl x
       by (inr x) = inr (n, by-empty-tag, x)
   token-14 (endTag n a) k b i = inl (on-end-14 n k b i)
-  token-14 (characters w) k b i = inl (on-run-14 (run k (solidFrom k w)) (length w) b i)
+  token-14 (characters w) k b i = inl (on-run-14 (run k (solidFrom k w) (savedIn w)) (length w) b i)
 
   record TaggedIn (k : ℕ) (ts : List Token) : Type 0 where
     before : List Token

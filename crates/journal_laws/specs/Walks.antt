@@ -7,11 +7,11 @@ use native.Mathlib.Omega.{arith}
 use lib.Dec.{T}
 use lib.ListN.{length, length-append}
 use Rattle.journal_spec.specs.Conditions.{NestedBeginning, Begins, by-start-tag}
-use Rattle.journal_spec.specs.Tokens.{Token, startTag, emptyTag, endTag, characters, spellToken, spell, TagNext, no-token, start-next, empty-next, end-next, AllSpelt, none as all-none, tag, data-then, openAfter}
 use Rattle.journal_spec.specs.Trees.{Forest, nothing, data-node, element-node, Spells, no-tokens, data-next, empty-tag, tag-pair, OnlyBlanks, no-blanks, blanks, OneRoot, at-once, after-blanks, Nested}
 use Rattle.text_laws.specs.Tests.{never}
 use Rattle.text_spec.specs.Bytes.{allBlank}
 use Rattle.text_spec.specs.Limits.{maxDepth}
+use Rattle.token_spec.specs.Tokens.{Token, startTag, emptyTag, endTag, characters, spellToken, spell, TagNext, no-token, start-next, empty-next, end-next, AllSpelt, none as all-none, tag, data-then, openAfter}
 
 -- one token: the open names and whether the root has begun, before and after it
 pub data Moves : List (List ℕ) → Bool → Token → List (List ℕ) → Bool → Type 0 where

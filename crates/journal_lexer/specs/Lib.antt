@@ -7,3 +7,4 @@ pub mod state
 pub mod step
 pub mod tag_loops
 pub mod tags
+pub mod whole_texts

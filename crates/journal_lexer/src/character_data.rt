@@ -3,6 +3,7 @@ ghost use Rattle.journal_lexer.specs.character_data.Runs.{Plain};
 ghost use Rattle.journal_lexer.specs.state.Relation.{Handed, Steps};
 use crate::data_runs::data_byte;
 use crate::data_runs::entity_begins;
+use crate::data_runs::entity_ends;
 use crate::data_runs::tag_opens;
 use crate::data_runs::two_before;
 use crate::entities;
@@ -18,6 +19,7 @@ use crate::state::ENTITY;
 use crate::state::Lex;
 use crate::state::QUIET;
 use crate::state::RUNS;
+use crate::state::SAVED;
 use crate::state::SOLID;
 use crate::state::START;
 use crate::state::STOPPED;
@@ -26,17 +28,18 @@ use crate::state::goes;
 use crate::state::note_foreign;
 use crate::state::stop;
 
-pub fn between_byte(places: &mut [u32; 4], l: Lex, b: u8, c: u8) -> Lex
+pub fn between_byte(places: &mut [u32; 5], l: Lex, b: u8, c: u8) -> Lex
     requires { ⌜ Handed l (now places) b c ⌝ }
     ensures { λ r. ⌜ Steps 0 l (now (places .entry)) b r (now (places .exit)) ⌝ }
 {
     if c == LESS {
         return tag_opens(places, l, QUIET);
     }
+    places[SAVED] = 0;
     data_byte(places, l, l.place as u32, b, c)
 }
 
-pub fn blanks_byte(places: &mut [u32; 4], l: Lex, b: u8, c: u8) -> Lex
+pub fn blanks_byte(places: &mut [u32; 5], l: Lex, b: u8, c: u8) -> Lex
     requires { ⌜ Handed l (now places) b c ⌝ }
     ensures { λ r. ⌜ Steps 1 l (now (places .entry)) b r (now (places .exit)) ⌝ }
 {
@@ -48,7 +51,7 @@ pub fn blanks_byte(places: &mut [u32; 4], l: Lex, b: u8, c: u8) -> Lex
 }
 
 // A byte that is not part of `]]>`, where the run has a byte that is not a blank.
-fn plain_byte(places: &mut [u32; 4], l: Lex, b: u8, c: u8) -> Lex
+fn plain_byte(places: &mut [u32; 5], l: Lex, b: u8, c: u8) -> Lex
     requires { ⌜ Handed l (now places) b c ⌝ }
     ensures { λ r. ⌜ Plain l (now (places .entry)) b c r (now (places .exit)) ⌝ }
 {
@@ -68,14 +71,14 @@ fn plain_byte(places: &mut [u32; 4], l: Lex, b: u8, c: u8) -> Lex
     goes(SOLID, l)
 }
 
-pub fn solid_byte(places: &mut [u32; 4], l: Lex, b: u8, c: u8) -> Lex
+pub fn solid_byte(places: &mut [u32; 5], l: Lex, b: u8, c: u8) -> Lex
     requires { ⌜ Handed l (now places) b c ⌝ }
     ensures { λ r. ⌜ Steps 2 l (now (places .entry)) b r (now (places .exit)) ⌝ }
 {
     plain_byte(places, l, b, c)
 }
 
-pub fn after_bracket_byte(places: &mut [u32; 4], l: Lex, b: u8, c: u8) -> Lex
+pub fn after_bracket_byte(places: &mut [u32; 5], l: Lex, b: u8, c: u8) -> Lex
     requires { ⌜ Handed l (now places) b c ⌝ }
     ensures { λ r. ⌜ Steps 3 l (now (places .entry)) b r (now (places .exit)) ⌝ }
 {
@@ -85,7 +88,7 @@ pub fn after_bracket_byte(places: &mut [u32; 4], l: Lex, b: u8, c: u8) -> Lex
     plain_byte(places, l, b, c)
 }
 
-pub fn after_brackets_byte(places: &mut [u32; 4], l: Lex, b: u8, c: u8) -> Lex
+pub fn after_brackets_byte(places: &mut [u32; 5], l: Lex, b: u8, c: u8) -> Lex
     requires { ⌜ Handed l (now places) b c ⌝ }
     ensures { λ r. ⌜ Steps 4 l (now (places .entry)) b r (now (places .exit)) ⌝ }
 {
@@ -99,7 +102,7 @@ pub fn after_brackets_byte(places: &mut [u32; 4], l: Lex, b: u8, c: u8) -> Lex
     plain_byte(places, l, b, c)
 }
 
-pub fn entity_byte(places: &mut [u32; 4], l: Lex, b: u8, c: u8) -> Lex
+pub fn entity_byte(places: &mut [u32; 5], l: Lex, b: u8, c: u8) -> Lex
     requires { ⌜ Handed l (now places) b c ⌝ }
     ensures { λ r. ⌜ Steps 5 l (now (places .entry)) b r (now (places .exit)) ⌝ }
 {
@@ -110,6 +113,7 @@ pub fn entity_byte(places: &mut [u32; 4], l: Lex, b: u8, c: u8) -> Lex
     let next = entities::entity_next(s, b);
     if next == ENTITY_ENDED {
         note_foreign(places, l.place, c);
+        entity_ends(places, l.place);
         return goes(SOLID, l);
     }
     if ENTITY_ENDED < next {

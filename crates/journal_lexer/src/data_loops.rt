@@ -8,7 +8,8 @@ use crate::state::BLANKS;
 use crate::state::Lex;
 use crate::state::SOLID;
 
-fn between_step(t: &[u8], kinds: &[u8; 256], places: &mut [u32; 4], l: Lex) -> Lex
+// Between tokens, where one byte is read.
+pub fn between_step(t: &[u8], kinds: &[u8; 256], places: &mut [u32; 5], l: Lex) -> Lex
     requires { ⌜ Ready (now t) (now kinds) l (now places) × (l .event ≡ 0) ⌝ }
     ensures { λ r. ⌜ Advance (only 0) (now (t .entry)) l (now (places .entry)) r (now (places .exit)) ⌝ }
 {
@@ -24,7 +25,7 @@ fn between_step(t: &[u8], kinds: &[u8; 256], places: &mut [u32; 4], l: Lex) -> L
     character_data::between_byte(places, l, b, c)
 }
 
-fn blanks_run(t: &[u8], kinds: &[u8; 256], places: &mut [u32; 4], l: Lex) -> Lex
+fn blanks_run(t: &[u8], kinds: &[u8; 256], places: &mut [u32; 5], l: Lex) -> Lex
     requires { ⌜ Ready (now t) (now kinds) l (now places) ⌝ }
     ensures { λ r. ⌜ Advance (only 1) (now (t .entry)) l (now (places .entry)) r (now (places .exit)) ⌝ }
 {
@@ -39,7 +40,7 @@ fn blanks_run(t: &[u8], kinds: &[u8; 256], places: &mut [u32; 4], l: Lex) -> Lex
     s
 }
 
-fn solid_run(t: &[u8], kinds: &[u8; 256], places: &mut [u32; 4], l: Lex) -> Lex
+fn solid_run(t: &[u8], kinds: &[u8; 256], places: &mut [u32; 5], l: Lex) -> Lex
     requires { ⌜ Ready (now t) (now kinds) l (now places) ⌝ }
     ensures { λ r. ⌜ Advance (only 2) (now (t .entry)) l (now (places .entry)) r (now (places .exit)) ⌝ }
 {
@@ -55,7 +56,7 @@ fn solid_run(t: &[u8], kinds: &[u8; 256], places: &mut [u32; 4], l: Lex) -> Lex
 }
 
 // Reads on in character data, up to an event, another mode or the end.
-pub fn data_part(t: &[u8], kinds: &[u8; 256], places: &mut [u32; 4], l: Lex) -> Lex
+pub fn data_part(t: &[u8], kinds: &[u8; 256], places: &mut [u32; 5], l: Lex) -> Lex
     requires { ⌜ Ready (now t) (now kinds) l (now places) × (l .event ≡ 0) ⌝ }
     ensures { λ r. ⌜ Advance dataMode (now (t .entry)) l (now (places .entry)) r (now (places .exit)) ⌝ }
 {

@@ -4,9 +4,9 @@ ghost use mathlib.Core.Path.{_≡_};
 ghost use Prim.Native.Nat.{_-_, _<_};
 ghost use lib.ListN.{set};
 ghost use Rattle.journal_lexer.specs.kinds.Kinds.{dataBy};
-ghost use Rattle.journal_lexer.specs.state.Places.{noPlace};
+ghost use Rattle.journal_lexer.specs.state.Places.{noPlace, savedAt, withSaved};
 ghost use Rattle.journal_lexer.specs.state.Relation.{stepped, named, Handed, Meant};
-ghost use Rattle.journal_spec.specs.Lexer.{run, goes};
+ghost use Rattle.token_spec.specs.Lexer.{run, goes};
 use crate::kinds::AMPERSAND;
 use crate::kinds::BLANK;
 use crate::kinds::BRACKET;
@@ -17,6 +17,7 @@ use crate::state::ENTITY;
 use crate::state::Lex;
 use crate::state::NONE;
 use crate::state::OPENED;
+use crate::state::SAVED;
 use crate::state::SOLID;
 use crate::state::SOLID_AT;
 use crate::state::START;
@@ -26,7 +27,7 @@ use crate::state::note_foreign;
 use crate::state::tells;
 
 // A `<`.
-pub fn tag_opens(places: &mut [u32; 4], l: Lex, event: u8) -> Lex
+pub fn tag_opens(places: &mut [u32; 5], l: Lex, event: u8) -> Lex
     requires { ⌜ l .place < noPlace ⌝ }
     ensures { λ r. ⌜ (r ≡ stepped 6 event l) × (now (places .exit) ≡ set (now (places .entry)) 0 (l .place)) ⌝ }
 {
@@ -36,7 +37,7 @@ pub fn tag_opens(places: &mut [u32; 4], l: Lex, event: u8) -> Lex
 }
 
 // An `&`.
-pub fn entity_begins(places: &mut [u32; 4], l: Lex) -> Lex
+pub fn entity_begins(places: &mut [u32; 5], l: Lex) -> Lex
     requires { ⌜ l .place < noPlace ⌝ }
     ensures { λ r. ⌜ (r ≡ named 5 0 (l .name) l) × (now (places .exit) ≡ set (now (places .entry)) 0 (l .place)) ⌝ }
 {
@@ -45,10 +46,26 @@ pub fn entity_begins(places: &mut [u32; 4], l: Lex) -> Lex
     counts(ENTITY, l, 0)
 }
 
+// The last byte of an entity, which stands for one character. That less is saved than was read before its `&` is always so: the tests keep the sum
+// within 32 bits.
+pub fn entity_ends(places: &mut [u32; 5], place: usize)
+    requires { ⌜ place < noPlace ⌝ }
+    ensures { λ _. ⌜ now (places .exit) ≡ withSaved (now (places .entry)) place ⌝ }
+{
+    let here = place as u32;
+    let at = places[AT];
+    let saved = places[SAVED];
+    if saved <= at {
+        if at <= here {
+            places[SAVED] = saved + (here - at);
+        }
+    }
+}
+
 // A byte of character data that is not `<`, where the run, from `start`, has only blanks so far.
-pub fn data_byte(places: &mut [u32; 4], l: Lex, start: u32, b: u8, c: u8) -> Lex
+pub fn data_byte(places: &mut [u32; 5], l: Lex, start: u32, b: u8, c: u8) -> Lex
     requires { ⌜ Handed l (now places) b c ⌝ }
-    ensures { λ r. ⌜ Meant l (now (places .entry)) b r (now (places .exit)) (goes (dataBy (run start none) 0 (l .place) c)) ⌝ }
+    ensures { λ r. ⌜ Meant l (now (places .entry)) b r (now (places .exit)) (goes (dataBy (run start none (savedAt (now (places .entry)))) 0 (l .place) c)) ⌝ }
 {
     let at = l.place;
     places[START] = start;

@@ -8,7 +8,7 @@ use crate::state::NAME;
 use crate::tags;
 
 // After `</`, where one byte is read.
-pub fn ending_run(t: &[u8], kinds: &[u8; 256], places: &mut [u32; 4], l: Lex) -> Lex
+pub fn ending_run(t: &[u8], kinds: &[u8; 256], places: &mut [u32; 5], l: Lex) -> Lex
     requires { ⌜ Ready (now t) (now kinds) l (now places) ⌝ }
     ensures { λ r. ⌜ Advance (only 10) (now (t .entry)) l (now (places .entry)) r (now (places .exit)) ⌝ }
 {
@@ -24,7 +24,7 @@ pub fn ending_run(t: &[u8], kinds: &[u8; 256], places: &mut [u32; 4], l: Lex) ->
 }
 
 // In the name of a start tag or an empty tag.
-pub fn name_run(t: &[u8], kinds: &[u8; 256], places: &mut [u32; 4], l: Lex) -> Lex
+pub fn name_run(t: &[u8], kinds: &[u8; 256], places: &mut [u32; 5], l: Lex) -> Lex
     requires { ⌜ Ready (now t) (now kinds) l (now places) ⌝ }
     ensures { λ r. ⌜ Advance (only 7) (now (t .entry)) l (now (places .entry)) r (now (places .exit)) ⌝ }
 {
@@ -40,7 +40,7 @@ pub fn name_run(t: &[u8], kinds: &[u8; 256], places: &mut [u32; 4], l: Lex) -> L
 }
 
 // In the name of an end tag.
-pub fn end_name_run(t: &[u8], kinds: &[u8; 256], places: &mut [u32; 4], l: Lex) -> Lex
+pub fn end_name_run(t: &[u8], kinds: &[u8; 256], places: &mut [u32; 5], l: Lex) -> Lex
     requires { ⌜ Ready (now t) (now kinds) l (now places) ⌝ }
     ensures { λ r. ⌜ Advance (only 11) (now (t .entry)) l (now (places .entry)) r (now (places .exit)) ⌝ }
 {

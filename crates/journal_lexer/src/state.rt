@@ -55,7 +55,8 @@ pub const ENDS: u8 = 3;
 pub const RUNS: u8 = 4;
 
 // Lent places, which change once a token and not with every byte: the tag's `<`, the entity's `&` or what is misspelt; where the
-// run of character data starts; its first byte that is not a blank; the first foreign byte.
+// run of character data starts; its first byte that is not a blank; the first foreign byte; how many bytes fewer the characters of the
+// run are, which changes at the end of an entity alone.
 pub const AT: usize = 0;
 
 pub const START: usize = 1;
@@ -63,6 +64,8 @@ pub const START: usize = 1;
 pub const SOLID_AT: usize = 2;
 
 pub const FOREIGN_AT: usize = 3;
+
+pub const SAVED: usize = 4;
 
 pub struct Lex {
     // how many bytes are read
@@ -126,7 +129,7 @@ pub fn counts(mode: u8, l: Lex, count: u32) -> Lex
     }
 }
 
-fn first_foreign(places: &mut [u32; 4], place: usize)
+fn first_foreign(places: &mut [u32; 5], place: usize)
     requires { ⌜ place < noPlace ⌝ }
     ensures { λ _. ⌜ now (places .exit) ≡ withForeign 9 (now (places .entry)) place ⌝ }
 {
@@ -136,7 +139,7 @@ fn first_foreign(places: &mut [u32; 4], place: usize)
 }
 
 // Notes the place of a byte of the kind c, if it is the first foreign one.
-pub fn note_foreign(places: &mut [u32; 4], place: usize, c: u8)
+pub fn note_foreign(places: &mut [u32; 5], place: usize, c: u8)
     requires { ⌜ place < noPlace ⌝ }
     ensures { λ _. ⌜ now (places .exit) ≡ withForeign c (now (places .entry)) place ⌝ }
 {
@@ -146,7 +149,7 @@ pub fn note_foreign(places: &mut [u32; 4], place: usize, c: u8)
 }
 
 // One byte more, where nothing can follow.
-pub fn stop(places: &mut [u32; 4], l: Lex, c: u8) -> Lex
+pub fn stop(places: &mut [u32; 5], l: Lex, c: u8) -> Lex
     requires { ⌜ l .place < noPlace ⌝ }
     ensures { λ r. ⌜ (r ≡ stepped 13 0 l) × (now (places .exit) ≡ withForeign c (now (places .entry)) (l .place)) ⌝ }
 {

@@ -17,7 +17,7 @@ use crate::state::SOLID;
 use crate::tags;
 
 // Between tokens or in character data.
-fn data_step(places: &mut [u32; 4], l: Lex, b: u8, c: u8) -> Lex
+pub fn data_step(places: &mut [u32; 5], l: Lex, b: u8, c: u8) -> Lex
     requires { ⌜ Handed l (now places) b c × (l .mode < 6) ⌝ }
     ensures { λ r. ⌜ Steps (l .mode) l (now (places .entry)) b r (now (places .exit)) ⌝ }
 {
@@ -41,7 +41,7 @@ fn data_step(places: &mut [u32; 4], l: Lex, b: u8, c: u8) -> Lex
 }
 
 // In a start tag or an empty tag.
-fn start_tag_step(places: &mut [u32; 4], l: Lex, b: u8, c: u8) -> Lex
+fn start_tag_step(places: &mut [u32; 5], l: Lex, b: u8, c: u8) -> Lex
     requires { ⌜ Handed l (now places) b c × (6 ≤ l .mode) × (l .mode < 10) ⌝ }
     ensures { λ r. ⌜ Steps (l .mode) l (now (places .entry)) b r (now (places .exit)) ⌝ }
 {
@@ -59,7 +59,7 @@ fn start_tag_step(places: &mut [u32; 4], l: Lex, b: u8, c: u8) -> Lex
 }
 
 // In an end tag, or stopped.
-fn end_tag_step(places: &mut [u32; 4], l: Lex, b: u8, c: u8) -> Lex
+fn end_tag_step(places: &mut [u32; 5], l: Lex, b: u8, c: u8) -> Lex
     requires { ⌜ Handed l (now places) b c × (10 ≤ l .mode) ⌝ }
     ensures { λ r. ⌜ Steps (l .mode) l (now (places .entry)) b r (now (places .exit)) ⌝ }
 {
@@ -77,7 +77,7 @@ fn end_tag_step(places: &mut [u32; 4], l: Lex, b: u8, c: u8) -> Lex
 }
 
 // The byte b of the kind c.
-pub fn step(places: &mut [u32; 4], l: Lex, b: u8, c: u8) -> Lex
+pub fn step(places: &mut [u32; 5], l: Lex, b: u8, c: u8) -> Lex
     requires { ⌜ Handed l (now places) b c ⌝ }
     ensures { λ r. ⌜ Steps (l .mode) l (now (places .entry)) b r (now (places .exit)) ⌝ }
 {

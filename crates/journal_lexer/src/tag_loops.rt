@@ -9,7 +9,7 @@ use crate::state::SOLID;
 use crate::step;
 use crate::tags;
 
-fn opened_step(t: &[u8], kinds: &[u8; 256], places: &mut [u32; 4], l: Lex) -> Lex
+fn opened_step(t: &[u8], kinds: &[u8; 256], places: &mut [u32; 5], l: Lex) -> Lex
     requires { ⌜ Ready (now t) (now kinds) l (now places) × (l .event ≡ 0) ⌝ }
     ensures { λ r. ⌜ Advance (only 6) (now (t .entry)) l (now (places .entry)) r (now (places .exit)) ⌝ }
 {
@@ -35,7 +35,7 @@ fn is_rare(mode: u8) -> bool
     SOLID < mode
 }
 
-fn rare_run(t: &[u8], kinds: &[u8; 256], places: &mut [u32; 4], l: Lex) -> Lex
+fn rare_run(t: &[u8], kinds: &[u8; 256], places: &mut [u32; 5], l: Lex) -> Lex
     requires { ⌜ Ready (now t) (now kinds) l (now places) ⌝ }
     ensures { λ r. ⌜ Advance rareMode (now (t .entry)) l (now (places .entry)) r (now (places .exit)) ⌝ }
 {
@@ -51,7 +51,7 @@ fn rare_run(t: &[u8], kinds: &[u8; 256], places: &mut [u32; 4], l: Lex) -> Lex
 }
 
 // Reads on in a tag, up to an event, another mode or the end.
-pub fn tag_part(t: &[u8], kinds: &[u8; 256], places: &mut [u32; 4], l: Lex) -> Lex
+pub fn tag_part(t: &[u8], kinds: &[u8; 256], places: &mut [u32; 5], l: Lex) -> Lex
     requires { ⌜ Ready (now t) (now kinds) l (now places) × (l .event ≡ 0) ⌝ }
     ensures { λ r. ⌜ Advance tagMode (now (t .entry)) l (now (places .entry)) r (now (places .exit)) ⌝ }
 {

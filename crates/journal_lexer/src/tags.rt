@@ -69,7 +69,7 @@ fn longer(mode: u8, l: Lex, b: u8) -> Lex
 }
 
 // After `<`.
-pub fn opened_byte(places: &mut [u32; 4], l: Lex, b: u8, c: u8) -> Lex
+pub fn opened_byte(places: &mut [u32; 5], l: Lex, b: u8, c: u8) -> Lex
     requires { ⌜ Handed l (now places) b c ⌝ }
     ensures { λ r. ⌜ Steps 6 l (now (places .entry)) b r (now (places .exit)) ⌝ }
 {
@@ -83,7 +83,7 @@ pub fn opened_byte(places: &mut [u32; 4], l: Lex, b: u8, c: u8) -> Lex
 }
 
 // Past the name of a start tag or an empty tag.
-fn past_name(places: &mut [u32; 4], l: Lex, b: u8, c: u8) -> Lex
+fn past_name(places: &mut [u32; 5], l: Lex, b: u8, c: u8) -> Lex
     requires { ⌜ Handed l (now places) b c ⌝ }
     ensures { λ r. ⌜ ((n : List ℕ) → Holds (l .name) (l .count) n → Meant l (now (places .entry)) b r (now (places .exit)) (tagBy (tagAt (now (places .entry))) n c)) ⌝ }
 {
@@ -99,7 +99,7 @@ fn past_name(places: &mut [u32; 4], l: Lex, b: u8, c: u8) -> Lex
     stop(places, l, c)
 }
 
-pub fn name_byte(places: &mut [u32; 4], l: Lex, b: u8, c: u8) -> Lex
+pub fn name_byte(places: &mut [u32; 5], l: Lex, b: u8, c: u8) -> Lex
     requires { ⌜ Handed l (now places) b c ⌝ }
     ensures { λ r. ⌜ Steps 7 l (now (places .entry)) b r (now (places .exit)) ⌝ }
 {
@@ -109,14 +109,14 @@ pub fn name_byte(places: &mut [u32; 4], l: Lex, b: u8, c: u8) -> Lex
     past_name(places, l, b, c)
 }
 
-pub fn after_name_byte(places: &mut [u32; 4], l: Lex, b: u8, c: u8) -> Lex
+pub fn after_name_byte(places: &mut [u32; 5], l: Lex, b: u8, c: u8) -> Lex
     requires { ⌜ Handed l (now places) b c ⌝ }
     ensures { λ r. ⌜ Steps 8 l (now (places .entry)) b r (now (places .exit)) ⌝ }
 {
     past_name(places, l, b, c)
 }
 
-pub fn after_slash_byte(places: &mut [u32; 4], l: Lex, b: u8, c: u8) -> Lex
+pub fn after_slash_byte(places: &mut [u32; 5], l: Lex, b: u8, c: u8) -> Lex
     requires { ⌜ Handed l (now places) b c ⌝ }
     ensures { λ r. ⌜ Steps 9 l (now (places .entry)) b r (now (places .exit)) ⌝ }
 {
@@ -127,7 +127,7 @@ pub fn after_slash_byte(places: &mut [u32; 4], l: Lex, b: u8, c: u8) -> Lex
 }
 
 // After `</`.
-pub fn ending_byte(places: &mut [u32; 4], l: Lex, b: u8, c: u8) -> Lex
+pub fn ending_byte(places: &mut [u32; 5], l: Lex, b: u8, c: u8) -> Lex
     requires { ⌜ Handed l (now places) b c ⌝ }
     ensures { λ r. ⌜ Steps 10 l (now (places .entry)) b r (now (places .exit)) ⌝ }
 {
@@ -138,7 +138,7 @@ pub fn ending_byte(places: &mut [u32; 4], l: Lex, b: u8, c: u8) -> Lex
 }
 
 // Past the name of an end tag.
-fn past_end_name(places: &mut [u32; 4], l: Lex, b: u8, c: u8) -> Lex
+fn past_end_name(places: &mut [u32; 5], l: Lex, b: u8, c: u8) -> Lex
     requires { ⌜ Handed l (now places) b c ⌝ }
     ensures { λ r. ⌜ ((n : List ℕ) → Holds (l .name) (l .count) n → Meant l (now (places .entry)) b r (now (places .exit)) (endTagBy (tagAt (now (places .entry))) n c)) ⌝ }
 {
@@ -151,7 +151,7 @@ fn past_end_name(places: &mut [u32; 4], l: Lex, b: u8, c: u8) -> Lex
     stop(places, l, c)
 }
 
-pub fn end_name_byte(places: &mut [u32; 4], l: Lex, b: u8, c: u8) -> Lex
+pub fn end_name_byte(places: &mut [u32; 5], l: Lex, b: u8, c: u8) -> Lex
     requires { ⌜ Handed l (now places) b c ⌝ }
     ensures { λ r. ⌜ Steps 11 l (now (places .entry)) b r (now (places .exit)) ⌝ }
 {
@@ -161,7 +161,7 @@ pub fn end_name_byte(places: &mut [u32; 4], l: Lex, b: u8, c: u8) -> Lex
     past_end_name(places, l, b, c)
 }
 
-pub fn after_end_name_byte(places: &mut [u32; 4], l: Lex, b: u8, c: u8) -> Lex
+pub fn after_end_name_byte(places: &mut [u32; 5], l: Lex, b: u8, c: u8) -> Lex
     requires { ⌜ Handed l (now places) b c ⌝ }
     ensures { λ r. ⌜ Steps 12 l (now (places .entry)) b r (now (places .exit)) ⌝ }
 {
@@ -169,7 +169,7 @@ pub fn after_end_name_byte(places: &mut [u32; 4], l: Lex, b: u8, c: u8) -> Lex
 }
 
 // Once misspelt, nothing more is read.
-pub fn stopped_byte(places: &mut [u32; 4], l: Lex, b: u8, c: u8) -> Lex
+pub fn stopped_byte(places: &mut [u32; 5], l: Lex, b: u8, c: u8) -> Lex
     requires { ⌜ Handed l (now places) b c ⌝ }
     ensures { λ r. ⌜ Steps 13 l (now (places .entry)) b r (now (places .exit)) ⌝ }
 {

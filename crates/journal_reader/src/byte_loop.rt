@@ -41,10 +41,11 @@ pub fn read_all(
     parents: &mut [u16],
     starts: &mut [u32],
     lengths: &mut [u16],
-    places: &mut [u32; 4],
+    decoded: &mut [u16],
+    places: &mut [u32; 5],
 ) -> ReaderState
-    requires { ⌜ Usable (now levels) (now places) (heldColumns numbers names parents starts lengths) started × KindTable (now table) × (length (now text) < noPlace) × Sized (now sizes) × (count ≤ maxDeclarations) ⌝ }
-    ensures { λ r. ⌜ AllReadIn (entrySchema words count kinds firsts lasts nullables elements predecessors sizes) text levels places numbers names parents starts lengths r ⌝ }
+    requires { ⌜ Usable (now levels) (now places) (heldColumns numbers names parents starts lengths decoded) started × KindTable (now table) × (length (now text) < noPlace) × Sized (now sizes) × (count ≤ maxDeclarations) ⌝ }
+    ensures { λ r. ⌜ AllReadIn (entrySchema words count kinds firsts lasts nullables elements predecessors sizes) text levels places numbers names parents starts lengths decoded r ⌝ }
 {
     let mut x: ReaderState = state::start();
     let mut at = 0;
@@ -68,6 +69,7 @@ pub fn read_all(
             parents,
             starts,
             lengths,
+            decoded,
             places,
             x,
             b,

@@ -29,18 +29,19 @@ pub fn finish(
     parents: &mut [u16],
     starts: &mut [u32],
     lengths: &mut [u16],
-    places: &mut [u32; 4],
+    decoded: &mut [u16],
+    places: &mut [u32; 5],
     x: ReaderState,
 ) -> Found
-    requires { ⌜ Usable (now levels) (now places) (heldColumns numbers names parents starts lengths) x × (x .lex .place < noPlace) ⌝ }
-    ensures { λ r. ⌜ ((t : SchemaCells) → Finished t (now (levels .entry)) (now (places .entry)) (entryColumns numbers names parents starts lengths) x (exitColumns numbers names parents starts lengths) r) ⌝ }
+    requires { ⌜ Usable (now levels) (now places) (heldColumns numbers names parents starts lengths decoded) x × (x .lex .place < noPlace) ⌝ }
+    ensures { λ r. ⌜ ((t : SchemaCells) → Finished t (now (levels .entry)) (now (places .entry)) (entryColumns numbers names parents starts lengths decoded) x (exitColumns numbers names parents starts lengths decoded) r) ⌝ }
 {
     let l: Lex = x.lex;
     let m: Build = x.build;
     let before = m.count;
     let last = findings::ending(places, l);
     let y: BuildStep = event_handling::on_data_event(levels, places, last, m);
-    rows::add_row(numbers, names, parents, starts, lengths, before, y);
+    rows::add_row(numbers, names, parents, starts, lengths, decoded, before, y);
     let build: Build = y.build;
     let key = findings::found_key(places, l, build, l.place);
     Found {

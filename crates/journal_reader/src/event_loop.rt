@@ -54,10 +54,11 @@ fn read_all(
     parents: &mut [u16],
     starts: &mut [u32],
     lengths: &mut [u16],
-    places: &mut [u32; 4],
+    decoded: &mut [u16],
+    places: &mut [u32; 5],
 ) -> ReaderState
-    requires { ⌜ Usable (now levels) (now places) (heldColumns numbers names parents starts lengths) started × KindTable (now table) × (length (now text) < noPlace) × Sized (now sizes) × (count ≤ maxDeclarations) ⌝ }
-    ensures { λ r. ⌜ AllReadIn (entrySchema words count kinds firsts lasts nullables elements predecessors sizes) text levels places numbers names parents starts lengths r ⌝ }
+    requires { ⌜ Usable (now levels) (now places) (heldColumns numbers names parents starts lengths decoded) started × KindTable (now table) × (length (now text) < noPlace) × Sized (now sizes) × (count ≤ maxDeclarations) ⌝ }
+    ensures { λ r. ⌜ AllReadIn (entrySchema words count kinds firsts lasts nullables elements predecessors sizes) text levels places numbers names parents starts lengths decoded r ⌝ }
 {
     let mut x: ReaderState = state::start();
     while x.lex.place < text.len() {
@@ -80,6 +81,7 @@ fn read_all(
             parents,
             starts,
             lengths,
+            decoded,
             places,
             x,
         );
@@ -106,13 +108,14 @@ fn read_journal(
     parents: &mut [u16],
     starts: &mut [u32],
     lengths: &mut [u16],
+    decoded: &mut [u16],
 ) -> Found
-    requires { ⌜ (length (now text) < noPlace) × Sized (now sizes) × (count ≤ maxDeclarations) × EqualColumns (heldColumns numbers names parents starts lengths) ⌝ }
-    ensures { λ r. ⌜ JournalReadIn (entrySchema words count kinds firsts lasts nullables elements predecessors sizes) text numbers names parents starts lengths r ⌝ }
+    requires { ⌜ (length (now text) < noPlace) × Sized (now sizes) × (count ≤ maxDeclarations) × EqualColumns (heldColumns numbers names parents starts lengths decoded) ⌝ }
+    ensures { λ r. ⌜ JournalReadIn (entrySchema words count kinds firsts lasts nullables elements predecessors sizes) text numbers names parents starts lengths decoded r ⌝ }
 {
     let table = kinds::all_kinds();
     let mut levels = [0u64; LEVELS];
-    let mut places = [0u32, 0u32, NONE, NONE];
+    let mut places = [0u32, 0u32, NONE, NONE, 0u32];
     let x: ReaderState = read_all(
         text,
         &table,
@@ -132,6 +135,7 @@ fn read_journal(
         parents,
         starts,
         lengths,
+        decoded,
         &mut places,
     );
     end::finish(
@@ -141,6 +145,7 @@ fn read_journal(
         parents,
         starts,
         lengths,
+        decoded,
         &mut places,
         x,
     )
@@ -165,9 +170,10 @@ pub fn judge(
     parents: &mut [u16],
     starts: &mut [u32],
     lengths: &mut [u16],
+    decoded: &mut [u16],
 ) -> Verdict
-    requires { ⌜ Sized (now sizes) × (count ≤ maxDeclarations) × (limit < noPlace) × EqualColumns (heldColumns numbers names parents starts lengths) ⌝ }
-    ensures { λ r. ⌜ JudgedIn (entrySchema words count kinds firsts lasts nullables elements predecessors sizes) text limit numbers names parents starts lengths r ⌝ }
+    requires { ⌜ Sized (now sizes) × (count ≤ maxDeclarations) × (limit < noPlace) × EqualColumns (heldColumns numbers names parents starts lengths decoded) ⌝ }
+    ensures { λ r. ⌜ JudgedIn (entrySchema words count kinds firsts lasts nullables elements predecessors sizes) text limit numbers names parents starts lengths decoded r ⌝ }
 {
     let n = text.len();
     let size = numbers.len();
@@ -191,6 +197,7 @@ pub fn judge(
         parents,
         starts,
         lengths,
+        decoded,
     );
     verdict::verdict_of(found, size)
 }

@@ -40,12 +40,13 @@ pub fn read_event(
     parents: &mut [u16],
     starts: &mut [u32],
     lengths: &mut [u16],
-    places: &[u32; 4],
+    decoded: &mut [u16],
+    places: &[u32; 5],
     l: Lex,
     m: Build,
 ) -> Build
-    requires { ⌜ Safe (now levels) m × Sized (now sizes) × (m .count < placeLimit) × (count ≤ maxDeclarations) × (length (now places) ≡ 4) × EqualColumns (heldColumns numbers names parents starts lengths) ⌝ }
-    ensures { λ r. ⌜ EventReadIn (entrySchema words count kinds firsts lasts nullables elements predecessors sizes) levels places numbers names parents starts lengths l m r ⌝ }
+    requires { ⌜ Safe (now levels) m × Sized (now sizes) × (m .count < placeLimit) × (count ≤ maxDeclarations) × (length (now places) ≡ 5) × EqualColumns (heldColumns numbers names parents starts lengths decoded) ⌝ }
+    ensures { λ r. ⌜ EventReadIn (entrySchema words count kinds firsts lasts nullables elements predecessors sizes) levels places numbers names parents starts lengths decoded l m r ⌝ }
 {
     let before = m.count;
     let x: BuildStep = event_handling::on_event(
@@ -64,6 +65,6 @@ pub fn read_event(
         l,
         m,
     );
-    rows::add_row(numbers, names, parents, starts, lengths, before, x);
+    rows::add_row(numbers, names, parents, starts, lengths, decoded, before, x);
     x.build
 }

@@ -23,7 +23,7 @@ use names::MAX_ELEMENTS;
 use text::name_words::Name;
 
 // The lexer up to an event, or to the end. There is a byte to read.
-fn to_event(text: &[u8], table: &[u8; 256], places: &mut [u32; 4], l: Lex) -> Lex
+fn to_event(text: &[u8], table: &[u8; 256], places: &mut [u32; 5], l: Lex) -> Lex
     requires { ⌜ Ready (now text) (now table) l (now places) × (l .place < length (now text)) ⌝ }
     ensures { λ r. ⌜ Onward (now (text .entry)) l (now (places .entry)) r (now (places .exit)) ⌝ }
 {
@@ -55,11 +55,12 @@ pub fn read_on(
     parents: &mut [u16],
     starts: &mut [u32],
     lengths: &mut [u16],
-    places: &mut [u32; 4],
+    decoded: &mut [u16],
+    places: &mut [u32; 5],
     x: ReaderState,
 ) -> ReaderState
-    requires { ⌜ ByteAhead (now text) (now table) (now levels) (now places) (now sizes) count (heldColumns numbers names parents starts lengths) x ⌝ }
-    ensures { λ r. ⌜ ReadOnIn (entrySchema words count kinds firsts lasts nullables elements predecessors sizes) text levels places numbers names parents starts lengths x r ⌝ }
+    requires { ⌜ ByteAhead (now text) (now table) (now levels) (now places) (now sizes) count (heldColumns numbers names parents starts lengths decoded) x ⌝ }
+    ensures { λ r. ⌜ ReadOnIn (entrySchema words count kinds firsts lasts nullables elements predecessors sizes) text levels places numbers names parents starts lengths decoded x r ⌝ }
 {
     let l: Lex = x.lex;
     let m: Build = x.build;
@@ -81,6 +82,7 @@ pub fn read_on(
         parents,
         starts,
         lengths,
+        decoded,
         places,
         lex,
         m,

@@ -47,8 +47,8 @@ fn is_data(mode: u8) -> bool
 }
 
 // The event that the end of the text makes: a run of character data is whole.
-pub fn ending(places: &mut [u32; 4], l: Lex) -> Lex
-    requires { ⌜ (l .place < noPlace) × (length (now places) ≡ 4) ⌝ }
+pub fn ending(places: &mut [u32; 5], l: Lex) -> Lex
+    requires { ⌜ (l .place < noPlace) × (length (now places) ≡ 5) ⌝ }
     ensures { λ r. ⌜ Ended l (now (places .entry)) r (now (places .exit)) ⌝ }
 {
     if is_data(l.mode) {
@@ -82,7 +82,7 @@ fn key_of(mode: u8, m: Build, n: usize, at: u32, foreign: u32) -> u64
 }
 
 // The key of the first refusal of a text of n bytes that stands within its limit.
-pub fn found_key(places: &[u32; 4], l: Lex, m: Build, n: usize) -> u64
+pub fn found_key(places: &[u32; 5], l: Lex, m: Build, n: usize) -> u64
     requires { ⌜ n < noPlace ⌝ }
     ensures { λ r. ⌜ (r ≡ foundKey (now (places .entry)) (l .mode) m n) × (tagAt (now (places .entry)) < placeLimit) × (foreignAt (now (places .entry)) < placeLimit) ⌝ }
 {

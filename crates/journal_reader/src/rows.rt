@@ -12,14 +12,24 @@ pub fn add_row(
     parents: &mut [u16],
     starts: &mut [u32],
     lengths: &mut [u16],
+    decoded: &mut [u16],
     count: usize,
     x: BuildStep,
 )
-    requires { ⌜ EqualColumns (heldColumns numbers names parents starts lengths) ⌝ }
-    ensures { λ _. ⌜ RowAdded (entryColumns numbers names parents starts lengths) count x (exitColumns numbers names parents starts lengths) ⌝ }
+    requires { ⌜ EqualColumns (heldColumns numbers names parents starts lengths decoded) ⌝ }
+    ensures { λ _. ⌜ RowAdded (entryColumns numbers names parents starts lengths decoded) count x (exitColumns numbers names parents starts lengths decoded) ⌝ }
 {
     let build = x.build;
     if build.count != count {
-        columns::put_row(numbers, names, parents, starts, lengths, count, x.row);
+        columns::put_row(
+            numbers,
+            names,
+            parents,
+            starts,
+            lengths,
+            decoded,
+            count,
+            x.row,
+        );
     }
 }

@@ -1,4 +1,4 @@
-// What reading a journal has come to, by value: the lexer's state and the builder's. Beside it four places, the open elements and the
+// What reading a journal has come to, by value: the lexer's state and the builder's. Beside it five places, the open elements and the
 // columns are lent.
 ghost use mathlib.Core.Path.{_≡_};
 ghost use Rattle.journal_reader.specs.state.Reading.{started};

@@ -38,13 +38,14 @@ pub fn read_byte(
     parents: &mut [u16],
     starts: &mut [u32],
     lengths: &mut [u16],
-    places: &mut [u32; 4],
+    decoded: &mut [u16],
+    places: &mut [u32; 5],
     x: ReaderState,
     b: u8,
     c: u8,
 ) -> ReaderState
-    requires { ⌜ Usable (now levels) (now places) (heldColumns numbers names parents starts lengths) x × Sized (now sizes) × (count ≤ maxDeclarations) × Handed (x .lex) (now places) b c ⌝ }
-    ensures { λ r. ⌜ ByteReadIn (entrySchema words count kinds firsts lasts nullables elements predecessors sizes) levels places numbers names parents starts lengths x b r ⌝ }
+    requires { ⌜ Usable (now levels) (now places) (heldColumns numbers names parents starts lengths decoded) x × Sized (now sizes) × (count ≤ maxDeclarations) × Handed (x .lex) (now places) b c ⌝ }
+    ensures { λ r. ⌜ ByteReadIn (entrySchema words count kinds firsts lasts nullables elements predecessors sizes) levels places numbers names parents starts lengths decoded x b r ⌝ }
 {
     let l: Lex = x.lex;
     let m: Build = x.build;
@@ -66,6 +67,7 @@ pub fn read_byte(
         parents,
         starts,
         lengths,
+        decoded,
         places,
         lex,
         m,

@@ -5,13 +5,13 @@ use mathlib.Core.Option.{Option, none, some}
 use Prim.Native.Nat.{ℕ, suc}
 use lib.Dec.{eqb, leb, ltb}
 use lib.ListN.{length}
-use Rattle.journal_spec.specs.Lexer.{Event, quiet, starts, empties, ends, runs, Run}
 use Rattle.schema_spec.specs.Models.{Content, empty, pcdata, children, Progress, started, advance, complete}
 use Rattle.schema_spec.specs.Schemas.{Schema, elementNamed, contentAt}
 use Rattle.table_spec.specs.Rows.{Row, elementRow, textRow}
 use Rattle.text_spec.specs.Limits.{maxDepth, maxNodes, maxTextBytes}
 use Rattle.text_spec.specs.Lists.{isEmpty, isNone, valueOr, sameBytes}
 use Rattle.text_spec.specs.Refusals.{Refusal, at, given, badNesting, overDepth, undeclaredElement, badContent, overNodeLimit}
+use Rattle.token_spec.specs.Lexer.{Event, quiet, starts, empties, ends, runs, Run}
 
 -- what an open element has got of its content
 pub data Filling : Type 0 where

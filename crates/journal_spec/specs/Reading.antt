@@ -3,13 +3,13 @@ use mathlib.Core.Bool.{false, not, _&&_, _||_}
 use mathlib.Core.List.{List, [], _∷_, _++_, reverse}
 use Prim.Native.Nat.{ℕ, suc}
 use Rattle.journal_spec.specs.Builder.{Building, building, onEvent}
-use Rattle.journal_spec.specs.Lexer.{Mode, between, lex, lastEvent, misspeltAt}
 use Rattle.schema_spec.specs.Schemas.{Schema}
 use Rattle.table_spec.specs.Rows.{Row}
 use Rattle.text_spec.specs.Bytes.{isForeign}
 use Rattle.text_spec.specs.Lists.{isEmpty, listOf, isNone}
 use Rattle.text_spec.specs.Refusals.{Refusal, Outcome, judged, at, allAt, given, badByte, misspelt, badNesting}
 use Rattle.text_spec.specs.Texts.{lengthRefusals}
+use Rattle.token_spec.specs.Lexer.{Mode, between, lex, lastEvent, misspeltAt}
 
 -- the state after some bytes: their number, what the lexer leaves open, what is built, and 3 where it applied
 pub record Machine : Type 0 where

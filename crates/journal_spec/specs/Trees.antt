@@ -4,13 +4,13 @@ use mathlib.Core.List.{List, [], _∷_, _++_}
 use Prim.Native.Nat.{ℕ, suc, _+_, max}
 use lib.Dec.{T}
 use lib.ListN.{length}
-use Rattle.journal_spec.specs.Tokens.{Token, startTag, emptyTag, endTag, characters, spell, spellToken, Tokens}
 use Rattle.schema_spec.specs.Names.{element, text}
 use Rattle.schema_spec.specs.Schemas.{Schema, elementNamed, contentAt, isPcdata}
 use Rattle.table_spec.specs.Nodes.{Node, top, under}
 use Rattle.table_spec.specs.Rows.{Row, elementRow, textRow}
 use Rattle.text_spec.specs.Bytes.{allBlank}
 use Rattle.text_spec.specs.Lists.{valueOr}
+use Rattle.token_spec.specs.Tokens.{Token, startTag, emptyTag, endTag, characters, spell, spellToken, Tokens}
 
 -- A forest as first child and next sibling: nothing; character data, with its place, and what follows; or an element, with the place
 -- of its start tag, its name, its content, and what follows.

@@ -1,10 +1,8 @@
 // Cutting a table in columns to a set of names, into other lent columns.
-ghost use lib.ListN.{length};
 ghost use Rattle.cells.specs.lent.Cells.{Cleared};
 ghost use Rattle.cells.specs.lent.Ends.{heldColumns};
 ghost use Rattle.kept_rows.specs.Kept.{inSet};
-ghost use Rattle.kept_rows.specs.columns.Cut.{Cutting, TableColumns, CutInto};
-ghost use Rattle.kept_rows.specs.cut_rows.Rows.{OfLength};
+ghost use Rattle.kept_rows.specs.columns.Cut.{Cutting, CutColumns, CutInto};
 use crate::NOT_KEPT;
 use crate::cut_rows::write_rows;
 use crate::number_kept;
@@ -29,15 +27,17 @@ fn cut_into(
     parents: &[u16],
     starts: &[u32],
     lengths: &[u16],
+    decoded: &[u16],
     positions: &mut [u16],
     out_numbers: &mut [u16],
     out_names: &mut [u8],
     out_parents: &mut [u16],
     out_starts: &mut [u32],
     out_lengths: &mut [u16],
+    out_decoded: &mut [u16],
 ) -> usize
-    requires { ⌜ Cutting (heldColumns numbers names parents starts lengths) (now positions) (heldColumns «out_numbers» «out_names» «out_parents» «out_starts» «out_lengths») ⌝ }
-    ensures { λ n. ⌜ CutInto (inSet set) numbers names parents starts lengths n «out_numbers» «out_names» «out_parents» «out_starts» «out_lengths» ⌝ }
+    requires { ⌜ Cutting (heldColumns numbers names parents starts lengths decoded) (now positions) (heldColumns «out_numbers» «out_names» «out_parents» «out_starts» «out_lengths» «out_decoded») ⌝ }
+    ensures { λ n. ⌜ CutInto (inSet set) numbers names parents starts lengths decoded n «out_numbers» «out_names» «out_parents» «out_starts» «out_lengths» «out_decoded» ⌝ }
 {
     let n = number_kept(set, names, parents, positions) as usize;
     if out_numbers.len() < n {
@@ -47,6 +47,7 @@ fn cut_into(
             out_parents,
             out_starts,
             out_lengths,
+            out_decoded,
             0,
         );
         return n;
@@ -57,12 +58,14 @@ fn cut_into(
         parents,
         starts,
         lengths,
+        decoded,
         &positions[..],
         out_numbers,
         out_names,
         out_parents,
         out_starts,
         out_lengths,
+        out_decoded,
     );
     clear_columns(
         out_numbers,
@@ -70,6 +73,7 @@ fn cut_into(
         out_parents,
         out_starts,
         out_lengths,
+        out_decoded,
         n,
     );
     n
@@ -83,14 +87,16 @@ pub fn cut(
     parents: &[u16],
     starts: &[u32],
     lengths: &[u16],
+    decoded: &[u16],
     out_numbers: &mut [u16],
     out_names: &mut [u8],
     out_parents: &mut [u16],
     out_starts: &mut [u32],
     out_lengths: &mut [u16],
+    out_decoded: &mut [u16],
 ) -> usize
-    requires { ⌜ TableColumns (heldColumns numbers names parents starts lengths) × OfLength (heldColumns «out_numbers» «out_names» «out_parents» «out_starts» «out_lengths») (length (now «out_numbers»)) ⌝ }
-    ensures { λ n. ⌜ CutInto (inSet set) numbers names parents starts lengths n «out_numbers» «out_names» «out_parents» «out_starts» «out_lengths» ⌝ }
+    requires { ⌜ CutColumns (heldColumns numbers names parents starts lengths decoded) (heldColumns «out_numbers» «out_names» «out_parents» «out_starts» «out_lengths» «out_decoded») ⌝ }
+    ensures { λ n. ⌜ CutInto (inSet set) numbers names parents starts lengths decoded n «out_numbers» «out_names» «out_parents» «out_starts» «out_lengths» «out_decoded» ⌝ }
 {
     let mut positions = [NOT_KEPT; MAX_NODES];
     let count = parents.len();
@@ -101,11 +107,13 @@ pub fn cut(
         parents,
         starts,
         lengths,
+        decoded,
         &mut positions[..count],
         out_numbers,
         out_names,
         out_parents,
         out_starts,
         out_lengths,
+        out_decoded,
     )
 }

@@ -10,16 +10,18 @@ fn cut_row(
     parents: &[u16],
     starts: &[u32],
     lengths: &[u16],
+    decoded: &[u16],
     positions: &[u16],
     out_numbers: &mut [u16],
     out_names: &mut [u8],
     out_parents: &mut [u16],
     out_starts: &mut [u32],
     out_lengths: &mut [u16],
+    out_decoded: &mut [u16],
     r: usize,
 )
-    requires { ⌜ RowPass (now positions) (heldColumns numbers names parents starts lengths) (heldColumns «out_numbers» «out_names» «out_parents» «out_starts» «out_lengths») r ⌝ }
-    ensures { λ _. ⌜ RowAddedIn positions (entryColumns numbers names parents starts lengths) r «out_numbers» «out_names» «out_parents» «out_starts» «out_lengths» ⌝ }
+    requires { ⌜ RowPass (now positions) (heldColumns numbers names parents starts lengths decoded) (heldColumns «out_numbers» «out_names» «out_parents» «out_starts» «out_lengths» «out_decoded») r ⌝ }
+    ensures { λ _. ⌜ RowAddedIn positions (entryColumns numbers names parents starts lengths decoded) r «out_numbers» «out_names» «out_parents» «out_starts» «out_lengths» «out_decoded» ⌝ }
 {
     let x = positions[r];
     if x == NOT_KEPT {
@@ -32,6 +34,7 @@ fn cut_row(
     out_parents[at] = positions[p] - 1;
     out_starts[at] = starts[r];
     out_lengths[at] = lengths[r];
+    out_decoded[at] = decoded[r];
 }
 
 // Writes the rows that have a position, one after the other.
@@ -41,15 +44,17 @@ pub fn write_rows(
     parents: &[u16],
     starts: &[u32],
     lengths: &[u16],
+    decoded: &[u16],
     positions: &[u16],
     out_numbers: &mut [u16],
     out_names: &mut [u8],
     out_parents: &mut [u16],
     out_starts: &mut [u32],
     out_lengths: &mut [u16],
+    out_decoded: &mut [u16],
 )
-    requires { ⌜ CutPass (now positions) (heldColumns numbers names parents starts lengths) (heldColumns «out_numbers» «out_names» «out_parents» «out_starts» «out_lengths») ⌝ }
-    ensures { λ _. ⌜ RowsNotedIn positions numbers names parents starts lengths «out_numbers» «out_names» «out_parents» «out_starts» «out_lengths» ⌝ }
+    requires { ⌜ CutPass (now positions) (heldColumns numbers names parents starts lengths decoded) (heldColumns «out_numbers» «out_names» «out_parents» «out_starts» «out_lengths» «out_decoded») ⌝ }
+    ensures { λ _. ⌜ RowsNotedIn positions numbers names parents starts lengths decoded «out_numbers» «out_names» «out_parents» «out_starts» «out_lengths» «out_decoded» ⌝ }
 {
     let mut r = 0;
     while r < positions.len() {
@@ -59,12 +64,14 @@ pub fn write_rows(
             parents,
             starts,
             lengths,
+            decoded,
             positions,
             out_numbers,
             out_names,
             out_parents,
             out_starts,
             out_lengths,
+            out_decoded,
             r,
         );
         r += 1;

@@ -5,7 +5,7 @@ use host_making::make_extract;
 use host_selecting::select_from;
 use hosts::results::HostResult;
 
-// Makes the extract of a journal for a bundle under a schema: the journal's table in the five columns, the extract in `out`.
+// Makes the extract of a journal for a bundle under a schema: the journal's table in the six columns, the extract in `out`.
 #[no_mangle]
 pub extern "C" fn host_make_extract(
     schema: &[u8],
@@ -16,9 +16,10 @@ pub extern "C" fn host_make_extract(
     parents: &mut [u16],
     starts: &mut [u32],
     lengths: &mut [u16],
+    decoded: &mut [u16],
     out: &mut [u8],
 ) -> HostResult
-    ensures { λ r. ⌜ MakingExits (makeExtract (now (schema .entry)) (now (bundle .entry)) (now (journal .entry))) r numbers names parents starts lengths out ⌝ }
+    ensures { λ r. ⌜ MakingExits (makeExtract (now (schema .entry)) (now (bundle .entry)) (now (journal .entry))) r numbers names parents starts lengths decoded out ⌝ }
 {
     make_extract(
         schema,
@@ -29,11 +30,12 @@ pub extern "C" fn host_make_extract(
         parents,
         starts,
         lengths,
+        decoded,
         out,
     )
 }
 
-// Selects from an extract what the path at a place of the bundle selects, or for place 0 what each path selects: the extract's table in the five
+// Selects from an extract what the path at a place of the bundle selects, or for place 0 what each path selects: the extract's table in the six
 // columns, the numbers of the selected nodes in `items`, how many each path selects in `counts`.
 #[no_mangle]
 pub extern "C" fn host_select(
@@ -46,10 +48,11 @@ pub extern "C" fn host_select(
     parents: &mut [u16],
     starts: &mut [u32],
     lengths: &mut [u16],
+    decoded: &mut [u16],
     items: &mut [u16],
     counts: &mut [u32],
 ) -> HostResult
-    ensures { λ r. ⌜ SelectingExits (selectFrom (now (schema .entry)) (now (bundle .entry)) place (now (extract .entry))) r numbers names parents starts lengths items counts ⌝ }
+    ensures { λ r. ⌜ SelectingExits (selectFrom (now (schema .entry)) (now (bundle .entry)) place (now (extract .entry))) r numbers names parents starts lengths decoded items counts ⌝ }
 {
     select_from(
         schema,
@@ -61,6 +64,7 @@ pub extern "C" fn host_select(
         parents,
         starts,
         lengths,
+        decoded,
         items,
         counts,
     )

@@ -115,40 +115,51 @@ abbrev pub lentJ : LentTable
 lentJ =
     table
     (columns (0 ∷ 1 ∷ 2 ∷ 3 ∷ 4 ∷ 5 ∷ 6 ∷ 9 ∷ []) (0 ∷ 1 ∷ 2 ∷ 3 ∷ 4 ∷ 36 ∷ 3 ∷ 64 ∷ []) (0 ∷ 0 ∷ 1 ∷ 2 ∷ 3 ∷ 4 ∷ 1 ∷ 9 ∷ [])
-    (0 ∷ 0 ∷ 0 ∷ 0 ∷ 0 ∷ 32 ∷ 0 ∷ 9 ∷ []) (0 ∷ 0 ∷ 0 ∷ 0 ∷ 0 ∷ 2 ∷ 0 ∷ 9 ∷ [])) 7
+    (0 ∷ 0 ∷ 0 ∷ 0 ∷ 0 ∷ 32 ∷ 0 ∷ 9 ∷ []) (0 ∷ 0 ∷ 0 ∷ 0 ∷ 0 ∷ 2 ∷ 0 ∷ 9 ∷ []) (0 ∷ 0 ∷ 0 ∷ 0 ∷ 0 ∷ 2 ∷ 0 ∷ 9 ∷ [])) 7
 
 -- tables that are refused by 1: two text rows of one element, more rows than cells, columns of unequal length, a code that no name has
 abbrev pub overcounted : LentTable
 overcounted = table tableJ 8
 
 abbrev pub unequal : LentTable
-unequal = table (columns (0 ∷ 1 ∷ []) (0 ∷ 1 ∷ []) (0 ∷ 0 ∷ []) (0 ∷ 0 ∷ []) (0 ∷ 0 ∷ 0 ∷ [])) 2
+unequal = table (columns (0 ∷ 1 ∷ []) (0 ∷ 1 ∷ []) (0 ∷ 0 ∷ []) (0 ∷ 0 ∷ []) (0 ∷ 0 ∷ 0 ∷ []) (0 ∷ 0 ∷ [])) 2
+
+abbrev pub lastUnequal : LentTable
+lastUnequal = table (columns (0 ∷ 1 ∷ []) (0 ∷ 1 ∷ []) (0 ∷ 0 ∷ []) (0 ∷ 0 ∷ []) (0 ∷ 0 ∷ []) (0 ∷ [])) 2
 
 abbrev pub nameless : LentTable
-nameless = table (columns (0 ∷ 1 ∷ []) (0 ∷ 64 ∷ []) (0 ∷ 0 ∷ []) (0 ∷ 0 ∷ []) (0 ∷ 0 ∷ [])) 2
+nameless = table (columns (0 ∷ 1 ∷ []) (0 ∷ 64 ∷ []) (0 ∷ 0 ∷ []) (0 ∷ 0 ∷ []) (0 ∷ 0 ∷ []) (0 ∷ 0 ∷ [])) 2
 
--- `<scan><plate><well/><tile><focus>x</focus></tile></plate></scan>`: six rows, the text at 33
-abbrev pub lentK : LentTable
-lentK =
+-- six rows, the text at 33 and of the two lengths given
+abbrev pub tableK : ℕ → ℕ → LentTable
+tableK size decoded =
     table
-    (columns (0 ∷ 1 ∷ 2 ∷ 3 ∷ 4 ∷ 5 ∷ []) (0 ∷ 1 ∷ 2 ∷ 3 ∷ 4 ∷ 36 ∷ []) (0 ∷ 0 ∷ 1 ∷ 1 ∷ 3 ∷ 4 ∷ []) (0 ∷ 0 ∷ 0 ∷ 0 ∷ 0 ∷ 33 ∷ []) (0 ∷ 0 ∷ 0 ∷ 0 ∷ 0 ∷ 1 ∷ [])) 6
+    (columns (0 ∷ 1 ∷ 2 ∷ 3 ∷ 4 ∷ 5 ∷ []) (0 ∷ 1 ∷ 2 ∷ 3 ∷ 4 ∷ 36 ∷ []) (0 ∷ 0 ∷ 1 ∷ 1 ∷ 3 ∷ 4 ∷ []) (0 ∷ 0 ∷ 0 ∷ 0 ∷ 0 ∷ 33 ∷ []) (0 ∷ 0 ∷ 0 ∷ 0 ∷ 0 ∷ size ∷ [])
+    (0 ∷ 0 ∷ 0 ∷ 0 ∷ 0 ∷ decoded ∷ [])) 6
+
+-- `<scan><plate><well/><tile><focus>x</focus></tile></plate></scan>`
+abbrev pub lentK : LentTable
+lentK = tableK 1 1
 
 -- rows answered in columns
-abbrev pub inColumns : ℕ → List ℕ → List ℕ → List ℕ → List ℕ → List ℕ → Answer
-inColumns count numbers names parents starts lengths = leaves (exit 0 0 ((count ∷ []) ∷ numbers ∷ names ∷ parents ∷ starts ∷ lengths ∷ []))
+abbrev pub inColumns : ℕ → List ℕ → List ℕ → List ℕ → List ℕ → List ℕ → List ℕ → Answer
+inColumns count numbers names parents starts lengths decoded = leaves (exit 0 0 ((count ∷ []) ∷ numbers ∷ names ∷ parents ∷ starts ∷ lengths ∷ decoded ∷ []))
 
 abbrev pub noColumns : Sizes → ℕ → ℕ → Answer
 noColumns z number place =
-    leaves (exit number place ((0 ∷ []) ∷ zeros (z .numbers) ∷ zeros (z .names) ∷ zeros (z .parents) ∷ zeros (z .starts) ∷ zeros (z .lengths) ∷ []))
+    leaves (exit number place ((0 ∷ []) ∷ zeros (z .numbers) ∷ zeros (z .names) ∷ zeros (z .parents) ∷ zeros (z .starts) ∷ zeros (z .lengths) ∷ zeros (z .decoded) ∷ []))
 
 abbrev pub oneLess : Sizes
-oneLess = record { numbers = 9; names = 9; parents = 9; starts = 8; lengths = 9 }
+oneLess = record { numbers = 9; names = 9; parents = 9; starts = 8; lengths = 9; decoded = 9 }
+
+abbrev pub lastLess : Sizes
+lastLess = record { numbers = 9; names = 9; parents = 9; starts = 9; lengths = 9; decoded = 8 }
 
 -- J's table in nine cells, the text at the start given
 abbrev pub inNine : ℕ → Answer
 inNine start =
     inColumns 7 (0 ∷ 1 ∷ 2 ∷ 3 ∷ 4 ∷ 5 ∷ 6 ∷ 0 ∷ 0 ∷ []) (0 ∷ 1 ∷ 2 ∷ 3 ∷ 4 ∷ 36 ∷ 3 ∷ 0 ∷ 0 ∷ []) (0 ∷ 0 ∷ 1 ∷ 2 ∷ 3 ∷ 4 ∷ 1 ∷ 0 ∷ 0 ∷ [])
-    (0 ∷ 0 ∷ 0 ∷ 0 ∷ 0 ∷ start ∷ 0 ∷ 0 ∷ 0 ∷ []) (0 ∷ 0 ∷ 0 ∷ 0 ∷ 0 ∷ 2 ∷ 0 ∷ 0 ∷ 0 ∷ [])
+    (0 ∷ 0 ∷ 0 ∷ 0 ∷ 0 ∷ start ∷ 0 ∷ 0 ∷ 0 ∷ []) (0 ∷ 0 ∷ 0 ∷ 0 ∷ 0 ∷ 2 ∷ 0 ∷ 0 ∷ 0 ∷ []) (0 ∷ 0 ∷ 0 ∷ 0 ∷ 0 ∷ 2 ∷ 0 ∷ 0 ∷ 0 ∷ [])
 
 pub tables : List Case
 tables =
@@ -156,19 +167,26 @@ tables =
     ∷ case (readsJournal recordS journalJ (allOfSize 6)) (noColumns (allOfSize 6) 18 0)
     ∷ case (readsJournal recordS misfit (allOfSize 0)) (noColumns (allOfSize 0) 15 6)
     ∷ case (readsJournal recordS [] oneLess) (noColumns oneLess 1 0)
+    ∷ case (readsJournal recordS [] lastLess) (noColumns lastLess 1 0)
     ∷ case (readsJournal emptyRecord [] (allOfSize 9)) (noColumns (allOfSize 9) 1 0)
     -- cut to scan, plate, tile and focus; bits 5, 32 and 63 mean nothing
-    ∷ case (cutsTable recordS lentJ 27 (allOfSize 4)) (inColumns 3 (0 ∷ 1 ∷ 6 ∷ 0 ∷ []) (0 ∷ 1 ∷ 3 ∷ 0 ∷ []) (0 ∷ 0 ∷ 1 ∷ 0 ∷ []) (zeros 4) (zeros 4))
-    ∷ case (cutsTable recordS lentJ 9223372041149743163 (allOfSize 3)) (inColumns 3 (0 ∷ 1 ∷ 6 ∷ []) (0 ∷ 1 ∷ 3 ∷ []) (0 ∷ 0 ∷ 1 ∷ []) (zeros 3) (zeros 3))
+    ∷ case (cutsTable recordS lentJ 27 (allOfSize 4)) (inColumns 3 (0 ∷ 1 ∷ 6 ∷ 0 ∷ []) (0 ∷ 1 ∷ 3 ∷ 0 ∷ []) (0 ∷ 0 ∷ 1 ∷ 0 ∷ []) (zeros 4) (zeros 4) (zeros 4))
+    ∷ case (cutsTable recordS lentJ 9223372041149743163 (allOfSize 3)) (inColumns 3 (0 ∷ 1 ∷ 6 ∷ []) (0 ∷ 1 ∷ 3 ∷ []) (0 ∷ 0 ∷ 1 ∷ []) (zeros 3) (zeros 3) (zeros 3))
     -- bit 36 too, of a table in which the cut row stands before its parents
     ∷ case (cutsTable recordS lentK 68719476763 (allOfSize 6))
-    (inColumns 5 (0 ∷ 1 ∷ 3 ∷ 4 ∷ 5 ∷ 0 ∷ []) (0 ∷ 1 ∷ 3 ∷ 4 ∷ 36 ∷ 0 ∷ []) (0 ∷ 0 ∷ 1 ∷ 2 ∷ 3 ∷ 0 ∷ []) (0 ∷ 0 ∷ 0 ∷ 0 ∷ 33 ∷ 0 ∷ []) (0 ∷ 0 ∷ 0 ∷ 0 ∷ 1 ∷ 0 ∷ []))
-    ∷ case (cutsTable recordS lentJ 26 (allOfSize 1)) (inColumns 0 (zeros 1) (zeros 1) (zeros 1) (zeros 1) (zeros 1))
+    (inColumns 5 (0 ∷ 1 ∷ 3 ∷ 4 ∷ 5 ∷ 0 ∷ []) (0 ∷ 1 ∷ 3 ∷ 4 ∷ 36 ∷ 0 ∷ []) (0 ∷ 0 ∷ 1 ∷ 2 ∷ 3 ∷ 0 ∷ []) (0 ∷ 0 ∷ 0 ∷ 0 ∷ 33 ∷ 0 ∷ []) (0 ∷ 0 ∷ 0 ∷ 0 ∷ 1 ∷ 0 ∷ []) (0 ∷ 0 ∷ 0 ∷ 0 ∷ 1 ∷ 0 ∷ []))
+    -- with no text beside it, a text's decoded length is 1 to its raw length
+    ∷ case (cutsTable recordS (tableK 2 1) 68719476763 (allOfSize 5))
+    (inColumns 5 (0 ∷ 1 ∷ 3 ∷ 4 ∷ 5 ∷ []) (0 ∷ 1 ∷ 3 ∷ 4 ∷ 36 ∷ []) (0 ∷ 0 ∷ 1 ∷ 2 ∷ 3 ∷ []) (0 ∷ 0 ∷ 0 ∷ 0 ∷ 33 ∷ []) (0 ∷ 0 ∷ 0 ∷ 0 ∷ 2 ∷ []) (0 ∷ 0 ∷ 0 ∷ 0 ∷ 1 ∷ []))
+    ∷ case (cutsTable recordS (tableK 2 0) 68719476763 (allOfSize 5)) (noColumns (allOfSize 5) 1 0)
+    ∷ case (cutsTable recordS (tableK 2 3) 68719476763 (allOfSize 5)) (noColumns (allOfSize 5) 1 0)
+    ∷ case (cutsTable recordS lentJ 26 (allOfSize 1)) (inColumns 0 (zeros 1) (zeros 1) (zeros 1) (zeros 1) (zeros 1) (zeros 1))
     ∷ case (cutsTable recordS lentJ 27 (allOfSize 2)) (noColumns (allOfSize 2) 18 0)
     ∷ case (cutsTable recordS lentJ 27 oneLess) (noColumns oneLess 1 0)
     ∷ case (cutsTable recordS (table twoTexts 8) 27 (allOfSize 9)) (noColumns (allOfSize 9) 1 0)
     ∷ case (cutsTable recordS overcounted 27 (allOfSize 9)) (noColumns (allOfSize 9) 1 0)
     ∷ case (cutsTable recordS unequal 27 (allOfSize 9)) (noColumns (allOfSize 9) 1 0)
+    ∷ case (cutsTable recordS lastUnequal 27 (allOfSize 9)) (noColumns (allOfSize 9) 1 0)
     ∷ case (cutsTable recordS nameless 27 (allOfSize 9)) (noColumns (allOfSize 9) 1 0)
     ∷ case (cutsTable ofRefused lentJ 27 (allOfSize 9)) (noColumns (allOfSize 9) 1 0)
     -- an extract's text starts at its bytes there

@@ -47,7 +47,7 @@ from k (suc n) = k ∷ from (suc k) n
 
 -- element 0 to the depth n + 1
 abbrev pub chain : ℕ → Columns
-chain n = record { numbers = from 0 (suc n); names = zeros (suc n); parents = 0 ∷ from 0 n; starts = zeros (suc n); lengths = zeros (suc n) }
+chain n = record { numbers = from 0 (suc n); names = zeros (suc n); parents = 0 ∷ from 0 n; starts = zeros (suc n); lengths = zeros (suc n); decoded = zeros (suc n) }
 
 -- element 0 to the depth n, element 1 below it, and its text
 abbrev pub chainToText : ℕ → Columns
@@ -58,6 +58,7 @@ chainToText n =
       parents = 0 ∷ from 0 (suc n);
       starts = zeros (suc (suc n));
       lengths = zeros (suc n) ++ (1 ∷ []);
+      decoded = zeros (suc n) ++ (1 ∷ []);
     }
 
 abbrev pub schemaAT : Text
@@ -66,7 +67,19 @@ schemaAT = bytes "<!ELEMENT a (a|t)*><!ELEMENT t (#PCDATA)>"
 -- the root, a `t` of the number given, and its text with the next number and of the length given
 abbrev pub textOf : ℕ → ℕ → ℕ → Columns
 textOf number next size =
-    record { numbers = 0 ∷ number ∷ next ∷ []; names = 0 ∷ 1 ∷ 33 ∷ []; parents = 0 ∷ 0 ∷ 1 ∷ []; starts = 0 ∷ 0 ∷ 0 ∷ []; lengths = 0 ∷ 0 ∷ size ∷ [] }
+    record { numbers = 0 ∷ number ∷ next ∷ []; names = 0 ∷ 1 ∷ 33 ∷ []; parents = 0 ∷ 0 ∷ 1 ∷ []; starts = 0 ∷ 0 ∷ 0 ∷ []; lengths = 0 ∷ 0 ∷ size ∷ []; decoded = 0 ∷ 0 ∷ size ∷ [] }
+
+-- the root, a `t` with the decoded length given, and its text of the two lengths given
+abbrev pub decodedOf : ℕ → ℕ → ℕ → Columns
+decodedOf above size decoded =
+    record {
+      numbers = 0 ∷ 1 ∷ 2 ∷ [];
+      names = 0 ∷ 1 ∷ 33 ∷ [];
+      parents = 0 ∷ 0 ∷ 1 ∷ [];
+      starts = 0 ∷ 0 ∷ 0 ∷ [];
+      lengths = 0 ∷ 0 ∷ size ∷ [];
+      decoded = 0 ∷ above ∷ decoded ∷ [];
+    }
 
 pub cases : List Case
 cases =
@@ -94,9 +107,14 @@ cases =
     ∷ case (tableLent schemaAT (textOf 65533 65534 1) 3 (bytes "x")) (says taken)
     ∷ case (tableLent schemaAT (textOf 65534 65535 1) 3 (bytes "x")) (says (turnedBack 1 0))
     ∷ case (tableLent schemaAT (textOf 2 2 1) 3 (bytes "x")) (says (turnedBack 1 0))
+    -- "an element's decoded length is 0"; beside a text, a text's lengths are equal
+    ∷ case (tableLent schemaAT (decodedOf 0 2 2) 3 (bytes "xx")) (says taken)
+    ∷ case (tableLent schemaAT (decodedOf 1 2 2) 3 (bytes "xx")) (says (turnedBack 1 0))
+    ∷ case (tableLent schemaAT (decodedOf 0 2 1) 3 (bytes "xx")) (says (turnedBack 1 0))
+    ∷ case (tableLent schemaAT (decodedOf 0 2 3) 3 (bytes "xx")) (says (turnedBack 1 0))
     -- a host's journal of 40,000 bytes, more than `listing` reads
     ∷ case (makes (bytes "<!ELEMENT a EMPTY>") (bytes "self::a\n") (copies 39996 (bytes " ") ++ bytes "<a/>") (lend 1 13 0))
-    (leaves (exit 0 0 ((1 ∷ 13 ∷ 0 ∷ []) ∷ zeros 1 ∷ zeros 1 ∷ zeros 1 ∷ zeros 1 ∷ zeros 1 ∷ extractOfRoot ∷ [] ∷ [])))
+    (leaves (exit 0 0 ((1 ∷ 13 ∷ 0 ∷ []) ∷ zeros 1 ∷ zeros 1 ∷ zeros 1 ∷ zeros 1 ∷ zeros 1 ∷ zeros 1 ∷ extractOfRoot ∷ [] ∷ [])))
     ∷ []
 
 pub all-hold : AllHold cases

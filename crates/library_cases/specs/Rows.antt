@@ -76,9 +76,9 @@ pub all-hold : AllHold cases
 unfolding computing answerTo cases
 all-hold = answered cases
 
--- ---- row structs: number, name, parent, start and length of each
+-- ---- row structs: number, name, parent, start, length and decoded length of each, the lengths equal
 abbrev pub cellsOf : ℕ → ℕ → ℕ → ℕ → ℕ → Cells
-cellsOf number name parent start size = record { number = number; name = name; parent = parent; start = start; size = size }
+cellsOf number name parent start size = record { number = number; name = name; parent = parent; start = start; size = size; decoded = size }
 
 abbrev pub structsK : List Cells
 structsK = cellsOf 0 0 0 0 0 ∷ cellsOf 1 1 0 0 0 ∷ cellsOf 2 2 1 0 0 ∷ cellsOf 3 3 1 0 0 ∷ cellsOf 4 4 3 0 0 ∷ cellsOf 5 36 4 33 1 ∷ []
@@ -87,16 +87,16 @@ pub structs : List Case
 structs =
     case (readsJournalRows recordS (bytes "<scan><plate><well/><tile><focus>x</focus></tile></plate></scan>") 7)
     (leaves (exit 0 0
-    ((6 ∷ []) ∷ (0 ∷ 0 ∷ 0 ∷ 0 ∷ 0 ∷ []) ∷ (1 ∷ 1 ∷ 0 ∷ 0 ∷ 0 ∷ []) ∷ (2 ∷ 2 ∷ 1 ∷ 0 ∷ 0 ∷ []) ∷ (3 ∷ 3 ∷ 1 ∷ 0 ∷ 0 ∷ []) ∷ (4 ∷ 4 ∷ 3 ∷ 0 ∷ 0 ∷ [])
-    ∷ (5 ∷ 36 ∷ 4 ∷ 33 ∷ 1 ∷ []) ∷ zeros 5 ∷ [])))
-    ∷ case (readsJournalRows recordS journalJ 2) (leaves (exit 18 0 ((0 ∷ []) ∷ zeros 5 ∷ zeros 5 ∷ [])))
-    ∷ case (readsJournalRows recordS misfit 1) (leaves (exit 15 6 ((0 ∷ []) ∷ zeros 5 ∷ [])))
-    ∷ case (readsJournalRows ofRefused journalJ 1) (leaves (exit 1 0 ((0 ∷ []) ∷ zeros 5 ∷ [])))
+    ((6 ∷ []) ∷ (0 ∷ 0 ∷ 0 ∷ 0 ∷ 0 ∷ 0 ∷ []) ∷ (1 ∷ 1 ∷ 0 ∷ 0 ∷ 0 ∷ 0 ∷ []) ∷ (2 ∷ 2 ∷ 1 ∷ 0 ∷ 0 ∷ 0 ∷ []) ∷ (3 ∷ 3 ∷ 1 ∷ 0 ∷ 0 ∷ 0 ∷ []) ∷ (4 ∷ 4 ∷ 3 ∷ 0 ∷ 0 ∷ 0 ∷ [])
+    ∷ (5 ∷ 36 ∷ 4 ∷ 33 ∷ 1 ∷ 1 ∷ []) ∷ zeros 6 ∷ [])))
+    ∷ case (readsJournalRows recordS journalJ 2) (leaves (exit 18 0 ((0 ∷ []) ∷ zeros 6 ∷ zeros 6 ∷ [])))
+    ∷ case (readsJournalRows recordS misfit 1) (leaves (exit 15 6 ((0 ∷ []) ∷ zeros 6 ∷ [])))
+    ∷ case (readsJournalRows ofRefused journalJ 1) (leaves (exit 1 0 ((0 ∷ []) ∷ zeros 6 ∷ [])))
     ∷ case (cutsRows recordS structsK 68719476763 6)
     (leaves (exit 0 0
-    ((5 ∷ []) ∷ (0 ∷ 0 ∷ 0 ∷ 0 ∷ 0 ∷ []) ∷ (1 ∷ 1 ∷ 0 ∷ 0 ∷ 0 ∷ []) ∷ (3 ∷ 3 ∷ 1 ∷ 0 ∷ 0 ∷ []) ∷ (4 ∷ 4 ∷ 2 ∷ 0 ∷ 0 ∷ []) ∷ (5 ∷ 36 ∷ 3 ∷ 33 ∷ 1 ∷ []) ∷ zeros 5 ∷ [])))
-    ∷ case (cutsRows recordS structsK 3 1) (leaves (exit 18 0 ((0 ∷ []) ∷ zeros 5 ∷ [])))
-    ∷ case (cutsRows recordS (cellsOf 0 1 0 0 0 ∷ []) 27 1) (leaves (exit 1 0 ((0 ∷ []) ∷ zeros 5 ∷ [])))
+    ((5 ∷ []) ∷ (0 ∷ 0 ∷ 0 ∷ 0 ∷ 0 ∷ 0 ∷ []) ∷ (1 ∷ 1 ∷ 0 ∷ 0 ∷ 0 ∷ 0 ∷ []) ∷ (3 ∷ 3 ∷ 1 ∷ 0 ∷ 0 ∷ 0 ∷ []) ∷ (4 ∷ 4 ∷ 2 ∷ 0 ∷ 0 ∷ 0 ∷ []) ∷ (5 ∷ 36 ∷ 3 ∷ 33 ∷ 1 ∷ 1 ∷ []) ∷ zeros 6 ∷ [])))
+    ∷ case (cutsRows recordS structsK 3 1) (leaves (exit 18 0 ((0 ∷ []) ∷ zeros 6 ∷ [])))
+    ∷ case (cutsRows recordS (cellsOf 0 1 0 0 0 ∷ []) 27 1) (leaves (exit 1 0 ((0 ∷ []) ∷ zeros 6 ∷ [])))
     -- the text 5; the parent 1 of the tile
     ∷ case (selectsRows recordS recordT 0 structsK (zeros 33 ++ bytes "x") 3 2) (selection (2 ∷ 2 ∷ []) (5 ∷ 1 ∷ 0 ∷ []) (1 ∷ 1 ∷ []))
     ∷ case (selectsRows recordS recordT 0 structsK (zeros 33 ++ bytes "x") 1 2) (noSelection 1 2 18)

@@ -134,6 +134,7 @@ tableOfCells cs =
             parents = map (λ c. c .parent) cs;
             starts = map (λ c. c .start) cs;
             lengths = map (λ c. c .size) cs;
+            decoded = map (λ c. c .decoded) cs;
           };
       count = length cs;
     }

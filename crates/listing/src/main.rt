@@ -88,6 +88,7 @@ fn print_listing(schema: &[u8], bundle: &[u8], journal: &[u8]) {
     let mut parents = [0u16; LISTED_ROWS];
     let mut starts = [0u32; LISTED_ROWS];
     let mut lengths = [0u16; LISTED_ROWS];
+    let mut decoded = [0u16; LISTED_ROWS];
     let mut firsts = [0u8; LISTED_ROWS];
     let listed = list_files(
         schema,
@@ -98,6 +99,7 @@ fn print_listing(schema: &[u8], bundle: &[u8], journal: &[u8]) {
         &mut parents,
         &mut starts,
         &mut lengths,
+        &mut decoded,
         &mut firsts,
     );
     if listed.number != 0 {

@@ -2,6 +2,7 @@
 pub mod contents;
 pub mod table;
 
+ghost use Rattle.axis_passes.specs.alternative_steps.Texts.{HeldTexts};
 ghost use Rattle.cells.specs.lent.Ends.{heldColumns};
 ghost use Rattle.compiled_paths.specs.Paths.{lentPaths, entryPaths};
 ghost use Rattle.listing_files.specs.contents.Files.{RowsAsked, ListedRows, FilesLent, ListsAs};
@@ -35,9 +36,13 @@ fn list_rows<'a>(
     total: usize,
     codes: &[u8],
     parents: &[u16],
+    starts: &[u32],
+    lengths: &[u16],
+    decoded: &[u16],
+    journal: &[u8],
     firsts: &mut [u8],
 ) -> Listed
-    requires { ⌜ RowsAsked (now schema) compiled (lentPaths (now axes) (now tests) (now conditions) (now paths) total) (now codes) (now parents) (now firsts) ⌝ }
+    requires { ⌜ RowsAsked (now schema) compiled (lentPaths (now axes) (now tests) (now conditions) (now paths) total) (now codes) (now parents) (now firsts) × HeldTexts parents starts lengths decoded journal ⌝ }
     ensures { λ r. ⌜ ListedRows (now (schema .entry)) compiled (entryPaths axes tests conditions paths total) (now (codes .entry)) (now (parents .entry)) (now (firsts .exit)) r ⌝ }
 {
     let names = compiled.names;
@@ -51,6 +56,10 @@ fn list_rows<'a>(
         total,
         codes,
         parents,
+        starts,
+        lengths,
+        decoded,
+        journal,
         firsts,
     );
     let selected = selected_count(&firsts[..]);
@@ -78,9 +87,10 @@ pub fn list_files(
     parents: &mut [u16],
     starts: &mut [u32],
     lengths: &mut [u16],
+    decoded: &mut [u16],
     firsts: &mut [u8],
 ) -> Listed
-    requires { ⌜ FilesLent (heldColumns numbers codes parents starts lengths) (now firsts) ⌝ }
+    requires { ⌜ FilesLent (heldColumns numbers codes parents starts lengths decoded) (now firsts) ⌝ }
     ensures { λ r. ⌜ ListsAs (now (schema .entry)) (now (bundle .entry)) (now (journal .entry)) (now (numbers .exit)) (now (codes .exit)) (now (parents .exit)) (now (firsts .exit)) r ⌝ }
 {
     let texts = judge_texts(schema, bundle);
@@ -98,6 +108,7 @@ pub fn list_files(
         parents,
         starts,
         lengths,
+        decoded,
     );
     if verdict.number != 0 {
         return refused(verdict.number, verdict.place);
@@ -113,6 +124,10 @@ pub fn list_files(
         texts.paths.count,
         &codes[..rows],
         &parents[..rows],
+        &starts[..rows],
+        &lengths[..rows],
+        &decoded[..rows],
+        journal,
         &mut firsts[..rows],
     )
 }

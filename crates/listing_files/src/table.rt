@@ -2,6 +2,7 @@
 // that selects each row. Scratch is local: a byte or two for each row.
 ghost use mathlib.Core.Path.{_≡_};
 ghost use lib.ListN.{length};
+ghost use Rattle.axis_passes.specs.alternative_steps.Texts.{HeldTexts};
 ghost use Rattle.compiled_paths.specs.Paths.{lentPaths, pathsIn, entryPaths};
 ghost use Rattle.kept_rows.specs.Joined.{rank};
 ghost use Rattle.kept_rows.specs.Kept.{inSet, keptMarks};
@@ -35,9 +36,13 @@ pub fn note_paths<'a>(
     total: usize,
     codes: &[u8],
     parents: &[u16],
+    starts: &[u32],
+    lengths: &[u16],
+    decoded: &[u16],
+    journal: &[u8],
     firsts: &mut [u8],
 )
-    requires { ⌜ PathsAsked (lentPaths (now axes) (now tests) (now conditions) (now paths) total) (now codes) (now parents) (now firsts) ⌝ }
+    requires { ⌜ PathsAsked (lentPaths (now axes) (now tests) (now conditions) (now paths) total) (now codes) (now parents) (now firsts) × HeldTexts parents starts lengths decoded journal ⌝ }
     ensures { λ _. ⌜ FirstPaths (now (parents .entry)) (now (codes .entry)) (pathsIn (entryPaths axes tests conditions paths total)) (now (firsts .exit)) ⌝ }
 {
     let count = parents.len();
@@ -56,6 +61,10 @@ pub fn note_paths<'a>(
         total,
         parents,
         codes,
+        starts,
+        lengths,
+        decoded,
+        journal,
         firsts,
         &mut marks[..count],
         &mut held[..count],

@@ -16,22 +16,28 @@ use Rattle.table_spec.specs.Rows.{Row, rowsOf}
 use Rattle.table_spec.specs.Tables.{wellFormed, wellFormedWith}
 use Rattle.text_laws.specs.Tests.{never, true-of, cond-yes, and-intro, and-cases}
 
+abbrev sized : ℕ → ℕ → ℕ → ℕ → ℕ → ℕ → Sizes
+sized numbers names parents starts lengths decoded = record { numbers = numbers; names = names; parents = parents; starts = starts; lengths = lengths; decoded = decoded }
+
 pub sizes-equal : (z : Sizes) → T (equalSizes z) → EqualSizes z
 sizes-equal z t =
     let n = z .numbers in
     let a = and-cases (eqb (z .names) n) _ t in
     let b = and-cases (eqb (z .parents) n) _ (a .1) in
-    let c = and-cases (eqb (z .starts) n) (eqb (z .lengths) n) (b .1) in
+    let c = and-cases (eqb (z .starts) n) _ (b .1) in
+    let d = and-cases (eqb (z .lengths) n) (eqb (z .decoded) n) (c .1) in
     subst EqualSizes
-    (ap (λ (k : ℕ). record { numbers = n; names = k; parents = n; starts = n; lengths = n }) (sym (eqb→eq (z .names) n (a .0)))
-    ∙ (ap (λ (k : ℕ). record { numbers = n; names = z .names; parents = k; starts = n; lengths = n }) (sym (eqb→eq (z .parents) n (b .0)))
-    ∙ (ap (λ (k : ℕ). record { numbers = n; names = z .names; parents = z .parents; starts = k; lengths = n }) (sym (eqb→eq (z .starts) n (c .0)))
-    ∙ ap (λ (k : ℕ). record { numbers = n; names = z .names; parents = z .parents; starts = z .starts; lengths = k }) (sym (eqb→eq (z .lengths) n (c .1))))))
+    (ap (λ (k : ℕ). sized n k n n n n) (sym (eqb→eq (z .names) n (a .0)))
+    ∙ (ap (λ (k : ℕ). sized n (z .names) k n n n) (sym (eqb→eq (z .parents) n (b .0)))
+    ∙ (ap (λ (k : ℕ). sized n (z .names) (z .parents) k n n) (sym (eqb→eq (z .starts) n (c .0)))
+    ∙ (ap (λ (k : ℕ). sized n (z .names) (z .parents) (z .starts) k n) (sym (eqb→eq (z .lengths) n (d .0)))
+    ∙ ap (λ (k : ℕ). sized n (z .names) (z .parents) (z .starts) (z .lengths) k) (sym (eqb→eq (z .decoded) n (d .1)))))))
     (equal-sizes {n = n})
 
 pub equal-sized : {z : Sizes} → EqualSizes z → T (equalSizes z)
 equal-sized (equal-sizes {n = n}) =
-    and-intro (eqb n n) _ (eqb-refl n) (and-intro (eqb n n) _ (eqb-refl n) (and-intro (eqb n n) (eqb n n) (eqb-refl n) (eqb-refl n)))
+    and-intro (eqb n n) _ (eqb-refl n)
+    (and-intro (eqb n n) _ (eqb-refl n) (and-intro (eqb n n) _ (eqb-refl n) (and-intro (eqb n n) (eqb n n) (eqb-refl n) (eqb-refl n))))
 
 -- what a test chooses of something or nothing is that, where the test passes
 pub chosen-if : {A : Type 0} (b : Bool) (h : Option A) {a : A} → cond b h none ≡ some a → T b × (h ≡ some a)

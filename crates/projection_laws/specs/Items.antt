@@ -26,7 +26,7 @@ opensAfter (element e) next number os = placed next number e ∷ os
 opensAfter (text e) next number os = os
 
 abbrev pub rowAt : Name → ℕ → ℕ → ℕ → ℕ → Row
-rowAt n k number parent size = row number n parent (startAt n k) (sizeAt n size)
+rowAt n k number parent size = row number n parent (startAt n k) (sizeAt n size) (sizeAt n size)
 
 -- a row's field read, and what follows it
 pub field-item : (n : Name) (fuel k number parent : ℕ) (w rest : List ℕ) → number < 65536 → parent < 65536 → length w < 65532

@@ -1,5 +1,5 @@
 -- Rows whose texts stand elsewhere: a well-formed table stays well formed, and its texts stay the same.
-use mathlib.Core.Bool.{not, _&&_, _||_}
+use mathlib.Core.Bool.{Bool, not, _&&_, _||_}
 use mathlib.Core.List.{List, [], _∷_, _++_, append-assoc}
 use mathlib.Core.Path.{_≡_, refl, sym, ap, _∙_}
 use Prim.Native.Nat.{ℕ, _+_, _≤_}
@@ -16,38 +16,54 @@ use Rattle.schema_spec.specs.Types.{Types}
 use Rattle.table_laws.specs.Fits.{row-fits, rooted, cellsFit}
 use Rattle.table_spec.specs.Nodes.{Node, top, nodeAt}
 use Rattle.table_spec.specs.Rows.{Row, textOf, withStart}
-use Rattle.table_spec.specs.Tables.{wellFormed, textFits, rowFits, laterRows, textInside}
+use Rattle.table_spec.specs.Tables.{wellFormed, textFits, rowFits, laterRows, bytesInside, textInside}
 use Rattle.text_laws.specs.Tests.{true-of, and-cases, and-intro, or-right}
 use Rattle.text_spec.specs.Bytes.{isForeign}
 use Rattle.text_spec.specs.Limits.{maxTextBytes}
 use Rattle.text_spec.specs.Lists.{allOf, gather, part}
 
--- the text of a row of a well-formed table: it has the row's length, at most 4,096, which is 0 for an element, and its bytes pass 3
+-- the text of a row of a well-formed table: it has the row's length, at most 4,096, which is 0 for an element and equal to the decoded length, and its bytes
+-- pass 3
 pub record HasText (n : Name) (lent : List ℕ) (r : Row) : Type 0 where
   pub size : length (textOf lent r) ≡ r .size
   pub short : r .size ≤ maxTextBytes
   pub ofName : sizeAt n (r .size) ≡ r .size
+  pub equalLengths : r .decoded ≡ r .size
   pub passes : T (not (isText n) || allOf (λ b. not (isForeign b)) (textOf lent r))
+
+-- a text's decoded length is 1 to its raw length
+abbrev decodedFits : Row → Bool
+decodedFits r = leb 1 (r .decoded) && leb (r .decoded) (r .size)
 
 pub has-text : (n : Name) (lent : List ℕ) (r : Row) → r .name ≡ n → T (textFits n r) → T (textInside lent r) → HasText n lent r
 has-text (element e) lent r q cells inside =
-    let empty : r .size ≡ 0 = eqb→eq (r .size) 0 (and-cases (eqb (r .start) 0) (eqb (r .size) 0) cells .1) in
-    record { size = rw empty; short = omega arith; ofName = sym empty; passes = tt }
+    let c = and-cases (eqb (r .start) 0) (eqb (r .size) 0 && eqb (r .decoded) 0) cells in
+    let d = and-cases (eqb (r .size) 0) (eqb (r .decoded) 0) (c .1) in
+    let empty : r .size ≡ 0 = eqb→eq (r .size) 0 (d .0) in
+    record { size = rw empty; short = omega arith; ofName = sym empty; equalLengths = eqb→eq (r .decoded) 0 (d .1) ∙ sym empty; passes = tt }
 has-text (text e) lent r q cells inside =
     let w = textOf lent r in
     let pass = allOf (λ b. not (isForeign b)) w in
-    let i : T (leb (r .start) (length lent) && (eqb (length w) (r .size) && pass)) = rw q at inside in
-    let c = and-cases (leb (r .start) (length lent)) (eqb (length w) (r .size) && pass) i in
+    let i : T (bytesInside lent r && eqb (r .decoded) (r .size)) = rw q at inside in
+    let b = and-cases (bytesInside lent r) (eqb (r .decoded) (r .size)) i in
+    let c = and-cases (leb (r .start) (length lent)) (eqb (length w) (r .size) && pass) (b .0) in
     let d = and-cases (eqb (length w) (r .size)) pass (c .1) in
-    let few = and-cases (leb 1 (r .size)) (leb (r .size) maxTextBytes) cells .1 in
-    record { size = eqb→eq (length w) (r .size) (d .0); short = leb→le (r .size) maxTextBytes few; ofName = refl; passes = d .1 }
+    let some = and-cases (leb 1 (r .size)) (leb (r .size) maxTextBytes && decodedFits r) cells .1 in
+    let few = and-cases (leb (r .size) maxTextBytes) (decodedFits r) some .0 in
+    record {
+      size = eqb→eq (length w) (r .size) (d .0);
+      short = leb→le (r .size) maxTextBytes few;
+      ofName = refl;
+      equalLengths = eqb→eq (r .decoded) (r .size) (b .1);
+      passes = d .1;
+    }
 
 -- a row with its text's place moved
 abbrev pub restart : ℕ → Row → Row
 restart k r = withStart (startAt (r .name) k) r
 
 cells-moved : (n : Name) (k : ℕ) (r : Row) → r .name ≡ n → T (textFits n r) → T (textFits n (restart k r))
-cells-moved (element e) k r q t = rw q (and-cases (eqb (r .start) 0) (eqb (r .size) 0) t .1)
+cells-moved (element e) k r q t = rw q (and-cases (eqb (r .start) 0) (eqb (r .size) 0 && eqb (r .decoded) 0) t .1)
 cells-moved (text e) k r q t = t
 
 same-cells : (k : ℕ) (r : Row) → T (cellsFit r) → cellsFit (restart k r) ≡ cellsFit r
@@ -89,7 +105,7 @@ module _ (lent : List ℕ) (all : List Row) where
       let whole : bs ≡ pre ++ (f ++ later) = e ∙ ap (λ (m : List ℕ). pre ++ m) (append-assoc f (gather (fieldOf lent all) rs) rest) in
       let read = text-moved (r .name) lent pre later (r .number) (parentNumber all r) r refl (u .0) (v .0) in
       let moved : textOf bs (restart k r) ≡ textOf lent r = rw (whole, ← l) read in
-      next-row (record { number = refl; name = refl; parent = refl; size = refl }) (sym moved)
+      next-row (record { number = refl; name = refl; parent = refl; size = refl; decoded = refl }) (sym moved)
       (same-rows (pre ++ f) rest rs bs (k + length f) (length-append pre f ∙ rw l) (whole ∙ sym (append-assoc pre f later)) (u .1) (v .1))
 
 -- in tables that are the same but for text starts, texts that lie inside one text and pass 3 do so in the other
@@ -101,12 +117,15 @@ same-inside : (n : Name) (lent lent′ : List ℕ) {q r : Row} → SameButStarts
 same-inside (element e) lent lent′ {q} {r} c w m t i = let named : r .name ≡ element e = sym (c .name) ∙ m in rw named tt
 same-inside (text e) lent lent′ {q} {r} c w m t i =
     let held = has-text (text e) lent q m t i in
-    let long = leb→le 1 (q .size) (and-cases (leb 1 (q .size)) (leb (q .size) maxTextBytes) t .0) in
+    let long = leb→le 1 (q .size) (and-cases (leb 1 (q .size)) (leb (q .size) maxTextBytes && decodedFits q) t .0) in
     let fits : length (textOf lent′ r) ≡ r .size = rw (← w, ← c .size) (held .size) in
+    let equal : r .decoded ≡ r .size = sym (c .decoded) ∙ held .equalLengths ∙ c .size in
     let begins = start-inside lent′ (r .start) (r .size) (rw (← c .size) long) fits in
     or-right (not (isText (r .name))) _
+    (and-intro (bytesInside lent′ r) (eqb (r .decoded) (r .size))
     (and-intro (leb (r .start) (length lent′)) _ (le→leb _ _ begins)
     (and-intro (eqb (length (textOf lent′ r)) (r .size)) _ (rw fits (eqb-refl (r .size))) (rw (← w) (held .passes))))
+    (rw equal (eqb-refl (r .size))))
 
 pub same-all-inside : {lent lent′ : List ℕ} {qs rs : List Row} → SameTables lent lent′ qs rs → T (allOf cellsFit qs) → T (allOf (textInside lent) qs)
     → T (allOf (textInside lent′) rs)

@@ -47,7 +47,7 @@ module _ (s : Types) (law : TextNames s) (lent : List ℕ) (all : List Row) wher
       ∙ ap (rowsOfLaterItems next os) (field-item (r .name) fuel k (r .number) up w after (omega arith) (omega (arith, parent-number, low))
       (omega (arith, held .size, held .short)))
       ∙ item-row (r .name) k (r .number) up (length w) next os first rest (itemsFrom fuel (k + length f) after) rs′ found named (later _ reached)
-      ∙ ap {B = Option (List Row)} (λ (q : Row). some (q ∷ rs′)) (rw (place, held .size, held .ofName))
+      ∙ ap {B = Option (List Row)} (λ (q : Row). some (q ∷ rs′)) (rw (place, held .size, held .ofName, held .equalLengths))
     where
       p : Node
       p = g .parent
@@ -168,7 +168,7 @@ read-table s law lent r rs c i fuel h =
     ∙ ap rowsOfItems (field-item (r .name) fuel 0 (r .number) up w after (omega (arith, c .number)) (omega (arith, parent-number))
     (omega (arith, held .size, held .short)))
     ∙ root-item (r .name) root 0 (r .number) up (length w) (itemsFrom fuel (0 + length f) after) rs′ named parent-number later
-    ∙ ap {B = Option (List Row)} (λ (q : Row). some (q ∷ rs′)) (rw (c .parent, held .size, held .ofName))
+    ∙ ap {B = Option (List Row)} (λ (q : Row). some (q ∷ rs′)) (rw (c .parent, held .size, held .ofName, held .equalLengths))
   where
     all : List Row
     all = r ∷ rs

@@ -17,17 +17,17 @@ use Rattle.text_spec.specs.Refusals.{Outcome}
 
 -- a struct's numbers
 abbrev pub cellsIn : Row → Cells
-cellsIn r = record { number = r .number; name = r .name; parent = r .parent; start = r .start; size = r .size }
+cellsIn r = record { number = r .number; name = r .name; parent = r .parent; start = r .start; size = r .size; decoded = r .decoded }
 
 -- what stands past the end of a list of structs, and past that of a list of their numbers
 abbrev pub emptyRow : Row
-emptyRow = record { number = 0; name = 0; parent = 0; start = 0; size = 0 }
+emptyRow = record { number = 0; name = 0; parent = 0; start = 0; size = 0; decoded = 0 }
 
 abbrev pub emptyCells : Cells
 emptyCells = cellsIn emptyRow
 
 abbrev pub columnsIn : RowColumns → Columns
-columnsIn c = record { numbers = c .numbers; names = c .names; parents = c .parents; starts = c .starts; lengths = c .lengths }
+columnsIn c = record { numbers = c .numbers; names = c .names; parents = c .parents; starts = c .starts; lengths = c .lengths; decoded = c .decoded }
 
 -- the cell of a row: the last one for all rows past those that a table can have
 abbrev pub cellOf : ℕ → ℕ

@@ -19,6 +19,7 @@ pub struct Row {
     pub parent: u16,
     pub start: u32,
     pub size: u16,
+    pub decoded: u16,
 }
 
 // The columns of a table.
@@ -28,6 +29,7 @@ pub struct RowColumns {
     pub parents: [u16; CELLS],
     pub starts: [u32; CELLS],
     pub lengths: [u16; CELLS],
+    pub decoded: [u16; CELLS],
 }
 
 // What a call that makes a table answers: the verdict, and the rows, then zeros.

@@ -20,6 +20,7 @@ pub fn refused_table() -> TableAnswer
         parents: [0u16; CELLS],
         starts: [0u32; CELLS],
         lengths: [0u16; CELLS],
+        decoded: [0u16; CELLS],
     };
     TableAnswer { verdict, columns }
 }

@@ -1,6 +1,7 @@
 // For each row of a table the place in the bundle, counted from 1, of the first path that selects it; 0 where none does.
 ghost use mathlib.Core.Path.{_≡_};
 ghost use lib.ListN.{length};
+ghost use Rattle.axis_passes.specs.alternative_steps.Texts.{HeldTexts};
 ghost use Rattle.compiled_paths.specs.Paths.{lentPaths, pathsIn, entryPaths};
 ghost use Rattle.selection.specs.first_paths.Firsts.{firstOf, Noted, FirstsPass, FirstPaths, countOf, selectedCount};
 use crate::select_path;
@@ -48,13 +49,17 @@ pub fn first_paths<'a>(
     total: usize,
     parents: &[u16],
     codes: &[u8],
+    starts: &[u32],
+    lengths: &[u16],
+    decoded: &[u16],
+    lent: &[u8],
     firsts: &mut [u8],
     marks: &mut [u8],
     held: &mut [u8],
     steps: &mut [u8],
     next: &mut [u8],
 )
-    requires { ⌜ FirstsPass (lentPaths (now axes) (now tests) (now conditions) (now paths) total) (now parents) (now codes) (now firsts) (now marks) (now held) (now steps) (now next) ⌝ }
+    requires { ⌜ FirstsPass (lentPaths (now axes) (now tests) (now conditions) (now paths) total) (now parents) (now codes) (now firsts) (now marks) (now held) (now steps) (now next) × HeldTexts parents starts lengths decoded lent ⌝ }
     ensures { λ _. ⌜ FirstPaths (now (parents .entry)) (now (codes .entry)) (pathsIn (entryPaths axes tests conditions paths total)) (now (firsts .exit)) ⌝ }
 {
     fill(firsts, NO_PATH);
@@ -63,6 +68,10 @@ pub fn first_paths<'a>(
         select_path(
             parents,
             codes,
+            starts,
+            lengths,
+            decoded,
+            lent,
             axes,
             tests,
             conditions,

@@ -1,4 +1,5 @@
 // The numbers that compiled paths select on a table in columns, joined and counted, in lent cells.
+ghost use Rattle.axis_passes.specs.alternative_steps.Texts.{HeldTexts};
 ghost use Rattle.compiled_paths.specs.Paths.{lentPaths, entryPaths};
 ghost use Rattle.selection.specs.joined_paths.Joined.{AllPass, JoinedIn};
 use crate::one_path::select_one;
@@ -21,6 +22,10 @@ pub fn select_paths<'a>(
     numbers: &[u16],
     codes: &[u8],
     parents: &[u16],
+    starts: &[u32],
+    lengths: &[u16],
+    decoded: &[u16],
+    lent: &[u8],
     items: &mut [u16],
     counts: &mut [u32],
     marks: &mut [u8],
@@ -28,7 +33,7 @@ pub fn select_paths<'a>(
     steps: &mut [u8],
     next: &mut [u8],
 ) -> usize
-    requires { ⌜ AllPass (lentPaths (now axes) (now tests) (now conditions) (now paths) end) first end (now numbers) (now codes) (now parents) (now marks) (now held) (now steps) (now next) ⌝ }
+    requires { ⌜ AllPass (lentPaths (now axes) (now tests) (now conditions) (now paths) end) first end (now numbers) (now codes) (now parents) (now marks) (now held) (now steps) (now next) × HeldTexts parents starts lengths decoded lent ⌝ }
     ensures { λ n. ⌜ JoinedIn (entryPaths axes tests conditions paths end) first end numbers codes parents items counts n ⌝ }
 {
     let mut n: usize = 0;
@@ -38,6 +43,10 @@ pub fn select_paths<'a>(
             numbers,
             codes,
             parents,
+            starts,
+            lengths,
+            decoded,
+            lent,
             axes,
             tests,
             conditions,

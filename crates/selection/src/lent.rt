@@ -1,9 +1,6 @@
 // The numbers that the paths asked for select on a table that is handed in, beside its text: refusal 1 of the place and of the table, 18 last.
 ghost use Rattle.compiled_paths.specs.Paths.{Shaped, lentPaths, pathsIn, entryPaths};
-ghost use Rattle.schema_spec.specs.Schemas.{Schema};
-ghost use Rattle.schema_spec.specs.Types.{typesOf};
-ghost use Rattle.selection.specs.lent.Lent.{SomeSchema, SelectsLent};
-ghost use Rattle.table_laws.specs.passes.Codes.{HeldWords};
+ghost use Rattle.selection.specs.lent.Lent.{SomeSchema, SelectsUnder};
 ghost use Rattle.tables.specs.Handed.{entryTable};
 use crate::answers::Selected;
 use crate::answers::bad_record;
@@ -28,18 +25,29 @@ pub fn select_lent<'a>(
     parents: &[u16],
     starts: &[u32],
     lengths: &[u16],
+    decoded: &[u16],
     count: usize,
     lent: &[u8],
     items: &mut [u16],
     counts: &mut [u32],
 ) -> Selected
     requires { ⌜ Shaped (lentPaths (now axes) (now tests) (now conditions) (now paths) total) × SomeSchema (now words) ⌝ }
-    ensures { λ r. ⌜ ((s : Schema) → HeldWords (typesOf s) (now (words .entry)) → SelectsLent s (pathsIn (entryPaths axes tests conditions paths total)) place (entryTable numbers codes parents starts lengths count) lent items counts r) ⌝ }
+    ensures { λ r. ⌜ SelectsUnder (now (words .entry)) (pathsIn (entryPaths axes tests conditions paths total)) place (entryTable numbers codes parents starts lengths decoded count) lent items counts r ⌝ }
 {
     if total < place {
         return bad_record(items, counts);
     }
-    if !is_table_beside(numbers, codes, parents, starts, lengths, count, words, lent) {
+    if !is_table_beside(
+        numbers,
+        codes,
+        parents,
+        starts,
+        lengths,
+        decoded,
+        count,
+        words,
+        lent,
+    ) {
         return bad_record(items, counts);
     }
     select_table(
@@ -52,6 +60,10 @@ pub fn select_lent<'a>(
         &numbers[..count],
         &codes[..count],
         &parents[..count],
+        &starts[..count],
+        &lengths[..count],
+        &decoded[..count],
+        lent,
         items,
         counts,
     )

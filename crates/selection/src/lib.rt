@@ -11,6 +11,7 @@ pub mod table;
 
 ghost use mathlib.Core.Path.{_≡_};
 ghost use lib.ListN.{length};
+ghost use Rattle.axis_passes.specs.alternative_steps.Texts.{HeldTexts};
 ghost use Rattle.axis_passes.specs.steps.Tests.{namesIn};
 ghost use Rattle.compiled_paths.specs.Columns.{pathAt};
 ghost use Rattle.compiled_paths.specs.Paths.{entrySteps};
@@ -29,6 +30,10 @@ use compiled_paths::STEPS;
 fn steps_from<'a>(
     parents: &[u16],
     codes: &[u8],
+    starts: &[u32],
+    lengths: &[u16],
+    decoded: &[u16],
+    lent: &[u8],
     axes: &'a [u8; STEPS],
     tests: &'a [u8; STEPS],
     conditions: &'a [u16; CONDITION_STARTS],
@@ -39,7 +44,7 @@ fn steps_from<'a>(
     steps: &mut [u8],
     next: &mut [u8],
 )
-    requires { ⌜ StepsPass (now parents) (now codes) (now conditions) first size (now marks) (now held) (now steps) (now next) ⌝ }
+    requires { ⌜ StepsPass (now parents) (now codes) (now conditions) first size (now marks) (now held) (now steps) (now next) × HeldTexts parents starts lengths decoded lent ⌝ }
     ensures { λ _. ⌜ now (marks .exit) ≡ stepsMarks (now (parents .entry)) (namesIn (now (codes .entry))) (entrySteps axes tests conditions size first) (now (marks .entry)) ⌝ }
 {
     let end = first + size;
@@ -51,6 +56,10 @@ fn steps_from<'a>(
         step(
             parents,
             codes,
+            starts,
+            lengths,
+            decoded,
+            lent,
             axes,
             tests,
             conditions,
@@ -68,6 +77,10 @@ fn steps_from<'a>(
 fn steps_from_root<'a>(
     parents: &[u16],
     codes: &[u8],
+    starts: &[u32],
+    lengths: &[u16],
+    decoded: &[u16],
+    lent: &[u8],
     axes: &'a [u8; STEPS],
     tests: &'a [u8; STEPS],
     conditions: &'a [u16; CONDITION_STARTS],
@@ -78,7 +91,7 @@ fn steps_from_root<'a>(
     steps: &mut [u8],
     next: &mut [u8],
 )
-    requires { ⌜ RootStepsPass (now parents) (now codes) (now conditions) first size (now marks) (now held) (now steps) (now next) ⌝ }
+    requires { ⌜ RootStepsPass (now parents) (now codes) (now conditions) first size (now marks) (now held) (now steps) (now next) × HeldTexts parents starts lengths decoded lent ⌝ }
     ensures { λ _. ⌜ now (marks .exit) ≡ stepsMarks (now (parents .entry)) (namesIn (now (codes .entry))) (entrySteps axes tests conditions size first) (rootMarks (length (now (parents .entry)))) ⌝ }
 {
     if size == 0 {
@@ -88,6 +101,10 @@ fn steps_from_root<'a>(
     first_step(
         parents,
         codes,
+        starts,
+        lengths,
+        decoded,
+        lent,
         axes,
         tests,
         conditions,
@@ -100,6 +117,10 @@ fn steps_from_root<'a>(
     steps_from(
         parents,
         codes,
+        starts,
+        lengths,
+        decoded,
+        lent,
         axes,
         tests,
         conditions,
@@ -116,6 +137,10 @@ fn steps_from_root<'a>(
 pub fn select_path<'a>(
     parents: &[u16],
     codes: &[u8],
+    starts: &[u32],
+    lengths: &[u16],
+    decoded: &[u16],
+    lent: &[u8],
     axes: &'a [u8; STEPS],
     tests: &'a [u8; STEPS],
     conditions: &'a [u16; CONDITION_STARTS],
@@ -126,7 +151,7 @@ pub fn select_path<'a>(
     steps: &mut [u8],
     next: &mut [u8],
 )
-    requires { ⌜ PathPass (now conditions) (now paths) i (now parents) (now codes) (now marks) (now held) (now steps) (now next) ⌝ }
+    requires { ⌜ PathPass (now conditions) (now paths) i (now parents) (now codes) (now marks) (now held) (now steps) (now next) × HeldTexts parents starts lengths decoded lent ⌝ }
     ensures { λ _. ⌜ now (marks .exit) ≡ pathMarks (now (parents .entry)) (namesIn (now (codes .entry))) (pathAt (now (axes .entry)) (now (tests .entry)) (now (conditions .entry)) (now (paths .entry)) i) ⌝ }
 {
     let start = paths[i] as u16;
@@ -134,6 +159,10 @@ pub fn select_path<'a>(
     steps_from_root(
         parents,
         codes,
+        starts,
+        lengths,
+        decoded,
+        lent,
         axes,
         tests,
         conditions,

@@ -1,4 +1,5 @@
 // The numbers that one compiled path selects on a table in columns, in lent cells.
+ghost use Rattle.axis_passes.specs.alternative_steps.Texts.{HeldTexts};
 ghost use Rattle.axis_passes.specs.steps.Tests.{namesIn};
 ghost use Rattle.cells.specs.lent.Appended.{Appended};
 ghost use Rattle.compiled_paths.specs.Paths.{entryPath};
@@ -16,6 +17,10 @@ pub fn select_one<'a>(
     numbers: &[u16],
     codes: &[u8],
     parents: &[u16],
+    starts: &[u32],
+    lengths: &[u16],
+    decoded: &[u16],
+    lent: &[u8],
     axes: &'a [u8; STEPS],
     tests: &'a [u8; STEPS],
     conditions: &'a [u16; CONDITION_STARTS],
@@ -28,7 +33,7 @@ pub fn select_one<'a>(
     steps: &mut [u8],
     next: &mut [u8],
 ) -> usize
-    requires { ⌜ OnePass (now conditions) (now paths) i (now numbers) (now codes) (now parents) at (now marks) (now held) (now steps) (now next) ⌝ }
+    requires { ⌜ OnePass (now conditions) (now paths) i (now numbers) (now codes) (now parents) at (now marks) (now held) (now steps) (now next) × HeldTexts parents starts lengths decoded lent ⌝ }
     ensures { λ n. ⌜ Appended (now (items .entry)) at (selectColumns (now (parents .entry)) (namesIn (now (codes .entry))) (now (numbers .entry)) (entryPath axes tests conditions paths i)) n (now (items .exit)) ⌝ }
 {
     if parents.len() == 0 {
@@ -37,6 +42,10 @@ pub fn select_one<'a>(
     select_path(
         parents,
         codes,
+        starts,
+        lengths,
+        decoded,
+        lent,
         axes,
         tests,
         conditions,

@@ -1,9 +1,8 @@
 // Selecting on a table by a schema's and a bundle's record: refusal 1 of the records, the place and the table, 18 last.
 ghost use Rattle.compiled_schema.specs.records.Records.{recordWith};
-ghost use Rattle.library_spec.specs.Calls.{nodesSelected};
 ghost use Rattle.schema_spec.specs.Records.{schemaIn};
-ghost use Rattle.selection.specs.answers.Answers.{AnsweredCells};
 ghost use Rattle.selection.specs.lent.Lent.{SelectsLent, entryBundle};
+ghost use Rattle.selection.specs.records.Records.{SelectsNodes};
 ghost use Rattle.tables.specs.Handed.{entryTable};
 use crate::answers::Selected;
 use crate::answers::bad_record;
@@ -27,12 +26,13 @@ fn select_texts(
     parents: &[u16],
     starts: &[u32],
     lengths: &[u16],
+    decoded: &[u16],
     count: usize,
     lent: &[u8],
     items: &mut [u16],
     counts: &mut [u32],
 ) -> Selected
-    ensures { λ r. ⌜ SelectsLent (schemaIn (now (schema .entry))) (entryBundle schema text) place (entryTable numbers codes parents starts lengths count) lent items counts r ⌝ }
+    ensures { λ r. ⌜ SelectsLent (schemaIn (now (schema .entry))) (entryBundle schema text) place (entryTable numbers codes parents starts lengths decoded count) lent items counts r ⌝ }
 {
     let compiled = compiled_schema::compile(schema);
     let elements = compiled.count;
@@ -54,6 +54,7 @@ fn select_texts(
         parents,
         starts,
         lengths,
+        decoded,
         count,
         lent,
         items,
@@ -71,12 +72,13 @@ pub fn select_nodes(
     parents: &[u16],
     starts: &[u32],
     lengths: &[u16],
+    decoded: &[u16],
     count: usize,
     lent: &[u8],
     items: &mut [u16],
     counts: &mut [u32],
 ) -> Selected
-    ensures { λ r. ⌜ AnsweredCells (nodesSelected (recordWith (schema .bytes) (schema .len)) (recordWith (bundle .bytes) (bundle .len)) place (entryTable numbers codes parents starts lengths count) (now (lent .entry))) r items counts ⌝ }
+    ensures { λ r. ⌜ SelectsNodes (recordWith (schema .bytes) (schema .len)) (recordWith (bundle .bytes) (bundle .len)) place (entryTable numbers codes parents starts lengths decoded count) lent items counts r ⌝ }
 {
     if !is_bundle_record(schema, bundle) {
         return bad_record(items, counts);
@@ -94,6 +96,7 @@ pub fn select_nodes(
         parents,
         starts,
         lengths,
+        decoded,
         count,
         lent,
         items,

@@ -1,5 +1,6 @@
 // The numbers that the paths asked for select on a table in columns, with scratch of its own, in lent cells.
 ghost use Prim.Native.Nat.{_≤_};
+ghost use Rattle.axis_passes.specs.alternative_steps.Texts.{HeldTexts};
 ghost use Rattle.compiled_paths.specs.Paths.{Shaped, lentPaths, pathsIn, entryPaths};
 ghost use Rattle.selection.specs.table.Tables.{AskedPass, SelectsOn};
 ghost use Rattle.table_laws.specs.Columns.{TestedColumns};
@@ -24,6 +25,10 @@ fn select_into<'a>(
     numbers: &[u16],
     codes: &[u8],
     parents: &[u16],
+    starts: &[u32],
+    lengths: &[u16],
+    decoded: &[u16],
+    lent: &[u8],
     items: &mut [u16],
     counts: &mut [u32],
     marks: &mut [u8],
@@ -31,7 +36,7 @@ fn select_into<'a>(
     steps: &mut [u8],
     next: &mut [u8],
 ) -> Selected
-    requires { ⌜ AskedPass (lentPaths (now axes) (now tests) (now conditions) (now paths) count) place (now numbers) (now codes) (now parents) (now marks) (now held) (now steps) (now next) ⌝ }
+    requires { ⌜ AskedPass (lentPaths (now axes) (now tests) (now conditions) (now paths) count) place (now numbers) (now codes) (now parents) (now marks) (now held) (now steps) (now next) × HeldTexts parents starts lengths decoded lent ⌝ }
     ensures { λ r. ⌜ SelectsOn numbers codes parents (pathsIn (entryPaths axes tests conditions paths count)) place r items counts ⌝ }
 {
     let first = first_asked(place);
@@ -46,6 +51,10 @@ fn select_into<'a>(
         numbers,
         codes,
         parents,
+        starts,
+        lengths,
+        decoded,
+        lent,
         items,
         counts,
         marks,
@@ -67,10 +76,14 @@ pub fn select_table<'a>(
     numbers: &[u16],
     codes: &[u8],
     parents: &[u16],
+    starts: &[u32],
+    lengths: &[u16],
+    decoded: &[u16],
+    lent: &[u8],
     items: &mut [u16],
     counts: &mut [u32],
 ) -> Selected
-    requires { ⌜ Shaped (lentPaths (now axes) (now tests) (now conditions) (now paths) count) × (place ≤ count) × TestedColumns (now numbers) (now codes) (now parents) ⌝ }
+    requires { ⌜ Shaped (lentPaths (now axes) (now tests) (now conditions) (now paths) count) × (place ≤ count) × TestedColumns (now numbers) (now codes) (now parents) × HeldTexts parents starts lengths decoded lent ⌝ }
     ensures { λ r. ⌜ SelectsOn numbers codes parents (pathsIn (entryPaths axes tests conditions paths count)) place r items counts ⌝ }
 {
     let mut marks = [0u8; MAX_NODES];
@@ -88,6 +101,10 @@ pub fn select_table<'a>(
         numbers,
         codes,
         parents,
+        starts,
+        lengths,
+        decoded,
+        lent,
         items,
         counts,
         &mut marks[..rows],

@@ -28,11 +28,13 @@ fn cut_laid(schema: Schema, laid: RowColumns, count: usize, word: u64, room: usi
     let above = laid.parents;
     let places = laid.starts;
     let sizes = laid.lengths;
+    let decoded_sizes = laid.decoded;
     let mut numbers = [0u16; CELLS];
     let mut names = [0u8; CELLS];
     let mut parents = [0u16; CELLS];
     let mut starts = [0u32; CELLS];
     let mut lengths = [0u16; CELLS];
+    let mut decoded = [0u16; CELLS];
     let size = cell_of(room);
     let verdict: Verdict = cut_table(
         schema,
@@ -41,6 +43,7 @@ fn cut_laid(schema: Schema, laid: RowColumns, count: usize, word: u64, room: usi
         &above,
         &places,
         &sizes,
+        &decoded_sizes,
         count,
         word,
         &mut numbers[..size],
@@ -48,6 +51,7 @@ fn cut_laid(schema: Schema, laid: RowColumns, count: usize, word: u64, room: usi
         &mut parents[..size],
         &mut starts[..size],
         &mut lengths[..size],
+        &mut decoded[..size],
     );
     let columns = RowColumns {
         numbers,
@@ -55,6 +59,7 @@ fn cut_laid(schema: Schema, laid: RowColumns, count: usize, word: u64, room: usi
         parents,
         starts,
         lengths,
+        decoded,
     };
     TableAnswer { verdict, columns }
 }

@@ -19,6 +19,7 @@ pub fn read_columns(schema: Schema, text: &[u8], room: usize) -> TableAnswer
     let mut parents = [0u16; CELLS];
     let mut starts = [0u32; CELLS];
     let mut lengths = [0u16; CELLS];
+    let mut decoded = [0u16; CELLS];
     let size = cell_of(room);
     let verdict: Verdict = read_journal(
         schema,
@@ -28,6 +29,7 @@ pub fn read_columns(schema: Schema, text: &[u8], room: usize) -> TableAnswer
         &mut parents[..size],
         &mut starts[..size],
         &mut lengths[..size],
+        &mut decoded[..size],
     );
     let columns = RowColumns {
         numbers,
@@ -35,6 +37,7 @@ pub fn read_columns(schema: Schema, text: &[u8], room: usize) -> TableAnswer
         parents,
         starts,
         lengths,
+        decoded,
     };
     TableAnswer { verdict, columns }
 }

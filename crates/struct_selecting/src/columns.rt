@@ -31,6 +31,7 @@ pub fn select_columns(
     let parents = columns.parents;
     let starts = columns.starts;
     let lengths = columns.lengths;
+    let decoded = columns.decoded;
     select_nodes(
         schema,
         bundle,
@@ -40,6 +41,7 @@ pub fn select_columns(
         &parents,
         &starts,
         &lengths,
+        &decoded,
         count,
         lent,
         items,

@@ -18,6 +18,7 @@ pub fn put_rows(columns: RowColumns, rows: &mut [Row])
     let parents = columns.parents;
     let starts = columns.starts;
     let lengths = columns.lengths;
+    let decoded = columns.decoded;
     let mut i = 0;
     while i < rows.len() {
         let k = row_structs::cell_of(i);
@@ -27,6 +28,7 @@ pub fn put_rows(columns: RowColumns, rows: &mut [Row])
             parent: parents[k],
             start: starts[k],
             size: lengths[k],
+            decoded: decoded[k],
         };
         i += 1;
     }

@@ -14,6 +14,7 @@ pub fn columns_of(rows: &[Row]) -> RowColumns
     let mut parents = [0u16; CELLS];
     let mut starts = [0u32; CELLS];
     let mut lengths = [0u16; CELLS];
+    let mut decoded = [0u16; CELLS];
     let mut i = 0;
     while i < rows.len() {
         let k = row_structs::cell_of(i);
@@ -23,6 +24,7 @@ pub fn columns_of(rows: &[Row]) -> RowColumns
         parents[k] = row.parent;
         starts[k] = row.start;
         lengths[k] = row.size;
+        decoded[k] = row.decoded;
         i += 1;
     }
     RowColumns {
@@ -31,5 +33,6 @@ pub fn columns_of(rows: &[Row]) -> RowColumns
         parents: parents,
         starts: starts,
         lengths: lengths,
+        decoded: decoded,
     }
 }

@@ -46,7 +46,7 @@ cell-name c r e = by (nameOfCode (c .name)) refl e
     by : (o : Option Name) → nameOfCode (c .name) ≡ o → rowWith c o ≡ some r → HasCode (r .name)
     by none q d = none-some d
     by (some n) q d =
-        let z : row (c .number) n (c .parent) (c .start) (c .size) ≡ r = cc in
+        let z : row (c .number) n (c .parent) (c .start) (c .size) (c .decoded) ≡ r = cc in
         subst (λ (x : Row). HasCode (x .name)) z (code-name (c .name) n q)
 
 -- the rows of lent cells have names that codes can stand for

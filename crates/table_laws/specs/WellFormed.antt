@@ -17,25 +17,32 @@ use Rattle.table_laws.specs.RowNodes.{NodeOf, root-node, later-node, Ris
 use Rattle.table_spec.specs.Conditions.{RowAt, RowAbove, TextCells, of-element, of-text, LaterRow, WellFormed, WellFormedBeside}
 use Rattle.table_spec.specs.Nodes.{Node, top, under, nodeNumber, nameOf, same, isAbove, depthOf, attachTo, nodeAt}
 use Rattle.table_spec.specs.Rows.{Row, textOf}
-use Rattle.table_spec.specs.Tables.{parentOpen, sameParent, textFits, rowFits, laterRows, wellFormed, textInside, wellFormedWith}
+use Rattle.table_spec.specs.Tables.{parentOpen, sameParent, textFits, rowFits, laterRows, wellFormed, bytesInside, textInside, wellFormedWith}
 use Rattle.text_laws.specs.Lists.{any-in, in-any, all-in, in-all}
 use Rattle.text_laws.specs.Tests.{or-left, or-right, or-cases, and-cases, and-intro, not-intro, not-elim, decided}
 use Rattle.text_spec.specs.Bytes.{isForeign}
 use Rattle.text_spec.specs.Limits.{maxTextBytes}
 use Rattle.text_spec.specs.Lists.{anyOf, allOf}
 
--- "an element .. carries text 0, 0; a text row has length 1 to 4,096"
+-- "an element .. carries text 0, 0; a text row has length 1 to 4,096"; "an element's decoded length is 0, a text's 1 to its raw length"
 pub cells-mean : (n : Name) (r : Row) → r .name ≡ n → T (textFits n r) → TextCells r
 cells-mean (element e) r q t =
-    let c = and-cases (eqb (r .start) 0) (eqb (r .size) 0) t in
-    of-element q (eqb→eq _ _ (c .0)) (eqb→eq _ _ (c .1))
+    let c = and-cases (eqb (r .start) 0) (eqb (r .size) 0 && eqb (r .decoded) 0) t in
+    let d = and-cases (eqb (r .size) 0) (eqb (r .decoded) 0) (c .1) in
+    of-element q (eqb→eq _ _ (c .0)) (eqb→eq _ _ (d .0)) (eqb→eq _ _ (d .1))
 cells-mean (text e) r q t =
-    let c = and-cases (leb 1 (r .size)) (leb (r .size) maxTextBytes) t in
-    of-text q (leb→le _ _ (c .0)) (leb→le _ _ (c .1))
+    let c = and-cases (leb 1 (r .size)) (leb (r .size) maxTextBytes && (leb 1 (r .decoded) && leb (r .decoded) (r .size))) t in
+    let d = and-cases (leb (r .size) maxTextBytes) (leb 1 (r .decoded) && leb (r .decoded) (r .size)) (c .1) in
+    let e = and-cases (leb 1 (r .decoded)) (leb (r .decoded) (r .size)) (d .1) in
+    of-text q (leb→le _ _ (c .0)) (leb→le _ _ (d .0)) (leb→le _ _ (e .0)) (leb→le _ _ (e .1))
 
 pub mean-cells : (r : Row) → TextCells r → T (textFits (r .name) r)
-mean-cells r (of-element q a b) = rw (q, a, b) tt
-mean-cells r (of-text q a b) = rw q (and-intro (leb 1 (r .size)) (leb (r .size) maxTextBytes) (le→leb _ _ a) (le→leb _ _ b))
+mean-cells r (of-element q a b c) = rw (q, a, b, c) tt
+mean-cells r (of-text q a b c d) =
+    rw q
+    (and-intro (leb 1 (r .size)) _ (le→leb _ _ a)
+    (and-intro (leb (r .size) maxTextBytes) _ (le→leb _ _ b)
+    (and-intro (leb 1 (r .decoded)) (leb (r .decoded) (r .size)) (le→leb _ _ c) (le→leb _ _ d))))
 
 module _ (s : Types) (rows : List Row) (rise : Rising rows) where
   -- the nodes of rows 0 to i
@@ -282,18 +289,22 @@ module _ (s : Types) where
 abbrev passes : ℕ → Bool
 passes b = not (isForeign b)
 
--- a text row's range lies inside its text, and its bytes pass 3
+-- a text row's range lies inside its text, its bytes pass 3, and its lengths are equal
 module _ (lent : List ℕ) (r : Row) where
-  inside-means : T (textInside lent r) → T (isText (r .name)) → (r .start + r .size ≤ length lent) × ((b : ℕ) → In b (textOf lent r) → T (isForeign b) → ⊥)
+  abbrev Inside : Type 0
+  Inside = (r .start + r .size ≤ length lent) × ((b : ℕ) → In b (textOf lent r) → T (isForeign b) → ⊥) × (r .decoded ≡ r .size)
+
+  inside-means : T (textInside lent r) → T (isText (r .name)) → Inside
   inside-means t u =
       let w = textOf lent r in
-      let c = ⊎-elim (λ n. absurd (not-elim (isText (r .name)) n u)) (λ v. and-cases (leb (r .start) (length lent)) (eqb (length w) (r .size) && allOf passes w) v)
-      (or-cases (not (isText (r .name))) (leb (r .start) (length lent) && (eqb (length w) (r .size) && allOf passes w)) t) in
-      let d = and-cases (eqb (length w) (r .size)) (allOf passes w) (c .1) in
-      let size = simp (length-take, length-drop) at (eqb→eq (length w) (r .size) (d .0)) in
-      (omega (arith, leb→le (r .start) (length lent) (c .0), size), λ b i f. not-elim (isForeign b) (all-in passes (d .1) i) f)
+      let c = ⊎-elim (λ n. absurd (not-elim (isText (r .name)) n u)) (λ v. and-cases (bytesInside lent r) (eqb (r .decoded) (r .size)) v)
+      (or-cases (not (isText (r .name))) (bytesInside lent r && eqb (r .decoded) (r .size)) t) in
+      let d = and-cases (leb (r .start) (length lent)) (eqb (length w) (r .size) && allOf passes w) (c .0) in
+      let e = and-cases (eqb (length w) (r .size)) (allOf passes w) (d .1) in
+      let size = simp (length-take, length-drop) at (eqb→eq (length w) (r .size) (e .0)) in
+      (omega (arith, leb→le (r .start) (length lent) (d .0), size), (λ b i f. not-elim (isForeign b) (all-in passes (e .1) i) f), eqb→eq (r .decoded) (r .size) (c .1))
 
-  inside-tests : (T (isText (r .name)) → (r .start + r .size ≤ length lent) × ((b : ℕ) → In b (textOf lent r) → T (isForeign b) → ⊥)) → T (textInside lent r)
+  inside-tests : (T (isText (r .name)) → Inside) → T (textInside lent r)
   inside-tests f = ⊎-elim text-row other (decided (isText (r .name)))
     where
       text-row : T (isText (r .name)) → T (textInside lent r)
@@ -302,9 +313,11 @@ module _ (lent : List ℕ) (r : Row) where
           let range = c .0 in
           let size : length (textOf lent r) ≡ r .size = simp (length-take, length-drop) (omega arith) in
           or-right (not (isText (r .name))) _
+          (and-intro (bytesInside lent r) (eqb (r .decoded) (r .size))
           (and-intro (leb (r .start) (length lent)) _ (le→leb (r .start) (length lent) (omega arith))
           (and-intro (eqb (length (textOf lent r)) (r .size)) _ (rw size (eqb-refl (r .size)))
           (in-all passes (textOf lent r) (λ b i. not-intro (isForeign b) (c .1 b i)))))
+          (rw (c .2) (eqb-refl (r .size))))
 
       other : (T (isText (r .name)) → ⊥) → T (textInside lent r)
       other n = or-left (not (isText (r .name))) _ (not-intro (isText (r .name)) n)
@@ -318,12 +331,17 @@ well-formed-beside s lent rows = (means, tests)
     means t =
         let c = and-cases (wellFormed s rows) (allOf (textInside lent) rows) t in
         let fits : (r : Row) → In r rows → T (textInside lent r) = λ r i. all-in (textInside lent) (c .1) i in
-        record { table = table-means s rows (c .0); inside = λ r i u. inside-means lent r (fits r i) u .0; passes = λ r i u. inside-means lent r (fits r i) u .1 }
+        record {
+          table = table-means s rows (c .0);
+          inside = λ r i u. inside-means lent r (fits r i) u .0;
+          passes = λ r i u. inside-means lent r (fits r i) u .1;
+          equalLengths = λ r i u. inside-means lent r (fits r i) u .2;
+        }
 
     tests : WellFormedBeside s lent rows → T (wellFormedWith s lent rows)
     tests w =
         and-intro (wellFormed s rows) (allOf (textInside lent) rows) (table-tests s rows (w .table))
-        (in-all (textInside lent) rows (λ r i. inside-tests lent r (λ u. (w .inside r i u, w .passes r i u))))
+        (in-all (textInside lent) rows (λ r i. inside-tests lent r (λ u. (w .inside r i u, w .passes r i u, w .equalLengths r i u))))
 
 -- a table that is well formed beside a text is so without it
 pub well-formed-alone : (s : Types) (lent : List ℕ) (rows : List Row) → T (wellFormedWith s lent rows) → T (wellFormed s rows)

@@ -26,10 +26,10 @@ pub data DepthAt (rows : List Row) : ℕ → ℕ → Type 0 where
   element-depth : {i d e : ℕ} {r : Row} → RowAt rows (suc i) r → r .name ≡ element e → DepthAt rows (r .parent) d → DepthAt rows (suc i) (suc d)
   text-depth : {i d e : ℕ} {r : Row} → RowAt rows (suc i) r → r .name ≡ text e → DepthAt rows (r .parent) d → DepthAt rows (suc i) d
 
--- "an element .. carries text 0, 0; a text row has length 1 to 4,096"
+-- "an element .. carries text 0, 0; a text row has length 1 to 4,096". Document 02, R-2: "an element's decoded length is 0, a text's 1 to its raw length".
 pub data TextCells (r : Row) : Type 0 where
-  of-element : {e : ℕ} → r .name ≡ element e → r .start ≡ 0 → r .size ≡ 0 → TextCells r
-  of-text : {e : ℕ} → r .name ≡ text e → 1 ≤ r .size → r .size ≤ maxTextBytes → TextCells r
+  of-element : {e : ℕ} → r .name ≡ element e → r .start ≡ 0 → r .size ≡ 0 → r .decoded ≡ 0 → TextCells r
+  of-text : {e : ℕ} → r .name ≡ text e → 1 ≤ r .size → r .size ≤ maxTextBytes → 1 ≤ r .decoded → r .decoded ≤ r .size → TextCells r
 
 -- row i + 1, with its number, name and parent
 pub record LaterRow (s : Types) (rows : List Row) (i : ℕ) (q r : Row) : Type 0 where
@@ -51,8 +51,9 @@ pub record WellFormed (s : Types) (rows : List Row) : Type 0 where
   pub rootRow : (r : Row) → RowAt rows 0 r → (r .number ≡ 0) × (r .name ≡ s .root) × (r .parent ≡ 0) × TextCells r
   pub laterRow : (i : ℕ) (q r : Row) → RowAt rows i q → RowAt rows (suc i) r → LaterRow s rows i q r
 
--- Refusal 1 on a table with the text lent beside it: each text row's range lies inside that text, and each of its bytes passes 3.
+-- Refusal 1 on a table with the text lent beside it: each text row's range lies inside that text, each of its bytes passes 3, and its lengths are equal.
 pub record WellFormedBeside (s : Types) (lent : List ℕ) (rows : List Row) : Type 0 where
   pub table : WellFormed s rows
   pub inside : (r : Row) → List·Memᴰ r rows → T (isText (r .name)) → r .start + r .size ≤ length lent
   pub passes : (r : Row) → List·Memᴰ r rows → T (isText (r .name)) → (b : ℕ) → List·Memᴰ b (textOf lent r) → T (isForeign b) → ⊥
+  pub equalLengths : (r : Row) → List·Memᴰ r rows → T (isText (r .name)) → r .decoded ≡ r .size

@@ -5,31 +5,32 @@ use Prim.Native.Nat.{ℕ}
 use Rattle.schema_spec.specs.Names.{Name, element, text, codeOf, nameOfCode}
 use Rattle.text_spec.specs.Lists.{part}
 
--- "One row per node: number, name, parent's row, start and length of its text."
+-- "One row per node: number, name, parent's row, start and length of its text." Document 02, R-2: "Reading a text now yields its decoded length as well".
 pub record Row : Type 0 where
   pub number : ℕ
   pub name : Name
   pub parent : ℕ
   pub start : ℕ
   pub size : ℕ
+  pub decoded : ℕ
 
 -- Rows are made by this function.
-abbrev pub row : ℕ → Name → ℕ → ℕ → ℕ → Row
-row number name parent start size = record { number = number; name = name; parent = parent; start = start; size = size }
+abbrev pub row : ℕ → Name → ℕ → ℕ → ℕ → ℕ → Row
+row number name parent start size decoded = record { number = number; name = name; parent = parent; start = start; size = size; decoded = decoded }
 
--- the row of an element, which "carries text 0, 0", and that of a text
+-- the row of an element, which "carries text 0, 0" and has no decoded length, and that of a text, which is not decoded yet: its lengths are equal
 abbrev pub elementRow : ℕ → ℕ → ℕ → Row
-elementRow number e parent = row number (element e) parent 0 0
+elementRow number e parent = row number (element e) parent 0 0 0
 
 abbrev pub textRow : ℕ → ℕ → ℕ → ℕ → ℕ → Row
-textRow number e parent start size = row number (text e) parent start size
+textRow number e parent start size = row number (text e) parent start size size
 
 -- the same node under another parent row, or with its text at another start
 abbrev pub withParent : ℕ → Row → Row
-withParent parent r = row (r .number) (r .name) parent (r .start) (r .size)
+withParent parent r = row (r .number) (r .name) parent (r .start) (r .size) (r .decoded)
 
 abbrev pub withStart : ℕ → Row → Row
-withStart start r = row (r .number) (r .name) (r .parent) start (r .size)
+withStart start r = row (r .number) (r .name) (r .parent) start (r .size) (r .decoded)
 
 -- "The text of a row is handed back as that part of the journal."
 abbrev pub textOf : List ℕ → Row → List ℕ
@@ -42,13 +43,14 @@ pub record Cells : Type 0 where
   pub parent : ℕ
   pub start : ℕ
   pub size : ℕ
+  pub decoded : ℕ
 
 abbrev pub cellsOf : Row → Cells
-cellsOf r = record { number = r .number; name = codeOf (r .name); parent = r .parent; start = r .start; size = r .size }
+cellsOf r = record { number = r .number; name = codeOf (r .name); parent = r .parent; start = r .start; size = r .size; decoded = r .decoded }
 
 abbrev pub rowWith : Cells → Option Name → Option Row
 rowWith c none = none
-rowWith c (some n) = some (row (c .number) n (c .parent) (c .start) (c .size))
+rowWith c (some n) = some (row (c .number) n (c .parent) (c .start) (c .size) (c .decoded))
 
 abbrev pub rowOf : Cells → Option Row
 rowOf c = rowWith c (nameOfCode (c .name))

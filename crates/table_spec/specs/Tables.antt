@@ -31,10 +31,10 @@ sameParent (under k n w p) (under l m v q) = same p q
 abbrev pub firstText : List Node → Node → Bool
 firstText before y = not (isText (nameOf y) && anyOf (λ z. isText (nameOf z) && sameParent z y) before)
 
--- "an element .. carries text 0, 0; a text row has length 1 to 4,096"
+-- "an element .. carries text 0, 0; a text row has length 1 to 4,096". Document 02, R-2: "an element's decoded length is 0, a text's 1 to its raw length".
 abbrev pub textFits : Name → Row → Bool
-textFits (element e) r = eqb (r .start) 0 && eqb (r .size) 0
-textFits (text e) r = leb 1 (r .size) && leb (r .size) maxTextBytes
+textFits (element e) r = eqb (r .start) 0 && (eqb (r .size) 0 && eqb (r .decoded) 0)
+textFits (text e) r = leb 1 (r .size) && (leb (r .size) maxTextBytes && (leb 1 (r .decoded) && leb (r .decoded) (r .size)))
 
 -- a later row, given the nodes before it, of which `previous` is the last; "later numbers rise, to 65,534 at most"; "depth is at most 64"
 abbrev pub rowFits : Types → List Node → Node → Row → Node → Bool
@@ -56,8 +56,12 @@ wellFormed s (r ∷ rs) =
     eqb (r .number) 0 && (sameName (r .name) (s .root) && (eqb (r .parent) 0 && (textFits (r .name) r && laterRows s (y ∷ []) y rs)))
 
 -- Refusal 1: "a text row points outside its text or at a byte that fails 3"
+abbrev pub bytesInside : List ℕ → Row → Bool
+bytesInside lent r = leb (r .start) (length lent) && (eqb (length (textOf lent r)) (r .size) && allOf (λ b. not (isForeign b)) (textOf lent r))
+
+-- No text is decoded yet: a text has two equal lengths.
 abbrev pub textInside : List ℕ → Row → Bool
-textInside lent r = not (isText (r .name)) || (leb (r .start) (length lent) && (eqb (length (textOf lent r)) (r .size) && allOf (λ b. not (isForeign b)) (textOf lent r)))
+textInside lent r = not (isText (r .name)) || (bytesInside lent r && eqb (r .decoded) (r .size))
 
 -- a table with the text lent beside it
 unfoldable pub wellFormedWith : Types → List ℕ → List Row → Bool

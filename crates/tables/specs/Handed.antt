@@ -23,12 +23,12 @@ use Rattle.text_laws.specs.Tests.{passed, and-cases}
 use Rattle.text_spec.specs.Lists.{isNone}
 
 -- ---- definitions
-abbrev pub lentTable : List ℕ → List ℕ → List ℕ → List ℕ → List ℕ → ℕ → LentTable
-lentTable numbers names parents starts lengths count = record { columns = columns numbers names parents starts lengths; count = count }
+abbrev pub lentTable : List ℕ → List ℕ → List ℕ → List ℕ → List ℕ → List ℕ → ℕ → LentTable
+lentTable numbers names parents starts lengths decoded count = record { columns = columns numbers names parents starts lengths decoded; count = count }
 
--- the table in five columns that are lent
-abbrev pub entryTable : Slice → Slice → Slice → Slice → Slice → ℕ → LentTable
-entryTable numbers names parents starts lengths count = record { columns = entryColumns numbers names parents starts lengths; count = count }
+-- the table in six columns that are lent
+abbrev pub entryTable : Slice → Slice → Slice → Slice → Slice → Slice → ℕ → LentTable
+entryTable numbers names parents starts lengths decoded count = record { columns = entryColumns numbers names parents starts lengths decoded; count = count }
 
 -- the table holds rows: alone, and beside a text
 unfoldable pub isHeld : Schema → LentTable → Bool
@@ -62,17 +62,20 @@ pub fit-lent : (t : LentTable) → sizesFit t ≡ true → Lent (t .columns) (t 
 fit-lent t e =
     let z = sizesOf (t .columns) in
     let n = z .numbers in
+    let last = eqb (z .lengths) n && eqb (z .decoded) n in
     let c₀ = and-cases (equalSizes z) (leb (t .count) n) (passed e) in
-    let c₁ = and-cases (eqb (z .names) n) (eqb (z .parents) n && (eqb (z .starts) n && eqb (z .lengths) n)) (c₀ .0) in
-    let c₂ = and-cases (eqb (z .parents) n) (eqb (z .starts) n && eqb (z .lengths) n) (c₁ .1) in
-    let c₃ = and-cases (eqb (z .starts) n) (eqb (z .lengths) n) (c₂ .1) in
+    let c₁ = and-cases (eqb (z .names) n) (eqb (z .parents) n && (eqb (z .starts) n && last)) (c₀ .0) in
+    let c₂ = and-cases (eqb (z .parents) n) (eqb (z .starts) n && last) (c₁ .1) in
+    let c₃ = and-cases (eqb (z .starts) n) last (c₂ .1) in
+    let c₄ = and-cases (eqb (z .lengths) n) (eqb (z .decoded) n) (c₃ .1) in
     let most = leb→le (t .count) n (c₀ .1) in
     record {
       numbered = most;
       named = omega (arith, eqb→eq (z .names) n (c₁ .0));
       parented = omega (arith, eqb→eq (z .parents) n (c₂ .0));
       started = omega (arith, eqb→eq (z .starts) n (c₃ .0));
-      sized = omega (arith, eqb→eq (z .lengths) n (c₃ .1));
+      sized = omega (arith, eqb→eq (z .lengths) n (c₄ .0));
+      measured = omega (arith, eqb→eq (z .decoded) n (c₄ .1));
     }
 
 module _ (words : List ℕ) (t : LentTable) (s : Schema) (hw : HeldWords (typesOf s) words) where
@@ -89,7 +92,7 @@ module _ (words : List ℕ) (t : LentTable) (s : Schema) (hw : HeldWords (typesO
 
   module _ (lent : List ℕ) where
     abbrev texts : Bool
-    texts = textsPass lent (t .columns .names) (t .columns .starts) (t .columns .lengths) 0 (t .count)
+    texts = textsPass lent (t .columns .names) (t .columns .starts) (t .columns .lengths) (t .columns .decoded) 0 (t .count)
 
     pub beside-unfit : sizesFit t ≡ false → false ≡ isBeside s lent t
     unfolding isBeside tableBeside

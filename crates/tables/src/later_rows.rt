@@ -22,9 +22,10 @@ pub fn later_fits(
     code: u8,
     start: u32,
     length: u16,
+    decoded: u16,
 ) -> bool
     requires { ⌜ depth ≤ maxDepth ⌝ }
-    ensures { λ r. ⌜ r ≡ laterFits before text word depth number code start length ⌝ }
+    ensures { λ r. ⌜ r ≡ laterFits before text word depth number code start length decoded ⌝ }
 {
     if number <= before {
         return false;
@@ -36,7 +37,7 @@ pub fn later_fits(
         return false;
     }
     if row_tests::is_text(code) {
-        return row_limits::text_fits(text, length);
+        return row_limits::text_fits(text, length, decoded);
     }
-    row_limits::element_fits(depth, start, length)
+    row_limits::element_fits(depth, start, length, decoded)
 }

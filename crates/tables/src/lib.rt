@@ -27,9 +27,10 @@ fn sizes_fit(
     parents: usize,
     starts: usize,
     lengths: usize,
+    decoded: usize,
     count: usize,
 ) -> bool
-    ensures { λ r. ⌜ r ≡ (equalSizes (record { numbers = numbers; names = codes; parents = parents; starts = starts; lengths = lengths }) && leb count numbers) ⌝ }
+    ensures { λ r. ⌜ r ≡ (equalSizes (record { numbers = numbers; names = codes; parents = parents; starts = starts; lengths = lengths; decoded = decoded }) && leb count numbers) ⌝ }
 {
     if codes != numbers {
         return false;
@@ -43,6 +44,9 @@ fn sizes_fit(
     if lengths != numbers {
         return false;
     }
+    if decoded != numbers {
+        return false;
+    }
     count <= numbers
 }
 
@@ -53,10 +57,11 @@ pub fn is_table(
     parents: &[u16],
     starts: &[u32],
     lengths: &[u16],
+    decoded: &[u16],
     count: usize,
     words: &[u64; MAX_ELEMENTS],
 ) -> bool
-    ensures { λ r. ⌜ ((s : Schema) → HeldWords (typesOf s) (now (words .entry)) → r ≡ isHeld s (entryTable numbers codes parents starts lengths count)) ⌝ }
+    ensures { λ r. ⌜ ((s : Schema) → HeldWords (typesOf s) (now (words .entry)) → r ≡ isHeld s (entryTable numbers codes parents starts lengths decoded count)) ⌝ }
 {
     if !sizes_fit(
         numbers.len(),
@@ -64,11 +69,21 @@ pub fn is_table(
         parents.len(),
         starts.len(),
         lengths.len(),
+        decoded.len(),
         count,
     ) {
         return false;
     }
-    rows_fit(numbers, codes, parents, starts, lengths, count, words)
+    rows_fit(
+        numbers,
+        codes,
+        parents,
+        starts,
+        lengths,
+        decoded,
+        count,
+        words,
+    )
 }
 
 // The same, and each text lies in the text that is lent beside the table, with bytes that pass 3.
@@ -78,11 +93,12 @@ pub fn is_table_beside(
     parents: &[u16],
     starts: &[u32],
     lengths: &[u16],
+    decoded: &[u16],
     count: usize,
     words: &[u64; MAX_ELEMENTS],
     lent: &[u8],
 ) -> bool
-    ensures { λ r. ⌜ ((s : Schema) → HeldWords (typesOf s) (now (words .entry)) → r ≡ isBeside s (now (lent .entry)) (entryTable numbers codes parents starts lengths count)) ⌝ }
+    ensures { λ r. ⌜ ((s : Schema) → HeldWords (typesOf s) (now (words .entry)) → r ≡ isBeside s (now (lent .entry)) (entryTable numbers codes parents starts lengths decoded count)) ⌝ }
 {
     if !sizes_fit(
         numbers.len(),
@@ -90,12 +106,22 @@ pub fn is_table_beside(
         parents.len(),
         starts.len(),
         lengths.len(),
+        decoded.len(),
         count,
     ) {
         return false;
     }
-    if !rows_fit(numbers, codes, parents, starts, lengths, count, words) {
+    if !rows_fit(
+        numbers,
+        codes,
+        parents,
+        starts,
+        lengths,
+        decoded,
+        count,
+        words,
+    ) {
         return false;
     }
-    texts_pass(lent, codes, starts, lengths, count)
+    texts_pass(lent, codes, starts, lengths, decoded, count)
 }

@@ -11,8 +11,8 @@ pub fn is_text(code: u8) -> bool
 }
 
 // Whether row 0 is the root element.
-pub fn root_fits(number: u16, code: u8, parent: u16, start: u32, length: u16) -> bool
-    ensures { λ r. ⌜ r ≡ rootFits number code parent start length ⌝ }
+pub fn root_fits(number: u16, code: u8, parent: u16, start: u32, length: u16, decoded: u16) -> bool
+    ensures { λ r. ⌜ r ≡ rootFits number code parent start length decoded ⌝ }
 {
     if number != 0 {
         return false;
@@ -26,5 +26,8 @@ pub fn root_fits(number: u16, code: u8, parent: u16, start: u32, length: u16) ->
     if start != 0 {
         return false;
     }
-    length == 0
+    if length != 0 {
+        return false;
+    }
+    decoded == 0
 }

@@ -43,11 +43,12 @@ pub fn row_text_place(
     parents: &[u16],
     starts: &[u32],
     lengths: &[u16],
+    decoded: &[u16],
     count: usize,
     lent: &[u8],
     position: usize,
 ) -> RowText
-    ensures { λ r. ⌜ outcomeOf r ≡ rowText (recordWith (schema .bytes) (schema .len)) (entryTable numbers codes parents starts lengths count) (now (lent .entry)) position ⌝ }
+    ensures { λ r. ⌜ outcomeOf r ≡ rowText (recordWith (schema .bytes) (schema .len)) (entryTable numbers codes parents starts lengths decoded count) (now (lent .entry)) position ⌝ }
 {
     if !is_schema_record(schema) {
         return RowText::Refused;
@@ -59,6 +60,7 @@ pub fn row_text_place(
         parents,
         starts,
         lengths,
+        decoded,
         count,
         &words,
         lent,
@@ -76,11 +78,12 @@ pub fn row_text<'a>(
     parents: &[u16],
     starts: &[u32],
     lengths: &[u16],
+    decoded: &[u16],
     count: usize,
     lent: &'a [u8],
     position: usize,
 ) -> &'a [u8]
-    ensures { λ r. ⌜ now r ≡ partAfter (now (lent .entry)) (rowText (recordWith (schema .bytes) (schema .len)) (entryTable numbers codes parents starts lengths count) (now (lent .entry)) position) ⌝ }
+    ensures { λ r. ⌜ now r ≡ partAfter (now (lent .entry)) (rowText (recordWith (schema .bytes) (schema .len)) (entryTable numbers codes parents starts lengths decoded count) (now (lent .entry)) position) ⌝ }
 {
     match row_text_place(
         schema,
@@ -89,6 +92,7 @@ pub fn row_text<'a>(
         parents,
         starts,
         lengths,
+        decoded,
         count,
         lent,
         position,

@@ -16,13 +16,14 @@ fn row_fits(
     codes: &[u8],
     starts: &[u32],
     lengths: &[u16],
+    decoded: &[u16],
     words: &[u64; MAX_ELEMENTS],
     row: usize,
     parent: usize,
     depth: usize,
 ) -> bool
-    requires { ⌜ RowLent (now numbers) (now codes) (now starts) (now lengths) row parent × (depth ≤ maxDepth) ⌝ }
-    ensures { λ r. ⌜ r ≡ rowFits (now (numbers .entry)) (now (codes .entry)) (now (starts .entry)) (now (lengths .entry)) (now (words .entry)) row parent depth ⌝ }
+    requires { ⌜ RowLent (now numbers) (now codes) (now starts) (now lengths) (now decoded) row parent × (depth ≤ maxDepth) ⌝ }
+    ensures { λ r. ⌜ r ≡ rowFits (now (numbers .entry)) (now (codes .entry)) (now (starts .entry)) (now (lengths .entry)) (now (decoded .entry)) (now (words .entry)) row parent depth ⌝ }
 {
     let text = is_text(codes[row - 1]);
     let word = words[codes[parent] as usize];
@@ -35,6 +36,7 @@ fn row_fits(
         codes[row],
         starts[row],
         lengths[row],
+        decoded[row],
     )
 }
 
@@ -46,11 +48,12 @@ fn later_rows_fit(
     parents: &[u16],
     starts: &[u32],
     lengths: &[u16],
+    decoded: &[u16],
     count: usize,
     words: &[u64; MAX_ELEMENTS],
 ) -> bool
-    requires { ⌜ Lent (heldColumns numbers codes parents starts lengths) count × RootAt (heldColumns numbers codes parents starts lengths) count ⌝ }
-    ensures { λ r. ⌜ r ≡ laterPass (now (words .entry)) (entryColumns numbers codes parents starts lengths) (count - 1) 0 0 1 ⌝ }
+    requires { ⌜ Lent (heldColumns numbers codes parents starts lengths decoded) count × RootAt (heldColumns numbers codes parents starts lengths decoded) count ⌝ }
+    ensures { λ r. ⌜ r ≡ laterPass (now (words .entry)) (entryColumns numbers codes parents starts lengths decoded) (count - 1) 0 0 1 ⌝ }
 {
     let mut element: usize = 0;
     let mut depth: usize = 1;
@@ -64,7 +67,17 @@ fn later_rows_fit(
             element = parents[element] as usize;
             depth -= 1;
         }
-        if !row_fits(numbers, codes, starts, lengths, words, row, element, depth) {
+        if !row_fits(
+            numbers,
+            codes,
+            starts,
+            lengths,
+            decoded,
+            words,
+            row,
+            element,
+            depth,
+        ) {
             break;
         }
         if !is_text(codes[row]) {
@@ -83,17 +96,34 @@ pub fn rows_fit(
     parents: &[u16],
     starts: &[u32],
     lengths: &[u16],
+    decoded: &[u16],
     count: usize,
     words: &[u64; MAX_ELEMENTS],
 ) -> bool
-    requires { ⌜ Lent (heldColumns numbers codes parents starts lengths) count ⌝ }
-    ensures { λ r. ⌜ r ≡ rowsPass (now (words .entry)) (entryColumns numbers codes parents starts lengths) count ⌝ }
+    requires { ⌜ Lent (heldColumns numbers codes parents starts lengths decoded) count ⌝ }
+    ensures { λ r. ⌜ r ≡ rowsPass (now (words .entry)) (entryColumns numbers codes parents starts lengths decoded) count ⌝ }
 {
     if count == 0 {
         return true;
     }
-    if !root_fits(numbers[0], codes[0], parents[0], starts[0], lengths[0]) {
+    if !root_fits(
+        numbers[0],
+        codes[0],
+        parents[0],
+        starts[0],
+        lengths[0],
+        decoded[0],
+    ) {
         return false;
     }
-    later_rows_fit(numbers, codes, parents, starts, lengths, count, words)
+    later_rows_fit(
+        numbers,
+        codes,
+        parents,
+        starts,
+        lengths,
+        decoded,
+        count,
+        words,
+    )
 }

@@ -33,27 +33,29 @@ impl<T: Copy + PartialEq + From<u8> + Into<u32>> Output<T> {
     }
 }
 
-/// The five columns of a table.
+/// The six columns of a table.
 pub struct Columns {
     pub numbers: Output<u16>,
     pub names: Output<u8>,
     pub parents: Output<u16>,
     pub starts: Output<u32>,
     pub lengths: Output<u16>,
+    pub decoded: Output<u16>,
 }
 
 impl Columns {
-    pub fn new(sizes: [usize; 5]) -> Self {
+    pub fn new(sizes: [usize; 6]) -> Self {
         Columns {
             numbers: Output::new(sizes[0]),
             names: Output::new(sizes[1]),
             parents: Output::new(sizes[2]),
             starts: Output::new(sizes[3]),
             lengths: Output::new(sizes[4]),
+            decoded: Output::new(sizes[5]),
         }
     }
 
-    pub fn cells(&self) -> [Vec<u32>; 5] {
-        [self.numbers.cells(), self.names.cells(), self.parents.cells(), self.starts.cells(), self.lengths.cells()]
+    pub fn cells(&self) -> [Vec<u32>; 6] {
+        [self.numbers.cells(), self.names.cells(), self.parents.cells(), self.starts.cells(), self.lengths.cells(), self.decoded.cells()]
     }
 }

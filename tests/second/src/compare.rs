@@ -34,32 +34,32 @@ fn wanted() -> Vec<String> {
 
 /// How many cells to lend for an answer of these sizes: just enough, more, too few of one, or columns of unequal length.
 fn lending(r: &mut Random, rows: usize, items: usize, counts: usize) -> Lent {
-    let mut sizes = [rows, rows, rows, rows, rows, items, counts];
+    let (mut columns, mut lent_items, mut lent_counts) = ([rows; 6], items, counts);
     match r.below(20) {
-        0 => sizes[5] = items.saturating_sub(1 + r.below(3)),
-        1 => sizes[6] = counts.saturating_sub(1),
-        2 => sizes[..5].fill(rows.saturating_sub(1 + r.below(3))),
-        3 => sizes[r.below(5)] += 1,
-        4 => sizes[..5].fill(0),
+        0 => lent_items = items.saturating_sub(1 + r.below(3)),
+        1 => lent_counts = counts.saturating_sub(1),
+        2 => columns.fill(rows.saturating_sub(1 + r.below(3))),
+        3 => columns[r.below(6)] += 1,
+        4 => columns.fill(0),
         5..=9 => {}
         _ => {
-            sizes[..5].fill(rows + r.below(4));
-            sizes[5] += r.below(4);
-            sizes[6] += r.below(3);
+            columns.fill(rows + r.below(4));
+            lent_items += r.below(4);
+            lent_counts += r.below(3);
         }
     }
-    Lent { columns: [sizes[0], sizes[1], sizes[2], sizes[3], sizes[4]], items: sizes[5], counts: sizes[6] }
+    Lent { columns, items: lent_items, counts: lent_counts }
 }
 
 /// As many cells as include/lozhymet.h says for a journal, and for an extract.
 fn enough_to_make(journal: &[u8]) -> Lent {
     let rows = (journal.len() / 4).min(65_535);
-    Lent { columns: [rows; 5], items: journal.len().min(MAX_JOURNAL) + 4 * rows + 5, counts: 0 }
+    Lent { columns: [rows; 6], items: journal.len().min(MAX_JOURNAL) + 4 * rows + 5, counts: 0 }
 }
 
 fn enough_to_select(extract: &[u8]) -> Lent {
     let rows = (extract.len() / 8).min(65_535);
-    Lent { columns: [rows; 5], items: 8 * rows, counts: 8 }
+    Lent { columns: [rows; 6], items: 8 * rows, counts: 8 }
 }
 
 fn same(ours: &Left, theirs: &Left, call: &str, input: &Input, extract: &[u8]) {
@@ -79,7 +79,7 @@ fn compare_making(r: &mut Random, seen: &mut Seen, input: &Input) -> Option<(usi
     same(&ours, &archive::make_extract(schema, bundle, journal, &lent), "making", input, &[]);
     seen.calls += 1;
     seen.note(format!("making: {}", ours.result[0]));
-    (whole.result[0] == 0).then(|| (rows, whole.cells[5][..items].iter().map(|&b| b as u8).collect()))
+    (whole.result[0] == 0).then(|| (rows, whole.cells[6][..items].iter().map(|&b| b as u8).collect()))
 }
 
 fn compare_selecting(r: &mut Random, seen: &mut Seen, input: &Input, place: usize, extract: &[u8]) -> Left {
@@ -99,9 +99,9 @@ fn compare_selecting(r: &mut Random, seen: &mut Seen, input: &Input, place: usiz
 fn compare_whole(seen: &mut Seen, input: &Input, extract: &[u8], paths: &[Path], rows: &[Row]) {
     for (k, path) in paths.iter().enumerate() {
         let whole: Vec<u32> = table::selected(rows, path).into_iter().map(|i| rows[i].number as u32).collect();
-        let lent = Lent { columns: [extract.len() / 8; 5], items: whole.len(), counts: 1 };
+        let lent = Lent { columns: [extract.len() / 8; 6], items: whole.len(), counts: 1 };
         let found = archive::select(&input.schema, &input.bundle, k + 1, extract, &lent);
-        assert!(found.result[0] == 0 && found.cells[5] == whole, "path {} of {} on {}", k + 1, shown(&input.bundle), shown(&input.journal));
+        assert!(found.result[0] == 0 && found.cells[6] == whole, "path {} of {} on {}", k + 1, shown(&input.bundle), shown(&input.journal));
         seen.path(path, whole.len());
         seen.calls += 1;
     }

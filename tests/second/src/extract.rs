@@ -56,7 +56,7 @@ fn rows_of(bytes: &[u8]) -> Option<Vec<Row>> {
                         Name::Text(_) => return None,
                     }
                 };
-                rows.push(Row { number: number(&value[..2]), name, parent, start, size });
+                rows.push(Row { number: number(&value[..2]), name, parent, start, size, decoded: size });
             }
             _ => return None,
         }

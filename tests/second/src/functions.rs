@@ -17,42 +17,44 @@ extern "C" {
     fn test_read_journal(
         schema: *const u8, schema_cells: usize, schema_len: usize, text: *const u8, text_len: usize,
         numbers: *mut u16, numbers_len: usize, names: *mut u8, names_len: usize, parents: *mut u16, parents_len: usize,
-        starts: *mut u32, starts_len: usize, lengths: *mut u16, lengths_len: usize,
+        starts: *mut u32, starts_len: usize, lengths: *mut u16, lengths_len: usize, decoded: *mut u16, decoded_len: usize,
     ) -> Outcome;
     fn test_cut_table(
         schema: *const u8, schema_cells: usize, schema_len: usize,
         numbers: *const u16, numbers_len: usize, codes: *const u8, codes_len: usize, parents: *const u16, parents_len: usize,
-        starts: *const u32, starts_len: usize, lengths: *const u16, lengths_len: usize, count: usize, word: u64,
+        starts: *const u32, starts_len: usize, lengths: *const u16, lengths_len: usize, decoded: *const u16, decoded_len: usize,
+        count: usize, word: u64,
         out_numbers: *mut u16, out_numbers_len: usize, out_names: *mut u8, out_names_len: usize, out_parents: *mut u16, out_parents_len: usize,
-        out_starts: *mut u32, out_starts_len: usize, out_lengths: *mut u16, out_lengths_len: usize,
+        out_starts: *mut u32, out_starts_len: usize, out_lengths: *mut u16, out_lengths_len: usize, out_decoded: *mut u16, out_decoded_len: usize,
     ) -> Outcome;
     fn test_select_nodes(
         schema: *const u8, schema_cells: usize, schema_len: usize, bundle: *const u8, bundle_cells: usize, bundle_len: usize, place: usize,
         numbers: *const u16, numbers_len: usize, codes: *const u8, codes_len: usize, parents: *const u16, parents_len: usize,
-        starts: *const u32, starts_len: usize, lengths: *const u16, lengths_len: usize, count: usize, lent: *const u8, lent_len: usize,
-        items: *mut u16, items_len: usize, counts: *mut u32, counts_len: usize,
+        starts: *const u32, starts_len: usize, lengths: *const u16, lengths_len: usize, decoded: *const u16, decoded_len: usize,
+        count: usize, lent: *const u8, lent_len: usize, items: *mut u16, items_len: usize, counts: *mut u32, counts_len: usize,
     ) -> Outcome;
     fn test_write_extract(
         schema: *const u8, schema_cells: usize, schema_len: usize,
         numbers: *const u16, numbers_len: usize, codes: *const u8, codes_len: usize, parents: *const u16, parents_len: usize,
-        starts: *const u32, starts_len: usize, lengths: *const u16, lengths_len: usize, count: usize, lent: *const u8, lent_len: usize,
-        out: *mut u8, out_len: usize,
+        starts: *const u32, starts_len: usize, lengths: *const u16, lengths_len: usize, decoded: *const u16, decoded_len: usize,
+        count: usize, lent: *const u8, lent_len: usize, out: *mut u8, out_len: usize,
     ) -> Outcome;
     fn test_read_extract(
         schema: *const u8, schema_cells: usize, schema_len: usize, extract: *const u8, extract_len: usize,
         numbers: *mut u16, numbers_len: usize, names: *mut u8, names_len: usize, parents: *mut u16, parents_len: usize,
-        starts: *mut u32, starts_len: usize, lengths: *mut u16, lengths_len: usize,
+        starts: *mut u32, starts_len: usize, lengths: *mut u16, lengths_len: usize, decoded: *mut u16, decoded_len: usize,
     ) -> Outcome;
     fn test_row_text(
         schema: *const u8, schema_cells: usize, schema_len: usize,
         numbers: *const u16, numbers_len: usize, codes: *const u8, codes_len: usize, parents: *const u16, parents_len: usize,
-        starts: *const u32, starts_len: usize, lengths: *const u16, lengths_len: usize, count: usize, lent: *const u8, lent_len: usize,
-        position: usize, out: *mut u8, out_len: usize,
+        starts: *const u32, starts_len: usize, lengths: *const u16, lengths_len: usize, decoded: *const u16, decoded_len: usize,
+        count: usize, lent: *const u8, lent_len: usize, position: usize, out: *mut u8, out_len: usize,
     ) -> Outcome;
     fn test_row_chain(
         schema: *const u8, schema_cells: usize, schema_len: usize,
         numbers: *const u16, numbers_len: usize, codes: *const u8, codes_len: usize, parents: *const u16, parents_len: usize,
-        starts: *const u32, starts_len: usize, lengths: *const u16, lengths_len: usize, count: usize, position: usize, out: *mut u8, out_len: usize,
+        starts: *const u32, starts_len: usize, lengths: *const u16, lengths_len: usize, decoded: *const u16, decoded_len: usize,
+        count: usize, position: usize, out: *mut u8, out_len: usize,
     ) -> Outcome;
 }
 
@@ -67,6 +69,7 @@ struct Handed {
     parents: Vec<u16>,
     starts: Vec<u32>,
     lengths: Vec<u16>,
+    decoded: Vec<u16>,
 }
 
 fn narrow<T: TryFrom<u32>>(cells: &[u32]) -> Vec<T> {
@@ -74,8 +77,15 @@ fn narrow<T: TryFrom<u32>>(cells: &[u32]) -> Vec<T> {
 }
 
 fn handed(table: &Table) -> Handed {
-    let [numbers, names, parents, starts, lengths] = &table.columns;
-    Handed { numbers: narrow(numbers), names: narrow(names), parents: narrow(parents), starts: starts.clone(), lengths: narrow(lengths) }
+    let [numbers, names, parents, starts, lengths, decoded] = &table.columns;
+    Handed {
+        numbers: narrow(numbers),
+        names: narrow(names),
+        parents: narrow(parents),
+        starts: starts.clone(),
+        lengths: narrow(lengths),
+        decoded: narrow(decoded),
+    }
 }
 
 // In each call below a pointer is that of a slice, so it is aligned, not null, and has its length behind it; no two outputs overlap.
@@ -97,27 +107,28 @@ pub fn needed_names(records: &Records) -> Left {
     left(unsafe { test_needed_names(s.bytes.as_ptr(), s.bytes.len(), s.len, b.bytes.as_ptr(), b.bytes.len(), b.len) }, Vec::new())
 }
 
-pub fn read_journal(records: &Records, text: &[u8], lent: [usize; 5]) -> Left {
+pub fn read_journal(records: &Records, text: &[u8], lent: [usize; 6]) -> Left {
     let (s, mut c) = (&records.schema, Columns::new(lent));
     let outcome = unsafe {
         test_read_journal(
             s.bytes.as_ptr(), s.bytes.len(), s.len, text.as_ptr(), text.len(),
             c.numbers.first(), c.numbers.size(), c.names.first(), c.names.size(), c.parents.first(), c.parents.size(),
-            c.starts.first(), c.starts.size(), c.lengths.first(), c.lengths.size(),
+            c.starts.first(), c.starts.size(), c.lengths.first(), c.lengths.size(), c.decoded.first(), c.decoded.size(),
         )
     };
     left(outcome, c.cells().to_vec())
 }
 
-pub fn cut_table(records: &Records, table: &Table, word: u64, lent: [usize; 5]) -> Left {
+pub fn cut_table(records: &Records, table: &Table, word: u64, lent: [usize; 6]) -> Left {
     let (s, h, mut c) = (&records.schema, handed(table), Columns::new(lent));
     let outcome = unsafe {
         test_cut_table(
             s.bytes.as_ptr(), s.bytes.len(), s.len,
             h.numbers.as_ptr(), h.numbers.len(), h.names.as_ptr(), h.names.len(), h.parents.as_ptr(), h.parents.len(),
-            h.starts.as_ptr(), h.starts.len(), h.lengths.as_ptr(), h.lengths.len(), table.count, word,
+            h.starts.as_ptr(), h.starts.len(), h.lengths.as_ptr(), h.lengths.len(), h.decoded.as_ptr(), h.decoded.len(),
+            table.count, word,
             c.numbers.first(), c.numbers.size(), c.names.first(), c.names.size(), c.parents.first(), c.parents.size(),
-            c.starts.first(), c.starts.size(), c.lengths.first(), c.lengths.size(),
+            c.starts.first(), c.starts.size(), c.lengths.first(), c.lengths.size(), c.decoded.first(), c.decoded.size(),
         )
     };
     left(outcome, c.cells().to_vec())
@@ -130,8 +141,8 @@ pub fn select_nodes(records: &Records, place: usize, lent: &Lent, items: usize, 
         test_select_nodes(
             s.bytes.as_ptr(), s.bytes.len(), s.len, b.bytes.as_ptr(), b.bytes.len(), b.len, place,
             h.numbers.as_ptr(), h.numbers.len(), h.names.as_ptr(), h.names.len(), h.parents.as_ptr(), h.parents.len(),
-            h.starts.as_ptr(), h.starts.len(), h.lengths.as_ptr(), h.lengths.len(), lent.table.count, lent.text.as_ptr(), lent.text.len(),
-            items.first(), items.size(), counts.first(), counts.size(),
+            h.starts.as_ptr(), h.starts.len(), h.lengths.as_ptr(), h.lengths.len(), h.decoded.as_ptr(), h.decoded.len(),
+            lent.table.count, lent.text.as_ptr(), lent.text.len(), items.first(), items.size(), counts.first(), counts.size(),
         )
     };
     left(outcome, vec![items.cells(), counts.cells()])
@@ -143,20 +154,20 @@ pub fn write_extract(records: &Records, lent: &Lent, size: usize) -> Left {
         test_write_extract(
             s.bytes.as_ptr(), s.bytes.len(), s.len,
             h.numbers.as_ptr(), h.numbers.len(), h.names.as_ptr(), h.names.len(), h.parents.as_ptr(), h.parents.len(),
-            h.starts.as_ptr(), h.starts.len(), h.lengths.as_ptr(), h.lengths.len(), lent.table.count, lent.text.as_ptr(), lent.text.len(),
-            out.first(), out.size(),
+            h.starts.as_ptr(), h.starts.len(), h.lengths.as_ptr(), h.lengths.len(), h.decoded.as_ptr(), h.decoded.len(),
+            lent.table.count, lent.text.as_ptr(), lent.text.len(), out.first(), out.size(),
         )
     };
     left(outcome, vec![out.cells()])
 }
 
-pub fn read_extract(records: &Records, extract: &[u8], lent: [usize; 5]) -> Left {
+pub fn read_extract(records: &Records, extract: &[u8], lent: [usize; 6]) -> Left {
     let (s, mut c) = (&records.schema, Columns::new(lent));
     let outcome = unsafe {
         test_read_extract(
             s.bytes.as_ptr(), s.bytes.len(), s.len, extract.as_ptr(), extract.len(),
             c.numbers.first(), c.numbers.size(), c.names.first(), c.names.size(), c.parents.first(), c.parents.size(),
-            c.starts.first(), c.starts.size(), c.lengths.first(), c.lengths.size(),
+            c.starts.first(), c.starts.size(), c.lengths.first(), c.lengths.size(), c.decoded.first(), c.decoded.size(),
         )
     };
     left(outcome, c.cells().to_vec())
@@ -168,8 +179,8 @@ pub fn row_text(records: &Records, lent: &Lent, position: usize, size: usize) ->
         test_row_text(
             s.bytes.as_ptr(), s.bytes.len(), s.len,
             h.numbers.as_ptr(), h.numbers.len(), h.names.as_ptr(), h.names.len(), h.parents.as_ptr(), h.parents.len(),
-            h.starts.as_ptr(), h.starts.len(), h.lengths.as_ptr(), h.lengths.len(), lent.table.count, lent.text.as_ptr(), lent.text.len(),
-            position, out.first(), out.size(),
+            h.starts.as_ptr(), h.starts.len(), h.lengths.as_ptr(), h.lengths.len(), h.decoded.as_ptr(), h.decoded.len(),
+            lent.table.count, lent.text.as_ptr(), lent.text.len(), position, out.first(), out.size(),
         )
     };
     left(outcome, vec![out.cells()])
@@ -181,7 +192,8 @@ pub fn row_chain(records: &Records, lent: &Lent, position: usize, size: usize) -
         test_row_chain(
             s.bytes.as_ptr(), s.bytes.len(), s.len,
             h.numbers.as_ptr(), h.numbers.len(), h.names.as_ptr(), h.names.len(), h.parents.as_ptr(), h.parents.len(),
-            h.starts.as_ptr(), h.starts.len(), h.lengths.as_ptr(), h.lengths.len(), lent.table.count, position, out.first(), out.size(),
+            h.starts.as_ptr(), h.starts.len(), h.lengths.as_ptr(), h.lengths.len(), h.decoded.as_ptr(), h.decoded.len(),
+            lent.table.count, position, out.first(), out.size(),
         )
     };
     left(outcome, vec![out.cells()])

@@ -10,19 +10,19 @@ use crate::text::{refused, Refused};
 const MAX_JOURNAL: usize = 1_048_576;
 const MAX_PATHS: usize = 8;
 
-/// How many cells are lent: for each of the five columns, for items and for counts.
+/// How many cells are lent: for each of the six columns, for items and for counts.
 #[derive(Clone, Copy, Debug)]
 pub struct Lent {
-    pub columns: [usize; 5],
+    pub columns: [usize; 6],
     pub items: usize,
     pub counts: usize,
 }
 
-/// The result, and each output whole: the five columns, items, counts.
+/// The result, and each output whole: the six columns, items, counts.
 #[derive(Clone, Debug, PartialEq, Eq)]
 pub struct Left {
     pub result: [u64; 5],
-    pub cells: [Vec<u32>; 7],
+    pub cells: [Vec<u32>; 8],
 }
 
 struct Answer {
@@ -46,7 +46,8 @@ fn filled(cells: impl Iterator<Item = u32>, lent: usize) -> Vec<u32> {
 }
 
 fn left(answer: Result<Answer, Refused>, lent: &Lent) -> Left {
-    let sizes = [lent.columns[0], lent.columns[1], lent.columns[2], lent.columns[3], lent.columns[4], lent.items, lent.counts];
+    let [numbers, names, parents, starts, lengths, decoded] = lent.columns;
+    let sizes = [numbers, names, parents, starts, lengths, decoded, lent.items, lent.counts];
     let small = |a: &Answer| lent.columns[0] < a.rows.len() || lent.items < a.items.len() || lent.counts < a.counts.len();
     match answer.and_then(|a| if small(&a) { Err(refused(18, 0)) } else { Ok(a) }) {
         Err(r) => Left { result: [r.number as u64, r.place as u64, 0, 0, 0], cells: sizes.map(|n| vec![0; n]) },
@@ -60,8 +61,9 @@ fn left(answer: Result<Answer, Refused>, lent: &Lent) -> Left {
                     column(|r| r.parent, sizes[2]),
                     column(|r| r.start, sizes[3]),
                     column(|r| r.size, sizes[4]),
-                    filled(a.items.into_iter(), sizes[5]),
-                    filled(a.counts.into_iter(), sizes[6]),
+                    column(|r| r.decoded, sizes[5]),
+                    filled(a.items.into_iter(), sizes[6]),
+                    filled(a.counts.into_iter(), sizes[7]),
                 ],
             }
         }

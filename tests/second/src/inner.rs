@@ -55,6 +55,9 @@ fn wanted() -> Vec<String> {
         "records refused",
         "a table refused",
         "a text beside a table refused",
+        "a decoded length refused",
+        "a text of unequal lengths refused beside its bytes",
+        "a text of unequal lengths cut",
         "columns of unequal length",
         "a place past the last path",
         "a position past the last row",
@@ -111,13 +114,28 @@ fn table_of(r: &mut Random, rows: &[Row]) -> Table {
 
 /// A table with a cell, the count or the length of a column changed.
 fn damaged_table(r: &mut Random, mut table: Table) -> Table {
-    let (column, size) = (r.below(5), table.columns[0].len());
+    let (column, size) = (r.below(6), table.columns[0].len());
     match r.below(6) {
         0 => table.count = r.below(size + 3),
         1 => table.columns[column].push(0),
         2..=4 if size > 0 => table.columns[column][r.below(size)] = r.below(200) as u32,
         _ if size > 0 => table.columns[column][r.below(size)] ^= 1,
         _ => {}
+    }
+    table
+}
+
+/// A table with a decoded length changed, mostly that of a text.
+fn damaged_decoded(r: &mut Random, mut table: Table) -> Table {
+    let texts: Vec<usize> = (0..table.count).filter(|&i| table.columns[1][i] >= 32 || r.chance(10)).collect();
+    if !texts.is_empty() {
+        let i = texts[r.below(texts.len())];
+        let size = table.columns[4][i] as usize;
+        table.columns[5][i] = match r.below(4) {
+            0 => 0,
+            1 => size + 1 + r.below(3),
+            _ => 1 + r.below(size.max(2) - 1),
+        } as u32;
     }
     table
 }
@@ -145,11 +163,11 @@ impl Comparison<'_> {
         self.seen.note(what.to_string());
     }
 
-    /// So many cells to lend for each of five columns; now and then one has a cell more.
-    fn columns_lent(&mut self, rows: &Result<Vec<Row>, Refused>) -> [usize; 5] {
-        let mut all = [cells_lent(self.r, rows.as_ref().map_or(0, Vec::len)); 5];
+    /// So many cells to lend for each of six columns; now and then one has a cell more.
+    fn columns_lent(&mut self, rows: &Result<Vec<Row>, Refused>) -> [usize; 6] {
+        let mut all = [cells_lent(self.r, rows.as_ref().map_or(0, Vec::len)); 6];
         if self.r.chance(4) {
-            all[self.r.below(5)] += 1;
+            all[self.r.below(6)] += 1;
             self.note("columns of unequal length");
         }
         all
@@ -189,6 +207,9 @@ impl Comparison<'_> {
         let rows = records::cut_rows(records, whole, word);
         let lent = self.columns_lent(&rows);
         self.same("cutting", &in_columns(&rows, lent), &functions::cut_table(records, &whole.table, word, lent));
+        if rows.iter().flatten().any(|row| row.decoded != row.size) {
+            self.note("a text of unequal lengths cut");
+        }
         rows.unwrap_or_default()
     }
 
@@ -319,17 +340,21 @@ impl Comparison<'_> {
     /// A table with a fault, or the text beside it.
     fn with_damaged_table(&mut self, records: &Records, whole: &Lent) {
         let (mut table, mut text) = (whole.table.clone(), whole.text.clone());
-        if self.r.chance(60) {
-            table = damaged_table(self.r, table);
-        } else {
-            text = damaged_text(self.r, whole);
+        let (mut refused, mut refused_beside) = ("a table refused", "a text beside a table refused");
+        match self.r.below(10) {
+            0..=3 => table = damaged_table(self.r, table),
+            4..=6 => {
+                table = damaged_decoded(self.r, table);
+                (refused, refused_beside) = ("a decoded length refused", "a text of unequal lengths refused beside its bytes");
+            }
+            _ => text = damaged_text(self.r, whole),
         }
         let lent = Lent::new(records, table, &text);
         if records.elements.is_ok() && lent.rows.is_err() {
-            self.note("a table refused");
+            self.note(refused);
         }
         if lent.rows.is_ok() && !lent.inside {
-            self.note("a text beside a table refused");
+            self.note(refused_beside);
         }
         self.once(records, &lent);
     }

@@ -147,14 +147,14 @@ fn content_fits(schema: &Schema, text: &[u8], e: &Element) -> bool {
 fn rows(schema: &Schema, e: &Element, parent: usize, all: &mut Vec<(Row, usize)>) {
     let own = all.len();
     let index = schema.element(e.name).unwrap();
-    all.push((Row { number: own, name: Name::Element(index), parent, start: 0, size: 0 }, e.place));
+    all.push((Row { number: own, name: Name::Element(index), parent, start: 0, size: 0, decoded: 0 }, e.place));
     for c in &e.children {
         match c {
             Child::Element(c) => rows(schema, c, own, all),
             Child::Data(i, j) => {
                 if let Content::Characters = schema.contents[index] {
                     let number = all.len();
-                    all.push((Row { number, name: Name::Text(index), parent: own, start: *i, size: j - i }, *i));
+                    all.push((Row { number, name: Name::Text(index), parent: own, start: *i, size: j - i, decoded: j - i }, *i));
                 }
             }
         }

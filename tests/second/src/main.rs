@@ -43,7 +43,7 @@ fn table(text: &[u8]) -> Option<Vec<Row>> {
     text.lines()
         .map(|line| {
             let n: Vec<usize> = line.split(' ').map(|w| w.parse().unwrap()).collect();
-            Some(Row { number: n[0], name: Name::of_code(n[1] as u32)?, parent: n[2], start: n[3], size: n[4] })
+            Some(Row { number: n[0], name: Name::of_code(n[1] as u32)?, parent: n[2], start: n[3], size: n[4], decoded: n[5] })
         })
         .collect()
 }
@@ -72,7 +72,7 @@ fn outcome(does: &str, texts: &[Vec<u8>], limits: &[usize]) -> Result<Vec<u8>, R
             if limits.get(1).is_some_and(|&lent| lent < rows.len()) {
                 return Err(refused(18, 0));
             }
-            Ok(lines(&rows, |r| vec![r.number, r.name.code() as usize, r.parent, r.start, r.size]))
+            Ok(lines(&rows, |r| vec![r.number, r.name.code() as usize, r.parent, r.start, r.size, r.decoded]))
         }
         "needed" => {
             let ps = read_bundle(&s, &texts[1])?;
@@ -105,7 +105,7 @@ fn outcome(does: &str, texts: &[Vec<u8>], limits: &[usize]) -> Result<Vec<u8>, R
             if lent.first().is_some_and(|&n| n < rows.len()) {
                 return Err(refused(18, 0));
             }
-            Ok(lines(&rows, |r| vec![r.number, r.name.code() as usize, r.parent, r.size]))
+            Ok(lines(&rows, |r| vec![r.number, r.name.code() as usize, r.parent, r.size, r.decoded]))
         }
         "table" => match table(&texts[1]) {
             Some(rows) if table::well_formed(&s, &rows) && table::texts_inside(&rows, &texts[2]) => Ok(format!("ok {}\n", rows.len()).into_bytes()),

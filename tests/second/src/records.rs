@@ -84,15 +84,15 @@ impl Records {
     }
 }
 
-/// A table that is handed in: five columns, and how many rows of them count.
+/// A table that is handed in: six columns, and how many rows of them count.
 #[derive(Clone, Debug)]
 pub struct Table {
-    pub columns: [Vec<u32>; 5],
+    pub columns: [Vec<u32>; 6],
     pub count: usize,
 }
 
-fn columns_of(rows: &[Row]) -> [Vec<u32>; 5] {
-    let cells: [fn(&Row) -> usize; 5] = [|r| r.number, |r| r.name.code() as usize, |r| r.parent, |r| r.start, |r| r.size];
+fn columns_of(rows: &[Row]) -> [Vec<u32>; 6] {
+    let cells: [fn(&Row) -> usize; 6] = [|r| r.number, |r| r.name.code() as usize, |r| r.parent, |r| r.start, |r| r.size, |r| r.decoded];
     cells.map(|cell| rows.iter().map(|r| cell(r) as u32).collect())
 }
 
@@ -102,13 +102,14 @@ impl Table {
     }
 
     fn rows(&self) -> Option<Vec<Row>> {
-        let [numbers, names, parents, starts, lengths] = &self.columns;
+        let [numbers, names, parents, starts, lengths, decoded] = &self.columns;
         if self.count > numbers.len() || self.columns.iter().any(|c| c.len() != numbers.len()) {
             return None;
         }
         let row = |i: usize| {
             let cell = |column: &Vec<u32>| column[i] as usize;
-            Some(Row { number: cell(numbers), name: Name::of_code(names[i])?, parent: cell(parents), start: cell(starts), size: cell(lengths) })
+            let name = Name::of_code(names[i])?;
+            Some(Row { number: cell(numbers), name, parent: cell(parents), start: cell(starts), size: cell(lengths), decoded: cell(decoded) })
         };
         (0..self.count).map(row).collect()
     }
@@ -119,7 +120,7 @@ pub struct Lent {
     pub table: Table,
     pub text: Vec<u8>,
     pub rows: Result<Vec<Row>, Refused>,
-    /// Whether its texts lie inside, in bytes that pass 3.
+    /// Whether its texts lie inside, in bytes that pass 3, and have two equal lengths.
     pub inside: bool,
 }
 
@@ -171,7 +172,7 @@ fn left(given: Result<Given, Refused>, lent: &[usize]) -> Left {
 }
 
 /// Rows in lent columns, which are of one length.
-pub fn in_columns(rows: &Result<Vec<Row>, Refused>, lent: [usize; 5]) -> Left {
+pub fn in_columns(rows: &Result<Vec<Row>, Refused>, lent: [usize; 6]) -> Left {
     if lent.iter().any(|&n| n != lent[0]) {
         return left(Err(NO_RECORD), &lent);
     }

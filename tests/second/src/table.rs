@@ -11,6 +11,7 @@ pub struct Row {
     pub parent: usize,
     pub start: usize,
     pub size: usize,
+    pub decoded: usize,
 }
 
 /// The rows above row i, nearest first; row 0 has none.
@@ -36,21 +37,24 @@ fn later_fits(schema: &Schema, rows: &[Row], i: usize) -> bool {
     schema.holds(rows[r.parent].name, r.name)
         && depth <= 64
         && match r.name {
-            Name::Element(_) => (r.start, r.size) == (0, 0),
+            Name::Element(_) => (r.start, r.size, r.decoded) == (0, 0, 0),
             Name::Text(_) => {
                 (1..=4096).contains(&r.size)
+                    && (1..=r.size).contains(&r.decoded)
                     && !rows[1..i].iter().any(|z| matches!(z.name, Name::Text(_)) && z.parent == r.parent)
             }
         }
 }
 
 pub fn well_formed(schema: &Schema, rows: &[Row]) -> bool {
-    rows.first().is_none_or(|r| *r == Row { number: 0, name: Name::Element(0), parent: 0, start: 0, size: 0 })
+    rows.first().is_none_or(|r| *r == Row { number: 0, name: Name::Element(0), parent: 0, start: 0, size: 0, decoded: 0 })
         && (1..rows.len()).all(|i| later_fits(schema, rows, i))
 }
 
+/// Each text lies inside, in bytes that pass 3. None is decoded yet: its lengths are equal.
 pub fn texts_inside(rows: &[Row], text: &[u8]) -> bool {
-    rows.iter().filter(|r| matches!(r.name, Name::Text(_))).all(|r| text.get(r.start..r.start + r.size).is_some_and(|t| !t.iter().any(|&b| is_foreign(b))))
+    let inside = |r: &Row| text.get(r.start..r.start + r.size).is_some_and(|t| !t.iter().any(|&b| is_foreign(b)));
+    rows.iter().filter(|r| matches!(r.name, Name::Text(_))).all(|r| r.decoded == r.size && inside(r))
 }
 
 pub fn cut(rows: &[Row], set: &Names) -> Vec<Row> {

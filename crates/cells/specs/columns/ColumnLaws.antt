@@ -51,15 +51,19 @@ put-length column r x = pick (ltb r (length column))
 -- ---- one row more
 module _ (c : Columns) (r : ℕ) (x : Cells) (e : EqualColumns c) where
   pub row-in : r < length (c .numbers)
-      → columns (set (c .numbers) r (x .number)) (set (c .names) r (x .name)) (set (c .parents) r (x .parent)) (set (c .starts) r (x .start)) (set (c .lengths) r (x .size)) ≡ withRow c r x
+      → columns (set (c .numbers) r (x .number)) (set (c .names) r (x .name)) (set (c .parents) r (x .parent)) (set (c .starts) r (x .start)) (set (c .lengths) r (x .size))
+      (set (c .decoded) r (x .decoded))
+      ≡ withRow c r x
   row-in h =
       same-columns (put-in (c .numbers) r (x .number) h) (put-in (c .names) r (x .name) (omega (arith, e .of-names))) (put-in (c .parents) r (x .parent) (omega (arith, e .of-parents)))
       (put-in (c .starts) r (x .start) (omega (arith, e .of-starts))) (put-in (c .lengths) r (x .size) (omega (arith, e .of-lengths)))
+      (put-in (c .decoded) r (x .decoded) (omega (arith, e .of-decoded)))
 
   pub row-out : length (c .numbers) ≤ r → c ≡ withRow c r x
   row-out h =
       same-columns (put-out (c .numbers) r (x .number) h) (put-out (c .names) r (x .name) (omega (arith, e .of-names))) (put-out (c .parents) r (x .parent) (omega (arith, e .of-parents)))
       (put-out (c .starts) r (x .start) (omega (arith, e .of-starts))) (put-out (c .lengths) r (x .size) (omega (arith, e .of-lengths)))
+      (put-out (c .decoded) r (x .decoded) (omega (arith, e .of-decoded)))
 
 -- the column of some field
 field-more : (field : Row → ℕ) (n : ℕ) (rows : List Row) (row : Row)
@@ -72,31 +76,35 @@ field-more field n rows row =
 pub columns-more : (z : Sizes) (rows : List Row) (row : Row) → withRow (columnsOf z rows) (length rows) (cellsOf row) ≡ columnsOf z (rows ++ (row ∷ []))
 columns-more z rows row =
     same-columns (field-more (λ r. r .number) (z .numbers) rows row) (field-more (λ r. codeOf (r .name)) (z .names) rows row) (field-more (λ r. r .parent) (z .parents) rows row)
-    (field-more (λ r. r .start) (z .starts) rows row) (field-more (λ r. r .size) (z .lengths) rows row)
+    (field-more (λ r. r .start) (z .starts) rows row) (field-more (λ r. r .size) (z .lengths) rows row) (field-more (λ r. r .decoded) (z .decoded) rows row)
 
 -- the columns stay of equal length
-pub equal-more : (c : Columns) (r number name parent start size : ℕ) → EqualColumns c
-    → EqualColumns (withRow c r (record { number = number; name = name; parent = parent; start = start; size = size }))
-equal-more c r number name parent start size e =
+pub equal-more : (c : Columns) (r number name parent start size decoded : ℕ) → EqualColumns c
+    → EqualColumns (withRow c r (record { number = number; name = name; parent = parent; start = start; size = size; decoded = decoded }))
+equal-more c r number name parent start size decoded e =
     record {
       of-names = put-length (c .names) r name ∙ e .of-names ∙ sym (put-length (c .numbers) r number);
       of-parents = put-length (c .parents) r parent ∙ e .of-parents ∙ sym (put-length (c .numbers) r number);
       of-starts = put-length (c .starts) r start ∙ e .of-starts ∙ sym (put-length (c .numbers) r number);
       of-lengths = put-length (c .lengths) r size ∙ e .of-lengths ∙ sym (put-length (c .numbers) r number);
+      of-decoded = put-length (c .decoded) r decoded ∙ e .of-decoded ∙ sym (put-length (c .numbers) r number);
     }
 
 -- by the test of columns of unequal length (1)
 pub equal-columns : (c : Columns) → T (equalSizes (sizesOf c)) → EqualColumns c
 equal-columns c t =
     let n = length (c .numbers) in
-    let a = and-cases (eqb (length (c .names)) n) (eqb (length (c .parents)) n && (eqb (length (c .starts)) n && eqb (length (c .lengths)) n)) t in
-    let b = and-cases (eqb (length (c .parents)) n) (eqb (length (c .starts)) n && eqb (length (c .lengths)) n) (a .1) in
-    let d = and-cases (eqb (length (c .starts)) n) (eqb (length (c .lengths)) n) (b .1) in
+    let last = eqb (length (c .lengths)) n && eqb (length (c .decoded)) n in
+    let a = and-cases (eqb (length (c .names)) n) (eqb (length (c .parents)) n && (eqb (length (c .starts)) n && last)) t in
+    let b = and-cases (eqb (length (c .parents)) n) (eqb (length (c .starts)) n && last) (a .1) in
+    let d = and-cases (eqb (length (c .starts)) n) last (b .1) in
+    let f = and-cases (eqb (length (c .lengths)) n) (eqb (length (c .decoded)) n) (d .1) in
     record {
       of-names = same (c .names) (a .0);
       of-parents = same (c .parents) (b .0);
       of-starts = same (c .starts) (d .0);
-      of-lengths = same (c .lengths) (d .1);
+      of-lengths = same (c .lengths) (f .0);
+      of-decoded = same (c .decoded) (f .1);
     }
   where
     same : (column : List ℕ) → T (eqb (length column) (length (c .numbers))) → length column ≡ length (c .numbers)

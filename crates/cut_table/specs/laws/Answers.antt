@@ -52,10 +52,19 @@ pub record AnsweredTable (o : Outcome (List Row)) (z : Sizes) (r : Verdict) (x :
   pub answer : r ≡ verdict o
   pub cells : x ≡ columnsAfter z (λ rows. rows) o
 
--- a call that is lent five columns, by its outcome for so many cells of each
-abbrev pub AnsweredColumns : (Sizes → Outcome (List Row)) → Verdict → Slice → Slice → Slice → Slice → Slice → Type 0
-AnsweredColumns call r numbers names parents starts lengths =
-    AnsweredTable (call (entrySizes numbers names parents starts lengths)) (entrySizes numbers names parents starts lengths) r (exitColumns numbers names parents starts lengths)
+-- a call that is lent six columns, by its outcome for so many cells of each
+abbrev pub AnsweredColumns : (Sizes → Outcome (List Row)) → Verdict → Slice → Slice → Slice → Slice → Slice → Slice → Type 0
+AnsweredColumns call r numbers names parents starts lengths decoded =
+    AnsweredTable (call (entrySizes numbers names parents starts lengths decoded)) (entrySizes numbers names parents starts lengths decoded) r (exitColumns numbers names parents starts lengths decoded)
+
+-- refused by 1, and no row in the columns
+abbrev pub RefusedColumns : Verdict → Slice → Slice → Slice → Slice → Slice → Slice → Type 0
+RefusedColumns r numbers names parents starts lengths decoded =
+    (r ≡ refusedBy 1 0) × (exitColumns numbers names parents starts lengths decoded ≡ columnsOf (entrySizes numbers names parents starts lengths decoded) [])
+
+-- a table cut under a schema's record
+abbrev pub TableCutIn : TextRecord → LentTable → ℕ → Verdict → Slice → Slice → Slice → Slice → Slice → Slice → Type 0
+TableCutIn schema t word r numbers names parents starts lengths decoded = AnsweredColumns (tableCut schema t word) r numbers names parents starts lengths decoded
 
 -- what cutting asks of a table that has passed refusal 1, and of the columns that are lent for the answer
 pub record Cuttable (t : LentTable) (o : Columns) : Type 0 where
@@ -70,9 +79,9 @@ pub record CutFirst (f : ℕ → Bool) (c o : Columns) (r : Verdict) (x : Column
   pub cells : CutAs f c o count x
 
 -- the same of lent slices
-abbrev pub CutFirstIn : (ℕ → Bool) → Columns → Slice → Slice → Slice → Slice → Slice → Verdict → Type 0
-CutFirstIn f c numbers names parents starts lengths r =
-    CutFirst f c (entryColumns numbers names parents starts lengths) r (exitColumns numbers names parents starts lengths)
+abbrev pub CutFirstIn : (ℕ → Bool) → Columns → Slice → Slice → Slice → Slice → Slice → Slice → Verdict → Type 0
+CutFirstIn f c numbers names parents starts lengths decoded r =
+    CutFirst f c (entryColumns numbers names parents starts lengths decoded) r (exitColumns numbers names parents starts lengths decoded)
 
 -- ---- the columns of a table that is handed in
 module _ (s : Schema) (t : LentTable) (rows : List Row) (h : Holds s t rows) where
@@ -100,6 +109,7 @@ module _ (s : Schema) (t : LentTable) (rows : List Row) (h : Holds s t rows) whe
             parents = refl;
             starts = length-take-le n (c .starts) (l .started) ∙ sym long;
             lengths = length-take-le n (c .lengths) (l .sized) ∙ sym long;
+            decoded = length-take-le n (c .decoded) (l .measured) ∙ sym long;
           };
           root = sym (ap (λ (x : Columns). getD (x .parents) 0 0) (held-columns t rows (h .lent))) ∙ root-first;
         };
@@ -110,7 +120,7 @@ module _ (s : Schema) (t : LentTable) (rows : List Row) (h : Holds s t rows) whe
 pub sizes-equal : (o : Columns) → equalSizes (sizesOf o) ≡ true → OfLength o (length (o .numbers))
 sizes-equal o e =
     let q = equal-columns o (passed e) in
-    record { numbers = refl; names = q .of-names; parents = q .of-parents; starts = q .of-starts; lengths = q .of-lengths }
+    record { numbers = refl; names = q .of-names; parents = q .of-parents; starts = q .of-starts; lengths = q .of-lengths; decoded = q .of-decoded }
 
 -- ---- the set that is handed in
 name-of-code : (n : Name) → HasCode n → nameOfCode (codeOf n) ≡ n
@@ -150,7 +160,7 @@ module _ (s : Types) (rows : List Row) (ok : T (wellFormed s rows)) (f : ℕ →
   unfolding answered paddedColumns columnsAfter
   room-cells z cuts = pick (ltb (z .numbers) (length cuts))
     where
-      pick : (b : Bool) → paddedColumns z (cond b (columns [] [] [] [] []) (columnsIn cuts)) ≡ columnsAfter z (λ x. x) (cond b (refused (at tooFewCells 0)) (accepted cuts))
+      pick : (b : Bool) → paddedColumns z (cond b (columns [] [] [] [] [] []) (columnsIn cuts)) ≡ columnsAfter z (λ x. x) (cond b (refused (at tooFewCells 0)) (accepted cuts))
       pick true = refl
       pick false = refl
 
@@ -165,6 +175,10 @@ module _ (s : Types) (rows : List Row) (ok : T (wellFormed s rows)) (f : ℕ →
 -- ---- a table that is handed in
 unfoldable pub cutHeld : Schema → LentTable → ℕ → Sizes → Outcome (List Row)
 cutHeld s t word z = handed (tableHeld s t) (λ rows. tested (equalSizes z) (inColumns z (cutToWord (typesOf s) word rows)))
+
+-- the same of lent slices
+abbrev pub HeldCutIn : Schema → LentTable → ℕ → Verdict → Slice → Slice → Slice → Slice → Slice → Slice → Type 0
+HeldCutIn s t word r numbers names parents starts lengths decoded = AnsweredColumns (cutHeld s t word) r numbers names parents starts lengths decoded
 
 -- nothing is answered but a refusal by 1
 pub refused-1 : {o : Outcome (List Row)} {z : Sizes} {r : Verdict} {x : Columns} → o ≡ refused (at badRecord 0) → r ≡ refusedBy 1 0 → x ≡ columnsOf z [] → AnsweredTable o z r x

@@ -10,32 +10,33 @@ use Rattle.extract_reader.specs.steps.Reads.{Stands}
 use Rattle.table_spec.specs.Columns.{columns}
 
 abbrev Inv-loop : tie.InvT-loop
-Inv-loop extract words numbers₀ names₀ parents₀ starts₀ lengths₀ levels₀ x₀ numbers names parents starts lengths levels x =
-    Stands extract words levels (columns numbers names parents starts lengths) x
+Inv-loop extract words numbers₀ names₀ parents₀ starts₀ lengths₀ decoded₀ levels₀ x₀ numbers names parents starts lengths decoded levels x =
+    Stands extract words levels (columns numbers names parents starts lengths decoded) x
     × (length numbers ≡ length numbers₀)
     × (length names ≡ length names₀)
     × (length parents ≡ length parents₀)
     × (length starts ≡ length starts₀)
     × (length lengths ≡ length lengths₀)
+    × (length decoded ≡ length decoded₀)
 
 abbrev μ-loop : tie.MeasureT-loop
-μ-loop extract words numbers₀ names₀ parents₀ starts₀ lengths₀ levels₀ x₀ numbers names parents starts lengths levels x =
+μ-loop extract words numbers₀ names₀ parents₀ starts₀ lengths₀ decoded₀ levels₀ x₀ numbers names parents starts lengths decoded levels x =
     bytesLeft extract x
 
 -- the states that answers go back to: the call, a turn, and what the turn read
 abbrev start-of : tie.After-begin Inv-loop μ-loop → tie.Start Inv-loop μ-loop
-start-of c = c .before .before .before .before .before .before .before
+start-of c = c .before .before .before .before .before .before .before .before
 
-abbrev turn-of : tie.After-read-row-arg5 Inv-loop μ-loop → tie.In-loop Inv-loop μ-loop
-turn-of c = c .before .before .before .before .before .before
+abbrev turn-of : tie.After-read-row-arg6 Inv-loop μ-loop → tie.In-loop Inv-loop μ-loop
+turn-of c = c .before .before .before .before .before .before .before
 
-abbrev read-of : tie.After-slice-known10 Inv-loop μ-loop → tie.After-read-row Inv-loop μ-loop
-read-of c = c .before .before .before .before .before .before .before .before .before .before
+abbrev read-of : tie.After-slice-known12 Inv-loop μ-loop → tie.After-read-row Inv-loop μ-loop
+read-of c = c .before .before .before .before .before .before .before .before .before .before .before .before
 
 loop-holds : tie.Need-loop-holds Inv-loop μ-loop
 loop-holds c =
     let start = start-of c in
-    (stands-begun _ _ _ _ (start .pre .0) (start .pre .1) refl (search needs) _ (c .begin .ensures), refl, refl, refl, refl, refl)
+    (stands-begun _ _ _ _ (start .pre .0) (start .pre .1) refl (search needs) _ (c .begin .ensures), refl, refl, refl, refl, refl, refl)
 
 read-row-requires : tie.Need-read-row-requires Inv-loop μ-loop
 read-row-requires c κs =
@@ -49,13 +50,14 @@ loop-again : tie.Need-loop-again Inv-loop μ-loop
 loop-again c =
     let read = read-of c in
     let at = turn-of (read .before) .before .loop in
-    let after-parents = c .before .before .before .before .before in (
+    let after-parents = c .before .before .before .before .before .before .before in (
       read .read-row .ensures .stands,
       omega (arith, after-parents .before .before .before .before .numbers .given, at .inv .1),
       omega (arith, after-parents .before .before .names .given, at .inv .2),
       omega (arith, after-parents .parents .given, at .inv .3),
-      omega (arith, c .before .before .before .starts .given, at .inv .4),
-      omega (arith, c .before .lengths .given, at .inv .5),
+      omega (arith, c .before .before .before .before .before .starts .given, at .inv .4),
+      omega (arith, c .before .before .before .lengths .given, at .inv .5),
+      omega (arith, c .before .decoded .given, at .inv .6),
     )
 
 same-length : tie.Need-same-length Inv-loop μ-loop
@@ -73,13 +75,16 @@ same-length-4 c = c .before .before .loop .inv .4
 same-length-5 : tie.Need-same-length-5 Inv-loop μ-loop
 same-length-5 c = c .before .before .loop .inv .5
 
+same-length-6 : tie.Need-same-length-6 Inv-loop μ-loop
+same-length-6 c = c .before .before .loop .inv .6
+
 returns : tie.Need-returns Inv-loop μ-loop
 returns c =
     let turn = c .before .before in
     let at = turn .loop in
     let g = start-of (turn .before) .args in
-    let sizes = same-sizes (columns (g .numbers .now) (g .names .now) (g .parents .now) (g .starts .now) (g .lengths .now)) (columns (at .numbers) (at .names) (at .parents) (at .starts) (at .lengths))
-    (at .inv .1) (at .inv .2) (at .inv .3) (at .inv .4) (at .inv .5) in
+    let sizes = same-sizes (columns (g .numbers .now) (g .names .now) (g .parents .now) (g .starts .now) (g .lengths .now) (g .decoded .now)) (columns (at .numbers) (at .names) (at .parents) (at .starts) (at .lengths) (at .decoded))
+    (at .inv .1) (at .inv .2) (at .inv .3) (at .inv .4) (at .inv .5) (at .inv .6) in
     rows-read _ _ _ _ _ (at .inv .0) (c .before .loop-test .left) _ sizes _ refl
 
 pub read-rows-spec : {M : Type 1} → statement M
@@ -98,4 +103,5 @@ read-rows-spec =
     same-length-3
     same-length-4
     same-length-5
+    same-length-6
     returns)

@@ -92,7 +92,7 @@ module _ (bs words levels : List ℕ) (c : Carried) (h : Ready bs levels c) (r :
           }))
         where
           cells : ℕ → ℕ → ℕ → ℕ → ℕ → Cells
-          cells x n p s z = record { number = x; name = n; parent = p; start = s; size = z }
+          cells x n p s z = record { number = x; name = n; parent = p; start = s; size = z; decoded = z }
 
   module _ (number d size : ℕ) (is : r ≡ Text number d size) where
     text-field : FieldAs bs words levels c (Text number d size)
@@ -132,4 +132,4 @@ module _ (bs words levels : List ℕ) (c : Carried) (h : Ready bs levels c) (r :
         }))
       where
         cells : ℕ → ℕ → ℕ → ℕ → ℕ → Cells
-        cells x n p s z = record { number = x; name = n; parent = p; start = s; size = z }
+        cells x n p s z = record { number = x; name = n; parent = p; start = s; size = z; decoded = z }

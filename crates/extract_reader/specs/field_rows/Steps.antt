@@ -16,9 +16,9 @@ use Rattle.projection_laws.specs.extract_passes.Steps.{Step, wrong, ended, onwa
 use Rattle.table_spec.specs.Rows.{Row, Cells, cellsOf}
 use Rattle.text_spec.specs.Limits.{maxDeclarations, maxNodes, maxDepth, maxTextBytes}
 
--- ---- a row in cells
+-- ---- a row in cells; the text is as it was decoded, so that its lengths are equal
 abbrev pub rowCells : FieldRow → Cells
-rowCells r = record { number = r .number; name = r .name; parent = r .parent; start = r .start; size = r .size }
+rowCells r = record { number = r .number; name = r .name; parent = r .parent; start = r .start; size = r .size; decoded = r .size }
 
 abbrev pub carriedOn : ℕ → ℕ → ℕ → Bool → ℕ → Carried
 carriedOn at rows number after depth = record { at = at; rows = rows; number = number; text = after; depth = depth }

@@ -40,7 +40,7 @@ prepended-all (q ∷ done) = ap (consRow q) (prepended-all done)
 
 -- ---- a row more in the columns
 pub columns-sizes : (z : Sizes) (rows : List Row) → sizesOf (columnsOf z rows) ≡ z
-columns-sizes z rows = rw (padded-length (z .numbers) _, padded-length (z .names) _, padded-length (z .parents) _, padded-length (z .starts) _, padded-length (z .lengths) _)
+columns-sizes z rows = rw (padded-length (z .numbers) _, padded-length (z .names) _, padded-length (z .parents) _, padded-length (z .starts) _, padded-length (z .lengths) _, padded-length (z .decoded) _)
 
 pub hold-by : (cols : Columns) (z : Sizes) (rows : List Row) → cols ≡ columnsOf z rows → Hold cols rows
 hold-by cols z rows e = e ∙ ap (λ (y : Sizes). columnsOf y rows) (sym (ap sizesOf e ∙ columns-sizes z rows))
@@ -100,7 +100,7 @@ module _ (bs words levels : List ℕ) (cols : Columns) (c : Carried) (h : Reads 
       by (row-field row w x n past far f) =
           record {
             stands = still-reading (record {
-              equal = subst EqualColumns (sym put) (equal-more cols (c .rows) (r .number) (r .name) (r .parent) (r .start) (r .size) (h .equal));
+              equal = subst EqualColumns (sym put) (equal-more cols (c .rows) (r .number) (r .name) (r .parent) (r .start) (r .size) (r .size) (h .equal));
               ready = f;
               done = h .done ++ (row ∷ []);
               counted = omega (arith, n, h .counted, length-append (h .done) (row ∷ []));

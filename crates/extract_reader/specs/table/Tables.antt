@@ -107,6 +107,7 @@ cleared-first c b q e =
         of-parents = ap (λ (y : Sizes). y .parents) z ∙ q .of-parents ∙ sym (ap (λ (y : Sizes). y .numbers) z);
         of-starts = ap (λ (y : Sizes). y .starts) z ∙ q .of-starts ∙ sym (ap (λ (y : Sizes). y .numbers) z);
         of-lengths = ap (λ (y : Sizes). y .lengths) z ∙ q .of-lengths ∙ sym (ap (λ (y : Sizes). y .numbers) z);
+        of-decoded = ap (λ (y : Sizes). y .decoded) z ∙ q .of-decoded ∙ sym (ap (λ (y : Sizes). y .numbers) z);
       },
       hold-by b (sizesOf c) [] e,
     )
@@ -129,9 +130,10 @@ module _ (bs words : List ℕ) (c b d : Columns) (r : Verdict) (clear : b ≡ co
       record { answer = answer-of; cells = λ s w. j .held s w n ∙ ap (λ (z : Sizes). columnsAfter z (λ rows. rows) (outcome s bs z)) sizes }
 
   pub table-cleared : (r .number ≡ 0 → ⊥) → (e : Columns) → e ≡ columnsOf (sizesOf d) [] → length (d .numbers) ≡ length (c .numbers) → length (d .names) ≡ length (c .names)
-      → length (d .parents) ≡ length (c .parents) → length (d .starts) ≡ length (c .starts) → length (d .lengths) ≡ length (c .lengths) → TableRead bs words c e r
-  table-cleared n e f l1 l2 l3 l4 l5 =
-      let same = same-sizes c d l1 l2 l3 l4 l5 in
+      → length (d .parents) ≡ length (c .parents) → length (d .starts) ≡ length (c .starts) → length (d .lengths) ≡ length (c .lengths)
+      → length (d .decoded) ≡ length (c .decoded) → TableRead bs words c e r
+  table-cleared n e f l1 l2 l3 l4 l5 l6 =
+      let same = same-sizes c d l1 l2 l3 l4 l5 l6 in
       record {
         answer = answer-of;
         cells = λ s w. f ∙ ap (λ (z : Sizes). columnsOf z []) same ∙ none-kept (sizesOf c) (outcome s bs (sizesOf c)) r (answer-of s w) n;

@@ -21,7 +21,7 @@ use Rattle.text_spec.specs.Records.{TextRecord, textIn}
 
 -- The start, and what is handed in, from where the record is tested.
 abbrev start-before : tie.After-is-schema-record → tie.Start
-start-before c = c .before .before .before .before .before .before .before .before
+start-before c = c .before .before .before .before .before .before .before .before .before
 
 abbrev held : tie.After-is-schema-record → TextRecord
 held c = recordWith (start-before c .args .schema .bytes) (start-before c .args .schema .len)
@@ -32,7 +32,7 @@ schema c = schemaIn (textIn (held c))
 abbrev table : tie.After-is-schema-record → LentTable
 table c =
     let at = start-before c .args in
-    lentTable (at .numbers .now) (at .codes .now) (at .parents .now) (at .starts .now) (at .lengths .now) (at .count)
+    lentTable (at .numbers .now) (at .codes .now) (at .parents .now) (at .starts .now) (at .lengths .now) (at .decoded .now) (at .count)
 
 abbrev text : tie.After-is-schema-record → List ℕ
 text c = start-before c .args .lent .now
@@ -49,7 +49,7 @@ record-before c = words-before c .before .before
 
 -- The test of the table, from where its rows are written.
 abbrev table-before : tie.After-write-in-room → tie.Else2
-table-before c = c .before .before .before .before .before .before .before
+table-before c = c .before .before .before .before .before .before .before .before
 
 accepted : (c : tie.Else1) → passesSchema (held (c .before)) ≡ true
 accepted c = sym (passes-schema (held (c .before) .cells) (held (c .before) .size)) ∙ sym (c .before .is-schema-record .ensures) ∙ not-false _ (c .if1 .left)
@@ -79,7 +79,7 @@ returns-2 c =
 
 write-in-room-requires : tie.Need-write-in-room-requires
 write-in-room-requires c κs =
-    let tested = c .before .before .before .before .before .before in
+    let tested = c .before .before .before .before .before .before .before in
     let handed = record-before (tested .before) in
     table-columns (schema handed) (text handed) (table handed) (beside tested)
 
@@ -108,6 +108,7 @@ write-extract-spec =
     (λ c. sym (length-take-le _ _ (beside-lent _ _ _ (beside (c .before .before .before)) .parented)))
     (λ c. sym (length-take-le _ _ (beside-lent _ _ _ (beside (c .before .before .before .before)) .started)))
     (λ c. sym (length-take-le _ _ (beside-lent _ _ _ (beside (c .before .before .before .before .before)) .sized)))
+    (λ c. sym (length-take-le _ _ (beside-lent _ _ _ (beside (c .before .before .before .before .before .before)) .measured)))
     write-in-room-requires
     (λ c. c .before .out3 .given)
     returns-3)

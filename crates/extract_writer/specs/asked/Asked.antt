@@ -27,8 +27,8 @@ text-coded (element e) h l = absurd (omega arith)
 text-coded (text e) h l = tt
 
 text-short : (r : Row) → TextCells r → T (isText (r .name)) → r .size ≤ maxTextBytes
-text-short r (of-element {e = e} q a b) t = absurd (subst (λ (n : Name). T (isText n)) q t)
-text-short r (of-text q a b) t = b
+text-short r (of-element {e = e} q a b d) t = absurd (subst (λ (n : Name). T (isText n)) q t)
+text-short r (of-text q a b d f) t = b
 
 module _ (s : Types) (lent : List ℕ) (rows : List Row) (ok : T (wellFormedWith s lent rows)) (coded : NamesCoded rows) where
   alone : T (wellFormed s rows)
@@ -57,6 +57,7 @@ module _ (s : Types) (lent : List ℕ) (rows : List Row) (ok : T (wellFormedWith
               parents = length-map rows (λ r. r .parent);
               starts = length-map rows (λ r. r .start);
               lengths = length-map rows (λ r. r .size);
+              decoded = length-map rows (λ r. r .decoded);
             };
         few = rows-few;
         above = λ k l. let b = parents-first s rows alone k l in omega arith;

@@ -116,6 +116,7 @@ pub record RowPlace (c : Columns) (r : ℕ) : Type 0 where
   pub parents : r < length (c .parents)
   pub starts : r < length (c .starts)
   pub lengths : r < length (c .lengths)
+  pub decoded : r < length (c .decoded)
   pub halves : Fits w64 (r * 2)
   pub words : Fits w64 (r * 4)
 
@@ -129,6 +130,7 @@ row-place h =
       parents = omega (arith, z .parents);
       starts = omega (arith, z .starts);
       lengths = omega (arith, z .lengths);
+      decoded = omega (arith, z .decoded);
       halves = omega arith;
       words = omega arith;
     }

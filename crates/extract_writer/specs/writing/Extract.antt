@@ -8,7 +8,9 @@ use borrow.Author.Tests.{lt-ltb, le-ltb, ltb-true, ltb-false}
 use lib.Dec.{ltb}
 use lib.ListN.{length, getD, take, replicate, length-append, length-replicate, getD-replicate}
 use lib.Seq.{length-take-le, getD-take}
+use denote.Ref.{now}
 use Rattle.cells.specs.lent.Cells.{Cleared}
+use Rattle.cells.specs.lent.Ends.{Slice}
 use Rattle.cells.specs.row_sets.Columns.{OnlyMarks, marks, only-marks, marks-length, marks-by-rows}
 use Rattle.extract_spec.specs.Fields.{countTag, twoBytes, field}
 use Rattle.extract_writer.specs.fields.Fields.{stored, stored-after, stored-length}
@@ -35,6 +37,10 @@ inLentBytes size xs = cellsAfter size (λ x. x) (inRoom (tooSmall size xs) xs)
 pub record BytesWritten (was xs : List ℕ) (n : ℕ) (out : List ℕ) : Type 0 where
   pub size : n ≡ length xs
   pub cells : out ≡ inLentBytes (length was) xs
+
+-- the same of a lent slice
+abbrev pub WrittenIn : Slice → List ℕ → ℕ → Type 0
+WrittenIn out xs n = BytesWritten (now (out .entry)) xs n (now (out .exit))
 
 -- ---- what is asked
 pub record ExtractPass (lent : List ℕ) (c : Columns) (m : List ℕ) : Type 0 where

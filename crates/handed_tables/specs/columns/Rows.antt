@@ -49,6 +49,7 @@ pub record CellsOf (c : Cells) (r : Row) : Type 0 where
   pub parent : r .parent ≡ c .parent
   pub start : r .start ≡ c .start
   pub size : r .size ≡ c .size
+  pub decoded : r .decoded ≡ c .decoded
 
 cells-of : (c : Cells) (r : Row) → rowOf c ≡ some r → CellsOf c r
 cells-of c r e = by (nameOfCode (c .name)) refl e
@@ -56,8 +57,8 @@ cells-of c r e = by (nameOfCode (c .name)) refl e
     by : (o : Option Name) → nameOfCode (c .name) ≡ o → rowWith c o ≡ some r → CellsOf c r
     by none q d = none-some d
     by (some n) q d =
-        let z : row (c .number) n (c .parent) (c .start) (c .size) ≡ r = cc in
-        subst (CellsOf c) z (record { number = refl; name = code-again (c .name) n q; parent = refl; start = refl; size = refl })
+        let z : row (c .number) n (c .parent) (c .start) (c .size) (c .decoded) ≡ r = cc in
+        subst (CellsOf c) z (record { number = refl; name = code-again (c .name) n q; parent = refl; start = refl; size = refl; decoded = refl })
 
 -- ---- a column by its rows
 column-from : (c : Columns) (f : Row → ℕ) (xs : List ℕ) → ((i : ℕ) (r : Row) → rowOf (cellsAt c i) ≡ some r → f r ≡ getD xs i 0)
@@ -114,6 +115,11 @@ module _ (t : LentTable) (rows : List Row) (held : rowsLent t ≡ some rows) whe
       let room = fit-lent t sizes-fit .sized in
       column-from (t .columns) (λ r. r .size) (t .columns .lengths) (λ i r e. cells-of (cellsAt (t .columns) i) r e .size) (t .count) 0 rows (omega arith) rows-held
 
+  pub lent-decoded : map (λ r. r .decoded) rows ≡ take (t .count) (t .columns .decoded)
+  lent-decoded =
+      let room = fit-lent t sizes-fit .measured in
+      column-from (t .columns) (λ r. r .decoded) (t .columns .decoded) (λ i r e. cells-of (cellsAt (t .columns) i) r e .decoded) (t .count) 0 rows (omega arith) rows-held
+
   -- each row has a name that a code can stand for, and a cell in each column
   pub lent-coded : NamesCoded rows
   lent-coded = cells-coded (cellsFrom (t .columns) 0 (t .count)) rows rows-held
@@ -126,7 +132,7 @@ module _ (t : LentTable) (rows : List Row) (held : rowsLent t ≡ some rows) whe
 
   -- the columns up to the count
   pub held-columns : columnsIn rows ≡ firstCells (t .count) (t .columns)
-  held-columns = same-columns lent-numbers (sym (codes-map rows) ∙ lent-codes) lent-parents lent-starts lent-lengths
+  held-columns = same-columns lent-numbers (sym (codes-map rows) ∙ lent-codes) lent-parents lent-starts lent-lengths lent-decoded
 
   pub lent-columns : (s : Schema) → T (wellFormed (typesOf s) rows)
       → TestedColumns (take (t .count) (t .columns .numbers)) (take (t .count) (t .columns .names)) (take (t .count) (t .columns .parents))

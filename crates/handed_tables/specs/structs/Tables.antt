@@ -46,8 +46,8 @@ cells-are c i (r ∷ rows) h =
 
 -- columns with a cell for each row
 pub sizes-of : (c : Columns) → length (c .numbers) ≡ cellCount → length (c .names) ≡ cellCount → length (c .parents) ≡ cellCount → length (c .starts) ≡ cellCount
-    → length (c .lengths) ≡ cellCount → sizesOf c ≡ allOfSize cellCount
-sizes-of c a b d e f = rw (a, b, d, e, f)
+    → length (c .lengths) ≡ cellCount → length (c .decoded) ≡ cellCount → sizesOf c ≡ allOfSize cellCount
+sizes-of c a b d e f g = rw (a, b, d, e, f, g)
 
 -- ---- structs as a table
 module _ (rows : List Cells) where
@@ -62,6 +62,7 @@ module _ (rows : List Cells) where
         length-map rows (λ c. c .parent),
         length-map rows (λ c. c .start),
         length-map rows (λ c. c .size),
+        length-map rows (λ c. c .decoded),
       )
 
   struct-at : (k : ℕ) → cellsAt held k ≡ getD rows k emptyCells
@@ -72,6 +73,7 @@ module _ (rows : List Cells) where
         List·getD-map (λ c. c .parent) rows k emptyCells,
         List·getD-map (λ c. c .start) rows k emptyCells,
         List·getD-map (λ c. c .size) rows k emptyCells,
+        List·getD-map (λ c. c .decoded) rows k emptyCells,
       )
 
   structs-rows : rowsLent (tableOfCells rows) ≡ rowsOf rows

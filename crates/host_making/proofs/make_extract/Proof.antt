@@ -9,24 +9,24 @@ abbrev judged : tie.After-refusal → tie.After-judge-texts
 judged c = c .before .before
 
 abbrev start : tie.After-refusal → tie.Start
-start c = judged c .before .before .before .before .before .before .before .before .before .before .before
+start c = judged c .before .before .before .before .before .before .before .before .before .before .before .before
 
 abbrev lent : tie.After-refusal → Columns
-lent c = columns (start c .args .numbers .now) (start c .args .names .now) (start c .args .parents .now) (start c .args .starts .now) (start c .args .lengths .now)
+lent c = columns (start c .args .numbers .now) (start c .args .names .now) (start c .args .parents .now) (start c .args .starts .now) (start c .args .lengths .now) (start c .args .decoded .now)
 
 -- back from the two exits to the calls before them
-abbrev refused : tie.After-slice-known12 → tie.After-refuse-making
-refused c = c .before .before .before .before .before .before .before .before .before .before .before .before
+abbrev refused : tie.After-slice-known14 → tie.After-refuse-making
+refused c = c .before .before .before .before .before .before .before .before .before .before .before .before .before .before
 
-abbrev made : tie.After-slice-known18 → tie.After-make-under
-made c = c .before .before .before .before .before .before .before .before .before .before .before .before
+abbrev made : tie.After-slice-known21 → tie.After-make-under
+made c = c .before .before .before .before .before .before .before .before .before .before .before .before .before .before
 
-abbrev accepted : tie.After-make-under-arg11 → tie.Else1
-accepted c = c .before .before .before .before .before .before .before .before .before .before .before .before
+abbrev accepted : tie.After-make-under-arg12 → tie.Else1
+accepted c = c .before .before .before .before .before .before .before .before .before .before .before .before .before
 
 returns : tie.Need-returns
 returns c =
-    let tested = refused c .before .before .before .before .before .before .before in
+    let tested = refused c .before .before .before .before .before .before .before .before in
     let told = tested .before .before in
     refused-call _ _ _ (lent told) (start told .args .out .now) _ (judged told .judge-texts .ensures) _ (judged told .before .equal-sizes .ensures) _ (told .refusal .ensures) (tested .if1 .taken) (refused c .refuse-making .ensures)
 
@@ -56,6 +56,7 @@ make-extract-spec =
     (λ c. refused c .refuse-making .kept .1 .1 .1 .1 .0)
     (λ c. refused c .refuse-making .kept .1 .1 .1 .1 .1 .0)
     (λ c. refused c .refuse-making .kept .1 .1 .1 .1 .1 .1 .0)
+    (λ c. refused c .refuse-making .kept .1 .1 .1 .1 .1 .1 .1 .0)
     returns
     make-under-requires
     (λ c. made c .make-under .kept .1 .1 .1 .1 .1 .1 .1 .1 .0)
@@ -64,4 +65,5 @@ make-extract-spec =
     (λ c. made c .make-under .kept .1 .1 .1 .1 .1 .1 .1 .1 .1 .1 .1 .0)
     (λ c. made c .make-under .kept .1 .1 .1 .1 .1 .1 .1 .1 .1 .1 .1 .1 .0)
     (λ c. made c .make-under .kept .1 .1 .1 .1 .1 .1 .1 .1 .1 .1 .1 .1 .1 .0)
+    (λ c. made c .make-under .kept .1 .1 .1 .1 .1 .1 .1 .1 .1 .1 .1 .1 .1 .1 .0)
     returns-2)

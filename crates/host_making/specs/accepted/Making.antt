@@ -36,7 +36,7 @@ use Rattle.kept_rows.specs.laws.Codes.{kept-columns, codes-named}
 use Rattle.kept_rows.specs.laws.Cut.{columnsIn}
 use Rattle.kept_rows.specs.laws.Known.{rows-coded, set-passes}
 use Rattle.library_spec.specs.Calls.{inColumns, columnsAfter}
-use Rattle.library_spec.specs.Hosts.{hostAnswer, extractOf}
+use Rattle.library_spec.specs.Hosts.{HostAnswer, Lent, hostAnswer, extractOf}
 use Rattle.names.specs.declared.NameSet.{NameSet}
 use Rattle.needed_names.specs.sets.Needs.{NeededIn}
 use Rattle.path_spec.specs.Paths.{LocationPath}
@@ -52,7 +52,11 @@ use Rattle.text_laws.specs.Cells.{padded-length}
 use Rattle.text_spec.specs.Calls.{inRoom, cellsAfter}
 use Rattle.text_spec.specs.Cells.{tooSmall}
 use Rattle.text_spec.specs.Limits.{maxJournalBytes}
-use Rattle.text_spec.specs.Refusals.{accepted, andThen, at, tooFewCells}
+use Rattle.text_spec.specs.Refusals.{Outcome, accepted, andThen, at, tooFewCells}
+
+-- what is made under the two texts, where so much is lent
+abbrev pub madeIn : Schema → List (LocationPath ℕ) → List ℕ → Lent → Outcome HostAnswer
+madeIn s paths journal lent = madeUnder s paths journal (lent .columns) (lent .items)
 
 -- ---- what is asked, and what each stage leaves
 -- an accepted schema and compiled paths, with columns of one length
@@ -82,9 +86,9 @@ pub record WrittenUnder (t : CompiledSchema) (paths : CompiledPaths) (journal : 
   pub last : AnswerAs n size (length out) c d r
 
 -- the same of lent slices
-abbrev pub WrittenUnderIn : CompiledSchema → CompiledPaths → Slice → ℕ → Slice → Slice → Slice → Slice → Slice → Slice → HostResult → Type 0
-WrittenUnderIn t paths journal n numbers names parents starts lengths out r =
-    WrittenUnder t paths (now (journal .entry)) n (entryColumns numbers names parents starts lengths) (exitColumns numbers names parents starts lengths) (now (out .entry)) (now (out .exit)) r
+abbrev pub WrittenUnderIn : CompiledSchema → CompiledPaths → Slice → ℕ → Slice → Slice → Slice → Slice → Slice → Slice → Slice → HostResult → Type 0
+WrittenUnderIn t paths journal n numbers names parents starts lengths decoded out r =
+    WrittenUnder t paths (now (journal .entry)) n (entryColumns numbers names parents starts lengths decoded) (exitColumns numbers names parents starts lengths decoded) (now (out .entry)) (now (out .exit)) r
 
 -- ---- the last test
 pub answer-short : (n m room : ℕ) (c d : Columns) (r : HostResult) → room < m → r ≡ refusedBy 18 0 → d ≡ columnsOf (sizesOf c) [] → AnswerAs n m room c d r

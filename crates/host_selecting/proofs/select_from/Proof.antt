@@ -9,24 +9,24 @@ abbrev passed : tie.After-refusal → tie.After-passes
 passed c = c .before .before
 
 abbrev start : tie.After-refusal → tie.Start
-start c = passed c .before .before .before .before .before .before .before .before .before .before .before .before .before
+start c = passed c .before .before .before .before .before .before .before .before .before .before .before .before .before .before
 
 abbrev lent : tie.After-refusal → Columns
-lent c = columns (start c .args .numbers .now) (start c .args .names .now) (start c .args .parents .now) (start c .args .starts .now) (start c .args .lengths .now)
+lent c = columns (start c .args .numbers .now) (start c .args .names .now) (start c .args .parents .now) (start c .args .starts .now) (start c .args .lengths .now) (start c .args .decoded .now)
 
 -- back from the two exits to the calls before them
-abbrev refused : tie.After-slice-known14 → tie.After-refuse-selecting
-refused c = c .before .before .before .before .before .before .before .before .before .before .before .before .before .before
+abbrev refused : tie.After-slice-known16 → tie.After-refuse-selecting
+refused c = c .before .before .before .before .before .before .before .before .before .before .before .before .before .before .before .before
 
-abbrev chosen : tie.After-slice-known21 → tie.After-choose-under
-chosen c = c .before .before .before .before .before .before .before .before .before .before .before .before .before .before
+abbrev chosen : tie.After-slice-known24 → tie.After-choose-under
+chosen c = c .before .before .before .before .before .before .before .before .before .before .before .before .before .before .before .before
 
-abbrev accepted : tie.After-choose-under-arg12 → tie.Else1
-accepted c = c .before .before .before .before .before .before .before .before .before .before .before .before .before
+abbrev accepted : tie.After-choose-under-arg13 → tie.Else1
+accepted c = c .before .before .before .before .before .before .before .before .before .before .before .before .before .before
 
 returns : tie.Need-returns
 returns c =
-    let tested = refused c .before .before .before .before .before .before .before .before in
+    let tested = refused c .before .before .before .before .before .before .before .before .before in
     let told = tested .before .before in
     let at = start told .args in
     refused-call _ _ _ _ (lent told) (at .items .now) (at .counts .now) _ (passed told .before .judge-texts .ensures) _ (passed told .before .before .equal-sizes .ensures) _ (passed told .passes .ensures) _ (told .refusal .ensures) (tested .if1 .taken) (refused c .refuse-selecting .ensures)
@@ -60,6 +60,7 @@ select-from-spec =
     (λ c. refused c .refuse-selecting .kept .1 .1 .1 .1 .1 .0)
     (λ c. refused c .refuse-selecting .kept .1 .1 .1 .1 .1 .1 .0)
     (λ c. refused c .refuse-selecting .kept .1 .1 .1 .1 .1 .1 .1 .0)
+    (λ c. refused c .refuse-selecting .kept .1 .1 .1 .1 .1 .1 .1 .1 .0)
     returns
     choose-under-requires
     (λ c. chosen c .choose-under .kept .1 .1 .1 .1 .1 .1 .1 .1 .0)
@@ -69,4 +70,5 @@ select-from-spec =
     (λ c. chosen c .choose-under .kept .1 .1 .1 .1 .1 .1 .1 .1 .1 .1 .1 .1 .0)
     (λ c. chosen c .choose-under .kept .1 .1 .1 .1 .1 .1 .1 .1 .1 .1 .1 .1 .1 .0)
     (λ c. chosen c .choose-under .kept .1 .1 .1 .1 .1 .1 .1 .1 .1 .1 .1 .1 .1 .1 .0)
+    (λ c. chosen c .choose-under .kept .1 .1 .1 .1 .1 .1 .1 .1 .1 .1 .1 .1 .1 .1 .1 .0)
     returns-2)

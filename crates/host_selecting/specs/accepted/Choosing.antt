@@ -85,9 +85,9 @@ pub record SelectedUnder (paths : CompiledPaths) (place n : ℕ) (c d : Columns)
   pub last : LastAs n selected c d r
 
 -- the same of lent slices
-abbrev pub SelectedUnderIn : CompiledPaths → ℕ → ℕ → Slice → Slice → Slice → Slice → Slice → Slice → Slice → HostResult → Type 0
-SelectedUnderIn paths place n numbers names parents starts lengths items counts r =
-    SelectedUnder paths place n (entryColumns numbers names parents starts lengths) (exitColumns numbers names parents starts lengths) (now (items .entry)) (now (counts .entry))
+abbrev pub SelectedUnderIn : CompiledPaths → ℕ → ℕ → Slice → Slice → Slice → Slice → Slice → Slice → Slice → Slice → HostResult → Type 0
+SelectedUnderIn paths place n numbers names parents starts lengths decoded items counts r =
+    SelectedUnder paths place n (entryColumns numbers names parents starts lengths decoded) (exitColumns numbers names parents starts lengths decoded) (now (items .entry)) (now (counts .entry))
     (now (items .exit)) (now (counts .exit)) r
 
 -- ---- the last test

@@ -33,6 +33,7 @@ pub record Rooms (c : Columns) (n : ℕ) : Type 0 where
   pub parents : n ≤ length (c .parents)
   pub starts : n ≤ length (c .starts)
   pub lengths : n ≤ length (c .lengths)
+  pub decoded : n ≤ length (c .decoded)
 
 -- the rows of an accepted text, in columns that have room for them
 pub record RowsRead (o : Outcome (List Row)) (z : Sizes) (n : ℕ) (d : Columns) : Type 0 where
@@ -93,6 +94,7 @@ sizes-after z rows =
       padded-length (z .parents) (map (λ r. r .parent) rows),
       padded-length (z .starts) (map (λ r. r .start) rows),
       padded-length (z .lengths) (map (λ r. r .size) rows),
+      padded-length (z .decoded) (map (λ r. r .decoded) rows),
     )
 
 -- the first cells of a column of rows
@@ -111,6 +113,7 @@ module _ (o : Outcome (List Row)) (c : Columns) (equal : EqualColumns c) (n : �
       (first-cells (λ r. r .parent) rows (length (c .parents)) n (w .size) (omega (arith, w .room, equal .of-parents)))
       (first-cells (λ r. r .start) rows (length (c .starts)) n (w .size) (omega (arith, w .room, equal .of-starts)))
       (first-cells (λ r. r .size) rows (length (c .lengths)) n (w .size) (omega (arith, w .room, equal .of-lengths)))
+      (first-cells (λ r. r .decoded) rows (length (c .decoded)) n (w .size) (omega (arith, w .room, equal .of-decoded)))
 
   pub rooms : Rooms d n
   rooms =
@@ -123,4 +126,5 @@ module _ (o : Outcome (List Row)) (c : Columns) (equal : EqualColumns c) (n : �
         parents = omega (arith, ap (λ (x : Sizes). x .parents) z, equal .of-parents);
         starts = omega (arith, ap (λ (x : Sizes). x .starts) z, equal .of-starts);
         lengths = omega (arith, ap (λ (x : Sizes). x .lengths) z, equal .of-lengths);
+        decoded = omega (arith, ap (λ (x : Sizes). x .decoded) z, equal .of-decoded);
       }

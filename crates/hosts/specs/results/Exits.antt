@@ -36,15 +36,15 @@ pub record Exits (o : Outcome HostAnswer) (l : Lent) (r : HostResult) (columns :
   pub counts-are : counts ≡ cellsAfter (l .counts) (λ a. a .counts) o
 
 -- the same of lent slices: for a call that makes an extract, with its bytes as items and no counts, and for one that selects
-abbrev pub MakingExits : (Lent → Outcome HostAnswer) → HostResult → Slice → Slice → Slice → Slice → Slice → Slice → Type 0
-MakingExits call r numbers names parents starts lengths out =
-    let l = lentOf (entryColumns numbers names parents starts lengths) (now (out .entry)) [] in
-    Exits (call l) l r (exitColumns numbers names parents starts lengths) (now (out .exit)) []
+abbrev pub MakingExits : (Lent → Outcome HostAnswer) → HostResult → Slice → Slice → Slice → Slice → Slice → Slice → Slice → Type 0
+MakingExits call r numbers names parents starts lengths decoded out =
+    let l = lentOf (entryColumns numbers names parents starts lengths decoded) (now (out .entry)) [] in
+    Exits (call l) l r (exitColumns numbers names parents starts lengths decoded) (now (out .exit)) []
 
-abbrev pub SelectingExits : (Lent → Outcome HostAnswer) → HostResult → Slice → Slice → Slice → Slice → Slice → Slice → Slice → Type 0
-SelectingExits call r numbers names parents starts lengths items counts =
-    let l = lentOf (entryColumns numbers names parents starts lengths) (now (items .entry)) (now (counts .entry)) in
-    Exits (call l) l r (exitColumns numbers names parents starts lengths) (now (items .exit)) (now (counts .exit))
+abbrev pub SelectingExits : (Lent → Outcome HostAnswer) → HostResult → Slice → Slice → Slice → Slice → Slice → Slice → Slice → Slice → Type 0
+SelectingExits call r numbers names parents starts lengths decoded items counts =
+    let l = lentOf (entryColumns numbers names parents starts lengths decoded) (now (items .entry)) (now (counts .entry)) in
+    Exits (call l) l r (exitColumns numbers names parents starts lengths decoded) (now (items .exit)) (now (counts .exit))
 
 -- a refusal goes out so: every lent cell is 0
 pub record RefusedExit (number place : ℕ) (l : Lent) (r : HostResult) (columns : Columns) (items counts : List ℕ) : Type 0 where
@@ -53,13 +53,13 @@ pub record RefusedExit (number place : ℕ) (l : Lent) (r : HostResult) (columns
   pub items-are : items ≡ padded (l .items) []
   pub counts-are : counts ≡ padded (l .counts) []
 
-abbrev pub RefusedMaking : ℕ → ℕ → HostResult → Slice → Slice → Slice → Slice → Slice → Slice → Type 0
-RefusedMaking number place r numbers names parents starts lengths out =
-    RefusedExit number place (lentOf (entryColumns numbers names parents starts lengths) (now (out .entry)) []) r (exitColumns numbers names parents starts lengths) (now (out .exit)) []
+abbrev pub RefusedMaking : ℕ → ℕ → HostResult → Slice → Slice → Slice → Slice → Slice → Slice → Slice → Type 0
+RefusedMaking number place r numbers names parents starts lengths decoded out =
+    RefusedExit number place (lentOf (entryColumns numbers names parents starts lengths decoded) (now (out .entry)) []) r (exitColumns numbers names parents starts lengths decoded) (now (out .exit)) []
 
-abbrev pub RefusedSelecting : ℕ → ℕ → HostResult → Slice → Slice → Slice → Slice → Slice → Slice → Slice → Type 0
-RefusedSelecting number place r numbers names parents starts lengths items counts =
-    RefusedExit number place (lentOf (entryColumns numbers names parents starts lengths) (now (items .entry)) (now (counts .entry))) r (exitColumns numbers names parents starts lengths)
+abbrev pub RefusedSelecting : ℕ → ℕ → HostResult → Slice → Slice → Slice → Slice → Slice → Slice → Slice → Slice → Type 0
+RefusedSelecting number place r numbers names parents starts lengths decoded items counts =
+    RefusedExit number place (lentOf (entryColumns numbers names parents starts lengths decoded) (now (items .entry)) (now (counts .entry))) r (exitColumns numbers names parents starts lengths decoded)
     (now (items .exit)) (now (counts .exit))
 
 -- ---- laws

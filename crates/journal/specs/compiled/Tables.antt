@@ -23,8 +23,8 @@ pub record TableRead (t : SchemaCells) (text : List ℕ) (limit : ℕ) (c d : Co
   pub cells : (s : Schema) → CellsOf s t → d ≡ columnsAfter (sizesOf c) (λ rows. rows) (outcome s text limit (sizesOf c))
 
 -- the same of lent slices
-abbrev pub TableReadIn : SchemaCells → Slice → ℕ → Slice → Slice → Slice → Slice → Slice → Verdict → Type 0
-TableReadIn t text limit numbers names parents starts lengths r = TableRead t (now (text .entry)) limit (entryColumns numbers names parents starts lengths) (exitColumns numbers names parents starts lengths) r
+abbrev pub TableReadIn : SchemaCells → Slice → ℕ → Slice → Slice → Slice → Slice → Slice → Slice → Verdict → Type 0
+TableReadIn t text limit numbers names parents starts lengths decoded r = TableRead t (now (text .entry)) limit (entryColumns numbers names parents starts lengths decoded) (exitColumns numbers names parents starts lengths decoded) r
 
 -- ---- the columns at exit
 pub cleared-sizes : (c d : Columns) → d ≡ columnsOf (sizesOf c) [] → sizesOf d ≡ sizesOf c
@@ -36,6 +36,7 @@ cleared-sizes c d e =
       padded-length (length (c .parents)) [],
       padded-length (length (c .starts)) [],
       padded-length (length (c .lengths)) [],
+      padded-length (length (c .decoded)) [],
     )
 
 pub cleared-equal : (c d : Columns) → EqualColumns c → d ≡ columnsOf (sizesOf c) [] → EqualColumns d
@@ -46,11 +47,12 @@ cleared-equal c d q e =
       of-parents = ap (λ (y : Sizes). y .parents) z ∙ q .of-parents ∙ sym (ap (λ (y : Sizes). y .numbers) z);
       of-starts = ap (λ (y : Sizes). y .starts) z ∙ q .of-starts ∙ sym (ap (λ (y : Sizes). y .numbers) z);
       of-lengths = ap (λ (y : Sizes). y .lengths) z ∙ q .of-lengths ∙ sym (ap (λ (y : Sizes). y .numbers) z);
+      of-decoded = ap (λ (y : Sizes). y .decoded) z ∙ q .of-decoded ∙ sym (ap (λ (y : Sizes). y .numbers) z);
     }
 
 same-sizes : (c d : Columns) → length (d .numbers) ≡ length (c .numbers) → length (d .names) ≡ length (c .names) → length (d .parents) ≡ length (c .parents)
-    → length (d .starts) ≡ length (c .starts) → length (d .lengths) ≡ length (c .lengths) → sizesOf d ≡ sizesOf c
-same-sizes c d p q r s t = rw (p, q, r, s, t)
+    → length (d .starts) ≡ length (c .starts) → length (d .lengths) ≡ length (c .lengths) → length (d .decoded) ≡ length (c .decoded) → sizesOf d ≡ sizesOf c
+same-sizes c d p q r s t u = rw (p, q, r, s, t, u)
 
 -- the answer does not depend on which columns of these sizes are lent
 module _ {t : SchemaCells} {text : List ℕ} {limit : ℕ} (c b : Columns) {d : Columns} {r : Verdict} (clear : b ≡ columnsOf (sizesOf c) [])
@@ -76,10 +78,10 @@ module _ {t : SchemaCells} {text : List ℕ} {limit : ℕ} (c b : Columns) {d : 
 
   pub table-cleared : {e : Columns} → (r .number ≡ 0 → ⊥) → e ≡ columnsOf (sizesOf d) [] → length (d .numbers) ≡ length (c .numbers)
       → length (d .names) ≡ length (c .names) → length (d .parents) ≡ length (c .parents) → length (d .starts) ≡ length (c .starts)
-      → length (d .lengths) ≡ length (c .lengths) → TableRead t text limit c e r
-  table-cleared n f l1 l2 l3 l4 l5 =
+      → length (d .lengths) ≡ length (c .lengths) → length (d .decoded) ≡ length (c .decoded) → TableRead t text limit c e r
+  table-cleared n f l1 l2 l3 l4 l5 l6 =
       record {
         answer = answer-of;
         cells = λ s cells.
-            f ∙ ap (λ (z : Sizes). columnsOf z []) (same-sizes c d l1 l2 l3 l4 l5) ∙ none-kept (sizesOf c) (outcome s text limit (sizesOf c)) (answer-of s cells) n;
+            f ∙ ap (λ (z : Sizes). columnsOf z []) (same-sizes c d l1 l2 l3 l4 l5 l6) ∙ none-kept (sizesOf c) (outcome s text limit (sizesOf c)) (answer-of s cells) n;
       }

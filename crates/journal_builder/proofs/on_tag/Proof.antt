@@ -11,7 +11,7 @@ use Rattle.journal_builder.specs.Events.{startEvent, tagEvent, judged-un
 use Rattle.journal_builder.specs.build_state.State.{noRow, step}
 use Rattle.journal_builder.specs.laws.StateLaws.{leaves-as, leaves-kept, safe-as}
 use Rattle.journal_spec.specs.Builder.{onUnbroken}
-use Rattle.journal_spec.specs.Lexer.{ends}
+use Rattle.token_spec.specs.Lexer.{ends}
 
 start-tag-requires : tie.Need-start-tag-requires
 start-tag-requires c κs = c .before .before .before .before .pre

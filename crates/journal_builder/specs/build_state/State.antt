@@ -107,14 +107,14 @@ abbrev pub step : Build → RowCells → BuildStep
 step m row = record { build = m; row = row }
 
 abbrev pub noRow : RowCells
-noRow = record { name = 0; parent = 0; start = 0; size = 0 }
+noRow = record { name = 0; parent = 0; start = 0; size = 0; decoded = 0 }
 
 -- rows as cells hold them, exact for the rows of a table
 abbrev pub elementCells : ℕ → ℕ → RowCells
-elementCells e parent = record { name = e % 256; parent = parent % 65536; start = 0; size = 0 }
+elementCells e parent = record { name = e % 256; parent = parent % 65536; start = 0; size = 0; decoded = 0 }
 
 abbrev pub textCells : ℕ → ℕ → ℕ → ℕ → RowCells
-textCells e parent start size = record { name = e % 32 + 32; parent = parent % 65536; start = start; size = size % 65536 }
+textCells e parent start size = record { name = e % 32 + 32; parent = parent % 65536; start = start; size = size % 65536; decoded = size % 65536 }
 
 -- a run of character data outside the root
 abbrev pub outsideBy : ℕ → Build → Build

@@ -21,11 +21,11 @@ use Rattle.journal_lexer.specs.run_laws.Passes.{quiet-builds}
 use Rattle.journal_lexer.specs.state.Places.{tagAt, runStart, runOf}
 use Rattle.journal_lexer.specs.state.Relation.{Tells, reportOf, TellsEvent}
 use Rattle.journal_spec.specs.Builder.{Building, onEvent}
-use Rattle.journal_spec.specs.Lexer.{Event, quiet, runs}
 use Rattle.schema_spec.specs.Schemas.{Schema}
 use Rattle.text.specs.declared.name_words.Name.{Name}
 use Rattle.text.specs.name_words.Words.{Spells}
 use Rattle.text_spec.specs.Limits.{maxDeclarations}
+use Rattle.token_spec.specs.Lexer.{Event, quiet, runs}
 
 -- the columns of a compiled schema that reading a journal asks for
 pub record SchemaCells : Type 0 where

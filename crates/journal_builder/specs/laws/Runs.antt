@@ -23,7 +23,6 @@ use Rattle.journal_builder.specs.laws.StateLaws.{Innermost, innermost, r
 use Rattle.journal_builder.specs.open_levels.Levels.{AllLevels, levelAt, withFilling, Stored, LevelOf, Opened}
 use Rattle.journal_lexer.specs.state.Places.{noPlace, placeOr}
 use Rattle.journal_spec.specs.Builder.{Filling, unjudged, misfit, unfilled, filledByText, filledByChildren, Open, Building, building, breaks, refill, withRun, outside, textNode, inside, onRun}
-use Rattle.journal_spec.specs.Lexer.{Run, run}
 use Rattle.schema_spec.specs.Schemas.{Schema}
 use Rattle.table_spec.specs.Rows.{Row, Cells, cellsOf, textRow}
 use Rattle.text.specs.fault_keys.KeyLaws.{least-given, placed-given, noted-none, noted-from}
@@ -31,6 +30,7 @@ use Rattle.text.specs.fault_keys.Keys.{noKey, placeLimit, leastKey, notedKey}
 use Rattle.text_spec.specs.Limits.{maxDeclarations, maxNodes, maxTextBytes}
 use Rattle.text_spec.specs.Lists.{isNone}
 use Rattle.text_spec.specs.Refusals.{at, given, badNesting, overNodeLimit}
+use Rattle.token_spec.specs.Lexer.{Run, run}
 
 pub none-test : (x : ℕ) → isNone (placeOr x) ≡ eqb x noPlace
 none-test x = pick (eqb x noPlace)
@@ -45,18 +45,18 @@ or-false false y e = (refl, e)
 
 -- ---- outside the root
 module _ (s : Schema) (b : Building) (levels : List ℕ) (m : Build) (whole : isNone (b .broken) ≡ true) (w : Built s levels m b) where
-  pub outside-leaves : (start solid size : ℕ) (row : RowCells) → solid < placeLimit → m .depth ≡ 0
-      → Leaves s levels m b (step (outsideBy solid m) row) (onRun (run start (placeOr solid)) size b)
-  outside-leaves start solid size row p z = from (b .opens) (w .depth) refl
+  pub outside-leaves : (start solid size saved : ℕ) (row : RowCells) → solid < placeLimit → m .depth ≡ 0
+      → Leaves s levels m b (step (outsideBy solid m) row) (onRun (run start (placeOr solid) saved) size b)
+  outside-leaves start solid size saved row p z = from (b .opens) (w .depth) refl
     where
       pick : (y : Bool) → Leaves s levels m b (step (cond y m (brokenBy 12 solid m)) row) (outside (cond y none (some solid)) b)
       pick true = leaves-kept {x = step m row} refl refl w
       pick false =
           leaves-kept {x = step (brokenBy 12 solid m) row} refl refl (breaks-built s b levels m whole w badNesting solid (omega arith) p)
 
-      from : (os : List Open) → m .depth ≡ length os → b .opens ≡ os → Leaves s levels m b (step (outsideBy solid m) row) (onRun (run start (placeOr solid)) size b)
+      from : (os : List Open) → m .depth ≡ length os → b .opens ≡ os → Leaves s levels m b (step (outsideBy solid m) row) (onRun (run start (placeOr solid) saved) size b)
       from [] d e =
-          subst (λ (os : List Open). Leaves s levels m b (step (outsideBy solid m) row) (inside os (run start (placeOr solid)) size b)) (sym e) (pick (eqb solid noPlace))
+          subst (λ (os : List Open). Leaves s levels m b (step (outsideBy solid m) row) (inside os (run start (placeOr solid) saved) size b)) (sym e) (pick (eqb solid noPlace))
       from (o ∷ os) d e = absurd (omega arith)
 
 pub outside-safe : (levels : List ℕ) (m : Build) (solid : ℕ) (row : RowCells) → Safe levels m → SafeStep levels m (step (outsideBy solid m) row)
@@ -93,8 +93,8 @@ module _ (s : Schema) (b : Building) (levels : List ℕ) (m : Build) (whole : is
   none-after : texted m start size .fault ≡ noKey → (over ≡ false) × (m .fault ≡ noKey)
   none-after z = noted-none over 16 start (m .fault) (omega arith) p z
 
-  text-built : (solid : Option ℕ) → Built s levels (texted m start size) (textNode (filledByText e) (run start solid) size parent b)
-  text-built solid =
+  text-built : (solid : Option ℕ) (saved : ℕ) → Built s levels (texted m start size) (textNode (filledByText e) (run start solid saved) size parent b)
+  text-built solid saved =
       record {
         safe = record { all = w .safe .all; shallow = w .safe .shallow };
         depth = w .depth;
@@ -130,14 +130,14 @@ module _ (s : Schema) (b : Building) (levels : List ℕ) (m : Build) (whole : is
       same (m .count % 65536) (b .count) (e % 32 + 32) (32 + e) (parent % 65536) parent (size % 65536) size (mod-eq-of-lt i ∙ w .count) f (mod-eq-of-lt j) (mod-eq-of-lt k)
     where
       same : (a a' c c' d d' g g' : ℕ) → a ≡ a' → c ≡ c' → d ≡ d' → g ≡ g'
-          → _≡_ {A = Cells} (record { number = a; name = c; parent = d; start = start; size = g }) (record { number = a'; name = c'; parent = d'; start = start; size = g' })
+          → _≡_ {A = Cells} (record { number = a; name = c; parent = d; start = start; size = g; decoded = g }) (record { number = a'; name = c'; parent = d'; start = start; size = g'; decoded = g' })
       same a a' c c' d d' g g' p q r t = rw (p, q, r, t)
 
-  text-leaves : (solid : Option ℕ) → Leaves s levels m b (step (texted m start size) (textCells e parent start size)) (textNode (filledByText e) (run start solid) size parent b)
-  text-leaves solid = record { built = text-built solid; rows = λ z. begun-row (add-one (m .count)) (row-cells z) }
+  text-leaves : (solid : Option ℕ) (saved : ℕ) → Leaves s levels m b (step (texted m start size) (textCells e parent start size)) (textNode (filledByText e) (run start solid saved) size parent b)
+  text-leaves solid saved = record { built = text-built solid saved; rows = λ z. begun-row (add-one (m .count)) (row-cells z) }
 
 -- a run inside the root
-module _ (s : Schema) (b : Building) (levels u : List ℕ) (m : Build) (whole : isNone (b .broken) ≡ true) (w : Built s levels m b) (start solid size : ℕ) (v : Level) (f : FillingState)
+module _ (s : Schema) (b : Building) (levels u : List ℕ) (m : Build) (whole : isNone (b .broken) ≡ true) (w : Built s levels m b) (start solid size saved : ℕ) (v : Level) (f : FillingState)
     (deep : m .depth ≡ 0 → ⊥) (loaded : v ≡ levelAt levels (m .depth)) (st : Stored levels (m .depth) (withFilling (levelAt levels (m .depth)) f) u)
     (fits : (x : Filling) → StateOf s (v .filling) x → StateOf s f (withRun (eqb solid noPlace) x)) where
   top : Innermost s levels (m .depth) (b .opens)
@@ -171,35 +171,35 @@ module _ (s : Schema) (b : Building) (levels u : List ℕ) (m : Build) (whole : 
         few = w .few;
       }
 
-  run-inside : onRun (run start (placeOr solid)) size b ≡ textNode (top .own .filling) (run start (placeOr solid)) size (top .own .row) between
+  run-inside : onRun (run start (placeOr solid) saved) size b ≡ textNode (top .own .filling) (run start (placeOr solid) saved) size (top .own .row) between
   run-inside =
-      ap (λ (os : List Open). inside os (run start (placeOr solid)) size b) (top .same)
+      ap (λ (os : List Open). inside os (run start (placeOr solid) saved) size b) (top .same)
       ∙ ap
-      (λ (os : List Open). textNode (top .own .filling) (run start (placeOr solid)) size (top .own .row) (building (refill (withRun (isNone (placeOr solid))) os) (b .rooted) (b .faults) (b .rows) (b .count)))
+      (λ (os : List Open). textNode (top .own .filling) (run start (placeOr solid) saved) size (top .own .row) (building (refill (withRun (isNone (placeOr solid))) os) (b .rooted) (b .faults) (b .rows) (b .count)))
       (sym (top .same))
 
   -- that makes no node
-  pub run-plain : (row : RowCells) → (v .filling .kind ≡ pcdataKind → ⊥) → Leaves s u m b (step m row) (onRun (run start (placeOr solid)) size b)
+  pub run-plain : (row : RowCells) → (v .filling .kind ≡ pcdataKind → ⊥) → Leaves s u m b (step m row) (onRun (run start (placeOr solid) saved) size b)
   run-plain row n =
       subst (Leaves s u m b (step m row))
       (sym
       (run-inside
-      ∙ no-text s (v .filling) (top .own .filling) (run start (placeOr solid)) size (top .own .row) between n (level .filling)))
+      ∙ no-text s (v .filling) (top .own .filling) (run start (placeOr solid) saved) size (top .own .row) between n (level .filling)))
       (leaves-kept {x = step m row} refl refl between-built)
 
   -- that makes one
   pub run-text : length s ≤ maxDeclarations → start < placeLimit → v .filling .kind ≡ pcdataKind
-      → Leaves s u m b (step (texted m start size) (textCells (v .filling .element) (v .row) start size)) (onRun (run start (placeOr solid)) size b)
+      → Leaves s u m b (step (texted m start size) (textCells (v .filling .element) (v .row) start size)) (onRun (run start (placeOr solid) saved) size b)
   run-text few p e =
       let x = text-state s (v .filling) (top .own .filling) e (level .filling) in
-      subst (λ (y : ℕ). Leaves s u m b (step (texted m start size) (textCells (v .filling .element) y start size)) (onRun (run start (placeOr solid)) size b)) (sym (level .row))
+      subst (λ (y : ℕ). Leaves s u m b (step (texted m start size) (textCells (v .filling .element) y start size)) (onRun (run start (placeOr solid) saved) size b)) (sym (level .row))
       (subst (Leaves s u m b (step (texted m start size) (textCells (v .filling .element) (top .own .row) start size)))
-      (sym (run-inside ∙ ap (λ (y : Filling). textNode y (run start (placeOr solid)) size (top .own .row) between) (x .1))) (noted x))
+      (sym (run-inside ∙ ap (λ (y : Filling). textNode y (run start (placeOr solid) saved) size (top .own .row) between) (x .1))) (noted x))
     where
       noted : (v .filling .element < length s) × (top .own .filling ≡ filledByText (v .filling .element))
-          → Leaves s u m b (step (texted m start size) (textCells (v .filling .element) (top .own .row) start size)) (textNode (filledByText (v .filling .element)) (run start (placeOr solid)) size (top .own .row) between)
+          → Leaves s u m b (step (texted m start size) (textCells (v .filling .element) (top .own .row) start size)) (textNode (filledByText (v .filling .element)) (run start (placeOr solid) saved) size (top .own .row) between)
       noted x =
-          let l = text-leaves s between u m refl between-built (v .filling .element) start size (top .own .row) (omega (arith, x .0)) p (subst (RowsBelow (b .count)) (top .same) (w .below) .0) (placeOr solid) in
+          let l = text-leaves s between u m refl between-built (v .filling .element) start size (top .own .row) (omega (arith, x .0)) p (subst (RowsBelow (b .count)) (top .same) (w .below) .0) (placeOr solid) saved in
           record { built = l .built; rows = l .rows }
 
 pub text-safe : (levels : List ℕ) (m : Build) (start size : ℕ) (row : RowCells) → Safe levels m → SafeStep levels m (step (texted m start size) row)

@@ -121,7 +121,7 @@ module _ (s : Schema) (b : Building) (n : List ℕ) (k e : ℕ) (levels u : List
       (mod-eq-of-lt i ∙ w .count) (mod-eq-of-lt j ∙ declared-code s (elementNamed s n) e (x .0) found) (mod-eq-of-lt q ∙ p)
     where
       same : (a a' c c' d d' : ℕ) → a ≡ a' → c ≡ c' → d ≡ d'
-          → _≡_ {A = Cells} (record { number = a; name = c; parent = d; start = 0; size = 0 }) (record { number = a'; name = c'; parent = d'; start = 0; size = 0 })
+          → _≡_ {A = Cells} (record { number = a; name = c; parent = d; start = 0; size = 0; decoded = 0 }) (record { number = a'; name = c'; parent = d'; start = 0; size = 0; decoded = 0 })
       same a a' c c' d d' p q r = rw (p, q, r)
 
   pub begin-leaves : parent ≡ parentRow (b .opens) → AllLevels u

@@ -10,17 +10,15 @@ use native.Mathlib.Omega.{arith}
 use lib.Dec.{T, eqb, ltb, eqb→eq, ltb→lt, nltb→le}
 use lib.ListN.{length, length-append}
 use Rattle.journal_laws.specs.Contents.{Misplaced, wrong-root, wrong-content, tree-14, tree-15, tree-wrong-root}
-use Rattle.journal_laws.specs.Events.{build, eventsFrom, none-foreign}
+use Rattle.journal_laws.specs.Events.{build, none-foreign}
 use Rattle.journal_laws.specs.Forests.{treeHeld, closedBuilding, nested-built}
 use Rattle.journal_laws.specs.Judging.{built, found, read-as, source, Source, in-length, in-foreign, in-misspelt, in-broken, in-early, in-faults, as-tokens, nothing-found, accepted-tree, accepted-fits, accepted-rows, foreign-origin, ForeignAt, journal-judged}
 use Rattle.journal_laws.specs.Nesting.{start}
 use Rattle.journal_laws.specs.NodeLimits.{Over, over-split, split-over, AllFitTree, tree-rows, tree-over, over-tree}
 use Rattle.journal_laws.specs.OneTree.{one-tree}
-use Rattle.journal_laws.specs.Passes.{tokens-lexed}
 use Rattle.journal_laws.specs.Undeclared.{Late, late-14, late-15, late-16, reasons-of}
 use Rattle.journal_spec.specs.Builder.{Building, wrongRoot}
 use Rattle.journal_spec.specs.Conditions.{JournalApplies, JournalGives, gives, ValidJournal}
-use Rattle.journal_spec.specs.Lexer.{between}
 use Rattle.journal_spec.specs.Reading.{initial, run, endsEarly, readJournal}
 use Rattle.journal_spec.specs.Trees.{Forest, treeRows, treeStarts, NodeStart}
 use Rattle.journal_spec.specs.Validity.{the-root, ContentFits, Valid}
@@ -36,6 +34,9 @@ use Rattle.text_spec.specs.Limits.{maxNodes, maxTextBytes}
 use Rattle.text_spec.specs.Lists.{isEmpty, isNone}
 use Rattle.text_spec.specs.Refusals.{Reason, Refusal, at, allAt, misspelt, badContent, undeclaredElement, overNodeLimit, badLength, Outcome, accepted, Judged}
 use Rattle.text_spec.specs.Texts.{SplitAt, lengthRefusals}
+use Rattle.token_laws.specs.Events.{eventsFrom}
+use Rattle.token_laws.specs.Passes.{tokens-lexed}
+use Rattle.token_spec.specs.Lexer.{between}
 
 -- a declared root that is not the wrong one is the schema's
 right-root : (o : Option ℕ) (e : ℕ) → o ≡ some e → (T (wrongRoot [] o) → ⊥) → o ≡ some 0

@@ -8,18 +8,21 @@ use Prim.Native.Nat.{ℕ, zero, suc, _-_, _<_}
 use native.Mathlib.Omega.{arith}
 use borrow.Author.Tests.{eq-eqb, ne-eqb, le-leb}
 use lib.Dec.{T, eqb, leb}
-use lib.ListN.{set, drop, length-set}
+use lib.ListN.{set, drop}
 use Rattle.journal_lexer.specs.character_data.Runs.{plainAfter, Plain}
 use Rattle.journal_lexer.specs.declared.state.Lex.{Lex}
 use Rattle.journal_lexer.specs.kinds.Kinds.{lexBy, dataBy}
 use Rattle.journal_lexer.specs.state.Entities.{restsOf}
 use Rattle.journal_lexer.specs.state.Laws.{meant-as, meant-of, steps-by, leads, foreign-same, goes-plain, goes-noted}
-use Rattle.journal_lexer.specs.state.Places.{noPlace, runStart, solidAt, runOf, withForeign, foreign-other, foreign-run}
-use Rattle.journal_lexer.specs.state.Places.{tag-run, tag-other, tag-first, solid-stays, blank-run}
-use Rattle.journal_lexer.specs.state.Relation.{stepped, named, Handed, Meant, Steps}
-use Rattle.journal_spec.specs.Lexer.{Run, run, Mode, inData, inEntity, opened, stopped, goes, solidBy}
-use Rattle.journal_spec.specs.Tokens.{entities}
+use Rattle.journal_lexer.specs.state.Places.{noPlace, runStart, solidAt, savedAt, runOf, withForeign, foreign-other, foreign-run, tag-run, tag-other, tag-first, solid-stays, blank-run, lent-next, lent-tag, lent-cleared, cleared-saved, cleared-foreign}
+use Rattle.journal_lexer.specs.state.Relation.{firstForeign, stepped, named, Handed, Meant, Steps}
 use Rattle.text_laws.specs.Tests.{failed, false-of, not-elim}
+use Rattle.token_spec.specs.Lexer.{Run, run, Mode, inData, inEntity, opened, stopped, goes, solidBy}
+use Rattle.token_spec.specs.Tokens.{entities}
+
+-- what is handed on where a run begins
+pub handed-cleared : {l : Lex} {p : List ℕ} {b c : ℕ} → Handed l p b c → Handed l (set p 4 0) b c
+handed-cleared h = record { room = h .room; lent = lent-cleared (h .lent); byte = h .byte; kind = h .kind }
 
 -- a `<`, with an event or without
 module _ {l : Lex} {p : List ℕ} {b c : ℕ} (h : Handed l p b c) {r : Lex} {q : List ℕ} (e : c ≡ 6) (g : q ≡ set p 0 (l .place)) where
@@ -31,11 +34,11 @@ module _ {l : Lex} {p : List ℕ} {b c : ℕ} (h : Handed l p b c) {r : Lex} {q 
       (rw (f, g, eq-eqb c 6 e)
       (record {
         place = refl;
-        mode = ap opened (sym (tag-first p (h .four) (l .place)));
+        mode = ap opened (sym (tag-first p (h .lent .five) (l .place)));
         event = refl;
         silent = inl refl;
         foreign = foreign-same h (set p 0 (l .place)) (λ z. omega arith) (tag-other p (l .place) 3 (λ z. omega arith));
-        four = simp length-set (h .four);
+        lent = lent-next (lent-tag (l .place) (h .lent));
       })))
 
   pub less-run : r ≡ stepped 6 4 l → (n : ℕ) → Meant l p b r q (lexBy (inData (runOf p) n) (l .place) c b)
@@ -44,19 +47,32 @@ module _ {l : Lex} {p : List ℕ} {b c : ℕ} (h : Handed l p b c) {r : Lex} {q 
       rw (f, g, eq-eqb c 6 e)
       (record {
         place = refl;
-        mode = ap opened (sym (tag-first p (h .four) (l .place)));
-        event = rw (tag-run p (l .place), tag-first p (h .four) (l .place), tag-other p (l .place) 1 (λ z. omega arith));
+        mode = ap opened (sym (tag-first p (h .lent .five) (l .place)));
+        event = rw (tag-run p (l .place), tag-first p (h .lent .five) (l .place), tag-other p (l .place) 1 (λ z. omega arith));
         silent = inr (inr refl);
         foreign = foreign-same h (set p 0 (l .place)) (λ z. omega arith) (tag-other p (l .place) 3 (λ z. omega arith));
-        four = simp length-set (h .four);
+        lent = lent-next (lent-tag (l .place) (h .lent));
       })
 
 module _ {l : Lex} {p : List ℕ} {b c : ℕ} (h : Handed l p b c) {r : Lex} {q : List ℕ} (n : c ≡ 6 → ⊥) where
-  pub between-data : Meant l p b r q (goes (dataBy (run (l .place) none) 0 (l .place) c)) → Steps 0 l p b r q
+  -- a run that begins has saved nothing
+  pub between-data : Meant l (set p 4 0) b r q (goes (dataBy (run (l .place) none (savedAt (set p 4 0))) 0 (l .place) c)) → Steps 0 l p b r q
   unfolding lexBy
-  between-data g = steps-by h 0 (λ m w. leads h w (rw (ne-eqb c 6 n) g))
+  between-data g =
+      steps-by h 0
+      (λ m w. leads h w
+      (rw (ne-eqb c 6 n)
+      (meant-of (ap (λ (x : ℕ). goes (dataBy (run (l .place) none x) 0 (l .place) c)) (sym (cleared-saved p (h .lent .five))))
+      (record {
+        place = g .place;
+        mode = g .mode;
+        event = g .event;
+        silent = g .silent;
+        foreign = g .foreign ∙ ap (λ (x : ℕ). firstForeign x b (l .place)) (cleared-foreign p);
+        lent = g .lent;
+      }))))
 
-  pub blanks-data : Meant l p b r q (goes (dataBy (run (runStart p) none) 0 (l .place) c)) → Steps 1 l p b r q
+  pub blanks-data : Meant l p b r q (goes (dataBy (run (runStart p) none (savedAt p)) 0 (l .place) c)) → Steps 1 l p b r q
   unfolding lexBy
   blanks-data g =
       steps-by h 1
@@ -125,11 +141,11 @@ module _ {l : Lex} {p : List ℕ} {b c : ℕ} (h : Handed l p b c) {r : Lex} whe
             (meant-as f g
             (record {
               place = refl;
-              mode = (rw (tag-first p (h .four) (l .place), tag-run p (l .place)), rw (tag-other p (l .place) 2 (λ z. omega arith)) has, omega arith);
+              mode = (rw (tag-first p (h .lent .five) (l .place), tag-run p (l .place)), rw (tag-other p (l .place) 2 (λ z. omega arith)) has, omega arith, rw (tag-other p (l .place) 4 (λ z. omega arith), tag-first p (h .lent .five) (l .place)) (h .lent .few));
               event = refl;
               silent = inl refl;
               foreign = foreign-same h (set p 0 (l .place)) (λ z. omega arith) (tag-other p (l .place) 3 (λ z. omega arith));
-              four = simp length-set (h .four);
+              lent = lent-next (lent-tag (l .place) (h .lent));
             }));
       }
 
@@ -186,11 +202,11 @@ module _ {l : Lex} {p : List ℕ} {b c : ℕ} (h : Handed l p b c) {r : Lex} whe
       (rw f
       (record {
         place = refl;
-        mode = ap stopped (sym (tag-first p (h .four) x ∙ d));
+        mode = ap stopped (sym (tag-first p (h .lent .five) x ∙ d));
         event = refl;
         silent = inl refl;
         foreign = foreign-same h (set p 0 x) (λ z. omega arith) (tag-other p x 3 (λ z. omega arith));
-        four = simp length-set (h .four);
+        lent = lent-next (lent-tag x (h .lent));
       }))))
 
   pub blanks-less : {q : List ℕ} → c ≡ 6 → q ≡ set p 0 (l .place) → r ≡ stepped 6 4 l → Steps 1 l p b r q

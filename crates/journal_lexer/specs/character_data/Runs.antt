@@ -7,7 +7,7 @@ use Rattle.journal_lexer.specs.declared.state.Lex.{Lex}
 use Rattle.journal_lexer.specs.kinds.Kinds.{bracket, greater, lexBy}
 use Rattle.journal_lexer.specs.state.Places.{noPlace, solidAt, runOf}
 use Rattle.journal_lexer.specs.state.Relation.{Meant}
-use Rattle.journal_spec.specs.Lexer.{inData}
+use Rattle.token_spec.specs.Lexer.{inData}
 
 -- a byte of the kind c after n brackets is read as after none
 abbrev pub plainAfter : ℕ → ℕ → Bool

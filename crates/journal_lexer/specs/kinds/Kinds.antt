@@ -6,11 +6,10 @@ use mathlib.Core.Path.{_≡_}
 use Prim.Native.Nat.{ℕ, suc, _-_, _<_}
 use lib.Dec.{eqb, leb, ltb}
 use lib.ListN.{drop, getD}
-use Rattle.journal_spec.specs.Lexer.{Run, run, Mode, between, inData, inEntity, opened, inName, afterName, afterSlash, ending, inEndName, afterEndName, stopped}
-use Rattle.journal_spec.specs.Lexer.{starts, empties, ends, runs, Lexed, goes, tells, solidBy, tailsWith, entityByte}
-use Rattle.journal_spec.specs.Tokens.{entities}
 use Rattle.text_spec.specs.Bytes.{isBlank, isForeign, startsName, continuesName}
 use Rattle.text_spec.specs.Machines.{longer}
+use Rattle.token_spec.specs.Lexer.{Run, run, Mode, between, inData, inEntity, opened, inName, afterName, afterSlash, ending, inEndName, afterEndName, stopped, starts, empties, ends, runs, Lexed, goes, tells, solidBy, tailsWith, entityByte}
+use Rattle.token_spec.specs.Tokens.{entities}
 
 abbrev pub letter : ℕ
 letter = 0
@@ -74,9 +73,9 @@ abbrev pub endTagBy : ℕ → List ℕ → ℕ → Lexed
 endTagBy at n c = cond (eqb c blank) (goes (afterEndName at n)) (cond (eqb c greater) (tells between (ends n at)) (goes (stopped at)))
 
 unfoldable pub lexBy : Mode → ℕ → ℕ → ℕ → Lexed
-lexBy between k c b = cond (eqb c less) (goes (opened k)) (goes (dataBy (run k none) 0 k c))
+lexBy between k c b = cond (eqb c less) (goes (opened k)) (goes (dataBy (run k none 0) 0 k c))
 lexBy (inData r brackets) k c b = cond (eqb c less) (tells (opened k) (runs r (k - r .start))) (goes (dataBy r brackets k c))
-lexBy (inEntity rests at r) k c b = goes (entityByte (tailsWith b rests) at r)
+lexBy (inEntity rests at r) k c b = goes (entityByte (tailsWith b rests) at k r)
 lexBy (opened at) k c b = cond (eqb c slash) (goes (ending at)) (cond (eqb c letter) (goes (inName at (b ∷ []))) (goes (stopped at)))
 lexBy (inName at n) k c b = cond (ltb c blank) (goes (longer (stopped at) n b (inName at))) (tagBy at n c)
 lexBy (afterName at n) k c b = tagBy at n c

@@ -8,10 +8,9 @@ use native.Mathlib.Omega.{arith}
 use borrow.Author.Tests.{leb-true}
 use lib.Dec.{T, eqb, leb, ltb}
 use Rattle.journal_lexer.specs.kinds.Kinds.{kindOf, lexBy}
-use Rattle.journal_spec.specs.Lexer.{Mode, between, inData, inEntity, opened, inName, afterName, afterSlash, ending, inEndName, afterEndName, stopped}
-use Rattle.journal_spec.specs.Lexer.{lex}
 use Rattle.text_laws.specs.Tests.{and-cases, or-cases, true-of}
 use Rattle.text_spec.specs.Bytes.{isBetween, isBlank, isForeign, startsName, continuesName}
+use Rattle.token_spec.specs.Lexer.{Mode, between, inData, inEntity, opened, inName, afterName, afterSlash, ending, inEndName, afterEndName, stopped, lex}
 
 equalTests : Bool → Bool → Bool
 equalTests true b = b

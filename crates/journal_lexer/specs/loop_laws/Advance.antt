@@ -9,9 +9,9 @@ use lib.ListN.{length, getD}
 use Rattle.journal_lexer.specs.declared.state.Lex.{Lex}
 use Rattle.journal_lexer.specs.kinds.Kinds.{KindTable}
 use Rattle.journal_lexer.specs.run_laws.Passes.{Passes}
-use Rattle.journal_lexer.specs.state.Places.{noPlace, foreignAt}
+use Rattle.journal_lexer.specs.state.Places.{noPlace, foreignAt, Lent}
 use Rattle.journal_lexer.specs.state.Relation.{MeansMode, TellsEvent, firstForeign}
-use Rattle.journal_spec.specs.Lexer.{Mode, Event}
+use Rattle.token_spec.specs.Lexer.{Mode, Event}
 
 -- the first foreign byte below a place, as the lent cell holds it
 unfoldable pub foreignBelow : List ℕ → ℕ → ℕ
@@ -38,7 +38,7 @@ pub record Ready (text kinds : List ℕ) (l : Lex) (p : List ℕ) : Type 0 where
   pub table : KindTable kinds
   pub short : length text < noPlace
   pub inside : l .place ≤ length text
-  pub four : length p ≡ 4
+  pub lent : Lent (l .place) p
   pub valid : Valid l p
 
 -- modes by their numbers
@@ -59,7 +59,7 @@ pub data Progress (f : ℕ → Bool) (text : List ℕ) (l r : Lex) : Type 0 wher
 -- from l and p to r and q the code has gone as the definition goes, and not stopped in a mode of f
 pub record Advance (f : ℕ → Bool) (text : List ℕ) (l : Lex) (p : List ℕ) (r : Lex) (q : List ℕ) : Type 0 where
   pub inside : r .place ≤ length text
-  pub four : length q ≡ 4
+  pub lent : Lent (r .place) q
   pub valid : Valid r q
   pub stands : (k : ℕ) (m : Mode) → Stands text k m l p → Stands text k m r q
   pub progress : Progress f text l r

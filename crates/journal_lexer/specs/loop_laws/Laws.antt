@@ -13,13 +13,13 @@ use Rattle.journal_lexer.specs.loop_laws.Advance.{foreignBelow, Stands, 
 use Rattle.journal_lexer.specs.run_laws.Passes.{Passes, reads}
 use Rattle.journal_lexer.specs.state.Places.{noPlace}
 use Rattle.journal_lexer.specs.state.Relation.{TellsEvent, Tells, reportOf, firstForeign, Handed, Steps}
-use Rattle.journal_spec.specs.Lexer.{Mode, Event, quiet, lex}
+use Rattle.token_spec.specs.Lexer.{Mode, Event, quiet, lex}
 
 pub looked-handed : {text kinds : List ℕ} {l : Lex} {p : List ℕ} → Looked text kinds l p → Handed l p (byteAt text l) (kindAt text kinds l)
 looked-handed {text} {kinds} {l} {p} h =
     record {
       room = omega (arith, h .more, h .ready .short);
-      four = h .ready .four;
+      lent = h .ready .lent;
       byte = h .byte;
       kind = h .ready .table .kind (byteAt text l) (h .byte);
     }
@@ -29,12 +29,12 @@ quiet-told l p e z t = subst (λ (x : ℕ). Tells (reportOf x) (l .name) p e) z 
 
 -- ---- the state after a loop
 pub ready-after : {f : ℕ → Bool} {text kinds : List ℕ} {l r : Lex} {p q : List ℕ} → Ready text kinds l p → Advance f text l p r q → Ready text kinds r q
-ready-after h g = record { table = h .table; short = h .short; inside = g .inside; four = g .four; valid = g .valid }
+ready-after h g = record { table = h .table; short = h .short; inside = g .inside; lent = g .lent; valid = g .valid }
 
 -- ---- no byte
 pub advance-none : {f : ℕ → Bool} {text kinds : List ℕ} {l : Lex} {p : List ℕ} → Ready text kinds l p → (l .place < length text → f (l .mode) ≡ false)
     → Advance f text l p l p
-advance-none h n = record { inside = h .inside; four = h .four; valid = h .valid; stands = λ k m a. a; progress = stayed refl n }
+advance-none h n = record { inside = h .inside; lent = h .lent; valid = h .valid; stands = λ k m a. a; progress = stayed refl n }
 
 -- ---- one byte, where the lexer has no event
 module _ {text kinds : List ℕ} {l r : Lex} {p q : List ℕ} (h : Looked text kinds l p) (s : Steps (l .mode) l p (byteAt text l) r q) where
@@ -66,7 +66,7 @@ module _ {text kinds : List ℕ} {l r : Lex} {p q : List ℕ} (h : Looked text k
       let g = s .meant (h .ready .valid .mode) (h .ready .valid .means) in
       record {
         inside = omega (arith, h .more, next-place);
-        four = g .four;
+        lent = g .lent;
         valid = record { mode = lex (h .ready .valid .mode) (l .place) (byteAt text l) .mode; means = g .mode };
         stands = t;
         progress = moved (omega (arith, next-place));
@@ -102,7 +102,7 @@ pub advance-then : {f g : ℕ → Bool} {text : List ℕ} {l s r : Lex} {p o q :
 advance-then a b =
     record {
       inside = b .inside;
-      four = b .four;
+      lent = b .lent;
       valid = b .valid;
       stands = λ k m x. b .stands k m (a .stands k m x);
       progress = progress-then (a .progress) (b .progress);
@@ -116,7 +116,7 @@ advance-more h s x y a = advance-then a (next-within h s never x y)
 pub advance-end : {f : ℕ → Bool} {text : List ℕ} {l s : Lex} {p q : List ℕ} → Advance never text l p s q → (s .place < length text → f (s .mode) ≡ false)
     → Advance f text l p s q
 advance-end {f} {text} {l} {s} a n =
-    record { inside = a .inside; four = a .four; valid = a .valid; stands = a .stands; progress = pick (a .progress) }
+    record { inside = a .inside; lent = a .lent; valid = a .valid; stands = a .stands; progress = pick (a .progress) }
   where
     pick : Progress never text l s → Progress f text l s
     pick (moved m) = moved m

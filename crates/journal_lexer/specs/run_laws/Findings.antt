@@ -12,7 +12,6 @@ use Rattle.journal_laws.specs.Judging.{journal-judged}
 use Rattle.journal_spec.specs.Builder.{Building, onEvent}
 use Rattle.journal_spec.specs.Conditions as conditions
 use Rattle.journal_spec.specs.Conditions.{JournalApplies, JournalGives}
-use Rattle.journal_spec.specs.Lexer.{misspeltAt}
 use Rattle.journal_spec.specs.Reading.{Machine, initial, step, run, ended, endsEarly, machineRefusals, readJournal}
 use Rattle.schema_spec.specs.Schemas.{Schema}
 use Rattle.table_spec.specs.Rows.{Row}
@@ -21,6 +20,7 @@ use Rattle.text.specs.fault_keys.Keys.{noKey, placeLimit, leastKey, notedKey, P
 use Rattle.text_laws.specs.Texts.{over-length}
 use Rattle.text_spec.specs.Lists.{isEmpty, isNone, listOf}
 use Rattle.text_spec.specs.Refusals.{Refusal, Outcome, accepted, refused, byFirst, firstOf, at, allAt, given, numberOf, badLength, misspelt, badNesting}
+use Rattle.token_spec.specs.Lexer.{misspeltAt}
 
 -- ---- 2 comes first
 pub read-empty : (limit : ℕ) (s : Schema) → readJournal limit s [] ≡ refused (at badLength 0)

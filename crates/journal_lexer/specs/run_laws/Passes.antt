@@ -7,12 +7,12 @@ use native.Mathlib.Nat.{le-refl}
 use lib.ListN.{length, drop, getD, drop-of-length-le}
 use lib.Seq.{drop-cons}
 use Rattle.journal_spec.specs.Builder.{Building, building, onEvent}
-use Rattle.journal_spec.specs.Lexer.{Mode, between, Event, quiet, Lexed, tells, lex}
 use Rattle.journal_spec.specs.Reading.{Machine, initial, step, run}
 use Rattle.schema_spec.specs.Schemas.{Schema}
 use Rattle.text_spec.specs.Bytes.{isForeign}
 use Rattle.text_spec.specs.Lists.{isNone}
 use Rattle.text_spec.specs.Refusals.{Refusal, at, given, badByte}
+use Rattle.token_spec.specs.Lexer.{Mode, between, Event, quiet, Lexed, tells, lex}
 
 -- from the place k and the mode m: some bytes, with no event but that of the last
 pub data Passes (text : List ℕ) (k : ℕ) (m : Mode) : ℕ → Mode → Event → Type 0 where

@@ -4,8 +4,8 @@ use mathlib.Core.List.{List, [], _∷_, map}
 use Prim.Native.Nat.{ℕ}
 use lib.Dec.{eqb}
 use lib.ListN.{drop, getD}
-use Rattle.journal_spec.specs.Tokens.{entities}
 use Rattle.text_spec.specs.Lists.{bytes}
+use Rattle.token_spec.specs.Tokens.{entities}
 
 abbrev allRests : List (List (List ℕ))
 allRests =

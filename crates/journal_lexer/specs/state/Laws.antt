@@ -10,9 +10,9 @@ use lib.ListN.{length, getD}
 use Rattle.journal_lexer.specs.declared.state.Lex.{Lex}
 use Rattle.journal_lexer.specs.kinds.Kinds.{kindOf, lexBy}
 use Rattle.journal_lexer.specs.kinds.Laws.{lex-kind, foreign-kind}
-use Rattle.journal_lexer.specs.state.Places.{noPlace, tagAt, foreignAt, withForeign, foreign-other, foreign-length, foreign-first, not-foreign}
+use Rattle.journal_lexer.specs.state.Places.{noPlace, tagAt, foreignAt, withForeign, foreign-other, foreign-first, not-foreign, lent-next, lent-foreign}
 use Rattle.journal_lexer.specs.state.Relation.{Means, stateOf, TellsEvent, firstForeign, Handed, Meant, Steps, stepped}
-use Rattle.journal_spec.specs.Lexer.{Mode, stopped, Lexed, lex, goes}
+use Rattle.token_spec.specs.Lexer.{Mode, stopped, Lexed, lex, goes}
 
 -- a result that is known
 pub meant-as : {l : Lex} {p : List ℕ} {b : ℕ} {r s : Lex} {q t : List ℕ} {x : Lexed} → r ≡ s → q ≡ t → Meant l p b s t x → Meant l p b r q x
@@ -37,12 +37,12 @@ module _ {l : Lex} {p : List ℕ} {b c : ℕ} (h : Handed l p b c) where
   leads {m = m} {n = n} e g = meant-of (ap (λ (z : Mode). lexBy z (l .place) c b) e) g
 
   -- the first foreign byte, where the places changed in other cells and the byte was noted
-  pub foreign-noted : (q : List ℕ) → length q ≡ 4 → foreignAt q ≡ foreignAt p → foreignAt (withForeign c q (l .place)) ≡ firstForeign (foreignAt p) b (l .place)
-  foreign-noted q four e = foreign-first q four c (l .place) ∙ rw (e, h .kind, ← foreign-kind b (h .byte))
+  pub foreign-noted : (q : List ℕ) → length q ≡ 5 → foreignAt q ≡ foreignAt p → foreignAt (withForeign c q (l .place)) ≡ firstForeign (foreignAt p) b (l .place)
+  foreign-noted q five e = foreign-first q five c (l .place) ∙ rw (e, h .kind, ← foreign-kind b (h .byte))
 
   -- where the byte is not foreign
   pub foreign-same : (q : List ℕ) → (c ≡ 9 → ⊥) → foreignAt q ≡ foreignAt p → foreignAt q ≡ firstForeign (foreignAt p) b (l .place)
-  foreign-same q n e = e ∙ ap foreignAt (sym (not-foreign c p (l .place) n)) ∙ foreign-noted p (h .four) refl
+  foreign-same q n e = e ∙ ap foreignAt (sym (not-foreign c p (l .place) n)) ∙ foreign-noted p (h .lent .five) refl
 
   -- one byte more in a mode, without an event, where the byte may be foreign
   pub goes-noted : (mode : ℕ) (m : Mode) → Means (stateOf mode) (l .name) (l .count) (withForeign c p (l .place)) m
@@ -53,20 +53,20 @@ module _ {l : Lex} {p : List ℕ} {b c : ℕ} (h : Handed l p b c) where
         mode = w;
         event = refl;
         silent = inl refl;
-        foreign = foreign-noted p (h .four) refl;
-        four = foreign-length c p (l .place) ∙ h .four;
+        foreign = foreign-noted p (h .lent .five) refl;
+        lent = lent-next (lent-foreign c (l .place) (h .lent));
       }
 
   -- where it is not foreign
   pub goes-plain : (mode : ℕ) (m : Mode) → (c ≡ 9 → ⊥) → Means (stateOf mode) (l .name) (l .count) p m → Meant l p b (stepped mode 0 l) p (goes m)
   goes-plain mode m n w =
-      record { place = refl; mode = w; event = refl; silent = inl refl; foreign = foreign-same p n refl; four = h .four }
+      record { place = refl; mode = w; event = refl; silent = inl refl; foreign = foreign-same p n refl; lent = lent-next (h .lent) }
 
   -- the last byte of a token
   pub tells-plain : (mode event : ℕ) (x : Lexed) → (c ≡ 9 → ⊥) → Means (stateOf mode) (l .name) (l .count) p (x .mode)
       → TellsEvent (stepped mode event l) p (x .event) → (mode ≡ 0) ⊎ (mode ≡ 6) → Meant l p b (stepped mode event l) p x
   tells-plain mode event x n w t s =
-      record { place = refl; mode = w; event = t; silent = inr s; foreign = foreign-same p n refl; four = h .four }
+      record { place = refl; mode = w; event = t; silent = inr s; foreign = foreign-same p n refl; lent = lent-next (h .lent) }
 
   -- where nothing can follow
   pub stops : {r : Lex} {q : List ℕ} → r ≡ stepped 13 0 l → q ≡ withForeign c p (l .place) → Meant l p b r q (goes (stopped (tagAt p)))

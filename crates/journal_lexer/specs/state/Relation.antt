@@ -3,18 +3,17 @@ use mathlib.Core.Bool.{cond}
 use mathlib.Core.List.{List, [], _∷_}
 use mathlib.Core.Logic.{_⊎_}
 use mathlib.Core.Path.{_≡_}
-use Prim.Native.Nat.{ℕ, suc, _+_, _-_, _<_}
+use Prim.Native.Nat.{ℕ, suc, _+_, _-_, _≤_, _<_}
 use lib.Dec.{eqb}
 use lib.ListN.{length, getD}
 use Rattle.journal_lexer.specs.declared.state.Lex.{Lex}
 use Rattle.journal_lexer.specs.kinds.Kinds.{kindOf}
 use Rattle.journal_lexer.specs.state.Entities.{restsOf}
-use Rattle.journal_lexer.specs.state.Places.{noPlace, tagAt, runStart, solidAt, foreignAt, runOf}
-use Rattle.journal_spec.specs.Lexer.{Mode, between, inData, inEntity, opened, inName, afterName, afterSlash, ending, inEndName, afterEndName, stopped}
-use Rattle.journal_spec.specs.Lexer.{Event, quiet, starts, empties, ends, runs, Lexed, lex}
+use Rattle.journal_lexer.specs.state.Places.{noPlace, tagAt, runStart, solidAt, foreignAt, savedAt, runOf, Lent}
 use Rattle.text.specs.declared.name_words.Name.{Name}
 use Rattle.text.specs.name_words.Words.{wordsOf, Spells}
 use Rattle.text_spec.specs.Bytes.{isForeign}
+use Rattle.token_spec.specs.Lexer.{Mode, between, inData, inEntity, opened, inName, afterName, afterSlash, ending, inEndName, afterEndName, stopped, Event, quiet, starts, empties, ends, runs, Lexed, lex}
 
 -- the words of a name and how many bytes it has
 pub record Holds (w : Name) (count : ℕ) (n : List ℕ) : Type 0 where
@@ -38,7 +37,7 @@ Means inBlanks w k p m = (m ≡ inData (runOf p) 0) × (solidAt p ≡ noPlace)
 Means inSolid w k p m = (m ≡ inData (runOf p) 0) × (solidAt p < noPlace)
 Means pastBracket w k p m = (m ≡ inData (runOf p) 1) × (solidAt p < noPlace)
 Means pastBrackets w k p m = (n : ℕ) × (m ≡ inData (runOf p) (suc (suc n))) × (solidAt p < noPlace)
-Means atEntity w k p m = (m ≡ inEntity (restsOf k) (tagAt p) (runOf p)) × (solidAt p < noPlace) × (k < 9)
+Means atEntity w k p m = (m ≡ inEntity (restsOf k) (tagAt p) (runOf p)) × (solidAt p < noPlace) × (k < 9) × (savedAt p ≤ tagAt p)
 Means atOpened w k p m = m ≡ opened (tagAt p)
 Means atName w k p m = (n : List ℕ) × (m ≡ inName (tagAt p) n) × Holds w k n
 Means pastName w k p m = (n : List ℕ) × (m ≡ afterName (tagAt p) n) × Holds w k n
@@ -74,10 +73,10 @@ TellsEvent l p e = Tells (reportOf (l .event)) (l .name) p e
 abbrev pub firstForeign : ℕ → ℕ → ℕ → ℕ
 firstForeign x b k = cond (isForeign b) (cond (eqb x noPlace) k x) x
 
--- what a byte function is handed: four places, a byte and its kind, and there is room for one place more
+-- what a byte function is handed: the lent places, a byte and its kind, and there is room for one place more
 pub record Handed (l : Lex) (p : List ℕ) (b c : ℕ) : Type 0 where
   pub room : l .place < noPlace
-  pub four : length p ≡ 4
+  pub lent : Lent (l .place) p
   pub byte : b < 256
   pub kind : c ≡ kindOf b
 
@@ -89,7 +88,7 @@ pub record Meant (l : Lex) (p : List ℕ) (b : ℕ) (r : Lex) (q : List ℕ) (x 
   -- an event leaves the lexer between tokens or after a `<`
   pub silent : (r .event ≡ 0) ⊎ ((r .mode ≡ 0) ⊎ (r .mode ≡ 6))
   pub foreign : foreignAt q ≡ firstForeign (foreignAt p) b (l .place)
-  pub four : length q ≡ 4
+  pub lent : Lent (r .place) q
 
 -- The contract of every byte function: in the mode of this number, the byte b is read as the definition reads it.
 pub record Steps (mode : ℕ) (l : Lex) (p : List ℕ) (b : ℕ) (r : Lex) (q : List ℕ) : Type 0 where

@@ -11,11 +11,9 @@ use Rattle.journal_lexer.specs.declared.state.Lex.{Lex}
 use Rattle.journal_lexer.specs.kinds.Kinds.{kindOf, lexBy, tagBy, endTagBy}
 use Rattle.journal_lexer.specs.kinds.Laws.{name-filled}
 use Rattle.journal_lexer.specs.state.Laws.{meant-as, steps-by, leads, foreign-same, goes-plain, tells-plain, stops}
-use Rattle.journal_lexer.specs.state.Places.{tagAt, withForeign}
+use Rattle.journal_lexer.specs.state.Places.{tagAt, withForeign, lent-next}
 use Rattle.journal_lexer.specs.state.Relation.{Holds, Means, stateOf, Handed, Meant, Steps, stepped, named}
 use Rattle.journal_lexer.specs.tags.Names.{Longer, fits, over}
-use Rattle.journal_spec.specs.Lexer.{Mode, between, opened, inName, afterName, afterSlash, ending, inEndName, afterEndName, stopped}
-use Rattle.journal_spec.specs.Lexer.{starts, empties, ends, goes, tells}
 use Rattle.text.specs.declared.name_words.Name.{Name}
 use Rattle.text.specs.name_words.Words.{wordsOf, Spells}
 use Rattle.text_laws.specs.Lists.{all-snoc}
@@ -23,6 +21,7 @@ use Rattle.text_laws.specs.Tests.{and-intro}
 use Rattle.text_spec.specs.Bytes.{isBetween}
 use Rattle.text_spec.specs.Limits.{maxNameBytes}
 use Rattle.text_spec.specs.Machines.{longer}
+use Rattle.token_spec.specs.Lexer.{Mode, between, opened, inName, afterName, afterSlash, ending, inEndName, afterEndName, stopped, starts, empties, ends, goes, tells}
 
 module _ {l : Lex} {p : List ℕ} {b c : ℕ} (h : Handed l p b c) where
   -- a byte of a name is not 0
@@ -39,7 +38,7 @@ module _ {l : Lex} {p : List ℕ} {b c : ℕ} (h : Handed l p b c) where
         event = refl;
         silent = inl refl;
         foreign = foreign-same h p (λ z. omega arith) refl;
-        four = h .four;
+        lent = lent-next (h .lent);
       }
 
 module _ {l : Lex} {p : List ℕ} {b c : ℕ} (h : Handed l p b c) {r : Lex} where

@@ -51,9 +51,9 @@ pub record AllRead (t : SchemaCells) (text levels places : List ℕ) (c : Column
   pub read : (s : Schema) (z : Sizes) → CellsOf s t → ReadAs s z levels places c started initial → ReadAs s z after q d y (run s initial text)
 
 -- the same of lent slices
-abbrev pub AllReadIn : SchemaCells → Slice → Slice → Slice → Slice → Slice → Slice → Slice → Slice → ReaderState → Type 0
-AllReadIn t text levels places numbers names parents starts lengths y =
-    AllRead t (now (text .entry)) (now (levels .entry)) (now (places .entry)) (entryColumns numbers names parents starts lengths) (now (levels .exit)) (now (places .exit)) (exitColumns numbers names parents starts lengths) y
+abbrev pub AllReadIn : SchemaCells → Slice → Slice → Slice → Slice → Slice → Slice → Slice → Slice → Slice → ReaderState → Type 0
+AllReadIn t text levels places numbers names parents starts lengths decoded y =
+    AllRead t (now (text .entry)) (now (levels .entry)) (now (places .entry)) (entryColumns numbers names parents starts lengths decoded) (now (levels .exit)) (now (places .exit)) (exitColumns numbers names parents starts lengths decoded) y
 
 pub all-read : {t : SchemaCells} {text : List ℕ} {k : ℕ} {levels places : List ℕ} {c : Columns} {after q : List ℕ} {d : Columns} {y : ReaderState}
     → SomeRead t text k levels places c after q d y → k ≤ length text → length text ≤ k → AllRead t text levels places c after q d y

@@ -20,13 +20,13 @@ use Rattle.journal_reader.specs.findings.Endings.{Ended}
 use Rattle.journal_reader.specs.findings.Findings.{endsBefore, foundKey, found-key-is, found-placed}
 use Rattle.journal_reader.specs.state.Reading.{ForeignCell, ReadAs}
 use Rattle.journal_spec.specs.Builder.{Building, onEvent}
-use Rattle.journal_spec.specs.Lexer.{lastEvent}
 use Rattle.journal_spec.specs.Reading.{Machine, initial, run, ended, readJournal}
 use Rattle.schema_spec.specs.Schemas.{Schema}
 use Rattle.table_spec.specs.Columns.{Columns, Sizes, columnsOf}
 use Rattle.table_spec.specs.Rows.{Row}
 use Rattle.text.specs.fault_keys.KeyLaws.{noted-none}
 use Rattle.text.specs.fault_keys.Keys.{noKey, placeLimit, notedKey}
+use Rattle.token_spec.specs.Lexer.{lastEvent}
 
 -- the key tells the outcome, and where it is none the columns hold the rows
 pub record Answered (z : Sizes) (limit : ℕ) (s : Schema) (text : List ℕ) (d : Columns) (r : Found) : Type 0 where

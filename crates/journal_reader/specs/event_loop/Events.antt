@@ -14,10 +14,10 @@ use Rattle.journal_reader.specs.declared.state.ReaderState.{ReaderState}
 use Rattle.journal_reader.specs.event_step.Points.{Point, ReadOn}
 use Rattle.journal_reader.specs.state.Reading.{started, ForeignCell, Usable, ReadAs}
 use Rattle.journal_reader.specs.state.ReadingLaws.{foreign-below}
-use Rattle.journal_spec.specs.Lexer.{between}
 use Rattle.journal_spec.specs.Reading.{Machine, initial, run}
 use Rattle.schema_spec.specs.Schemas.{Schema}
 use Rattle.table_spec.specs.Columns.{Columns, Sizes}
+use Rattle.token_spec.specs.Lexer.{between}
 
 -- some events of a text that was begun with other cells
 pub record EventsRead (t : SchemaCells) (text levels places : List ℕ) (c : Columns) (after q : List ℕ) (d : Columns) (y : ReaderState) : Type 0 where

@@ -18,29 +18,29 @@ use Rattle.journal_reader.specs.declared.state.ReaderState.{ReaderState}
 use Rattle.journal_reader.specs.end.Ends.{Answered, Finished}
 use Rattle.journal_reader.specs.state.Reading.{started, Usable, ReadAs}
 use Rattle.journal_reader.specs.state.ReadingLaws.{no-foreign}
-use Rattle.journal_spec.specs.Lexer.{between}
 use Rattle.journal_spec.specs.Reading.{initial}
 use Rattle.schema_spec.specs.Schemas.{Schema}
 use Rattle.table_spec.specs.Columns.{Columns, Sizes, columnsOf}
 use Rattle.text.specs.fault_keys.Keys.{noKey}
+use Rattle.token_spec.specs.Lexer.{between}
 
 -- no place is noted yet
 abbrev pub noPlaces : List ℕ
-noPlaces = 0 ∷ 0 ∷ noPlace ∷ noPlace ∷ []
+noPlaces = 0 ∷ 0 ∷ noPlace ∷ noPlace ∷ 0 ∷ []
 
 -- from cleared columns c to the columns d and what was found
 pub record JournalRead (t : SchemaCells) (text : List ℕ) (c d : Columns) (r : Found) : Type 0 where
   pub answered : (s : Schema) (z : Sizes) (limit : ℕ) → CellsOf s t → c ≡ columnsOf z [] → 1 ≤ length text → length text ≤ limit → Answered z limit s text d r
 
 -- the same of lent slices
-abbrev pub JournalReadIn : SchemaCells → Slice → Slice → Slice → Slice → Slice → Slice → Found → Type 0
-JournalReadIn t text numbers names parents starts lengths r = JournalRead t (now (text .entry)) (entryColumns numbers names parents starts lengths) (exitColumns numbers names parents starts lengths) r
+abbrev pub JournalReadIn : SchemaCells → Slice → Slice → Slice → Slice → Slice → Slice → Slice → Found → Type 0
+JournalReadIn t text numbers names parents starts lengths decoded r = JournalRead t (now (text .entry)) (entryColumns numbers names parents starts lengths decoded) (exitColumns numbers names parents starts lengths decoded) r
 
 module _ (levels : List ℕ) (all : AllLevels levels) where
   pub usable-first : {c : Columns} → EqualColumns c → Usable levels noPlaces c started
   usable-first e =
       record {
-        four = refl;
+        lent = record { five = refl; few = omega arith };
         valid = record { mode = between; means = refl };
         safe = record { all = all; shallow = omega arith };
         counted = omega arith;

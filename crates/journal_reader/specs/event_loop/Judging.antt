@@ -38,8 +38,8 @@ pub record Judged (t : SchemaCells) (text : List ℕ) (limit : ℕ) (c d : Colum
       → d ≡ columnsAfter (sizesOf c) (λ rows. rows) (outcome s text limit (sizesOf c))
 
 -- the same of lent slices
-abbrev pub JudgedIn : SchemaCells → Slice → ℕ → Slice → Slice → Slice → Slice → Slice → Verdict → Type 0
-JudgedIn t text limit numbers names parents starts lengths r = Judged t (now (text .entry)) limit (entryColumns numbers names parents starts lengths) (exitColumns numbers names parents starts lengths) r
+abbrev pub JudgedIn : SchemaCells → Slice → ℕ → Slice → Slice → Slice → Slice → Slice → Slice → Verdict → Type 0
+JudgedIn t text limit numbers names parents starts lengths decoded r = Judged t (now (text .entry)) limit (entryColumns numbers names parents starts lengths decoded) (exitColumns numbers names parents starts lengths decoded) r
 
 -- ---- 2
 pub judged-2 : {t : SchemaCells} {limit : ℕ} {c : Columns} {r : Verdict} (text : List ℕ) → ((s : Schema) → readJournal limit s text ≡ refused (at badLength 0))

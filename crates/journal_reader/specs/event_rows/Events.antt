@@ -14,10 +14,10 @@ use Rattle.journal_lexer.specs.state.Relation.{TellsEvent}
 use Rattle.journal_reader.specs.rows.Rows.{RowAdded}
 use Rattle.journal_reader.specs.state.ReadingLaws.{rows-next}
 use Rattle.journal_spec.specs.Builder.{Building, onEvent}
-use Rattle.journal_spec.specs.Lexer.{Event}
 use Rattle.schema_spec.specs.Schemas.{Schema}
 use Rattle.table_spec.specs.Columns.{Columns, Sizes, columnsOf}
 use Rattle.text.specs.fault_keys.Keys.{noKey}
+use Rattle.token_spec.specs.Lexer.{Event}
 
 -- the builder's state r, the levels `after` and the columns d are what the event of l leaves
 pub record EventRead (t : SchemaCells) (levels places : List ℕ) (c : Columns) (l : Lex) (m : Build) (after : List ℕ) (d : Columns) (r : Build) : Type 0 where
@@ -29,9 +29,9 @@ pub record EventRead (t : SchemaCells) (levels places : List ℕ) (c : Columns) 
       → (m .fault ≡ noKey → c ≡ columnsOf z (reverse (b .rows))) → r .fault ≡ noKey → d ≡ columnsOf z (reverse (onEvent s e b .rows))
 
 -- the same of lent slices
-abbrev pub EventReadIn : SchemaCells → Slice → Slice → Slice → Slice → Slice → Slice → Slice → Lex → Build → Build → Type 0
-EventReadIn t levels places numbers names parents starts lengths l m r =
-    EventRead t (now (levels .entry)) (now (places .entry)) (entryColumns numbers names parents starts lengths) l m (now (levels .exit)) (exitColumns numbers names parents starts lengths) r
+abbrev pub EventReadIn : SchemaCells → Slice → Slice → Slice → Slice → Slice → Slice → Slice → Slice → Lex → Build → Build → Type 0
+EventReadIn t levels places numbers names parents starts lengths decoded l m r =
+    EventRead t (now (levels .entry)) (now (places .entry)) (entryColumns numbers names parents starts lengths decoded) l m (now (levels .exit)) (exitColumns numbers names parents starts lengths decoded) r
 
 pub event-read : {t : SchemaCells} {levels places after : List ℕ} {c d : Columns} {l : Lex} {m : Build} {x : BuildStep} → EventLeaves t levels places l m after x
     → RowAdded c (m .count) x d → EventRead t levels places c l m after d (x .build)

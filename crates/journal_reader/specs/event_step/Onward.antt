@@ -12,16 +12,16 @@ use Rattle.journal_lexer.specs.data_loops.Modes.{dataMode}
 use Rattle.journal_lexer.specs.declared.state.Lex.{Lex}
 use Rattle.journal_lexer.specs.loop_laws.Advance.{foreignBelow, Stands, Valid, Ready, either, Progress, moved, stayed, Advance}
 use Rattle.journal_lexer.specs.run_laws.Passes.{stays}
-use Rattle.journal_lexer.specs.state.Places.{foreignAt}
+use Rattle.journal_lexer.specs.state.Places.{foreignAt, Lent}
 use Rattle.journal_lexer.specs.state.Relation.{MeansMode}
 use Rattle.journal_lexer.specs.tag_loops.Modes.{tagMode}
 use Rattle.journal_reader.specs.findings.Endings.{withEvent}
-use Rattle.journal_spec.specs.Lexer.{Mode, quiet}
+use Rattle.token_spec.specs.Lexer.{Mode, quiet}
 
 -- from l and p to r and q the lexer has gone as the definition goes, by one byte at least and with one event at most
 pub record Onward (text : List ℕ) (l : Lex) (p : List ℕ) (r : Lex) (q : List ℕ) : Type 0 where
   pub inside : r .place ≤ length text
-  pub four : length q ≡ 4
+  pub lent : Lent (r .place) q
   pub valid : Valid r q
   pub further : l .place < r .place
   pub stands : (m : Mode) → MeansMode l p m → foreignAt p ≡ foreignBelow text (l .place) → Stands text (l .place) m r q
@@ -71,7 +71,7 @@ module _ (l s : Lex) (e : s ≡ withEvent 0 l) where
         table = h .table;
         short = h .short;
         inside = h .inside;
-        four = h .four;
+        lent = h .lent;
         valid = record { mode = h .valid .mode; means = h .valid .means };
       })
 
@@ -79,7 +79,7 @@ module _ (l s : Lex) (e : s ≡ withEvent 0 l) where
   onward {text = text} {p = p} {r = r} a h =
       record {
         inside = a .inside;
-        four = a .four;
+        lent = a .lent;
         valid = a .valid;
         further = subst (λ (k : ℕ). k < r .place) quiet-place h;
         stands = λ m w f. a .stands (l .place) m (here m w f);

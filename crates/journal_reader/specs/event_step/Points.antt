@@ -19,10 +19,10 @@ use Rattle.journal_reader.specs.event_rows.Events.{EventRead}
 use Rattle.journal_reader.specs.event_step.Onward.{Onward}
 use Rattle.journal_reader.specs.state.Reading.{Usable}
 use Rattle.journal_spec.specs.Builder.{Building, onEvent}
-use Rattle.journal_spec.specs.Lexer.{Mode}
 use Rattle.schema_spec.specs.Schemas.{Schema}
 use Rattle.table_spec.specs.Columns.{Columns, Sizes, columnsOf}
 use Rattle.text.specs.fault_keys.Keys.{noKey}
+use Rattle.token_spec.specs.Lexer.{Mode}
 
 -- the reading stands on the definition's way through the text
 pub record Point (s : Schema) (z : Sizes) (text levels places : List ℕ) (c : Columns) (x : ReaderState) : Type 0 where
@@ -42,9 +42,9 @@ pub record ReadOn (t : SchemaCells) (text levels places : List ℕ) (c : Columns
   pub read : (s : Schema) (z : Sizes) → CellsOf s t → Point s z text levels places c x → Point s z text after q d y
 
 -- the same of lent slices
-abbrev pub ReadOnIn : SchemaCells → Slice → Slice → Slice → Slice → Slice → Slice → Slice → Slice → ReaderState → ReaderState → Type 0
-ReadOnIn t text levels places numbers names parents starts lengths x y =
-    ReadOn t (now (text .entry)) (now (levels .entry)) (now (places .entry)) (entryColumns numbers names parents starts lengths) x (now (levels .exit)) (now (places .exit)) (exitColumns numbers names parents starts lengths) y
+abbrev pub ReadOnIn : SchemaCells → Slice → Slice → Slice → Slice → Slice → Slice → Slice → Slice → Slice → ReaderState → ReaderState → Type 0
+ReadOnIn t text levels places numbers names parents starts lengths decoded x y =
+    ReadOn t (now (text .entry)) (now (levels .entry)) (now (places .entry)) (entryColumns numbers names parents starts lengths decoded) x (now (levels .exit)) (now (places .exit)) (exitColumns numbers names parents starts lengths decoded) y
 
 pub read-on : {t : SchemaCells} {text levels places after q : List ℕ} {c d : Columns} {x : ReaderState} {l : Lex} {r : Build} → Usable levels places c x
     → Onward text (x .lex) places l q → EventRead t levels q c l (x .build) after d r
@@ -53,7 +53,7 @@ read-on u o e =
     record {
       usable =
           record {
-            four = o .four;
+            lent = o .lent;
             valid = o .valid;
             safe = e .safe;
             counted = omega (arith, u .counted, e .counted, o .further);

@@ -11,8 +11,8 @@ use lib.ListN.{length, getD, set, length-set}
 use Rattle.journal_lexer.specs.declared.state.Lex.{Lex}
 use Rattle.journal_lexer.specs.state.Places.{noPlace, tagAt, runStart, foreignAt, runOf, tag-run, tag-other, tag-first}
 use Rattle.journal_lexer.specs.state.Relation.{Means, stateOf, MeansMode, TellsEvent}
-use Rattle.journal_spec.specs.Lexer.{Mode, Event, quiet, runs, lastEvent, misspeltAt}
 use Rattle.text.specs.declared.name_words.Name.{Name}
+use Rattle.token_spec.specs.Lexer.{Mode, Event, quiet, runs, lastEvent, misspeltAt}
 
 -- the modes of character data, by their numbers
 abbrev pub isDataMode : ℕ → Bool
@@ -58,23 +58,23 @@ misspelt-at (suc (suc (suc (suc (suc (suc (suc (suc (suc (suc (suc (suc (suc (su
 
 -- the state r and the places q at the end of a text, where l and p stood
 pub record Ended (l : Lex) (p : List ℕ) (r : Lex) (q : List ℕ) : Type 0 where
-  pub four : length q ≡ 4
+  pub five : length q ≡ 5
   pub event : (r .event ≡ 0) ⊎ (r .event ≡ 4)
   pub told : (m : Mode) → MeansMode l p m → TellsEvent r q (lastEvent m (l .place))
   pub misspelt : (m : Mode) → MeansMode l p m → misspeltAt m ≡ cond (ltb 4 (l .mode)) (tagAt q ∷ []) []
   pub foreign : foreignAt q ≡ foreignAt p
 
-module _ {l r : Lex} {p : List ℕ} (four : length p ≡ 4) where
+module _ {l r : Lex} {p : List ℕ} (five : length p ≡ 5) where
   -- in character data
   pub ended-run : isDataMode (l .mode) ≡ true → r ≡ withEvent 4 l → Ended l p r (set p 0 (l .place))
   ended-run d e =
       rw e
       (record {
-        four = simp length-set four;
+        five = simp length-set five;
         event = inr refl;
         told = λ m w.
             last-event (l .mode) (l .name) (l .count) p (l .place) m w
-            ∙ rw (d, tag-run p (l .place), tag-first p four (l .place), tag-other p (l .place) 1 (λ z. omega arith));
+            ∙ rw (d, tag-run p (l .place), tag-first p five (l .place), tag-other p (l .place) 1 (λ z. omega arith));
         misspelt = λ m w. misspelt-at (l .mode) (l .name) (l .count) p m w ∙ no-tag (l .mode) d;
         foreign = tag-other p (l .place) 3 (λ z. omega arith);
       })
@@ -94,7 +94,7 @@ module _ {l r : Lex} {p : List ℕ} (four : length p ≡ 4) where
   ended-quiet d e =
       rw e
       (record {
-        four = four;
+        five = five;
         event = inl refl;
         told = λ m w. last-event (l .mode) (l .name) (l .count) p (l .place) m w ∙ rw d;
         misspelt = λ m w. misspelt-at (l .mode) (l .name) (l .count) p m w;

@@ -13,13 +13,13 @@ use Rattle.journal_lexer.specs.run_laws.Findings.{isEarly, findingsKey, Finding
 use Rattle.journal_lexer.specs.state.Places.{noPlace, tagAt, foreignAt}
 use Rattle.journal_reader.specs.state.Reading.{foreignKey, ForeignCell}
 use Rattle.journal_spec.specs.Builder.{Open, Building}
-use Rattle.journal_spec.specs.Lexer.{misspeltAt}
 use Rattle.journal_spec.specs.Reading.{Machine}
 use Rattle.schema_spec.specs.Schemas.{Schema}
 use Rattle.text.specs.fault_keys.KeyLaws.{least-bound}
 use Rattle.text.specs.fault_keys.Keys.{noKey, placeLimit, keyAt, leastKey, notedKey, Placed}
 use Rattle.text_spec.specs.Lists.{isEmpty, isNone, listOf}
 use Rattle.text_spec.specs.Refusals.{allAt, misspelt}
+use Rattle.token_spec.specs.Lexer.{misspeltAt}
 
 -- nesting is not broken, and an element is open or there was none
 abbrev pub endsBefore : Build → Bool

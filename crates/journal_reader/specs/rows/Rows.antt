@@ -31,7 +31,7 @@ pub row-begun : {c d : Columns} {count : ℕ} {x : BuildStep} → EqualColumns c
     → RowAdded c count x d
 row-begun {c} {d} {count} {x} q n e =
     record {
-      equal = subst EqualColumns (sym e) (equal-more c count (count % 65536) (x .row .name) (x .row .parent) (x .row .start) (x .row .size) q);
+      equal = subst EqualColumns (sym e) (equal-more c count (count % 65536) (x .row .name) (x .row .parent) (x .row .start) (x .row .size) (x .row .decoded) q);
       holds = λ z before after l r h. e ∙ pick z r l h;
     }
   where

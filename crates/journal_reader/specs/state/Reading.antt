@@ -11,7 +11,7 @@ use Rattle.journal_builder.specs.build_state.State.{build, Safe, Built}
 use Rattle.journal_builder.specs.fillings.Fillings.{Sized}
 use Rattle.journal_lexer.specs.kinds.Kinds.{KindTable}
 use Rattle.journal_lexer.specs.loop_laws.Advance.{Valid}
-use Rattle.journal_lexer.specs.state.Places.{noPlace, foreignAt}
+use Rattle.journal_lexer.specs.state.Places.{noPlace, foreignAt, Lent}
 use Rattle.journal_lexer.specs.state.Relation.{MeansMode, initially}
 use Rattle.journal_reader.specs.declared.state.ReaderState.{ReaderState}
 use Rattle.journal_spec.specs.Reading.{Machine}
@@ -36,7 +36,7 @@ pub record ForeignCell (x k : ℕ) (fs : List Refusal) : Type 0 where
 
 -- what the code needs to be safe
 pub record Usable (levels places : List ℕ) (c : Columns) (x : ReaderState) : Type 0 where
-  pub four : length places ≡ 4
+  pub lent : Lent (x .lex .place) places
   pub valid : Valid (x .lex) places
   pub safe : Safe levels (x .build)
   pub counted : x .build .count ≤ x .lex .place

@@ -23,7 +23,6 @@ use Rattle.journal_reader.specs.declared.state.ReaderState.{ReaderState}
 use Rattle.journal_reader.specs.rows.Rows.{RowAdded}
 use Rattle.journal_reader.specs.state.Reading.{foreignKey, ForeignCell, Usable, ReadAs}
 use Rattle.journal_spec.specs.Builder.{Building, onEvent}
-use Rattle.journal_spec.specs.Lexer.{Mode, Event, Lexed, lex}
 use Rattle.journal_spec.specs.Reading.{Machine, step}
 use Rattle.schema_spec.specs.Schemas.{Schema}
 use Rattle.table_spec.specs.Columns.{Columns, Sizes, columnsOf}
@@ -34,6 +33,7 @@ use Rattle.text_laws.specs.Lists.{append-empty}
 use Rattle.text_spec.specs.Bytes.{isForeign}
 use Rattle.text_spec.specs.Lists.{listOf}
 use Rattle.text_spec.specs.Refusals.{Refusal, at, given, badByte}
+use Rattle.token_spec.specs.Lexer.{Mode, Event, Lexed, lex}
 
 -- ---- the first foreign byte
 pub no-foreign : ForeignCell noPlace 0 []

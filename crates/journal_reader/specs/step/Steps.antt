@@ -14,10 +14,10 @@ use Rattle.journal_reader.specs.declared.state.ReaderState.{ReaderState}
 use Rattle.journal_reader.specs.event_rows.Events.{EventRead}
 use Rattle.journal_reader.specs.state.Reading.{Usable, ReadAs}
 use Rattle.journal_reader.specs.state.ReadingLaws.{read-next}
-use Rattle.journal_spec.specs.Lexer.{lex}
 use Rattle.journal_spec.specs.Reading.{Machine, step}
 use Rattle.schema_spec.specs.Schemas.{Schema}
 use Rattle.table_spec.specs.Columns.{Columns, Sizes}
+use Rattle.token_spec.specs.Lexer.{lex}
 
 -- the state y and what is lent beside it are what the byte b leaves: the definition's step
 pub record ByteRead (t : SchemaCells) (levels places : List ℕ) (c : Columns) (x : ReaderState) (b : ℕ) (after q : List ℕ) (d : Columns) (y : ReaderState)
@@ -27,9 +27,9 @@ pub record ByteRead (t : SchemaCells) (levels places : List ℕ) (c : Columns) (
   pub read : (s : Schema) (z : Sizes) (m : Machine) → CellsOf s t → ReadAs s z levels places c x m → ReadAs s z after q d y (step s m b)
 
 -- the same of lent slices
-abbrev pub ByteReadIn : SchemaCells → Slice → Slice → Slice → Slice → Slice → Slice → Slice → ReaderState → ℕ → ReaderState → Type 0
-ByteReadIn t levels places numbers names parents starts lengths x b y =
-    ByteRead t (now (levels .entry)) (now (places .entry)) (entryColumns numbers names parents starts lengths) x b (now (levels .exit)) (now (places .exit)) (exitColumns numbers names parents starts lengths) y
+abbrev pub ByteReadIn : SchemaCells → Slice → Slice → Slice → Slice → Slice → Slice → Slice → Slice → ReaderState → ℕ → ReaderState → Type 0
+ByteReadIn t levels places numbers names parents starts lengths decoded x b y =
+    ByteRead t (now (levels .entry)) (now (places .entry)) (entryColumns numbers names parents starts lengths decoded) x b (now (levels .exit)) (now (places .exit)) (exitColumns numbers names parents starts lengths decoded) y
 
 pub byte-read : {t : SchemaCells} {levels places after q : List ℕ} {c d : Columns} {x : ReaderState} {b : ℕ} {l : Lex} {r : Build} → Usable levels places c x
     → x .lex .place < noPlace → Steps (x .lex .mode) (x .lex) places b l q → EventRead t levels q c l (x .build) after d r
@@ -39,7 +39,7 @@ byte-read {t} {levels} {places} {after} {q} {c} {d} {x} {b} {l} {r} u room g e =
     record {
       usable =
           record {
-            four = some .four;
+            lent = some .lent;
             valid = record { mode = lex (u .valid .mode) (x .lex .place) b .mode; means = some .mode };
             safe = e .safe;
             counted = omega (arith, u .counted, e .counted, some .place);

@@ -33,11 +33,12 @@ paddedColumns z c =
       parents = padded (z .parents) (c .parents);
       starts = padded (z .starts) (c .starts);
       lengths = padded (z .lengths) (c .lengths);
+      decoded = padded (z .decoded) (c .decoded);
     }
 
 -- n rows where there is room, else zeros
 unfoldable pub answered : Sizes → ℕ → Columns → Columns
-answered z n c = paddedColumns z (cond (ltb (z .numbers) n) (columns [] [] [] [] []) c)
+answered z n c = paddedColumns z (cond (ltb (z .numbers) n) (columns [] [] [] [] [] []) c)
 
 -- ---- the cells past n rows are cleared
 pub short-answered : (o : Columns) (n : ℕ) (c y : Columns) → length (o .numbers) < n → ClearedFrom o 0 y → y ≡ answered (sizesOf o) n c
@@ -45,7 +46,7 @@ unfolding answered paddedColumns
 short-answered o n c y l w =
     rw (lt-ltb (length (o .numbers)) n l)
     (same-columns (all-cleared (o .numbers) (y .numbers) (w .numbers)) (all-cleared (o .names) (y .names) (w .names))
-    (all-cleared (o .parents) (y .parents) (w .parents)) (all-cleared (o .starts) (y .starts) (w .starts)) (all-cleared (o .lengths) (y .lengths) (w .lengths)))
+    (all-cleared (o .parents) (y .parents) (w .parents)) (all-cleared (o .starts) (y .starts) (w .starts)) (all-cleared (o .lengths) (y .lengths) (w .lengths)) (all-cleared (o .decoded) (y .decoded) (w .decoded)))
 
 module _ (m : List ℕ) (c o : Columns) (r : ℕ) (x : Columns) (w : RowsNoted m c o r x) (room : Room (rank m r) o) where
   pub rows-answered : (n : ℕ) (y : Columns) → n ≡ rank m r → ClearedFrom x n y → y ≡ answered (sizesOf o) n (keptColumns m c r)
@@ -58,7 +59,8 @@ module _ (m : List ℕ) (c o : Columns) (r : ℕ) (x : Columns) (w : RowsNoted m
       noted-cleared _ _ _ r (x .parents) (y .parents) n (w .parents) q (omega (arith, room .sizes .parents)) (v .parents) in
       let e = noted-cleared _ _ _ r (x .starts) (y .starts) n (w .starts) q (omega (arith, room .sizes .starts)) (v .starts) in
       let f = noted-cleared _ _ _ r (x .lengths) (y .lengths) n (w .lengths) q (omega (arith, room .sizes .lengths)) (v .lengths) in
-      rw (le-ltb (length (o .numbers)) n l) (same-columns a b d e f)
+      let g = noted-cleared _ _ _ r (x .decoded) (y .decoded) n (w .decoded) q (omega (arith, room .sizes .decoded)) (v .decoded) in
+      rw (le-ltb (length (o .numbers)) n l) (same-columns a b d e f g)
 
 -- ---- cutting
 -- the columns of a table that passes refusal 1, as far as cutting depends on it
@@ -66,6 +68,10 @@ pub record TableColumns (c : Columns) : Type 0 where
   pub kept : KeptColumns (c .names) (c .parents)
   pub sizes : OfLength c (length (c .parents))
   pub root : getD (c .parents) 0 0 ≡ 0
+
+-- such columns, and lent columns of equal length
+abbrev pub CutColumns : Columns → Columns → Type 0
+CutColumns c o = TableColumns c × OfLength o (length (o .numbers))
 
 pub record Cutting (c : Columns) (pos : List ℕ) (o : Columns) : Type 0 where
   pub rows : TableColumns c
@@ -78,9 +84,9 @@ pub record CutAs (f : ℕ → Bool) (c o : Columns) (n : ℕ) (x : Columns) : Ty
   pub columns : x ≡ answered (sizesOf o) n (keptColumns (keptMarks f (c .names) (c .parents)) c (length (c .parents)))
 
 -- the same of lent slices
-abbrev pub CutInto : (ℕ → Bool) → Slice → Slice → Slice → Slice → Slice → ℕ → Slice → Slice → Slice → Slice → Slice → Type 0
-CutInto f numbers names parents starts lengths n numbers₂ names₂ parents₂ starts₂ lengths₂ =
-    CutAs f (entryColumns numbers names parents starts lengths) (entryColumns numbers₂ names₂ parents₂ starts₂ lengths₂) n (exitColumns numbers₂ names₂ parents₂ starts₂ lengths₂)
+abbrev pub CutInto : (ℕ → Bool) → Slice → Slice → Slice → Slice → Slice → Slice → ℕ → Slice → Slice → Slice → Slice → Slice → Slice → Type 0
+CutInto f numbers names parents starts lengths decoded n numbers₂ names₂ parents₂ starts₂ lengths₂ decoded₂ =
+    CutAs f (entryColumns numbers names parents starts lengths decoded) (entryColumns numbers₂ names₂ parents₂ starts₂ lengths₂ decoded₂) n (exitColumns numbers₂ names₂ parents₂ starts₂ lengths₂ decoded₂)
 
 module _ (f : ℕ → Bool) (c o : Columns) (h : TableColumns c) where
   m : List ℕ

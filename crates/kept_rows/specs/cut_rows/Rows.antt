@@ -26,6 +26,7 @@ keptColumns m c r =
       parents = cellsBefore (λ q. rank m (getD (c .parents) q 0)) m r;
       starts = cellsBefore (λ q. getD (c .starts) q 0) m r;
       lengths = cellsBefore (λ q. getD (c .lengths) q 0) m r;
+      decoded = cellsBefore (λ q. getD (c .decoded) q 0) m r;
     }
 
 -- the rows that have a position
@@ -33,20 +34,20 @@ unfoldable pub markedBy : List ℕ → List ℕ
 markedBy pos = marks (length pos) (λ r. not (eqb (getD pos r 0) 0))
 
 -- a row written at a cell of each column
-abbrev pub stored : Columns → ℕ → ℕ → ℕ → ℕ → ℕ → ℕ → Columns
-stored x at number name parent start size =
-    columns (set (x .numbers) at number) (set (x .names) at name) (set (x .parents) at parent) (set (x .starts) at start) (set (x .lengths) at size)
+abbrev pub stored : Columns → ℕ → ℕ → ℕ → ℕ → ℕ → ℕ → ℕ → Columns
+stored x at number name parent start size decoded =
+    columns (set (x .numbers) at number) (set (x .names) at name) (set (x .parents) at parent) (set (x .starts) at start) (set (x .lengths) at size) (set (x .decoded) at decoded)
 
 -- row r of a table written at its position, if it has one
 unfoldable pub rowAdded : List ℕ → Columns → ℕ → Columns → Columns
 rowAdded pos c r x =
     cond (eqb (getD pos r 0) 0) x
-    (stored x (getD pos r 0 - 1) (getD (c .numbers) r 0) (getD (c .names) r 0) (getD pos (getD (c .parents) r 0) 0 - 1) (getD (c .starts) r 0) (getD (c .lengths) r 0))
+    (stored x (getD pos r 0 - 1) (getD (c .numbers) r 0) (getD (c .names) r 0) (getD pos (getD (c .parents) r 0) 0 - 1) (getD (c .starts) r 0) (getD (c .lengths) r 0) (getD (c .decoded) r 0))
 
 -- the same of lent slices
-abbrev pub RowAddedIn : Slice → Columns → ℕ → Slice → Slice → Slice → Slice → Slice → Type 0
-RowAddedIn positions c r numbers names parents starts lengths =
-    exitColumns numbers names parents starts lengths ≡ rowAdded (now (positions .entry)) c r (entryColumns numbers names parents starts lengths)
+abbrev pub RowAddedIn : Slice → Columns → ℕ → Slice → Slice → Slice → Slice → Slice → Slice → Type 0
+RowAddedIn positions c r numbers names parents starts lengths decoded =
+    exitColumns numbers names parents starts lengths decoded ≡ rowAdded (now (positions .entry)) c r (entryColumns numbers names parents starts lengths decoded)
 
 -- ---- what the functions ask
 -- columns of n cells each
@@ -56,6 +57,7 @@ pub record OfLength (x : Columns) (n : ℕ) : Type 0 where
   pub parents : length (x .parents) ≡ n
   pub starts : length (x .starts) ≡ n
   pub lengths : length (x .lengths) ≡ n
+  pub decoded : length (x .decoded) ≡ n
 
 -- positions of the rows of a table: each parent of a row that has one has one, too
 pub record Numbered (pos : List ℕ) (c : Columns) : Type 0 where
@@ -87,7 +89,7 @@ module _ (pos : List ℕ) (c x : Columns) (r : ℕ) where
   row-cut e = sym (cond-yes x _ (eq-eqb (getD pos r 0) 0 e))
 
   pub row-kept : (getD pos r 0 ≡ 0 → ⊥)
-      → stored x (getD pos r 0 - 1) (getD (c .numbers) r 0) (getD (c .names) r 0) (getD pos (getD (c .parents) r 0) 0 - 1) (getD (c .starts) r 0) (getD (c .lengths) r 0)
+      → stored x (getD pos r 0 - 1) (getD (c .numbers) r 0) (getD (c .names) r 0) (getD pos (getD (c .parents) r 0) 0 - 1) (getD (c .starts) r 0) (getD (c .lengths) r 0) (getD (c .decoded) r 0)
       ≡ rowAdded pos c r x
   unfolding rowAdded
   row-kept d = sym (cond-no x _ (ne-eqb (getD pos r 0) 0 d))
@@ -99,12 +101,13 @@ pub record RowsNoted (m : List ℕ) (c o : Columns) (r : ℕ) (x : Columns) : Ty
   pub parents : Noted (λ q. rank m (getD (c .parents) q 0)) m (o .parents) r (x .parents)
   pub starts : Noted (λ q. getD (c .starts) q 0) m (o .starts) r (x .starts)
   pub lengths : Noted (λ q. getD (c .lengths) q 0) m (o .lengths) r (x .lengths)
+  pub decoded : Noted (λ q. getD (c .decoded) q 0) m (o .decoded) r (x .decoded)
 
 -- the same of lent slices
-abbrev pub RowsNotedIn : Slice → Slice → Slice → Slice → Slice → Slice → Slice → Slice → Slice → Slice → Slice → Type 0
-RowsNotedIn positions numbers names parents starts lengths numbers₂ names₂ parents₂ starts₂ lengths₂ =
-    RowsNoted (markedBy (now (positions .entry))) (entryColumns numbers names parents starts lengths) (entryColumns numbers₂ names₂ parents₂ starts₂ lengths₂)
-    (length (now (positions .entry))) (exitColumns numbers₂ names₂ parents₂ starts₂ lengths₂)
+abbrev pub RowsNotedIn : Slice → Slice → Slice → Slice → Slice → Slice → Slice → Slice → Slice → Slice → Slice → Slice → Slice → Type 0
+RowsNotedIn positions numbers names parents starts lengths decoded numbers₂ names₂ parents₂ starts₂ lengths₂ decoded₂ =
+    RowsNoted (markedBy (now (positions .entry))) (entryColumns numbers names parents starts lengths decoded) (entryColumns numbers₂ names₂ parents₂ starts₂ lengths₂ decoded₂)
+    (length (now (positions .entry))) (exitColumns numbers₂ names₂ parents₂ starts₂ lengths₂ decoded₂)
 
 pub rows-none : (m : List ℕ) (c o : Columns) → RowsNoted m c o 0 o
 rows-none m c o =
@@ -114,6 +117,7 @@ rows-none m c o =
       parents = noted-none _ _ _;
       starts = noted-none _ _ _;
       lengths = noted-none _ _ _;
+      decoded = noted-none _ _ _;
     }
 
 pub rows-all : (m : List ℕ) (c o : Columns) (n r : ℕ) (x : Columns) → r ≡ n → RowsNoted m c o r x → RowsNoted m c o n x
@@ -127,6 +131,7 @@ rows-sizes m c o r x w h =
       parents = noted-length _ _ _ r (x .parents) (w .parents) ∙ h .parents;
       starts = noted-length _ _ _ r (x .starts) (w .starts) ∙ h .starts;
       lengths = noted-length _ _ _ r (x .lengths) (w .lengths) ∙ h .lengths;
+      decoded = noted-length _ _ _ r (x .decoded) (w .decoded) ∙ h .decoded;
     }
 
 same-length : (x : Columns) (n : ℕ) → OfLength x n → OfLength x (length (x .numbers))
@@ -191,6 +196,7 @@ module _ (pos : List ℕ) (c o : Columns) (h : CutPass pos c o) where
               parents = noted-unmarked _ _ _ r (x .parents) u (w .parents);
               starts = noted-unmarked _ _ _ r (x .starts) u (w .starts);
               lengths = noted-unmarked _ _ _ r (x .lengths) u (w .lengths);
+              decoded = noted-unmarked _ _ _ r (x .decoded) u (w .decoded);
             })
         by false q =
             let d = eqb-false (getD pos r 0) 0 q in
@@ -202,4 +208,5 @@ module _ (pos : List ℕ) (c o : Columns) (h : CutPass pos c o) where
               parents = noted-marked _ _ _ r (x .parents) (marked d) (w .parents) _ _ n (omega (arith, at-parent d));
               starts = noted-marked _ _ _ r (x .starts) (marked d) (w .starts) _ _ n refl;
               lengths = noted-marked _ _ _ r (x .lengths) (marked d) (w .lengths) _ _ n refl;
+              decoded = noted-marked _ _ _ r (x .decoded) (marked d) (w .decoded) _ _ n refl;
             })

@@ -32,6 +32,7 @@ use Rattle.text_spec.specs.Lists.{filterBy}
 abbrev pub columnsIn : List Row → Columns
 columnsIn rows =
     columns (map (λ r. r .number) rows) (map (λ r. codeOf (r .name)) rows) (map (λ r. r .parent) rows) (map (λ r. r .start) rows) (map (λ r. r .size) rows)
+    (map (λ r. r .decoded) rows)
 
 -- the codes of the rows' names that pass are those of the names in the set
 abbrev pub PassesFor : (ℕ → Bool) → Names → List Row → Type 0
@@ -167,6 +168,7 @@ module _ (s : Types) (rows : List Row) (ok : T (wellFormed s rows)) where
         ∙ same-columns (cut-column (λ r. r .number) (λ x. x) m marks-size (λ r. r .number) (λ r. refl))
         (cut-column (λ r. codeOf (r .name)) (λ x. x) m marks-size (λ r. codeOf (r .name)) (λ r. refl)) (cut-column (λ r. r .parent) (rank m) m marks-size (λ r. r .parent) (λ r. refl))
         (cut-column (λ r. r .start) (λ x. x) m marks-size (λ r. r .start) (λ r. refl)) (cut-column (λ r. r .size) (λ x. x) m marks-size (λ r. r .size) (λ r. refl))
+        (cut-column (λ r. r .decoded) (λ x. x) m marks-size (λ r. r .decoded) (λ r. refl))
         ∙ ap columnsIn (sym cut-picked)
       where
         m : List ℕ

@@ -2,8 +2,8 @@
 use Rattle.library.proofs.host_select.Statement.{statement}
 use Rattle.library.proofs.host_select.Tie as tie
 
-abbrev called : tie.After-slice-known14 → tie.After-select-from
-called c = c .before .before .before .before .before .before .before .before .before .before .before .before .before .before
+abbrev called : tie.After-slice-known16 → tie.After-select-from
+called c = c .before .before .before .before .before .before .before .before .before .before .before .before .before .before .before .before
 
 pub host-select-spec : {M : Type 1} → statement M
 host-select-spec =
@@ -17,4 +17,5 @@ host-select-spec =
     (λ c. called c .select-from .kept .1 .1 .1 .1 .1 .1 .1 .1 .0)
     (λ c. called c .select-from .kept .1 .1 .1 .1 .1 .1 .1 .1 .1 .0)
     (λ c. called c .select-from .kept .1 .1 .1 .1 .1 .1 .1 .1 .1 .1 .0)
+    (λ c. called c .select-from .kept .1 .1 .1 .1 .1 .1 .1 .1 .1 .1 .1 .0)
     (λ c. called c .select-from .ensures))

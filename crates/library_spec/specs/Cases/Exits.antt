@@ -27,9 +27,9 @@ exitOf outputs (accepted a) = exit 0 0 (outputs (accepted a))
 exitOf outputs (refused f) = exit (numberOf (f .reason)) (f .place) (outputs (refused f))
 
 abbrev pub listsOf : Columns → List (List ℕ)
-listsOf c = c .numbers ∷ c .names ∷ c .parents ∷ c .starts ∷ c .lengths ∷ []
+listsOf c = c .numbers ∷ c .names ∷ c .parents ∷ c .starts ∷ c .lengths ∷ c .decoded ∷ []
 
--- a host function: how many rows, items and counts are answered, the five columns, items, counts
+-- a host function: how many rows, items and counts are answered, the six columns, items, counts
 abbrev pub hostOutputs : Lent → Outcome HostAnswer → List (List ℕ)
 hostOutputs l o =
     (resultOf o .rows ∷ resultOf o .items ∷ resultOf o .counts ∷ [])
@@ -43,13 +43,13 @@ hostExit l (refused f) = exit (resultOf (refused f) .number) (resultOf (refused 
 abbrev pub recordExit : ℕ → Outcome TextRecord → Exit
 recordExit limit o = exitOf (λ o. (recordAfter limit o .size ∷ []) ∷ recordAfter limit o .cells ∷ []) o
 
--- a table: how many rows, and the five columns
+-- a table: how many rows, and the six columns
 abbrev pub rowsExit : Sizes → Outcome (List Row) → Exit
 rowsExit z o = exitOf (λ o. (length (rowsAfter (λ rows. rows) o) ∷ []) ∷ listsOf (columnsAfter z (λ rows. rows) o)) o
 
 -- a table in row structs: how many rows, and each struct
 abbrev pub cellList : Cells → List ℕ
-cellList c = c .number ∷ c .name ∷ c .parent ∷ c .start ∷ c .size ∷ []
+cellList c = c .number ∷ c .name ∷ c .parent ∷ c .start ∷ c .size ∷ c .decoded ∷ []
 
 abbrev pub structsExit : ℕ → Outcome (List Row) → Exit
 structsExit n o = exitOf (λ o. (length (rowsAfter (λ rows. rows) o) ∷ []) ∷ map cellList (structsAfter n o)) o

@@ -1,4 +1,4 @@
--- The two host functions on S and J: their results, the five columns, items and counts at exit. Columns, items and counts are lent larger than
+-- The two host functions on S and J: their results, the six columns, items and counts at exit. Columns, items and counts are lent larger than
 -- the answers, so that the zeros show.
 use mathlib.Core.List.{List, [], _∷_, _++_}
 use Prim.Native.Nat.{ℕ}
@@ -28,6 +28,7 @@ rowsOfJ start answered items counts =
     ∷ (0 ∷ 0 ∷ 1 ∷ 2 ∷ 3 ∷ 4 ∷ 1 ∷ 0 ∷ 0 ∷ [])
     ∷ (0 ∷ 0 ∷ 0 ∷ 0 ∷ 0 ∷ start ∷ 0 ∷ 0 ∷ 0 ∷ [])
     ∷ (0 ∷ 0 ∷ 0 ∷ 0 ∷ 0 ∷ 2 ∷ 0 ∷ 0 ∷ 0 ∷ [])
+    ∷ (0 ∷ 0 ∷ 0 ∷ 0 ∷ 0 ∷ 2 ∷ 0 ∷ 0 ∷ 0 ∷ [])
     ∷ items ∷ counts ∷ []))
 
 -- nothing is answered, and every cell is 0
@@ -36,11 +37,12 @@ nothing number place l =
     leaves (exit number place
     (zeros 3
     ∷ zeros (l .columns .numbers) ∷ zeros (l .columns .names) ∷ zeros (l .columns .parents) ∷ zeros (l .columns .starts) ∷ zeros (l .columns .lengths)
+    ∷ zeros (l .columns .decoded)
     ∷ zeros (l .items) ∷ zeros (l .counts) ∷ []))
 
-abbrev pub sizes : ℕ → ℕ → ℕ → ℕ → ℕ → Lent
-sizes numbers names parents starts lengths =
-    record { columns = record { numbers = numbers; names = names; parents = parents; starts = starts; lengths = lengths }; items = 31; counts = 3 }
+abbrev pub sizes : ℕ → ℕ → ℕ → ℕ → ℕ → ℕ → Lent
+sizes numbers names parents starts lengths decoded =
+    record { columns = record { numbers = numbers; names = names; parents = parents; starts = starts; lengths = lengths; decoded = decoded }; items = 31; counts = 3 }
 
 -- a call that is refused
 abbrev pub refusedMaking : Text → Text → Text → Lent → ℕ → ℕ → Case
@@ -73,18 +75,19 @@ making =
     ∷ case (makes schemaS bundleT journalJ (lend 9 63 0)) (rowsOfJ 32 (7 ∷ 62 ∷ 0 ∷ []) (extractJ ++ zeros 1) [])
     -- just enough cells, and one too few for rows or for items
     ∷ case (makes schemaS bundleP (bytes "<scan/>") (lend 1 13 0))
-    (leaves (exit 0 0 ((1 ∷ 13 ∷ 0 ∷ []) ∷ zeros 1 ∷ zeros 1 ∷ zeros 1 ∷ zeros 1 ∷ zeros 1
+    (leaves (exit 0 0 ((1 ∷ 13 ∷ 0 ∷ []) ∷ zeros 1 ∷ zeros 1 ∷ zeros 1 ∷ zeros 1 ∷ zeros 1 ∷ zeros 1
     ∷ extractOfRoot ∷ [] ∷ [])))
     ∷ refusedMaking schemaS bundleP (bytes "<scan/>") (lend 0 13 0) 18 0
     ∷ refusedMaking schemaS bundleP (bytes "<scan/>") (lend 1 12 0) 18 0
     ∷ refusedMaking schemaS bundleP journalJ (lend 6 31 2) 18 0
     ∷ refusedMaking schemaS bundleP journalJ (lend 9 28 2) 18 0
     -- 1: columns of unequal length, before any text
-    ∷ refusedMaking [] [] [] (sizes 9 8 9 9 9) 1 0
-    ∷ refusedMaking schemaS bundleP journalJ (sizes 9 9 8 9 9) 1 0
-    ∷ refusedMaking schemaS bundleP journalJ (sizes 9 9 9 10 9) 1 0
-    ∷ refusedMaking schemaS bundleP journalJ (sizes 9 9 9 9 0) 1 0
-    ∷ refusedMaking schemaS bundleP journalJ (sizes 8 9 9 9 9) 1 0
+    ∷ refusedMaking [] [] [] (sizes 9 8 9 9 9 9) 1 0
+    ∷ refusedMaking schemaS bundleP journalJ (sizes 9 9 8 9 9 9) 1 0
+    ∷ refusedMaking schemaS bundleP journalJ (sizes 9 9 9 10 9 9) 1 0
+    ∷ refusedMaking schemaS bundleP journalJ (sizes 9 9 9 9 0 9) 1 0
+    ∷ refusedMaking schemaS bundleP journalJ (sizes 9 9 9 9 9 8) 1 0
+    ∷ refusedMaking schemaS bundleP journalJ (sizes 8 9 9 9 9 9) 1 0
     -- the texts in turn, the first that is refused
     ∷ refusedMaking [] undeclared misfit (lend 9 31 2) 2 0
     ∷ refusedMaking foreign undeclared misfit (lend 9 31 2) 3 6
@@ -104,19 +107,19 @@ selecting =
     ∷ case (selects schemaS bundleT 2 extractJ (lend 9 5 3)) (rowsOfJ 47 (7 ∷ 2 ∷ 1 ∷ []) (1 ∷ 2 ∷ 0 ∷ 0 ∷ 0 ∷ []) (2 ∷ 0 ∷ 0 ∷ []))
     -- nodes are given by their numbers: the tile 6 is the third row of the extract of rows 0, 1 and 6; a path that selects nothing counts 0
     ∷ case (selects schemaS (bytes "self::plate\nchild::plate/child::tile\n") 0 extractP (lend 4 2 2))
-    (leaves (exit 0 0 ((3 ∷ 1 ∷ 2 ∷ []) ∷ (0 ∷ 1 ∷ 6 ∷ 0 ∷ []) ∷ (0 ∷ 1 ∷ 3 ∷ 0 ∷ []) ∷ (0 ∷ 0 ∷ 1 ∷ 0 ∷ []) ∷ zeros 4 ∷ zeros 4 ∷ (6 ∷ 0 ∷ []) ∷ (0 ∷ 1 ∷ []) ∷ [])))
+    (leaves (exit 0 0 ((3 ∷ 1 ∷ 2 ∷ []) ∷ (0 ∷ 1 ∷ 6 ∷ 0 ∷ []) ∷ (0 ∷ 1 ∷ 3 ∷ 0 ∷ []) ∷ (0 ∷ 0 ∷ 1 ∷ 0 ∷ []) ∷ zeros 4 ∷ zeros 4 ∷ zeros 4 ∷ (6 ∷ 0 ∷ []) ∷ (0 ∷ 1 ∷ []) ∷ [])))
     -- "On an empty table nothing is selected."
     ∷ case (selects schemaS bundleT 0 noRows (lend 1 1 3))
-    (leaves (exit 0 0 ((0 ∷ 0 ∷ 2 ∷ []) ∷ zeros 1 ∷ zeros 1 ∷ zeros 1 ∷ zeros 1 ∷ zeros 1 ∷ zeros 1 ∷ zeros 3 ∷ [])))
+    (leaves (exit 0 0 ((0 ∷ 0 ∷ 2 ∷ []) ∷ zeros 1 ∷ zeros 1 ∷ zeros 1 ∷ zeros 1 ∷ zeros 1 ∷ zeros 1 ∷ zeros 1 ∷ zeros 3 ∷ [])))
     -- just enough cells, and one too few for rows, items or counts
     ∷ case (selects schemaS (bytes "self::scan\nself::plate\n") 0 extractOfRoot (lend 1 1 2))
-    (leaves (exit 0 0 ((1 ∷ 1 ∷ 2 ∷ []) ∷ zeros 1 ∷ zeros 1 ∷ zeros 1 ∷ zeros 1 ∷ zeros 1 ∷ zeros 1 ∷ (1 ∷ 0 ∷ []) ∷ [])))
+    (leaves (exit 0 0 ((1 ∷ 1 ∷ 2 ∷ []) ∷ zeros 1 ∷ zeros 1 ∷ zeros 1 ∷ zeros 1 ∷ zeros 1 ∷ zeros 1 ∷ zeros 1 ∷ (1 ∷ 0 ∷ []) ∷ [])))
     ∷ refusedSelecting schemaS bundleT 0 extractJ (lend 6 5 3) 18 0
     ∷ refusedSelecting schemaS bundleT 0 extractJ (lend 9 2 3) 18 0
     ∷ refusedSelecting schemaS bundleT 0 extractJ (lend 9 5 1) 18 0
     ∷ refusedSelecting schemaS bundleT 1 extractJ (lend 9 5 0) 18 0
     -- 1: columns of unequal length; a place past the bundle's paths, whatever the extract; one that no bundle has
-    ∷ refusedSelecting [] [] 0 [] (sizes 9 8 9 9 9) 1 0
+    ∷ refusedSelecting [] [] 0 [] (sizes 9 8 9 9 9 9) 1 0
     ∷ refusedSelecting schemaS bundleT 3 extractJ (lend 9 5 3) 1 0
     ∷ refusedSelecting schemaS bundleT 3 [] (lend 9 5 3) 1 0
     ∷ refusedSelecting schemaS bundleT 9 extractJ (lend 9 5 3) 1 0

@@ -8,7 +8,7 @@ use Rattle.listing.specs.Prints.{lent-room, taken}
 
 -- from a listing that is not refused back to the call that makes it
 abbrev made : tie.Else1 → tie.After-list-files
-made c = c .before .before .before .before .before .before .before .before
+made c = c .before .before .before .before .before .before .before .before .before
 
 array-share-prefix-numbers : tie.Need-array-share-prefix-numbers
 array-share-prefix-numbers c =
@@ -50,13 +50,13 @@ array-share-prefix-firsts : tie.Need-array-share-prefix-firsts
 array-share-prefix-firsts c =
     let else1 = c .before .before .before in
     let call = made else1 in
-    lent-room _ _ _ (call .list-files .ensures .fits (else1 .if1 .left) .few) (call .list-files .kept .1 .1 .1 .1 .1 .1 .1 .1 .0) (length-replicate {A = ℕ} 4096 0)
+    lent-room _ _ _ (call .list-files .ensures .fits (else1 .if1 .left) .few) (call .list-files .kept .1 .1 .1 .1 .1 .1 .1 .1 .1 .0) (length-replicate {A = ℕ} 4096 0)
 
 slice-aggregate-print-rows-4 : tie.Need-slice-aggregate-print-rows-4
 slice-aggregate-print-rows-4 c =
     let else1 = c .before .before .before .before in
     let call = made else1 in
-    taken _ _ (lent-room _ _ _ (call .list-files .ensures .fits (else1 .if1 .left) .few) (call .list-files .kept .1 .1 .1 .1 .1 .1 .1 .1 .0) (length-replicate {A = ℕ} 4096 0))
+    taken _ _ (lent-room _ _ _ (call .list-files .ensures .fits (else1 .if1 .left) .few) (call .list-files .kept .1 .1 .1 .1 .1 .1 .1 .1 .1 .0) (length-replicate {A = ℕ} 4096 0))
 
 print-rows-requires : tie.Need-print-rows-requires
 print-rows-requires c κs =
@@ -65,13 +65,14 @@ print-rows-requires c κs =
     record {
       fit = call .list-files .ensures .fits (else1 .if1 .left);
       numbered = sym (taken _ _ (lent-room _ _ _ (call .list-files .ensures .fits (else1 .if1 .left) .few) (call .list-files .kept .1 .1 .1 .0) (length-replicate {A = ℕ} 4096 0)));
-      noted = sym (taken _ _ (lent-room _ _ _ (call .list-files .ensures .fits (else1 .if1 .left) .few) (call .list-files .kept .1 .1 .1 .1 .1 .1 .1 .1 .0) (length-replicate {A = ℕ} 4096 0)));
+      noted = sym (taken _ _ (lent-room _ _ _ (call .list-files .ensures .fits (else1 .if1 .left) .few) (call .list-files .kept .1 .1 .1 .1 .1 .1 .1 .1 .1 .0) (length-replicate {A = ℕ} 4096 0)));
     }
 
 pub print-listing-spec : {M : Type 1} → statement M
 print-listing-spec =
     tie.close
     (tie.spec
+    (λ c. sym (length-replicate {A = ℕ} 4096 0))
     (λ c. sym (length-replicate {A = ℕ} 4096 0))
     (λ c. sym (length-replicate {A = ℕ} 4096 0))
     (λ c. sym (length-replicate {A = ℕ} 4096 0))

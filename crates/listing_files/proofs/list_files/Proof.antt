@@ -5,26 +5,26 @@ use borrow.Author.Needs.{needs}
 use lib.Seq.{take-at}
 use Rattle.listing_files.proofs.list_files.Statement.{statement}
 use Rattle.listing_files.proofs.list_files.Tie as tie
-use Rattle.listing_files.specs.contents.FileLaws.{texts-refused-lists, journal-refused-lists, rows-rooms, firsts-room, rows-asked, rows-list, taken-size}
+use Rattle.listing_files.specs.contents.FileLaws.{texts-refused-lists, journal-refused-lists, rows-rooms, firsts-room, rows-asked, rows-texts, rows-list, taken-size}
 
 -- the states that answers go back to
 abbrev start-before : tie.After-judge-texts → tie.Start
-start-before c = c .before .before .before .before .before .before .before .before .before .before
+start-before c = c .before .before .before .before .before .before .before .before .before .before .before
 
 abbrev texts-before : tie.Else1 → tie.After-judge-texts
 texts-before c = c .before .before .before
 
 abbrev accepted-before : tie.After-read-compiled → tie.Else1
-accepted-before c = c .before .before .before .before .before .before .before
+accepted-before c = c .before .before .before .before .before .before .before .before
 
 abbrev read-before : tie.After-struct-known2 → tie.After-read-compiled
-read-before c = c .before .before .before .before .before .before .before .before .before .before .before
+read-before c = c .before .before .before .before .before .before .before .before .before .before .before .before .before
 
 abbrev lent-before : tie.After-list-rows-arg5 → tie.Else2
 lent-before c = c .before .before .before .before .before .before
 
-abbrev rows-before : tie.After-slice-known12 → tie.Else2
-rows-before c = lent-before (c .before .before .before .before .before .before)
+abbrev rows-before : tie.After-slice-known14 → tie.Else2
+rows-before c = lent-before (c .before .before .before .before .before .before .before .before .before)
 
 returns : tie.Need-returns
 returns c =
@@ -33,7 +33,7 @@ returns c =
 
 read-compiled-requires : tie.Need-read-compiled-requires
 read-compiled-requires c κs =
-    let judge = texts-before (c .before .before .before .before .before .before) in
+    let judge = texts-before (c .before .before .before .before .before .before .before) in
     (judge .judge-texts .ensures .compiled, omega arith, start-before judge .pre .equal)
 
 returns-2 : tie.Need-returns-2
@@ -75,13 +75,13 @@ slice-aggregate-list-rows-2 c =
     let judge = texts-before accepted in
     taken-size _ _ (rows-rooms _ _ _ _ (judge .judge-texts .ensures) (accepted .if1 .left) _ _ _ (start-before judge .pre) _ (read .read-compiled .ensures) (else2 .if2 .left) .parents)
 
-slice-relend-prefix-list-rows : tie.Need-slice-relend-prefix-list-rows
-slice-relend-prefix-list-rows c =
+slice-reshare-prefix-list-rows-3 : tie.Need-slice-reshare-prefix-list-rows-3
+slice-reshare-prefix-list-rows-3 c =
     let else2 = lent-before (c .before .before) in
     let read = read-before (else2 .before) in
     let accepted = accepted-before read in
     let judge = texts-before accepted in
-    firsts-room _ _ _ _ (judge .judge-texts .ensures) (accepted .if1 .left) _ _ _ (start-before judge .pre) _ (read .read-compiled .ensures) (else2 .if2 .left)
+    rows-rooms _ _ _ _ (judge .judge-texts .ensures) (accepted .if1 .left) _ _ _ (start-before judge .pre) _ (read .read-compiled .ensures) (else2 .if2 .left) .starts
 
 slice-aggregate-list-rows-3 : tie.Need-slice-aggregate-list-rows-3
 slice-aggregate-list-rows-3 c =
@@ -89,17 +89,67 @@ slice-aggregate-list-rows-3 c =
     let read = read-before (else2 .before) in
     let accepted = accepted-before read in
     let judge = texts-before accepted in
-    taken-size _ _ (firsts-room _ _ _ _ (judge .judge-texts .ensures) (accepted .if1 .left) _ _ _ (start-before judge .pre) _ (read .read-compiled .ensures) (else2 .if2 .left))
+    taken-size _ _ (rows-rooms _ _ _ _ (judge .judge-texts .ensures) (accepted .if1 .left) _ _ _ (start-before judge .pre) _ (read .read-compiled .ensures) (else2 .if2 .left) .starts)
 
-list-rows-requires : tie.Need-list-rows-requires
-list-rows-requires c κs =
+slice-reshare-prefix-list-rows-4 : tie.Need-slice-reshare-prefix-list-rows-4
+slice-reshare-prefix-list-rows-4 c =
     let else2 = lent-before (c .before .before .before) in
     let read = read-before (else2 .before) in
     let accepted = accepted-before read in
     let judge = texts-before accepted in
+    rows-rooms _ _ _ _ (judge .judge-texts .ensures) (accepted .if1 .left) _ _ _ (start-before judge .pre) _ (read .read-compiled .ensures) (else2 .if2 .left) .lengths
+
+slice-aggregate-list-rows-4 : tie.Need-slice-aggregate-list-rows-4
+slice-aggregate-list-rows-4 c =
+    let else2 = lent-before (c .before .before .before .before) in
+    let read = read-before (else2 .before) in
+    let accepted = accepted-before read in
+    let judge = texts-before accepted in
+    taken-size _ _ (rows-rooms _ _ _ _ (judge .judge-texts .ensures) (accepted .if1 .left) _ _ _ (start-before judge .pre) _ (read .read-compiled .ensures) (else2 .if2 .left) .lengths)
+
+slice-reshare-prefix-list-rows-5 : tie.Need-slice-reshare-prefix-list-rows-5
+slice-reshare-prefix-list-rows-5 c =
+    let else2 = lent-before (c .before .before .before .before) in
+    let read = read-before (else2 .before) in
+    let accepted = accepted-before read in
+    let judge = texts-before accepted in
+    rows-rooms _ _ _ _ (judge .judge-texts .ensures) (accepted .if1 .left) _ _ _ (start-before judge .pre) _ (read .read-compiled .ensures) (else2 .if2 .left) .decoded
+
+slice-aggregate-list-rows-5 : tie.Need-slice-aggregate-list-rows-5
+slice-aggregate-list-rows-5 c =
+    let else2 = lent-before (c .before .before .before .before .before) in
+    let read = read-before (else2 .before) in
+    let accepted = accepted-before read in
+    let judge = texts-before accepted in
+    taken-size _ _ (rows-rooms _ _ _ _ (judge .judge-texts .ensures) (accepted .if1 .left) _ _ _ (start-before judge .pre) _ (read .read-compiled .ensures) (else2 .if2 .left) .decoded)
+
+slice-relend-prefix-list-rows : tie.Need-slice-relend-prefix-list-rows
+slice-relend-prefix-list-rows c =
+    let else2 = lent-before (c .before .before .before .before .before) in
+    let read = read-before (else2 .before) in
+    let accepted = accepted-before read in
+    let judge = texts-before accepted in
+    firsts-room _ _ _ _ (judge .judge-texts .ensures) (accepted .if1 .left) _ _ _ (start-before judge .pre) _ (read .read-compiled .ensures) (else2 .if2 .left)
+
+slice-aggregate-list-rows-6 : tie.Need-slice-aggregate-list-rows-6
+slice-aggregate-list-rows-6 c =
+    let else2 = lent-before (c .before .before .before .before .before .before) in
+    let read = read-before (else2 .before) in
+    let accepted = accepted-before read in
+    let judge = texts-before accepted in
+    taken-size _ _ (firsts-room _ _ _ _ (judge .judge-texts .ensures) (accepted .if1 .left) _ _ _ (start-before judge .pre) _ (read .read-compiled .ensures) (else2 .if2 .left))
+
+list-rows-requires : tie.Need-list-rows-requires
+list-rows-requires c κs =
+    let else2 = lent-before (c .before .before .before .before .before .before) in
+    let read = read-before (else2 .before) in
+    let accepted = accepted-before read in
+    let judge = texts-before accepted in
     let lent = start-before judge .pre in
-    let room = firsts-room _ _ _ _ (judge .judge-texts .ensures) (accepted .if1 .left) _ _ _ lent _ (read .read-compiled .ensures) (else2 .if2 .left) in
-    rows-asked _ _ _ _ (judge .judge-texts .ensures) (accepted .if1 .left) _ _ _ lent _ (read .read-compiled .ensures) (else2 .if2 .left) _ (sym (taken-size _ _ room))
+    let room = firsts-room _ _ _ _ (judge .judge-texts .ensures) (accepted .if1 .left) _ _ _ lent _ (read .read-compiled .ensures) (else2 .if2 .left) in (
+      rows-asked _ _ _ _ (judge .judge-texts .ensures) (accepted .if1 .left) _ _ _ lent _ (read .read-compiled .ensures) (else2 .if2 .left) _ (sym (taken-size _ _ room)),
+      rows-texts _ _ _ _ (judge .judge-texts .ensures) (accepted .if1 .left) _ _ _ lent _ (read .read-compiled .ensures) (else2 .if2 .left),
+    )
 
 returns-3 : tie.Need-returns-3
 returns-3 c =
@@ -127,18 +177,26 @@ list-files-spec =
     (λ c. read-before (c .before .before) .read-compiled .kept .1 .1 .1 .1 .1 .1 .0)
     (λ c. read-before (c .before .before) .read-compiled .kept .1 .1 .1 .1 .1 .1 .1 .0)
     (λ c. read-before (c .before .before) .read-compiled .kept .1 .1 .1 .1 .1 .1 .1 .1 .0)
+    (λ c. read-before (c .before .before) .read-compiled .kept .1 .1 .1 .1 .1 .1 .1 .1 .1 .0)
     returns-2
     slice-reshare-prefix-list-rows
     slice-aggregate-list-rows
     slice-reshare-prefix-list-rows-2
     slice-aggregate-list-rows-2
-    slice-relend-prefix-list-rows
+    slice-reshare-prefix-list-rows-3
     slice-aggregate-list-rows-3
+    slice-reshare-prefix-list-rows-4
+    slice-aggregate-list-rows-4
+    slice-reshare-prefix-list-rows-5
+    slice-aggregate-list-rows-5
+    slice-relend-prefix-list-rows
+    slice-aggregate-list-rows-6
     list-rows-requires
     (λ c. read-before (rows-before c .before) .read-compiled .kept .1 .1 .1 .1 .0)
     (λ c. read-before (rows-before c .before) .read-compiled .kept .1 .1 .1 .1 .1 .0)
     (λ c. read-before (rows-before c .before) .read-compiled .kept .1 .1 .1 .1 .1 .1 .0)
     (λ c. read-before (rows-before c .before) .read-compiled .kept .1 .1 .1 .1 .1 .1 .1 .0)
     (λ c. read-before (rows-before c .before) .read-compiled .kept .1 .1 .1 .1 .1 .1 .1 .1 .0)
+    (λ c. read-before (rows-before c .before) .read-compiled .kept .1 .1 .1 .1 .1 .1 .1 .1 .1 .0)
     (λ c. search needs)
     returns-3)

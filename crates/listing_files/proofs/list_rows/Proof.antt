@@ -8,7 +8,7 @@ use Rattle.listing_files.specs.contents.Files.{names-all}
 
 -- the states that answers go back to
 abbrev start-before : tie.After-names → tie.Start
-start-before c = c .before .before .before .before .before
+start-before c = c .before .before .before .before .before .before .before .before .before
 
 abbrev noted-before : tie.After-names2 → tie.After-note-paths
 noted-before c = c .before .before .before .before .before
@@ -19,23 +19,24 @@ names-before c = c .before .before .before
 needed-under-requires : tie.Need-needed-under-requires
 needed-under-requires c κs =
     let start = start-before c in
-    (start .pre .shaped, compiled-few _ _ (start .pre .compiled))
+    (start .pre .0 .shaped, compiled-few _ _ (start .pre .0 .compiled))
 
 kept-count-requires : tie.Need-kept-count-requires
 kept-count-requires c κs =
     let start = start-before (c .before) in
-    record { columns = start .pre .kept; listed = start .pre .listed }
+    record { columns = start .pre .0 .kept; listed = start .pre .0 .listed }
 
 note-paths-requires : tie.Need-note-paths-requires
 note-paths-requires c κs =
     let start = start-before (names-before c) in
-    record { shaped = start .pre .shaped; columns = start .pre .columns; cells = start .pre .cells; listed = start .pre .listed }
+    let pre = start .pre .0 in
+    (record { shaped = pre .shaped; columns = pre .columns; cells = pre .cells; listed = pre .listed }, start .pre .1)
 
 slice-aggregate-name-sizes : tie.Need-slice-aggregate-name-sizes
-slice-aggregate-name-sizes c = sym (names-all _ _ (start-before (names-before (noted-before c .before)) .pre .compiled))
+slice-aggregate-name-sizes c = sym (names-all _ _ (start-before (names-before (noted-before c .before)) .pre .0 .compiled))
 
 name-sizes-requires : tie.Need-name-sizes-requires
-name-sizes-requires c κs = names-all _ _ (start-before (names-before (noted-before (c .before) .before)) .pre .compiled)
+name-sizes-requires c κs = names-all _ _ (start-before (names-before (noted-before (c .before) .before)) .pre .0 .compiled)
 
 returns : tie.Need-returns
 returns c =

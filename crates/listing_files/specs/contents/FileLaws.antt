@@ -8,6 +8,7 @@ use borrow.Author.Tests.{eq-eqb, ne-eqb, le-ltb}
 use lib.Dec.{T, eqb}
 use lib.ListN.{length, take, length-map}
 use lib.Seq.{length-take-le}
+use Rattle.axis_passes.specs.alternative_steps.Texts.{TextColumns}
 use Rattle.cells.specs.declared.verdicts.Verdict.{Verdict}
 use Rattle.cells.specs.lent.Columns.{firstCells}
 use Rattle.cells.specs.row_sets.Columns.{picked}
@@ -48,6 +49,7 @@ use Rattle.schema_spec.specs.Records.{schemaIn}
 use Rattle.schema_spec.specs.Schemas.{Schema}
 use Rattle.schema_spec.specs.Types.{typesOf}
 use Rattle.selection.specs.first_paths.Firsts.{FirstPaths}
+use Rattle.selection.specs.table.Tables.{taken-texts}
 use Rattle.table_laws.specs.Codes.{NamesCoded}
 use Rattle.table_laws.specs.Columns.{codes-map, parentsOf, numbersOf, codesOf, tested-columns}
 use Rattle.table_laws.specs.Parents.{NodeAt, nodes-placed}
@@ -151,6 +153,9 @@ module _ (schema bundle journal : List ℕ) where
 
           pub firsts-room : v .size ≤ length firsts
           firsts-room = omega (arith, rows-listed, lent .cells)
+
+          pub rows-texts : TextColumns (take (v .size) (d .parents)) (take (v .size) (d .starts)) (take (v .size) (d .lengths)) (take (v .size) (d .decoded)) journal
+          rows-texts = let r = rows-rooms in taken-texts (v .size) d journal (r .parents) (r .starts) (r .lengths) (r .decoded)
 
           pub rows-asked : (cells : List ℕ) → length cells ≡ v .size
               → RowsAsked schema (t .schema) (t .paths) (take (v .size) (d .names)) (take (v .size) (d .parents)) cells

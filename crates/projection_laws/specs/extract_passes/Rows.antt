@@ -53,6 +53,16 @@ element-parts true true false d = refl
 element-parts true true true true = refl
 element-parts true true true false = refl
 
+-- a text with two equal lengths: what is asked of the decoded length is said of the raw one
+equal-lengths-fit : (m n x : Bool) → T x → (m && (n && (m && x))) ≡ (m && n)
+equal-lengths-fit false n x t = refl
+equal-lengths-fit true false x t = refl
+equal-lengths-fit true true x t = true-of x t
+
+and-passed : (u x : Bool) → T x → (u && x) ≡ u
+and-passed false x t = refl
+and-passed true x t = true-of x t
+
 text-parts : (a b h w t m n z : Bool) → (T h → w ≡ t)
     → ((a && (b && (true && (h && (true && (not w && (m && n))))))) && (true && (true && z))) ≡ ((a && b) && (h && (not t && (m && (n && z)))))
 text-parts false b h w t m n z e = refl
@@ -151,7 +161,10 @@ module _ (s : Types) (apart : Apart s) (bs : List ℕ) (before : List Node) (pre
       let n = leb size maxTextBytes in
       let z = allOf (λ x. not (isForeign x)) (part start size bs) in
       let long : length (part start size bs) ≡ size = omega (arith, length-take size (drop start bs), length-drop start bs) in
-      ap₂ (λ (k : ℕ) (o : Bool). ((ltb k number && (b && (o && (s .holds (nameOf (found .node)) (text e) && (leb (depthOf (found .node)) maxDepth && (not (anyOf (twin number v) before) && (m && n))))))) && (leb start (length bs) && (eqb (length (part start size bs)) size && z))))
+      let inside = leb start (length bs) && (eqb (length (part start size bs)) size && z) in
+      ap₂ (λ (cells ranges : Bool). ((ltb (nodeNumber previous) number && (b && ((same (found .node) previous || isAbove (found .node) previous) && (s .holds (nameOf (found .node)) (text e) && (leb (depthOf (found .node)) maxDepth && (not (anyOf (twin number v) before) && cells)))))) && ranges))
+      (equal-lengths-fit m n (leb size size) (le→leb size size (omega arith))) (and-passed inside (eqb size size) (eqb-refl size))
+      ∙ ap₂ (λ (k : ℕ) (o : Bool). ((ltb k number && (b && (o && (s .holds (nameOf (found .node)) (text e) && (leb (depthOf (found .node)) maxDepth && (not (anyOf (twin number v) before) && (m && n))))))) && (leb start (length bs) && (eqb (length (part start size bs)) size && z))))
       (c .numbered) (true-of (same (found .node) previous || isAbove (found .node) previous) (found .onLine))
       ∙ ap₂ (λ (x : Name) (d : ℕ). ((a && (b && (true && (s .holds x (text e) && (leb d maxDepth && (not (anyOf (twin number v) before) && (m && n))))))) && (leb start (length bs) && (eqb (length (part start size bs)) size && z))))
       (found .name) (levels-depth (found .opens))

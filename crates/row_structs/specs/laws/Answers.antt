@@ -46,7 +46,7 @@ cellCount = 65536
 
 -- the sizes of the first cells of columns of zeros
 abbrev pub partSizes : ℕ → Sizes
-partSizes k = sizesOf (columns (zerosIn cellCount k) (zerosIn cellCount k) (zerosIn cellCount k) (zerosIn cellCount k) (zerosIn cellCount k))
+partSizes k = sizesOf (columns (zerosIn cellCount k) (zerosIn cellCount k) (zerosIn cellCount k) (zerosIn cellCount k) (zerosIn cellCount k) (zerosIn cellCount k))
 
 -- the first cells of columns of zeros written
 abbrev pub front : ℕ → List ℕ → List ℕ
@@ -126,7 +126,7 @@ part-sizes k n e = ap allOfSize (sym (cell-part k n e))
 -- ---- rows in columns
 module _ (rows : List Row) where
   abbrev bare : Columns
-  bare = columns (map (λ r. r .number) rows) (map (λ r. codeOf (r .name)) rows) (map (λ r. r .parent) rows) (map (λ r. r .start) rows) (map (λ r. r .size) rows)
+  bare = columns (map (λ r. r .number) rows) (map (λ r. codeOf (r .name)) rows) (map (λ r. r .parent) rows) (map (λ r. r .start) rows) (map (λ r. r .size) rows) (map (λ r. r .decoded) rows)
 
   mapped : (f : Row → ℕ) (n : ℕ) → length rows ≤ n → length (map f rows) ≤ n
   mapped f n l = omega (arith, length-map rows f)
@@ -139,6 +139,7 @@ module _ (rows : List Row) where
         padded-at n (map (λ r. r .parent) rows) i (mapped (λ r. r .parent) n l),
         padded-at n (map (λ r. r .start) rows) i (mapped (λ r. r .start) n l),
         padded-at n (map (λ r. r .size) rows) i (mapped (λ r. r .size) n l),
+        padded-at n (map (λ r. r .decoded) rows) i (mapped (λ r. r .decoded) n l),
       )
 
   past-bare : (i : ℕ) → length rows ≤ i → cellsAt bare i ≡ emptyCells
@@ -149,6 +150,7 @@ module _ (rows : List Row) where
         List·getD-eq-default (map (λ r. r .parent) rows) 0 (mapped (λ r. r .parent) i l),
         List·getD-eq-default (map (λ r. r .start) rows) 0 (mapped (λ r. r .start) i l),
         List·getD-eq-default (map (λ r. r .size) rows) 0 (mapped (λ r. r .size) i l),
+        List·getD-eq-default (map (λ r. r .decoded) rows) 0 (mapped (λ r. r .decoded) i l),
       )
 
 from-same : (c d : Columns) → ((i : ℕ) → cellsAt c i ≡ cellsAt d i) → (i n : ℕ) → cellsFrom c i n ≡ cellsFrom d i n
@@ -170,23 +172,23 @@ module _ (o : Outcome (List Row)) (n : ℕ) (f : Fitting o n) (v : Verdict) (ans
       }
 
   -- in the first cells, as many as there are structs and rows in a table
-  pub in-front : (k : ℕ) → k ≡ cellOf n → (numbers names parents starts lengths : List ℕ) → columns numbers names parents starts lengths ≡ columnsAfter (allOfSize k) (λ rows. rows) o
+  pub in-front : (k : ℕ) → k ≡ cellOf n → (numbers names parents starts lengths decoded : List ℕ) → columns numbers names parents starts lengths decoded ≡ columnsAfter (allOfSize k) (λ rows. rows) o
       → AnsweredFor o n
-      (record { verdict = v; columns = record { numbers = front k numbers; names = front k names; parents = front k parents; starts = front k starts; lengths = front k lengths } })
+      (record { verdict = v; columns = record { numbers = front k numbers; names = front k names; parents = front k parents; starts = front k starts; lengths = front k lengths; decoded = front k decoded } })
   unfolding columnsAfter
-  in-front k s numbers names parents starts lengths e =
+  in-front k s numbers names parents starts lengths decoded e =
       let rows = rowsIn o in
       let l : length rows ≤ k = subst (λ (x : ℕ). length rows ≤ x) (sym s) (cell-room n (length rows) (f .room) (f .few)) in
       let h : k ≤ cellCount = omega (arith, cell-low n) in
       let at : (g : Row → ℕ) → front k (padded k (map g rows)) ≡ padded cellCount (map g rows) = λ g. padded-front k cellCount (map g rows) (mapped rows g k l) h in
       in-cells cellCount (omega arith) _
-      (ap (λ (x : Columns). columns (front k (x .numbers)) (front k (x .names)) (front k (x .parents)) (front k (x .starts)) (front k (x .lengths))) e
-      ∙ same-columns (at (λ r. r .number)) (at (λ r. codeOf (r .name))) (at (λ r. r .parent)) (at (λ r. r .start)) (at (λ r. r .size)))
+      (ap (λ (x : Columns). columns (front k (x .numbers)) (front k (x .names)) (front k (x .parents)) (front k (x .starts)) (front k (x .lengths)) (front k (x .decoded))) e
+      ∙ same-columns (at (λ r. r .number)) (at (λ r. codeOf (r .name))) (at (λ r. r .parent)) (at (λ r. r .start)) (at (λ r. r .size)) (at (λ r. r .decoded)))
 
 -- refusal 1: zeros alone
 pub in-zeros : (n : ℕ) (v : Verdict) → v ≡ refusedBy 1 0
     → AnsweredFor (refused (at badRecord 0)) n
-    (record { verdict = v; columns = record { numbers = zeros cellCount; names = zeros cellCount; parents = zeros cellCount; starts = zeros cellCount; lengths = zeros cellCount } })
+    (record { verdict = v; columns = record { numbers = zeros cellCount; names = zeros cellCount; parents = zeros cellCount; starts = zeros cellCount; lengths = zeros cellCount; decoded = zeros cellCount } })
 in-zeros n v e =
     let clear = sym (padded-zeros cellCount) in
-    in-cells (refused (at badRecord 0)) n (record { room = omega arith; few = omega arith }) v e cellCount (omega arith) _ (same-columns clear clear clear clear clear)
+    in-cells (refused (at badRecord 0)) n (record { room = omega arith; few = omega arith }) v e cellCount (omega arith) _ (same-columns clear clear clear clear clear clear)

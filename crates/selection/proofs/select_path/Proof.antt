@@ -7,7 +7,7 @@ use Rattle.selection.specs.Steps.{path-steps, path-marked}
 
 -- the states that answers go back to
 abbrev start-before : tie.After-slice-known4 → tie.Start
-start-before c = c .before .before .before .before .before .before
+start-before c = c .before .before .before .before .before .before .before .before .before .before
 
 abbrev start-before-2 : tie.After-start → tie.Start
 start-before-2 c = start-before (c .before)
@@ -22,41 +22,41 @@ abbrev steps-from-root-before : tie.After-slice-known8 → tie.After-steps-from-
 steps-from-root-before c = c .before .before .before .before .before .before .before .before
 
 element-copy-out-start : tie.Need-element-copy-out-start
-element-copy-out-start c = omega (arith, (start-before c) .pre .ranges .inside)
+element-copy-out-start c = omega (arith, (start-before c) .pre .0 .ranges .inside)
 
 cast-start : tie.Need-cast-start
 cast-start c =
     let start = start-before-2 c in
-    omega (arith, start .pre .ranges .paths-in (start .args .i))
+    omega (arith, start .pre .0 .ranges .paths-in (start .args .i))
 
 add-range-size : tie.Need-add-range-size
-add-range-size c = omega (arith, (start-before-2 c) .pre .ranges .inside)
+add-range-size c = omega (arith, (start-before-2 c) .pre .0 .ranges .inside)
 
 element-copy-out-range-size : tie.Need-element-copy-out-range-size
-element-copy-out-range-size c = omega (arith, (start-before-2 c) .pre .ranges .inside)
+element-copy-out-range-size c = omega (arith, (start-before-2 c) .pre .0 .ranges .inside)
 
 cast-range-size : tie.Need-cast-range-size
 cast-range-size c =
     let start = start-before-2 (c .before) in
-    omega (arith, start .pre .ranges .paths-in (start .args .i + 1))
+    omega (arith, start .pre .0 .ranges .paths-in (start .args .i + 1))
 
 cast-steps-from-root : tie.Need-cast-steps-from-root
 cast-steps-from-root c =
     let start = start-before-3 c in
-    omega (arith, start .pre .ranges .paths-in (start .args .i))
+    omega (arith, start .pre .0 .ranges .paths-in (start .args .i))
 
 steps-from-root-requires : tie.Need-steps-from-root-requires
 steps-from-root-requires c κs =
     let after-range-size = range-size-before c in
     let start = start-before-3 after-range-size in
-    path-steps (start .args .axes .now) (start .args .tests .now) _ _ _ _ _ _ _ _ _ (start .pre) _ (after-range-size .range-size .ensures)
+    (path-steps (start .args .axes .now) (start .args .tests .now) _ _ _ _ _ _ _ _ _ (start .pre .0) _ (after-range-size .range-size .ensures), start .pre .1)
 
 returns : tie.Need-returns
 returns c =
     let after-steps-from-root = steps-from-root-before c in
     let after-range-size = range-size-before (after-steps-from-root .before) in
     let start = start-before-3 after-range-size in
-    path-marked (start .args .axes .now) (start .args .tests .now) _ _ _ _ _ _ _ _ _ (start .pre) _ _ (after-range-size .range-size .ensures)
+    path-marked (start .args .axes .now) (start .args .tests .now) _ _ _ _ _ _ _ _ _ (start .pre .0) _ _ (after-range-size .range-size .ensures)
     (after-steps-from-root .steps-from-root .ensures)
 
 pub select-path-spec : {M : Type 1} → statement M

@@ -8,15 +8,15 @@ use Rattle.selection.proofs.steps_from.Tie as tie
 use Rattle.selection.specs.Steps.{StepsSoFar, steps-begun, steps-pass, steps-next, steps-all, steps-ended}
 
 abbrev Inv-loop : tie.InvT-loop
-Inv-loop parents codes axes tests conditions first size marks₀ held₀ steps₀ next₀ end k₀ marks held steps next k =
+Inv-loop parents codes starts lengths decoded lent axes tests conditions first size marks₀ held₀ steps₀ next₀ end k₀ marks held steps next k =
     StepsSoFar parents codes axes tests conditions first size marks₀ k marks held steps next
 
 abbrev μ-loop : tie.MeasureT-loop
-μ-loop parents codes axes tests conditions first size marks₀ held₀ steps₀ next₀ end k₀ marks held steps next k = first + size - k
+μ-loop parents codes starts lengths decoded lent axes tests conditions first size marks₀ held₀ steps₀ next₀ end k₀ marks held steps next k = first + size - k
 
 -- the states that answers go back to
 abbrev start-before : tie.After-slice-known4 Inv-loop μ-loop → tie.Start Inv-loop μ-loop
-start-before c = c .before .before .before .before .before .before
+start-before c = c .before .before .before .before .before .before .before .before .before .before
 
 abbrev start-before-2 : tie.At-loop Inv-loop μ-loop → tie.Start Inv-loop μ-loop
 start-before-2 c = start-before (c .before)
@@ -31,10 +31,10 @@ abbrev loop-before-2 : tie.After-step Inv-loop μ-loop → tie.At-loop Inv-loop 
 loop-before-2 c = loop-before (c .before)
 
 add-end : tie.Need-add-end Inv-loop μ-loop
-add-end c = omega (arith, (start-before c) .pre .inside)
+add-end c = omega (arith, (start-before c) .pre .0 .inside)
 
 loop-holds : tie.Need-loop-holds Inv-loop μ-loop
-loop-holds c = steps-begun _ _ _ _ _ _ _ _ _ _ _ ((start-before c) .pre)
+loop-holds c = steps-begun _ _ _ _ _ _ _ _ _ _ _ ((start-before c) .pre .0)
 
 returns : tie.Need-returns Inv-loop μ-loop
 returns c =
@@ -46,7 +46,8 @@ step-requires : tie.Need-step-requires Inv-loop μ-loop
 step-requires c κs =
     let turn = loop-before c in
     let at = turn .loop in
-    steps-pass _ _ _ _ _ _ _ _ (at .k) (at .marks) (at .held) (at .steps) (at .next) (at .inv) _ _ _ ((start-before-2 turn) .pre) (omega arith)
+    let start = start-before-2 turn in
+    (steps-pass _ _ _ _ _ _ _ _ (at .k) (at .marks) (at .held) (at .steps) (at .next) (at .inv) _ _ _ (start .pre .0) (omega arith), start .pre .1)
 
 loop-again : tie.Need-loop-again Inv-loop μ-loop
 loop-again c =

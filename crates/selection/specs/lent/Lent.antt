@@ -9,6 +9,7 @@ use borrow.Author.Tests.{le-leb, lt-leb}
 use lib.Dec.{T, leb}
 use lib.ListN.{length, take}
 use denote.Ref.{now}
+use Rattle.axis_passes.specs.alternative_steps.Texts.{TextColumns}
 use Rattle.cells.specs.lent.Ends.{Slice}
 use Rattle.compiled_paths.specs.Paths.{pathsIn}
 use Rattle.compiled_paths.specs.declared.CompiledPaths.{CompiledPaths}
@@ -22,7 +23,7 @@ use Rattle.schema_spec.specs.Schemas.{Schema}
 use Rattle.schema_spec.specs.Types.{typesOf}
 use Rattle.selection.specs.answers.Answers.{AnsweredSelections, RefusedBy, refused-as, AnsweredCells}
 use Rattle.selection.specs.declared.answers.Selected.{Selected}
-use Rattle.selection.specs.table.Tables.{RowsIn, rowsSelected, paths-count}
+use Rattle.selection.specs.table.Tables.{RowsIn, rowsSelected, paths-count, taken-texts}
 use Rattle.table_laws.specs.Columns.{TestedColumns}
 use Rattle.table_laws.specs.passes.Codes.{HeldWords}
 use Rattle.table_spec.specs.Rows.{Row}
@@ -43,6 +44,10 @@ lentSelected s ps place table lent items counts =
 -- a call that selects so on a lent table beside a lent text
 abbrev pub SelectsLent : Schema → List (LocationPath ℕ) → ℕ → LentTable → Slice → Slice → Slice → Selected → Type 0
 SelectsLent s ps place table lent items counts r = AnsweredCells (lentSelected s ps place table (now (lent .entry))) r items counts
+
+-- the same under each schema that the words belong to
+abbrev pub SelectsUnder : List ℕ → List (LocationPath ℕ) → ℕ → LentTable → Slice → Slice → Slice → Selected → Type 0
+SelectsUnder words ps place table lent items counts r = (s : Schema) → HeldWords (typesOf s) words → SelectsLent s ps place table lent items counts r
 
 -- the paths of a bundle's text under a schema's, both lent
 abbrev pub entryBundle : Slice → Slice → List (LocationPath ℕ)
@@ -97,6 +102,9 @@ module _ (words lent : List ℕ) (t : LentTable) (b : Bool) (tests : TestsTable 
 
   pub beside-columns : TestedColumns (take (t .count) (t .columns .numbers)) (take (t .count) (t .columns .names)) (take (t .count) (t .columns .parents))
   beside-columns = let f = beside in lent-columns t (f .rows) (f .are) (some-schema .schema) (f .passes)
+
+  pub beside-texts : TextColumns (take (t .count) (t .columns .parents)) (take (t .count) (t .columns .starts)) (take (t .count) (t .columns .lengths)) (take (t .count) (t .columns .decoded)) lent
+  beside-texts = let l = beside-inside in taken-texts (t .count) (t .columns) lent (l .parented) (l .started) (l .sized) (l .measured)
 
 module _ (s : Schema) (c : CompiledPaths) (place : ℕ) (t : LentTable) (lent : List ℕ) (i n : ℕ) (r : Selected) (items counts : List ℕ) where
   abbrev Answer : Type 0

@@ -5,9 +5,11 @@ use mathlib.Core.Option.{none, some}
 use mathlib.Core.Path.{_≡_, refl, sym, ap, subst, _∙_}
 use Prim.Native.Nat.{ℕ}
 use lib.ListN.{take}
+use denote.Ref.{now}
 use Rattle.bundle.specs.Judging.{JudgedUnder}
 use Rattle.bundle.specs.declared.Judged.{Judged}
 use Rattle.bundle.specs.reader.Records.{passesBundleRecord}
+use Rattle.cells.specs.lent.Ends.{Slice}
 use Rattle.compiled_paths.specs.Paths.{pathsIn}
 use Rattle.compiled_schema.specs.Compiled.{CompiledOf}
 use Rattle.compiled_schema.specs.Places.{namesAt}
@@ -24,12 +26,18 @@ use Rattle.schema_reader.specs.Records.{passesRecord}
 use Rattle.schema_spec.specs.Records.{schemaIn}
 use Rattle.schema_spec.specs.Schemas.{Schema}
 use Rattle.schema_spec.specs.Types.{typesOf}
-use Rattle.selection.specs.answers.Answers.{AnsweredSelections, RefusedBy, refused-as}
+use Rattle.selection.specs.answers.Answers.{AnsweredSelections, RefusedBy, refused-as, AnsweredCells}
 use Rattle.selection.specs.declared.answers.Selected.{Selected}
 use Rattle.selection.specs.lent.Lent.{SomeSchema, lentSelected}
 use Rattle.table_laws.specs.passes.Codes.{HeldWords}
 use Rattle.text_spec.specs.Calls.{tested, handed}
+use Rattle.text_spec.specs.Records.{TextRecord}
 use Rattle.text_spec.specs.Refusals.{Outcome, refused, at, badRecord, resultOr}
+
+-- ---- definitions
+-- a call that selects by two records on a lent table beside a lent text
+abbrev pub SelectsNodes : TextRecord → TextRecord → ℕ → LentTable → Slice → Slice → Slice → Selected → Type 0
+SelectsNodes schema bundle place table lent items counts r = AnsweredCells (nodesSelected schema bundle place table (now (lent .entry))) r items counts
 
 -- ---- the records
 module _ (cells : List ℕ) (size : ℕ) (bundle : List ℕ) (n : ℕ) where

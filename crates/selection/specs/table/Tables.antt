@@ -7,6 +7,7 @@ use lib.Dec.{T}
 use lib.ListN.{length, take, replicate, length-map, length-replicate}
 use lib.Seq.{length-take-le}
 use denote.Ref.{now}
+use Rattle.axis_passes.specs.alternative_steps.Texts.{TextColumns}
 use Rattle.axis_passes.specs.written_steps.Steps.{Scratch}
 use Rattle.cells.specs.lent.Ends.{Slice}
 use Rattle.compiled_paths.specs.Columns.{bundleIn}
@@ -24,6 +25,7 @@ use Rattle.selection.specs.laws.Asked.{asked-range, all-asked, items-sel
 use Rattle.selection.specs.one_path.Paths.{pathsFrom}
 use Rattle.table_laws.specs.Codes.{NamesCoded}
 use Rattle.table_laws.specs.Columns.{parentsOf, numbersOf, codesOf, TestedColumns}
+use Rattle.table_spec.specs.Columns.{Columns}
 use Rattle.table_spec.specs.Rows.{Row}
 use Rattle.table_spec.specs.Tables.{wellFormed}
 use Rattle.text_laws.specs.Cells.{padded-length}
@@ -80,6 +82,17 @@ pub with-scratch : (c : CompiledPaths) (place : ℕ) (numbers codes ps : List �
 with-scratch c place numbers codes ps h =
     let room = sym (scratch-long (length ps) maxNodes 0 (h .2 .few)) in
     record { shaped = h .0; inside = h .1; columns = h .2; room = room; scratch = record { room-held = room; room-steps = room; room-next = room } }
+
+-- the texts of the first rows of columns that have them
+pub taken-texts : (n : ℕ) (c : Columns) (lent : List ℕ) → n ≤ length (c .parents) → n ≤ length (c .starts) → n ≤ length (c .lengths) → n ≤ length (c .decoded)
+    → TextColumns (take n (c .parents)) (take n (c .starts)) (take n (c .lengths)) (take n (c .decoded)) lent
+taken-texts n c lent p a b d =
+    let size = sym (length-take-le n (c .parents) p) in
+    record {
+      starts-size = length-take-le n (c .starts) a ∙ size;
+      lengths-size = length-take-le n (c .lengths) b ∙ size;
+      decoded-size = length-take-le n (c .decoded) d ∙ size;
+    }
 
 -- the range of the paths asked for
 asked-paths : (c : CompiledPaths) (place : ℕ) → place ≤ c .count → pathsFrom c (pastAsked place (c .count) - (place - 1)) (place - 1) ≡ askedPaths place (pathsIn c)

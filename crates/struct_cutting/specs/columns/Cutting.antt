@@ -118,7 +118,7 @@ module _ (schema : TextRecord) (word : ℕ) where
 
     -- as many as a table can have, laid in columns, and cut into the first cells of columns of zeros
     module _ (c : Columns) (count : ℕ) (sizes : sizesOf c ≡ allOfSize cellCount) (long : length rows ≡ count) (laid : Laid rows c) (few : count ≤ maxNodes)
-        (k : ℕ) (size : k ≡ cellOf n) (v : Verdict) (numbers names parents starts lengths : List ℕ) where
+        (k : ℕ) (size : k ≡ cellOf n) (v : Verdict) (numbers names parents starts lengths decoded : List ℕ) where
       abbrev given : LentTable
       given = record { columns = c; count = count }
 
@@ -132,9 +132,9 @@ module _ (schema : TextRecord) (word : ℕ) where
       unfolding tableCutRows
       fitting-structs = fitting (tableOfCells rows) n
 
-      pub cut-for : AnsweredTable (tableCut schema given word (partSizes k)) (partSizes k) v (columns numbers names parents starts lengths)
+      pub cut-for : AnsweredTable (tableCut schema given word (partSizes k)) (partSizes k) v (columns numbers names parents starts lengths decoded)
           → AnsweredFor (tableCutRows schema rows word n) n
-          (record { verdict = v; columns = record { numbers = front k numbers; names = front k names; parents = front k parents; starts = front k starts; lengths = front k lengths } })
+          (record { verdict = v; columns = record { numbers = front k numbers; names = front k names; parents = front k parents; starts = front k starts; lengths = front k lengths; decoded = front k decoded } })
       cut-for w =
-          in-front (tableCutRows schema rows word n) n fitting-structs v (w .answer ∙ ap verdict for-structs) k size numbers names parents starts lengths
+          in-front (tableCutRows schema rows word n) n fitting-structs v (w .answer ∙ ap verdict for-structs) k size numbers names parents starts lengths decoded
           (w .cells ∙ ap₂ (λ (z : Sizes) (o : Outcome (List Row)). columnsAfter z (λ rs. rs) o) (part-sizes k n size) for-structs)

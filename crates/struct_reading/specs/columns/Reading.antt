@@ -67,13 +67,13 @@ module _ (schema : TextRecord) (text : List ℕ) where
       by (some s) = read (cellOf n) s ∙ same-read n s ∙ sym (read n s)
 
   -- what reading into the first cells of columns of zeros answers
-  module _ (n k : ℕ) (size : k ≡ cellOf n) (v : Verdict) (numbers names parents starts lengths : List ℕ) where
+  module _ (n k : ℕ) (size : k ≡ cellOf n) (v : Verdict) (numbers names parents starts lengths decoded : List ℕ) where
     for-structs : journalRead schema text (partSizes k) ≡ journalReadRows schema text n
     for-structs = ap (journalRead schema text) (part-sizes k n size ∙ ap allOfSize size) ∙ same n
 
-    pub read-for : (v ≡ verdict (journalRead schema text (partSizes k))) × (columns numbers names parents starts lengths ≡ columnsAfter (partSizes k) (λ rows. rows) (journalRead schema text (partSizes k)))
+    pub read-for : (v ≡ verdict (journalRead schema text (partSizes k))) × (columns numbers names parents starts lengths decoded ≡ columnsAfter (partSizes k) (λ rows. rows) (journalRead schema text (partSizes k)))
         → AnsweredFor (journalReadRows schema text n) n
-        (record { verdict = v; columns = record { numbers = front k numbers; names = front k names; parents = front k parents; starts = front k starts; lengths = front k lengths } })
+        (record { verdict = v; columns = record { numbers = front k numbers; names = front k names; parents = front k parents; starts = front k starts; lengths = front k lengths; decoded = front k decoded } })
     read-for (answer, cells) =
-        in-front (journalReadRows schema text n) n (fitting n) v (answer ∙ ap verdict for-structs) k size numbers names parents starts lengths
+        in-front (journalReadRows schema text n) n (fitting n) v (answer ∙ ap verdict for-structs) k size numbers names parents starts lengths decoded
         (cells ∙ ap₂ (λ (z : Sizes) (o : Outcome (List Row)). columnsAfter z (λ rows. rows) o) (part-sizes k n size) for-structs)

@@ -23,7 +23,7 @@ use Rattle.text_spec.specs.Limits.{maxNodes}
 abbrev pub Long : RowColumns → Type 0
 Long c =
     (length (c .numbers) ≡ cellCount)
-    × ((length (c .names) ≡ cellCount) × ((length (c .parents) ≡ cellCount) × ((length (c .starts) ≡ cellCount) × (length (c .lengths) ≡ cellCount))))
+    × ((length (c .names) ≡ cellCount) × ((length (c .parents) ≡ cellCount) × ((length (c .starts) ≡ cellCount) × ((length (c .lengths) ≡ cellCount) × (length (c .decoded) ≡ cellCount)))))
 
 -- ---- the cell of a row
 cell-is : (P : ℕ → Type 0) (k : ℕ) → (k < maxNodes → P k) → (maxNodes ≤ k → P maxNodes) → P (cellOf k)
@@ -35,7 +35,7 @@ cell-is P k below past = by (ltb k maxNodes) refl
 
 module _ (c : RowColumns) where
   abbrev pub rowAt : ℕ → Row
-  rowAt k = record { number = getD (c .numbers) k 0; name = getD (c .names) k 0; parent = getD (c .parents) k 0; start = getD (c .starts) k 0; size = getD (c .lengths) k 0 }
+  rowAt k = record { number = getD (c .numbers) k 0; name = getD (c .names) k 0; parent = getD (c .parents) k 0; start = getD (c .starts) k 0; size = getD (c .lengths) k 0; decoded = getD (c .decoded) k 0 }
 
   -- so many structs, the first i of which are filled
   abbrev pub Filled : ℕ → ℕ → List Row → Type 0
@@ -53,6 +53,7 @@ module _ (c : RowColumns) where
       parent = List·getD-eq-default (c .parents) 0 {n = k} (omega arith) i;
       start = List·getD-eq-default (c .starts) 0 {n = k} (omega arith) i;
       size = List·getD-eq-default (c .lengths) 0 {n = k} (omega arith) i;
+      decoded = List·getD-eq-default (c .decoded) 0 {n = k} (omega arith) i;
     }
 
     none-from : (k : ℕ) → maxNodes ≤ k → cellsAt (columnsIn c) k ≡ emptyCells

@@ -22,6 +22,7 @@ pub record Sized (c : RowColumns) : Type 0 where
   pub parents : length (c .parents) ≡ cellCount
   pub starts : length (c .starts) ≡ cellCount
   pub lengths : length (c .lengths) ≡ cellCount
+  pub decoded : length (c .decoded) ≡ cellCount
 
 -- a row in a cell of the columns
 abbrev pub with-row : RowColumns → ℕ → Row → RowColumns
@@ -32,6 +33,7 @@ with-row c k r =
       parents = set (c .parents) k (r .parent);
       starts = set (c .starts) k (r .start);
       lengths = set (c .lengths) k (r .size);
+      decoded = set (c .decoded) k (r .decoded);
     }
 
 -- the rows before i that a table can have stand in the columns
@@ -46,6 +48,7 @@ with-row-sized c k r z =
       parents = length-set (c .parents) k (r .parent) ∙ z .parents;
       starts = length-set (c .starts) k (r .start) ∙ z .starts;
       lengths = length-set (c .lengths) k (r .size) ∙ z .lengths;
+      decoded = length-set (c .decoded) k (r .decoded) ∙ z .decoded;
     }
 
 -- what the code finds as the row's cell
@@ -67,6 +70,7 @@ cell-same c k r z l =
       parent = getD-set-same (c .parents) k (r .parent) 0 (subst (λ n. k < n) (sym (z .parents)) l) i;
       start = getD-set-same (c .starts) k (r .start) 0 (subst (λ n. k < n) (sym (z .starts)) l) i;
       size = getD-set-same (c .lengths) k (r .size) 0 (subst (λ n. k < n) (sym (z .lengths)) l) i;
+      decoded = getD-set-same (c .decoded) k (r .decoded) 0 (subst (λ n. k < n) (sym (z .decoded)) l) i;
     }
 
 cell-other : (c : RowColumns) (k j : ℕ) (r : Row) → (j ≡ k → ⊥) → cellsAt (columnsIn (with-row c k r)) j ≡ cellsAt (columnsIn c) j
@@ -77,6 +81,7 @@ cell-other c k j r ne =
       parent = getD-set-other (c .parents) k j (r .parent) 0 ne i;
       start = getD-set-other (c .starts) k j (r .start) 0 ne i;
       size = getD-set-other (c .lengths) k j (r .size) 0 ne i;
+      decoded = getD-set-other (c .decoded) k j (r .decoded) 0 ne i;
     }
 
 pub laid-more : (ys : List Row) (i : ℕ) (c : RowColumns) → Sized c → LaidTo ys i c → LaidTo ys (i + 1) (with-row c (cellOf i) (getD ys i emptyRow))

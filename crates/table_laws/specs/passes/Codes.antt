@@ -56,15 +56,18 @@ Coded n = nameOfCode (codeOf n) ≡ some n
 pub named-coded : (code : ℕ) (n : Name) → nameOfCode code ≡ some n → Coded n
 named-coded code n e = rw (codeOf-nameOfCode code n e) e
 
-fit-by : (r : Row) (n : Name) → r .name ≡ n
-    → cond (isText n) (leb 1 (r .size) && leb (r .size) maxTextBytes) (eqb (r .start) 0 && eqb (r .size) 0) ≡ textFits n r
+-- the cells of a text fit, or those of an element
+abbrev cellsFit : Row → Bool → Bool
+cellsFit r b =
+    cond b (leb 1 (r .size) && (leb (r .size) maxTextBytes && (leb 1 (r .decoded) && leb (r .decoded) (r .size)))) (eqb (r .start) 0 && (eqb (r .size) 0 && eqb (r .decoded) 0))
+
+fit-by : (r : Row) (n : Name) → r .name ≡ n → cellsFit r (isText n) ≡ textFits n r
 fit-by r (element e) q = refl
 fit-by r (text e) q = refl
 
-code-cells : (r : Row) → Coded (r .name) → textCellsFit (codeOf (r .name)) (r .start) (r .size) ≡ textFits (r .name) r
+code-cells : (r : Row) → Coded (r .name) → textCellsFit (codeOf (r .name)) (r .start) (r .size) (r .decoded) ≡ textFits (r .name) r
 code-cells r k =
-    ap (λ (b : Bool). cond b (leb 1 (r .size) && leb (r .size) maxTextBytes) (eqb (r .start) 0 && eqb (r .size) 0)) (code-text (codeOf (r .name)) (r .name) k)
-    ∙ fit-by r (r .name) refl
+    ap (cellsFit r) (code-text (codeOf (r .name)) (r .name) k) ∙ fit-by r (r .name) refl
 
 -- ---- a row after another, part by part
 pub record FitsAfter (q : Row) (word depth : ℕ) (r : Row) : Type 0 where
@@ -91,7 +94,7 @@ module _ (q : Row) (word depth : ℕ) (r : Row) (before : Coded (q .name)) (this
   pub later-parts : T (laterCells (cellsOf q) word depth (cellsOf r)) → FitsAfter q word depth r
   unfolding laterFits bits both
   later-parts t =
-      let rest₄ = textCellsFit (codeOf (r .name)) (r .start) (r .size) in
+      let rest₄ = textCellsFit (codeOf (r .name)) (r .start) (r .size) (r .decoded) in
       let rest₃ = not both && rest₄ in
       let rest₂ = leb (depthUnder (codeOf (r .name)) depth) maxDepth && rest₃ in
       let rest₁ = bits && rest₂ in
@@ -117,7 +120,7 @@ module _ (q : Row) (word depth : ℕ) (r : Row) (before : Coded (q .name)) (this
       (and-intro bits _ (f .held)
       (and-intro (leb (depthUnder (codeOf (r .name)) depth) maxDepth) _
       (le→leb (depthUnder (codeOf (r .name)) depth) maxDepth (rw (code-depth (codeOf (r .name)) (r .name) depth this) (f .shallow)))
-      (and-intro (not both) (textCellsFit (codeOf (r .name)) (r .start) (r .size)) (not-intro both alone) (subst T (sym (code-cells r this)) (f .cells))))))
+      (and-intro (not both) (textCellsFit (codeOf (r .name)) (r .start) (r .size) (r .decoded)) (not-intro both alone) (subst T (sym (code-cells r this)) (f .cells))))))
     where
       alone : T (isTextCode (codeOf (r .name)) && isTextCode (codeOf (q .name))) → ⊥
       alone t =
@@ -125,10 +128,10 @@ module _ (q : Row) (word depth : ℕ) (r : Row) (before : Coded (q .name)) (this
           f .lone (subst T is-text (c .0)) (subst T was-text (c .1))
 
 -- a row that fits is not too deep
-pub fits-depth : (before : ℕ) (follows : Bool) (word depth number code start size : ℕ) → T (laterFits before follows word depth number code start size)
+pub fits-depth : (before : ℕ) (follows : Bool) (word depth number code start size decoded : ℕ) → T (laterFits before follows word depth number code start size decoded)
     → depthUnder code depth ≤ maxDepth
 unfolding laterFits
-fits-depth before follows word depth number code start size t =
+fits-depth before follows word depth number code start size decoded t =
     let c₀ = and-cases (ltb before number) _ t in
     let c₁ = and-cases (ltb number maxNodes) _ (c₀ .1) in
     let c₂ = and-cases (hasBit word code) _ (c₁ .1) in

@@ -19,27 +19,28 @@ isTextCode code = leb maxDeclarations code
 abbrev pub depthUnder : ℕ → ℕ → ℕ
 depthUnder code depth = cond (isTextCode code) depth (suc depth)
 
--- "an element .. carries text 0, 0; a text row has length 1 to 4,096"
-abbrev pub textCellsFit : ℕ → ℕ → ℕ → Bool
-textCellsFit code start size = cond (isTextCode code) (leb 1 size && leb size maxTextBytes) (eqb start 0 && eqb size 0)
+-- "an element .. carries text 0, 0; a text row has length 1 to 4,096"; "an element's decoded length is 0, a text's 1 to its raw length"
+abbrev pub textCellsFit : ℕ → ℕ → ℕ → ℕ → Bool
+textCellsFit code start size decoded =
+    cond (isTextCode code) (leb 1 size && (leb size maxTextBytes && (leb 1 decoded && leb decoded size))) (eqb start 0 && (eqb size 0 && eqb decoded 0))
 
 -- row 0
-unfoldable pub rootFits : ℕ → ℕ → ℕ → ℕ → ℕ → Bool
-rootFits number code parent start size = eqb number 0 && (eqb code 0 && (eqb parent 0 && (eqb start 0 && eqb size 0)))
+unfoldable pub rootFits : ℕ → ℕ → ℕ → ℕ → ℕ → ℕ → Bool
+rootFits number code parent start size decoded = eqb number 0 && (eqb code 0 && (eqb parent 0 && (eqb start 0 && (eqb size 0 && eqb decoded 0))))
 
 -- A later row, after a row with this number that is a text or not, under a parent of this depth which holds the names whose bits a word has.
 -- A second text of an element follows on the first.
-unfoldable pub laterFits : ℕ → Bool → ℕ → ℕ → ℕ → ℕ → ℕ → ℕ → Bool
-laterFits before afterText word depth number code start size =
+unfoldable pub laterFits : ℕ → Bool → ℕ → ℕ → ℕ → ℕ → ℕ → ℕ → ℕ → Bool
+laterFits before afterText word depth number code start size decoded =
     ltb before number && (ltb number maxNodes
-    && (hasBit word code && (leb (depthUnder code depth) maxDepth && (not (isTextCode code && afterText) && textCellsFit code start size))))
+    && (hasBit word code && (leb (depthUnder code depth) maxDepth && (not (isTextCode code && afterText) && textCellsFit code start size decoded))))
 
 -- the same by the rows' cells
 abbrev pub rootCells : Cells → Bool
-rootCells r = rootFits (r .number) (r .name) (r .parent) (r .start) (r .size)
+rootCells r = rootFits (r .number) (r .name) (r .parent) (r .start) (r .size) (r .decoded)
 
 abbrev pub laterCells : Cells → ℕ → ℕ → Cells → Bool
-laterCells before word depth r = laterFits (before .number) (isTextCode (before .name)) word depth (r .number) (r .name) (r .start) (r .size)
+laterCells before word depth r = laterFits (before .number) (isTextCode (before .name)) word depth (r .number) (r .name) (r .start) (r .size) (r .decoded)
 
 -- ---- all rows; `words` has for each element the names that it holds
 -- the innermost open element after row i, whose parent is row p

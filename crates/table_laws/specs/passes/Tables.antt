@@ -48,7 +48,7 @@ cell-stands : (c : Columns) (k : ℕ) (o : Option Name) (r : Row) → nameOfCode
 cell-stands c k none r e q = never (cc)
 cell-stands c k (some n) r e q =
     let x = cellsAt c k in
-    let one : r ≡ row (x .number) n (x .parent) (x .start) (x .size) = cc in
+    let one : r ≡ row (x .number) n (x .parent) (x .start) (x .size) (x .decoded) = cc in
     let code : codeOf n ≡ codeAt c k = codeOf-nameOfCode (codeAt c k) n e in
     rw one (record { cells = rw code; coded = named-coded (codeAt c k) n e })
 
@@ -143,15 +143,17 @@ module _ (s : Types) (words : List ℕ) (hw : HeldWords s words) (c : Columns) w
     passed-means t =
         let x = subst (λ (z : Cells). T (rootCells z)) first (and-cases (rootCells (cellsAt c 0)) (laterPass words c n 0 0 1) t .0) in
         let later = and-cases (rootCells (cellsAt c 0)) (laterPass words c n 0 0 1) t .1 in
-        let rest₂ = eqb (r .start) 0 && eqb (r .size) 0 in
+        let rest₃ = eqb (r .size) 0 && eqb (r .decoded) 0 in
+        let rest₂ = eqb (r .start) 0 && rest₃ in
         let rest₁ = eqb (r .parent) 0 && rest₂ in
         let c₀ = and-cases (eqb (r .number) 0) (eqb (codeOf (r .name)) 0 && rest₁) x in
         let c₁ = and-cases (eqb (codeOf (r .name)) 0) rest₁ (c₀ .1) in
         let c₂ = and-cases (eqb (r .parent) 0) rest₂ (c₁ .1) in
-        let c₃ = and-cases (eqb (r .start) 0) (eqb (r .size) 0) (c₂ .1) in
+        let c₃ = and-cases (eqb (r .start) 0) rest₃ (c₂ .1) in
+        let c₄ = and-cases (eqb (r .size) 0) (eqb (r .decoded) 0) (c₃ .1) in
         let name : r .name ≡ element 0 = root-named (r .name) (stands 0 r refl .coded) (eqb→eq (codeOf (r .name)) 0 (c₁ .0)) in
         let known : (r .number ≡ 0) × (r .name ≡ s .root) × (r .parent ≡ 0) × TextCells r
-        = (eqb→eq (r .number) 0 (c₀ .0), name ∙ sym (hw .root), eqb→eq (r .parent) 0 (c₂ .0), of-element name (eqb→eq (r .start) 0 (c₃ .0)) (eqb→eq (r .size) 0 (c₃ .1))) in
+        = (eqb→eq (r .number) 0 (c₀ .0), name ∙ sym (hw .root), eqb→eq (r .parent) 0 (c₂ .0), of-element name (eqb→eq (r .start) 0 (c₃ .0)) (eqb→eq (r .size) 0 (c₄ .0)) (eqb→eq (r .decoded) 0 (c₄ .1))) in
         record {
           rootRow = λ z g. (let one : z ≡ r = cc in rw one known);
           laterRow = λ j a b u v. pass-means (r ∷ rs) stands n 0 0 1 r (root-carried (r ∷ rs) r refl name) refl (omega arith) later j a b (omega arith) u v;
@@ -166,8 +168,8 @@ module _ (s : Types) (words : List ℕ) (hw : HeldWords s words) (c : Columns) w
         (means-pass (r ∷ rs) stands n 0 0 1 r (root-carried (r ∷ rs) r refl name) refl (omega arith) w)
       where
         cells : r .name ≡ element 0 → TextCells r → T (rootCells (cellsOf r))
-        cells name (of-element e a b) = rw (w .rootRow r refl .0, name, w .rootRow r refl .2, a, b) tt
-        cells name (of-text {e = x} e a b) = let same : text x ≡ element 0 = sym e ∙ name in never (cc)
+        cells name (of-element e a b d) = rw (w .rootRow r refl .0, name, w .rootRow r refl .2, a, b, d) tt
+        cells name (of-text {e = x} e a b d f) = let same : text x ≡ element 0 = sym e ∙ name in never (cc)
 
   rows-tested : (rows : List Row) (n : ℕ) → StandFrom c 0 n rows → rowsPass words c n ≡ wellFormed s rows
   unfolding rowsPass wellFormed
@@ -190,7 +192,7 @@ module _ (s : Types) (words : List ℕ) (hw : HeldWords s words) (c : Columns) w
 
   named-row : (k : ℕ) (o : Option Name) → nameOfCode (codeAt c k) ≡ o → (o ≡ none → ⊥) → (r : Row) × (rowOf (cellsAt c k) ≡ some r)
   named-row k none e h = absurd (h refl)
-  named-row k (some n) e h = let x = cellsAt c k in (row (x .number) n (x .parent) (x .start) (x .size), rw e)
+  named-row k (some n) e h = let x = cellsAt c k in (row (x .number) n (x .parent) (x .start) (x .size) (x .decoded), rw e)
 
   cons-some : (a : Option Row) (b : Option (List Row)) → (r : Row) × (a ≡ some r) → (rs : List Row) × (b ≡ some rs) → (rows : List Row) × (consOf a b ≡ some rows)
   cons-some a b (r, e) (rs, f) = (r ∷ rs, rw (e, f))

@@ -27,26 +27,26 @@ passes b = not (isForeign b)
 unfoldable pub rangePasses : List ℕ → ℕ → ℕ → Bool
 rangePasses lent start size = leb start (length lent) && (eqb (length (part start size lent)) size && allOf passes (part start size lent))
 
--- a row that is a text has such a range
-abbrev pub textPasses : List ℕ → ℕ → ℕ → ℕ → Bool
-textPasses lent code start size = not (isTextCode code) || rangePasses lent start size
+-- a row that is a text has such a range, and two equal lengths
+abbrev pub textPasses : List ℕ → ℕ → ℕ → ℕ → ℕ → Bool
+textPasses lent code start size decoded = not (isTextCode code) || (rangePasses lent start size && eqb decoded size)
 
--- the n rows from row i on, by the columns of their codes, starts and lengths
-abbrev pub textsPass : List ℕ → List ℕ → List ℕ → List ℕ → ℕ → ℕ → Bool
-textsPass lent names starts lengths i zero = true
-textsPass lent names starts lengths i (suc n) =
-    textPasses lent (getD names i 0) (getD starts i 0) (getD lengths i 0) && textsPass lent names starts lengths (suc i) n
+-- the n rows from row i on, by the columns of their codes, starts, lengths and decoded lengths
+abbrev pub textsPass : List ℕ → List ℕ → List ℕ → List ℕ → List ℕ → ℕ → ℕ → Bool
+textsPass lent names starts lengths decoded i zero = true
+textsPass lent names starts lengths decoded i (suc n) =
+    textPasses lent (getD names i 0) (getD starts i 0) (getD lengths i 0) (getD decoded i 0) && textsPass lent names starts lengths decoded (suc i) n
 
 -- ---- laws
 abbrev cellsPass : List ℕ → Cells → Bool
-cellsPass lent x = textPasses lent (x .name) (x .start) (x .size)
+cellsPass lent x = textPasses lent (x .name) (x .start) (x .size) (x .decoded)
 
 row-passes : (lent : List ℕ) (c : Columns) (i : ℕ) (r : Row) → Stands c i r → cellsPass lent (cellsAt c i) ≡ textInside lent r
 unfolding rangePasses
 row-passes lent c i r s =
-    ap (cellsPass lent) (s .cells) ∙ ap (λ (b : Bool). not b || rangePasses lent (r .start) (r .size)) (code-text (codeOf (r .name)) (r .name) (s .coded))
+    ap (cellsPass lent) (s .cells) ∙ ap (λ (b : Bool). not b || (rangePasses lent (r .start) (r .size) && eqb (r .decoded) (r .size))) (code-text (codeOf (r .name)) (r .name) (s .coded))
 
-texts-pass : (lent : List ℕ) (c : Columns) (k n : ℕ) (rows : List Row) → StandFrom c k n rows → textsPass lent (c .names) (c .starts) (c .lengths) k n ≡ allOf (textInside lent) rows
+texts-pass : (lent : List ℕ) (c : Columns) (k n : ℕ) (rows : List Row) → StandFrom c k n rows → textsPass lent (c .names) (c .starts) (c .lengths) (c .decoded) k n ≡ allOf (textInside lent) rows
 texts-pass lent c k zero [] f = refl
 texts-pass lent c k zero (r ∷ rs) f = absurd (omega (arith, f .size))
 texts-pass lent c k (suc n) [] f = absurd (omega (arith, f .size))
@@ -59,11 +59,11 @@ texts-pass lent c k (suc n) (r ∷ rs) f =
 
 -- Both passes are the test of a table with the text lent beside it, on the rows that the columns hold.
 pub beside-pass : (s : Types) (words : List ℕ) → HeldWords s words → (c : Columns) (lent : List ℕ) (n : ℕ)
-    → (rowsPass words c n && textsPass lent (c .names) (c .starts) (c .lengths) 0 n) ≡ passesRows (wellFormedWith s lent) (rowsOf (cellsFrom c 0 n))
+    → (rowsPass words c n && textsPass lent (c .names) (c .starts) (c .lengths) (c .decoded) 0 n) ≡ passesRows (wellFormedWith s lent) (rowsOf (cellsFrom c 0 n))
 unfolding wellFormedWith
 beside-pass s words hw c lent n =
-    ap (λ (b : Bool). b && textsPass lent (c .names) (c .starts) (c .lengths) 0 n) (rows-pass s words hw c n) ∙ pick (rowsOf (cellsFrom c 0 n)) refl
+    ap (λ (b : Bool). b && textsPass lent (c .names) (c .starts) (c .lengths) (c .decoded) 0 n) (rows-pass s words hw c n) ∙ pick (rowsOf (cellsFrom c 0 n)) refl
   where
-    pick : (o : Option (List Row)) → rowsOf (cellsFrom c 0 n) ≡ o → (passesRows (wellFormed s) o && textsPass lent (c .names) (c .starts) (c .lengths) 0 n) ≡ passesRows (wellFormedWith s lent) o
+    pick : (o : Option (List Row)) → rowsOf (cellsFrom c 0 n) ≡ o → (passesRows (wellFormed s) o && textsPass lent (c .names) (c .starts) (c .lengths) (c .decoded) 0 n) ≡ passesRows (wellFormedWith s lent) o
     pick none e = refl
     pick (some rows) e = ap (λ (b : Bool). wellFormed s rows && b) (texts-pass lent c 0 n rows (rows-stand c 0 n rows e))

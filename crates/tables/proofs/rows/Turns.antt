@@ -38,7 +38,7 @@ pub record Climbing (c : Columns) (row parent from among element depth : ℕ) : 
 
 -- the row that the climb is for stands in the columns, and so does the element that the climb has come to
 pub row-lent : (c : Columns) (count row parent from among element depth : ℕ) → Lent c count → 0 < row → row < count → Climbing c row parent from among element depth
-    → RowLent (c .numbers) (c .names) (c .starts) (c .lengths) row element
+    → RowLent (c .numbers) (c .names) (c .starts) (c .lengths) (c .decoded) row element
 row-lent c count row parent from among element depth lent later more k =
     record {
       later = later;
@@ -46,20 +46,21 @@ row-lent c count row parent from among element depth lent later more k =
       named = omega (arith, lent .named);
       started = omega (arith, lent .started);
       sized = omega (arith, lent .sized);
+      measured = omega (arith, lent .measured);
       parented = omega (arith, lent .named, k .low);
       isElement = k .isElement;
     }
 
-root-parts : (number code parent start size : ℕ) → rootFits number code parent start size ≡ true → (code ≡ 0) × (parent ≡ 0)
+root-parts : (number code parent start size decoded : ℕ) → rootFits number code parent start size decoded ≡ true → (code ≡ 0) × (parent ≡ 0)
 unfolding rootFits
-root-parts number code parent start size e =
+root-parts number code parent start size decoded e =
     let c₀ = and-cases (eqb number 0) _ (passed e) in
     let c₁ = and-cases (eqb code 0) _ (c₀ .1) in
     (eqb→eq _ _ (c₁ .0), eqb→eq _ _ (and-cases (eqb parent 0) _ (c₁ .1) .0))
 
 pub root-at : (c : Columns) (count : ℕ) → (count ≡ 0 → ⊥) → rootCells (cellsAt c 0) ≡ true → RootAt c count
 root-at c count n e =
-    let p = root-parts _ (codeAt c 0) (parentAt c 0) _ _ e in
+    let p = root-parts _ (codeAt c 0) (parentAt c 0) _ _ _ e in
     record { some = omega arith; name = p .0; parent = p .1 }
 
 module _ (words : List ℕ) (c : Columns) where
@@ -128,7 +129,7 @@ module _ (words : List ℕ) (c : Columns) where
   afterRow count row p d = laterPass words c (count - (row + 1)) (row + 1 - 1) (openAfter (codeAt c row) row p) (depthUnder (codeAt c row) d)
 
   abbrev fitsAt : ℕ → ℕ → ℕ → Bool
-  fitsAt row p d = rowFits (c .numbers) (c .names) (c .starts) (c .lengths) words row p d
+  fitsAt row p d = rowFits (c .numbers) (c .names) (c .starts) (c .lengths) (c .decoded) words row p d
 
   abbrev turned : ℕ → ℕ → Climbed → Bool
   turned count row nowhere = false
@@ -202,7 +203,7 @@ module _ (words : List ℕ) (c : Columns) where
 
         pub depth-fits : isTextCode (codeAt c row) ≡ false → depth + 1 ≤ maxDepth
         depth-fits t =
-            let m = fits-depth _ _ _ depth _ (codeAt c row) _ _ (passed fits) in
+            let m = fits-depth _ _ _ depth _ (codeAt c row) _ _ _ (passed fits) in
             let d : depthUnder (codeAt c row) depth ≡ suc depth = ap (λ (b : Bool). cond b depth (suc depth)) t in
             omega arith
 

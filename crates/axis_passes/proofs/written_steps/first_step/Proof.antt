@@ -6,7 +6,7 @@ use Rattle.axis_passes.specs.written_steps.Steps.{first-pass, first-kept
 
 -- the states that answers go back to
 abbrev start-before : tie.After-axis-number → tie.Start
-start-before c = c .before .before .before .before .before .before .before .before
+start-before c = c .before .before .before .before .before .before .before .before .before .before .before .before
 
 abbrev axis-number-before : tie.After-step-from-root → tie.After-axis-number
 axis-number-before c = c .before .before .before .before
@@ -20,13 +20,15 @@ keep-at-before c = c .before .before .before .before .before .before .before .be
 step-from-root-requires : tie.Need-step-from-root-requires
 step-from-root-requires c κs =
     let start = start-before (c .before .before .before) in
-    first-pass _ _ (start .args .axes .now) (start .args .tests .now) _ _ _ _ _ _ (start .pre)
+    first-pass _ _ (start .args .axes .now) (start .args .tests .now) _ _ _ _ _ _ (start .pre .0)
 
 keep-at-requires : tie.Need-keep-at-requires
 keep-at-requires c κs =
     let after-step-from-root = step-from-root-before c in
-    let start = start-before (axis-number-before after-step-from-root) in
-    first-kept _ _ (start .args .axes .now) (start .args .tests .now) _ _ _ _ _ _ (start .pre) _ _ _ (after-step-from-root .step-from-root .ensures) (omega arith)
+    let start = start-before (axis-number-before after-step-from-root) in (
+      first-kept _ _ (start .args .axes .now) (start .args .tests .now) _ _ _ _ _ _ (start .pre .0) _ _ _ (after-step-from-root .step-from-root .ensures) (omega arith),
+      start .pre .1,
+    )
 
 returns : tie.Need-returns
 returns c =

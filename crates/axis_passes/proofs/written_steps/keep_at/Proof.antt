@@ -12,26 +12,25 @@ abbrev keep-before : tie.After-slice-known8 → tie.After-keep
 keep-before c = c .before .before .before .before .before .before .before .before
 
 abbrev start-before : tie.After-range-size → tie.Start
-start-before c = c .before .before .before .before .before .before .before .before .before
+start-before c = c .before .before .before .before .before .before .before .before .before .before .before .before .before
 
 cast-keep : tie.Need-cast-keep
 cast-keep c =
     let start = start-before c in
-    omega (arith, start .pre .condition-starts (start .args .k))
+    omega (arith, start .pre .0 .condition-starts (start .args .k))
 
 keep-requires : tie.Need-keep-requires
 keep-requires c κs =
     let after-range-size = c .before .before .before .before in
     let start = start-before after-range-size in
-    at-keep _ _ (start .args .axes .now) (start .args .tests .now) _ _ _ _ _ _ (start .pre) _
-    (after-range-size .range-size .ensures)
+    (at-keep _ _ (start .args .axes .now) (start .args .tests .now) _ _ _ _ _ _ (start .pre .0) _ (after-range-size .range-size .ensures), start .pre .1)
 
 returns : tie.Need-returns
 returns c =
     let after-keep = keep-before c in
     let after-range-size = range-size-before after-keep in
     let start = start-before after-range-size in
-    at-kept _ _ (start .args .axes .now) (start .args .tests .now) _ _ _ _ _ _ (start .pre) _ _
+    at-kept _ _ (start .args .axes .now) (start .args .tests .now) _ _ _ _ _ _ (start .pre .0) _ _
     (after-range-size .range-size .ensures) (after-keep .keep .ensures)
 
 pub keep-at-spec : {M : Type 1} → statement M

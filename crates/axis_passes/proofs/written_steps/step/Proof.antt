@@ -6,7 +6,7 @@ use Rattle.axis_passes.specs.written_steps.Steps.{step-pass, step-kept, 
 
 -- the states that answers go back to
 abbrev start-before : tie.After-axis-number → tie.Start
-start-before c = c .before .before .before .before .before .before .before .before
+start-before c = c .before .before .before .before .before .before .before .before .before .before .before .before
 
 abbrev axis-number-before : tie.After-step-forward → tie.After-axis-number
 axis-number-before c = c .before .before .before .before
@@ -20,13 +20,15 @@ keep-at-before c = c .before .before .before .before .before .before .before .be
 step-forward-requires : tie.Need-step-forward-requires
 step-forward-requires c κs =
     let start = start-before (c .before .before .before) in
-    step-pass _ _ (start .args .axes .now) (start .args .tests .now) _ _ _ _ _ _ (start .pre)
+    step-pass _ _ (start .args .axes .now) (start .args .tests .now) _ _ _ _ _ _ (start .pre .0)
 
 keep-at-requires : tie.Need-keep-at-requires
 keep-at-requires c κs =
     let after-step-forward = step-forward-before c in
-    let start = start-before (axis-number-before after-step-forward) in
-    step-kept _ _ (start .args .axes .now) (start .args .tests .now) _ _ _ _ _ _ (start .pre) _ _ _ (after-step-forward .step-forward .ensures) (omega arith)
+    let start = start-before (axis-number-before after-step-forward) in (
+      step-kept _ _ (start .args .axes .now) (start .args .tests .now) _ _ _ _ _ _ (start .pre .0) _ _ _ (after-step-forward .step-forward .ensures) (omega arith),
+      start .pre .1,
+    )
 
 returns : tie.Need-returns
 returns c =

@@ -5,9 +5,9 @@ use Rattle.cells.proofs.columns.clear.Tie as tie
 use Rattle.cells.specs.lent.Columns.{columns-cleared}
 
 returns : tie.Need-returns
-returns c = columns-cleared _ _ (c .before .before .before .before .before .before .before .before .before .before .clear-columns .ensures)
+returns c = columns-cleared _ _ (c .before .before .before .before .before .before .before .before .before .before .before .before .clear-columns .ensures)
 
 pub clear-spec : {M : Type 1} → statement M
 clear-spec =
     tie.close
-    (tie.spec (λ c κs. search needs) (λ c. search needs) (λ c. search needs) (λ c. search needs) (λ c. search needs) (λ c. search needs) returns)
+    (tie.spec (λ c κs. search needs) (λ c. search needs) (λ c. search needs) (λ c. search needs) (λ c. search needs) (λ c. search needs) (λ c. search needs) returns)

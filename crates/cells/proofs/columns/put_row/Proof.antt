@@ -9,14 +9,14 @@ use Rattle.table_spec.specs.Columns.{columns}
 returns : tie.Need-returns
 returns c =
     let g = c .before .args in
-    row-in (columns (now (g .numbers)) (now (g .names)) (now (g .parents)) (now (g .starts)) (now (g .lengths))) (g .r) (cells (g .r) (g .row)) (c .before .pre) (c .if1 .taken)
+    row-in (columns (now (g .numbers)) (now (g .names)) (now (g .parents)) (now (g .starts)) (now (g .lengths)) (now (g .decoded))) (g .r) (cells (g .r) (g .row)) (c .before .pre) (c .if1 .taken)
 
 returns-2 : tie.Need-returns-2
 returns-2 c =
     let g = c .before .args in
-    row-out (columns (now (g .numbers)) (now (g .names)) (now (g .parents)) (now (g .starts)) (now (g .lengths))) (g .r) (cells (g .r) (g .row)) (c .before .pre) (c .if1 .left)
+    row-out (columns (now (g .numbers)) (now (g .names)) (now (g .parents)) (now (g .starts)) (now (g .lengths)) (now (g .decoded))) (g .r) (cells (g .r) (g .row)) (c .before .pre) (c .if1 .left)
 
 pub put-row-spec : {M : Type 1} → statement M
 put-row-spec =
     tie.close
-    (tie.spec (λ c. search needs) (λ c. search needs) (λ c. search needs) (λ c. search needs) (λ c. search needs) (λ c. search needs) (λ c. search needs) (λ c. search needs) (λ c. search needs) (λ c. search needs) (λ c. search needs) (λ c. search needs) (λ c. search needs) (λ c. search needs) (λ c. search needs) returns returns-2)
+    (tie.spec (λ c. search needs) (λ c. search needs) (λ c. search needs) (λ c. search needs) (λ c. search needs) (λ c. search needs) (λ c. search needs) (λ c. search needs) (λ c. search needs) (λ c. search needs) (λ c. search needs) (λ c. search needs) (λ c. search needs) (λ c. search needs) (λ c. search needs) (λ c. search needs) (λ c. search needs) (λ c. search needs) returns returns-2)

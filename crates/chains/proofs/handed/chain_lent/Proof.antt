@@ -17,14 +17,14 @@ abbrev compiled : tie.After-is-table → tie.After-compile
 compiled c = c .before .before .before .before .before .before
 
 abbrev start : tie.After-compile → tie.Start
-start c = c .before .before .before .before .before .before .before .before
+start c = c .before .before .before .before .before .before .before .before .before
 
 -- the schema and the table that are handed in, and what their test tells
 abbrev schema : tie.After-is-table → Schema
 schema c = schemaIn (start (compiled c) .args .text .now)
 
 abbrev given : tie.After-is-table → LentTable
-given c = let at = start (compiled c) .args in lentTable (at .numbers .now) (at .codes .now) (at .parents .now) (at .starts .now) (at .lengths .now) (at .count)
+given c = let at = start (compiled c) .args in lentTable (at .numbers .now) (at .codes .now) (at .parents .now) (at .starts .now) (at .lengths .now) (at .decoded .now) (at .count)
 
 told : (c : tie.After-is-table) → c .is-table .result ≡ isHeld (schema c) (given c)
 told c = c .is-table .ensures (schema c) (words-held (schema c) (schemaIn-length _) _ (compiled c .compile .ensures .entries .held) _ (c .before .before .held-words .ensures))

@@ -17,7 +17,7 @@ use Rattle.schema_reader.specs.Sizes.{record-low}
 use Rattle.text_spec.specs.Limits.{maxSchemaBytes}
 
 abbrev start : tie.After-is-schema-record → tie.Start
-start c = c .before .before .before .before .before .before .before
+start c = c .before .before .before .before .before .before .before .before
 
 -- the record passes its test, so that its text is not too long
 passes : (c : tie.Else1) → passesRecord (start (c .before) .args .schema .bytes) (start (c .before) .args .schema .len) ≡ true

@@ -9,12 +9,12 @@ use Rattle.table_spec.specs.Columns.{equalSizes}
 returns : tie.Need-returns
 returns c =
     let args = c .before .args in
-    one-fails (args .held) (equalSizes (record { numbers = args .numbers; names = args .codes; parents = args .parents; starts = args .starts; lengths = args .lengths })) (not-true _ (c .if1 .taken))
+    one-fails (args .held) (equalSizes (record { numbers = args .numbers; names = args .codes; parents = args .parents; starts = args .starts; lengths = args .lengths; decoded = args .decoded })) (not-true _ (c .if1 .taken))
 
 returns-2 : tie.Need-returns-2
 returns-2 c =
     let args = c .before .before .args in
-    other-decides (args .held) (equalSizes (record { numbers = args .numbers; names = args .codes; parents = args .parents; starts = args .starts; lengths = args .lengths })) _ (not-false _ (c .before .if1 .left)) (c .equal-sizes .ensures)
+    other-decides (args .held) (equalSizes (record { numbers = args .numbers; names = args .codes; parents = args .parents; starts = args .starts; lengths = args .lengths; decoded = args .decoded })) _ (not-false _ (c .before .if1 .left)) (c .equal-sizes .ensures)
 
 pub may-cut-spec : {M : Type 1} → statement M
 may-cut-spec = tie.close (tie.spec returns (λ c κs. search needs) returns-2)

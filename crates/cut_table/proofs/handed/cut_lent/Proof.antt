@@ -9,28 +9,28 @@ use Rattle.tables.specs.Handed.{lentTable}
 
 -- back to the start from where both tests are told, and what is handed in and lent there
 abbrev start : tie.After-may-cut → tie.Start
-start c = c .before .before .before .before .before .before .before .before .before .before .before .before .before .before .before
+start c = c .before .before .before .before .before .before .before .before .before .before .before .before .before .before .before .before .before
 
 abbrev given : tie.After-may-cut → LentTable
-given c = let at = start c .args in lentTable (at .numbers .now) (at .codes .now) (at .parents .now) (at .starts .now) (at .lengths .now) (at .count)
+given c = let at = start c .args in lentTable (at .numbers .now) (at .codes .now) (at .parents .now) (at .starts .now) (at .lengths .now) (at .decoded .now) (at .count)
 
 abbrev lent : tie.After-may-cut → Columns
-lent c = let at = start c .args in columns (at .out-numbers .now) (at .out-names .now) (at .out-parents .now) (at .out-starts .now) (at .out-lengths .now)
+lent c = let at = start c .args in columns (at .out-numbers .now) (at .out-names .now) (at .out-parents .now) (at .out-starts .now) (at .out-lengths .now) (at .out-decoded .now)
 
 -- back from the two exits to the calls before them
-abbrev refused : tie.After-slice-known10 → tie.After-refuse
-refused c = c .before .before .before .before .before .before .before .before .before .before
+abbrev refused : tie.After-slice-known12 → tie.After-refuse
+refused c = c .before .before .before .before .before .before .before .before .before .before .before .before
 
-abbrev called : tie.After-slice-known15 → tie.After-cut-first
-called c = c .before .before .before .before .before .before .before .before .before .before
+abbrev called : tie.After-slice-known18 → tie.After-cut-first
+called c = c .before .before .before .before .before .before .before .before .before .before .before .before
 
 -- back from the call to what is handed in
-abbrev handed : tie.After-cut-first-arg5 → tie.After-handed-in
-handed c = c .before .before .before .before .before
+abbrev handed : tie.After-cut-first-arg6 → tie.After-handed-in
+handed c = c .before .before .before .before .before .before
 
 returns : tie.Need-returns
 returns c = λ s h.
-    let tested = refused c .before .before .before .before .before .before in
+    let tested = refused c .before .before .before .before .before .before .before in
     let fit = tested .before in
     not-cut s (given fit) (lent fit) (fit .before .is-table .result) (fit .may-cut .result) (fit .before .is-table .ensures s (h .words)) (fit .may-cut .ensures) (tested .if1 .taken) (start fit .args .word) _ _ (refused c .refuse .ensures .0) (refused c .refuse .ensures .1)
 
@@ -60,12 +60,14 @@ cut-lent-spec =
     (λ c. refused c .refuse .kept .1 .1 .0)
     (λ c. refused c .refuse .kept .1 .1 .1 .0)
     (λ c. refused c .refuse .kept .1 .1 .1 .1 .0)
+    (λ c. refused c .refuse .kept .1 .1 .1 .1 .1 .0)
     returns
     (λ c κs. search needs)
     cut-first-requires
-    (λ c. called c .cut-first .kept .1 .1 .1 .1 .1 .1 .1 .0)
     (λ c. called c .cut-first .kept .1 .1 .1 .1 .1 .1 .1 .1 .0)
     (λ c. called c .cut-first .kept .1 .1 .1 .1 .1 .1 .1 .1 .1 .0)
     (λ c. called c .cut-first .kept .1 .1 .1 .1 .1 .1 .1 .1 .1 .1 .0)
     (λ c. called c .cut-first .kept .1 .1 .1 .1 .1 .1 .1 .1 .1 .1 .1 .0)
+    (λ c. called c .cut-first .kept .1 .1 .1 .1 .1 .1 .1 .1 .1 .1 .1 .1 .0)
+    (λ c. called c .cut-first .kept .1 .1 .1 .1 .1 .1 .1 .1 .1 .1 .1 .1 .1 .0)
     returns-2)

@@ -16,7 +16,7 @@ use Rattle.text_spec.specs.Records.{TextRecord}
 
 -- The start, and the record and the columns that are handed in, from where the record is tested.
 abbrev start-before : tie.After-is-schema-record → tie.Start
-start-before c = c .before .before .before .before .before .before .before
+start-before c = c .before .before .before .before .before .before .before .before
 
 abbrev held : tie.After-is-schema-record → TextRecord
 held c = recordWith (start-before c .args .schema .bytes) (start-before c .args .schema .len)
@@ -24,18 +24,18 @@ held c = recordWith (start-before c .args .schema .bytes) (start-before c .args 
 abbrev lent : tie.After-is-schema-record → Columns
 lent c =
     let at = start-before c .args in
-    columns (at .numbers .now) (at .names .now) (at .parents .now) (at .starts .now) (at .lengths .now)
+    columns (at .numbers .now) (at .names .now) (at .parents .now) (at .starts .now) (at .lengths .now) (at .decoded .now)
 
 -- The last call before each exit.
-abbrev read-before : tie.After-slice-known10 → tie.After-read-extract-table
-read-before c = c .before .before .before .before .before .before .before .before .before .before
+abbrev read-before : tie.After-slice-known12 → tie.After-read-extract-table
+read-before c = c .before .before .before .before .before .before .before .before .before .before .before .before
 
 abbrev clear-before : tie.After-refused → tie.After-clear
-clear-before c = c .before .before .before .before .before .before .before .before .before .before .before
+clear-before c = c .before .before .before .before .before .before .before .before .before .before .before .before .before
 
 -- The schema's words, from where the extract is read.
-abbrev words-before : tie.After-read-extract-table-arg5 → tie.After-schema-words
-words-before c = c .before .before .before .before .before .before
+abbrev words-before : tie.After-read-extract-table-arg6 → tie.After-schema-words
+words-before c = c .before .before .before .before .before .before .before
 
 accepted : (c : tie.Then1) → passesSchema (held (c .before)) ≡ true
 accepted c = sym (passes-schema (held (c .before) .cells) (held (c .before) .size)) ∙ sym (c .before .is-schema-record .ensures) ∙ c .if1 .taken
@@ -62,7 +62,7 @@ returns c =
 returns-2 : tie.Need-returns-2
 returns-2 c =
     let cleared = clear-before c .clear .ensures in
-    let joined = clear-before c .before .before .before .before .before .before in
+    let joined = clear-before c .before .before .before .before .before .before .before in
     let handed = joined .before in
     let extract = now (start-before handed .args .extract) in
     ⊎-elim (λ w. stated (call-no-columns (held handed) extract (lent handed) _ _ (accepted (record { before = handed; if1 = w .0 })) (sym (w .1 .ensures) ∙ w .2 .left) (c .refused .ensures) cleared))
@@ -82,6 +82,7 @@ read-extract-spec =
     (λ c. read-before c .read-extract-table .kept .1 .1 .1 .1 .0)
     (λ c. read-before c .read-extract-table .kept .1 .1 .1 .1 .1 .0)
     (λ c. read-before c .read-extract-table .kept .1 .1 .1 .1 .1 .1 .0)
+    (λ c. read-before c .read-extract-table .kept .1 .1 .1 .1 .1 .1 .1 .0)
     returns
     (λ c κs. tt)
     (λ c κs. tt)
@@ -90,4 +91,5 @@ read-extract-spec =
     (λ c. clear-before c .clear .kept .1 .1 .0)
     (λ c. clear-before c .clear .kept .1 .1 .1 .0)
     (λ c. clear-before c .clear .kept .1 .1 .1 .1 .0)
+    (λ c. clear-before c .clear .kept .1 .1 .1 .1 .1 .0)
     returns-2)

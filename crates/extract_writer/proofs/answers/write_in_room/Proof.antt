@@ -5,7 +5,7 @@ use Rattle.extract_writer.proofs.answers.write_in_room.Tie as tie
 use Rattle.extract_writer.specs.answers.Answers.{too-few, enough}
 
 write-table-requires : tie.Need-write-table-requires
-write-table-requires c κs = c .before .before .before .before .before .before .before .before .pre
+write-table-requires c κs = c .before .before .before .before .before .before .before .before .before .pre
 
 returns : tie.Need-returns
 returns c = too-few _ _ _ _ (c .before .before .before .before .write-table .ensures) _ (c .before .if1 .taken) (c .refused .ensures)

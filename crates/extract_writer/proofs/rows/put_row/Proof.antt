@@ -6,11 +6,11 @@ use Rattle.extract_writer.specs.rows.Rows.{row-skipped, row-place, eleme
 use Rattle.table_spec.specs.Columns.{Columns, columns}
 
 -- back from where the row's name is read to where it is marked, and from there to the start
-abbrev marked : tie.After-shared-slice-known10 → tie.Else1
+abbrev marked : tie.After-shared-slice-known11 → tie.Else1
 marked c = c .before .before .before .before
 
 abbrev start : tie.Else1 → tie.Start
-start c = c .before .before .before .before .before .before .before .before
+start c = c .before .before .before .before .before .before .before .before .before
 
 -- a text, back to the start
 abbrev text-start : tie.Else2 → tie.Start
@@ -18,7 +18,7 @@ text-start c = start (marked (c .before))
 
 -- what is lent
 abbrev lent : tie.Start → Columns
-lent c = columns (c .args .numbers .now) (c .args .names .now) (c .args .parents .now) (c .args .starts .now) (c .args .lengths .now)
+lent c = columns (c .args .numbers .now) (c .args .names .now) (c .args .parents .now) (c .args .starts .now) (c .args .lengths .now) (c .args .decoded .now)
 
 put-element-requires : tie.Need-put-element-requires
 put-element-requires c κs =
@@ -50,7 +50,7 @@ add-result-3 : tie.Need-add-result-3
 add-result-3 c =
     let sized = c .before .before .before .before .before in
     let at = text-start (sized .before .before) in
-    omega (arith, sized .shared-slice-known12 .given (at .args .r), at .pre .room)
+    omega (arith, sized .shared-slice-known13 .given (at .args .r), at .pre .room)
 
 returns-3 : tie.Need-returns-3
 returns-3 c =
@@ -63,27 +63,27 @@ pub put-row-spec : {M : Type 1} → statement M
 put-row-spec =
     tie.close
     (tie.spec
-    (λ c. row-skipped _ _ _ _ _ _ (c .before .before .before .before .before .before .before .before .pre) (c .if1 .taken))
+    (λ c. row-skipped _ _ _ _ _ _ (c .before .before .before .before .before .before .before .before .before .pre) (c .if1 .taken))
     (λ c. row-place (start c .pre) .halves)
     (λ c. start (c .before) .pre .inside)
     (λ c. row-place (start (c .before) .pre) .halves)
     (λ c. row-place (start (c .before .before) .pre) .parents)
-    (λ c. omega (arith, c .shared-slice-known8 .given (start (c .before .before) .args .r)))
-    (λ c. omega (arith, c .shared-slice-known8 .given (start (c .before .before) .args .r)))
+    (λ c. omega (arith, c .shared-slice-known9 .given (start (c .before .before) .args .r)))
+    (λ c. omega (arith, c .shared-slice-known9 .given (start (c .before .before) .args .r)))
     (λ c. let at = start (c .before .before .before) in at .pre .columns .above (at .args .r) (at .pre .inside))
     (λ c. row-place (start (marked c) .pre) .names)
-    (λ c. omega (arith, c .shared-slice-known10 .given (start (marked c) .args .r)))
+    (λ c. omega (arith, c .shared-slice-known11 .given (start (marked c) .args .r)))
     put-element-requires
     (λ c. omega arith)
     (λ c. c .before .out .given)
     returns-2
     (λ c. row-place (text-start c .pre) .words)
     (λ c. row-place (text-start (c .before) .pre) .starts)
-    (λ c. omega (arith, c .shared-slice-known11 .given (text-start (c .before) .args .r)))
+    (λ c. omega (arith, c .shared-slice-known12 .given (text-start (c .before) .args .r)))
     (λ c. row-place (text-start (c .before) .pre) .halves)
     (λ c. row-place (text-start (c .before .before) .pre) .lengths)
-    (λ c. omega (arith, c .shared-slice-known12 .given (text-start (c .before .before) .args .r)))
-    (λ c. let r = text-start (c .before .before) .args .r in omega (arith, c .before .shared-slice-known11 .given r, c .shared-slice-known12 .given r))
+    (λ c. omega (arith, c .shared-slice-known13 .given (text-start (c .before .before) .args .r)))
+    (λ c. let r = text-start (c .before .before) .args .r in omega (arith, c .before .shared-slice-known12 .given r, c .shared-slice-known13 .given r))
     (λ c. omega arith)
     (λ c. omega arith)
     part-put-text-end

@@ -10,22 +10,22 @@ use Rattle.kept_rows.specs.Joined.{joined}
 use Rattle.table_spec.specs.Columns.{Columns, columns}
 
 abbrev Inv-loop : tie.InvT-loop
-Inv-loop text numbers names parents starts lengths marks out₀ at₀ r₀ out at r =
-    (r ≤ length marks) × FieldsPass text (columns numbers names parents starts lengths) marks out₀
-    × StoredAt out₀ 0 (joined (fieldAt text (columns numbers names parents starts lengths)) marks r) at out
+Inv-loop text numbers names parents starts lengths decoded marks out₀ at₀ r₀ out at r =
+    (r ≤ length marks) × FieldsPass text (columns numbers names parents starts lengths decoded) marks out₀
+    × StoredAt out₀ 0 (joined (fieldAt text (columns numbers names parents starts lengths decoded)) marks r) at out
 
 abbrev μ-loop : tie.MeasureT-loop
-μ-loop text numbers names parents starts lengths marks out₀ at₀ r₀ out at r = length marks - r
+μ-loop text numbers names parents starts lengths decoded marks out₀ at₀ r₀ out at r = length marks - r
 
 next-inside : (r n : ℕ) → r < n → r + 1 ≤ n
 next-inside r n l = omega arith
 
 -- back to the start, what is lent there, and from where a row's mark is handed over to the loop
 abbrev start-before : tie.After-slice-known Inv-loop μ-loop → tie.Start Inv-loop μ-loop
-start-before c = c .before .before .before .before .before .before .before .before
+start-before c = c .before .before .before .before .before .before .before .before .before
 
 abbrev lent : tie.Start Inv-loop μ-loop → Columns
-lent c = columns (c .args .numbers .now) (c .args .names .now) (c .args .parents .now) (c .args .starts .now) (c .args .lengths .now)
+lent c = columns (c .args .numbers .now) (c .args .names .now) (c .args .parents .now) (c .args .starts .now) (c .args .lengths .now) (c .args .decoded .now)
 
 abbrev loop-before : tie.After-put-row-arg Inv-loop μ-loop → tie.At-loop Inv-loop μ-loop
 loop-before c = c .before .before .before

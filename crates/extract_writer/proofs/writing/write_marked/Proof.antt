@@ -6,10 +6,10 @@ use Rattle.extract_writer.specs.writing.Extract.{measure-pass, extract-l
 
 -- the states that answers go back to
 abbrev start-before : tie.After-measure → tie.Start
-start-before c = c .before .before .before .before .before .before .before .before .before
+start-before c = c .before .before .before .before .before .before .before .before .before .before
 
 measure-requires : tie.Need-measure-requires
-measure-requires c κs = measure-pass _ _ _ (c .before .before .before .before .before .before .before .before .pre)
+measure-requires c κs = measure-pass _ _ _ (c .before .before .before .before .before .before .before .before .before .pre)
 
 add-size : tie.Need-add-size
 add-size c =

@@ -5,16 +5,16 @@ use Rattle.extract_writer.specs.writing.Extract.{prefix-length, every-ro
 use Rattle.text_spec.specs.Limits.{maxNodes}
 
 slice-aggregate-write-marked : tie.Need-slice-aggregate-write-marked
-slice-aggregate-write-marked c = prefix-length _ _ 1 (c .before .before .before .before .before .before .before .before .pre .few)
+slice-aggregate-write-marked c = prefix-length _ _ 1 (c .before .before .before .before .before .before .before .before .before .pre .few)
 
 write-marked-requires : tie.Need-write-marked-requires
 write-marked-requires c κs =
-    let start = c .before .before .before .before .before .before .before .before .before in
+    let start = c .before .before .before .before .before .before .before .before .before .before in
     every-row _ _ maxNodes (start .pre) (start .pre .few)
 
 returns : tie.Need-returns
 returns c =
-    let start = c .before .before .before .before .before .before .before .before .before .before .before .before in
+    let start = c .before .before .before .before .before .before .before .before .before .before .before .before .before in
     answered-same _ _ _ _ _ _ _ (all-marked maxNodes _ (start .pre .few)) (c .before .before .write-marked .ensures)
 
 pub write-table-spec : {M : Type 1} → statement M

@@ -11,27 +11,27 @@ use Rattle.table_spec.specs.Columns.{Columns, columns}
 
 -- The states that several needs go back to: the journal read, from where its verdict is tested; the start, with the columns that are lent.
 abbrev read : tie.After-struct-known → tie.After-read-compiled
-read c = c .before .before .before .before .before .before .before .before .before .before .before
+read c = c .before .before .before .before .before .before .before .before .before .before .before .before .before
 
 abbrev start : tie.After-struct-known → tie.Start
-start c = read c .before .before .before .before .before .before .before .before .before .before .before .before .before .before
+start c = read c .before .before .before .before .before .before .before .before .before .before .before .before .before .before .before .before
 
 abbrev lent : tie.After-struct-known → Columns
-lent c = columns (start c .args .numbers .now) (start c .args .names .now) (start c .args .parents .now) (start c .args .starts .now) (start c .args .lengths .now)
+lent c = columns (start c .args .numbers .now) (start c .args .names .now) (start c .args .parents .now) (start c .args .starts .now) (start c .args .lengths .now) (start c .args .decoded .now)
 
 -- from the exit of a journal that is refused, and from that of an accepted one
 abbrev refused : tie.After-refused → tie.Then1
 refused c = c .before .before .before .before .before
 
-abbrev written : tie.After-slice-known18 → tie.After-write-under
-written c = c .before .before .before .before .before .before .before .before .before .before .before .before
+abbrev written : tie.After-slice-known21 → tie.After-write-under
+written c = c .before .before .before .before .before .before .before .before .before .before .before .before .before .before
 
-abbrev accepted : tie.After-slice-known18 → tie.Else1
-accepted c = written c .before .before .before .before .before .before .before
+abbrev accepted : tie.After-slice-known21 → tie.Else1
+accepted c = written c .before .before .before .before .before .before .before .before
 
 read-compiled-requires : tie.Need-read-compiled-requires
 read-compiled-requires c κs =
-    let pre = c .before .before .before .before .before .before .before .before .before .before .before .before .before .pre in
+    let pre = c .before .before .before .before .before .before .before .before .before .before .before .before .before .before .before .pre in
     (pre .made, omega arith, pre .equal)
 
 returns : tie.Need-returns
@@ -43,7 +43,7 @@ returns c =
 
 write-under-requires : tie.Need-write-under-requires
 write-under-requires c κs =
-    let tested = c .before .before .before .before .before .before in
+    let tested = c .before .before .before .before .before .before .before in
     let known = tested .before in
     let pre = start known .pre in
     let was = read known .read-compiled .ensures in
@@ -70,6 +70,7 @@ make-under-spec =
     (λ c. read (refused c .before) .read-compiled .kept .1 .1 .1 .1 .1 .1 .0)
     (λ c. read (refused c .before) .read-compiled .kept .1 .1 .1 .1 .1 .1 .1 .0)
     (λ c. read (refused c .before) .read-compiled .kept .1 .1 .1 .1 .1 .1 .1 .1 .0)
+    (λ c. read (refused c .before) .read-compiled .kept .1 .1 .1 .1 .1 .1 .1 .1 .1 .0)
     (λ c. c .before .before .before .clear-bytes .kept .0)
     returns
     write-under-requires
@@ -78,5 +79,6 @@ make-under-spec =
     (λ c. written c .write-under .kept .1 .1 .1 .1 .1 .1 .1 .1 .1 .1 .0 ∙ read (accepted c .before) .read-compiled .kept .1 .1 .1 .1 .1 .1 .0)
     (λ c. written c .write-under .kept .1 .1 .1 .1 .1 .1 .1 .1 .1 .1 .1 .0 ∙ read (accepted c .before) .read-compiled .kept .1 .1 .1 .1 .1 .1 .1 .0)
     (λ c. written c .write-under .kept .1 .1 .1 .1 .1 .1 .1 .1 .1 .1 .1 .1 .0 ∙ read (accepted c .before) .read-compiled .kept .1 .1 .1 .1 .1 .1 .1 .1 .0)
-    (λ c. written c .write-under .kept .1 .1 .1 .1 .1 .1 .1 .1 .1 .1 .1 .1 .1 .0)
+    (λ c. written c .write-under .kept .1 .1 .1 .1 .1 .1 .1 .1 .1 .1 .1 .1 .1 .0 ∙ read (accepted c .before) .read-compiled .kept .1 .1 .1 .1 .1 .1 .1 .1 .1 .0)
+    (λ c. written c .write-under .kept .1 .1 .1 .1 .1 .1 .1 .1 .1 .1 .1 .1 .1 .1 .0)
     returns-2)

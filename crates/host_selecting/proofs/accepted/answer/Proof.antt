@@ -6,10 +6,10 @@ use Rattle.host_selecting.specs.accepted.Choosing.{last-short, last-enou
 
 -- the states that answers go back to
 abbrev cleared-before : tie.After-refused → tie.After-clear
-cleared-before c = c .before .before .before .before .before .before .before .before .before .before .before
+cleared-before c = c .before .before .before .before .before .before .before .before .before .before .before .before .before
 
 returns : tie.Need-returns
-returns c = last-short _ _ _ _ _ (cleared-before c .before .before .before .before .before .before .if1 .taken) (c .refused .ensures) (cleared-before c .clear .ensures)
+returns c = last-short _ _ _ _ _ (cleared-before c .before .before .before .before .before .before .before .if1 .taken) (c .refused .ensures) (cleared-before c .clear .ensures)
 
 returns-2 : tie.Need-returns-2
 returns-2 c = last-enough _ _ _ _ (c .before .if1 .left) (c .answered .ensures)
@@ -25,6 +25,7 @@ answer-spec =
     (λ c. cleared-before c .clear .kept .1 .1 .0)
     (λ c. cleared-before c .clear .kept .1 .1 .1 .0)
     (λ c. cleared-before c .clear .kept .1 .1 .1 .1 .0)
+    (λ c. cleared-before c .clear .kept .1 .1 .1 .1 .1 .0)
     returns
     (λ c κs. search needs)
     returns-2)

@@ -10,15 +10,15 @@ use Rattle.hosts.specs.columns.Rows.{rows-read}
 use Rattle.table_spec.specs.Columns.{Columns, columns}
 
 -- The states that several needs go back to. From where the extract is to be read: the words, and the start.
-abbrev words-before : tie.After-read-extract-table-arg5 → tie.After-words-of
-words-before c = c .before .before .before .before .before .before
+abbrev words-before : tie.After-read-extract-table-arg6 → tie.After-words-of
+words-before c = c .before .before .before .before .before .before .before
 
-abbrev start-before : tie.After-read-extract-table-arg5 → tie.Start
-start-before c = words-before c .before .before .before .before .before .before .before .before .before
+abbrev start-before : tie.After-read-extract-table-arg6 → tie.Start
+start-before c = words-before c .before .before .before .before .before .before .before .before .before .before
 
 -- From where its verdict is tested: the extract read; the words; the start, with the columns that are lent.
 abbrev read : tie.After-struct-known → tie.After-read-extract-table
-read c = c .before .before .before .before .before .before .before .before .before .before .before
+read c = c .before .before .before .before .before .before .before .before .before .before .before .before .before
 
 abbrev told : tie.After-struct-known → tie.After-words-of
 told c = words-before (read c .before)
@@ -27,7 +27,7 @@ abbrev start : tie.After-struct-known → tie.Start
 start c = start-before (read c .before)
 
 abbrev lent : tie.After-struct-known → Columns
-lent c = columns (start c .args .numbers .now) (start c .args .names .now) (start c .args .parents .now) (start c .args .starts .now) (start c .args .lengths .now)
+lent c = columns (start c .args .numbers .now) (start c .args .names .now) (start c .args .parents .now) (start c .args .starts .now) (start c .args .lengths .now) (start c .args .decoded .now)
 
 abbrev paths-at : tie.After-struct-known → CompiledPaths
 paths-at c = lentPaths (start c .args .axes .now) (start c .args .tests .now) (start c .args .conditions .now) (start c .args .paths .now) (start c .args .total)
@@ -39,13 +39,13 @@ cleared c = c .before .before .before .before .before .before .before
 abbrev refused : tie.After-refused → tie.Then1
 refused c = cleared c .before .before
 
-abbrev chosen : tie.After-slice-known21 → tie.After-select-under
-chosen c = c .before .before .before .before .before .before .before .before .before .before .before .before .before .before
+abbrev chosen : tie.After-slice-known24 → tie.After-select-under
+chosen c = c .before .before .before .before .before .before .before .before .before .before .before .before .before .before .before .before
 
-abbrev accepted-before : tie.After-select-under-arg7 → tie.Else1
-accepted-before c = c .before .before .before .before .before .before .before
+abbrev accepted-before : tie.After-select-under-arg8 → tie.Else1
+accepted-before c = c .before .before .before .before .before .before .before .before
 
-abbrev accepted : tie.After-slice-known21 → tie.Else1
+abbrev accepted : tie.After-slice-known24 → tie.Else1
 accepted c = accepted-before (chosen c .before)
 
 returns : tie.Need-returns
@@ -91,15 +91,17 @@ choose-under-spec =
     (λ c. read (refused c .before) .read-extract-table .kept .1 .1 .1 .1 .0)
     (λ c. read (refused c .before) .read-extract-table .kept .1 .1 .1 .1 .1 .0)
     (λ c. read (refused c .before) .read-extract-table .kept .1 .1 .1 .1 .1 .1 .0)
+    (λ c. read (refused c .before) .read-extract-table .kept .1 .1 .1 .1 .1 .1 .1 .0)
     (λ c. cleared c .clear-numbers .kept .0)
     (λ c. c .before .before .before .clear-places .kept .0)
     returns
     select-under-requires
-    (λ c. chosen c .select-under .kept .1 .1 .1 .1 .1 .1 .1 .0 ∙ read (accepted c .before) .read-extract-table .kept .1 .1 .0)
-    (λ c. chosen c .select-under .kept .1 .1 .1 .1 .1 .1 .1 .1 .0 ∙ read (accepted c .before) .read-extract-table .kept .1 .1 .1 .0)
-    (λ c. chosen c .select-under .kept .1 .1 .1 .1 .1 .1 .1 .1 .1 .0 ∙ read (accepted c .before) .read-extract-table .kept .1 .1 .1 .1 .0)
-    (λ c. chosen c .select-under .kept .1 .1 .1 .1 .1 .1 .1 .1 .1 .1 .0 ∙ read (accepted c .before) .read-extract-table .kept .1 .1 .1 .1 .1 .0)
-    (λ c. chosen c .select-under .kept .1 .1 .1 .1 .1 .1 .1 .1 .1 .1 .1 .0 ∙ read (accepted c .before) .read-extract-table .kept .1 .1 .1 .1 .1 .1 .0)
-    (λ c. chosen c .select-under .kept .1 .1 .1 .1 .1 .1 .1 .1 .1 .1 .1 .1 .0)
-    (λ c. chosen c .select-under .kept .1 .1 .1 .1 .1 .1 .1 .1 .1 .1 .1 .1 .1 .0)
+    (λ c. chosen c .select-under .kept .1 .1 .1 .1 .1 .1 .1 .1 .0 ∙ read (accepted c .before) .read-extract-table .kept .1 .1 .0)
+    (λ c. chosen c .select-under .kept .1 .1 .1 .1 .1 .1 .1 .1 .1 .0 ∙ read (accepted c .before) .read-extract-table .kept .1 .1 .1 .0)
+    (λ c. chosen c .select-under .kept .1 .1 .1 .1 .1 .1 .1 .1 .1 .1 .0 ∙ read (accepted c .before) .read-extract-table .kept .1 .1 .1 .1 .0)
+    (λ c. chosen c .select-under .kept .1 .1 .1 .1 .1 .1 .1 .1 .1 .1 .1 .0 ∙ read (accepted c .before) .read-extract-table .kept .1 .1 .1 .1 .1 .0)
+    (λ c. chosen c .select-under .kept .1 .1 .1 .1 .1 .1 .1 .1 .1 .1 .1 .1 .0 ∙ read (accepted c .before) .read-extract-table .kept .1 .1 .1 .1 .1 .1 .0)
+    (λ c. chosen c .select-under .kept .1 .1 .1 .1 .1 .1 .1 .1 .1 .1 .1 .1 .1 .0 ∙ read (accepted c .before) .read-extract-table .kept .1 .1 .1 .1 .1 .1 .1 .0)
+    (λ c. chosen c .select-under .kept .1 .1 .1 .1 .1 .1 .1 .1 .1 .1 .1 .1 .1 .1 .0)
+    (λ c. chosen c .select-under .kept .1 .1 .1 .1 .1 .1 .1 .1 .1 .1 .1 .1 .1 .1 .1 .0)
     returns-2)

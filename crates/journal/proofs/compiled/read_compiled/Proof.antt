@@ -5,11 +5,11 @@ use Rattle.journal.proofs.compiled.read_compiled.Tie as tie
 use Rattle.journal.specs.compiled.Compiled.{compiled-short, compiled-few, compiled-sized, compiled-read}
 
 -- from the columns that are read back to the words of the names, and from before those to the call
-abbrev words-of : tie.After-read-table-arg5 → tie.After-all-words
-words-of c = c .before .before .before .before .before .before .before .before .before .before .before .before .before .before .before .before .before .before .before .before .before .before .before .before
+abbrev words-of : tie.After-read-table-arg6 → tie.After-all-words
+words-of c = c .before .before .before .before .before .before .before .before .before .before .before .before .before .before .before .before .before .before .before .before .before .before .before .before .before
 
 abbrev start-of : tie.After-places2 → tie.Start
-start-of c = c .before .before .before .before .before .before .before .before .before
+start-of c = c .before .before .before .before .before .before .before .before .before .before
 
 all-words-requires : tie.Need-all-words-requires
 all-words-requires c κs =
@@ -31,23 +31,26 @@ read-table-requires c κs =
     (compiled-sized schema compiled (start .pre .0), compiled-few schema compiled (start .pre .0), start .pre .1, start .pre .2)
 
 same-length : tie.Need-same-length
-same-length c = c .before .before .before .before .before .before .before .before .before .numbers .given
+same-length c = c .before .before .before .before .before .before .before .before .before .before .before .numbers .given
 
 same-length-2 : tie.Need-same-length-2
-same-length-2 c = c .before .before .before .before .before .before .before .names .given
+same-length-2 c = c .before .before .before .before .before .before .before .before .before .names .given
 
 same-length-3 : tie.Need-same-length-3
-same-length-3 c = c .before .before .before .before .before .parents .given
+same-length-3 c = c .before .before .before .before .before .before .before .parents .given
 
 same-length-4 : tie.Need-same-length-4
-same-length-4 c = c .before .before .before .starts .given
+same-length-4 c = c .before .before .before .before .before .starts .given
 
 same-length-5 : tie.Need-same-length-5
-same-length-5 c = c .before .lengths .given
+same-length-5 c = c .before .before .before .lengths .given
+
+same-length-6 : tie.Need-same-length-6
+same-length-6 c = c .before .decoded .given
 
 returns : tie.Need-returns
 returns c =
-    let read = c .before .before .before .before .before .before .before .before .before .before in
+    let read = c .before .before .before .before .before .before .before .before .before .before .before .before in
     let named = words-of (read .before) in
     let start = start-of (named .before) in
     compiled-read (now (start .args .schema)) (start .args .compiled) (start .pre .0) _ (named .all-words .ensures) (read .read-table .ensures)
@@ -64,4 +67,5 @@ read-compiled-spec =
     same-length-3
     same-length-4
     same-length-5
+    same-length-6
     returns)

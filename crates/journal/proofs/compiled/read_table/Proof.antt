@@ -6,24 +6,24 @@ use Rattle.journal.specs.compiled.Tables.{cleared-equal, table-kept, tab
 
 -- The states that several needs go back to: what is judged, from where its verdict is known; the columns cleared before it; the start.
 abbrev judged : tie.After-struct-known → tie.After-judge
-judged c = c .before .before .before .before .before .before .before .before .before .before .before
+judged c = c .before .before .before .before .before .before .before .before .before .before .before .before .before
 
 abbrev cleared : tie.After-judge → tie.After-clear
-cleared c = c .before .before .before .before .before .before .before .before .before .before .before .before .before .before .before .before
+cleared c = c .before .before .before .before .before .before .before .before .before .before .before .before .before .before .before .before .before .before .before
 
 abbrev start : tie.After-clear → tie.Start
-start c = c .before .before .before .before .before .before .before .before .before .before .before .before
+start c = c .before .before .before .before .before .before .before .before .before .before .before .before .before .before
 
 -- from the exit of what is refused: the columns cleared again, and the test
-abbrev again : tie.After-slice-known20 → tie.After-clear2
-again c = c .before .before .before .before .before .before .before .before .before .before
+abbrev again : tie.After-slice-known24 → tie.After-clear2
+again c = c .before .before .before .before .before .before .before .before .before .before .before .before
 
-abbrev tested : tie.After-slice-known20 → tie.Else1
-tested c = again c .before .before .before .before .before .before
+abbrev tested : tie.After-slice-known24 → tie.Else1
+tested c = again c .before .before .before .before .before .before .before
 
 judge-requires : tie.Need-judge-requires
 judge-requires c κs =
-    let empty = c .before .before .before .before .before .before .before .before .before .before .before .before .before .before .before in
+    let empty = c .before .before .before .before .before .before .before .before .before .before .before .before .before .before .before .before .before .before in
     let pre = start empty .pre in
     (pre .0, pre .1, pre .2, cleared-equal _ _ (pre .3) (empty .clear .ensures))
 
@@ -41,6 +41,7 @@ returns-2 c =
     (was .judge .kept .1 .1 .1 .1 .1 .1 .1 .1 .1 .1 .1 .1 .1 .1 .0 ∙ cleared was .clear .kept .1 .1 .0)
     (was .judge .kept .1 .1 .1 .1 .1 .1 .1 .1 .1 .1 .1 .1 .1 .1 .1 .0 ∙ cleared was .clear .kept .1 .1 .1 .0)
     (was .judge .kept .1 .1 .1 .1 .1 .1 .1 .1 .1 .1 .1 .1 .1 .1 .1 .1 .0 ∙ cleared was .clear .kept .1 .1 .1 .1 .0)
+    (was .judge .kept .1 .1 .1 .1 .1 .1 .1 .1 .1 .1 .1 .1 .1 .1 .1 .1 .1 .0 ∙ cleared was .clear .kept .1 .1 .1 .1 .1 .0)
 
 pub read-table-spec : {M : Type 1} → statement M
 read-table-spec =
@@ -53,6 +54,7 @@ read-table-spec =
     (λ c. judged (c .before) .judge .kept .1 .1 .1 .1 .1 .1 .1 .1 .1 .1 .1 .1 .1 .1 .0 ∙ cleared (judged (c .before)) .clear .kept .1 .1 .0)
     (λ c. judged (c .before) .judge .kept .1 .1 .1 .1 .1 .1 .1 .1 .1 .1 .1 .1 .1 .1 .1 .0 ∙ cleared (judged (c .before)) .clear .kept .1 .1 .1 .0)
     (λ c. judged (c .before) .judge .kept .1 .1 .1 .1 .1 .1 .1 .1 .1 .1 .1 .1 .1 .1 .1 .1 .0 ∙ cleared (judged (c .before)) .clear .kept .1 .1 .1 .1 .0)
+    (λ c. judged (c .before) .judge .kept .1 .1 .1 .1 .1 .1 .1 .1 .1 .1 .1 .1 .1 .1 .1 .1 .1 .0 ∙ cleared (judged (c .before)) .clear .kept .1 .1 .1 .1 .1 .0)
     returns
     (λ c κs. tt)
     (λ c. again c .clear2 .kept .0 ∙ judged (tested c .before) .judge .kept .1 .1 .1 .1 .1 .1 .1 .1 .1 .1 .1 .1 .0 ∙ cleared (judged (tested c .before)) .clear .kept .0)
@@ -60,4 +62,5 @@ read-table-spec =
     (λ c. again c .clear2 .kept .1 .1 .0 ∙ judged (tested c .before) .judge .kept .1 .1 .1 .1 .1 .1 .1 .1 .1 .1 .1 .1 .1 .1 .0 ∙ cleared (judged (tested c .before)) .clear .kept .1 .1 .0)
     (λ c. again c .clear2 .kept .1 .1 .1 .0 ∙ judged (tested c .before) .judge .kept .1 .1 .1 .1 .1 .1 .1 .1 .1 .1 .1 .1 .1 .1 .1 .0 ∙ cleared (judged (tested c .before)) .clear .kept .1 .1 .1 .0)
     (λ c. again c .clear2 .kept .1 .1 .1 .1 .0 ∙ judged (tested c .before) .judge .kept .1 .1 .1 .1 .1 .1 .1 .1 .1 .1 .1 .1 .1 .1 .1 .1 .0 ∙ cleared (judged (tested c .before)) .clear .kept .1 .1 .1 .1 .0)
+    (λ c. again c .clear2 .kept .1 .1 .1 .1 .1 .0 ∙ judged (tested c .before) .judge .kept .1 .1 .1 .1 .1 .1 .1 .1 .1 .1 .1 .1 .1 .1 .1 .1 .1 .0 ∙ cleared (judged (tested c .before)) .clear .kept .1 .1 .1 .1 .1 .0)
     returns-2)

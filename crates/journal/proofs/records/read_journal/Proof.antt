@@ -11,7 +11,7 @@ use Rattle.table_spec.specs.Columns.{Columns, columns, sizesOf, equalSizes}
 
 -- The start, and the record and the columns that are handed in, from where they are tested.
 abbrev start-before : tie.After-is-lent → tie.Start
-start-before c = c .before .before .before .before .before .before .before
+start-before c = c .before .before .before .before .before .before .before .before
 
 abbrev held : tie.After-is-lent → Schema
 held c = start-before c .args .schema
@@ -19,21 +19,21 @@ held c = start-before c .args .schema
 abbrev lent : tie.After-is-lent → Columns
 lent c =
     let at = start-before c .args in
-    columns (at .numbers .now) (at .names .now) (at .parents .now) (at .starts .now) (at .lengths .now)
+    columns (at .numbers .now) (at .names .now) (at .parents .now) (at .starts .now) (at .lengths .now) (at .decoded .now)
 
 -- The schema compiled, from where the journal is read, and the test passed before it.
-abbrev compiled-before : tie.After-read-compiled-arg5 → tie.After-compile
-compiled-before c = c .before .before .before .before .before
+abbrev compiled-before : tie.After-read-compiled-arg6 → tie.After-compile
+compiled-before c = c .before .before .before .before .before .before
 
 abbrev passed-before : tie.After-compile → tie.Else1
 passed-before c = c .before .before .before
 
 -- The last call before each exit.
 abbrev clear-before : tie.After-refused → tie.After-clear
-clear-before c = c .before .before .before .before .before .before .before .before .before .before .before
+clear-before c = c .before .before .before .before .before .before .before .before .before .before .before .before .before
 
-abbrev read-before : tie.After-slice-known15 → tie.After-read-compiled
-read-before c = c .before .before .before .before .before .before .before .before .before .before
+abbrev read-before : tie.After-slice-known18 → tie.After-read-compiled
+read-before c = c .before .before .before .before .before .before .before .before .before .before .before .before
 
 -- What is tested of the columns; and both tests pass.
 abbrev columns-test : tie.After-is-lent → Bool
@@ -44,7 +44,7 @@ passes c = sym (c .before .is-lent .ensures) ∙ not-false _ (c .if1 .left)
 
 returns : tie.Need-returns
 returns c =
-    let tested = clear-before c .before .before .before .before .before .before in
+    let tested = clear-before c .before .before .before .before .before .before .before in
     let schema = held (tested .before) in
     let lent = sym (tested .before .is-lent .ensures) ∙ not-true _ (tested .if1 .taken) in
     (refused-1 (schema .bytes) (schema .len) _ _ lent _ (c .refused .ensures), clear-before c .clear .ensures ∙ cleared-1 (schema .bytes) (schema .len) _ _ lent)
@@ -85,6 +85,7 @@ read-journal-spec =
     (λ c. clear-before c .clear .kept .1 .1 .0)
     (λ c. clear-before c .clear .kept .1 .1 .1 .0)
     (λ c. clear-before c .clear .kept .1 .1 .1 .1 .0)
+    (λ c. clear-before c .clear .kept .1 .1 .1 .1 .1 .0)
     returns
     array-share-prefix-bytes
     slice-aggregate-declared
@@ -95,4 +96,5 @@ read-journal-spec =
     (λ c. read-before c .read-compiled .kept .1 .1 .1 .1 .1 .1 .0)
     (λ c. read-before c .read-compiled .kept .1 .1 .1 .1 .1 .1 .1 .0)
     (λ c. read-before c .read-compiled .kept .1 .1 .1 .1 .1 .1 .1 .1 .0)
+    (λ c. read-before c .read-compiled .kept .1 .1 .1 .1 .1 .1 .1 .1 .1 .0)
     returns-2)

@@ -15,7 +15,7 @@ returns-2 c t =
     let test = size .before .before .before in
     let start = test .before .before in
     let run : start .args .l .event ≡ 4 = ⊎-elim (λ e. absurd (test .if1 .left e)) (λ e. e) (start .pre .3) in
-    event-run (size .run-size .result) run (size .run-size .ensures) (c .on-run .ensures .0) (c .on-run .ensures .1)
+    event-run (size .run-size .result) run (size .run-size .ensures) (c .on-run .ensures .0) (c .on-run .ensures .1 _)
 
 pub on-data-event-spec : {M : Type 1} → statement M
 on-data-event-spec =

@@ -9,8 +9,9 @@ returns c = entity-none (c .before .before .before .pre) (c .before .before .if1
 
 returns-2 : tie.Need-returns-2
 returns-2 c =
-    let next = c .before .before .before .before in
-    entity-past (next .before .before .pre) (next .entity-next .result) (next .entity-next .ensures) (c .before .before .before .if2 .taken) (c .goes .ensures) (c .before .note-foreign .ensures)
+    let noted = c .before .before .before in
+    let next = noted .before .before .before in
+    entity-past (next .before .before .pre) (next .entity-next .result) (next .entity-next .ensures) (noted .before .before .if2 .taken) (c .goes .ensures) (noted .note-foreign .ensures) (c .before .entity-ends .ensures)
 
 returns-3 : tie.Need-returns-3
 returns-3 c =
@@ -26,4 +27,4 @@ returns-4 c =
     entity-more (next .before .before .pre) (next .entity-next .result) (next .entity-next .ensures) (second .if2 .left) (third .if3 .left) (c .counts .ensures) (c .before .note-foreign2 .ensures)
 
 pub entity-byte-spec : {M : Type 1} → statement M
-entity-byte-spec = tie.close (tie.spec (λ c κs. search needs) returns (λ c κs. search needs) (λ c κs. search needs) (λ c κs. search needs) returns-2 (λ c κs. search needs) returns-3 (λ c κs. search needs) (λ c κs. search needs) returns-4)
+entity-byte-spec = tie.close (tie.spec (λ c κs. search needs) returns (λ c κs. search needs) (λ c κs. search needs) (λ c κs. search needs) (λ c κs. search needs) returns-2 (λ c κs. search needs) returns-3 (λ c κs. search needs) (λ c κs. search needs) returns-4)

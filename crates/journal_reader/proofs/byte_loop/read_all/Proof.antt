@@ -16,29 +16,30 @@ use Rattle.journal_reader.specs.byte_loop.Whole.{SomeRead, none-read, mo
 use Rattle.table_spec.specs.Columns.{columns}
 
 abbrev Inv-loop : tie.InvT-loop
-Inv-loop text table words hints count kinds firsts lasts nullables elements predecessors sizes levels₀ numbers₀ names₀ parents₀ starts₀ lengths₀ places₀ x₀ at₀ levels numbers names parents starts lengths places x at =
-    SomeRead (schemaCells words count kinds firsts lasts nullables elements predecessors sizes) text at levels₀ places₀ (columns numbers₀ names₀ parents₀ starts₀ lengths₀) levels
-    places (columns numbers names parents starts lengths) x
+Inv-loop text table words hints count kinds firsts lasts nullables elements predecessors sizes levels₀ numbers₀ names₀ parents₀ starts₀ lengths₀ decoded₀ places₀ x₀ at₀ levels numbers names parents starts lengths decoded places x at =
+    SomeRead (schemaCells words count kinds firsts lasts nullables elements predecessors sizes) text at levels₀ places₀ (columns numbers₀ names₀ parents₀ starts₀ lengths₀ decoded₀) levels
+    places (columns numbers names parents starts lengths decoded) x
     × (at ≤ length text)
     × (length numbers ≡ length numbers₀)
     × (length names ≡ length names₀)
     × (length parents ≡ length parents₀)
     × (length starts ≡ length starts₀)
     × (length lengths ≡ length lengths₀)
+    × (length decoded ≡ length decoded₀)
 
 abbrev μ-loop : tie.MeasureT-loop
-μ-loop text table words hints count kinds firsts lasts nullables elements predecessors sizes levels₀ numbers₀ names₀ parents₀ starts₀ lengths₀ places₀ x₀ at₀ levels numbers names parents starts lengths places x at =
+μ-loop text table words hints count kinds firsts lasts nullables elements predecessors sizes levels₀ numbers₀ names₀ parents₀ starts₀ lengths₀ decoded₀ places₀ x₀ at₀ levels numbers names parents starts lengths decoded places x at =
     length text - at
 
 -- the states that answers go back to: the call, the text known in a turn, what the turn read, and the turn
 abbrev start-of : tie.After-start Inv-loop μ-loop → tie.Start Inv-loop μ-loop
-start-of c = c .before .before .before .before .before .before .before
+start-of c = c .before .before .before .before .before .before .before .before
 
-abbrev known-of : tie.After-read-byte-arg7 Inv-loop μ-loop → tie.After-shared-slice-known2 Inv-loop μ-loop
-known-of c = c .before .before .before .before .before .before .before .before
+abbrev known-of : tie.After-read-byte-arg8 Inv-loop μ-loop → tie.After-shared-slice-known2 Inv-loop μ-loop
+known-of c = c .before .before .before .before .before .before .before .before .before
 
-abbrev read-of : tie.After-slice-known10 Inv-loop μ-loop → tie.After-read-byte Inv-loop μ-loop
-read-of c = c .before .before .before .before .before .before .before .before .before .before
+abbrev read-of : tie.After-slice-known12 Inv-loop μ-loop → tie.After-read-byte Inv-loop μ-loop
+read-of c = c .before .before .before .before .before .before .before .before .before .before .before .before
 
 abbrev turn-of : tie.After-read-byte Inv-loop μ-loop → tie.In-loop Inv-loop μ-loop
 turn-of c = known-of (c .before) .before
@@ -50,7 +51,7 @@ next-inside : (k n : ℕ) → k < n → k + 1 ≤ n
 next-inside k n h = omega arith
 
 loop-holds : tie.Need-loop-holds Inv-loop μ-loop
-loop-holds c = (none-read (c .start .ensures) (start-of c .pre .0), omega arith, refl, refl, refl, refl, refl)
+loop-holds c = (none-read (c .start .ensures) (start-of c .pre .0), omega arith, refl, refl, refl, refl, refl, refl)
 
 read-byte-requires : tie.Need-read-byte-requires Inv-loop μ-loop
 read-byte-requires c κs =
@@ -64,7 +65,7 @@ read-byte-requires c κs =
       start .pre .4,
       record {
         room = subst (λ (k : ℕ). k < noPlace) (sym (at .inv .0 .place)) (lt-trans (test .loop-test .taken) (start .pre .2));
-        four = at .inv .0 .usable .four;
+        lent = at .inv .0 .usable .lent;
         byte = byte;
         kind = start .pre .1 .kind (getD (start .args .text .now) (at .at) 0) byte;
       },
@@ -80,14 +81,15 @@ loop-again c =
     let read = read-of c in
     let test = turn-of read in
     let at = test .before .loop in
-    let after-parents = c .before .before .before .before .before in (
+    let after-parents = c .before .before .before .before .before .before .before in (
       more-read (test .loop-test .taken) (at .inv .0) (read .read-byte .ensures),
       next-inside _ _ (test .loop-test .taken),
       after-parents .before .before .before .before .numbers .given ∙ at .inv .2,
       after-parents .before .before .names .given ∙ at .inv .3,
       after-parents .parents .given ∙ at .inv .4,
-      c .before .before .before .starts .given ∙ at .inv .5,
-      c .before .lengths .given ∙ at .inv .6,
+      c .before .before .before .before .before .starts .given ∙ at .inv .5,
+      c .before .before .before .lengths .given ∙ at .inv .6,
+      c .before .decoded .given ∙ at .inv .7,
     )
 
 returns : tie.Need-returns Inv-loop μ-loop
@@ -113,4 +115,5 @@ read-all-spec =
     (λ c. c .before .loop .inv .4)
     (λ c. c .before .loop .inv .5)
     (λ c. c .before .loop .inv .6)
+    (λ c. c .before .loop .inv .7)
     returns)

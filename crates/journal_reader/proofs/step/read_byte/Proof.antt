@@ -6,25 +6,25 @@ use Rattle.journal_reader.specs.step.Steps.{byte-read}
 
 -- from the lexer's step to the call
 abbrev start-of : tie.After-step → tie.Start
-start-of c = c .before .before .before .before .before .before .before .before .before
+start-of c = c .before .before .before .before .before .before .before .before .before .before
 
 read-event-requires : tie.Need-read-event-requires
 read-event-requires c κs =
-    let lexed = c .before .before .before .before .before .before .before in
+    let lexed = c .before .before .before .before .before .before .before .before in
     let start = start-of lexed in
     let usable = start .pre .0 in (
       usable .safe,
       start .pre .1,
       few-nodes usable (start .pre .3 .room),
       start .pre .2,
-      lexed .step .ensures .meant (usable .valid .mode) (usable .valid .means) .four,
+      lexed .step .ensures .meant (usable .valid .mode) (usable .valid .means) .lent .five,
       usable .equal,
     )
 
 returns : tie.Need-returns
 returns c =
-    let event = c .before .before .before .before .before .before .before .before .before .before in
-    let lexed = event .before .before .before .before .before .before .before .before in
+    let event = c .before .before .before .before .before .before .before .before .before .before .before .before in
+    let lexed = event .before .before .before .before .before .before .before .before .before in
     let start = start-of lexed in
     byte-read (start .pre .0) (start .pre .3 .room) (lexed .step .ensures) (event .read-event .ensures)
 
@@ -32,11 +32,12 @@ pub read-byte-spec : {M : Type 1} → statement M
 read-byte-spec =
     tie.close
     (tie.spec
-    (λ c κs. c .before .before .before .before .before .before .before .before .pre .3)
+    (λ c κs. c .before .before .before .before .before .before .before .before .before .pre .3)
     read-event-requires
-    (λ c. c .before .before .before .before .before .before .before .before .before .numbers .given)
-    (λ c. c .before .before .before .before .before .before .before .names .given)
-    (λ c. c .before .before .before .before .before .parents .given)
-    (λ c. c .before .before .before .starts .given)
-    (λ c. c .before .lengths .given)
+    (λ c. c .before .before .before .before .before .before .before .before .before .before .before .numbers .given)
+    (λ c. c .before .before .before .before .before .before .before .before .before .names .given)
+    (λ c. c .before .before .before .before .before .before .before .parents .given)
+    (λ c. c .before .before .before .before .before .starts .given)
+    (λ c. c .before .before .before .lengths .given)
+    (λ c. c .before .decoded .given)
     returns)

@@ -6,29 +6,29 @@ use Rattle.kept_rows.proofs.columns.cut_into.Tie as tie
 use Rattle.kept_rows.specs.columns.Cut.{cut-pass, cut-short, cut-done}
 
 -- The rows numbered, from where their number is tested, and the start.
-abbrev numbered-before : tie.After-slice-known7 → tie.After-number-kept
+abbrev numbered-before : tie.After-slice-known8 → tie.After-number-kept
 numbered-before c = c .before .before
 
 abbrev start-before : tie.After-number-kept-arg → tie.Start
-start-before c = c .before .before .before .before .before .before .before .before .before .before .before .before
+start-before c = c .before .before .before .before .before .before .before .before .before .before .before .before .before .before
 
 -- From the exit where there is too little room: the columns cleared, and the test.
-abbrev short-before : tie.After-slice-known12 → tie.After-clear-columns
-short-before c = c .before .before .before .before .before .before .before .before .before .before
+abbrev short-before : tie.After-slice-known14 → tie.After-clear-columns
+short-before c = c .before .before .before .before .before .before .before .before .before .before .before .before
 
-abbrev few-before : tie.After-slice-known12 → tie.Then1
-few-before c = short-before c .before .before .before .before .before .before
+abbrev few-before : tie.After-slice-known14 → tie.Then1
+few-before c = short-before c .before .before .before .before .before .before .before
 
 -- The test, from where the rows are written.
-abbrev room-before : tie.After-write-rows-arg6 → tie.Else1
-room-before c = c .before .before .before .before .before .before
+abbrev room-before : tie.After-write-rows-arg7 → tie.Else1
+room-before c = c .before .before .before .before .before .before .before
 
 -- From the last exit: the rest cleared, and the rows written.
-abbrev rest-before : tie.After-slice-known22 → tie.After-clear-columns2
-rest-before c = c .before .before .before .before .before .before .before .before .before .before
+abbrev rest-before : tie.After-slice-known26 → tie.After-clear-columns2
+rest-before c = c .before .before .before .before .before .before .before .before .before .before .before .before
 
-abbrev written-before : tie.After-slice-known22 → tie.After-write-rows
-written-before c = rest-before c .before .before .before .before .before .before .before .before .before .before .before .before .before .before .before .before
+abbrev written-before : tie.After-slice-known26 → tie.After-write-rows
+written-before c = rest-before c .before .before .before .before .before .before .before .before .before .before .before .before .before .before .before .before .before .before .before
 
 number-kept-requires : tie.Need-number-kept-requires
 number-kept-requires c κs =
@@ -67,13 +67,15 @@ cut-into-spec =
     (λ c. short-before c .clear-columns .kept .1 .1 .0)
     (λ c. short-before c .clear-columns .kept .1 .1 .1 .0)
     (λ c. short-before c .clear-columns .kept .1 .1 .1 .1 .0)
+    (λ c. short-before c .clear-columns .kept .1 .1 .1 .1 .1 .0)
     returns
     write-rows-requires
     (λ c κs. tt)
     (λ c. numbered-before (room-before (written-before c .before) .before) .number-kept .kept .1 .1 .1 .0)
-    (λ c. rest-before c .clear-columns2 .kept .0 ∙ written-before c .write-rows .kept .1 .1 .1 .1 .1 .1 .0)
-    (λ c. rest-before c .clear-columns2 .kept .1 .0 ∙ written-before c .write-rows .kept .1 .1 .1 .1 .1 .1 .1 .0)
-    (λ c. rest-before c .clear-columns2 .kept .1 .1 .0 ∙ written-before c .write-rows .kept .1 .1 .1 .1 .1 .1 .1 .1 .0)
-    (λ c. rest-before c .clear-columns2 .kept .1 .1 .1 .0 ∙ written-before c .write-rows .kept .1 .1 .1 .1 .1 .1 .1 .1 .1 .0)
-    (λ c. rest-before c .clear-columns2 .kept .1 .1 .1 .1 .0 ∙ written-before c .write-rows .kept .1 .1 .1 .1 .1 .1 .1 .1 .1 .1 .0)
+    (λ c. rest-before c .clear-columns2 .kept .0 ∙ written-before c .write-rows .kept .1 .1 .1 .1 .1 .1 .1 .0)
+    (λ c. rest-before c .clear-columns2 .kept .1 .0 ∙ written-before c .write-rows .kept .1 .1 .1 .1 .1 .1 .1 .1 .0)
+    (λ c. rest-before c .clear-columns2 .kept .1 .1 .0 ∙ written-before c .write-rows .kept .1 .1 .1 .1 .1 .1 .1 .1 .1 .0)
+    (λ c. rest-before c .clear-columns2 .kept .1 .1 .1 .0 ∙ written-before c .write-rows .kept .1 .1 .1 .1 .1 .1 .1 .1 .1 .1 .0)
+    (λ c. rest-before c .clear-columns2 .kept .1 .1 .1 .1 .0 ∙ written-before c .write-rows .kept .1 .1 .1 .1 .1 .1 .1 .1 .1 .1 .1 .0)
+    (λ c. rest-before c .clear-columns2 .kept .1 .1 .1 .1 .1 .0 ∙ written-before c .write-rows .kept .1 .1 .1 .1 .1 .1 .1 .1 .1 .1 .1 .1 .0)
     returns-2)

@@ -29,7 +29,7 @@ sub-out-parents c =
 
 returns-2 : tie.Need-returns-2
 returns-2 c =
-    let tested = kept (c .before .before) in
+    let tested = kept (c .before .before .before) in
     let start = tested .before .before .args in
     row-kept _ _ _ (start .r) (tested .if1 .left)
 
@@ -54,6 +54,11 @@ cut-row-spec =
     mul-out-parents
     shared-slice-read-out-parents
     sub-out-parents
+    (λ c. search needs)
+    (λ c. search needs)
+    (λ c. search needs)
+    (λ c. search needs)
+    (λ c. search needs)
     (λ c. search needs)
     (λ c. search needs)
     (λ c. search needs)

@@ -9,15 +9,15 @@ use Rattle.selection.proofs.first_paths.first_paths.Tie as tie
 use Rattle.selection.specs.first_paths.Firsts.{FirstsSoFar, firsts-begun, firsts-path, firsts-next, firsts-all}
 
 abbrev Inv-loop : tie.InvT-loop
-Inv-loop axes tests conditions paths total parents codes firsts₀ marks₀ held₀ steps₀ next₀ i₀ firsts marks held steps next i =
+Inv-loop axes tests conditions paths total parents codes starts lengths decoded lent firsts₀ marks₀ held₀ steps₀ next₀ i₀ firsts marks held steps next i =
     FirstsSoFar (lentPaths axes tests conditions paths total) parents codes i firsts marks held steps next
 
 abbrev μ-loop : tie.MeasureT-loop
-μ-loop axes tests conditions paths total parents codes firsts₀ marks₀ held₀ steps₀ next₀ i₀ firsts marks held steps next i = total - i
+μ-loop axes tests conditions paths total parents codes starts lengths decoded lent firsts₀ marks₀ held₀ steps₀ next₀ i₀ firsts marks held steps next i = total - i
 
 -- the states that answers go back to
 abbrev start-before : tie.After-slice-known6 Inv-loop μ-loop → tie.Start Inv-loop μ-loop
-start-before c = c .before .before .before .before .before .before .before .before .before .before .before
+start-before c = c .before .before .before .before .before .before .before .before .before .before .before .before .before .before .before
 
 abbrev turn-before : tie.After-select-path Inv-loop μ-loop → tie.At-loop Inv-loop μ-loop
 turn-before c = c .before .before .before .before .before .before
@@ -26,23 +26,24 @@ abbrev path-before : tie.After-slice-known10 Inv-loop μ-loop → tie.After-sele
 path-before c = c .before .before .before .before .before .before .before .before
 
 loop-holds : tie.Need-loop-holds Inv-loop μ-loop
-loop-holds c = firsts-begun _ _ _ _ _ _ _ _ _ ((start-before c) .pre) (c .before .before .fill .ensures)
+loop-holds c = firsts-begun _ _ _ _ _ _ _ _ _ ((start-before c) .pre .0) (c .before .before .fill .ensures)
 
 select-path-requires : tie.Need-select-path-requires Inv-loop μ-loop
 select-path-requires c κs =
     let turn = c .before .before .before .before .before in
     let at = turn .loop in
-    firsts-path _ _ _ (at .i) (at .firsts) (at .marks) (at .held) (at .steps) (at .next) (at .inv) _ _ _ _ _ ((start-before (turn .before)) .pre) (omega arith)
+    let start = start-before (turn .before) in
+    (firsts-path _ _ _ (at .i) (at .firsts) (at .marks) (at .held) (at .steps) (at .next) (at .inv) _ _ _ _ _ (start .pre .0) (omega arith), start .pre .1)
 
 add-i : tie.Need-add-i Inv-loop μ-loop
 add-i c =
     let turn = turn-before (path-before c) in
-    omega (arith, (start-before (turn .before)) .pre .shaped .few, turn .loop .inv .within)
+    omega (arith, (start-before (turn .before)) .pre .0 .shaped .few, turn .loop .inv .within)
 
 cast-note : tie.Need-cast-note Inv-loop μ-loop
 cast-note c =
     let turn = turn-before (path-before (c .before)) in
-    omega (arith, (start-before (turn .before)) .pre .shaped .few, turn .loop .inv .within)
+    omega (arith, (start-before (turn .before)) .pre .0 .shaped .few, turn .loop .inv .within)
 
 note-requires : tie.Need-note-requires Inv-loop μ-loop
 note-requires c κs =

@@ -15,7 +15,7 @@ use Rattle.text_spec.specs.Limits.{maxSchemaBytes, maxBundleBytes}
 
 -- the states that answers go back to
 abbrev start-before : tie.After-is-bundle-record → tie.Start
-start-before c = c .before .before .before .before .before .before .before .before .before
+start-before c = c .before .before .before .before .before .before .before .before .before .before
 
 -- both records pass their test, so that their texts are not too long
 both-pass : (c : tie.Else1) → BothPass (start-before (c .before) .args .schema .bytes) (start-before (c .before) .args .schema .len) (start-before (c .before) .args .bundle .bytes) (start-before (c .before) .args .bundle .len) ≡ true

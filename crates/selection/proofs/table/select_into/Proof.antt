@@ -8,7 +8,7 @@ use Rattle.selection.specs.table.Tables.{asked-pass, asked-answered}
 
 -- the states that answers go back to
 abbrev start-before : tie.After-past-asked → tie.Start
-start-before c = c .before .before .before .before .before .before .before .before .before .before .before
+start-before c = c .before .before .before .before .before .before .before .before .before .before .before .before .before .before .before
 
 abbrev asked-before : tie.After-select-paths → tie.After-past-asked
 asked-before c = c .before .before .before .before .before .before .before
@@ -19,12 +19,13 @@ joined-before c = c .before .before .before .before .before .before .before .bef
 select-paths-requires : tie.Need-select-paths-requires
 select-paths-requires c κs =
     let asked = c .before .before .before .before .before .before in
-    asked-pass _ _ _ _ _ _ _ _ _ (start-before asked .pre) _ _ (asked .before .first-asked .ensures) (asked .past-asked .ensures)
+    let start = start-before asked in
+    (asked-pass _ _ _ _ _ _ _ _ _ (start .pre .0) _ _ (asked .before .first-asked .ensures) (asked .past-asked .ensures), start .pre .1)
 
 sub-in-room : tie.Need-sub-in-room
 sub-in-room c =
     let asked = asked-before (joined-before c) in
-    asked-order _ _ _ _ (start-before asked .pre .inside) (asked .before .first-asked .ensures) (asked .past-asked .ensures) .0
+    asked-order _ _ _ _ (start-before asked .pre .0 .inside) (asked .before .first-asked .ensures) (asked .past-asked .ensures) .0
 
 -- the state of what was lent, once the paths have been selected
 abbrev lent-before : tie.After-slice-known14 → tie.After-slice-known12
@@ -53,7 +54,7 @@ returns c s text rows w =
     let answered = c .before .before .before .before in
     let joined = joined-before (answered .before .before .before) in
     let asked = asked-before joined in
-    asked-answered _ _ _ _ _ (start-before asked .pre .inside) _ _ (asked .before .first-asked .ensures) (asked .past-asked .ensures) s text rows w _ _ _ _ _
+    asked-answered _ _ _ _ _ (start-before asked .pre .0 .inside) _ _ (asked .before .first-asked .ensures) (asked .past-asked .ensures) s text rows w _ _ _ _ _
     (joined .select-paths .ensures) _ _ _ (answered .in-room .ensures)
 
 pub select-into-spec : {M : Type 1} → statement M

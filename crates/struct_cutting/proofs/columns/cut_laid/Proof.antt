@@ -29,15 +29,18 @@ module _ (c : tie.Start) where
   lengths-long : length (c .args .laid .lengths) ≡ cellCount
   lengths-long = search needs
 
+  decoded-long : length (c .args .laid .decoded) ≡ cellCount
+  decoded-long = search needs
+
   columns-long : sizesOf (columnsIn (c .args .laid)) ≡ allOfSize cellCount
-  columns-long = sizes-of (columnsIn (c .args .laid)) numbers-long names-long parents-long starts-long lengths-long
+  columns-long = sizes-of (columnsIn (c .args .laid)) numbers-long names-long parents-long starts-long lengths-long decoded-long
 
 -- back to the size that is lent from the first column of which a part is, and from there to the start
-abbrev told : tie.After-sizes2 → tie.After-cell-of
-told c = c .before .before .before .before .before
+abbrev told : tie.After-decoded-sizes2 → tie.After-cell-of
+told c = c .before .before .before .before .before .before
 
 abbrev start : tie.After-cell-of → tie.Start
-start c = c .before .before .before .before .before .before
+start c = c .before .before .before .before .before .before .before
 
 -- the part of a column that is lent, once its size is known
 inside : (c : tie.After-cell-of) → c .cell-of .result ≤ cellCount
@@ -48,13 +51,13 @@ sized c = cell-part (c .cell-of .result) (start c .args .room) (c .cell-of .ensu
 
 returns : tie.Need-returns
 returns c = λ rows long laid.
-    let answered = c .before .before .before .before .before in
-    let made = told (answered .before .before .before .before .before .before) in
-    let cells = answered .cut-table .last .1 .1 .1 .1 .1 .1 .1 .1 in
+    let answered = c .before .before .before .before .before .before in
+    let made = told (answered .before .before .before .before .before .before .before) in
+    let cells = answered .cut-table .last .1 .1 .1 .1 .1 .1 .1 .1 .1 in
     let at = start made in
     let schema = at .args .schema in
     cut-for (recordWith (schema .bytes) (schema .len)) (at .args .word) rows (at .args .room) (columnsIn (at .args .laid)) (at .args .count) (columns-long at) long laid (at .pre)
-    (made .cell-of .result) (made .cell-of .ensures) (answered .cut-table .result) (cells .0) (cells .1 .0) (cells .1 .1 .0) (cells .1 .1 .1 .0) (cells .1 .1 .1 .1 .0) (answered .cut-table .ensures)
+    (made .cell-of .result) (made .cell-of .ensures) (answered .cut-table .result) (cells .0) (cells .1 .0) (cells .1 .1 .0) (cells .1 .1 .1 .0) (cells .1 .1 .1 .1 .0) (cells .1 .1 .1 .1 .1 .0) (answered .cut-table .ensures)
 
 pub cut-laid-spec : {M : Type 1} → statement M
 cut-laid-spec =
@@ -66,6 +69,7 @@ cut-laid-spec =
     (λ c. sym (parents-long (start (c .before .before .before))))
     (λ c. sym (starts-long (start (c .before .before .before .before))))
     (λ c. sym (lengths-long (start (c .before .before .before .before .before))))
+    (λ c. sym (decoded-long (start (c .before .before .before .before .before .before))))
     (λ c. inside (told c))
     (λ c. sized (told (c .before)))
     (λ c. inside (told (c .before)))
@@ -76,5 +80,7 @@ cut-laid-spec =
     (λ c. sized (told (c .before .before .before .before)))
     (λ c. inside (told (c .before .before .before .before)))
     (λ c. sized (told (c .before .before .before .before .before)))
+    (λ c. inside (told (c .before .before .before .before .before)))
+    (λ c. sized (told (c .before .before .before .before .before .before)))
     (λ c κs. tt)
     returns)

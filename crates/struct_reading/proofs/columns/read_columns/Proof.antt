@@ -47,15 +47,21 @@ array-borrow-prefix-lengths c = inside (c .before .before .before .before)
 slice-aggregate-read-journal-5 : tie.Need-slice-aggregate-read-journal-5
 slice-aggregate-read-journal-5 c = sized (c .before .before .before .before .before)
 
+array-borrow-prefix-decoded : tie.Need-array-borrow-prefix-decoded
+array-borrow-prefix-decoded c = inside (c .before .before .before .before .before)
+
+slice-aggregate-read-journal-6 : tie.Need-slice-aggregate-read-journal-6
+slice-aggregate-read-journal-6 c = sized (c .before .before .before .before .before .before)
+
 returns : tie.Need-returns
 returns c =
-    let read = c .before .before .before .before .before in
-    let made = read .before .before .before .before .before .before in
+    let read = c .before .before .before .before .before .before in
+    let made = read .before .before .before .before .before .before .before in
     let cells = read .read-journal .last .1 .1 in
     let start = made .before .before in
     let schema = start .args .schema in
     read-for (recordWith (schema .bytes) (schema .len)) (now (start .args .text)) (start .args .room) (made .cell-of .result) (made .cell-of .ensures) (read .read-journal .result)
-    (cells .0) (cells .1 .0) (cells .1 .1 .0) (cells .1 .1 .1 .0) (cells .1 .1 .1 .1 .0) (read .read-journal .ensures)
+    (cells .0) (cells .1 .0) (cells .1 .1 .0) (cells .1 .1 .1 .0) (cells .1 .1 .1 .1 .0) (cells .1 .1 .1 .1 .1 .0) (read .read-journal .ensures)
 
 pub read-columns-spec : {M : Type 1} → statement M
 read-columns-spec =
@@ -72,5 +78,7 @@ read-columns-spec =
     slice-aggregate-read-journal-4
     array-borrow-prefix-lengths
     slice-aggregate-read-journal-5
+    array-borrow-prefix-decoded
+    slice-aggregate-read-journal-6
     (λ c κs. search needs)
     returns)

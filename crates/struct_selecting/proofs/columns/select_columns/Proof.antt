@@ -15,7 +15,7 @@ use Rattle.text_spec.specs.Limits.{maxNodes}
 
 -- the columns have a cell for each row, by their type
 columns-long : (c : tie.Start) → sizesOf (columnsIn (c .args .columns)) ≡ allOfSize cellCount
-columns-long c = sizes-of (columnsIn (c .args .columns)) (search needs) (search needs) (search needs) (search needs) (search needs)
+columns-long c = sizes-of (columnsIn (c .args .columns)) (search needs) (search needs) (search needs) (search needs) (search needs) (search needs)
 
 returns : tie.Need-returns
 returns c = λ rows long laid.
@@ -28,7 +28,7 @@ returns c = λ rows long laid.
 returns-2 : tie.Need-returns-2
 returns-2 c = λ rows long laid.
     let selected = c .before .before .before .before in
-    let few = selected .before .before .before .before .before .before .before .before .before .before .before .before .before in
+    let few = selected .before .before .before .before .before .before .before .before .before .before .before .before .before .before .before in
     let start = few .before .before .before .before .before in
     let fits = ltb-false maxNodes (start .args .count) (sym (few .before .are-too-many .ensures) ∙ few .if1 .left) in
     let schema = start .args .schema in
@@ -44,6 +44,7 @@ select-columns-spec =
     (λ c. search needs)
     (λ c. search needs)
     returns
+    (λ c. search needs)
     (λ c. search needs)
     (λ c. search needs)
     (λ c. search needs)

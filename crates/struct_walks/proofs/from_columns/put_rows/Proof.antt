@@ -129,10 +129,13 @@ module _ {M : Type 1} (𝓤 : URA M) (H : Heap 𝓤) (A : Atoms 𝓤) (W : Given
   is-lengths : Numbers w16 cellCount (c .lengths)
   is-lengths = field-numbers w16 cellCount (c .lengths) _ (is .1 .1 .1 .1 .1 .1 .0)
 
+  is-decoded : Numbers w16 cellCount (c .decoded)
+  is-decoded = field-numbers w16 cellCount (c .decoded) _ (is .1 .1 .1 .1 .1 .1 .1 .0)
+
   long : Long c
   long = (
     numbers-long w16 cellCount (c .numbers) is-numbers,
-    (numbers-long w8 cellCount (c .names) is-names, (numbers-long w16 cellCount (c .parents) is-parents, (numbers-long w32 cellCount (c .starts) is-starts, numbers-long w16 cellCount (c .lengths) is-lengths))),
+    (numbers-long w8 cellCount (c .names) is-names, (numbers-long w16 cellCount (c .parents) is-parents, (numbers-long w32 cellCount (c .starts) is-starts, (numbers-long w16 cellCount (c .lengths) is-lengths, numbers-long w16 cellCount (c .decoded) is-decoded)))),
   )
 
   typed-columns : Holds (hasTy C′.mir (C′.lowered c)) × WT (C′.lowered c)
@@ -142,12 +145,12 @@ module _ {M : Type 1} (𝓤 : URA M) (H : Heap 𝓤) (A : Atoms 𝓤) (W : Given
   within xs e i = omega (arith, e, cell-low i)
 
   -- ---- a row that is made has its machine value, and its type
-  made : (k : ℕ) → getD (c .numbers) k 0 < 2 ^ 16 → getD (c .names) k 0 < 2 ^ 8 → getD (c .parents) k 0 < 2 ^ 16 → getD (c .starts) k 0 < 2 ^ 32 → getD (c .lengths) k 0 < 2 ^ 16 → Is T.the-row (rowAt c k) (T′.lowered (rowAt c k) ∷ [])
-  made k h₁ h₂ h₃ h₄ h₅ = LL.owes T.the-type T′.the-laws (rowAt c k) ((refl, h₁), ((refl, h₂), ((refl, h₃), ((refl, h₄), ((refl, h₅), tt)))))
+  made : (k : ℕ) → getD (c .numbers) k 0 < 2 ^ 16 → getD (c .names) k 0 < 2 ^ 8 → getD (c .parents) k 0 < 2 ^ 16 → getD (c .starts) k 0 < 2 ^ 32 → getD (c .lengths) k 0 < 2 ^ 16 → getD (c .decoded) k 0 < 2 ^ 16 → Is T.the-row (rowAt c k) (T′.lowered (rowAt c k) ∷ [])
+  made k h₁ h₂ h₃ h₄ h₅ h₆ = LL.owes T.the-type T′.the-laws (rowAt c k) ((refl, h₁), ((refl, h₂), ((refl, h₃), ((refl, h₄), ((refl, h₅), ((refl, h₆), tt))))))
 
-  typed : (k : ℕ) → getD (c .numbers) k 0 < 2 ^ 16 → getD (c .names) k 0 < 2 ^ 8 → getD (c .parents) k 0 < 2 ^ 16 → getD (c .starts) k 0 < 2 ^ 32 → getD (c .lengths) k 0 < 2 ^ 16
+  typed : (k : ℕ) → getD (c .numbers) k 0 < 2 ^ 16 → getD (c .names) k 0 < 2 ^ 8 → getD (c .parents) k 0 < 2 ^ 16 → getD (c .starts) k 0 < 2 ^ 32 → getD (c .lengths) k 0 < 2 ^ 16 → getD (c .decoded) k 0 < 2 ^ 16
       → Holds (hasTy T′.mir (T′.lowered (rowAt c k))) × WT (T′.lowered (rowAt c k))
-  typed k h₁ h₂ h₃ h₄ h₅ = LL.lawful T.the-type T′.the-laws 𝓤 H A W .typed (rowAt c k) (T′.lowered (rowAt c k) ∷ []) (made k h₁ h₂ h₃ h₄ h₅) .0
+  typed k h₁ h₂ h₃ h₄ h₅ h₆ = LL.lawful T.the-type T′.the-laws 𝓤 H A W .typed (rowAt c k) (T′.lowered (rowAt c k) ∷ []) (made k h₁ h₂ h₃ h₄ h₅ h₆) .0
 
   -- ---- at exit
   abbrev Had : List Row → List (Item 𝓤)
@@ -161,7 +164,7 @@ module _ {M : Type 1} (𝓤 : URA M) (H : Heap 𝓤) (A : Atoms 𝓤) (W : Given
       nothing ! $ move ! (2 ∷ 0 ∷ []) $ join ! $ frame ! $ nothing ! $ move ! (1 ∷ 0 ∷ []) $ fjoin ! $ nothing ! $ fjoin ! $ frame ! $ feqI ! (List Val) (vunit ∷ []) (vunit ∷ []) refl $ done !
 
   -- ---- the loop
-  module _ (𝓣 : Tables 𝓤 H) (known : Triple 𝓤 (𝓣 .C #row-structs·cell-of) (CellOf 𝓤 H A mem run)) (l₀ l₁ l₂ l₃ l₄ l₅ l₆ l₇ l₈ l₉ l₁₀ l₁₁ l₁₂ l₁₃ l₁₄ l₁₅ l₁₆ l₁₇ l₁₈ l₁₉ l₂₀ l₂₁ l₂₂ l₂₃ l₂₄ l₂₅ l₂₆ l₂₇ l₂₈ l₂₉ l₃₀ l₃₁ l₃₂ : ℕ) where
+  module _ (𝓣 : Tables 𝓤 H) (known : Triple 𝓤 (𝓣 .C #row-structs·cell-of) (CellOf 𝓤 H A mem run)) (l₀ l₁ l₂ l₃ l₄ l₅ l₆ l₇ l₈ l₉ l₁₀ l₁₁ l₁₂ l₁₃ l₁₄ l₁₅ l₁₆ l₁₇ l₁₈ l₁₉ l₂₀ l₂₁ l₂₂ l₂₃ l₂₄ l₂₅ l₂₆ l₂₇ l₂₈ l₂₉ l₃₀ l₃₁ l₃₂ l₃₃ l₃₄ l₃₅ l₃₆ l₃₇ : ℕ) where
     abbrev C″ : Calls 𝓤 H
     C″ = 𝓣 .C
 
@@ -169,13 +172,13 @@ module _ {M : Type 1} (𝓤 : URA M) (H : Heap 𝓤) (A : Atoms 𝓤) (W : Given
     Λ = 𝓣 .Λ
 
     abbrev Temps : Env 𝓤 H
-    Temps = (word, l₉) ∷ (word, l₁₀) ∷ (tyBool, l₁₁) ∷ (tyPtr, l₁₂) ∷ (tyPtr, l₁₃) ∷ (tyInt w16, l₁₄) ∷ (tyPtr, l₁₅) ∷ (tyPtr, l₁₆) ∷ (tyInt w8, l₁₇)
-        ∷ (word, l₁₈) ∷ (tyPtr, l₁₉) ∷ (tyPtr, l₂₀) ∷ (tyInt w16, l₂₁) ∷ (word, l₂₂) ∷ (tyPtr, l₂₃) ∷ (tyPtr, l₂₄) ∷ (tyInt w32, l₂₅) ∷ (word, l₂₆)
-        ∷ (tyPtr, l₂₇) ∷ (tyPtr, l₂₈) ∷ (tyInt w16, l₂₉) ∷ (T′.mir, l₃₀) ∷ (word, l₃₁) ∷ (tyPtr, l₃₂) ∷ []
+    Temps = (word, l₁₀) ∷ (word, l₁₁) ∷ (tyBool, l₁₂) ∷ (tyPtr, l₁₃) ∷ (tyPtr, l₁₄) ∷ (tyInt w16, l₁₅) ∷ (tyPtr, l₁₆) ∷ (tyPtr, l₁₇) ∷ (tyInt w8, l₁₈)
+        ∷ (word, l₁₉) ∷ (tyPtr, l₂₀) ∷ (tyPtr, l₂₁) ∷ (tyInt w16, l₂₂) ∷ (word, l₂₃) ∷ (tyPtr, l₂₄) ∷ (tyPtr, l₂₅) ∷ (tyInt w32, l₂₆) ∷ (word, l₂₇)
+        ∷ (tyPtr, l₂₈) ∷ (tyPtr, l₂₉) ∷ (tyInt w16, l₃₀) ∷ (word, l₃₁) ∷ (tyPtr, l₃₂) ∷ (tyPtr, l₃₃) ∷ (tyInt w16, l₃₄) ∷ (T′.mir, l₃₅) ∷ (word, l₃₆) ∷ (tyPtr, l₃₇) ∷ []
 
     abbrev Slots : Env 𝓤 H
-    Slots = (slotTy w16 cellCount, l₃) ∷ (slotTy w8 cellCount, l₄) ∷ (slotTy w16 cellCount, l₅) ∷ (slotTy w32 cellCount, l₆) ∷ (slotTy w16 cellCount, l₇)
-        ∷ (word, l₈) ∷ Temps
+    Slots = (slotTy w16 cellCount, l₃) ∷ (slotTy w8 cellCount, l₄) ∷ (slotTy w16 cellCount, l₅) ∷ (slotTy w32 cellCount, l₆) ∷ (slotTy w16 cellCount, l₇) ∷ (slotTy w16 cellCount, l₈)
+        ∷ (word, l₉) ∷ Temps
 
     abbrev En : Env 𝓤 H
     En = (tyUnit, l₀) ∷ (C′.mir, l₁) ∷ (slice, l₂) ∷ Slots
@@ -185,14 +188,14 @@ module _ {M : Type 1} (𝓤 : URA M) (H : Heap 𝓤) (A : Atoms 𝓤) (W : Given
 
     abbrev At : Turn c n → List (Item 𝓤)
     At x = ‵ (row (UInt w16) fullShare (c .numbers) l₃ 0) ∷ ‵ (row (UInt w8) fullShare (c .names) l₄ 0) ∷ ‵ (row (UInt w16) fullShare (c .parents) l₅ 0)
-        ∷ ‵ (row (UInt w32) fullShare (c .starts) l₆ 0) ∷ ‵ (row (UInt w16) fullShare (c .lengths) l₇ 0) ∷ ‵ (row T.the-row fullShare (x .zs) b o)
-        ∷ ‵ (fat fullShare word l₈ 0 (vint w64 (x .i)))
+        ∷ ‵ (row (UInt w32) fullShare (c .starts) l₆ 0) ∷ ‵ (row (UInt w16) fullShare (c .lengths) l₇ 0) ∷ ‵ (row (UInt w16) fullShare (c .decoded) l₈ 0) ∷ ‵ (row T.the-row fullShare (x .zs) b o)
+        ∷ ‵ (fat fullShare word l₉ 0 (vint w64 (x .i)))
         ∷ rooms Temps ++ ‵ (fat fullShare slice l₂ 0 (sliceVal (b, o) n)) ∷ ‵ (froom C′.mir l₁ 0) ∷ ‵ (froom tyUnit l₀ 0) ∷ ‵ (fobor κ q (Held T.the-row n b o γ))
         ∷ ‵ (fobs γ (codedHoleys T.the-row .code (heres T.the-row zs₀))) ∷ ‵ (fauth γ (codedHoleys T.the-row .code (heres T.the-row zs₀)))
         ∷ raw (⋆ 𝓤 H A Dies) ∷ []
 
     abbrev Left : Post′ 𝓤 H
-    Left = anyQ (afterBlock 𝓤 H (afterSeq 𝓤 H (Wp 𝓤 H C″ Λ En Mir.t-8 (atReturn 𝓤 H En Post)) (atReturn 𝓤 H En Post)))
+    Left = anyQ (afterBlock 𝓤 H (afterSeq 𝓤 H (Wp 𝓤 H C″ Λ En Mir.t-9 (atReturn 𝓤 H En Post)) (atReturn 𝓤 H En Post)))
 
     abbrev turned : Turn c n → Goal 𝓤 H
     turned x = runs C″ Λ En Mir.turn-1 (anyQ (afterTurn 𝓤 H (Below 𝓤 H A (Nearer c n) At x) (post 𝓤 H Left)))
@@ -201,72 +204,81 @@ module _ {M : Type 1} (𝓤 : URA M) (H : Heap 𝓤) (A : Atoms 𝓤) (W : Given
     more : (x : Turn c n) → x .i < n → Seq (Go {0}) W (At x) (turned x)
     unfolding afterTurn
     more x l =
-        assigns ! (of-opd ! (load ! (from ! (fld ! refl (stop !))) (look-in ! 31 (sub ! 1 refl (whole !))))) (from ! (stop !)) (init ! 8 refl (tt, record { fits = room .0 })) $
-        assigns ! (bin ! (load ! (from ! (stop !)) (look ! 6 refl)) (load ! (from ! (stop !)) (look ! 8 refl)) tt) (from ! (stop !)) (init ! 9 refl (tt, tt)) $
-        rewrite ! 9 (λ (t : Bool). ‵ (fat fullShare tyBool l₁₁ 0 (vbool t))) (lt-ltb i n l) refl $
-        stays ! (load ! (from ! (stop !)) (look ! 9 refl)) $
+        assigns ! (of-opd ! (load ! (from ! (fld ! refl (stop !))) (look-in ! 36 (sub ! 1 refl (whole !))))) (from ! (stop !)) (init ! 9 refl (tt, record { fits = room .0 })) $
+        assigns ! (bin ! (load ! (from ! (stop !)) (look ! 7 refl)) (load ! (from ! (stop !)) (look ! 9 refl)) tt) (from ! (stop !)) (init ! 10 refl (tt, tt)) $
+        rewrite ! 10 (λ (t : Bool). ‵ (fat fullShare tyBool l₁₂ 0 (vbool t))) (lt-ltb i n l) refl $
+        stays ! (load ! (from ! (stop !)) (look ! 10 refl)) $
         -- the cell
         use0 W (raw (CellOf 𝓤 H A mem run .pre (to 𝓤 H A W mem run i))) (asks 𝓤 H A W mem run i fits) $
-        calls-at ! (fmOf 𝓤 H (W .laws) 𝓣) (CellOf 𝓤 H A mem run) known (to 𝓤 H A W mem run i) (and-then ! (load ! (from ! (stop !)) (look ! 7 refl)) (no-more !)) (λ w.
+        calls-at ! (fmOf 𝓤 H (W .laws) 𝓣) (CellOf 𝓤 H A mem run) known (to 𝓤 H A W mem run i) (and-then ! (load ! (from ! (stop !)) (look ! 8 refl)) (no-more !)) (λ w.
         use1 W (later (given (w ≡ vint w64 k) (‵ ftrue))) (answers 𝓤 H A W mem run i w) $ await ! tt $ learn ! (λ e. drop ! $
-        land ! (from ! (stop !)) (init ! 7 refl (subst (λ (u : Val). Holds (hasTy word u) × WT u) (sym e) (tt, record { fits = fitsK }))) $
-        rewrite ! 7 (λ (u : Val). ‵ (fat fullShare word l₉ 0 u)) e refl $
+        land ! (from ! (stop !)) (init ! 8 refl (subst (λ (u : Val). Holds (hasTy word u) × WT u) (sym e) (tt, record { fits = fitsK }))) $
+        rewrite ! 8 (λ (u : Val). ‵ (fat fullShare word l₁₀ 0 u)) e refl $
         -- numbers[k]
-        assigns ! (bin ! (load ! (from ! (stop !)) (look ! 7 refl)) (lit ! tt) (record { fits = fits2 })) (from ! (stop !)) (store ! 8 refl (tt, record { fits = fits2 })) $
-        assigns ! (addr ! (from ! (stop !))) (from ! (stop !)) (init ! 10 refl (tt, tt)) $
-        assigns ! (bin ! (load ! (from ! (stop !)) (look ! 10 refl)) (load ! (from ! (stop !)) (look ! 8 refl)) tt) (from ! (stop !)) (init ! 11 refl (tt, tt)) $
-        rewrite ! 11 (λ (p : ℕ). ‵ (fat fullShare tyPtr l₁₃ 0 (vptr l₃ p))) (sym (place-is 2 0 k)) refl $
+        assigns ! (bin ! (load ! (from ! (stop !)) (look ! 8 refl)) (lit ! tt) (record { fits = fits2 })) (from ! (stop !)) (store ! 9 refl (tt, record { fits = fits2 })) $
+        assigns ! (addr ! (from ! (stop !))) (from ! (stop !)) (init ! 11 refl (tt, tt)) $
+        assigns ! (bin ! (load ! (from ! (stop !)) (look ! 11 refl)) (load ! (from ! (stop !)) (look ! 9 refl)) tt) (from ! (stop !)) (init ! 12 refl (tt, tt)) $
+        rewrite ! 12 (λ (p : ℕ). ‵ (fat fullShare tyPtr l₁₄ 0 (vptr l₃ p))) (sym (place-is 2 0 k)) refl $
         number-out ! w16 (c .numbers) k l₃ (within (c .numbers) (long .0) i) (λ is₃.
-        assigns ! (of-opd ! (load ! (from ! (hop ! (look ! 13 refl) (stop !))) (look ! 0 refl))) (from ! (stop !)) (init ! 14 refl (tt, record { fits = is₃ .1 })) $
+        assigns ! (of-opd ! (load ! (from ! (hop ! (look ! 14 refl) (stop !))) (look ! 0 refl))) (from ! (stop !)) (init ! 15 refl (tt, record { fits = is₃ .1 })) $
         number-back ! w16 (c .numbers) k l₃ (within (c .numbers) (long .0) i) $
         -- names[k]
-        assigns ! (addr ! (from ! (stop !))) (from ! (stop !)) (init ! 13 refl (tt, tt)) $
-        assigns ! (bin ! (load ! (from ! (stop !)) (look ! 13 refl)) (load ! (from ! (stop !)) (look ! 7 refl)) tt) (from ! (stop !)) (init ! 14 refl (tt, tt)) $
-        rewrite ! 14 (λ (p : ℕ). ‵ (fat fullShare tyPtr l₁₆ 0 (vptr l₄ p))) (sym (place-byte 0 k)) refl $
+        assigns ! (addr ! (from ! (stop !))) (from ! (stop !)) (init ! 14 refl (tt, tt)) $
+        assigns ! (bin ! (load ! (from ! (stop !)) (look ! 14 refl)) (load ! (from ! (stop !)) (look ! 8 refl)) tt) (from ! (stop !)) (init ! 15 refl (tt, tt)) $
+        rewrite ! 15 (λ (p : ℕ). ‵ (fat fullShare tyPtr l₁₇ 0 (vptr l₄ p))) (sym (place-byte 0 k)) refl $
         move ! (1 ∷ []) $
         number-out ! w8 (c .names) k l₄ (within (c .names) (long .1 .0) i) (λ is₄.
-        assigns ! (of-opd ! (load ! (from ! (hop ! (look ! 16 refl) (stop !))) (look ! 0 refl))) (from ! (stop !)) (init ! 17 refl (tt, record { fits = is₄ .1 })) $
+        assigns ! (of-opd ! (load ! (from ! (hop ! (look ! 17 refl) (stop !))) (look ! 0 refl))) (from ! (stop !)) (init ! 18 refl (tt, record { fits = is₄ .1 })) $
         number-back ! w8 (c .names) k l₄ (within (c .names) (long .1 .0) i) $
         -- parents[k]
-        assigns ! (bin ! (load ! (from ! (stop !)) (look ! 7 refl)) (lit ! tt) (record { fits = fits2 })) (from ! (stop !)) (init ! 16 refl (tt, record { fits = fits2 })) $
-        assigns ! (addr ! (from ! (stop !))) (from ! (stop !)) (init ! 17 refl (tt, tt)) $
-        assigns ! (bin ! (load ! (from ! (stop !)) (look ! 17 refl)) (load ! (from ! (stop !)) (look ! 16 refl)) tt) (from ! (stop !)) (init ! 18 refl (tt, tt)) $
-        rewrite ! 18 (λ (p : ℕ). ‵ (fat fullShare tyPtr l₂₀ 0 (vptr l₅ p))) (sym (place-is 2 0 k)) refl $
+        assigns ! (bin ! (load ! (from ! (stop !)) (look ! 8 refl)) (lit ! tt) (record { fits = fits2 })) (from ! (stop !)) (init ! 17 refl (tt, record { fits = fits2 })) $
+        assigns ! (addr ! (from ! (stop !))) (from ! (stop !)) (init ! 18 refl (tt, tt)) $
+        assigns ! (bin ! (load ! (from ! (stop !)) (look ! 18 refl)) (load ! (from ! (stop !)) (look ! 17 refl)) tt) (from ! (stop !)) (init ! 19 refl (tt, tt)) $
+        rewrite ! 19 (λ (p : ℕ). ‵ (fat fullShare tyPtr l₂₁ 0 (vptr l₅ p))) (sym (place-is 2 0 k)) refl $
         move ! (2 ∷ []) $
         number-out ! w16 (c .parents) k l₅ (within (c .parents) (long .1 .1 .0) i) (λ is₅.
-        assigns ! (of-opd ! (load ! (from ! (hop ! (look ! 20 refl) (stop !))) (look ! 0 refl))) (from ! (stop !)) (init ! 21 refl (tt, record { fits = is₅ .1 })) $
+        assigns ! (of-opd ! (load ! (from ! (hop ! (look ! 21 refl) (stop !))) (look ! 0 refl))) (from ! (stop !)) (init ! 22 refl (tt, record { fits = is₅ .1 })) $
         number-back ! w16 (c .parents) k l₅ (within (c .parents) (long .1 .1 .0) i) $
         -- starts[k]
-        assigns ! (bin ! (load ! (from ! (stop !)) (look ! 7 refl)) (lit ! tt) (record { fits = fits4 })) (from ! (stop !)) (init ! 20 refl (tt, record { fits = fits4 })) $
-        assigns ! (addr ! (from ! (stop !))) (from ! (stop !)) (init ! 21 refl (tt, tt)) $
-        assigns ! (bin ! (load ! (from ! (stop !)) (look ! 21 refl)) (load ! (from ! (stop !)) (look ! 20 refl)) tt) (from ! (stop !)) (init ! 22 refl (tt, tt)) $
-        rewrite ! 22 (λ (p : ℕ). ‵ (fat fullShare tyPtr l₂₄ 0 (vptr l₆ p))) (sym (place-is 4 0 k)) refl $
+        assigns ! (bin ! (load ! (from ! (stop !)) (look ! 8 refl)) (lit ! tt) (record { fits = fits4 })) (from ! (stop !)) (init ! 21 refl (tt, record { fits = fits4 })) $
+        assigns ! (addr ! (from ! (stop !))) (from ! (stop !)) (init ! 22 refl (tt, tt)) $
+        assigns ! (bin ! (load ! (from ! (stop !)) (look ! 22 refl)) (load ! (from ! (stop !)) (look ! 21 refl)) tt) (from ! (stop !)) (init ! 23 refl (tt, tt)) $
+        rewrite ! 23 (λ (p : ℕ). ‵ (fat fullShare tyPtr l₂₅ 0 (vptr l₆ p))) (sym (place-is 4 0 k)) refl $
         move ! (3 ∷ []) $
         number-out ! w32 (c .starts) k l₆ (within (c .starts) (long .1 .1 .1 .0) i) (λ is₆.
-        assigns ! (of-opd ! (load ! (from ! (hop ! (look ! 24 refl) (stop !))) (look ! 0 refl))) (from ! (stop !)) (init ! 25 refl (tt, record { fits = is₆ .1 })) $
+        assigns ! (of-opd ! (load ! (from ! (hop ! (look ! 25 refl) (stop !))) (look ! 0 refl))) (from ! (stop !)) (init ! 26 refl (tt, record { fits = is₆ .1 })) $
         number-back ! w32 (c .starts) k l₆ (within (c .starts) (long .1 .1 .1 .0) i) $
         -- lengths[k]
-        assigns ! (bin ! (load ! (from ! (stop !)) (look ! 7 refl)) (lit ! tt) (record { fits = fits2 })) (from ! (stop !)) (init ! 24 refl (tt, record { fits = fits2 })) $
-        assigns ! (addr ! (from ! (stop !))) (from ! (stop !)) (init ! 25 refl (tt, tt)) $
-        assigns ! (bin ! (load ! (from ! (stop !)) (look ! 25 refl)) (load ! (from ! (stop !)) (look ! 24 refl)) tt) (from ! (stop !)) (init ! 26 refl (tt, tt)) $
-        rewrite ! 26 (λ (p : ℕ). ‵ (fat fullShare tyPtr l₂₈ 0 (vptr l₇ p))) (sym (place-is 2 0 k)) refl $
+        assigns ! (bin ! (load ! (from ! (stop !)) (look ! 8 refl)) (lit ! tt) (record { fits = fits2 })) (from ! (stop !)) (init ! 25 refl (tt, record { fits = fits2 })) $
+        assigns ! (addr ! (from ! (stop !))) (from ! (stop !)) (init ! 26 refl (tt, tt)) $
+        assigns ! (bin ! (load ! (from ! (stop !)) (look ! 26 refl)) (load ! (from ! (stop !)) (look ! 25 refl)) tt) (from ! (stop !)) (init ! 27 refl (tt, tt)) $
+        rewrite ! 27 (λ (p : ℕ). ‵ (fat fullShare tyPtr l₂₉ 0 (vptr l₇ p))) (sym (place-is 2 0 k)) refl $
         move ! (4 ∷ []) $
-        number-out ! w16 (c .lengths) k l₇ (within (c .lengths) (long .1 .1 .1 .1) i) (λ is₇.
-        assigns ! (of-opd ! (load ! (from ! (hop ! (look ! 28 refl) (stop !))) (look ! 0 refl))) (from ! (stop !)) (init ! 29 refl (tt, record { fits = is₇ .1 })) $
-        number-back ! w16 (c .lengths) k l₇ (within (c .lengths) (long .1 .1 .1 .1) i) $
-        -- the struct
-        assigns ! (agg ! (and-then ! (load ! (from ! (stop !)) (look ! 12 refl)) (and-then ! (load ! (from ! (stop !)) (look ! 15 refl)) (and-then ! (load ! (from ! (stop !)) (look ! 19 refl)) (and-then ! (load ! (from ! (stop !)) (look ! 23 refl)) (and-then ! (load ! (from ! (stop !)) (look ! 27 refl)) (no-more !))))))) (from ! (stop !)) (init ! 28 refl (typed k (is₃ .1) (is₄ .1) (is₅ .1) (is₆ .1) (is₇ .1))) $
-        assigns ! (bin ! (load ! (from ! (stop !)) (look ! 6 refl)) (lit ! tt) (record { fits = fits16 })) (from ! (stop !)) (init ! 29 refl (tt, record { fits = fits16 })) $
-        assigns ! (bin ! (load ! (from ! (fld ! refl (stop !))) (look-in ! 31 (sub ! 0 refl (whole !)))) (load ! (from ! (stop !)) (look ! 29 refl)) tt) (from ! (stop !)) (init ! 30 refl (tt, tt)) $
-        rewrite ! 30 (λ (p : ℕ). ‵ (fat fullShare tyPtr l₃₂ 0 (vptr b p))) (sym (place-is 16 o i)) refl $
+        number-out ! w16 (c .lengths) k l₇ (within (c .lengths) (long .1 .1 .1 .1 .0) i) (λ is₇.
+        assigns ! (of-opd ! (load ! (from ! (hop ! (look ! 29 refl) (stop !))) (look ! 0 refl))) (from ! (stop !)) (init ! 30 refl (tt, record { fits = is₇ .1 })) $
+        number-back ! w16 (c .lengths) k l₇ (within (c .lengths) (long .1 .1 .1 .1 .0) i) $
+        -- decoded[k]
+        assigns ! (bin ! (load ! (from ! (stop !)) (look ! 8 refl)) (lit ! tt) (record { fits = fits2 })) (from ! (stop !)) (init ! 29 refl (tt, record { fits = fits2 })) $
+        assigns ! (addr ! (from ! (stop !))) (from ! (stop !)) (init ! 30 refl (tt, tt)) $
+        assigns ! (bin ! (load ! (from ! (stop !)) (look ! 30 refl)) (load ! (from ! (stop !)) (look ! 29 refl)) tt) (from ! (stop !)) (init ! 31 refl (tt, tt)) $
+        rewrite ! 31 (λ (p : ℕ). ‵ (fat fullShare tyPtr l₃₃ 0 (vptr l₈ p))) (sym (place-is 2 0 k)) refl $
         move ! (5 ∷ []) $
+        number-out ! w16 (c .decoded) k l₈ (within (c .decoded) (long .1 .1 .1 .1 .1) i) (λ is₈.
+        assigns ! (of-opd ! (load ! (from ! (hop ! (look ! 33 refl) (stop !))) (look ! 0 refl))) (from ! (stop !)) (init ! 34 refl (tt, record { fits = is₈ .1 })) $
+        number-back ! w16 (c .decoded) k l₈ (within (c .decoded) (long .1 .1 .1 .1 .1) i) $
+        -- the struct
+        assigns ! (agg ! (and-then ! (load ! (from ! (stop !)) (look ! 13 refl)) (and-then ! (load ! (from ! (stop !)) (look ! 16 refl)) (and-then ! (load ! (from ! (stop !)) (look ! 20 refl)) (and-then ! (load ! (from ! (stop !)) (look ! 24 refl)) (and-then ! (load ! (from ! (stop !)) (look ! 28 refl)) (and-then ! (load ! (from ! (stop !)) (look ! 32 refl)) (no-more !)))))))) (from ! (stop !)) (init ! 33 refl (typed k (is₃ .1) (is₄ .1) (is₅ .1) (is₆ .1) (is₇ .1) (is₈ .1))) $
+        assigns ! (bin ! (load ! (from ! (stop !)) (look ! 7 refl)) (lit ! tt) (record { fits = fits16 })) (from ! (stop !)) (init ! 34 refl (tt, record { fits = fits16 })) $
+        assigns ! (bin ! (load ! (from ! (fld ! refl (stop !))) (look-in ! 36 (sub ! 0 refl (whole !)))) (load ! (from ! (stop !)) (look ! 34 refl)) tt) (from ! (stop !)) (init ! 35 refl (tt, tt)) $
+        rewrite ! 35 (λ (p : ℕ). ‵ (fat fullShare tyPtr l₃₇ 0 (vptr b p))) (sym (place-is 16 o i)) refl $
+        move ! (6 ∷ []) $
         elem-out ! T.the-row (Is T.the-row) (shows 𝓤 H A T.the-row) (LL.vals T.the-type T′.the-laws) (LL.tells T.the-type T′.the-laws) fullShare zs i emptyRow b o lz (λ _.
-        assigns ! (of-opd ! (load ! (from ! (stop !)) (look ! 30 refl))) (from ! (hop ! (look ! 32 refl) (stop !))) (store-raw ! 0 refl (typed k (is₃ .1) (is₄ .1) (is₅ .1) (is₆ .1) (is₇ .1))) $
-        move ! (1 ∷ []) $ drop ! $ owned ! T.the-row (Is T.the-row) (LL.makes T.the-type T′.the-plain 𝓤 H A) (rowAt c k) _ (made k (is₃ .1) (is₄ .1) (is₅ .1) (is₆ .1) (is₇ .1)) $ move ! (1 ∷ 0 ∷ []) $
+        assigns ! (of-opd ! (load ! (from ! (stop !)) (look ! 35 refl))) (from ! (hop ! (look ! 37 refl) (stop !))) (store-raw ! 0 refl (typed k (is₃ .1) (is₄ .1) (is₅ .1) (is₆ .1) (is₇ .1) (is₈ .1))) $
+        move ! (1 ∷ []) $ drop ! $ owned ! T.the-row (Is T.the-row) (LL.makes T.the-type T′.the-plain 𝓤 H A) (rowAt c k) _ (made k (is₃ .1) (is₄ .1) (is₅ .1) (is₆ .1) (is₇ .1) (is₈ .1)) $ move ! (1 ∷ 0 ∷ []) $
         elem-put ! T.the-row fullShare zs i (rowAt c k) (T′.lowered (rowAt c k) ∷ []) b o lz $
-        move ! (5 ∷ 4 ∷ 3 ∷ 2 ∷ 1 ∷ 0 ∷ []) $
-        assigns-last ! (bin ! (load ! (from ! (stop !)) (look ! 6 refl)) (lit ! tt) (record { fits = fits1 })) (from ! (stop !)) (store ! 6 refl (tt, record { fits = fits1 })) $
-        forget ! 7 refl $ forget ! 8 refl $ forget ! 9 refl $ forget ! 10 refl $ forget ! 11 refl $ forget ! 12 refl $ forget ! 13 refl $ forget ! 14 refl $ forget ! 15 refl $ forget ! 16 refl $ forget ! 17 refl $ forget ! 18 refl $ forget ! 19 refl $ forget ! 20 refl $ forget ! 21 refl $ forget ! 22 refl $ forget ! 23 refl $ forget ! 24 refl $ forget ! 25 refl $ forget ! 26 refl $ forget ! 27 refl $ forget ! 28 refl $ forget ! 29 refl $ forget ! 30 refl $ again ! (Nearer c n) At x (next c n x l) (nearer c n x l)))))))))
+        move ! (6 ∷ 5 ∷ 4 ∷ 3 ∷ 2 ∷ 1 ∷ 0 ∷ []) $
+        assigns-last ! (bin ! (load ! (from ! (stop !)) (look ! 7 refl)) (lit ! tt) (record { fits = fits1 })) (from ! (stop !)) (store ! 7 refl (tt, record { fits = fits1 })) $
+        forget ! 8 refl $ forget ! 9 refl $ forget ! 10 refl $ forget ! 11 refl $ forget ! 12 refl $ forget ! 13 refl $ forget ! 14 refl $ forget ! 15 refl $ forget ! 16 refl $ forget ! 17 refl $ forget ! 18 refl $ forget ! 19 refl $ forget ! 20 refl $ forget ! 21 refl $ forget ! 22 refl $ forget ! 23 refl $ forget ! 24 refl $ forget ! 25 refl $ forget ! 26 refl $ forget ! 27 refl $ forget ! 28 refl $ forget ! 29 refl $ forget ! 30 refl $ forget ! 31 refl $ forget ! 32 refl $ forget ! 33 refl $ forget ! 34 refl $ forget ! 35 refl $ again ! (Nearer c n) At x (next c n x l) (nearer c n x l))))))))))
       where
         i : ℕ
         i = x .i
@@ -304,18 +316,18 @@ module _ {M : Type 1} (𝓤 : URA M) (H : Heap 𝓤) (A : Atoms 𝓤) (W : Given
 
     frees-all : (zs : List Row) → Filled c n n zs → Seq (Go {0}) W (Last zs) (frees En (prop (Post vunit)))
     frees-all zs fl =
-        keep ! (3 ∷ 36 ∷ 4 ∷ 37 ∷ 5 ∷ 38 ∷ 6 ∷ 39 ∷ 7 ∷ 40 ∷ 8 ∷ 41 ∷ 9 ∷ 42 ∷ 10 ∷ 43 ∷ 11 ∷ 44 ∷ 12 ∷ 45 ∷ 13 ∷ 46 ∷ 14 ∷ 47 ∷ 15 ∷ 48 ∷ 16 ∷ 49 ∷ 17 ∷ 50 ∷ 18 ∷ 51 ∷ 19 ∷ 52 ∷ 20 ∷ 53 ∷ 21 ∷ 54 ∷ 22 ∷ 55 ∷ 23 ∷ 56 ∷ 24 ∷ 57 ∷ 25 ∷ 58 ∷ 26 ∷ 59 ∷ 27 ∷ 60 ∷ 28 ∷ 61 ∷ 29 ∷ 62 ∷ 30 ∷ 63 ∷ 31 ∷ 64 ∷ 32 ∷ 65 ∷ 33 ∷ 66 ∷ 34 ∷ 67 ∷ 35 ∷ 68 ∷ 0 ∷ 1 ∷ 2 ∷ []) $
+        keep ! (3 ∷ 41 ∷ 4 ∷ 42 ∷ 5 ∷ 43 ∷ 6 ∷ 44 ∷ 7 ∷ 45 ∷ 8 ∷ 46 ∷ 9 ∷ 47 ∷ 10 ∷ 48 ∷ 11 ∷ 49 ∷ 12 ∷ 50 ∷ 13 ∷ 51 ∷ 14 ∷ 52 ∷ 15 ∷ 53 ∷ 16 ∷ 54 ∷ 17 ∷ 55 ∷ 18 ∷ 56 ∷ 19 ∷ 57 ∷ 20 ∷ 58 ∷ 21 ∷ 59 ∷ 22 ∷ 60 ∷ 23 ∷ 61 ∷ 24 ∷ 62 ∷ 25 ∷ 63 ∷ 26 ∷ 64 ∷ 27 ∷ 65 ∷ 28 ∷ 66 ∷ 29 ∷ 67 ∷ 30 ∷ 68 ∷ 31 ∷ 69 ∷ 32 ∷ 70 ∷ 33 ∷ 71 ∷ 34 ∷ 72 ∷ 35 ∷ 73 ∷ 36 ∷ 74 ∷ 37 ∷ 75 ∷ 38 ∷ 76 ∷ 39 ∷ 77 ∷ 40 ∷ 78 ∷ 0 ∷ 1 ∷ 2 ∷ []) $
         free-all ! En $ by ! (exits zs fl)
 
     -- the turn that leaves the loop, and the rest of the body
     ends : (x : Turn c n) → n ≤ x .i → Seq (Go {0}) W (At x) (turned x)
     unfolding afterTurn
     ends x l =
-        assigns ! (of-opd ! (load ! (from ! (fld ! refl (stop !))) (look-in ! 31 (sub ! 1 refl (whole !))))) (from ! (stop !)) (init ! 8 refl (tt, record { fits = room .0 })) $
-        assigns ! (bin ! (load ! (from ! (stop !)) (look ! 6 refl)) (load ! (from ! (stop !)) (look ! 8 refl)) tt) (from ! (stop !)) (init ! 9 refl (tt, tt)) $
-        rewrite ! 9 (λ (t : Bool). ‵ (fat fullShare tyBool l₁₁ 0 (vbool t))) (le-ltb i n l) refl $
-        leaves-loop ! (load ! (from ! (stop !)) (look ! 9 refl)) $ exec ! C″ Λ En Mir.t-8 (atRet En Post) $
-        assigns ! (of-opd ! (unit-lit !)) (from ! (stop !)) (init ! 33 refl (tt, tt)) $
+        assigns ! (of-opd ! (load ! (from ! (fld ! refl (stop !))) (look-in ! 36 (sub ! 1 refl (whole !))))) (from ! (stop !)) (init ! 9 refl (tt, record { fits = room .0 })) $
+        assigns ! (bin ! (load ! (from ! (stop !)) (look ! 7 refl)) (load ! (from ! (stop !)) (look ! 9 refl)) tt) (from ! (stop !)) (init ! 10 refl (tt, tt)) $
+        rewrite ! 10 (λ (t : Bool). ‵ (fat fullShare tyBool l₁₂ 0 (vbool t))) (le-ltb i n l) refl $
+        leaves-loop ! (load ! (from ! (stop !)) (look ! 10 refl)) $ exec ! C″ Λ En Mir.t-9 (atRet En Post) $
+        assigns ! (of-opd ! (unit-lit !)) (from ! (stop !)) (init ! 38 refl (tt, tt)) $
         slot-room ! w16 cellCount (c .numbers) (long .0) $
         move ! (1 ∷ []) $
         slot-room ! w8 cellCount (c .names) (long .1 .0) $
@@ -324,11 +336,13 @@ module _ {M : Type 1} (𝓤 : URA M) (H : Heap 𝓤) (A : Atoms 𝓤) (W : Given
         move ! (3 ∷ []) $
         slot-room ! w32 cellCount (c .starts) (long .1 .1 .1 .0) $
         move ! (4 ∷ []) $
-        slot-room ! w16 cellCount (c .lengths) (long .1 .1 .1 .1) $
-        move ! (5 ∷ 34 ∷ 35 ∷ 36 ∷ []) $
+        slot-room ! w16 cellCount (c .lengths) (long .1 .1 .1 .1 .0) $
+        move ! (5 ∷ []) $
+        slot-room ! w16 cellCount (c .decoded) (long .1 .1 .1 .1 .1) $
+        move ! (6 ∷ 39 ∷ 40 ∷ 41 ∷ []) $
         closes-slice ! tt T.the-row zs₀ zs (x .filled .0) b o $
-        returns ! (look ! 35 refl) $ forget ! 35 refl $ forget ! 33 refl $ forget ! 8 refl $ forget ! 10 refl $ forget ! 11 refl $
-        keep ! (0 ∷ 1 ∷ 2 ∷ 35 ∷ 34 ∷ 33 ∷ 7 ∷ 6 ∷ 5 ∷ 4 ∷ 3 ∷ 8 ∷ 9 ∷ 10 ∷ 11 ∷ 12 ∷ 13 ∷ 14 ∷ 15 ∷ 16 ∷ 17 ∷ 18 ∷ 19 ∷ 20 ∷ 21 ∷ 22 ∷ 23 ∷ 24 ∷ 25 ∷ 26 ∷ 27 ∷ 28 ∷ 29 ∷ 30 ∷ 31 ∷ 32 ∷ 36 ∷ []) $
+        returns ! (look ! 40 refl) $ forget ! 40 refl $ forget ! 38 refl $ forget ! 9 refl $ forget ! 11 refl $ forget ! 12 refl $
+        keep ! (0 ∷ 1 ∷ 2 ∷ 40 ∷ 39 ∷ 38 ∷ 8 ∷ 7 ∷ 6 ∷ 5 ∷ 4 ∷ 3 ∷ 9 ∷ 10 ∷ 11 ∷ 12 ∷ 13 ∷ 14 ∷ 15 ∷ 16 ∷ 17 ∷ 18 ∷ 19 ∷ 20 ∷ 21 ∷ 22 ∷ 23 ∷ 24 ∷ 25 ∷ 26 ∷ 27 ∷ 28 ∷ 29 ∷ 30 ∷ 31 ∷ 32 ∷ 33 ∷ 34 ∷ 35 ∷ 36 ∷ 37 ∷ 41 ∷ []) $
         by ! (frees-all zs all-filled .prf)
       where
         i : ℕ
@@ -353,28 +367,28 @@ module _ {M : Type 1} (𝓤 : URA M) (H : Heap 𝓤) (A : Atoms 𝓤) (W : Given
 
     abbrev Copied : List (Item 𝓤)
     Copied = ‵ (row (UInt w16) fullShare (c .numbers) l₃ 0) ∷ ‵ (row (UInt w8) fullShare (c .names) l₄ 0) ∷ ‵ (row (UInt w16) fullShare (c .parents) l₅ 0)
-        ∷ ‵ (row (UInt w32) fullShare (c .starts) l₆ 0) ∷ ‵ (row (UInt w16) fullShare (c .lengths) l₇ 0) ∷ ‵ (fat fullShare word l₈ 0 (vint w64 0))
+        ∷ ‵ (row (UInt w32) fullShare (c .starts) l₆ 0) ∷ ‵ (row (UInt w16) fullShare (c .lengths) l₇ 0) ∷ ‵ (row (UInt w16) fullShare (c .decoded) l₈ 0) ∷ ‵ (fat fullShare word l₉ 0 (vint w64 0))
         ∷ ‵ (froom C′.mir l₁ 0) ∷ Others
 
-    opened : ent 𝓤 (⋆ 𝓤 H A Copied) (Wp 𝓤 H C″ Λ En Mir.t-7 (atReturn 𝓤 H En Post))
+    opened : ent 𝓤 (⋆ 𝓤 H A Copied) (Wp 𝓤 H C″ Λ En Mir.t-8 (atReturn 𝓤 H En Post))
     opened =
-        qed W Copied ∵ exec ! C″ Λ En Mir.t-7 (atRet En Post) $
-        move ! (7 ∷ []) $
+        qed W Copied ∵ exec ! C″ Λ En Mir.t-8 (atRet En Post) $
+        move ! (8 ∷ []) $
         split ! $
         move ! (1 ∷ []) $
         drop ! $
-        move ! (8 ∷ []) $
+        move ! (9 ∷ []) $
         fsplit ! $ drop ! $ fsplit ! $
         move ! (1 ∷ []) $
         drop ! $
         fsplit ! $ drop ! $ fsplit ! $
         opens-slice ! tt T.the-row zs₀ b o $
-        keep ! (4 ∷ 5 ∷ 6 ∷ 7 ∷ 8 ∷ 0 ∷ 9 ∷ 11 ∷ 12 ∷ 13 ∷ 14 ∷ 15 ∷ 16 ∷ 17 ∷ 18 ∷ 19 ∷ 20 ∷ 21 ∷ 22 ∷ 23 ∷ 24 ∷ 25 ∷ 26 ∷ 27 ∷ 28 ∷ 29 ∷ 30 ∷ 31 ∷ 32 ∷ 33 ∷ 34 ∷ 35 ∷ 10 ∷ 36 ∷ 1 ∷ 2 ∷ 3 ∷ 37 ∷ 38 ∷ 39 ∷ 40 ∷ 41 ∷ 42 ∷ 43 ∷ 44 ∷ 45 ∷ 46 ∷ 47 ∷ 48 ∷ 49 ∷ 50 ∷ 51 ∷ 52 ∷ 53 ∷ 54 ∷ 55 ∷ 56 ∷ 57 ∷ 58 ∷ 59 ∷ 60 ∷ 61 ∷ 62 ∷ 63 ∷ 64 ∷ 65 ∷ 66 ∷ 67 ∷ 68 ∷ 69 ∷ []) $
+        keep ! (4 ∷ 5 ∷ 6 ∷ 7 ∷ 8 ∷ 9 ∷ 0 ∷ 10 ∷ 12 ∷ 13 ∷ 14 ∷ 15 ∷ 16 ∷ 17 ∷ 18 ∷ 19 ∷ 20 ∷ 21 ∷ 22 ∷ 23 ∷ 24 ∷ 25 ∷ 26 ∷ 27 ∷ 28 ∷ 29 ∷ 30 ∷ 31 ∷ 32 ∷ 33 ∷ 34 ∷ 35 ∷ 36 ∷ 37 ∷ 38 ∷ 39 ∷ 40 ∷ 11 ∷ 41 ∷ 1 ∷ 2 ∷ 3 ∷ 42 ∷ 43 ∷ 44 ∷ 45 ∷ 46 ∷ 47 ∷ 48 ∷ 49 ∷ 50 ∷ 51 ∷ 52 ∷ 53 ∷ 54 ∷ 55 ∷ 56 ∷ 57 ∷ 58 ∷ 59 ∷ 60 ∷ 61 ∷ 62 ∷ 63 ∷ 64 ∷ 65 ∷ 66 ∷ 67 ∷ 68 ∷ 69 ∷ 70 ∷ 71 ∷ 72 ∷ 73 ∷ 74 ∷ 75 ∷ 76 ∷ 77 ∷ 78 ∷ 79 ∷ []) $
         by ! (loops ! 𝓣 (Nearer c n) (nearer-wf c n) At {q = Left} turns (first-turn c zs₀) .prf)
 
     abbrev Start : List (Item 𝓤)
     Start = ‵ (fat fullShare C′.mir l₁ 0 (C′.lowered c)) ∷ ‵ (froom (slotTy w16 cellCount) l₃ 0) ∷ ‵ (froom (slotTy w8 cellCount) l₄ 0)
-        ∷ ‵ (froom (slotTy w16 cellCount) l₅ 0) ∷ ‵ (froom (slotTy w32 cellCount) l₆ 0) ∷ ‵ (froom (slotTy w16 cellCount) l₇ 0) ∷ ‵ (froom word l₈ 0)
+        ∷ ‵ (froom (slotTy w16 cellCount) l₅ 0) ∷ ‵ (froom (slotTy w32 cellCount) l₆ 0) ∷ ‵ (froom (slotTy w16 cellCount) l₇ 0) ∷ ‵ (froom (slotTy w16 cellCount) l₈ 0) ∷ ‵ (froom word l₉ 0)
         ∷ raw (⋆ 𝓤 H A Others) ∷ []
 
     begins : ent 𝓤 (⋆ 𝓤 H A Start) (Wp 𝓤 H C″ Λ En Mir.t-1 (atReturn 𝓤 H En Post))
@@ -386,7 +400,8 @@ module _ {M : Type 1} (𝓤 : URA M) (H : Heap 𝓤) (A : Atoms 𝓤) (W : Given
         assigns ! (of-opd ! (load ! (from ! (fld ! refl (stop !))) (look-in ! 0 (sub ! 2 refl (whole !))))) (from ! (stop !)) (init ! 3 {τ = slotTy w16 cellCount} {v = numbersVal w16 (c .parents)} refl (numbers-typed 𝓤 H A W w16 cellCount (c .parents) is-parents)) $
         assigns ! (of-opd ! (load ! (from ! (fld ! refl (stop !))) (look-in ! 0 (sub ! 3 refl (whole !))))) (from ! (stop !)) (init ! 4 {τ = slotTy w32 cellCount} {v = numbersVal w32 (c .starts)} refl (numbers-typed 𝓤 H A W w32 cellCount (c .starts) is-starts)) $
         assigns ! (of-opd ! (load ! (from ! (fld ! refl (stop !))) (look-in ! 0 (sub ! 4 refl (whole !))))) (from ! (stop !)) (init ! 5 {τ = slotTy w16 cellCount} {v = numbersVal w16 (c .lengths)} refl (numbers-typed 𝓤 H A W w16 cellCount (c .lengths) is-lengths)) $
-        assigns ! (of-opd ! (lit ! tt)) (from ! (stop !)) (init ! 6 refl (tt, record { fits = lit< tt })) $
+        assigns ! (of-opd ! (load ! (from ! (fld ! refl (stop !))) (look-in ! 0 (sub ! 5 refl (whole !))))) (from ! (stop !)) (init ! 6 {τ = slotTy w16 cellCount} {v = numbersVal w16 (c .decoded)} refl (numbers-typed 𝓤 H A W w16 cellCount (c .decoded) is-decoded)) $
+        assigns ! (of-opd ! (lit ! tt)) (from ! (stop !)) (init ! 7 refl (tt, record { fits = lit< tt })) $
         forget ! 0 refl $
         move ! (1 ∷ []) $
         slot-apart ! w16 cellCount (c .numbers) is-numbers $
@@ -398,7 +413,9 @@ module _ {M : Type 1} (𝓤 : URA M) (H : Heap 𝓤) (A : Atoms 𝓤) (W : Given
         slot-apart ! w32 cellCount (c .starts) is-starts $
         move ! (5 ∷ []) $
         slot-apart ! w16 cellCount (c .lengths) is-lengths $
-        keep ! (4 ∷ 3 ∷ 2 ∷ 1 ∷ 0 ∷ 6 ∷ 5 ∷ 7 ∷ []) $
+        move ! (6 ∷ []) $
+        slot-apart ! w16 cellCount (c .decoded) is-decoded $
+        keep ! (5 ∷ 4 ∷ 3 ∷ 2 ∷ 1 ∷ 0 ∷ 7 ∷ 6 ∷ 8 ∷ []) $
         by ! opened
 
     -- once the parameters are passed, with the locals in the order in which they are made
@@ -409,7 +426,7 @@ module _ {M : Type 1} (𝓤 : URA M) (H : Heap 𝓤) (A : Atoms 𝓤) (W : Given
 
     entering : Seq (Go {0}) W Entered (runs C″ Λ En Mir.t-1 (atRet En Post))
     entering =
-        keep ! (62 ∷ 58 ∷ 56 ∷ 54 ∷ 52 ∷ 50 ∷ 48 ∷ 66 ∷ 67 ∷ 46 ∷ 44 ∷ 42 ∷ 40 ∷ 38 ∷ 36 ∷ 34 ∷ 32 ∷ 30 ∷ 28 ∷ 26 ∷ 24 ∷ 22 ∷ 20 ∷ 18 ∷ 16 ∷ 14 ∷ 12 ∷ 10 ∷ 8 ∷ 6 ∷ 4 ∷ 2 ∷ 0 ∷ 60 ∷ 64 ∷ 65 ∷ 63 ∷ 61 ∷ 59 ∷ 57 ∷ 55 ∷ 53 ∷ 51 ∷ 49 ∷ 47 ∷ 45 ∷ 43 ∷ 41 ∷ 39 ∷ 37 ∷ 35 ∷ 33 ∷ 31 ∷ 29 ∷ 27 ∷ 25 ∷ 23 ∷ 21 ∷ 19 ∷ 17 ∷ 15 ∷ 13 ∷ 11 ∷ 9 ∷ 7 ∷ 5 ∷ 3 ∷ 1 ∷ []) $
+        keep ! (72 ∷ 68 ∷ 66 ∷ 64 ∷ 62 ∷ 60 ∷ 58 ∷ 56 ∷ 76 ∷ 77 ∷ 54 ∷ 52 ∷ 50 ∷ 48 ∷ 46 ∷ 44 ∷ 42 ∷ 40 ∷ 38 ∷ 36 ∷ 34 ∷ 32 ∷ 30 ∷ 28 ∷ 26 ∷ 24 ∷ 22 ∷ 20 ∷ 18 ∷ 16 ∷ 14 ∷ 12 ∷ 10 ∷ 8 ∷ 6 ∷ 4 ∷ 2 ∷ 0 ∷ 70 ∷ 74 ∷ 75 ∷ 73 ∷ 71 ∷ 69 ∷ 67 ∷ 65 ∷ 63 ∷ 61 ∷ 59 ∷ 57 ∷ 55 ∷ 53 ∷ 51 ∷ 49 ∷ 47 ∷ 45 ∷ 43 ∷ 41 ∷ 39 ∷ 37 ∷ 35 ∷ 33 ∷ 31 ∷ 29 ∷ 27 ∷ 25 ∷ 23 ∷ 21 ∷ 19 ∷ 17 ∷ 15 ∷ 13 ∷ 11 ∷ 9 ∷ 7 ∷ 5 ∷ 3 ∷ 1 ∷ []) $
         by ! begins
 
   walk : (𝓣 : Tables 𝓤 H) → Triple 𝓤 (𝓣 .C #row-structs·cell-of) (CellOf 𝓤 H A mem run)
@@ -417,9 +434,9 @@ module _ {M : Type 1} (𝓤 : URA M) (H : Heap 𝓤) (A : Atoms 𝓤) (W : Given
   walk 𝓣 known =
       qed W ((‵ (flft κ q) ⊛ ‵ ftrue) ∷ ‵ (owns (C.the-row ∷ MutSlice (named 0) κ T.the-row ∷ []) a at) ∷ []) ∵
       enter ! (𝓣 .C) (𝓣 .Λ) code.function (C′.lowered c ∷ sliceVal (b, o) n ∷ []) _ $
-      alloc1 ! (λ l₀. alloc1 ! (λ l₁. alloc1 ! (λ l₂. alloc1 ! (λ l₃. alloc1 ! (λ l₄. alloc1 ! (λ l₅. alloc1 ! (λ l₆. alloc1 ! (λ l₇. alloc1 ! (λ l₈. alloc1 ! (λ l₉. alloc1 ! (λ l₁₀. alloc1 ! (λ l₁₁. alloc1 ! (λ l₁₂. alloc1 ! (λ l₁₃. alloc1 ! (λ l₁₄. alloc1 ! (λ l₁₅. alloc1 ! (λ l₁₆. alloc1 ! (λ l₁₇. alloc1 ! (λ l₁₈. alloc1 ! (λ l₁₉. alloc1 ! (λ l₂₀. alloc1 ! (λ l₂₁. alloc1 ! (λ l₂₂. alloc1 ! (λ l₂₃. alloc1 ! (λ l₂₄. alloc1 ! (λ l₂₅. alloc1 ! (λ l₂₆. alloc1 ! (λ l₂₇. alloc1 ! (λ l₂₈. alloc1 ! (λ l₂₉. alloc1 ! (λ l₃₀. alloc1 ! (λ l₃₁. alloc1 ! (λ l₃₂. alloc0 ! $ params1 ! $
-      pass1 ! (init ! 62 {τ = C′.mir} {v = C′.lowered c} refl typed-columns) $ pass1 ! (init ! 60 refl (tt, (tt, (record { fits = room .0 }, tt)))) $ pass0 ! $
-      entering 𝓣 known l₀ l₁ l₂ l₃ l₄ l₅ l₆ l₇ l₈ l₉ l₁₀ l₁₁ l₁₂ l₁₃ l₁₄ l₁₅ l₁₆ l₁₇ l₁₈ l₁₉ l₂₀ l₂₁ l₂₂ l₂₃ l₂₄ l₂₅ l₂₆ l₂₇ l₂₈ l₂₉ l₃₀ l₃₁ l₃₂)))))))))))))))))))))))))))))))))
+      alloc1 ! (λ l₀. alloc1 ! (λ l₁. alloc1 ! (λ l₂. alloc1 ! (λ l₃. alloc1 ! (λ l₄. alloc1 ! (λ l₅. alloc1 ! (λ l₆. alloc1 ! (λ l₇. alloc1 ! (λ l₈. alloc1 ! (λ l₉. alloc1 ! (λ l₁₀. alloc1 ! (λ l₁₁. alloc1 ! (λ l₁₂. alloc1 ! (λ l₁₃. alloc1 ! (λ l₁₄. alloc1 ! (λ l₁₅. alloc1 ! (λ l₁₆. alloc1 ! (λ l₁₇. alloc1 ! (λ l₁₈. alloc1 ! (λ l₁₉. alloc1 ! (λ l₂₀. alloc1 ! (λ l₂₁. alloc1 ! (λ l₂₂. alloc1 ! (λ l₂₃. alloc1 ! (λ l₂₄. alloc1 ! (λ l₂₅. alloc1 ! (λ l₂₆. alloc1 ! (λ l₂₇. alloc1 ! (λ l₂₈. alloc1 ! (λ l₂₉. alloc1 ! (λ l₃₀. alloc1 ! (λ l₃₁. alloc1 ! (λ l₃₂. alloc1 ! (λ l₃₃. alloc1 ! (λ l₃₄. alloc1 ! (λ l₃₅. alloc1 ! (λ l₃₆. alloc1 ! (λ l₃₇. alloc0 ! $ params1 ! $
+      pass1 ! (init ! 72 {τ = C′.mir} {v = C′.lowered c} refl typed-columns) $ pass1 ! (init ! 70 refl (tt, (tt, (record { fits = room .0 }, tt)))) $ pass0 ! $
+      entering 𝓣 known l₀ l₁ l₂ l₃ l₄ l₅ l₆ l₇ l₈ l₉ l₁₀ l₁₁ l₁₂ l₁₃ l₁₄ l₁₅ l₁₆ l₁₇ l₁₈ l₁₉ l₂₀ l₂₁ l₂₂ l₂₃ l₂₄ l₂₅ l₂₆ l₂₇ l₂₈ l₂₉ l₃₀ l₃₁ l₃₂ l₃₃ l₃₄ l₃₅ l₃₆ l₃₇))))))))))))))))))))))))))))))))))))))
 
 module _ {M : Type 1} (𝓤 : URA M) (H : Heap 𝓤) (A : Atoms 𝓤) (W : Given 𝓤 H A) (mem : Memory → SProp 𝓤) (run : Routine → Fun 𝓤) (𝓣 : Tables 𝓤 H) (known : Triple 𝓤 (𝓣 .C #row-structs·cell-of) (CellOf 𝓤 H A mem run)) where
   walks : Walks 𝓤 H A f.ended stayed (WpFn 𝓤 H (𝓣 .C) (𝓣 .Λ) code.function) (f.clauses 𝓤 H A mem run)

@@ -12,7 +12,10 @@ returns-2 : tie.Need-returns-2
 returns-2 c = simp (le-leb (suc (c .before .before .args .depth)) 64 (omega arith), ne-eqb _ _ (c .if2 .taken))
 
 returns-3 : tie.Need-returns-3
-returns-3 c = simp (le-leb (suc (c .before .before .args .depth)) 64 (omega arith), eq-eqb _ _ (c .if2 .left))
+returns-3 c = simp (le-leb (suc (c .before .before .before .args .depth)) 64 (omega arith), eq-eqb _ _ (c .before .if2 .left), ne-eqb _ _ (c .if3 .taken))
+
+returns-4 : tie.Need-returns-4
+returns-4 c = simp (le-leb (suc (c .before .before .before .args .depth)) 64 (omega arith), eq-eqb _ _ (c .before .if2 .left), eq-eqb _ _ (c .if3 .left))
 
 pub element-fits-spec : {M : Type 1} → statement M
-element-fits-spec = tie.close (tie.spec returns returns-2 returns-3)
+element-fits-spec = tie.close (tie.spec returns returns-2 returns-3 returns-4)

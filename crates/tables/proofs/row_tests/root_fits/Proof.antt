@@ -22,7 +22,13 @@ returns-4 c = simp (eq-eqb _ _ (c .before .before .before .if1 .left), eq-eqb _ 
 
 returns-5 : tie.Need-returns-5
 unfolding rootFits
-returns-5 c = simp (eq-eqb _ _ (c .before .before .before .if1 .left), eq-eqb _ _ (c .before .before .if2 .left), eq-eqb _ _ (c .before .if3 .left), eq-eqb _ _ (c .if4 .left))
+returns-5 c =
+    simp (eq-eqb _ _ (c .before .before .before .before .if1 .left), eq-eqb _ _ (c .before .before .before .if2 .left), eq-eqb _ _ (c .before .before .if3 .left), eq-eqb _ _ (c .before .if4 .left), ne-eqb _ _ (c .if5 .taken))
+
+returns-6 : tie.Need-returns-6
+unfolding rootFits
+returns-6 c =
+    simp (eq-eqb _ _ (c .before .before .before .before .if1 .left), eq-eqb _ _ (c .before .before .before .if2 .left), eq-eqb _ _ (c .before .before .if3 .left), eq-eqb _ _ (c .before .if4 .left), eq-eqb _ _ (c .if5 .left))
 
 pub root-fits-spec : {M : Type 1} → statement M
-root-fits-spec = tie.close (tie.spec returns returns-2 returns-3 returns-4 returns-5)
+root-fits-spec = tie.close (tie.spec returns returns-2 returns-3 returns-4 returns-5 returns-6)

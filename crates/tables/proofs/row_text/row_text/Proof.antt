@@ -8,9 +8,9 @@ use Rattle.tables.specs.row_text.Answers.{text-inside, part-refused, par
 add-end : tie.Need-add-end
 add-end c =
     let answer = c .before .before .before .row-text-place in
-    let start = c .before .before .before .before .before .before .before .before .before .before in
+    let start = c .before .before .before .before .before .before .before .before .before .before .before in
     let inside = text-inside _ _ _ _ _ (answer .ensures) _ _ (c .before .start .given .1) in
-    omega (arith, inside, start .good .1 .1 .1 .1 .1 .1 .1 .0)
+    omega (arith, inside, start .good .1 .1 .1 .1 .1 .1 .1 .1 .0)
 
 part-result-end : tie.Need-part-result-end
 part-result-end c =

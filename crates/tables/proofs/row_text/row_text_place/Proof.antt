@@ -13,7 +13,7 @@ returns c = no-record _ _ _ _ (sym (passes-schema _ _) ∙ sym (c .before .is-sc
 
 schema-words-requires : tie.Need-schema-words-requires
 schema-words-requires c κs =
-    let schema = c .before .before .before .before .before .before .before .before .args .schema in
+    let schema = c .before .before .before .before .before .before .before .before .before .args .schema in
     record-low (schema .bytes) (schema .len) (sym (c .before .is-schema-record .ensures) ∙ not-false _ (c .if1 .left))
 
 returns-2 : tie.Need-returns-2

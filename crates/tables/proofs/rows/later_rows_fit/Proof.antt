@@ -11,23 +11,23 @@ use Rattle.tables.proofs.rows.later_rows_fit.Statement.{statement}
 use Rattle.tables.proofs.rows.later_rows_fit.Tie as tie
 
 abbrev Inv-loop : tie.InvT-loop
-Inv-loop numbers codes parents starts lengths count words element₀ depth₀ row parent element depth = Climbing (columns numbers codes parents starts lengths) row parent element₀ depth₀ element depth
+Inv-loop numbers codes parents starts lengths decoded count words element₀ depth₀ row parent element depth = Climbing (columns numbers codes parents starts lengths decoded) row parent element₀ depth₀ element depth
 
 abbrev μ-loop : tie.MeasureT-loop
-μ-loop numbers codes parents starts lengths count words element₀ depth₀ row parent element depth = depth
+μ-loop numbers codes parents starts lengths decoded count words element₀ depth₀ row parent element depth = depth
 
 abbrev Inv-rows : tie.InvT-rows
-Inv-rows numbers codes parents starts lengths count words element₀ depth₀ row₀ element depth row = Rows words (columns numbers codes parents starts lengths) count element depth row
+Inv-rows numbers codes parents starts lengths decoded count words element₀ depth₀ row₀ element depth row = Rows words (columns numbers codes parents starts lengths decoded) count element depth row
 
 abbrev μ-rows : tie.MeasureT-rows
-μ-rows numbers codes parents starts lengths count words element₀ depth₀ row₀ element depth row = count - row
+μ-rows numbers codes parents starts lengths decoded count words element₀ depth₀ row₀ element depth row = count - row
 
 -- Back to the start, what is lent there, and from the inner loop to the outer one.
-abbrev start-before : tie.After-shared-slice-known5 Inv-loop μ-loop Inv-rows μ-rows → tie.Start Inv-loop μ-loop Inv-rows μ-rows
-start-before c = c .before .before .before .before .before
+abbrev start-before : tie.After-shared-slice-known6 Inv-loop μ-loop Inv-rows μ-rows → tie.Start Inv-loop μ-loop Inv-rows μ-rows
+start-before c = c .before .before .before .before .before .before
 
 abbrev lent : tie.Start Inv-loop μ-loop Inv-rows μ-rows → Columns
-lent c = columns (c .args .numbers .now) (c .args .codes .now) (c .args .parents .now) (c .args .starts .now) (c .args .lengths .now)
+lent c = columns (c .args .numbers .now) (c .args .codes .now) (c .args .parents .now) (c .args .starts .now) (c .args .lengths .now) (c .args .decoded .now)
 
 abbrev rows-before : tie.At-loop Inv-loop μ-loop Inv-rows μ-rows → tie.At-rows Inv-loop μ-loop Inv-rows μ-rows
 rows-before c = c .before .before .before
@@ -38,7 +38,7 @@ rows-holds c =
     rows-first (start .args .words .now) (lent start) (start .args .count) (start .pre .1)
 
 cast-parent : tie.Need-cast-parent Inv-loop μ-loop Inv-rows μ-rows
-cast-parent c = omega (arith, c .shared-slice-known6 .given (c .before .before .rows .row))
+cast-parent c = omega (arith, c .shared-slice-known7 .given (c .before .before .rows .row))
 
 loop-holds : tie.Need-loop-holds Inv-loop μ-loop Inv-rows μ-rows
 loop-holds c =
@@ -47,7 +47,7 @@ loop-holds c =
     climb-first (start .args .words .now) (lent start) (start .args .count) (at .rows .element) (at .rows .depth) (at .rows .row) _ (at .rows .inv)
 
 cast-element : tie.Need-cast-element Inv-loop μ-loop Inv-rows μ-rows
-cast-element c = omega (arith, c .shared-slice-known7 .given (c .before .before .before .loop .element))
+cast-element c = omega (arith, c .shared-slice-known8 .given (c .before .before .before .loop .element))
 
 loop-again : tie.Need-loop-again Inv-loop μ-loop Inv-rows μ-rows
 loop-again c =

@@ -5,15 +5,15 @@ use Rattle.tables.proofs.rows.row_fits.Statement.{statement}
 use Rattle.tables.proofs.rows.row_fits.Tie as tie
 
 -- The start; and from where the parent's names are read, back to where the row's kind is.
-abbrev start-before : tie.After-shared-slice-known4 → tie.Start
-start-before c = c .before .before .before .before
+abbrev start-before : tie.After-shared-slice-known5 → tie.Start
+start-before c = c .before .before .before .before .before
 
-abbrev kind-before : tie.After-word → tie.After-shared-slice-known4
+abbrev kind-before : tie.After-word → tie.After-shared-slice-known5
 kind-before c = c .before .before .before .before
 
 returns : tie.Need-returns
 returns c =
-    let b = c .before .before .before .before .before .before .before .before in
+    let b = c .before .before .before .before .before .before .before .before .before in
     rw (c .later-fits .ensures, b .is-text .ensures)
 
 pub row-fits-spec : {M : Type 1} → statement M
@@ -37,5 +37,7 @@ row-fits-spec =
     (λ c. start-before (kind-before (c .before .before .before .before)) .pre .0 .started)
     (λ c. search scaled-fits)
     (λ c. start-before (kind-before (c .before .before .before .before .before)) .pre .0 .sized)
-    (λ c κs. start-before (kind-before (c .before .before .before .before .before)) .pre .1)
+    (λ c. search scaled-fits)
+    (λ c. start-before (kind-before (c .before .before .before .before .before .before)) .pre .0 .measured)
+    (λ c κs. start-before (kind-before (c .before .before .before .before .before .before)) .pre .1)
     returns)

@@ -8,15 +8,15 @@ use Rattle.tables.proofs.rows.rows_fit.Statement.{statement}
 use Rattle.tables.proofs.rows.rows_fit.Tie as tie
 
 -- The start, from where there are rows; and from where the root is tested, back to there.
-abbrev start-before : tie.After-shared-slice-known5 → tie.Start
-start-before c = c .before .before .before .before .before
+abbrev start-before : tie.After-shared-slice-known6 → tie.Start
+start-before c = c .before .before .before .before .before .before
 
 abbrev some-before : tie.After-root-fits → tie.Else1
-some-before c = c .before .before .before .before .before .before
+some-before c = c .before .before .before .before .before .before .before
 
 -- What is lent.
 abbrev lent : tie.Start → Columns
-lent c = columns (c .args .numbers .now) (c .args .codes .now) (c .args .parents .now) (c .args .starts .now) (c .args .lengths .now)
+lent c = columns (c .args .numbers .now) (c .args .codes .now) (c .args .parents .now) (c .args .starts .now) (c .args .lengths .now) (c .args .decoded .now)
 
 returns : tie.Need-returns
 returns c =
@@ -48,6 +48,7 @@ rows-fit-spec =
     tie.close
     (tie.spec
     returns
+    (λ c. omega arith)
     (λ c. omega arith)
     (λ c. omega arith)
     (λ c. omega arith)

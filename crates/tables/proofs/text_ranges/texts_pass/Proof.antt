@@ -8,26 +8,26 @@ use Rattle.tables.proofs.text_ranges.texts_pass.Statement.{statement}
 use Rattle.tables.proofs.text_ranges.texts_pass.Tie as tie
 
 abbrev Inv-loop : tie.InvT-loop
-Inv-loop lent codes starts lengths count i₀ i = Left lent codes starts lengths count i
+Inv-loop lent codes starts lengths decoded count i₀ i = Left lent codes starts lengths decoded count i
 
 abbrev μ-loop : tie.MeasureT-loop
-μ-loop lent codes starts lengths count i₀ i = count - i
+μ-loop lent codes starts lengths decoded count i₀ i = count - i
 
 loop-holds : tie.Need-loop-holds Inv-loop μ-loop
-loop-holds c = left-first _ _ _ _ _
+loop-holds c = left-first _ _ _ _ _ _
 
 returns : tie.Need-returns Inv-loop μ-loop
 returns c =
-    let turn = c .before .before .before .before .before in
-    left-fails _ _ _ _ _ _ (turn .before .loop .inv) (turn .loop-test .taken) (sym (c .before .text-passes .ensures) ∙ not-true _ (c .if1 .taken))
+    let turn = c .before .before .before .before .before .before in
+    left-fails _ _ _ _ _ _ _ (turn .before .loop .inv) (turn .loop-test .taken) (sym (c .before .text-passes .ensures) ∙ not-true _ (c .if1 .taken))
 
 loop-again : tie.Need-loop-again Inv-loop μ-loop
 loop-again c =
-    let turn = c .before .before .before .before .before in
-    left-next _ _ _ _ _ _ (turn .before .loop .inv) (turn .loop-test .taken) (sym (c .before .text-passes .ensures) ∙ not-false _ (c .if1 .left))
+    let turn = c .before .before .before .before .before .before in
+    left-next _ _ _ _ _ _ _ (turn .before .loop .inv) (turn .loop-test .taken) (sym (c .before .text-passes .ensures) ∙ not-false _ (c .if1 .left))
 
 returns-2 : tie.Need-returns-2 Inv-loop μ-loop
-returns-2 c = left-done _ _ _ _ _ _ (c .before .loop .inv) (c .loop-test .left)
+returns-2 c = left-done _ _ _ _ _ _ _ (c .before .loop .inv) (c .loop-test .left)
 
 pub texts-pass-spec : {M : Type 1} → statement M
 texts-pass-spec =
@@ -36,6 +36,8 @@ texts-pass-spec =
     Inv-loop
     μ-loop
     loop-holds
+    (λ c. search needs)
+    (λ c. search needs)
     (λ c. search needs)
     (λ c. search needs)
     (λ c. search needs)

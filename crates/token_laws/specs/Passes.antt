@@ -5,17 +5,19 @@ use mathlib.Core.Logic.{_⊎_, inl, inr}
 use mathlib.Core.Option.{Option, none, some}
 use mathlib.Core.Path.{_≡_, refl, sym, ap, subst, _∙_}
 use Prim.Native.Nat.{ℕ, zero, suc, _+_, _-_, _≤_, _<_}
-use native.Mathlib.Nat.{add-zero}
+use native.Mathlib.Nat.{add-zero, zero-add, add-assoc}
 use native.Mathlib.Omega.{arith}
 use lib.Dec.{T, eqb, leb, ltb, eqb→eq, lt→ltb, le→leb, leb→le}
 use lib.ListN.{length, length-append}
-use Rattle.journal_laws.specs.Events.{told, eventsFrom, modeAfter}
-use Rattle.journal_spec.specs.Lexer.{Run, run, Mode, between, inData, opened, inName, afterName, afterSlash, ending, inEndName, afterEndName, Event, quiet, starts, empties, ends, runs, Lexed, goes, tells, solidBy, firstSolid, dataByte, lex, misspeltAt, tagByte, endTagByte}
-use Rattle.journal_spec.specs.Tokens.{Token, startTag, emptyTag, endTag, characters, spellToken, spell, Entity, lt, gt, amp, apos, quot, isPlain, Pieces, none as no-piece, plain, entity, sectionEnd, NoSectionEnd, Spelt, start-spelt, empty-spelt, end-spelt, characters-spelt, TagNext, no-token, start-next, empty-next, end-next, AllSpelt, none as all-none, tag, data-then, Tokens}
-use Rattle.text_laws.specs.Tests.{passed, failed, true-of, false-of, and-cases, or-left, or-right, or-cases, not-elim}
+use Rattle.text_laws.specs.Tests.{passed, failed, true-of, false-of, and-cases, or-cases}
 use Rattle.text_spec.specs.Bytes.{isBlank, isName, startsName, continuesName, allBlank}
 use Rattle.text_spec.specs.Limits.{maxNameBytes}
 use Rattle.text_spec.specs.Lists.{allOf}
+use Rattle.token_laws.specs.Characters.{plain-parts, plain-saved, entity-saved, none-saved}
+use Rattle.token_laws.specs.Events.{told, eventsFrom}
+use Rattle.token_spec.specs.Characters.{savedIn}
+use Rattle.token_spec.specs.Lexer.{modeAfter, Run, run, Mode, between, inData, opened, inName, afterName, afterSlash, ending, inEndName, afterEndName, Event, quiet, starts, empties, ends, runs, Lexed, goes, tells, solidBy, savedBy, firstSolid, dataByte, lex, misspeltAt, tagByte, endTagByte}
+use Rattle.token_spec.specs.Tokens.{Token, startTag, emptyTag, endTag, characters, spellToken, spell, Entity, lt, gt, amp, apos, quot, isPlain, Pieces, none as no-piece, plain, entity, sectionEnd, NoSectionEnd, Spelt, start-spelt, empty-spelt, end-spelt, characters-spelt, TagNext, no-token, start-next, empty-next, end-next, AllSpelt, none as all-none, tag, data-then, Tokens}
 
 -- the events of bytes, before the end is known
 unfoldable pub eventsOver : Mode → ℕ → List ℕ → List Event
@@ -175,7 +177,7 @@ abbrev pub tokenEvents : ℕ → Token → List Event
 tokenEvents k (startTag n a) = starts n k ∷ []
 tokenEvents k (emptyTag n a) = starts n k ∷ ends n k ∷ []
 tokenEvents k (endTag n a) = ends n k ∷ []
-tokenEvents k (characters w) = runs (run k (solidFrom k w)) (length w) ∷ []
+tokenEvents k (characters w) = runs (run k (solidFrom k w) (savedIn w)) (length w) ∷ []
 
 -- after its `<`
 abbrev pub tagRest : Token → List ℕ
@@ -306,7 +308,7 @@ pub data-lex : (r : Run) (c k b : ℕ) → eqb b 0x3C ≡ false → lex (inData 
 unfolding lex
 data-lex r c k b e = rw e
 
-pub between-lex : (k b : ℕ) → eqb b 0x3C ≡ false → lex between k b ≡ lex (inData (run k none) 0) k b
+pub between-lex : (k b : ℕ) → eqb b 0x3C ≡ false → lex between k b ≡ lex (inData (run k none 0) 0) k b
 unfolding lex
 between-lex k b e = rw e
 
@@ -316,29 +318,40 @@ joinSolid none x = x
 joinSolid (some j) x = some j
 
 abbrev pub ranOn : Run → ℕ → List ℕ → Run
-ranOn r k w = run (r .start) (joinSolid (r .solid) (solidFrom k w))
+ranOn r k w = run (r .start) (joinSolid (r .solid) (solidFrom k w)) (r .saved + savedIn w)
 
 ran-nothing : (r : Run) (k : ℕ) → r ≡ ranOn r k []
-ran-nothing r k = by (r .solid) refl
+ran-nothing r k = by (r .solid) refl ∙ ap (run (r .start) (joinSolid (r .solid) none)) (sym (ap (λ (n : ℕ). r .saved + n) none-saved ∙ add-zero (r .saved)))
   where
-    by : (x : Option ℕ) → r .solid ≡ x → r ≡ run (r .start) (joinSolid x none)
+    by : (x : Option ℕ) → r .solid ≡ x → r ≡ run (r .start) (joinSolid x none) (r .saved)
     by none e = rw (← e)
     by (some j) e = rw (← e)
 
-ran-solid : (r : Run) (k : ℕ) (x : Option ℕ) → run (r .start) (joinSolid (firstSolid (r .solid) k) x) ≡ run (r .start) (joinSolid (r .solid) (some k))
-ran-solid r k x = by (r .solid)
-  where
-    by : (y : Option ℕ) → run (r .start) (joinSolid (firstSolid y k) x) ≡ run (r .start) (joinSolid y (some k))
-    by none = refl
-    by (some j) = refl
+solid-first : (x : Option ℕ) (k : ℕ) (y : Option ℕ) → joinSolid (firstSolid x k) y ≡ joinSolid x (some k)
+solid-first none k y = refl
+solid-first (some j) k y = refl
 
-pub entity-passes : {e : List ℕ} (r : Run) (c k : ℕ) → Entity e → Passes (inData r c) k e (inData (solidBy r k) 0) []
+-- after an entity that saves so many bytes
+abbrev saving : Run → ℕ → ℕ → Mode
+saving r k n = inData (savedBy (solidBy r k) n) 0
+
+three : (k : ℕ) → suc (suc (suc k)) - k ≡ 3
+three k = omega arith
+
+four : (k : ℕ) → suc (suc (suc (suc k))) - k ≡ 4
+four k = omega arith
+
+five : (k : ℕ) → suc (suc (suc (suc (suc k)))) - k ≡ 5
+five k = omega arith
+
+-- an entity stands for one character
+pub entity-passes : {e : List ℕ} (r : Run) (c k : ℕ) → Entity e → Passes (inData r c) k e (inData (savedBy (solidBy r k) (length e - 1)) 0) []
 unfolding modeAfter eventsOver lex
-entity-passes r c k lt = record { mode = refl; events = refl }
-entity-passes r c k gt = record { mode = refl; events = refl }
-entity-passes r c k amp = record { mode = refl; events = refl }
-entity-passes r c k apos = record { mode = refl; events = refl }
-entity-passes r c k quot = record { mode = refl; events = refl }
+entity-passes r c k lt = record { mode = ap (saving r k) (three k); events = refl }
+entity-passes r c k gt = record { mode = ap (saving r k) (three k); events = refl }
+entity-passes r c k amp = record { mode = ap (saving r k) (four k); events = refl }
+entity-passes r c k apos = record { mode = ap (saving r k) (five k); events = refl }
+entity-passes r c k quot = record { mode = ap (saving r k) (five k); events = refl }
 
 pub entity-resets : {e : List ℕ} (c : ℕ) (w : List ℕ) → Entity e → noEnd c (e ++ w) ≡ noEnd 0 w
 entity-resets c w lt = refl
@@ -353,11 +366,6 @@ entity-solid k w gt = refl
 entity-solid k w amp = refl
 entity-solid k w apos = refl
 entity-solid k w quot = refl
-
-pub plain-parts : (b : ℕ) → T (isPlain b) → (eqb b 0x3C ≡ false) × (eqb b 0x26 ≡ false)
-plain-parts b t =
-    let n = not-elim (eqb b 0x3C || eqb b 0x26) t in
-    (false-of (eqb b 0x3C) (λ h. n (or-left (eqb b 0x3C) (eqb b 0x26) h)), false-of (eqb b 0x26) (λ h. n (or-right (eqb b 0x3C) (eqb b 0x26) h)))
 
 -- the mode after bytes of character data, whatever brackets they end in
 abbrev RunsOn : Run → ℕ → ℕ → List ℕ → Type 0
@@ -375,13 +383,13 @@ plain-runs-on r c k b w isData t rest = by (isBlank b) (eqb b 0x5D) (eqb b 0x3E 
     solid : isBlank b ≡ false → (d : ℕ) → lex (inData r c) k b ≡ goes (inData (solidBy r k) d) → T (noEnd d w) → RunsOn r c k (b ∷ w)
     solid e d l u =
         let h = rest (solidBy r k) d u in
-        let f : ranOn (solidBy r k) (suc k) w ≡ ranOn r k (b ∷ w) = rw e (ran-solid r k (solidFrom (suc k) w)) in
+        let f : ranOn (solidBy r k) (suc k) w ≡ ranOn r k (b ∷ w) = rw (e, solid-first (r .solid) k (solidFrom (suc k) w), plain-saved b w no-entity) in
         (h .0, subst (λ (x : Run). Passes (inData r c) k (b ∷ w) (inData x (h .0)) []) f (passes-byte k b w l (h .1)))
 
     by : (p q x : Bool) → isBlank b ≡ p → eqb b 0x5D ≡ q → (eqb b 0x3E && leb 2 c) ≡ x → RunsOn r c k (b ∷ w)
     by true q x e f g =
         let h = rest r 0 (subst T (blank-cases (λ (y : ℕ). noEnd c (y ∷ w) ≡ noEnd 0 w) b (passed e) refl refl refl) t) in
-        let s : ranOn r (suc k) w ≡ ranOn r k (b ∷ w) = rw e in
+        let s : ranOn r (suc k) w ≡ ranOn r k (b ∷ w) = rw (e, plain-saved b w no-entity) in
         let l : lex (inData r c) k b ≡ goes (inData r 0) = data-lex r c k b no-tag ∙ rw e in
         (h .0, subst (λ (z : Run). Passes (inData r c) k (b ∷ w) (inData z (h .0)) []) s (passes-byte k b w l (h .1)))
     by false true x e f g = solid e (suc c) (data-lex r c k b no-tag ∙ rw (e, no-entity, f)) (rw f at t)
@@ -392,8 +400,10 @@ pub data-passes : {w : List ℕ} (r : Run) (c k : ℕ) → Pieces w → T (noEnd
 data-passes r c k no-piece t = (c, subst (λ (x : Run). Passes (inData r c) k [] (inData x c) []) (ran-nothing r k) (passes-none (inData r c) k))
 data-passes r c k (plain {b = b} {w = w} h p) t = plain-runs-on r c k b w h t (λ q d u. data-passes q d (suc k) p u)
 data-passes r c k (entity {e = e} {w = w} h p) t =
-    let i = data-passes (solidBy r k) 0 (k + length e) p (subst T (entity-resets c w h) t) in
-    let f : ranOn (solidBy r k) (k + length e) w ≡ ranOn r k (e ++ w) = ran-solid r k (solidFrom (k + length e) w) ∙ rw (entity-solid k w h) in
+    let s = savedBy (solidBy r k) (length e - 1) in
+    let i = data-passes s 0 (k + length e) p (subst T (entity-resets c w h) t) in
+    let n : (r .saved + (length e - 1)) + savedIn w ≡ r .saved + savedIn (e ++ w) = add-assoc (r .saved) (length e - 1) (savedIn w) ∙ ap (λ (x : ℕ). r .saved + x) (sym (entity-saved w h)) in
+    let f : ranOn s (k + length e) w ≡ ranOn r k (e ++ w) = rw (entity-solid k w h, solid-first (r .solid) k (solidFrom (k + length e) w), n) in
     (i .0, subst (λ (x : Run). Passes (inData r c) k (e ++ w) (inData x (i .0)) []) f (passes-append k e w (entity-passes r c k h) (i .1)))
 
 abbrev pub NotTag : List ℕ → Type 0
@@ -410,14 +420,15 @@ pieces-not-tag (entity apos p) = refl
 pieces-not-tag (entity quot p) = refl
 
 -- a run from its first byte on
-pub run-passes : (k b : ℕ) (w : List ℕ) → Pieces (b ∷ w) → NoSectionEnd (b ∷ w) → (d : ℕ) × Passes between k (b ∷ w) (inData (run k (solidFrom k (b ∷ w))) d) []
+pub run-passes : (k b : ℕ) (w : List ℕ) → Pieces (b ∷ w) → NoSectionEnd (b ∷ w) → (d : ℕ) × Passes between k (b ∷ w) (inData (run k (solidFrom k (b ∷ w)) (savedIn (b ∷ w))) d) []
 unfolding modeAfter eventsOver
 run-passes k b w p h =
-    let i = data-passes (run k none) 0 k p (means-no-end 0 (b ∷ w) h) in
+    let i = data-passes (run k none 0) 0 k p (means-no-end 0 (b ∷ w) h) in
+    let z : ranOn (run k none 0) k (b ∷ w) ≡ run k (solidFrom k (b ∷ w)) (savedIn (b ∷ w)) = ap (run k (solidFrom k (b ∷ w))) (zero-add (savedIn (b ∷ w))) in
     let e = between-lex k b (pieces-not-tag p) in (
       i .0,
       record {
-        mode = ap (λ (l : Lexed). modeAfter (l .mode) (suc k) w) e ∙ i .1 .mode;
+        mode = ap (λ (l : Lexed). modeAfter (l .mode) (suc k) w) e ∙ i .1 .mode ∙ ap (λ (x : Run). inData x (i .0)) z;
         events = ap (λ (l : Lexed). told (l .event) (eventsOver (l .mode) (suc k) w)) e ∙ i .1 .events;
       },
     )
@@ -471,10 +482,10 @@ lexes k (data-then {ts = ts} (characters-spelt {b = b} {w = w} p h) n rest) =
     let e : (k + length (b ∷ w)) - k ≡ length (b ∷ w) = omega arith in
     record {
       events =
-          passes-events k (b ∷ w) (spell ts) (q .1) ∙ data-ends (run k (solidFrom k (b ∷ w))) (q .0) (k + length (b ∷ w)) n
-          ∙ ap (λ (x : ℕ). runs (run k (solidFrom k (b ∷ w))) x ∷ eventsFrom between (k + length (b ∷ w)) (spell ts)) e
-          ∙ ap (λ (l : List Event). runs (run k (solidFrom k (b ∷ w))) (length (b ∷ w)) ∷ l) (i .events);
-      spelt = ap misspeltAt (passes-mode k (b ∷ w) (spell ts) (q .1)) ∙ data-ends-mode (run k (solidFrom k (b ∷ w))) (q .0) (k + length (b ∷ w)) n ∙ i .spelt;
+          passes-events k (b ∷ w) (spell ts) (q .1) ∙ data-ends (run k (solidFrom k (b ∷ w)) (savedIn (b ∷ w))) (q .0) (k + length (b ∷ w)) n
+          ∙ ap (λ (x : ℕ). runs (run k (solidFrom k (b ∷ w)) (savedIn (b ∷ w))) x ∷ eventsFrom between (k + length (b ∷ w)) (spell ts)) e
+          ∙ ap (λ (l : List Event). runs (run k (solidFrom k (b ∷ w)) (savedIn (b ∷ w))) (length (b ∷ w)) ∷ l) (i .events);
+      spelt = ap misspeltAt (passes-mode k (b ∷ w) (spell ts) (q .1)) ∙ data-ends-mode (run k (solidFrom k (b ∷ w)) (savedIn (b ∷ w))) (q .0) (k + length (b ∷ w)) n ∙ i .spelt;
     }
 
 -- The lexer tells the events of the tokens that spell a text, and finds nothing misspelt in it.

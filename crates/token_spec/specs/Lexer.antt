@@ -2,21 +2,22 @@
 use mathlib.Core.Bool.{cond, _&&_}
 use mathlib.Core.List.{List, [], _∷_, map}
 use mathlib.Core.Option.{Option, none, some}
-use Prim.Native.Nat.{ℕ, suc, _-_}
+use Prim.Native.Nat.{ℕ, suc, _+_, _-_}
 use lib.Dec.{eqb, leb}
 use lib.ListN.{drop}
-use Rattle.journal_spec.specs.Tokens.{entities}
 use Rattle.text_spec.specs.Bytes.{isBlank, startsName, continuesName}
 use Rattle.text_spec.specs.Lists.{anyOf, isEmpty}
 use Rattle.text_spec.specs.Machines.{longer}
+use Rattle.token_spec.specs.Tokens.{entities}
 
--- a run of character data: its start, and its first byte that is not a blank
+-- a run of character data: its start, its first byte that is not a blank, and how many bytes fewer its characters are: an entity stands for one
 pub record Run : Type 0 where
   pub start : ℕ
   pub solid : Option ℕ
+  pub saved : ℕ
 
-abbrev pub run : ℕ → Option ℕ → Run
-run k solid = record { start = k; solid = solid }
+abbrev pub run : ℕ → Option ℕ → ℕ → Run
+run k solid saved = record { start = k; solid = solid; saved = saved }
 
 -- what the bytes so far leave open
 pub data Mode : Type 0 where
@@ -64,7 +65,11 @@ firstSolid none k = some k
 firstSolid (some j) k = some j
 
 abbrev pub solidBy : Run → ℕ → Run
-solidBy r k = run (r .start) (firstSolid (r .solid) k)
+solidBy r k = run (r .start) (firstSolid (r .solid) k) (r .saved)
+
+-- so many bytes more are saved
+abbrev pub savedBy : Run → ℕ → Run
+savedBy r n = run (r .start) (r .solid) (r .saved + n)
 
 -- what is left of the entities that go on with this byte
 abbrev pub tailsWith : ℕ → List (List ℕ) → List (List ℕ)
@@ -80,8 +85,9 @@ dataByte r brackets k b =
     (cond (eqb b 0x5D) (inData (solidBy r k) (suc brackets))
     (cond (eqb b 0x3E && leb 2 brackets) (stopped (k - 2)) (inData (solidBy r k) 0))))
 
-abbrev pub entityByte : List (List ℕ) → ℕ → Run → Mode
-entityByte rests at r = cond (isEmpty rests) (stopped at) (cond (anyOf isEmpty rests) (inData r 0) (inEntity rests at r))
+-- a byte at the place k of the entity whose `&` stands at a place; its `;` ends it
+abbrev pub entityByte : List (List ℕ) → ℕ → ℕ → Run → Mode
+entityByte rests at k r = cond (isEmpty rests) (stopped at) (cond (anyOf isEmpty rests) (inData (savedBy r (k - at)) 0) (inEntity rests at r))
 
 -- after the name of a start tag or an empty tag
 abbrev pub tagByte : ℕ → List ℕ → ℕ → Lexed
@@ -93,9 +99,9 @@ endTagByte at n b = cond (isBlank b) (goes (afterEndName at n)) (cond (eqb b 0x3
 
 -- the byte b at the place k
 unfoldable pub lex : Mode → ℕ → ℕ → Lexed
-lex between k b = cond (eqb b 0x3C) (goes (opened k)) (goes (dataByte (run k none) 0 k b))
+lex between k b = cond (eqb b 0x3C) (goes (opened k)) (goes (dataByte (run k none 0) 0 k b))
 lex (inData r brackets) k b = cond (eqb b 0x3C) (tells (opened k) (runs r (k - r .start))) (goes (dataByte r brackets k b))
-lex (inEntity rests at r) k b = goes (entityByte (tailsWith b rests) at r)
+lex (inEntity rests at r) k b = goes (entityByte (tailsWith b rests) at k r)
 lex (opened at) k b = cond (eqb b 0x2F) (goes (ending at)) (cond (startsName b) (goes (inName at (b ∷ []))) (goes (stopped at)))
 lex (inName at n) k b = cond (continuesName b) (goes (longer (stopped at) n b (inName at))) (tagByte at n b)
 lex (afterName at n) k b = tagByte at n b
@@ -104,6 +110,11 @@ lex (ending at) k b = cond (startsName b) (goes (inEndName at (b ∷ []))) (goes
 lex (inEndName at n) k b = cond (continuesName b) (goes (longer (stopped at) n b (inEndName at))) (endTagByte at n b)
 lex (afterEndName at n) k b = endTagByte at n b
 lex (stopped at) k b = goes (stopped at)
+
+-- what the lexer leaves open after bytes
+unfoldable pub modeAfter : Mode → ℕ → List ℕ → Mode
+modeAfter m k [] = m
+modeAfter m k (b ∷ bs) = modeAfter (lex m k b .mode) (suc k) bs
 
 -- At the end a run is whole; a tag or an entity that the end cuts off is misspelt at its first byte.
 abbrev pub lastEvent : Mode → ℕ → Event

@@ -9,11 +9,6 @@ use native.Mathlib.Nat.{add-zero, zero-add}
 use native.Mathlib.Omega.{arith}
 use lib.Dec.{T, eqb, leb, ltb, eqb→eq, eqb-refl, le→leb, leb→le, ltb→lt}
 use lib.ListN.{length, drop, length-append}
-use Rattle.journal_laws.specs.Events.{told, eventsFrom, modeAfter, cond-cases}
-use Rattle.journal_laws.specs.Passes.{mode-append, Passes, passes-none, passes-byte, passes-append, passes-events, tokenEvents, whole-tag-passes, noEnd, brackets, brackets-more, brackets-end, last-two, no-end-means, data-lex, entity-resets, tag-spelling, tagRest, pieces-not-tag, plain-parts, entity-passes, tag-opens, blank-cases}
-use Rattle.journal_spec.specs.Conditions.{Stretch, nothing-yet, a-tag, a-byte, an-entity, MisspeltHere, bad-tag, bad-entity, section-end, Misspelt}
-use Rattle.journal_spec.specs.Lexer.{Run, run, Mode, between, inData, inEntity, opened, inName, afterName, afterSlash, ending, inEndName, afterEndName, stopped, Event, runs, Lexed, goes, tells, solidBy, tailsWith, dataByte, entityByte, lex, misspeltAt, tagByte, endTagByte}
-use Rattle.journal_spec.specs.Tokens.{Token, startTag, emptyTag, endTag, spellToken, spell, entities, Entity, lt, gt, amp, apos, quot, isPlain, Pieces, none as no-piece, plain, entity, sectionEnd, Spelt, start-spelt, empty-spelt, end-spelt, characters-spelt, TagNext, no-token, start-next, empty-next, end-next, AllSpelt, none as all-none, tag, data-then, Tokens}
 use Rattle.text_laws.specs.Bytes.{one-byte-name, name-snoc}
 use Rattle.text_laws.specs.Lists.{any-in, in-any, empty-of, append-empty, member-fills, all-snoc}
 use Rattle.text_laws.specs.Tests.{passed, failed, true-of, and-cases, or-cases, not-intro, never}
@@ -21,6 +16,12 @@ use Rattle.text_spec.specs.Bytes.{isBlank, isName, startsName, continuesName, a
 use Rattle.text_spec.specs.Limits.{maxNameBytes}
 use Rattle.text_spec.specs.Lists.{anyOf, isEmpty}
 use Rattle.text_spec.specs.Machines.{longer}
+use Rattle.token_laws.specs.Characters.{plain-parts}
+use Rattle.token_laws.specs.Events.{told, eventsFrom, cond-cases}
+use Rattle.token_laws.specs.Passes.{mode-append, Passes, passes-none, passes-byte, passes-append, passes-events, tokenEvents, whole-tag-passes, noEnd, brackets, brackets-more, brackets-end, last-two, no-end-means, data-lex, entity-resets, tag-spelling, tagRest, pieces-not-tag, entity-passes, tag-opens, blank-cases}
+use Rattle.token_spec.specs.Lexer.{modeAfter, Run, run, Mode, between, inData, inEntity, opened, inName, afterName, afterSlash, ending, inEndName, afterEndName, stopped, Event, runs, Lexed, goes, tells, solidBy, savedBy, tailsWith, dataByte, entityByte, lex, misspeltAt, tagByte, endTagByte}
+use Rattle.token_spec.specs.Misspellings.{Stretch, nothing-yet, a-tag, a-byte, an-entity, MisspeltHere, bad-tag, bad-entity, section-end, Misspelt}
+use Rattle.token_spec.specs.Tokens.{Token, startTag, emptyTag, endTag, spellToken, spell, entities, Entity, lt, gt, amp, apos, quot, isPlain, Pieces, none as no-piece, plain, entity, sectionEnd, Spelt, start-spelt, empty-spelt, end-spelt, characters-spelt, TagNext, no-token, start-next, empty-next, end-next, AllSpelt, none as all-none, tag, data-then, Tokens}
 
 -- ---- a tag that is not complete
 
@@ -398,13 +399,13 @@ bad-entity-reading : (at : ℕ) (c bs : List ℕ) → ((e r : List ℕ) → Enti
 bad-entity-reading at c bs h = data-misspelled at [] (0x26 ∷ (c ++ bs)) nothing-yet (bad-entity h) refl (sym (add-zero at))
 
 entity-claim : (bs : List ℕ) → Claims bs → (rests : List (List ℕ)) (at : ℕ) (r : Run) (c : List ℕ) (k b : ℕ) → Matches (0x26 ∷ c) rests → NoneYet (0x26 ∷ c) → at + suc (length c) ≡ k
-    → DataReading at ((0x26 ∷ c) ++ (b ∷ bs)) (M (entityByte (tailsWith b rests) at r) (suc k) bs)
+    → DataReading at ((0x26 ∷ c) ++ (b ∷ bs)) (M (entityByte (tailsWith b rests) at k r) (suc k) bs)
 entity-claim bs claims rests at r c k b m n p =
-    subst (λ (l : List ℕ). DataReading at (0x26 ∷ l) (M (entityByte rests′ at r) (suc k) bs)) (append-assoc c (b ∷ []) bs)
+    subst (λ (l : List ℕ). DataReading at (0x26 ∷ l) (M (entityByte rests′ at k r) (suc k) bs)) (append-assoc c (b ∷ []) bs)
     (cond-cases (λ (x : Mode). DataReading at ((0x26 ∷ c′) ++ bs) (M x (suc k) bs)) (isEmpty rests′) _ _
     (λ e. subst (λ (l : List ℕ). DataReading at ((0x26 ∷ c′) ++ bs) l) (sym (ap misspeltAt (stopped-mode at (suc k) bs))) (bad-entity-reading at c′ bs (no-entity (passed e))))
     (λ e. cond-cases (λ (x : Mode). DataReading at ((0x26 ∷ c′) ++ bs) (M x (suc k) bs)) (anyOf isEmpty rests′) _ _
-    (λ f. extend-whole-entity at (suc k) (0x26 ∷ c′) bs (whole (passed f)) grown (claims .at-data r 0 (suc k) (suc k) (add-zero (suc k))))
+    (λ f. extend-whole-entity at (suc k) (0x26 ∷ c′) bs (whole (passed f)) grown (claims .at-data (savedBy r (k - at)) 0 (suc k) (suc k) (add-zero (suc k))))
     (λ f. claims .at-entity rests′ at r c′ (suc k) matched (none-yet-step (0x26 ∷ c) rests′ b n matched (λ i. failed f (any-in isEmpty i tt))) grown)))
   where
     rests′ : List (List ℕ)
@@ -480,15 +481,15 @@ data-claim bs claims r c j k b h =
         (subst (λ (x : ℕ). DataReading j (brackets c ++ (x ∷ bs)) ((k - 2) ∷ [])) (sym (eqb→eq b 0x3E (s .0))) (section-reading j c k bs h (leb→le 2 c (s .1))))
 
 -- the lexer leaves `between` by a byte as it leaves a run that has not begun
-between-mode : (k b : ℕ) → lex between k b .mode ≡ lex (inData (run k none) 0) k b .mode
+between-mode : (k b : ℕ) → lex between k b .mode ≡ lex (inData (run k none 0) 0) k b .mode
 unfolding lex
 between-mode k b = by (eqb b 0x3C)
   where
-    by : (t : Bool) → cond t (goes (opened k)) (goes (dataByte (run k none) 0 k b)) .mode ≡ cond t (tells (opened k) (runs (run k none) (k - k))) (goes (dataByte (run k none) 0 k b)) .mode
+    by : (t : Bool) → cond t (goes (opened k)) (goes (dataByte (run k none 0) 0 k b)) .mode ≡ cond t (tells (opened k) (runs (run k none 0) (k - k))) (goes (dataByte (run k none 0) 0 k b)) .mode
     by true = refl
     by false = refl
 
-entity-lex : (rests : List (List ℕ)) (at : ℕ) (r : Run) (k b : ℕ) → lex (inEntity rests at r) k b ≡ goes (entityByte (tailsWith b rests) at r)
+entity-lex : (rests : List (List ℕ)) (at : ℕ) (r : Run) (k b : ℕ) → lex (inEntity rests at r) k b ≡ goes (entityByte (tailsWith b rests) at k r)
 unfolding lex
 entity-lex rests at r k b = refl
 
@@ -510,13 +511,13 @@ one-byte-more : (b : ℕ) (bs : List ℕ) → Claims bs → Claims (b ∷ bs)
 unfolding modeAfter
 one-byte-more b bs claims =
     record {
-      at-between = λ k. from-data (subst (λ (m : Mode). DataReading k (b ∷ bs) (M m (suc k) bs)) (sym (between-mode k b)) (data-claim bs claims (run k none) 0 k k b (add-zero k)));
+      at-between = λ k. from-data (subst (λ (m : Mode). DataReading k (b ∷ bs) (M m (suc k) bs)) (sym (between-mode k b)) (data-claim bs claims (run k none 0) 0 k k b (add-zero k)));
       at-data = λ r c j k h. data-claim bs claims r c j k b h;
       at-entity = λ rests at r c k m n p. subst (λ (x : Mode). DataReading at ((0x26 ∷ c) ++ (b ∷ bs)) (M x (suc k) bs)) (entity-mode rests at r k) (entity-claim bs claims rests at r c k b m n p);
       at-tag = λ at p k h q e. tag-claim k b bs claims h q e (tag-step k b h) refl;
     }
   where
-    entity-mode : (rests : List (List ℕ)) (at : ℕ) (r : Run) (k : ℕ) → entityByte (tailsWith b rests) at r ≡ lex (inEntity rests at r) k b .mode
+    entity-mode : (rests : List (List ℕ)) (at : ℕ) (r : Run) (k : ℕ) → entityByte (tailsWith b rests) at k r ≡ lex (inEntity rests at r) k b .mode
     entity-mode rests at r k = ap (λ (l : Lexed). l .mode) (sym (entity-lex rests at r k b))
 
 claims-of : (bs : List ℕ) → Claims bs
@@ -537,7 +538,7 @@ record AsData (m : Mode) (k : ℕ) : Type 0 where
 
 as-data : {m : Mode} (k : ℕ) → OpenMode m → AsData m k
 unfolding modeAfter
-as-data k open-between = record { run-so-far = run k none; count = 0; reads-on = λ b w. ap (λ (m : Mode). modeAfter m (suc k) w) (between-mode k b) }
+as-data k open-between = record { run-so-far = run k none 0; count = 0; reads-on = λ b w. ap (λ (m : Mode). modeAfter m (suc k) w) (between-mode k b) }
 as-data k (open-data {r = r} {c = c}) = record { run-so-far = r; count = c; reads-on = λ b w. refl }
 
 data Through (m : Mode) (k : ℕ) (u : List ℕ) : Type 0 where
@@ -572,11 +573,11 @@ tag-mode {t = t} k (open-data {r = r} {c = c}) n s =
     ap (λ (w : List ℕ). modeAfter (inData r c) k w) (tag-spelling t n) ∙ ap (λ (w : List ℕ). modeAfter between k w) (sym (tag-spelling t n)) ∙ whole-tag-passes k n s .mode
 
 entity-mode : {m : Mode} {e : List ℕ} (k : ℕ) → OpenMode m → Entity e → (a : Mode) × OpenMode a × (modeAfter m k e ≡ a)
-entity-mode {m} k o h =
+entity-mode {m} {e} k o h =
     let d = as-data k o in
-    (inData (solidBy (d .run-so-far) k) 0, open-data, by h d)
+    (inData (savedBy (solidBy (d .run-so-far) k) (length e - 1)) 0, open-data, by h d)
   where
-    by : {e : List ℕ} → Entity e → (d : AsData m k) → modeAfter m k e ≡ inData (solidBy (d .run-so-far) k) 0
+    by : {e : List ℕ} → Entity e → (d : AsData m k) → modeAfter m k e ≡ inData (savedBy (solidBy (d .run-so-far) k) (length e - 1)) 0
     by lt d = d .reads-on _ _ ∙ entity-passes (d .run-so-far) (d .count) k lt .mode
     by gt d = d .reads-on _ _ ∙ entity-passes (d .run-so-far) (d .count) k gt .mode
     by amp d = d .reads-on _ _ ∙ entity-passes (d .run-so-far) (d .count) k amp .mode

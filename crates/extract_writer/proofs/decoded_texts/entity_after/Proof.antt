@@ -1,0 +1,44 @@
+use mathlib.Core.Path.{sym, _∙_}
+use borrow.Author.Needs.{needs}
+use Rattle.extract_writer.proofs.decoded_texts.entity_after.Statement.{statement}
+use Rattle.extract_writer.proofs.decoded_texts.entity_after.Tie as tie
+use Rattle.extract_writer.specs.decoded_texts.Decoded.{entity-after}
+use Rattle.text_spec.specs.Lists.{bytes}
+use Rattle.token_spec.specs.Characters.{amp, apos, quot}
+
+returns-amp : tie.Need-returns
+returns-amp c = entity-after _ _ (bytes "amp;") amp (sym (c .before .four-at .ensures) ∙ c .if1 .taken)
+
+returns-apos : tie.Need-returns-2
+returns-apos c = entity-after _ _ (bytes "apos;") apos (sym (c .before .five-at .ensures) ∙ c .if2 .taken)
+
+returns-quot : tie.Need-returns-3
+returns-quot c = entity-after _ _ (bytes "quot;") quot (sym (c .before .five-at2 .ensures) ∙ c .if3 .taken)
+
+returns-bracket : tie.Need-returns-4
+returns-bracket c =
+    let third = c .before .before in
+    let second = third .before .before in
+    let first = second .before .before in
+    c .bracket-after .ensures
+    (record {
+      amp = sym (first .four-at .ensures) ∙ second .before .if1 .left;
+      apos = sym (second .five-at .ensures) ∙ third .before .if2 .left;
+      quot = sym (third .five-at2 .ensures) ∙ c .before .if3 .left;
+    })
+
+pub entity-after-spec : {M : Type 1} → statement M
+entity-after-spec =
+    tie.close
+    (tie.spec
+    (λ c κs. search needs)
+    (λ c. search needs)
+    returns-amp
+    (λ c κs. search needs)
+    (λ c. search needs)
+    returns-apos
+    (λ c κs. search needs)
+    (λ c. search needs)
+    returns-quot
+    (λ c κs. search needs)
+    returns-bracket)

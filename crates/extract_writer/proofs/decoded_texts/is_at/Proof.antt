@@ -1,0 +1,18 @@
+use mathlib.Core.Path.{sym}
+use borrow.Author.Needs.{needs}
+use Rattle.extract_writer.proofs.decoded_texts.is_at.Statement.{statement}
+use Rattle.extract_writer.proofs.decoded_texts.is_at.Tie as tie
+use Rattle.extract_writer.specs.decoded_texts.Decoded.{begins-past, begins-byte}
+
+returns : tie.Need-returns
+returns c =
+    let start = c .before .args in
+    sym (begins-past (start .text .now) (start .i) (start .a) (c .if1 .taken))
+
+returns-2 : tie.Need-returns-2
+returns-2 c =
+    let start = c .before .before .args in
+    sym (begins-byte (start .text .now) (start .i) (start .a) (c .before .if1 .left))
+
+pub is-at-spec : {M : Type 1} → statement M
+is-at-spec = tie.close (tie.spec returns (λ c. search needs) returns-2)

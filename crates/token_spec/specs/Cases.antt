@@ -1,0 +1,4 @@
+pub mod Opened
+pub mod Misspellings
+pub mod Characters
+pub mod Texts

@@ -1,0 +1,1 @@
+// Definitions alone: they stand in specs/.
