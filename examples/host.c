@@ -1,4 +1,5 @@
-/* An example host: makes an extract of a scan journal, sends it (to a file), takes it as a controller would, and prints what each path selects.
+/* An example host: makes an extract of a scan journal, sends it (to a file), takes it as a controller would, and prints what each path selects, texts with
+   their characters.
      host SCHEMA PATHS JOURNAL EXTRACT
    Build: gcc host.c $(pkg-config --cflags --libs lozhymet) */
 #include <lozhymet.h>
@@ -45,6 +46,14 @@ static int save(const char *name, const uint8_t *bytes, size_t len) {
     return 0;
 }
 
+/* a node by its number and, if it is a text, its characters, which an extract has decoded; only a text has a length */
+static void show(uint16_t number) {
+    size_t row = 0;
+    while (numbers[row] != number) row++;
+    printf(" %u", number);
+    if (lengths[row]) printf(" \"%.*s\"", lengths[row], (const char *)extract + starts[row]);
+}
+
 int main(int argc, char **argv) {
     if (argc != 5) return fprintf(stderr, "usage: host SCHEMA PATHS JOURNAL EXTRACT\n"), 2;
     size_t schema_len = load(argv[1], LEND(schema)), bundle_len = load(argv[2], LEND(bundle)), journal_len = load(argv[3], LEND(journal));
@@ -59,7 +68,7 @@ int main(int argc, char **argv) {
     const uint16_t *item = items;
     for (size_t path = 0; path < found.counts; path++) {
         printf("path %u:", (unsigned)path + 1);
-        for (uint32_t i = 0; i < counts[path]; i++) printf(" %u", *item++);
+        for (uint32_t i = 0; i < counts[path]; i++) show(*item++);
         printf("\n");
     }
     return 0;

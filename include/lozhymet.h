@@ -47,7 +47,7 @@ extern "C" {
    A journal of L bytes that is accepted has e elements and t texts. A text has at least one byte and stands alone between a start tag and an end
    tag. An element with a text of n bytes takes at least 7 + n bytes (<a>..</a>), any other at least 4 (<a/>). With N bytes in all texts, N >= t:
      L >= 4 (e - t) + 7 t + N = 4 e + 3 t + N >= 4 (e + t), so there are at most L / 4 rows.
-   In an extract an element takes 8 bytes, a text of n bytes 7 + n, the count at the end 5:
+   In an extract an element takes 8 bytes, a text of n bytes at most 7 + n, since decoding makes none longer, the count at the end 5:
      8 e + 7 t + N + 5 = (4 e + 3 t + N) + 4 (e + t) + 5 <= L + 4 rows + 5 bytes.
    A row of an extract takes at least 8 bytes, since a text has at least one.
    The arguments are evaluated more than once. */
@@ -108,9 +108,10 @@ struct lozhymet_result {
      names    e for the element that the schema declares as number e (from 0), 32 + e for the text of such an element
      parents  the row of the parent, in the same columns; 0 for the root
      starts   for a text the offset of its first byte in the journal, or in the extract; 0 for an element
-     lengths  for a text its bytes, as they stand (entities are not replaced), 1 to 4,096; 0 for an element
-     decoded  the length of the text once decoded; no text is decoded yet, so it equals the length; 0 for an element
-   A text can be read from the journal, or from the extract, at starts[row], lengths[row] bytes long. */
+     lengths  for a text its bytes, as they stand there, 1 to 4,096; 0 for an element
+     decoded  for a text its characters, each of the five entities being one: 1 to its length, and equal to it where it has no entity; 0 for an element
+   A text can be read from the journal, or from the extract, at starts[row], lengths[row] bytes long. In the journal it stands as it was written, in an
+   extract decoded (for a label `H&amp;E` in the journal, with 7 and 3, the extract has `H&E`, with 3 and 3), and is not decoded again. */
 
 /* Makes the extract of a journal for a bundle of paths.
      schema, bundle, journal  the three texts; none needs a 0 at its end

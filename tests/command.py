@@ -61,6 +61,8 @@ REFUSED = [
     (15, "journal", "<plate/>", "1:1", "what element plate holds does not fit its model, or it is not the schema's root", "<plate/>", 0),
     (16, "journal", "<scan><plate><tile><focus>" + "x" * 4097 + "</focus></tile></plate></scan>", "1:27", "this text has more than 4,096 bytes",
      "<scan><plate><tile><focus>" + "x" * 46 + "...", 26),
+    (16, "journal", "<scan><plate><tile><focus>" + "&lt;" * 1024 + "x</focus></tile></plate></scan>", "1:27", "this text has more than 4,096 bytes",
+     "<scan><plate><tile><focus>" + "&lt;" * 11 + "&l...", 26),
     (16, "journal", "<scan>\n" + "<plate/>\n" * 65535 + "</scan>", "65536:1", "this is the 65,536th node, and 65,535 are allowed", "<plate/>", 0),
     (17, "extract", "x", None, "this is no extract under this schema", None, None),
 ]
@@ -151,6 +153,12 @@ def try_success(runs):
     runs.put("siblings", "descendant::well/following-sibling::tile\ndescendant::tile/preceding::focus\n")
     runs.expect("extract by siblings", runs.run(["extract", "schema", "siblings", "journal", "-q", "-o", "tray.siblings"]), (0, "", ""))
     runs.expect("select by siblings", runs.run(["select", "schema", "siblings", "tray.siblings", "-q"]), (0, "1 6\n2 4\n", ""))
+    runs.put("entities", JOURNAL.replace("12", "&lt;12&amp;3&gt;"))
+    runs.put("texts", "descendant::text()\n")
+    runs.expect("extract with entities", runs.run(["extract", "schema", "texts", "entities", "-q", "-o", "tray.entities"]), (0, "", ""))
+    # the text's number, its parent's and its characters
+    runs.expect("decoded text", runs.get("tray.entities").count(b"\x02\x00\x0a\x00\x05\x00\x04<12&3>"), 1)
+    runs.expect("select decoded text", runs.run(["select", "schema", "texts", "tray.entities", "-q"]), (0, "1 5\n", ""))
     status, out, err = runs.run(["--help"])
     runs.expect("help", (status, out[:6], "Exit status: 0 done, 1 a text is refused" in out, err), (0, "usage:", True, ""))
 
@@ -209,7 +217,10 @@ def try_example(prefix, folder):
     subprocess.run(["gcc", "-std=c11", "-pedantic", "-Wall", "-Wextra", "-Werror", "-o", program, source, *flags], check=True)
     files = [os.path.join(TRAY, name) for name in ("schema.dtd", "paths.txt", "journal.xml")]
     done = subprocess.run([program, *files, os.path.join(folder, "sent")], stdout=subprocess.PIPE, text=True, check=True)
-    wanted = "path 1: 11 28 66\npath 2: 11 66\npath 3: 5\npath 4: 8 63\npath 5: 13 30 68\npath 6: 15 32 70\npath 7: 43\n"
+    wanted = ("path 1: 11 28 66\npath 2: 11 66\npath 3: 5\npath 4: 8 63\n"
+              'path 5: 13 "1200.5" 30 "1850.5" 68 "1200.5"\n'
+              'path 6: 15 "800.0" 32 "800.0" 70 "40800.0"\n'
+              'path 7: 43\npath 8: 7 "P-0417 H&E" 62 "P-0418"\n')
     if done.stdout != wanted:
         sys.exit("command: the example host prints\n%s" % done.stdout)
     if subprocess.run([program, files[0], files[1], "/dev/null", "x"], stderr=subprocess.DEVNULL).returncode != 1:

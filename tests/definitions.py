@@ -228,7 +228,7 @@ def evaluate(cases):
 
 
 def main():
-    cases = vector_cases(1279)
+    cases = vector_cases(1764)
     words = sys.argv[1:]
     cases = [c for c in cases if not words or any(word in c["case"] for word in words)]
     chosen = [c for c in cases if c["case"] not in NOT_EVALUATED]

@@ -19,7 +19,7 @@ EACH = [[64] * 6, [4] * 6]
 
 
 def vectors():
-    for case in cases(105, "read-extract"):
+    for case in cases(149, "read-extract"):
         outcome, *rows = case["gives"].rstrip("\n").split("\n")
         lent = case["limits"][1:]
         yield case["texts"][0], case["texts"][1].encode("latin-1"), outcome, rows, [lent] if lent else EACH

@@ -37,7 +37,7 @@ def rows(*cells):
 
 def vectors():
     """A schema, the pieces of a journal, the limit of its length, the cells lent and what is written."""
-    for case in vector_cases(198, "journal"):
+    for case in vector_cases(297, "journal"):
         schema, journal = case["texts"]
         limit, lent = (case["limits"] + [LONGEST, LENT][len(case["limits"]):])[:2]
         yield schema, [once(journal)], limit, lent, case["gives"]
@@ -57,6 +57,8 @@ def nodes():
     texts = [once("<r>"), ("<t>x</t>", 32767), once("</r>")]
     last = (65534, 33, 65533, 3 + 8 * 32766 + 3, 1, 1)
     yield TEXTS, texts, 65535, "ok 65535\n%d %d %d %d %d %d\n" % last
+    decoded = (65534, 33, 65533, 3 + 12 * 32766 + 3, 5, 1)
+    yield TEXTS, [once("<r>"), ("<t>&amp;</t>", 32767), once("</r>")], 65535, "ok 65535\n%d %d %d %d %d %d\n" % decoded
     yield TEXTS, [once("<r><t/>")] + texts[1:], 65536, refused(16, 7 + 8 * 32766 + 3)
 
 
@@ -68,8 +70,17 @@ def lengths():
     yield TILES, [once("<r>"), ("\x7f", LONGEST - 2)], LENT, refused(2)
     yield TILES, [("x", LONGEST)], LENT, refused(12)
     yield TILES, [once("<r>"), (" \n\t", 5000), once("</r>")], LENT, rows(*root)
-    for text, size in (([("x", 4096)], 4096), ([("x", 4097)], 4097), ([("&amp;", 819), once("x")], 4096), ([("&amp;", 819), once("xx")], 4097)):
-        gives = rows((0, 0, 0, 0, 0, 0), (1, 32, 0, 3, size, size)) if size == 4096 else refused(16, 3)
+    for text, size, decoded in (
+        ([("x", 4096)], 4096, 4096),
+        ([("x", 4097)], 4097, 4097),
+        ([("&amp;", 819), once("x")], 4096, 820),
+        ([("&amp;", 819), once("xx")], 4097, 821),
+        ([("&lt;", 1024)], 4096, 1024),
+        ([("&lt;", 1024), once("x")], 4097, 1025),
+        ([("&apos;", 682), once("xxxx")], 4096, 686),
+        ([("&quot;", 683)], 4098, 683),
+    ):
+        gives = rows((0, 0, 0, 0, 0, 0), (1, 32, 0, 3, size, decoded)) if size == 4096 else refused(16, 3)
         yield "<!ELEMENT t (#PCDATA)>", [once("<t>"), *text, once("</t>")], LENT, gives
 
 

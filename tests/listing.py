@@ -23,6 +23,7 @@ CASES = [
     ("document 01's example", (S, P, J), "selected 2 kept 5 of 7\n2 2 /scan/plate/well\n6 1 /scan/plate/tile\n"),
     ("an empty selection", (S, "self::plate\n", J), "selected 0 kept 0 of 7\n"),
     ("a text", (S, "descendant::text()\n", J), "selected 1 kept 7 of 7\n5 1 /scan/plate/well/tile/focus/text()\n"),
+    ("a text with entities", (S, "descendant::text()\n", J.replace("12", "&lt;/focus&gt;")), "selected 1 kept 7 of 7\n5 1 /scan/plate/well/tile/focus/text()\n"),
     ("siblings", (S, "child::plate/child::tile/preceding-sibling::well\ndescendant::focus/following::tile\n", J),
      "selected 2 kept 6 of 7\n2 1 /scan/plate/well\n6 2 /scan/plate/tile\n"),
     ("no schema", (None, P, J), "refused 2 at 0\n"),
@@ -52,6 +53,8 @@ CASES = [
     ("14", (S, P, "<scan><cell/></scan>"), "refused 14 at 6\n"),
     ("15", (S, P, "<scan>1</scan>"), "refused 15 at 0\n"),
     ("16", ("<!ELEMENT a (#PCDATA)>", "self::a\n", "<a>%s</a>" % ("x" * 4097)), "refused 16 at 3\n"),
+    ("4,096 raw bytes of entities", ("<!ELEMENT a (#PCDATA)>", "child::text()\n", "<a>%s</a>" % ("&lt;" * 1024)), "selected 1 kept 2 of 2\n1 1 /a/text()\n"),
+    ("16, 4,097 raw bytes", ("<!ELEMENT a (#PCDATA)>", "self::a\n", "<a>%sx</a>" % ("&lt;" * 1024)), "refused 16 at 3\n"),
     ("4,096 rows", (WIDE, "self::a\n", "<a>%s</a>" % ("<b/>" * 4095)), "selected 1 kept 1 of 4096\n0 1 /a\n"),
     ("18, 4,097 rows", (WIDE, "self::a\n", "<a>%s</a>" % ("<b/>" * 4096)), "refused 18 at 0\n"),
     ("4,096 lines", (WIDE, "descendant-or-self::node()\n", "<a>%s</a>" % ("<b/>" * 4095)),
@@ -75,7 +78,7 @@ def printed(program, texts):
 
 def main():
     program = os.path.abspath(os.environ.get("LISTING", os.path.join(HERE, "..", "target", "bin", "listing")))
-    cases = CASES + [(case["case"], case["texts"], case["gives"]) for case in vector_cases(98, "listing")]
+    cases = CASES + [(case["case"], case["texts"], case["gives"]) for case in vector_cases(128, "listing")]
     wrong = 0
     for name, texts, gives in cases:
         got, status = printed(program, texts)

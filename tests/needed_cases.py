@@ -25,7 +25,7 @@ def asked(case, bundle):
 def main():
     read, written = b"", ""
     schema = None
-    for case in cases(236, "needed"):
+    for case in cases(248, "needed"):
         texts = [text.encode("latin-1") for text in case["texts"]]
         if texts[0] != schema:
             schema = texts[0]

@@ -23,7 +23,7 @@ TRIED = 5
 
 def shown():
     """Accepted schemas, each once."""
-    for case in cases(601, "schema", "needed", "select", "extract"):
+    for case in cases(722, "schema", "needed", "select", "extract"):
         if not case["gives"].startswith("refused"):
             yield case["texts"][0]
     yield from made()

@@ -3,8 +3,8 @@
 structs are not covered by the prover. `rt try` runs it on the interpreter and compiled three ways, over the sources of this repository.
 
 Each group of calls has a schema, a bundle and a journal: the journal is read into row structs, these are cut into others and selected on. What is
-expected is worked out here, from document 01: rows from the tags, cutting from the rows, what a path selects and what is refused by hand. The
-interpreter runs the small groups; a table of 65,535 rows takes more steps than it allows.
+expected is worked out here, from documents 01 and 02: rows from the tags, cutting from the rows, what a path selects and what is refused by hand. The
+interpreter runs the first groups; those on decoded texts and on a table of 65,535 rows would take more steps than it allows.
 
     tests/structs.py            every group
     tests/structs.py CRATES     over the crates of that folder, to see the test fail where a source is changed
@@ -29,7 +29,7 @@ TEXTS = 32
 # as in the program
 MAX_LENT = 65600
 SHOWN = 32
-READ, CUT, SELECT, CHANGE_PARENT, CHANGE_RECORD, TAKE_CUT = range(6)
+READ, CUT, SELECT, CHANGE_PARENT, CHANGE_RECORD, TAKE_CUT, CHANGE_DECODED = range(7)
 
 S = "<!ELEMENT scan (plate*)><!ELEMENT plate (well|tile)*><!ELEMENT well (tile*)><!ELEMENT tile (focus?)><!ELEMENT focus (#PCDATA)>"
 J = "<scan><plate><well><tile><focus>12</focus></tile></well><tile/></plate></scan>"
@@ -65,8 +65,8 @@ def word_of(schema, *names):
 
 
 def rows_of(schema, journal):
-    """The rows of a journal that has no blanks between its tags: number, name's code, parent's row, start and the two
-    lengths, which are equal, since no text is decoded yet."""
+    """The rows of a journal that has no blanks between its tags: number, name's code, parent's row, start, length and decoded length, to which
+    each entity counts one."""
     known, rows, open_rows = names_in(schema), [], []
     for part in re.finditer(r"<(/?)(\w+)(/?)>|[^<]+", journal):
         close, name, empty = part.groups()
@@ -78,8 +78,8 @@ def rows_of(schema, journal):
             if not empty:
                 open_rows.append(len(rows) - 1)
         else:
-            size = len(part.group())
-            rows.append((len(rows), TEXTS + rows[parent][1], parent, part.start(), size, size))
+            size, decoded = len(part.group()), len(re.sub("&(lt|gt|amp|apos|quot);", "x", part.group()))
+            rows.append((len(rows), TEXTS + rows[parent][1], parent, part.start(), size, decoded))
     return rows
 
 
@@ -132,6 +132,10 @@ class Group:
 
     def change_parent(self, row, parent):
         self.call(CHANGE_PARENT, row, parent)
+
+    def change_decoded(self, row, decoded):
+        self.call(CHANGE_DECODED, row, decoded)
+        self.rows[row] = (*self.rows[row][:5], decoded)
 
     def change_record(self, place, byte):
         self.call(CHANGE_RECORD, place, byte)
@@ -200,6 +204,29 @@ def siblings():
     return g
 
 
+def decoded():
+    """A text of 11 bytes and 4 characters, as it is read, with the lengths of a copied one, and with others."""
+    g = Group(S, PATHS, J.replace("12", "1&lt;2&amp;"))
+    g.read(8)
+    g.cut(7, ALL, 7)
+    g.select(7, 0, 12, 8)
+    g.change_decoded(5, 11)
+    g.cut(7, ALL, 7)
+    g.select(7, 0, 12, 8)
+    # which is a table, but not beside this text
+    g.change_decoded(5, 5)
+    g.cut(7, ALL, 7)
+    g.select(7, 7, 12, 8, 1)
+    for length in (0, 12):
+        g.change_decoded(5, length)
+        g.cut(7, ALL, 7, 1)
+        g.select(7, 7, 12, 8, 1)
+    g.change_decoded(5, 4)
+    g.change_decoded(4, 1)
+    g.cut(7, ALL, 7, 1)
+    return g
+
+
 def undeclared():
     g = Group(S, PATHS[:1], J.replace("<tile/>", "<cell/>"))
     g.read(9, 14, J.index("<tile/>"))
@@ -209,7 +236,7 @@ def undeclared():
 def large():
     """As many rows as a table can have, in as many structs, one more and one less; 65,600 structs handed in."""
     count = 32767
-    texts = ["%d" % (k % 100) for k in range(count)]
+    texts = ["%d" % (k % 100) + "&lt;" * (k % 2) for k in range(count)]
     paths = [("child::b", [2 * k + 1 for k in range(count)]), ("child::b/child::text()", [2 * k + 2 for k in range(count)])]
     g = Group("<!ELEMENT a (b*)><!ELEMENT b (#PCDATA)>", paths, "<a>%s</a>" % "".join("<b>%s</b>" % text for text in texts))
     rows = 2 * count + 1
@@ -265,7 +292,7 @@ def tried(folder, groups):
 
 def main():
     crates = os.path.abspath(sys.argv[1]) if len(sys.argv) > 1 else os.path.join(ROOT, "crates")
-    small, many = [on_example(), renumbered(), siblings(), undeclared()], [large()]
+    small, many = [on_example(), renumbered(), siblings(), undeclared()], [decoded(), large()]
     with tempfile.TemporaryDirectory() as folder:
         os.makedirs(os.path.join(folder, "crates", PROGRAM, "src"))
         laid_out(folder, crates)
@@ -278,7 +305,7 @@ def main():
         _, lines = tried(folder, many)
         if lines.count("\nok: the native program") != 3 or OUT_OF_STEPS not in lines:
             sys.exit("structs: " + lines)
-    print("structs: %d calls on the interpreter and compiled three ways, %d on a table of 65,535 rows compiled three ways"
+    print("structs: %d calls on the interpreter and compiled three ways, %d on decoded texts and a table of 65,535 rows compiled three ways"
           % (sum(len(g.outcomes) for g in small), sum(len(g.outcomes) for g in many)))
 
 

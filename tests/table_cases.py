@@ -5,7 +5,7 @@ First the table cases of tests/vectors, each with the outcome that the case itse
 of 4,096 and 4,097 bytes and of decoded lengths, columns of more cells than rows, and a count above the cells. A case is six numbers of two bytes (the lengths of
 the schema, of the table, of the columns and of the text, a row's position, how often the table is judged), then the schema, the columns' cells
 row by row, and the text. What is written after the outcome is the text of the row at that position: refused, an element, or where its text
-starts and its length; and the length of the part that is handed back."""
+starts, its length and its decoded length; and the length of the part that is handed back, with the decoded length again."""
 import os
 import struct
 import sys
@@ -18,7 +18,7 @@ TEXTS = 32
 
 
 def vectors():
-    for case in cases(36, "table"):
+    for case in cases(140, "table"):
         schema, table, text = case["texts"]
         rows = [tuple(int(n) for n in row.split()) for row in table.split("\n") if row]
         yield schema, rows, len(rows), text, case["gives"].startswith("ok")
@@ -43,11 +43,14 @@ def limits():
         yield schema, rows, 2, "x" * size, False
         for place in (1, 1 + size // 2, size):
             yield schema, rows, 2, "<" + "x" * (place - 1) + "\x7f" + "x" * (size - place), False
-    # decoded lengths: a text's is its length, since none is decoded yet, and an element's is 0
-    for size, decoded, of_element in ((1, 0, 0), (1, 2, 0), (5, 4, 0), (5, 1, 0), (5, 0, 0), (5, 6, 0), (4096, 4095, 0), (4096, 4097, 0), (1, 1, 1), (1, 0, 1)):
+    # decoded lengths: that of an entity and of what follows it, or the raw one; an element's is 0
+    for size, decoded, of_element, passes in (
+        (5, 1, 0, True), (5, 5, 0, True), (5, 0, 0, False), (5, 2, 0, False), (5, 4, 0, False), (5, 6, 0, False), (5, 1, 1, False), (5, 5, 1, False),
+        (6, 2, 0, True), (6, 1, 0, False), (4, 1, 0, False), (4, 4, 0, True), (1, 1, 0, True), (1, 0, 0, False), (1, 2, 0, False),
+        (4096, 4092, 0, True), (4096, 4096, 0, True), (4096, 4091, 0, False), (4096, 4095, 0, False), (4096, 4097, 0, False), (4097, 4093, 0, False),
+    ):
         schema, rows = with_text(size, decoded, of_element)
-        yield schema, rows, 2, "<&amp;" + "x" * size, False
-    yield *with_text(5, 5), 2, "<&amp;", True
+        yield schema, rows, 2, "<&amp;" + "x" * size, passes
     yield "<!ELEMENT a (a?)>", [(0, 0, 0, 0, 0, 0), (1, 0, 0, 0, 0, 1)], 2, "", False
     # a text below depth 64; a second text of an element; the same number again; a parent that is closed; fewer rows than cells, and more
     schema = "<!ELEMENT a (a|b)*>\n<!ELEMENT b (#PCDATA)>"
@@ -69,9 +72,9 @@ def case(schema, rows, count, text, position, times=1):
 
 def answer(rows, count, position, passes):
     if not passes or count <= position:
-        return "refused 0"
+        return "refused 0 0"
     number, code, parent, start, size, decoded = rows[position]
-    return "text %d %d %d" % (start, size, size) if TEXTS <= code else "element 0"
+    return "text %d %d %d %d %d" % (start, size, decoded, size, decoded) if TEXTS <= code else "element 0 0"
 
 
 def main():

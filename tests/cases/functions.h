@@ -34,6 +34,7 @@ struct outcome test_read_journal(RECORD(schema), SLICE(text), LENT_COLUMNS);
 struct outcome test_read_within(SLICE(schema), SLICE(text), size_t limit, LENT_COLUMNS);
 struct outcome test_read_extract(RECORD(schema), SLICE(extract), LENT_COLUMNS);
 bool test_is_table_beside(SLICE(schema), HANDED_COLUMNS, size_t count, SLICE(beside));
+/* of a text the decoded length as the place, its length as the size and where it starts as the second number, all 0 for an element */
 struct outcome test_row_text(RECORD(schema), HANDED_COLUMNS, size_t count, SLICE(beside), size_t position, uint8_t *out, size_t out_len);
 struct outcome test_row_text_place(RECORD(schema), HANDED_COLUMNS, size_t count, SLICE(beside), size_t position);
 struct outcome test_select_nodes(RECORD(schema), RECORD(bundle), size_t place, HANDED_COLUMNS, size_t count, SLICE(beside), uint16_t *items,

@@ -29,15 +29,15 @@ static int passes(struct text text, size_t count, struct text beside, size_t tim
     return passed;
 }
 
-/* the text of a row by its place, and the length of the part that is handed back */
+/* the text of a row by its place, and the length of the part that is handed back; the decoded length stands for the place of a refusal */
 static void show_row_text(size_t count, struct text beside, size_t position) {
     struct outcome place = test_row_text_place(HANDED(schema), LENT(&table), count, GIVEN(beside), position);
     if (place.number) printf(" refused");
     else if (place.place == 0) printf(" element");
-    else printf(" text %llu %llu", (unsigned long long)place.other, (unsigned long long)place.size);
+    else printf(" text %llu %llu %llu", (unsigned long long)place.other, (unsigned long long)place.size, (unsigned long long)place.place);
     uint8_t part[1] = { 0 };
     struct outcome handed = test_row_text(HANDED(schema), LENT(&table), count, GIVEN(beside), position, part, 1);
-    printf(" %llu\n", (unsigned long long)handed.size);
+    printf(" %llu %llu\n", (unsigned long long)handed.size, (unsigned long long)handed.place);
 }
 
 static void table_case(struct text *input) {

@@ -20,7 +20,7 @@ struct input {
 
 static struct input kept[KEPT];
 static size_t kept_count;
-static size_t seen[2][19], calls;
+static size_t seen[2][19], calls, entities;
 static uint64_t state;
 
 /* ---- chance */
@@ -59,8 +59,8 @@ static void check(int holds, const char *what, const struct input *i, struct tex
 static const char *const words[] = {
     "<!ELEMENT ", " EMPTY>", "(#PCDATA)", "(", ")", "*", "?", "+", "|", ",", "scan", "plate", "well", "tile", "focus", "child::", "descendant::", "self::",
     "parent::", "ancestor::", "descendant-or-self::", "ancestor-or-self::", "following::", "following-sibling::", "preceding::", "preceding-sibling::",
-    "node()", "text()", "[", "]", " or ", "/", "\n", "<", ">", "</", "/>", "&lt;", "&amp;", "]]>", " ", "\t", "<scan>", "</scan>", "<tile/>", "<plate>",
-    "</plate>", "\x01", "\x02", "\x03", "\x7F", "\x80",
+    "node()", "text()", "[", "]", " or ", "/", "\n", "<", ">", "</", "/>", "&lt;", "&gt;", "&amp;", "&apos;", "&quot;", "amp;", "]]>", " ", "\t", "<scan>",
+    "</scan>", "<tile/>", "<plate>", "</plate>", "\x01", "\x02", "\x03", "\x7F", "\x80",
 };
 
 static void replace(uint8_t **bytes, size_t *len, size_t from, size_t to, const uint8_t *with, size_t with_len) {
@@ -148,14 +148,54 @@ static size_t length_judged(const struct input *i, uint64_t number) {
     return number == LOZHYMET_BAD_BYTE ? most : number <= 7 ? i->len[SCHEMA] : number <= 10 ? i->len[BUNDLE] : i->len[JOURNAL];
 }
 
-static void check_table(const struct lent *lent, struct lozhymet_result r, const struct input *i, struct text extract, size_t text_len) {
+/* how many characters a journal's text has: each entity is one, from its & to its ; */
+static size_t characters(const uint8_t *bytes, size_t len) {
+    size_t count = 0;
+    for (size_t k = 0; k < len; k++, count++)
+        if (bytes[k] == '&')
+            while (k < len && bytes[k] != ';') k++;
+    return count;
+}
+
+/* the rows of a journal, or of an extract, whose texts are not decoded again */
+static void check_table(int selects, const struct lent *lent, struct lozhymet_result r, const struct input *i, struct text extract) {
+    struct text text = selects ? extract : text_of(i, JOURNAL);
     for (size_t row = 0; row < r.rows; row++) {
         uint32_t name = cell(lent, NAMES, row), start = cell(lent, STARTS, row), len = cell(lent, LENGTHS, row);
         check(name < 64, "a name is out of range", i, extract);
         check(row ? cell(lent, PARENTS, row) < row : !cell(lent, PARENTS, 0), "a parent is not before its row", i, extract);
         check(!row || cell(lent, NUMBERS, row) > cell(lent, NUMBERS, row - 1), "numbers do not rise", i, extract);
-        check(name >= 32 ? len >= 1 && len <= 4096 && start + (size_t)len <= text_len : !start && !len, "a text is out of range", i, extract);
-        check(cell(lent, DECODED, row) == len, "a decoded length is not the length", i, extract);
+        check(name >= 32 ? len >= 1 && len <= 4096 && start + (size_t)len <= text.len : !start && !len, "a text is out of range", i, extract);
+        size_t decoded = selects || name < 32 ? len : characters(text.bytes + start, len);
+        check(cell(lent, DECODED, row) == decoded, "a decoded length is not that of the text", i, extract);
+        entities += decoded != len;
+    }
+}
+
+/* what an entity stands for, by the letters after its & */
+static uint8_t character(const uint8_t *letters) {
+    return letters[0] == 'l' ? '<' : letters[0] == 'g' ? '>' : letters[0] == 'q' ? '"' : letters[1] == 'm' ? '&' : '\'';
+}
+
+/* whether a part of a journal, decoded, is these characters; a check of lengths comes before */
+static int stands_for(const uint8_t *part, const uint8_t *all, size_t count) {
+    for (size_t k = 0; k < count; k++, part++) {
+        if (all[k] != (*part == '&' ? character(part + 1) : *part)) return 0;
+        if (*part == '&')
+            while (*part != ';') part++;
+    }
+    return 1;
+}
+
+/* the texts that are sent: a field of tag 2 has the number of its row in two bytes, the parent's in two, and the decoded characters */
+static void check_sent(const struct lent *lent, const struct input *i, struct text extract) {
+    for (size_t at = 0, size; at < extract.len; at += 3 + size) {
+        const uint8_t *field = extract.bytes + at;
+        size = field[1] * 256u + field[2];
+        if (field[0] != 2) continue;
+        size_t row = field[3] * 256u + field[4];
+        check(size == 4 + cell(lent, DECODED, row), "a text is not sent at its decoded length", i, extract);
+        check(stands_for(i->bytes[JOURNAL] + cell(lent, STARTS, row), field + 7, size - 4), "a text is not sent decoded", i, extract);
     }
 }
 
@@ -171,7 +211,7 @@ static void check_result(int selects, struct lent *lent, struct lozhymet_result 
         check(answered[o] <= lent->outputs[o].len, "more is answered than lent", i, extract);
         check(zero_from(lent, o, answered[o]), "a cell past the answer is not 0", i, extract);
     }
-    check_table(lent, r, i, extract, selects ? extract.len : i->len[JOURNAL]);
+    check_table(selects, lent, r, i, extract);
     seen[selects][r.number]++;
     calls++;
 }
@@ -226,6 +266,7 @@ static void try_input(struct input *i) {
     check_result(0, &lent, r, enough, i, (struct text){ NULL, 0 });
     struct text extract = { lent.outputs[ITEMS].block + GUARDS, r.items };
     if (!r.number) {
+        check_sent(&lent, i, extract);
         struct lozhymet_result all = try_select(i, extract, 1, 0);
         check(!all.number && all.rows <= r.rows, "an extract that was made is not selected from", i, extract);
         try_select(i, extract, 0, below(10));
@@ -248,7 +289,7 @@ static void start(void) {
             "child::plate[child::well]/child::tile\ndescendant::tile/parent::well\n",
             "<scan><plate><well><tile><focus>12</focus></tile></well><tile/></plate></scan>" },
         { "<!ELEMENT a (a|b)*>\n<!ELEMENT b (#PCDATA)>\n", "descendant::b[ancestor::a/child::b or child::text()]\ndescendant-or-self::a/child::text()\n",
-            "<a>\n <b>1 &lt; 2</b>\n <a><a><b> </b></a></a>\n</a>" },
+            "<a>\n <b>1 &lt; 2 &amp;&gt;</b>\n <a><a><b> &quot;&apos;</b></a></a>\n</a>" },
         { "<!ELEMENT r ((x,y?)+|(z*,(x|y)))><!ELEMENT x EMPTY><!ELEMENT y (r?)><!ELEMENT z (#PCDATA)>",
             "child::x/parent::r/child::y[child::r]\ndescendant::z/ancestor-or-self::node()\nself::r[descendant::text()]\n",
             "<r><x/><y><r><z>t</z><x/></r></y><x/></r>" },
@@ -279,6 +320,7 @@ int main(int argc, char **argv) {
         for (int n = 0; n <= 18; n++) printf(" %zu", seen[selects][n]);
         printf("\n");
     }
-    printf("fuzz: %zu calls, no promise broken\n", calls);
+    if (!entities) return puts("fuzz: no text had an entity"), 1;
+    printf("fuzz: %zu calls, %zu texts with entities, no promise broken\n", calls, entities);
     return 0;
 }

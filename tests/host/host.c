@@ -16,6 +16,8 @@ static const char schema_s[] =
 static const char journal_j[] = "<scan><plate><well><tile><focus>12</focus></tile></well><tile/></plate></scan>";
 static const char schema_r[] = "<!ELEMENT r (a|b|c)*><!ELEMENT a (b|t)*><!ELEMENT b EMPTY><!ELEMENT c (t?)><!ELEMENT t (#PCDATA)>";
 static const char journal_k[] = "<r><a><b/><t>1</t><b/></a><b/><c><t>2</t></c><a/></r>";
+static const char schema_t[] = "<!ELEMENT t (#PCDATA)>";
+static const char its_text[] = "child::text()\n";
 static const char fourth[] = "child::plate/child::tile[child::focus]\n";
 static const char two_paths[] = "descendant::text()\ndescendant::tile/parent::node()\n";
 static const char foreign[] = "<scan>\x7F";
@@ -163,6 +165,26 @@ static void sibling_axes(void) {
     };
     tried_paths(schema_r, paths, sizeof paths / sizeof *paths, journal_k);
     made_then_selected("a root that holds itself", "<!ELEMENT a (a*)>", "following-sibling::a\npreceding::a\n", "<a><a/><a/></a>");
+}
+
+/* document 02, R-2: each entity, what looks like one or like markup once it is decoded, two spellings, an extract's text, which is not decoded again,
+   and the limit, which counts raw bytes */
+static void entities(void) {
+    static const uint8_t entity_read[] = "\x01\x00\x05\x00\x00\x00\x00\x00\x02\x00\x09\x00\x01\x00\x00&amp;\x03\x00\x02\x00\x02";
+    static const char each[] = "<t>A&amp;B&lt;&gt;&apos;&quot;</t>";
+    char *most = repeated("<t>", "&lt;", 1024, "</t>"), *over = repeated("<t>", "&lt;", 1024, "x</t>");
+    making("each entity", schema_t, its_text, each, 3, 29);
+    making("each entity, just enough", schema_t, its_text, each, 2, 27);
+    making("18, each entity in a byte too few", schema_t, its_text, each, 2, 26);
+    making("nothing decoded twice", schema_t, its_text, "<t>&amp;lt;&amp;amp;</t>", 2, 29);
+    making("what looks like an end tag", schema_t, its_text, "<t>]]&gt;&lt;/t&gt;</t>", 2, 27);
+    making("a spelling", schema_t, its_text, "<t>\"a>b'</t>", 2, 25);
+    making("another spelling", schema_t, its_text, "<t>&quot;a&gt;b&apos;</t>", 2, 25);
+    made_then_selected("texts with entities", schema_r, "descendant::text()\nchild::c[child::t]\n", "<r><a><t>1 &lt; 2</t><b/></a><c><t>&amp;</t></c></r>");
+    selecting("an extract's text with an entity", schema_t, its_text, 0, (struct text){ entity_read, sizeof entity_read - 1 }, 3, 2, 1);
+    making("4,096 raw bytes of entities", schema_t, "self::t\n", most, 2, 13);
+    making("16, 4,097 raw bytes", schema_t, "self::t\n", over, 2, 13);
+    free(most), free(over);
 }
 
 /* document 01, "Accepted and turned back" */
@@ -330,6 +352,7 @@ int main(int argc, char **argv) {
     if (exact) guards = 0;
     worked_cases();
     sibling_axes();
+    entities();
     both_sides_of_limits();
     each_refusal_of_making();
     selections();

@@ -71,7 +71,7 @@ static void add(const char *part) {
 int main(void) {
     uint64_t number;
     add("<a>");
-    for (int i = 0; i < 21840; i++) add("<b><c>12345</c></b>");
+    for (int i = 0; i < 21840; i++) add(i % 2 ? "<b><c>12345</c></b>" : "<b><c>1&lt;2&amp;</c></b>");
     add("</a>");
     size_t own = taken(nothing, &number);
     size_t making = taken(make, &number) - own;

@@ -41,7 +41,8 @@ static void put(const char *part) {
 /* a text, now and then one about as long as texts may be */
 static void run_of_text(void) {
     if (chance(8)) { put(chance(3) ? "text &amp; more" : " "); return; }
-    for (unsigned k = 4090 + chance(12); k; k--) put("x");
+    const char *part = chance(2) ? "x" : "&lt;";
+    for (unsigned k = (4090 + chance(12)) / strlen(part); k; k--) put(part);
 }
 
 /* an element and what it may hold, to some depth */

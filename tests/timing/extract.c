@@ -13,7 +13,7 @@ static const unsigned char schema[] = "<!ELEMENT a (b)*><!ELEMENT b (#PCDATA)>";
 enum { SCHEMA = sizeof schema - 1 };
 
 static struct columns {
-    uint16_t numbers[MAX_ROWS], parents[MAX_ROWS], lengths[MAX_ROWS];
+    uint16_t numbers[MAX_ROWS], parents[MAX_ROWS], lengths[MAX_ROWS], decoded[MAX_ROWS];
     uint8_t codes[MAX_ROWS];
     uint32_t starts[MAX_ROWS];
 } proved;
@@ -61,7 +61,7 @@ static int put_field(const unsigned char *value, int tag, size_t size, int row, 
     while (*open && numbers[*open] != two(value + 2)) *open = parents[*open];
     numbers[row] = two(value), parents[row] = *open;
     codes[row] = tag == ELEMENT ? value[4] : TEXTS + codes[*open];
-    starts[row] = tag == ELEMENT ? 0 : value + 4 - extract, lengths[row] = tag == ELEMENT ? 0 : size - 4;
+    starts[row] = tag == ELEMENT ? 0 : value + 4 - extract, lengths[row] = decoded[row] = tag == ELEMENT ? 0 : size - 4;
     for (size_t i = 0; i < lengths[row]; i++)
         if (foreign[value[4 + i]]) return 0;
     if (tag == ELEMENT) *open = row;
@@ -85,7 +85,7 @@ static size_t plain_read(void) {
 
 static size_t proved_read(void) {
     return test_read_extract(schema, SCHEMA, SCHEMA, extract, extract_len, proved.numbers, rows, proved.codes, rows, proved.parents, rows,
-        proved.starts, rows, proved.lengths, rows).size;
+        proved.starts, rows, proved.lengths, rows, proved.decoded, rows).size;
 }
 
 /* ---- times */
@@ -93,7 +93,7 @@ static size_t proved_read(void) {
 static int same(void) {
     return !memcmp(numbers, proved.numbers, rows * sizeof *numbers) && !memcmp(codes, proved.codes, rows) &&
         !memcmp(parents, proved.parents, rows * sizeof *parents) && !memcmp(starts, proved.starts, rows * sizeof *starts) &&
-        !memcmp(lengths, proved.lengths, rows * sizeof *lengths);
+        !memcmp(lengths, proved.lengths, rows * sizeof *lengths) && !memcmp(decoded, proved.decoded, rows * sizeof *decoded);
 }
 
 /* the least time of several turns, and whether every row was read */

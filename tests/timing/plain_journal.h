@@ -122,7 +122,7 @@ static void nesting(struct reading *r, int number, int where) { found(r, number,
 
 static void misfit(struct reading *r, struct level *l) { l->fits = 0; found(r, 15, l->start); }
 
-static void row(struct reading *r, int code, int parent, int start, int length) {
+static void row(struct reading *r, int code, int parent, int start, int length, int decoded) {
     int k = r->nodes++;
     if (k >= r->out->size) return;
     r->out->numbers[k] = k;
@@ -130,7 +130,7 @@ static void row(struct reading *r, int code, int parent, int start, int length) 
     r->out->parents[k] = parent;
     r->out->starts[k] = start;
     r->out->lengths[k] = length;
-    r->out->decoded[k] = length;
+    r->out->decoded[k] = decoded;
 }
 
 static void child(struct reading *r, struct level *l, int e) {
@@ -155,7 +155,7 @@ static void open_element(struct reading *r, const unsigned char *name, int lengt
     if (!r->depth && e > 0) found(r, 15, start);
     if (r->nodes >= MAX_NODES) found(r, 16, start);
     *l = (struct level){.name = name, .size = length, .element = e, .start = start, .row = r->nodes, .fits = e >= 0};
-    row(r, e, r->depth ? outer->row : 0, 0, 0);
+    row(r, e, r->depth ? outer->row : 0, 0, 0, 0);
     r->depth++;
 }
 
@@ -176,8 +176,8 @@ static void close_element(struct reading *r, const unsigned char *name, int leng
     end_element(r);
 }
 
-/* a run of character data from start on; the first byte that is not a blank is at solid, or past the run */
-static void run(struct reading *r, int start, int end, int solid) {
+/* a run of character data from start on; the first byte that is not a blank is at solid, or past the run; its entities save so many bytes */
+static void run(struct reading *r, int start, int end, int solid, int saved) {
     if (r->broken || start == end) return;
     if (!r->depth) { if (solid < end) nesting(r, 12, solid); return; }
     struct level *l = &r->levels[r->depth];
@@ -185,7 +185,7 @@ static void run(struct reading *r, int start, int end, int solid) {
     const struct model *m = &r->schema->elements[l->element].model;
     if (m->kind == PCDATA) {
         if (end - start > MAX_RUN || r->nodes >= MAX_NODES) found(r, 16, start);
-        row(r, 32 + l->element, l->row, start, end - start);
+        row(r, 32 + l->element, l->row, start, end - start, end - start - saved);
     } else if (m->kind == EMPTY || solid < end) misfit(r, l);
 }
 
@@ -218,16 +218,17 @@ static int tag(struct reading *r, const unsigned char *t, int i, int n) {
 
 /* past the run of character data at i, or 0 with the place of what is misspelt */
 static int data(struct reading *r, const unsigned char *t, int i, int n, int *where) {
-    int start = i, solid = -1;
+    int start = i, solid = -1, saved = 0;
     for (; i < n && t[i] != '<'; i++) {
         if (solid < 0 && classes[t[i]] != BLANK) solid = i;
         if (t[i] == '&') {
             int past = entity(t, i, n);
             if (!past) { *where = i; return 0; }
+            saved += past - 1 - i;
             i = past - 1;
         } else if (t[i] == '>' && i - start >= 2 && t[i - 1] == ']' && t[i - 2] == ']') { *where = i - 2; return 0; }
     }
-    run(r, start, i, solid < 0 ? i : solid);
+    run(r, start, i, solid < 0 ? i : solid, saved);
     return i;
 }
 

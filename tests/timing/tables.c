@@ -9,6 +9,7 @@ static unsigned char input[MAX_INPUT], foreign[256];
 
 static int two(const unsigned char *p) { return p[0] * 256 + p[1]; }
 
+/* tables.py makes texts with two equal lengths alone */
 static int texts_pass(int count, const unsigned char *text, unsigned long size) {
     for (int row = 0; row < count; row++) {
         if (codes[row] < TEXTS) continue;

@@ -7,7 +7,7 @@ use Rattle.schema_spec.specs.Names.{Names}
 use Rattle.schema_spec.specs.Types.{Types}
 use Rattle.table_spec.specs.Conditions.{WellFormedBeside}
 use Rattle.table_spec.specs.Nodes.{Node, nameOf, Above}
-use Rattle.table_spec.specs.Rows.{Row, textOf}
+use Rattle.table_spec.specs.Rows.{Row, charactersOf}
 use Rattle.text_spec.specs.Refusals.{Reason, badLength, badExtract}
 
 -- the bytes are the writing of a well-formed table, with texts of their own
@@ -21,21 +21,21 @@ pub data ExtractApplies (s : Types) (bs : List ℕ) : Reason → ℕ → Type 0 
   length-2 : bs ≡ [] → ExtractApplies s bs badLength 0
   extract-17 : (IsExtract s bs → ⊥) → ExtractApplies s bs badExtract 0
 
--- "the rows but for text starts"
-pub record SameButStarts (q r : Row) : Type 0 where
+-- Document 02, R-2: "Rows written and read return but for text starts and raw lengths."
+pub record SameButRawText (q r : Row) : Type 0 where
   pub number : q .number ≡ r .number
   pub name : q .name ≡ r .name
   pub parent : q .parent ≡ r .parent
-  pub size : q .size ≡ r .size
   pub decoded : q .decoded ≡ r .decoded
 
--- two tables, each with its text, that are the same but for text starts
+-- Two tables, each with its text, that are the same but for text starts and raw lengths. Document 02, R-2: "Extracts are compared from now on with the
+-- decoded text."
 pub data SameTables (lent lent′ : List ℕ) : List Row → List Row → Type 0 where
   no-rows : SameTables lent lent′ [] []
-  next-row : {q r : Row} {qs rs : List Row} → SameButStarts q r → textOf lent q ≡ textOf lent′ r → SameTables lent lent′ qs rs
+  next-row : {q r : Row} {qs rs : List Row} → SameButRawText q r → charactersOf lent q ≡ charactersOf lent′ r → SameTables lent lent′ qs rs
       → SameTables lent lent′ (q ∷ qs) (r ∷ rs)
 
--- the rows of an extract are those of the table that it is the writing of, each text at its bytes in the extract
+-- the rows of an extract are those of the table that it is the writing of, each text at its characters in the extract
 pub data ExtractGives (s : Types) (bs : List ℕ) : List Row → Type 0 where
   gives : (x : IsExtract s bs) → ExtractGives s bs (extractRows (x .lent) (x .rows))
 

@@ -91,7 +91,8 @@ topElement [] = 0
 topElement (p ∷ ps) = p .element
 
 -- Items turned into rows: `next` rows stand before, and `opens` are the row before and those above it, nearest first, without a text.
--- A parent's number is looked up there; a text name is that of its parent's element. Last comes the count, and nothing after it.
+-- A parent's number is looked up there; a text name is that of its parent's element. Document 02, R-2: "Rows read from an extract have the decoded length
+-- as both lengths". Last comes the count, and nothing after it.
 abbrev pub rowsOfLaterItems : ℕ → List Placed → List Item → Option (List Row)
 rowsOfLaterItems next opens [] = none
 rowsOfLaterItems next opens (noItem ∷ is) = none
@@ -103,7 +104,7 @@ rowsOfLaterItems next opens (elementItem number parent e ∷ is) =
     cond (isEmpty os) none later
 rowsOfLaterItems next opens (textItem number parent start size ∷ is) =
     let os = openFrom parent opens in
-    let later = consRow (textRow number (topElement os) (topRow os) start size) (rowsOfLaterItems (suc next) os is) in
+    let later = consRow (textRow number (topElement os) (topRow os) start size size) (rowsOfLaterItems (suc next) os is) in
     cond (isEmpty os) none later
 
 -- "the root's own is 0"

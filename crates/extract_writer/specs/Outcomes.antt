@@ -12,7 +12,7 @@ use Rattle.cells.specs.verdicts.Verdicts.{inBytes}
 use Rattle.extract_spec.specs.Fields.{writeExtract}
 use Rattle.extract_writer.specs.asked.Asked.{text-columns}
 use Rattle.extract_writer.specs.row_laws.Written.{table-extract}
-use Rattle.extract_writer.specs.rows.Rows.{TextColumns}
+use Rattle.extract_writer.specs.rows.Rows.{ExtractColumns}
 use Rattle.extract_writer.specs.writing.Extract.{extractIn}
 use Rattle.handed_tables.specs.calls.Calls.{beside-some}
 use Rattle.handed_tables.specs.columns.Rows.{lent-coded, held-columns}
@@ -61,7 +61,7 @@ module _ (s : Schema) (lent : List ℕ) (t : LentTable) (beside : isBeside s len
   long : length rows ≡ length (columns .numbers)
   long = sym (length-map rows (λ r. r .number)) ∙ ap (λ (c : Columns). length (c .numbers)) same
 
-  pub table-columns : TextColumns lent columns (length (columns .numbers))
+  pub table-columns : ExtractColumns lent columns (length (columns .numbers))
   table-columns = rw (← same, ← long) (text-columns (typesOf s) lent rows (held .1) (lent-coded t rows (held .0)))
 
   rows-written : extractIn lent columns (marks (length (columns .numbers)) (λ r. true)) ≡ writeExtract lent rows

@@ -4,7 +4,7 @@ ghost use lib.ListN.{length};
 ghost use Rattle.cells.specs.lent.Ends.{entryColumns, heldColumns};
 ghost use Rattle.cells.specs.row_sets.Columns.{marks};
 ghost use Rattle.cells.specs.verdicts.Verdicts.{inBytes, AnsweredBytes, AnsweredSlice};
-ghost use Rattle.extract_writer.specs.rows.Rows.{TextColumns};
+ghost use Rattle.extract_writer.specs.rows.Rows.{ExtractColumns};
 ghost use Rattle.extract_writer.specs.writing.Extract.{extractIn};
 ghost use Rattle.text_spec.specs.Refusals.{refused, at, badRecord};
 use crate::writing::write_table;
@@ -33,7 +33,7 @@ pub fn write_in_room(
     decoded: &[u16],
     out: &mut [u8],
 ) -> Verdict
-    requires { ⌜ TextColumns (now text) (heldColumns numbers codes parents starts lengths decoded) (length (now numbers)) ⌝ }
+    requires { ⌜ ExtractColumns (now text) (heldColumns numbers codes parents starts lengths decoded) (length (now numbers)) ⌝ }
     ensures { λ r. ⌜ AnsweredSlice (λ n. inBytes n (extractIn (now (text .entry)) (entryColumns numbers codes parents starts lengths decoded) (marks (length (now (numbers .entry))) (λ r. true)))) r out ⌝ }
 {
     let room = out.len();

@@ -1,11 +1,14 @@
-// A journal's text written as the characters that it stands for: each of the five entities as one, any other byte as it is.
+// The characters of a text written: the text as it is where they are as many as its bytes, else each of the five entities as one character and any other byte as
+// it is.
 ghost use mathlib.Core.List.{[], _∷_};
 ghost use mathlib.Core.Path.{_≡_};
 ghost use Prim.Native.Nat.{_+_, _<_, _≤_};
 ghost use lib.ListN.{length};
 ghost use Rattle.extract_writer.specs.decoded_texts.Decoded.{beginsAt, StandsAfter, NoLonger, CharacterPut};
+ghost use Rattle.extract_writer.specs.fields.Fields.{wholeCharacters, stored};
 ghost use Rattle.extract_writer.specs.rows.Rows.{StoredAt};
 ghost use Rattle.token_spec.specs.Characters.{decode};
+use cells::written_text;
 
 // A character, and the place past the bytes that spell it.
 struct Character {
@@ -122,7 +125,7 @@ fn put_character(text: &[u8], i: usize, out: &mut [u8], at: usize) -> usize
 }
 
 // Writes the characters of a text from `at` on, and gives the place past them.
-pub fn put_decoded(text: &[u8], out: &mut [u8], at: usize) -> usize
+fn put_decoded(text: &[u8], out: &mut [u8], at: usize) -> usize
     requires { ⌜ at + length (decode (now text)) ≤ length (now out) ⌝ }
     ensures { λ n. ⌜ StoredAt (now (out .entry)) at (decode (now (text .entry))) n (now (out .exit)) ⌝ }
 {
@@ -133,4 +136,16 @@ pub fn put_decoded(text: &[u8], out: &mut [u8], at: usize) -> usize
         end += 1;
     }
     end
+}
+
+// Writes the characters of a text from `at` on, of which there are so many.
+pub fn put_characters(text: &[u8], decoded: usize, out: &mut [u8], at: usize)
+    requires { ⌜ (length (wholeCharacters decoded (now text)) ≡ decoded) × (at + decoded ≤ length (now out)) ⌝ }
+    ensures { λ _. ⌜ now (out .exit) ≡ stored (now (out .entry)) at (wholeCharacters decoded (now (text .entry))) ⌝ }
+{
+    if decoded == text.len() {
+        written_text::put_text(out, at, text);
+    } else {
+        put_decoded(text, out, at);
+    }
 }

@@ -4,10 +4,9 @@ ghost use mathlib.Core.Path.{_≡_};
 ghost use Prim.Native.Nat.{_+_, _≤_};
 ghost use lib.ListN.{length};
 ghost use Rattle.extract_spec.specs.Fields.{twoBytes, field, countTag, rowField};
-ghost use Rattle.extract_writer.specs.fields.Fields.{head, stored};
+ghost use Rattle.extract_writer.specs.fields.Fields.{wholeCharacters, TextPass, head, stored};
 ghost use Rattle.schema_spec.specs.Names.{element, text};
-ghost use Rattle.text_spec.specs.Limits.{maxTextBytes};
-use cells::written_text;
+use crate::decoded_texts::put_characters;
 
 pub const ELEMENT_TAG: u8 = 1;
 
@@ -51,13 +50,13 @@ pub fn put_element(out: &mut [u8], at: usize, number: u16, parent: u16, e: u8)
     out[at + 7] = e;
 }
 
-// The field of a text; its name stands in no field.
-pub fn put_text(out: &mut [u8], at: usize, number: u16, parent: u16, bytes: &[u8])
-    requires { ⌜ (length (now bytes) ≤ maxTextBytes) × (at + 7 + length (now bytes) ≤ length (now out)) ⌝ }
-    ensures { λ _. ⌜ now (out .exit) ≡ stored (now (out .entry)) at (rowField (text 0) number parent (now (bytes .entry))) ⌝ }
+// The field of a text of so many characters; its name stands in no field.
+pub fn put_text(out: &mut [u8], at: usize, number: u16, parent: u16, bytes: &[u8], decoded: u16)
+    requires { ⌜ TextPass (now bytes) decoded (now out) at ⌝ }
+    ensures { λ _. ⌜ now (out .exit) ≡ stored (now (out .entry)) at (rowField (text 0) number parent (wholeCharacters decoded (now (bytes .entry)))) ⌝ }
 {
-    put_head(out, at, TEXT_TAG, (bytes.len() + 4) as u16, number, parent);
-    written_text::put_text(out, at + TEXT_HEAD_BYTES, bytes);
+    put_head(out, at, TEXT_TAG, decoded + 4, number, parent);
+    put_characters(bytes, decoded as usize, out, at + TEXT_HEAD_BYTES);
 }
 
 // The field of the count of rows.

@@ -18,37 +18,37 @@ pub struct Measured {
 }
 
 // How many bytes the field of a row takes.
-fn field_size(name: u8, length: u16) -> usize
-    ensures { λ r. ⌜ r ≡ fieldSize name length ⌝ }
+fn field_size(name: u8, decoded: u16) -> usize
+    ensures { λ r. ⌜ r ≡ fieldSize name decoded ⌝ }
 {
     if (name as usize) < MAX_ELEMENTS {
         ELEMENT_BYTES
     } else {
-        TEXT_HEAD_BYTES + length as usize
+        TEXT_HEAD_BYTES + decoded as usize
     }
 }
 
 // The same, 0 for a row that is not marked.
-fn marked_size(mark: u8, name: u8, length: u16) -> usize
-    ensures { λ r. ⌜ r ≡ markedSize mark name length ⌝ }
+fn marked_size(mark: u8, name: u8, decoded: u16) -> usize
+    ensures { λ r. ⌜ r ≡ markedSize mark name decoded ⌝ }
 {
     if mark == MARKED {
-        field_size(name, length)
+        field_size(name, decoded)
     } else {
         0
     }
 }
 
 // How many bytes the fields of the marked rows take, and how many rows are marked.
-pub fn measure(names: &[u8], lengths: &[u16], marks: &[u8]) -> Measured
-    requires { ⌜ MeasurePass (now names) (now lengths) (now marks) ⌝ }
-    ensures { λ r. ⌜ MeasuredAs (now (names .entry)) (now (lengths .entry)) (now (marks .entry)) (r .bytes) (r .rows) ⌝ }
+pub fn measure(names: &[u8], decoded: &[u16], marks: &[u8]) -> Measured
+    requires { ⌜ MeasurePass (now names) (now decoded) (now marks) ⌝ }
+    ensures { λ r. ⌜ MeasuredAs (now (names .entry)) (now (decoded .entry)) (now (marks .entry)) (r .bytes) (r .rows) ⌝ }
 {
     let mut bytes = 0;
     let mut rows: u16 = 0;
     let mut r = 0;
     while r < marks.len() {
-        bytes += marked_size(marks[r], names[r], lengths[r]);
+        bytes += marked_size(marks[r], names[r], decoded[r]);
         rows += marks[r] as u16;
         r += 1;
     }
@@ -84,10 +84,10 @@ fn put_row(
         return at + ELEMENT_BYTES;
     }
     let from = starts[r] as usize;
-    let size = lengths[r] as usize;
-    let to = from + size;
-    put_text(out, at, number, parent, &text[from..to]);
-    at + TEXT_HEAD_BYTES + size
+    let to = from + lengths[r] as usize;
+    let size = decoded[r];
+    put_text(out, at, number, parent, &text[from..to], size);
+    at + TEXT_HEAD_BYTES + size as usize
 }
 
 // Writes the fields of the marked rows, one after the other, and gives the place after them.

@@ -4,7 +4,7 @@ ghost use mathlib.Core.Bool.{true};
 ghost use lib.ListN.{length};
 ghost use Rattle.cells.specs.lent.Ends.{entryColumns, heldColumns};
 ghost use Rattle.cells.specs.row_sets.Columns.{marks};
-ghost use Rattle.extract_writer.specs.rows.Rows.{TextColumns};
+ghost use Rattle.extract_writer.specs.rows.Rows.{ExtractColumns};
 ghost use Rattle.extract_writer.specs.writing.Extract.{extractIn, WrittenIn, ExtractPass, KeptExtract};
 ghost use Rattle.kept_rows.specs.Kept.{inSet, keptMarks, KeptColumns};
 use crate::fields::COUNT_BYTES;
@@ -33,7 +33,7 @@ fn write_marked(
     requires { ⌜ ExtractPass (now text) (heldColumns numbers names parents starts lengths decoded) (now kept) ⌝ }
     ensures { λ n. ⌜ WrittenIn out (extractIn (now (text .entry)) (entryColumns numbers names parents starts lengths decoded) (now (kept .entry))) n ⌝ }
 {
-    let measured = measure(names, lengths, kept);
+    let measured = measure(names, decoded, kept);
     let size = measured.bytes + COUNT_BYTES;
     if out.len() < size {
         clear_bytes(out, 0);
@@ -66,7 +66,7 @@ pub fn write_table(
     decoded: &[u16],
     out: &mut [u8],
 ) -> usize
-    requires { ⌜ TextColumns (now text) (heldColumns numbers names parents starts lengths decoded) (length (now numbers)) ⌝ }
+    requires { ⌜ ExtractColumns (now text) (heldColumns numbers names parents starts lengths decoded) (length (now numbers)) ⌝ }
     ensures { λ n. ⌜ WrittenIn out (extractIn (now (text .entry)) (entryColumns numbers names parents starts lengths decoded) (marks (length (now (numbers .entry))) (λ r. true))) n ⌝ }
 {
     let every = [MARKED; MAX_NODES];
@@ -126,7 +126,7 @@ pub fn write_kept(
     decoded: &[u16],
     out: &mut [u8],
 ) -> usize
-    requires { ⌜ TextColumns (now text) (heldColumns numbers names parents starts lengths decoded) (length (now numbers)) × KeptColumns (now names) (now parents) ⌝ }
+    requires { ⌜ ExtractColumns (now text) (heldColumns numbers names parents starts lengths decoded) (length (now numbers)) × KeptColumns (now names) (now parents) ⌝ }
     ensures { λ n. ⌜ WrittenIn out (extractIn (now (text .entry)) (entryColumns numbers names parents starts lengths decoded) (keptMarks (inSet set) (now (names .entry)) (now (parents .entry)))) n ⌝ }
 {
     let mut kept = [UNMARKED; MAX_NODES];

@@ -130,16 +130,24 @@ pub fn element_row(e: usize, parent: u64) -> RowCells
     }
 }
 
-// The row of a text of the element e.
-pub fn text_row(e: u64, parent: u64, start: u32, size: u32) -> RowCells
-    ensures { λ r. ⌜ r ≡ textCells e parent start size ⌝ }
+// What is left of a number without another, 0 where that is larger.
+pub fn remaining(whole: u32, part: u32) -> u32
+    ensures { λ r. ⌜ r ≡ whole - part ⌝ }
 {
+    if part <= whole { whole - part } else { 0 }
+}
+
+// The row of a text of the element e, whose entities save so many bytes.
+pub fn text_row(e: u64, parent: u64, start: u32, size: u32, saved: u32) -> RowCells
+    ensures { λ r. ⌜ r ≡ textCells e parent start size saved ⌝ }
+{
+    let decoded = remaining(size, saved);
     RowCells {
         name: (e % ELEMENTS + ELEMENTS) as u8,
         parent: (parent % ROWS) as u16,
         start,
         size: (size % 65536) as u16,
-        decoded: (size % 65536) as u16,
+        decoded: (decoded % 65536) as u16,
     }
 }
 

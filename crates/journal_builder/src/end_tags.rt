@@ -96,10 +96,17 @@ fn is_text(kind: u64) -> bool
     kind == PCDATA
 }
 
-// A run of character data: where it starts, its first byte that is not a blank or NONE, how many bytes it has.
-pub fn on_run(levels: &mut [u64; LEVELS], m: Build, start: u32, solid: u32, size: u32) -> BuildStep
+// A run of character data: where it starts, its first byte that is not a blank or NONE, how many bytes it has and how many of them its entities save.
+pub fn on_run(
+    levels: &mut [u64; LEVELS],
+    m: Build,
+    start: u32,
+    solid: u32,
+    size: u32,
+    saved: u32,
+) -> BuildStep
     requires { ⌜ Safe (now levels) m × (m .count < placeLimit) ⌝ }
-    ensures { λ r. ⌜ SafeStep (now (levels .exit)) m r × ((saved : ℕ) → LeavesUnbroken (λ s b. onRun (run start (placeOr solid) saved) size b) levels m r) ⌝ }
+    ensures { λ r. ⌜ SafeStep (now (levels .exit)) m r × LeavesUnbroken (λ s b. onRun (run start (placeOr solid) saved) size b) levels m r ⌝ }
 {
     let d = m.depth;
     if d == 0 {
@@ -110,7 +117,7 @@ pub fn on_run(levels: &mut [u64; LEVELS], m: Build, start: u32, solid: u32, size
     let new = fillings::with_run(old, solid == NONE);
     open_levels::refill(levels, d, new);
     if is_text(old.kind) {
-        let row: RowCells = build_state::text_row(old.element, level.row, start, size);
+        let row: RowCells = build_state::text_row(old.element, level.row, start, size, saved);
         let build = begun_nodes::with_text(m, start, size);
         return BuildStep { build, row };
     }

@@ -1,7 +1,7 @@
 // What the lexer's last event makes of what is built.
 ghost use mathlib.Core.Logic.{_⊎_};
 ghost use mathlib.Core.Path.{_≡_};
-ghost use Prim.Native.Nat.{_-_, _≤_, _<_};
+ghost use Prim.Native.Nat.{_≤_, _<_};
 ghost use lib.ListN.{length};
 ghost use Rattle.journal_builder.specs.build_state.State.{Safe};
 ghost use Rattle.journal_builder.specs.event_handling.Events.{SchemaCells, isDataEvent, EventLeaves, entrySchema};
@@ -19,17 +19,11 @@ use journal_lexer::state::AT;
 use journal_lexer::state::Lex;
 use journal_lexer::state::QUIET;
 use journal_lexer::state::RUNS;
+use journal_lexer::state::SAVED;
 use journal_lexer::state::SOLID_AT;
 use journal_lexer::state::START;
 use names::MAX_ELEMENTS;
 use text::name_words::Name;
-
-// How many bytes a run has that starts at `start` and ends before `end`.
-fn run_size(start: u32, end: u32) -> u32
-    ensures { λ r. ⌜ r ≡ end - start ⌝ }
-{
-    if start <= end { end - start } else { 0 }
-}
 
 // No event, or a run of character data. Nothing else is left at the end of a text.
 pub fn on_data_event(levels: &mut [u64; LEVELS], places: &[u32; 5], l: Lex, m: Build) -> BuildStep
@@ -40,8 +34,8 @@ pub fn on_data_event(levels: &mut [u64; LEVELS], places: &[u32; 5], l: Lex, m: B
         return build_state::without_row(m);
     }
     let start = places[START];
-    let size = run_size(start, places[AT]);
-    crate::on_run(levels, m, start, places[SOLID_AT], size)
+    let size = build_state::remaining(places[AT], start);
+    crate::on_run(levels, m, start, places[SOLID_AT], size, places[SAVED])
 }
 
 fn is_data_event(event: u8) -> bool

@@ -141,13 +141,21 @@ pub fn on_tag(
     )
 }
 
-// A run of character data: where it starts, its first byte that is not a blank or journal_lexer::state::NONE, how many bytes it has.
-pub fn on_run(levels: &mut [u64; LEVELS], m: Build, start: u32, solid: u32, size: u32) -> BuildStep
+// A run of character data: where it starts, its first byte that is not a blank or journal_lexer::state::NONE, how many bytes it has and how many of them its
+// entities save.
+pub fn on_run(
+    levels: &mut [u64; LEVELS],
+    m: Build,
+    start: u32,
+    solid: u32,
+    size: u32,
+    saved: u32,
+) -> BuildStep
     requires { ⌜ Safe (now levels) m × (m .count < placeLimit) ⌝ }
-    ensures { λ r. ⌜ SafeStep (now (levels .exit)) m r × ((saved : ℕ) → LeavesBy (λ s b. onEvent s (runs (run start (placeOr solid) saved) size) b) levels m r) ⌝ }
+    ensures { λ r. ⌜ SafeStep (now (levels .exit)) m r × LeavesBy (λ s b. onEvent s (runs (run start (placeOr solid) saved) size) b) levels m r ⌝ }
 {
     if build_state::is_judged(m) {
-        return end_tags::on_run(levels, m, start, solid, size);
+        return end_tags::on_run(levels, m, start, solid, size, saved);
     }
     build_state::without_row(m)
 }

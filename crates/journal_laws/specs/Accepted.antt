@@ -1,10 +1,10 @@
--- The rows of an accepted journal are a well-formed table beside its text.
+-- The rows of an accepted journal are a well-formed table.
 use mathlib.Core.Bool.{Bool, true, false, not, _&&_, _||_}
 use mathlib.Core.List.{List, [], _∷_, _++_, reverse, reverseAux, append-nil, List·Memᴰ as In, List·Memᴰ·head as here, List·Memᴰ·tail as there, List·Memᴰ·append-cases as append-cases}
 use mathlib.Core.Logic.{_⊎_, inl, inr}
 use mathlib.Core.Option.{Option, none, some}
 use mathlib.Core.Path.{_≡_, refl, sym, ap, subst, _∙_}
-use Prim.Native.Nat.{ℕ, zero, suc, _+_, _≤_, _<_}
+use Prim.Native.Nat.{ℕ, suc, _+_, _-_, _≤_, _<_}
 use native.Mathlib.Omega.{arith}
 use lib.Dec.{T, eqb, leb, eqb-refl, le→leb}
 use lib.ListN.{length, take, drop, getElem?, length-append, length-drop}
@@ -21,7 +21,7 @@ use Rattle.table_laws.specs.Fits.{RowFits, fits-row}
 use Rattle.table_laws.specs.Nodes.{nodes-same, nodes-equal}
 use Rattle.table_laws.specs.Places.{none-some, at-before, at-end, at-in}
 use Rattle.table_spec.specs.Nodes.{Node, top, under, nodeNumber, nameOf, same, isAbove, depthOf, nodeAt, attachTo}
-use Rattle.table_spec.specs.Rows.{Row, textOf, elementRow, textRow}
+use Rattle.table_spec.specs.Rows.{Row, charactersOf, elementRow, textRow}
 use Rattle.table_spec.specs.Tables.{sameParent, firstText, rowFits, laterRows, wellFormed, bytesInside, textInside, wellFormedWith}
 use Rattle.text_laws.specs.Lists.{in-any, in-all, append-empty}
 use Rattle.text_laws.specs.Refusals.{judged-accepted, given-free}
@@ -120,16 +120,11 @@ first-of-parent before n e w p numbered last = not-intro (anyOf (λ z. isText (n
         let r = in-any (λ z. isText (nameOf z) && sameParent z (under n (text e) w p)) before t in
         no-sibling (r .0) (numbered (r .0) (r .1)) (and-cases (isText (nameOf (r .0))) (sameParent (r .0) (under n (text e) w p)) (r .2) .1)
 
--- a text row lies within so many bytes and has two equal lengths
-abbrev TextWithin : ℕ → Row → Type 0
-TextWithin size r = T (isText (r .name)) → (r .start + r .size ≤ size) × (r .decoded ≡ r .size)
-
 -- the rows still to come
-record Later (s : Schema) (size : ℕ) (final : List Row) (before : List Node) (previous : Node) (rs : List Row) : Type 0 where
+record Later (s : Schema) (final : List Row) (before : List Node) (previous : Node) (rs : List Row) : Type 0 where
   rows : List Row
   joined : final ≡ reverseAux rows rs
   fit : T (laterRows (typesOf s) before previous rows)
-  texts : (r : Row) → In r rows → TextWithin size r
 
 -- what stands while the root is open: the nodes so far, of which `previous` is the last, and the open elements
 record Standing (s : Schema) (t : Bool) (before : List Node) (previous : Node) (n : ℕ) (o : Open) (os : List Open) : Type 0 where
@@ -169,7 +164,7 @@ true-false e = never (cc)
 module _ (s : Schema) (before : List Node) (previous : Node) (n : ℕ) (o : Open) (os : List Open) where
   -- the node of a row under the innermost open element
   abbrev newNode : Node → Name → Row → Node
-  newNode p a r = under n a (textOf [] r) p
+  newNode p a r = under n a (charactersOf [] r) p
 
   node-before : {t : Bool} (h : Standing s t before previous n o os) → nodeNumber (h .node) < n
   node-before h = numbered-below (h .numbered (h .node) (at-in before (o .row) (h .node) (chain-node (h .chain))))
@@ -254,12 +249,12 @@ unfolding typesOf
 held-by s a b h = h
 
 -- a child row, where the open element can be completed with it
-child-row : (s : Schema) (size : ℕ) (final : List Row) {t : Bool} (before : List Node) (previous : Node) (n e : ℕ) (o : Open) (os : List Open) (rs : List Row)
+child-row : (s : Schema) (final : List Row) {t : Bool} (before : List Node) (previous : Node) (n e : ℕ) (o : Open) (os : List Open) (rs : List Row)
     → (h : Standing s t before previous n o os) → Completable (withChild (some e) (o .filling)) → length (o ∷ os) < maxDepth → n < maxNodes
     → let r = elementRow n e (o .row) in
     let y = newNode s before previous n o os (h .node) (element e) r in
-    Later s size final (before ++ (y ∷ [])) y (r ∷ rs) → Later s size final before previous rs
-child-row s size final before previous n e o os rs h c deep few l =
+    Later s final (before ++ (y ∷ [])) y (r ∷ rs) → Later s final before previous rs
+child-row s final before previous n e o os rs h c deep few l =
     let r = elementRow n e (o .row) in
     let y = newNode s before previous n o os (h .node) (element e) r in
     let named = chain-name (h .chain) in
@@ -269,7 +264,7 @@ child-row s size final before previous n e o os rs h c deep few l =
       rows = r ∷ l .rows;
       joined = l .joined;
       fit =
-          later-row (typesOf s) before previous r y (l .rows) (ap (attachTo n (element e) (textOf [] r)) (chain-node (h .chain)))
+          later-row (typesOf s) before previous r y (l .rows) (ap (attachTo n (element e) (charactersOf [] r)) (chain-node (h .chain)))
           (record {
             rises = omega arith;
             small = few;
@@ -280,20 +275,15 @@ child-row s size final before previous n e o os rs h c deep few l =
             cells = tt;
           })
           (l .fit);
-      texts = within l;
     }
-  where
-    within : {b : List Node} {q : Node} (l : Later s size final b q (elementRow n e (o .row) ∷ rs)) (x : Row) → In x (elementRow n e (o .row) ∷ l .rows) → TextWithin size x
-    within l x (here g) t = absurd (subst (λ (z : Row). T (isText (z .name))) g t)
-    within l x (there i) t = l .texts x i t
 
-text-row : (s : Schema) (size : ℕ) (final : List Row) (before : List Node) (previous : Node) (n e start l : ℕ) (o : Open) (os : List Open) (rs : List Row)
-    → (h : Standing s false before previous n o os) → o .filling ≡ filledByText e → 1 ≤ l → l ≤ maxTextBytes → start + l ≤ size → n < maxNodes
-    → let r = textRow n e (o .row) start l in
+text-row : (s : Schema) (final : List Row) (before : List Node) (previous : Node) (n e start l d : ℕ) (o : Open) (os : List Open) (rs : List Row)
+    → (h : Standing s false before previous n o os) → o .filling ≡ filledByText e → 1 ≤ d → d ≤ l → l ≤ maxTextBytes → n < maxNodes
+    → let r = textRow n e (o .row) start l d in
     let y = newNode s before previous n o os (h .node) (text e) r in
-    Later s size final (before ++ (y ∷ [])) y (r ∷ rs) → Later s size final before previous rs
-text-row s size final before previous n e start l o os rs h f pos small fits few z =
-    let r = textRow n e (o .row) start l in
+    Later s final (before ++ (y ∷ [])) y (r ∷ rs) → Later s final before previous rs
+text-row s final before previous n e start l d o os rs h f pos low small few z =
+    let r = textRow n e (o .row) start l d in
     let y = newNode s before previous n o os (h .node) (text e) r in
     let depth : depthOf (h .node) ≡ length (o ∷ os) = chain-depth (h .chain) in
     let prior : suc (nodeNumber previous) ≡ n = h .last in
@@ -304,43 +294,38 @@ text-row s size final before previous n e start l o os rs h f pos small fits few
       rows = r ∷ z .rows;
       joined = z .joined;
       fit =
-          later-row (typesOf s) before previous r y (z .rows) (ap (attachTo n (text e) (textOf [] r)) (chain-node (h .chain)))
+          later-row (typesOf s) before previous r y (z .rows) (ap (attachTo n (text e) (charactersOf [] r)) (chain-node (h .chain)))
           (record {
             rises = omega arith;
             small = few;
             isOpen = up-open (h .node) previous (h .up);
             held = held-by s (nameOf (h .node)) (text e) (subst (λ (a : Name). T (holds s a (text e))) (sym (named .1)) (text-held s (named .0) e (named .2) f));
             shallow = omega arith;
-            oneText = first-of-parent before n e (textOf [] r) (h .node) (h .numbered) (omega arith);
+            oneText = first-of-parent before n e (charactersOf [] r) (h .node) (h .numbered) (omega arith);
             cells =
-                and-intro (leb 1 l) _ (le→leb 1 l pos)
-                (and-intro (leb l maxTextBytes) _ (le→leb l maxTextBytes small) (and-intro (leb 1 l) (leb l l) (le→leb 1 l pos) (le→leb l l (omega arith))));
+                and-intro (leb 1 l) _ (le→leb 1 l (omega arith))
+                (and-intro (leb l maxTextBytes) _ (le→leb l maxTextBytes small) (and-intro (leb 1 d) (leb d l) (le→leb 1 d pos) (le→leb d l low)));
           })
           (z .fit);
-      texts = within z;
     }
-  where
-    within : {b : List Node} {q : Node} (z : Later s size final b q (textRow n e (o .row) start l ∷ rs)) (x : Row) → In x (textRow n e (o .row) start l ∷ z .rows) → TextWithin size x
-    within z x (here g) t = subst (λ (a : Row). (a .start + a .size ≤ size) × (a .decoded ≡ a .size)) (sym g) (fits, refl)
-    within z x (there i) t = z .texts x i t
 
 -- the rows to come of a derivation fit the nodes so far
-later-rows : {s : Schema} {size : ℕ} {final : List Row} {t : Bool} {es : List Event} {os : List Open} {rs : List Row} {n : ℕ} (before : List Node) (previous : Node)
-    → Derives s size final t es os true rs n → State s t before previous n os → Later s size final before previous rs
-later-rows before previous finished after-root = record { rows = []; joined = refl; fit = tt; texts = λ r i. elim i [ ] }
-later-rows {s} {size} {final} before previous (child-begins {w = w} {k = k} {e = e} {o = o} {os = os} {rs = rs} {n = n} named deep few d) (in-root h) =
+later-rows : {s : Schema} {final : List Row} {t : Bool} {es : List Event} {os : List Open} {rs : List Row} {n : ℕ} (before : List Node) (previous : Node)
+    → Derives s final t es os true rs n → State s t before previous n os → Later s final before previous rs
+later-rows before previous finished after-root = record { rows = []; joined = refl; fit = tt }
+later-rows {s} {final} before previous (child-begins {w = w} {k = k} {e = e} {o = o} {os = os} {rs = rs} {n = n} named deep few d) (in-root h) =
     let r = elementRow n e (o .row) in
     let y = newNode s before previous n o os (h .node) (element e) r in
-    child-row s size final before previous n e o os rs h (parent-completable e o (all-completable d)) deep few
+    child-row s final before previous n e o os rs h (parent-completable e o (all-completable d)) deep few
     (later-rows (before ++ (y ∷ [])) y d (in-root (standing-child s before previous n o os w k e r deep h)))
 later-rows {s} before previous (element-ends {o = o} {os = os} {n = n} same fits d) (in-root h) = later-rows before previous d (state-end s before previous n o os h)
 later-rows before previous (blanks-outside e d) after-root = later-rows before previous d after-root
 later-rows {s} before previous (run-inside {r = r} {o = o} {os = os} {n = n} e d) (in-root h) =
     later-rows before previous d (in-root (standing-run s before previous n o os (isNone (r .solid)) h))
-later-rows {s} {size} {final} before previous (text-inside {r = r} {l = l} {e = e} {o = o} {os = os} {rs = rs} {n = n} f pos small fits few d) (in-root h) =
-    let row = textRow n e (o .row) (r .start) l in
+later-rows {s} {final} before previous (text-inside {r = r} {l = l} {e = e} {o = o} {os = os} {rs = rs} {n = n} f pos small few d) (in-root h) =
+    let row = textRow n e (o .row) (r .start) l (l - r .saved) in
     let y = newNode s before previous n o os (h .node) (text e) row in
-    text-row s size final before previous n e (r .start) l o os rs h f pos small fits few
+    text-row s final before previous n e (r .start) l (l - r .saved) o os rs h f (omega arith) (omega arith) small few
     (later-rows (before ++ (y ∷ [])) y d (in-root (standing-text s before previous n o os (isNone (r .solid)) e row h)))
 
 -- ---- the whole table
@@ -351,8 +336,8 @@ rootNode = top 0 (element 0)
 abbrev rootRow : Row
 rootRow = elementRow 0 0 0
 
-rows-after-root : {s : Schema} {size : ℕ} {final : List Row} {t : Bool} {es : List Event} → Derives s size final t es [] false [] 0
-    → Later s size final (rootNode ∷ []) rootNode (rootRow ∷ [])
+rows-after-root : {s : Schema} {final : List Row} {t : Bool} {es : List Event} → Derives s final t es [] false [] 0
+    → Later s final (rootNode ∷ []) rootNode (rootRow ∷ [])
 rows-after-root {s} (root-begins {w = w} {k = k} named few d) =
     later-rows (rootNode ∷ []) rootNode d
     (in-root
@@ -379,35 +364,6 @@ reverse-twice (r ∷ rows) rs acc = reverse-twice rows (r ∷ rs) acc
 root-well-formed : (s : Schema) (rows : List Row) → T (laterRows (typesOf s) (rootNode ∷ []) rootNode rows) → T (wellFormed (typesOf s) (rootRow ∷ rows))
 unfolding wellFormed typesOf
 root-well-formed s rows h = h
-
--- ---- texts
-
-module _ (f : ℕ → Bool) where
-  all-drop : (i : ℕ) (bs : List ℕ) → T (allOf f bs) → T (allOf f (drop i bs))
-  all-drop zero bs h = h
-  all-drop (suc i) [] h = h
-  all-drop (suc i) (b ∷ bs) h = all-drop i bs (and-cases (f b) (allOf f bs) h .1)
-
-  all-take : (i : ℕ) (bs : List ℕ) → T (allOf f bs) → T (allOf f (take i bs))
-  all-take zero bs h = tt
-  all-take (suc i) [] h = h
-  all-take (suc i) (b ∷ bs) h = and-intro (f b) (allOf f (take i bs)) (and-cases (f b) (allOf f bs) h .0) (all-take i bs (and-cases (f b) (allOf f bs) h .1))
-
-text-lies-inside : (lent : List ℕ) (r : Row) → T (allOf (λ b. not (isForeign b)) lent) → TextWithin (length lent) r → T (textInside lent r)
-text-lies-inside lent r native h = by (isText (r .name)) h
-  where
-    by : (t : Bool) → (T t → (r .start + r .size ≤ length lent) × (r .decoded ≡ r .size)) → T (not t || (bytesInside lent r && eqb (r .decoded) (r .size)))
-    by false h = tt
-    by true h =
-        let fits : r .start + r .size ≤ length lent = h tt .0 in
-        let equal : r .decoded ≡ r .size = h tt .1 in
-        let room : r .size ≤ length (drop (r .start) lent) = omega (arith, length-drop (r .start) lent) in
-        and-intro (bytesInside lent r) (eqb (r .decoded) (r .size))
-        (and-intro (leb (r .start) (length lent)) (eqb (length (textOf lent r)) (r .size) && allOf (λ b. not (isForeign b)) (textOf lent r)) (le→leb (r .start) (length lent) (omega arith))
-        (and-intro (eqb (length (textOf lent r)) (r .size)) (allOf (λ b. not (isForeign b)) (textOf lent r))
-        (subst (λ (m : ℕ). T (eqb m (r .size))) (sym (length-take-le (r .size) (drop (r .start) lent) room)) (eqb-refl (r .size)))
-        (all-take (λ b. not (isForeign b)) (r .size) (drop (r .start) lent) (all-drop (λ b. not (isForeign b)) (r .start) lent native))))
-        (rw equal (eqb-refl (r .size)))
 
 -- ---- acceptance
 
@@ -458,18 +414,14 @@ accepted-free limit s lent rows e =
 
 -- a derivation of the events of an accepted text
 accepted-derivation : (s : Schema) (lent : List ℕ) → Free (run s initial lent) (ended s (run s initial lent))
-    → Derives s (length lent) (ended s (run s initial lent) .rows) false (eventsFrom between 0 lent) [] false [] 0
+    → Derives s (ended s (run s initial lent) .rows) false (eventsFrom between 0 lent) [] false [] 0
 accepted-derivation s lent f =
-    derivation s (length lent) (ended s (run s initial lent) .rows) (events-in-turn (length lent) between 0 lent (omega arith) tt) [] false [] 0
+    derivation s (ended s (run s initial lent) .rows) (events-in-turn between 0 lent tt) [] false [] 0
     (subst (λ (b : Building). Accepts (ended s (run s initial lent) .rows) b) (ended-builds s initial lent) (f .accepts))
 
-pub accepted-well-formed : (limit : ℕ) (s : Schema) (lent : List ℕ) (rows : List Row) → readJournal limit s lent ≡ accepted rows → T (wellFormedWith (typesOf s) lent rows)
-unfolding wellFormedWith
-accepted-well-formed limit s lent rows e =
+pub accepted-table : (limit : ℕ) (s : Schema) (lent : List ℕ) (rows : List Row) → readJournal limit s lent ≡ accepted rows → T (wellFormed (typesOf s) rows)
+accepted-table limit s lent rows e =
     let f = accepted-free limit s lent rows e in
     let l = rows-after-root (accepted-derivation s lent (f .0)) in
     let listed : rows ≡ rootRow ∷ l .rows = sym (f .1) ∙ ap reverse (l .joined) ∙ reverse-twice (l .rows) (rootRow ∷ []) [] ∙ ap (λ (r : List Row). rootRow ∷ r) (append-nil (l .rows)) in
-    let native = none-foreign s initial lent (f .0 .native) in
-    subst (λ (r : List Row). T (wellFormed (typesOf s) r && allOf (textInside lent) r)) (sym listed)
-    (and-intro (wellFormed (typesOf s) (rootRow ∷ l .rows)) (allOf (textInside lent) (rootRow ∷ l .rows)) (root-well-formed s (l .rows) (l .fit))
-    (in-all (textInside lent) (l .rows) (λ r i. text-lies-inside lent r native (l .texts r i))))
+    subst (λ (r : List Row). T (wellFormed (typesOf s) r)) (sym listed) (root-well-formed s (l .rows) (l .fit))

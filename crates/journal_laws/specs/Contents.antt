@@ -30,19 +30,19 @@ fillingAfter s g nothing = g
 fillingAfter s g (data-node k w f) = fillingAfter s (withRun (isNone (solidFrom k w)) g) f
 fillingAfter s g (element-node k n c f) = fillingAfter s (withChild (elementNamed s n) g) f
 
-pub run-filling : (a : Filling) (p k l : ℕ) (g : Filling) (fs : List Refusal) (rs : List Row) (n : ℕ) → runHeld a p k l g fs rs n .filling ≡ g
-run-filling unjudged p k l g fs rs n = refl
-run-filling misfit p k l g fs rs n = refl
-run-filling unfilled p k l g fs rs n = refl
-run-filling (filledByText e) p k l g fs rs n = refl
-run-filling (filledByChildren q) p k l g fs rs n = refl
+pub run-filling : (a : Filling) (p k : ℕ) (w : List ℕ) (g : Filling) (fs : List Refusal) (rs : List Row) (n : ℕ) → runHeld a p k w g fs rs n .filling ≡ g
+run-filling unjudged p k w g fs rs n = refl
+run-filling misfit p k w g fs rs n = refl
+run-filling unfilled p k w g fs rs n = refl
+run-filling (filledByText e) p k w g fs rs n = refl
+run-filling (filledByChildren q) p k w g fs rs n = refl
 
 pub held-filling : (s : Schema) (p : ℕ) (f : Forest) (h : Held) → afterForest s p f h .filling ≡ fillingAfter s (h .filling) f
 unfolding afterForest fillingAfter
 held-filling s p nothing h = refl
 held-filling s p (data-node k w f) h =
     held-filling s p f (afterRun p k w h)
-    ∙ ap (λ (g : Filling). fillingAfter s g f) (run-filling (h .filling) p k (length w) (withRun (isNone (solidFrom k w)) (h .filling)) (h .faults) (h .rows) (h .count))
+    ∙ ap (λ (g : Filling). fillingAfter s g f) (run-filling (h .filling) p k w (withRun (isNone (solidFrom k w)) (h .filling)) (h .faults) (h .rows) (h .count))
 held-filling s p (element-node k n c f) h = held-filling s p f (atEnd k (elementNamed s n) (h .filling) (afterForest s (h .count) c (atStart s p k (elementNamed s n) h)))
 
 -- ---- a content fits exactly where the builder says so at its end
@@ -124,12 +124,12 @@ ends-content s e (children p) f t =
 
 -- ---- what is found stays found
 
-pub run-grows : {g : Refusal} (a : Filling) (p k l : ℕ) (b : Filling) (fs : List Refusal) (rs : List Row) (n : ℕ) → In g fs → In g (runHeld a p k l b fs rs n .faults)
-run-grows unjudged p k l b fs rs n i = i
-run-grows misfit p k l b fs rs n i = i
-run-grows unfilled p k l b fs rs n i = i
-run-grows (filledByText e) p k l b fs rs n i = append-right (given (ltb maxTextBytes l || leb maxNodes n) (at overNodeLimit k)) i
-run-grows (filledByChildren q) p k l b fs rs n i = i
+pub run-grows : {g : Refusal} (a : Filling) (p k : ℕ) (w : List ℕ) (b : Filling) (fs : List Refusal) (rs : List Row) (n : ℕ) → In g fs → In g (runHeld a p k w b fs rs n .faults)
+run-grows unjudged p k w b fs rs n i = i
+run-grows misfit p k w b fs rs n i = i
+run-grows unfilled p k w b fs rs n i = i
+run-grows (filledByText e) p k w b fs rs n i = append-right (given (ltb maxTextBytes (length w) || leb maxNodes n) (at overNodeLimit k)) i
+run-grows (filledByChildren q) p k w b fs rs n i = i
 
 pub start-grows : {g : Refusal} (s : Schema) (p k : ℕ) (e : Option ℕ) (h : Held) → In g (h .faults) → In g (atStart s p k e h .faults)
 start-grows s p k e h i = append-right (given (isNone e) (at undeclaredElement k)) (append-right (given (leb maxNodes (h .count)) (at overNodeLimit k)) i)
@@ -141,7 +141,7 @@ pub forest-grows : {g : Refusal} (s : Schema) (p : ℕ) (f : Forest) (h : Held) 
 unfolding afterForest
 forest-grows s p nothing h i = i
 forest-grows s p (data-node k w f) h i =
-    forest-grows s p f (afterRun p k w h) (run-grows (h .filling) p k (length w) (withRun (isNone (solidFrom k w)) (h .filling)) (h .faults) (h .rows) (h .count) i)
+    forest-grows s p f (afterRun p k w h) (run-grows (h .filling) p k w (withRun (isNone (solidFrom k w)) (h .filling)) (h .faults) (h .rows) (h .count) i)
 forest-grows s p (element-node k n c f) h i =
     let e = elementNamed s n in
     let inner = afterForest s (h .count) c (atStart s p k e h) in
@@ -195,17 +195,17 @@ pub record FoundIn (P : ℕ → List ℕ → Forest → Type 0) (f : Forest) (k 
   pub so : P k name content
 
 -- character data is found over a limit, and for no other reason
-run-other : {r : Reason} {j : ℕ} → (numberOf r ≡ numberOf overNodeLimit → ⊥) → (a : Filling) (p k l : ℕ) (b : Filling) (fs : List Refusal) (rs : List Row) (n : ℕ)
-    → In (at r j) (runHeld a p k l b fs rs n .faults) → In (at r j) fs
-run-other h unjudged p k l b fs rs n i = i
-run-other h misfit p k l b fs rs n i = i
-run-other h unfilled p k l b fs rs n i = i
-run-other {r} {j} h (filledByText e) p k l b fs rs n i = by (append-cases (given (ltb maxTextBytes l || leb maxNodes n) (at overNodeLimit k)) i)
+run-other : {r : Reason} {j : ℕ} → (numberOf r ≡ numberOf overNodeLimit → ⊥) → (a : Filling) (p k : ℕ) (w : List ℕ) (b : Filling) (fs : List Refusal) (rs : List Row) (n : ℕ)
+    → In (at r j) (runHeld a p k w b fs rs n .faults) → In (at r j) fs
+run-other h unjudged p k w b fs rs n i = i
+run-other h misfit p k w b fs rs n i = i
+run-other h unfilled p k w b fs rs n i = i
+run-other {r} {j} h (filledByText e) p k w b fs rs n i = by (append-cases (given (ltb maxTextBytes (length w) || leb maxNodes n) (at overNodeLimit k)) i)
   where
-    by : In (at r j) (given (ltb maxTextBytes l || leb maxNodes n) (at overNodeLimit k)) ⊎ In (at r j) fs → In (at r j) fs
-    by (inl x) = absurd (given-other (ltb maxTextBytes l || leb maxNodes n) overNodeLimit k h x)
+    by : In (at r j) (given (ltb maxTextBytes (length w) || leb maxNodes n) (at overNodeLimit k)) ⊎ In (at r j) fs → In (at r j) fs
+    by (inl x) = absurd (given-other (ltb maxTextBytes (length w) || leb maxNodes n) overNodeLimit k h x)
     by (inr x) = x
-run-other h (filledByChildren q) p k l b fs rs n i = i
+run-other h (filledByChildren q) p k w b fs rs n i = i
 
 start-no-15 : {j : ℕ} (s : Schema) (p k : ℕ) (e : Option ℕ) (h : Held) → In (at badContent j) (atStart s p k e h .faults) → In (at badContent j) (h .faults)
 start-no-15 {j} s p k e h i = first (append-cases (given (isNone e) (at undeclaredElement k)) i)
@@ -252,7 +252,7 @@ module _ (s : Schema) (r : Reason) (P : ℕ → List ℕ → Forest → Type 0) 
   forest-found {j} p (data-node k w f) h i = by (forest-found p f (afterRun p k w h) i)
     where
       by : In (at r j) (afterRun p k w h .faults) ⊎ FoundIn P f j → In (at r j) (h .faults) ⊎ FoundIn P (data-node k w f) j
-      by (inl x) = inl (run-other h16 (h .filling) p k (length w) (withRun (isNone (solidFrom k w)) (h .filling)) (h .faults) (h .rows) (h .count) x)
+      by (inl x) = inl (run-other h16 (h .filling) p k w (withRun (isNone (solidFrom k w)) (h .filling)) (h .faults) (h .rows) (h .count) x)
       by (inr x) = inr (record { name = x .name; content = x .content; occurs = after-data (x .occurs); so = x .so })
   forest-found {j} p (element-node k n c f) h i =
       outer (forest-found p f (atEnd k (elementNamed s n) (h .filling) inner) i) (λ x. forest-found (h .count) c first x)

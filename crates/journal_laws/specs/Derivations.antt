@@ -3,7 +3,7 @@ use mathlib.Core.Bool.{Bool, true, false, cond, not, _||_}
 use mathlib.Core.List.{List, [], _∷_, _++_}
 use mathlib.Core.Option.{Option, none, some}
 use mathlib.Core.Path.{_≡_, refl, sym, ap, subst, _∙_}
-use Prim.Native.Nat.{ℕ, suc, _+_, _≤_, _<_}
+use Prim.Native.Nat.{ℕ, suc, _+_, _-_, _≤_, _<_}
 use lib.Dec.{T, eqb, leb, ltb, eqb→eq, nleb→lt, nltb→le}
 use lib.ListN.{length}
 use Rattle.journal_laws.specs.Events.{build}
@@ -83,28 +83,27 @@ pub data MakesNoText : Filling → Type 0 where
   no-text-unfilled : MakesNoText unfilled
   no-text-children : {q : Progress} → MakesNoText (filledByChildren q)
 
--- Events from open elements, rows (the last first) and their number on, to the final rows of a text of so many bytes, with nothing to
--- find against them. First index: a run was last.
-pub data Derives (s : Schema) (size : ℕ) (final : List Row) : Bool → List Event → List Open → Bool → List Row → ℕ → Type 0 where
-  finished : {t : Bool} {n : ℕ} → Derives s size final t [] [] true final n
+-- Events from open elements, rows (the last first) and their number on, to the final rows of a text, with nothing to find against them. First index: a run was last.
+pub data Derives (s : Schema) (final : List Row) : Bool → List Event → List Open → Bool → List Row → ℕ → Type 0 where
+  finished : {t : Bool} {n : ℕ} → Derives s final t [] [] true final n
   root-begins : {t : Bool} {w : List ℕ} {k : ℕ} {es : List Event} {rs : List Row} {n : ℕ} → elementNamed s w ≡ some 0 → n < maxNodes
-      → Derives s size final false es (opening w k n (fillingOf 0 (contentAt s 0)) ∷ []) true (elementRow n 0 0 ∷ rs) (suc n)
-      → Derives s size final t (starts w k ∷ es) [] false rs n
+      → Derives s final false es (opening w k n (fillingOf 0 (contentAt s 0)) ∷ []) true (elementRow n 0 0 ∷ rs) (suc n)
+      → Derives s final t (starts w k ∷ es) [] false rs n
   child-begins : {t rooted : Bool} {w : List ℕ} {k e : ℕ} {es : List Event} {o : Open} {os : List Open} {rs : List Row} {n : ℕ}
       → elementNamed s w ≡ some e → length (o ∷ os) < maxDepth → n < maxNodes
-      → Derives s size final false es (opening w k n (fillingOf e (contentAt s e)) ∷ refill (withChild (some e)) (o ∷ os)) true (elementRow n e (o .row) ∷ rs) (suc n)
-      → Derives s size final t (starts w k ∷ es) (o ∷ os) rooted rs n
+      → Derives s final false es (opening w k n (fillingOf e (contentAt s e)) ∷ refill (withChild (some e)) (o ∷ os)) true (elementRow n e (o .row) ∷ rs) (suc n)
+      → Derives s final t (starts w k ∷ es) (o ∷ os) rooted rs n
   element-ends : {t rooted : Bool} {w : List ℕ} {k : ℕ} {es : List Event} {o : Open} {os : List Open} {rs : List Row} {n : ℕ}
-      → T (sameBytes w (o .name)) → T (fitsAtEnd (o .filling)) → Derives s size final false es os rooted rs n
-      → Derives s size final t (ends w k ∷ es) (o ∷ os) rooted rs n
+      → T (sameBytes w (o .name)) → T (fitsAtEnd (o .filling)) → Derives s final false es os rooted rs n
+      → Derives s final t (ends w k ∷ es) (o ∷ os) rooted rs n
   blanks-outside : {rooted : Bool} {r : Run} {l : ℕ} {es : List Event} {rs : List Row} {n : ℕ} → r .solid ≡ none
-      → Derives s size final true es [] rooted rs n → Derives s size final false (runs r l ∷ es) [] rooted rs n
+      → Derives s final true es [] rooted rs n → Derives s final false (runs r l ∷ es) [] rooted rs n
   run-inside : {rooted : Bool} {r : Run} {l : ℕ} {es : List Event} {o : Open} {os : List Open} {rs : List Row} {n : ℕ} → MakesNoText (o .filling)
-      → Derives s size final true es (refill (withRun (isNone (r .solid))) (o ∷ os)) rooted rs n → Derives s size final false (runs r l ∷ es) (o ∷ os) rooted rs n
+      → Derives s final true es (refill (withRun (isNone (r .solid))) (o ∷ os)) rooted rs n → Derives s final false (runs r l ∷ es) (o ∷ os) rooted rs n
   text-inside : {rooted : Bool} {r : Run} {l e : ℕ} {es : List Event} {o : Open} {os : List Open} {rs : List Row} {n : ℕ} → o .filling ≡ filledByText e
-      → 1 ≤ l → l ≤ maxTextBytes → r .start + l ≤ size → n < maxNodes
-      → Derives s size final true es (refill (withRun (isNone (r .solid))) (o ∷ os)) rooted (textRow n e (o .row) (r .start) l ∷ rs) (suc n)
-      → Derives s size final false (runs r l ∷ es) (o ∷ os) rooted rs n
+      → r .saved < l → l ≤ maxTextBytes → n < maxNodes
+      → Derives s final true es (refill (withRun (isNone (r .solid))) (o ∷ os)) rooted (textRow n e (o .row) (r .start) l (l - r .saved) ∷ rs) (suc n)
+      → Derives s final false (runs r l ∷ es) (o ∷ os) rooted rs n
 
 -- what is left at the end of an accepted text
 pub record Accepts (final : List Row) (b : Building) : Type 0 where
@@ -116,7 +115,7 @@ pub record Accepts (final : List Row) (b : Building) : Type 0 where
 not-broken : (s : Schema) (final : List Row) (es : List Event) (f : Refusal) (b : Building) → Accepts final (build s es (breaks f b)) → ⊥
 not-broken s final es f b a = none-some (sym (clean-before s es (breaks f b) (a .clean) .unbroken))
 
-module _ (s : Schema) (size : ℕ) (final : List Row) where
+module _ (s : Schema) (final : List Row) where
   faultless-so-far : (es : List Event) (os : List Open) (rt : Bool) (fs : List Refusal) (rs : List Row) (n : ℕ) → Accepts final (build s es (building os rt fs rs n)) → fs ≡ []
   faultless-so-far es os rt fs rs n a = clean-before s es (building os rt fs rs n) (a .clean) .faultless
 
@@ -126,7 +125,7 @@ module _ (s : Schema) (size : ℕ) (final : List Row) where
 
   -- what the rest derives from any state that is accepted in the end
   Rest : Bool → List Event → Type 0
-  Rest t es = (os : List Open) (rt : Bool) (rs : List Row) (n : ℕ) → Accepts final (build s es (building os rt [] rs n)) → Derives s size final t es os rt rs n
+  Rest t es = (os : List Open) (rt : Bool) (rs : List Row) (n : ℕ) → Accepts final (build s es (building os rt [] rs n)) → Derives s final t es os rt rs n
 
   -- the faults of a beginning, and what is built by it
   abbrev beginFaults : List Open → Option ℕ → ℕ → ℕ → List Refusal
@@ -157,7 +156,7 @@ module _ (s : Schema) (size : ℕ) (final : List Row) where
       )
 
   derive-root : (w : List ℕ) (k : ℕ) (es : List Event) (t : Bool) (rs : List Row) (n : ℕ) (e : Option ℕ) → elementNamed s w ≡ e → Rest false es
-      → Accepts final (build s es (begun w k [] e rs n)) → Derives s size final t (starts w k ∷ es) [] false rs n
+      → Accepts final (build s es (begun w k [] e rs n)) → Derives s final t (starts w k ∷ es) [] false rs n
   unfolding Rest
   derive-root w k es t rs n none h rest a = absurd (begin-tests w k es [] rs n none a .0 tt)
   derive-root w k es t rs n (some x) h rest a = at-zero (is-zero (eqb x 0) refl)
@@ -166,15 +165,15 @@ module _ (s : Schema) (size : ℕ) (final : List Row) where
       is-zero true e = eqb→eq x 0 (passed e)
       is-zero false e = absurd (begin-tests w k es [] rs n (some x) a .1 (rw e tt))
 
-      at-zero : x ≡ 0 → Derives s size final t (starts w k ∷ es) [] false rs n
+      at-zero : x ≡ 0 → Derives s final t (starts w k ∷ es) [] false rs n
       at-zero z =
           root-begins (h ∙ ap (λ (y : ℕ). some y) z) (begin-tests w k es [] rs n (some x) a .2)
-          (subst (λ (y : ℕ). Derives s size final false es (opening w k n (fillingOf y (contentAt s y)) ∷ []) true (elementRow n y 0 ∷ rs) (suc n)) z
+          (subst (λ (y : ℕ). Derives s final false es (opening w k n (fillingOf y (contentAt s y)) ∷ []) true (elementRow n y 0 ∷ rs) (suc n)) z
           (rest (opening w k n (fillingOf x (contentAt s x)) ∷ []) true (elementRow n x 0 ∷ rs) (suc n)
           (without-faults es (opening w k n (fillingOf x (contentAt s x)) ∷ []) true (beginFaults [] (some x) k n) (elementRow n x 0 ∷ rs) (suc n) a)))
 
   derive-child : (w : List ℕ) (k : ℕ) (es : List Event) (t rt : Bool) (o : Open) (os : List Open) (rs : List Row) (n : ℕ) (e : Option ℕ) → elementNamed s w ≡ e
-      → length (o ∷ os) < maxDepth → Rest false es → Accepts final (build s es (begun w k (o ∷ os) e rs n)) → Derives s size final t (starts w k ∷ es) (o ∷ os) rt rs n
+      → length (o ∷ os) < maxDepth → Rest false es → Accepts final (build s es (begun w k (o ∷ os) e rs n)) → Derives s final t (starts w k ∷ es) (o ∷ os) rt rs n
   unfolding Rest
   derive-child w k es t rt o os rs n none h d rest a = absurd (begin-tests w k es (o ∷ os) rs n none a .0 tt)
   derive-child w k es t rt o os rs n (some x) h d rest a =
@@ -183,19 +182,19 @@ module _ (s : Schema) (size : ℕ) (final : List Row) where
       (rest above true (elementRow n x (o .row) ∷ rs) (suc n) (without-faults es above true (beginFaults (o ∷ os) (some x) k n) (elementRow n x (o .row) ∷ rs) (suc n) a))
 
   derive-start : (w : List ℕ) (k : ℕ) (es : List Event) (t : Bool) (os : List Open) (rt : Bool) (rs : List Row) (n : ℕ) → Rest false es
-      → Accepts final (build s es (onStart s w k (building os rt [] rs n))) → Derives s size final t (starts w k ∷ es) os rt rs n
+      → Accepts final (build s es (onStart s w k (building os rt [] rs n))) → Derives s final t (starts w k ∷ es) os rt rs n
   derive-start w k es t [] true rs n rest a = absurd (not-broken s final es (at badNesting k) (building [] true [] rs n) a)
   derive-start w k es t [] false rs n rest a = derive-root w k es t rs n (elementNamed s w) refl rest a
   derive-start w k es t (o ∷ os) rt rs n rest a = by (leb maxDepth (length (o ∷ os))) refl a
     where
       by : (d : Bool) → leb maxDepth (length (o ∷ os)) ≡ d
           → Accepts final (build s es (cond d (breaks (at overDepth k) (building (o ∷ os) rt [] rs n)) (begun w k (o ∷ os) (elementNamed s w) rs n)))
-          → Derives s size final t (starts w k ∷ es) (o ∷ os) rt rs n
+          → Derives s final t (starts w k ∷ es) (o ∷ os) rt rs n
       by true e a = absurd (not-broken s final es (at overDepth k) (building (o ∷ os) rt [] rs n) a)
       by false e a = derive-child w k es t rt o os rs n (elementNamed s w) refl (nleb→lt maxDepth (length (o ∷ os)) (rw e tt)) rest a
 
   derive-end : (w : List ℕ) (k : ℕ) (es : List Event) (t : Bool) (os : List Open) (rt : Bool) (rs : List Row) (n : ℕ) → Rest false es
-      → Accepts final (build s es (endOf os w k (building os rt [] rs n))) → Derives s size final t (ends w k ∷ es) os rt rs n
+      → Accepts final (build s es (endOf os w k (building os rt [] rs n))) → Derives s final t (ends w k ∷ es) os rt rs n
   unfolding Rest
   derive-end w k es t [] rt rs n rest a = absurd (not-broken s final es (at badNesting k) (building [] rt [] rs n) a)
   derive-end w k es t (o ∷ os) rt rs n rest a = by (sameBytes w (o .name)) refl a
@@ -205,21 +204,21 @@ module _ (s : Schema) (size : ℕ) (final : List Row) where
 
       by : (d : Bool) → sameBytes w (o .name) ≡ d
           → Accepts final (build s es (cond d (building os rt misfits rs n) (breaks (at badNesting k) (building (o ∷ os) rt [] rs n))))
-          → Derives s size final t (ends w k ∷ es) (o ∷ os) rt rs n
+          → Derives s final t (ends w k ∷ es) (o ∷ os) rt rs n
       by true e a =
           element-ends (passed e) (not-not (fitsAtEnd (o .filling)) (test-free (not (fitsAtEnd (o .filling))) (at badContent (o .place)) [] (faultless-so-far es os rt misfits rs n a)))
           (rest os rt rs n (without-faults es os rt misfits rs n a))
       by false e a = absurd (not-broken s final es (at badNesting k) (building (o ∷ os) rt [] rs n) a)
 
-  derive-run : (r : Run) (l : ℕ) (es : List Event) (os : List Open) (rt : Bool) (rs : List Row) (n : ℕ) → 1 ≤ l → r .start + l ≤ size → Rest true es
-      → Accepts final (build s es (inside os r l (building os rt [] rs n))) → Derives s size final false (runs r l ∷ es) os rt rs n
+  derive-run : (r : Run) (l : ℕ) (es : List Event) (os : List Open) (rt : Bool) (rs : List Row) (n : ℕ) → r .saved < l → Rest true es
+      → Accepts final (build s es (inside os r l (building os rt [] rs n))) → Derives s final false (runs r l ∷ es) os rt rs n
   unfolding Rest
-  derive-run r l es [] rt rs n pos fits rest a = by (r .solid) refl a
+  derive-run r l es [] rt rs n pos rest a = by (r .solid) refl a
     where
-      by : (k : Option ℕ) → r .solid ≡ k → Accepts final (build s es (outside k (building [] rt [] rs n))) → Derives s size final false (runs r l ∷ es) [] rt rs n
+      by : (k : Option ℕ) → r .solid ≡ k → Accepts final (build s es (outside k (building [] rt [] rs n))) → Derives s final false (runs r l ∷ es) [] rt rs n
       by none e a = blanks-outside e (rest [] rt rs n a)
       by (some k) e a = absurd (not-broken s final es (at badNesting k) (building [] rt [] rs n) a)
-  derive-run r l es (o ∷ os) rt rs n pos fits rest a = by (o .filling) refl a
+  derive-run r l es (o ∷ os) rt rs n pos rest a = by (o .filling) refl a
     where
       refilled : List Open
       refilled = refill (withRun (isNone (r .solid))) (o ∷ os)
@@ -231,23 +230,23 @@ module _ (s : Schema) (size : ℕ) (final : List Row) where
       small h = nltb→le maxTextBytes l (not-intro (ltb maxTextBytes l) h)
 
       by : (f : Filling) → o .filling ≡ f → Accepts final (build s es (textNode f r l (o .row) (building refilled rt [] rs n)))
-          → Derives s size final false (runs r l ∷ es) (o ∷ os) rt rs n
+          → Derives s final false (runs r l ∷ es) (o ∷ os) rt rs n
       by unjudged e a = run-inside {o = o} (rw e no-text-unjudged) (rest refilled rt rs n a)
       by misfit e a = run-inside {o = o} (rw e no-text-misfit) (rest refilled rt rs n a)
       by unfilled e a = run-inside {o = o} (rw e no-text-unfilled) (rest refilled rt rs n a)
       by (filledByText x) e a =
           let fs = given too-much (at overNodeLimit (r .start)) ++ [] in
-          let row = textRow n x (o .row) (r .start) l in
+          let row = textRow n x (o .row) (r .start) l (l - r .saved) in
           let free = test-free too-much (at overNodeLimit (r .start)) [] (faultless-so-far es refilled rt fs (row ∷ rs) (suc n) a) in
-          text-inside e pos (small (λ h. free (or-left (ltb maxTextBytes l) (leb maxNodes n) h))) fits (below-limit n (λ h. free (or-right (ltb maxTextBytes l) (leb maxNodes n) h)))
+          text-inside e pos (small (λ h. free (or-left (ltb maxTextBytes l) (leb maxNodes n) h))) (below-limit n (λ h. free (or-right (ltb maxTextBytes l) (leb maxNodes n) h)))
           (rest refilled rt (row ∷ rs) (suc n) (without-faults es refilled rt fs (row ∷ rs) (suc n) a))
       by (filledByChildren q) e a = run-inside {o = o} (rw e no-text-children) (rest refilled rt rs n a)
 
   -- events in turn that are accepted in the end have a derivation
-  pub derivation : {t : Bool} {es : List Event} → InTurn size t es → (os : List Open) (rt : Bool) (rs : List Row) (n : ℕ)
-      → Accepts final (build s es (building os rt [] rs n)) → Derives s size final t es os rt rs n
+  pub derivation : {t : Bool} {es : List Event} → InTurn t es → (os : List Open) (rt : Bool) (rs : List Row) (n : ℕ)
+      → Accepts final (build s es (building os rt [] rs n)) → Derives s final t es os rt rs n
   unfolding build onEvent Rest
-  derivation {t} no-more os rt rs n a = subst (λ (l : List Row). Derives s size final t [] os rt l n) (sym (a .rows)) (rw (a .closed, a .rooted) finished)
+  derivation {t} no-more os rt rs n a = subst (λ (l : List Row). Derives s final t [] os rt l n) (sym (a .rows)) (rw (a .closed, a .rooted) finished)
   derivation {t} (start-next {w = w} {k = k} {es = es} h) os rt rs n a = derive-start w k es t os rt rs n (derivation h) a
   derivation {t} (end-next {w = w} {k = k} {es = es} h) os rt rs n a = derive-end w k es t os rt rs n (derivation h) a
-  derivation (run-next {r = r} {l = l} {es = es} p f h) os rt rs n a = derive-run r l es os rt rs n p f (derivation h) a
+  derivation (run-next {r = r} {l = l} {es = es} p h) os rt rs n a = derive-run r l es os rt rs n p (derivation h) a

@@ -61,15 +61,15 @@ without-child : (a : ℕ) {x o : Open} {os : List Open} → AllCompletable (x �
 without-child a {o = o} (and-open c (and-open d h)) = and-open (completable-child a (o .filling) d) h
 
 -- since each open element will end with a content that fits
-pub all-completable : {s : Schema} {size : ℕ} {final : List Row} {t : Bool} {es : List Event} {os : List Open} {rooted : Bool} {rs : List Row} {n : ℕ}
-    → Derives s size final t es os rooted rs n → AllCompletable os
+pub all-completable : {s : Schema} {final : List Row} {t : Bool} {es : List Event} {os : List Open} {rooted : Bool} {rs : List Row} {n : ℕ}
+    → Derives s final t es os rooted rs n → AllCompletable os
 all-completable finished = none-open
 all-completable (root-begins e l d) = none-open
 all-completable (child-begins {e = a} e m l d) = without-child a (all-completable d)
 all-completable (element-ends {o = o} e f d) = and-open (completable-end (o .filling) f) (all-completable d)
 all-completable (blanks-outside e d) = none-open
 all-completable (run-inside {r = r} e d) = without-run (isNone (r .solid)) (all-completable d)
-all-completable (text-inside {r = r} e p l f m d) = without-run (isNone (r .solid)) (all-completable d)
+all-completable (text-inside {r = r} e p l m d) = without-run (isNone (r .solid)) (all-completable d)
 
 pub parent-completable : (a : ℕ) (o : Open) {x : Open} {os : List Open} → AllCompletable (x ∷ refill (withChild (some a)) (o ∷ os)) → Completable (withChild (some a) (o .filling))
 parent-completable a o (and-open c (and-open d h)) = d

@@ -22,8 +22,9 @@ use Rattle.text_spec.specs.Bytes.{isBlank, allBlank}
 use Rattle.text_spec.specs.Limits.{maxDepth, maxNodes, maxTextBytes}
 use Rattle.text_spec.specs.Lists.{isNone, valueOr, sameBytes}
 use Rattle.text_spec.specs.Refusals.{Refusal, at, given, undeclaredElement, badContent, overNodeLimit}
+use Rattle.token_laws.specs.Characters.{decoded-size}
 use Rattle.token_laws.specs.Passes.{eventsOf, solidFrom}
-use Rattle.token_spec.specs.Characters.{savedIn}
+use Rattle.token_spec.specs.Characters.{decode, savedIn}
 use Rattle.token_spec.specs.Lexer.{run}
 use Rattle.token_spec.specs.Tokens.{Token, startTag, emptyTag, endTag, characters, spellToken, spell, openAfter}
 
@@ -37,16 +38,17 @@ pub record Held : Type 0 where
 abbrev pub held : Filling → List Refusal → List Row → ℕ → Held
 held g fs rs n = record { filling = g; faults = fs; rows = rs; count = n }
 
--- character data of so many bytes at a place, under the row p
-abbrev pub runHeld : Filling → ℕ → ℕ → ℕ → Filling → List Refusal → List Row → ℕ → Held
-runHeld (filledByText e) p k l g fs rs n = held g (given (ltb maxTextBytes l || leb maxNodes n) (at overNodeLimit k) ++ fs) (textRow n e p k l ∷ rs) (suc n)
-runHeld unjudged p k l g fs rs n = held g fs rs n
-runHeld misfit p k l g fs rs n = held g fs rs n
-runHeld unfilled p k l g fs rs n = held g fs rs n
-runHeld (filledByChildren q) p k l g fs rs n = held g fs rs n
+-- character data at a place, under the row p
+abbrev pub runHeld : Filling → ℕ → ℕ → List ℕ → Filling → List Refusal → List Row → ℕ → Held
+runHeld (filledByText e) p k w g fs rs n =
+    held g (given (ltb maxTextBytes (length w) || leb maxNodes n) (at overNodeLimit k) ++ fs) (textRow n e p k (length w) (length (decode w)) ∷ rs) (suc n)
+runHeld unjudged p k w g fs rs n = held g fs rs n
+runHeld misfit p k w g fs rs n = held g fs rs n
+runHeld unfilled p k w g fs rs n = held g fs rs n
+runHeld (filledByChildren q) p k w g fs rs n = held g fs rs n
 
 abbrev pub afterRun : ℕ → ℕ → List ℕ → Held → Held
-afterRun p k w h = runHeld (h .filling) p k (length w) (withRun (isNone (solidFrom k w)) (h .filling)) (h .faults) (h .rows) (h .count)
+afterRun p k w h = runHeld (h .filling) p k w (withRun (isNone (solidFrom k w)) (h .filling)) (h .faults) (h .rows) (h .count)
 
 -- an element begins under the row p, and ends
 abbrev pub atStart : Schema → ℕ → ℕ → Option ℕ → Held → Held
@@ -79,11 +81,11 @@ run-built s k w o os h = by (h .filling) (withRun (isNone (solidFrom k w)) (h .f
   where
     by : (f g : Filling)
         → textNode f (run k (solidFrom k w) (savedIn w)) (length w) (o .row) (building (opening (o .name) (o .place) (o .row) g ∷ os) true (h .faults) (h .rows) (h .count))
-        ≡ holding o os (runHeld f (o .row) k (length w) g (h .faults) (h .rows) (h .count))
+        ≡ holding o os (runHeld f (o .row) k w g (h .faults) (h .rows) (h .count))
     by unjudged g = refl
     by misfit g = refl
     by unfilled g = refl
-    by (filledByText e) g = refl
+    by (filledByText e) g = rw (decoded-size w)
     by (filledByChildren q) g = refl
 
 start-built : (s : Schema) (k : ℕ) (n a : List ℕ) (o : Open) (os : List Open) (h : Held) → length (o ∷ os) < maxDepth

@@ -2,7 +2,7 @@
 use mathlib.Core.Bool.{Bool, not, _||_}
 use mathlib.Core.List.{List, [], _∷_, _++_}
 use mathlib.Core.Option.{Option, none, some}
-use Prim.Native.Nat.{ℕ, suc}
+use Prim.Native.Nat.{ℕ, suc, _-_}
 use lib.Dec.{leb, ltb}
 use lib.ListN.{length}
 use Rattle.journal_spec.specs.Builder.{Filling, unjudged, misfit, unfilled, filledByText, filledByChildren, withRun, fitsAtEnd, Open, Building, building, breaks, refill, begin, onStart, endOf, outside, textNode, inside, onUnbroken, onEvent}
@@ -41,7 +41,7 @@ module _ (P : Building → Type 0) (by-ends : KeptByEnds P) where
     keep-text misfit r l p os = by-runs .run-on os
     keep-text unfilled r l p os = by-runs .run-on os
     keep-text (filledByText e) r l p os =
-        by-runs .text-on os (ltb maxTextBytes l || leb maxNodes (b .count)) (r .start) (textRow (b .count) e p (r .start) l)
+        by-runs .text-on os (ltb maxTextBytes l || leb maxNodes (b .count)) (r .start) (textRow (b .count) e p (r .start) l (l - r .saved))
     keep-text (filledByChildren q) r l p os = by-runs .run-on os
 
     pub keep-run : (os : List Open) (r : Run) (l : ℕ) → P (inside os r l b)

@@ -26,6 +26,7 @@ use Rattle.text_spec.specs.Lists.{isNone, valueOr}
 use Rattle.text_spec.specs.Refusals.{Refusal, numberOf, at, given, undeclaredElement, badContent, overNodeLimit}
 use Rattle.text_spec.specs.Texts.{SplitAt}
 use Rattle.token_laws.specs.Passes.{solidFrom}
+use Rattle.token_spec.specs.Characters.{decode}
 
 -- each element is declared, and its content fits
 abbrev pub AllFit : Schema → Forest → Type 0
@@ -61,11 +62,11 @@ no-text-child e no-text-unfilled = no-text-misfit
 no-text-child none no-text-children = no-text-misfit
 no-text-child (some a) no-text-children = no-text-children
 
-no-text-held : {g : Filling} (p k l : ℕ) (b : Filling) (fs : List Refusal) (rs : List Row) (n : ℕ) → MakesNoText g → runHeld g p k l b fs rs n ≡ held b fs rs n
-no-text-held p k l b fs rs n no-text-unjudged = refl
-no-text-held p k l b fs rs n no-text-misfit = refl
-no-text-held p k l b fs rs n no-text-unfilled = refl
-no-text-held p k l b fs rs n no-text-children = refl
+no-text-held : {g : Filling} (p k : ℕ) (w : List ℕ) (b : Filling) (fs : List Refusal) (rs : List Row) (n : ℕ) → MakesNoText g → runHeld g p k w b fs rs n ≡ held b fs rs n
+no-text-held p k w b fs rs n no-text-unjudged = refl
+no-text-held p k w b fs rs n no-text-misfit = refl
+no-text-held p k w b fs rs n no-text-unfilled = refl
+no-text-held p k w b fs rs n no-text-children = refl
 
 -- ---- nodes beyond a limit, of which m come before
 
@@ -155,7 +156,7 @@ Grows h r = (g : Refusal) → In g (h .faults) → In g (r .faults)
 
 module _ (s : Schema) (e p k : ℕ) (w : List ℕ) (f : Forest) (fs : List Refusal) (rs : List Row) (n : ℕ) (r : Held) where
   abbrev afterText : Held
-  afterText = held (filledByText e) (given (ltb maxTextBytes (length w) || leb maxNodes n) (at overNodeLimit k) ++ fs) (textRow n e p k (length w) ∷ rs) (suc n)
+  afterText = held (filledByText e) (given (ltb maxTextBytes (length w) || leb maxNodes n) (at overNodeLimit k) ++ fs) (textRow n e p k (length w) (length (decode w)) ∷ rs) (suc n)
 
   built-text : isPcdata (contentAt s e) ≡ true → BuiltAs s e p f afterText r → Grows afterText r → BuiltAs s e p (data-node k w f) (held (filledByText e) fs rs n) r
   built-text q b grows =
@@ -212,10 +213,10 @@ module _ (s : Schema) (e p k : ℕ) (w : List ℕ) (f : Forest) (fs : List Refus
       listed = rw q
 
 built-data : (s : Schema) (e p k : ℕ) (w : List ℕ) (f : Forest) {g : Filling} (fs : List Refusal) (rs : List Row) (n : ℕ) (r : Held) (b : Bool) → Suits s e g (data-node k w f)
-    → BuiltAs s e p f (runHeld g p k (length w) (withRun b g) fs rs n) r → Grows (runHeld g p k (length w) (withRun b g) fs rs n) r → BuiltAs s e p (data-node k w f) (held g fs rs n) r
+    → BuiltAs s e p f (runHeld g p k w (withRun b g) fs rs n) r → Grows (runHeld g p k w (withRun b g) fs rs n) r → BuiltAs s e p (data-node k w f) (held g fs rs n) r
 built-data s e p k w f fs rs n r b (as-text q d) x grows = built-text s e p k w f fs rs n r q x grows
 built-data s e p k w f fs rs n r b (as-other {g = g} q m) x grows =
-    built-no-text s e p k w f fs rs n r g (withRun b g) q (subst (λ (h : Held). BuiltAs s e p f h r) (no-text-held p k (length w) (withRun b g) fs rs n m) x)
+    built-no-text s e p k w f fs rs n r g (withRun b g) q (subst (λ (h : Held). BuiltAs s e p f h r) (no-text-held p k w (withRun b g) fs rs n m) x)
 
 module _ (s : Schema) (e p k : ℕ) (m : List ℕ) (c f : Forest) (h r : Held) where
   abbrev insideStart : Held
@@ -293,7 +294,7 @@ forest-built-as s e p nothing h x all = record { count-is = sym (add-zero (h .co
 forest-built-as s e p (data-node k w f) h x all =
     let b = isNone (solidFrom k w) in
     built-data s e p k w f (h .faults) (h .rows) (h .count) (afterForest s p f (afterRun p k w h)) b x
-    (forest-built-as s e p f (afterRun p k w h) (subst (λ (g : Filling). Suits s e g f) (sym (run-filling (h .filling) p k (length w) (withRun b (h .filling)) (h .faults) (h .rows) (h .count))) (suits-next b x))
+    (forest-built-as s e p f (afterRun p k w h) (subst (λ (g : Filling). Suits s e g f) (sym (run-filling (h .filling) p k w (withRun b (h .filling)) (h .faults) (h .rows) (h .count))) (suits-next b x))
     (λ k′ n′ c′ o. all k′ n′ c′ (after-data o)))
     (λ g i. forest-grows s p f (afterRun p k w h) i)
 forest-built-as s e p (element-node k n c f) h x all =

@@ -8,7 +8,6 @@ ghost use Rattle.journal_lexer.specs.whole_texts.Runs.{runMode, Fresh, C
 ghost use Rattle.text_spec.specs.Lists.{valueOr};
 ghost use Rattle.token_spec.specs.Texts.{decodedSize};
 use crate::data_loops;
-use crate::kinds;
 use crate::kinds::LESS;
 use crate::state;
 use crate::state::AFTER_BRACKETS;
@@ -66,7 +65,8 @@ fn read_run(text: &[u8], kinds: &[u8; 256], places: &mut [u32; 5]) -> Lex
         let b = text[at];
         let c = kinds[b as usize];
         let next = step::data_step(places, s, b, c);
-        let skipped = skip_plain(text, kinds, next);
+        let entity = data_loops::entity_run(text, kinds, places, next);
+        let skipped = skip_plain(text, kinds, entity);
         s = skipped;
     }
     s
@@ -100,13 +100,4 @@ pub fn decoded_size_by(text: &[u8], kinds: &[u8; 256]) -> usize
     let mut places = [0u32, 0u32, NONE, NONE, 0u32];
     let l = read_run(text, kinds, &mut places);
     run_size(text.len(), &places, l)
-}
-
-// The same with a table of its own, which costs 256 steps: who judges many texts lends one.
-pub fn decoded_size(text: &[u8]) -> usize
-    requires { ⌜ length (now text) < noPlace ⌝ }
-    ensures { λ r. ⌜ r ≡ valueOr 0 (decodedSize (now (text .entry))) ⌝ }
-{
-    let table = kinds::all_kinds();
-    decoded_size_by(text, &table)
 }

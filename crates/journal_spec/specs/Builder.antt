@@ -2,7 +2,7 @@
 use mathlib.Core.Bool.{Bool, true, false, cond, not, _||_}
 use mathlib.Core.List.{List, [], _∷_, _++_}
 use mathlib.Core.Option.{Option, none, some}
-use Prim.Native.Nat.{ℕ, suc}
+use Prim.Native.Nat.{ℕ, suc, _-_}
 use lib.Dec.{eqb, leb, ltb}
 use lib.ListN.{length}
 use Rattle.schema_spec.specs.Models.{Content, empty, pcdata, children, Progress, started, advance, complete}
@@ -132,12 +132,13 @@ abbrev pub outside : Option ℕ → Building → Building
 outside none b = b
 outside (some k) b = breaks (at badNesting k) b
 
--- "in `(#PCDATA)` the whole non-empty text is one node"
+-- "in `(#PCDATA)` the whole non-empty text is one node". Its decoded length is what its entities leave of its length; "The 4,096 limit still counts raw bytes"
+-- (document 02, R-2).
 abbrev pub textNode : Filling → Run → ℕ → ℕ → Building → Building
 textNode (filledByText e) r size parent b =
     building (b .opens) (b .rooted)
     (given (ltb maxTextBytes size || leb maxNodes (b .count)) (at overNodeLimit (r .start)) ++ b .faults)
-    (textRow (b .count) e parent (r .start) size ∷ b .rows)
+    (textRow (b .count) e parent (r .start) size (size - r .saved) ∷ b .rows)
     (suc (b .count))
 textNode unjudged r size parent b = b
 textNode misfit r size parent b = b

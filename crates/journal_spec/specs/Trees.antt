@@ -10,6 +10,7 @@ use Rattle.table_spec.specs.Nodes.{Node, top, under}
 use Rattle.table_spec.specs.Rows.{Row, elementRow, textRow}
 use Rattle.text_spec.specs.Bytes.{allBlank}
 use Rattle.text_spec.specs.Lists.{valueOr}
+use Rattle.token_spec.specs.Characters.{decode}
 use Rattle.token_spec.specs.Tokens.{Token, startTag, emptyTag, endTag, characters, spell, spellToken, Tokens}
 
 -- A forest as first child and next sibling: nothing; character data, with its place, and what follows; or an element, with the place
@@ -67,11 +68,11 @@ countIn s e nothing = 0
 countIn s e (data-node k w f) = cond (isPcdata (contentAt s e)) (suc (countIn s e f)) (countIn s e f)
 countIn s e (element-node k n c f) = suc (countIn s (indexOf s n) c) + countIn s e f
 
--- The nodes of a forest under a parent, in document order, numbered from `next`; `e` is the parent's element.
+-- The nodes of a forest under a parent, in document order, numbered from `next`; `e` is the parent's element. A text's node has the characters that it stands for.
 abbrev pub nodesUnder : Schema → ℕ → Node → ℕ → Forest → List Node
 nodesUnder s e p next nothing = []
 nodesUnder s e p next (data-node k w f) =
-    cond (isPcdata (contentAt s e)) (under next (text e) w p ∷ nodesUnder s e p (suc next) f) (nodesUnder s e p next f)
+    cond (isPcdata (contentAt s e)) (under next (text e) (decode w) p ∷ nodesUnder s e p (suc next) f) (nodesUnder s e p next f)
 nodesUnder s e p next (element-node k n c f) =
     let i = indexOf s n in
     let y = under next (element i) [] p in
@@ -89,7 +90,7 @@ abbrev pub rowsUnder : Schema → ℕ → ℕ → ℕ → Forest → List Row
 rowsUnder s e parent next nothing = []
 rowsUnder s e parent next (data-node k w f) =
     cond (isPcdata (contentAt s e))
-    (textRow next e parent k (length w) ∷ rowsUnder s e parent (suc next) f)
+    (textRow next e parent k (length w) (length (decode w)) ∷ rowsUnder s e parent (suc next) f)
     (rowsUnder s e parent next f)
 rowsUnder s e parent next (element-node k n c f) =
     let i = indexOf s n in

@@ -55,8 +55,8 @@ cases =
     ∷ case (selectsNodes recordS recordT 2 lentJ cutOff 5 3) (noSelection 5 3 1)
     ∷ case (selectsNodes recordS recordS 2 lentJ journalJ 5 3) (noSelection 5 3 1)
     ∷ case (selectsNodes emptyRecord recordT 2 lentJ journalJ 5 3) (noSelection 5 3 1)
-    -- the text of a row: its start, its length and its bytes; an element has none
-    ∷ case (givesText recordS lentJ journalJ 5) (leaves (exit 0 0 ((32 ∷ 2 ∷ []) ∷ bytes "12" ∷ [])))
+    -- the text of a row: its start, its length, its decoded length and its bytes; an element has none
+    ∷ case (givesText recordS lentJ journalJ 5) (leaves (exit 0 0 ((32 ∷ 2 ∷ 2 ∷ []) ∷ bytes "12" ∷ [])))
     ∷ case (givesText recordS lentJ journalJ 6) (leaves (exit 0 0 ([] ∷ [] ∷ [])))
     ∷ case (givesText recordS lentJ journalJ 7) (leaves (exit 1 0 ([] ∷ [] ∷ [])))
     ∷ case (givesText recordS lentJ cutOff 0) (leaves (exit 1 0 ([] ∷ [] ∷ [])))

@@ -93,14 +93,14 @@ nodesSelected schema bundle place table lent items counts =
     inRoom (tooSmall items (a .items) || tooSmall counts (a .counts)) a))))
 
 -- ---- one row
--- what a row has of text: nothing, or where it starts and its length
+-- what a row has of text: nothing, or where it starts, its length and its decoded length
 pub data RowText : Type 0 where
   noText : RowText
-  textAt : ℕ → ℕ → RowText
+  textAt : ℕ → ℕ → ℕ → RowText
 
 abbrev pub textOfRow : Name → Row → RowText
 textOfRow (element e) r = noText
-textOfRow (text e) r = textAt (r .start) (r .size)
+textOfRow (text e) r = textAt (r .start) (r .size) (r .decoded)
 
 -- The text of a row. Handed in: a schema's record, a table and the text beside it, a row's position.
 unfoldable pub rowText : TextRecord → LentTable → List ℕ → ℕ → Outcome RowText
@@ -110,7 +110,7 @@ rowText schema table lent position =
 -- "The text of a row is handed back as that part of the journal": empty for an element and on refusal
 abbrev pub partOf : List ℕ → RowText → List ℕ
 partOf lent noText = []
-partOf lent (textAt start size) = part start size lent
+partOf lent (textAt start size decoded) = part start size lent
 
 unfoldable pub partAfter : List ℕ → Outcome RowText → List ℕ
 partAfter lent (accepted t) = partOf lent t

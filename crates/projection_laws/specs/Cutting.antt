@@ -17,7 +17,7 @@ use Rattle.table_laws.specs.Fits.{RowFits, row-fits, fits-row, Rooted, rooted, 
 use Rattle.table_laws.specs.Nodes.{nodes-equal, equal-same, test-above, above-test}
 use Rattle.table_laws.specs.Places.{at-in}
 use Rattle.table_spec.specs.Nodes.{Node, top, under, nameOf, nodeNumber, same, Edge, edge, Above, parent, higher, isAbove, attachTo, nodeAt, nodesFrom, nodesOf}
-use Rattle.table_spec.specs.Rows.{Row, textOf, withParent}
+use Rattle.table_spec.specs.Rows.{Row, charactersOf, withParent}
 use Rattle.table_spec.specs.Tables.{parentOpen, parentHolds, sameParent, firstText, textFits, rowFits, laterRows, wellFormed, textInside, wellFormedWith}
 use Rattle.text_laws.specs.Lists.{filter-append, filter-in, any-in, in-any}
 use Rattle.text_laws.specs.Tests.{or-left, or-right, or-cases, and-intro, and-cases, not-intro, not-elim, passed}
@@ -38,8 +38,8 @@ kept-parent set k n w p o e t = and-cases (has n set) (kept set p) (subst (λ (z
 renumbered-node : (set : Names) (lent : List ℕ) (before : List Node) (r : Row) (p : Node) → getElem? before (r .parent) ≡ some p → T (kept set (nodeAt lent before r))
     → nodeAt lent (filterBy (kept set) before) (renumbered set before r) ≡ nodeAt lent before r
 renumbered-node set lent before r p e t =
-    ap (attachTo (r .number) (r .name) (textOf lent r))
-    (filtered-at (kept set) before (r .parent) p e (kept-parent set (r .number) (r .name) (textOf lent r) p (getElem? before (r .parent)) e t) ∙ sym e)
+    ap (attachTo (r .number) (r .name) (charactersOf lent r))
+    (filtered-at (kept set) before (r .parent) p e (kept-parent set (r .number) (r .name) (charactersOf lent r) p (getElem? before (r .parent)) e t) ∙ sym e)
 
 -- a parent's new row is counted alike with texts and without
 take-map : {A B : Type 0} (f : A → B) (i : ℕ) (xs : List A) → take i (map f xs) ≡ map f (take i xs)
@@ -182,10 +182,10 @@ cut-later s set before previous last (r ∷ rs) inv le t =
     f = row-fits s before previous r y (c .0)
 
     h : (p : Node) × (getElem? before (r .parent) ≡ some p)
-    h = under-of (r .number) (r .name) (textOf [] r) s (getElem? before (r .parent)) (f .held)
+    h = under-of (r .number) (r .name) (charactersOf [] r) s (getElem? before (r .parent)) (f .held)
 
-    e : y ≡ under (r .number) (r .name) (textOf [] r) (h .0)
-    e = ap (attachTo (r .number) (r .name) (textOf [] r)) (h .1)
+    e : y ≡ under (r .number) (r .name) (charactersOf [] r) (h .0)
+    e = ap (attachTo (r .number) (r .name) (charactersOf [] r)) (h .1)
 
     opened : OpenAt (h .0) previous
     opened = test-open (h .0) previous (subst (λ (z : Node). T (parentOpen previous z)) e (f .isOpen))
@@ -216,7 +216,7 @@ cut-later s set before previous last (r ∷ rs) inv le t =
       where
         fits : kept set y ≡ true → T (rowFits s (filterBy (kept set) before) last (renumbered set before r) y)
         fits q =
-            let pk : T (kept set (h .0)) = kept-parent set (r .number) (r .name) (textOf [] r) (h .0) (getElem? before (r .parent)) (h .1) (passed q) in
+            let pk : T (kept set (h .0)) = kept-parent set (r .number) (r .name) (charactersOf [] r) (h .0) (getElem? before (r .parent)) (h .1) (passed q) in
             let po : T (parentOpen last y) = subst (λ (z : Node). T (parentOpen last z)) (sym e) (open-test (h .0) last (inv (h .0) pk opened)) in
             fits-row s (filterBy (kept set) before) last (renumbered set before r) y
             (record {
@@ -240,7 +240,7 @@ none-kept s set before (r ∷ rs) nowhere (next-row p e h g) = pick (kept set y)
     y = nodeAt [] before r
 
     not-y : T (kept set y) → ⊥
-    not-y t = nowhere p (at-in before (r .parent) p e) (kept-parent set (r .number) (r .name) (textOf [] r) p (getElem? before (r .parent)) e t)
+    not-y t = nowhere p (at-in before (r .parent) p e) (kept-parent set (r .number) (r .name) (charactersOf [] r) p (getElem? before (r .parent)) e t)
 
     more : (z : Node) → In z (before ++ (y ∷ [])) → T (kept set z) → ⊥
     more z i t = ⊎-elim (λ j. nowhere z j t) last (append-cases before i)

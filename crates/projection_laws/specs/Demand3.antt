@@ -15,7 +15,7 @@ use Rattle.extract_spec.specs.Cut.{cut, cutToWord}
 use Rattle.extract_spec.specs.Fields.{extractRows}
 use Rattle.extract_spec.specs.Reading.{readExtract}
 use Rattle.inference_spec.specs.Needed.{neededByPath, needed}
-use Rattle.journal_laws.specs.Accepted.{accepted-well-formed}
+use Rattle.journal_laws.specs.TreeNodes.{accepted-well-formed}
 use Rattle.journal_laws.specs.Judging.Meaning.{journal-judged-once}
 use Rattle.library_spec.specs.Conditions.{SchemaTaken, BundleTaken, JournalTaken, Makes}
 use Rattle.library_spec.specs.Hosts.{HostAnswer, hostAnswer, Lent, inLent, extractOf, makeExtract, bundlePaths, selectFrom, resultOf}

@@ -31,5 +31,6 @@ pub mod ReadBack
 pub mod RoundTrip
 pub mod SameTables
 pub mod WrittenBytes
+pub mod DecodedTexts
 pub mod Demand3
 pub mod extract_passes

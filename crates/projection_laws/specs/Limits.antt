@@ -39,6 +39,7 @@ use Rattle.text_spec.specs.Lists.{bytes}
 use Rattle.text_spec.specs.Records.{TextRecord}
 use Rattle.text_spec.specs.Refusals.{Reason, badRecord, badLength, numberOf, Refusal, at, Outcome, accepted, refused, andThen, Judged}
 use Rattle.text_spec.specs.Texts.{LengthApplies}
+use Rattle.token_spec.specs.Characters.{decode}
 
 -- ---- schema texts of 8,192 bytes
 module _ (text : List ℕ) where
@@ -86,7 +87,7 @@ starts-of-rows s e parent next (data-node k w f) =
     pick (isPcdata (contentAt s e)) (starts-of-rows s e parent (suc next) f) (starts-of-rows s e parent next f)
   where
     pick : (b : Bool) → length (rowsUnder s e parent (suc next) f) ≡ length (startsUnder s e f) → length (rowsUnder s e parent next f) ≡ length (startsUnder s e f)
-        → length (cond b (textRow next e parent k (length w) ∷ rowsUnder s e parent (suc next) f) (rowsUnder s e parent next f))
+        → length (cond b (textRow next e parent k (length w) (length (decode w)) ∷ rowsUnder s e parent (suc next) f) (rowsUnder s e parent next f))
         ≡ length (cond b (record { place = k; bytes = length w } ∷ startsUnder s e f) (startsUnder s e f))
     pick true one none = ap suc one
     pick false one none = none

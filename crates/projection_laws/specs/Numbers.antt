@@ -8,7 +8,7 @@ use lib.ListN.{length, getElem?}
 use Rattle.schema_spec.specs.Types.{Types}
 use Rattle.table_laws.specs.Fits.{attached-number, row-fits, rooted}
 use Rattle.table_spec.specs.Nodes.{Node, top, nodeNumber, nodeAt, nodesFrom, nodesOf}
-use Rattle.table_spec.specs.Rows.{Row, textOf}
+use Rattle.table_spec.specs.Rows.{Row, charactersOf}
 use Rattle.table_spec.specs.Tables.{rowFits, laterRows, wellFormed}
 use Rattle.text_laws.specs.Tests.{and-cases}
 
@@ -38,7 +38,7 @@ rising-known (next-node h r) (there i) (here f) q =
 rising-known (next-node h r) (there i) (there j) q = rising-known r i j q
 
 row-number : (lent : List ℕ) (before : List Node) (r : Row) → nodeNumber (nodeAt lent before r) ≡ r .number
-row-number lent before r = attached-number (r .number) (r .name) (textOf lent r) (getElem? before (r .parent))
+row-number lent before r = attached-number (r .number) (r .name) (charactersOf lent r) (getElem? before (r .parent))
 
 -- the nodes that are tested have no texts, and the same numbers
 later-rising : (s : Types) (lent : List ℕ) (tested before : List Node) (previous : Node) (k : ℕ) (rs : List Row) → nodeNumber previous ≡ k

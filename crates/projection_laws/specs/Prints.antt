@@ -4,7 +4,7 @@ use mathlib.Core.List.{List}
 use mathlib.Core.Path.{_≡_, sym, ap, subst}
 use Prim.Native.Nat.{ℕ}
 use lib.Dec.{T}
-use Rattle.journal_laws.specs.Accepted.{accepted-well-formed}
+use Rattle.journal_laws.specs.TreeNodes.{accepted-well-formed}
 use Rattle.journal_laws.specs.Judging.Meaning.{journal-judged-once}
 use Rattle.journal_spec.specs.Reading.{readJournal}
 use Rattle.library_spec.specs.Conditions.{FilesJudged, Lists, Prints, prints-refusal, prints-lists}

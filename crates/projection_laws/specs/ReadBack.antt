@@ -14,6 +14,7 @@ use Rattle.projection_laws.specs.Fields.{AreBytes, two-bytes-written, te
 use Rattle.projection_laws.specs.Items.{opensAfter, rowAt, restWritten}
 use Rattle.projection_laws.specs.Opens.{placed}
 use Rattle.schema_spec.specs.Names.{element, text, Name}
+use Rattle.table_laws.specs.Characters.{copied-characters}
 use Rattle.table_laws.specs.Places.{none-some, at-before, at-end}
 use Rattle.table_spec.specs.Rows.{Row, elementRow, textRow}
 use Rattle.text_laws.specs.Tests.{never}
@@ -138,7 +139,7 @@ text-under : (k number parent size next : ℕ) (os : List Placed) (items : List 
 text-under k number parent size next os items rs r = under-read (λ q. text (q .element)) k number parent size next os items rs (same (openFrom parent os) ∙ r)
   where
     same : (x : List Placed) → consedUnder (λ q. text (q .element)) k number size next items x
-        ≡ cond (isEmpty x) none (consRow (textRow number (topElement x) (topRow x) (k + 3 + 4) size) (rowsOfLaterItems (suc next) x items))
+        ≡ cond (isEmpty x) none (consRow (textRow number (topElement x) (topRow x) (k + 3 + 4) size size) (rowsOfLaterItems (suc next) x items))
     same [] = refl
     same (q ∷ qs) = refl
 
@@ -204,7 +205,7 @@ module _ (full : List ℕ) (all : List Row) where
       under-back (λ q. element e) tag high low a b c d k 0 value (e ∷ []) rest v l small items later done rs os split known (λ q. rw t)
       (element-under k (inTwo a b) (inTwo c d) 0 (length done) e os items rs read)
   field-back tag high low k pre value rest i (a-text {a} {b} {c} {d} w t v) l small whole place items ends later done rs os split known read =
-      under-back (λ q. text (q .element)) tag high low a b c d k (length w) value w rest v l small items later done rs os split known (λ q. rw (t, cut))
+      under-back (λ q. text (q .element)) tag high low a b c d k (length w) value w rest v l small items later done rs os split known (λ q. rw (t, copied-characters full (rowAt (text (q .element)) k (inTwo a b) (q .row) (length w)) refl ∙ cut))
       (text-under k (inTwo a b) (inTwo c d) (length w) (length done) os items rs read)
     where
       cut : part (k + 3 + 4) (length w) full ≡ w

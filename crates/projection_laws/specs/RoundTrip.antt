@@ -1,4 +1,4 @@
--- An extract written and read returns its rows but for text starts; one read and written returns its bytes.
+-- An extract written and read returns its rows but for text starts and raw lengths; one read and written returns its bytes.
 use mathlib.Core.Bool.{Bool, true, false, not}
 use mathlib.Core.List.{List, [], _∷_, _++_}
 use mathlib.Core.Logic.{_⊎_, inl, inr, ⊎-elim}
@@ -12,7 +12,7 @@ use Rattle.extract_spec.specs.Conditions.{IsExtract, ExtractApplies, length-2, 
 use Rattle.extract_spec.specs.Fields.{countTag, twoBytes, field, fieldOf, writeExtract, extractRows}
 use Rattle.extract_spec.specs.Reading.{itemsOf, rowsOfItems, readExtract, isTable, rowsOr}
 use Rattle.projection_laws.specs.Fields.{AreBytes}
-use Rattle.projection_laws.specs.Moved.{same-rows, same-all-inside, root-moved}
+use Rattle.projection_laws.specs.Moved.{same-rows, same-all-inside, rows-copied, root-moved}
 use Rattle.projection_laws.specs.ReadBack.{fields-back}
 use Rattle.projection_laws.specs.TextNames.{text-names}
 use Rattle.projection_laws.specs.Written.{written-long, table-items}
@@ -38,7 +38,7 @@ accept s bs rows h e t =
     let full : isEmpty bs ≡ false = false-of (isEmpty bs) (λ u. let z = ap length (empty-of {xs = bs} u) in omega arith) in
     rw (e, true-of (wellFormedWith s bs rows) t, full) (judged-free [] rows refl)
 
--- a table and the rows as they stand in its extract, each beside its text: the same but for text starts, and well formed
+-- a table and the rows as they stand in its extract, each beside its text: the same but for text starts and raw lengths, and well formed
 module _ (s : Types) (lent : List ℕ) (rows : List Row) (t : T (wellFormedWith s lent rows)) where
   parts : T (wellFormed s rows) × T (allOf (textInside lent) rows)
   unfolding wellFormedWith
@@ -52,9 +52,10 @@ module _ (s : Types) (lent : List ℕ) (rows : List Row) (t : T (wellFormedWith 
   unfolding wellFormedWith extractRows
   extract-well-formed =
       and-intro (wellFormed s (extractRows lent rows)) (allOf (textInside (writeExtract lent rows)) (extractRows lent rows)) (root-moved s (fieldOf lent rows) 0 rows (parts .0))
-      (same-all-inside extract-same-tables (all-cells s rows (parts .0)) (parts .1))
+      (same-all-inside extract-same-tables (rows-copied (fieldOf lent rows) 0 rows) (all-cells s rows (parts .0)) (parts .1))
 
--- "Writing a table and reading it returns the rows but for text starts": each text starts at its bytes in the extract.
+-- Document 02, R-2: "Rows written and read return but for text starts and raw lengths": each text starts at its characters in the extract, and its lengths are
+-- their number.
 pub write-read : (s : Schema) (lent : List ℕ) (rows : List Row) → T (wellFormedWith (typesOf s) lent rows)
     → readExtract (typesOf s) (writeExtract lent rows) ≡ accepted (extractRows lent rows)
 unfolding writeExtract

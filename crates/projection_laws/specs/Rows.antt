@@ -6,16 +6,16 @@ use mathlib.Core.Option.{Option, none, some}
 use mathlib.Core.Path.{_≡_, refl, sym, ap, subst, _∙_}
 use Prim.Native.Nat.{ℕ, zero, suc}
 use lib.Dec.{T}
-use lib.ListN.{length, take, drop, getElem?}
-use lib.Seq.{take-nil}
+use lib.ListN.{length, take, getElem?}
 use Rattle.extract_spec.specs.Cut.{kept}
 use Rattle.projection_laws.specs.Documents.{Valid, AllValid}
 use Rattle.schema_spec.specs.Names.{Name, Names, has}
 use Rattle.schema_spec.specs.Types.{Types}
+use Rattle.table_laws.specs.Characters.{no-characters}
 use Rattle.table_laws.specs.Fits.{row-fits, rooted}
 use Rattle.table_laws.specs.Places.{at-in}
 use Rattle.table_spec.specs.Nodes.{Node, top, under, nameOf, attachTo, nodeAt, nodesFrom, nodesOf}
-use Rattle.table_spec.specs.Rows.{Row, textOf}
+use Rattle.table_spec.specs.Rows.{Row, charactersOf}
 use Rattle.table_spec.specs.Tables.{parentHolds, rowFits, laterRows, wellFormed}
 use Rattle.text_laws.specs.Tests.{and-cases}
 use Rattle.text_spec.specs.Lists.{filterBy}
@@ -63,18 +63,14 @@ pub bare-kept : (set : Names) (y : Node) → kept set (bare y) ≡ kept set y
 bare-kept set (top k n) = refl
 bare-kept set (under k n w p) = ap (λ (b : Bool). has n set && b) (bare-kept set p)
 
-part-of-nothing : (i j : ℕ) → take j (drop {A = ℕ} i []) ≡ []
-part-of-nothing zero j = take-nil j
-part-of-nothing (suc i) j = take-nil j
-
 pub bare-attached : (k : ℕ) (n : Name) (u w : List ℕ) → u ≡ [] → (o : Option Node) → attachTo k n u (mapOption bare o) ≡ bare (attachTo k n w o)
 bare-attached k n u w e none = refl
 bare-attached k n u w e (some p) = ap (λ (v : List ℕ). under k n v (bare p)) e
 
 pub bare-node : (lent : List ℕ) (before : List Node) (r : Row) → nodeAt [] (map bare before) r ≡ bare (nodeAt lent before r)
 bare-node lent before r =
-    ap (attachTo (r .number) (r .name) (textOf [] r)) (at-map bare before (r .parent))
-    ∙ bare-attached (r .number) (r .name) (textOf [] r) (textOf lent r) (part-of-nothing (r .start) (r .size)) (getElem? before (r .parent))
+    ap (attachTo (r .number) (r .name) (charactersOf [] r)) (at-map bare before (r .parent))
+    ∙ bare-attached (r .number) (r .name) (charactersOf [] r) (charactersOf lent r) (no-characters r) (getElem? before (r .parent))
 
 pub bare-filter : (set : Names) (xs : List Node) → filterBy (kept set) (map bare xs) ≡ map bare (filterBy (kept set) xs)
 bare-filter set [] = refl
@@ -104,8 +100,8 @@ later-grown s lent before previous (r ∷ rs) t =
     let c = and-cases (rowFits s (map bare before) previous r y) (laterRows s (map bare before ++ (y ∷ [])) y rs) t in
     let f = row-fits s (map bare before) previous r y (c .0) in
     let h =
-    held-under s (r .number) (r .name) (textOf [] r) (getElem? before (r .parent))
-    (subst (λ (o : Option Node). T (parentHolds s (attachTo (r .number) (r .name) (textOf [] r) o))) (at-map bare before (r .parent)) (f .held)) in
+    held-under s (r .number) (r .name) (charactersOf [] r) (getElem? before (r .parent))
+    (subst (λ (o : Option Node). T (parentHolds s (attachTo (r .number) (r .name) (charactersOf [] r) o))) (at-map bare before (r .parent)) (f .held)) in
     let more : map bare before ++ (y ∷ []) ≡ map bare (before ++ (nodeAt lent before r ∷ [])) =
     ap (λ (z : Node). map bare before ++ (z ∷ [])) (bare-node lent before r) ∙ sym (map-append bare before (nodeAt lent before r ∷ [])) in
     next-row (h .0) (h .1) (h .2)
@@ -123,7 +119,7 @@ grown-valid : (s : Types) (lent : List ℕ) (before : List Node) (rs : List Row)
 grown-valid s lent before [] ok no-rows y i = elim i [ ]
 grown-valid s lent before (r ∷ rs) ok (next-row p e h g) y i =
     let v : Valid s (nodeAt lent before r) =
-    subst (λ (o : Option Node). Valid s (attachTo (r .number) (r .name) (textOf lent r) o)) (sym e) (h, ok p (at-in before (r .parent) p e)) in
+    subst (λ (o : Option Node). Valid s (attachTo (r .number) (r .name) (charactersOf lent r) o)) (sym e) (h, ok p (at-in before (r .parent) p e)) in
     pick v i (grown-valid s lent (before ++ (nodeAt lent before r ∷ [])) rs (one-more-valid s before (nodeAt lent before r) ok v) g y)
   where
     pick : Valid s (nodeAt lent before r) → In y (nodesFrom lent before (r ∷ rs)) → (In y (nodesFrom lent (before ++ (nodeAt lent before r ∷ [])) rs) → Valid s y) → Valid s y

@@ -1,9 +1,9 @@
--- Tables that are the same but for text starts have the same nodes, so an extract has the nodes of the table it was written from.
+-- Tables that are the same but for text starts and raw lengths have the same nodes, so an extract has the nodes of the table it was written from.
 use mathlib.Core.List.{List, [], _∷_, _++_}
 use mathlib.Core.Path.{_≡_, refl, sym, ap, _∙_}
 use Prim.Native.Nat.{ℕ}
 use lib.Dec.{T}
-use Rattle.extract_spec.specs.Conditions.{SameButStarts, SameTables, no-rows, next-row}
+use Rattle.extract_spec.specs.Conditions.{SameButRawText, SameTables, no-rows, next-row}
 use Rattle.extract_spec.specs.Fields.{writeExtract, extractRows}
 use Rattle.extract_spec.specs.Reading.{readExtract}
 use Rattle.path_spec.specs.Paths.{LocationPath}
@@ -12,10 +12,10 @@ use Rattle.projection_laws.specs.RoundTrip.{extract-same-tables, write-r
 use Rattle.schema_spec.specs.Schemas.{Schema}
 use Rattle.schema_spec.specs.Types.{Types, typesOf}
 use Rattle.table_spec.specs.Nodes.{Node, nodeAt, nodesFrom, nodesOf}
-use Rattle.table_spec.specs.Rows.{Row, textOf}
+use Rattle.table_spec.specs.Rows.{Row, charactersOf}
 use Rattle.table_spec.specs.Tables.{wellFormedWith}
 
-same-node : (lent lent′ : List ℕ) {q r : Row} (before : List Node) → SameButStarts q r → textOf lent q ≡ textOf lent′ r
+same-node : (lent lent′ : List ℕ) {q r : Row} (before : List Node) → SameButRawText q r → charactersOf lent q ≡ charactersOf lent′ r
     → nodeAt lent before q ≡ nodeAt lent′ before r
 same-node lent lent′ before c w = rw (w, c .number, c .name, c .parent)
 

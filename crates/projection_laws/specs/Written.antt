@@ -18,7 +18,7 @@ use Rattle.schema_spec.specs.Types.{Types}
 use Rattle.table_laws.specs.Fits.{attached-number, RowFits, row-fits, Rooted, rooted, Fitting, fitting}
 use Rattle.table_laws.specs.Places.{at-before, at-end}
 use Rattle.table_spec.specs.Nodes.{Node, top, under, nodeNumber, nameOf, nodeAt}
-use Rattle.table_spec.specs.Rows.{Row, textOf}
+use Rattle.table_spec.specs.Rows.{Row, charactersOf}
 use Rattle.table_spec.specs.Tables.{wellFormed, rowFits, laterRows, textInside}
 use Rattle.text_laws.specs.Tests.{and-cases, cond-true}
 use Rattle.text_spec.specs.Limits.{maxNodes}
@@ -41,13 +41,13 @@ module _ (s : Types) (law : TextNames s) (lent : List ℕ) (all : List Row) wher
   read-row done rs rs′ before previous os r next fuel k c e n b fits g inside later =
       let f = fieldOf lent all r in
       let after = restWritten lent all rs in
-      let w = textOf lent r in
+      let w = charactersOf lent r in
       let up = parentNumber all r in
       ap (λ (l : List ℕ). rowsOfLaterItems next os (itemsFrom (suc fuel) k l)) (append-assoc f (gather (fieldOf lent all) rs) (field countTag (twoBytes (length all))))
       ∙ ap (rowsOfLaterItems next os) (field-item (r .name) fuel k (r .number) up w after (omega arith) (omega (arith, parent-number, low))
       (omega (arith, held .size, held .short)))
       ∙ item-row (r .name) k (r .number) up (length w) next os first rest (itemsFrom fuel (k + length f) after) rs′ found named (later _ reached)
-      ∙ ap {B = Option (List Row)} (λ (q : Row). some (q ∷ rs′)) (rw (place, held .size, held .ofName, held .equalLengths))
+      ∙ ap {B = Option (List Row)} (λ (q : Row). some (q ∷ rs′)) (rw (place, held .size, held .ofName))
     where
       p : Node
       p = g .parent
@@ -94,19 +94,19 @@ module _ (s : Types) (law : TextNames s) (lent : List ℕ) (all : List Row) wher
           let known : nameOf p ≡ element (first .element) = parentOpened .5 in
           cc
 
-      node : y ≡ under (r .number) (r .name) (textOf [] r) p
+      node : y ≡ under (r .number) (r .name) (charactersOf [] r) p
       node = rw (g .parentAt)
 
       grown : List Node
       grown = before ++ (y ∷ [])
 
-      last : getElem? grown next ≡ some (under (r .number) (r .name) (textOf [] r) p)
+      last : getElem? grown next ≡ some (under (r .number) (r .name) (charactersOf [] r) p)
       last = ap (getElem? grown) (n ∙ sym (same-count done before (c .numbers))) ∙ at-end before y [] ∙ ap {B = Option Node} some node
 
       opened : Opens grown y (opensAfter (r .name) next (r .number) (first ∷ rest))
       opened =
           subst₂ (λ (z : Node) (l : List Placed). Opens grown z (opensAfter (r .name) next (r .number) l)) (sym node) (parentOpened .3)
-          (opens-after (r .name) grown (r .number) next (textOf [] r) p (above .0) (opens-grow y (above .2)) (omega (arith, low, fits .rises)) last)
+          (opens-after (r .name) grown (r .number) next (charactersOf [] r) p (above .0) (opens-grow y (above .2)) (omega (arith, low, fits .rises)) last)
 
       reached : ReachedRows (done ++ (r ∷ [])) grown y (opensAfter (r .name) next (r .number) (first ∷ rest))
       reached = reached-next c r y (opensAfter (r .name) next (r .number) (first ∷ rest)) (ap nodeNumber node) (fits .rises) opened
@@ -126,7 +126,7 @@ module _ (s : Types) (law : TextNames s) (lent : List ℕ) (all : List Row) wher
       let v = and-cases (textInside lent r) (allOf (textInside lent) rs) i in
       let fits = row-fits s before previous r y (u .0) in
       let place = k + length (fieldOf lent all r) in
-      let small : nodeNumber y < maxNodes = rw (attached-number (r .number) (r .name) (textOf [] r) (getElem? before (r .parent))) (fits .small) in
+      let small : nodeNumber y < maxNodes = rw (attached-number (r .number) (r .name) (charactersOf [] r) (getElem? before (r .parent))) (fits .small) in
       read-row done rs (rowsAt (fieldOf lent all) place rs) before previous os r next fuel k c e n b fits (fitting s before previous r fits) (v .0)
       (λ os′ c′.
       read-later (done ++ (r ∷ [])) rs (before ++ (y ∷ [])) y os′ (suc next) fuel place c′ (e ∙ sym (append-assoc done (r ∷ []) rs))
@@ -140,7 +140,7 @@ count-bound s before previous (r ∷ rs) m t h b =
     let y = nodeAt [] before r in
     let u = and-cases (rowFits s before previous r y) (laterRows s (before ++ (y ∷ [])) y rs) t in
     let g = row-fits s before previous r y (u .0) in
-    let k : nodeNumber y ≡ r .number = attached-number (r .number) (r .name) (textOf [] r) (getElem? before (r .parent)) in
+    let k : nodeNumber y ≡ r .number = attached-number (r .number) (r .name) (charactersOf [] r) (getElem? before (r .parent)) in
     let l = g .rises in
     let d = g .small in
     let i = count-bound s (before ++ (y ∷ [])) y rs (suc m) (u .1) (omega arith) (omega arith) in
@@ -154,7 +154,7 @@ field-long (text e) number parent w = omega arith
 fields-long : (lent : List ℕ) (all rs : List Row) → length rs ≤ length (gather (fieldOf lent all) rs)
 fields-long lent all [] = omega arith
 fields-long lent all (r ∷ rs) =
-    let one = field-long (r .name) (r .number) (parentNumber all r) (textOf lent r) in
+    let one = field-long (r .name) (r .number) (parentNumber all r) (charactersOf lent r) in
     omega (arith, fields-long lent all rs, length-append (fieldOf lent all r) (gather (fieldOf lent all) rs))
 
 -- a whole well-formed table, written and read
@@ -162,13 +162,13 @@ read-table : (s : Types) → TextNames s → (lent : List ℕ) (r : Row) (rs : L
     → length rs < fuel
     → rowsOfItems (itemsFrom (suc fuel) 0 (restWritten lent (r ∷ rs) (r ∷ rs))) ≡ some (rowsAt (fieldOf lent (r ∷ rs)) 0 (r ∷ rs))
 read-table s law lent r rs c i fuel h =
-    let w = textOf lent r in
+    let w = charactersOf lent r in
     let up = parentNumber all r in
     ap (λ (l : List ℕ). rowsOfItems (itemsFrom (suc fuel) 0 l)) (append-assoc f (gather (fieldOf lent all) rs) (field countTag (twoBytes (length all))))
     ∙ ap rowsOfItems (field-item (r .name) fuel 0 (r .number) up w after (omega (arith, c .number)) (omega (arith, parent-number))
     (omega (arith, held .size, held .short)))
     ∙ root-item (r .name) root 0 (r .number) up (length w) (itemsFrom fuel (0 + length f) after) rs′ named parent-number later
-    ∙ ap {B = Option (List Row)} (λ (q : Row). some (q ∷ rs′)) (rw (c .parent, held .size, held .ofName, held .equalLengths))
+    ∙ ap {B = Option (List Row)} (λ (q : Row). some (q ∷ rs′)) (rw (held .size, held .ofName, c .parent))
   where
     all : List Row
     all = r ∷ rs

@@ -10,7 +10,7 @@ use lib.ListN.{length, getElem?}
 use Rattle.extract_spec.specs.Cut.{cut}
 use Rattle.extract_spec.specs.Fields.{elementTag, textTag, countTag, twoBytes, field, rowField, numberAt, fieldOf, writeExtract}
 use Rattle.inference_spec.specs.Needed.{needed}
-use Rattle.journal_laws.specs.Accepted.{accepted-well-formed}
+use Rattle.journal_laws.specs.TreeNodes.{accepted-well-formed}
 use Rattle.journal_laws.specs.Judging.Meaning.{journal-judged-once}
 use Rattle.library_spec.specs.Conditions.{SchemaTaken, JournalTaken, of-schema, WritesExtract, Makes}
 use Rattle.library_spec.specs.Hosts.{HostAnswer, Lent, extractOf}
@@ -23,10 +23,11 @@ use Rattle.schema_laws.specs.reading.Reading.{schema-read-once}
 use Rattle.schema_spec.specs.Names.{Name, element, text, isText, namesOf}
 use Rattle.schema_spec.specs.Schemas.{Schema}
 use Rattle.schema_spec.specs.Types.{typesOf}
+use Rattle.table_laws.specs.Characters.{characters-beside}
 use Rattle.table_laws.specs.Fits.{RootOrHeld, row-held}
 use Rattle.table_laws.specs.WellFormed.{table-tests, well-formed-beside}
 use Rattle.table_spec.specs.Conditions.{WellFormedBeside}
-use Rattle.table_spec.specs.Rows.{Row, textOf}
+use Rattle.table_spec.specs.Rows.{Row, charactersOf}
 use Rattle.text_laws.specs.Lists.{gather-in}
 use Rattle.text_laws.specs.Tests.{or-cases, and-cases, not-intro, decided}
 use Rattle.text_spec.specs.Bytes.{isForeign, isBetween}
@@ -97,9 +98,9 @@ module _ (schema : List ℕ) (s : Schema) (st : SchemaTaken schema s) where
       all b i =
           let c = gather-in (fieldOf lent rows) rows i in
           let r = c .0 in
-          row-bytes (r .name) (r .number) (numberAt (getElem? rows (r .parent))) (textOf lent r)
+          row-bytes (r .name) (r .number) (numberAt (getElem? rows (r .parent))) (charactersOf lent r)
           (λ e q. element-byte e (row-held (typesOf s) rows (table-tests (typesOf s) rows (well .table)) (c .1)) q)
-          (λ u x j. passing-byte x (well .passes r (c .1) u x j)) b (c .2)
+          (λ u x j. passing-byte x (characters-beside well r (c .1) u x j)) b (c .2)
 
   -- So is the extract that is made of an accepted journal.
   pub extract-bytes : {limit : ℕ} (ps : List (LocationPath ℕ)) (journal : List ℕ) (rows : List Row) → JournalTaken limit s journal rows → AreBytes (extractOf s ps journal rows)

@@ -11,7 +11,7 @@ use Rattle.schema_laws.specs.Names.{same-equal, same-name}
 use Rattle.schema_spec.specs.Names.{Name, sameName}
 use Rattle.schema_spec.specs.Types.{Types}
 use Rattle.table_spec.specs.Nodes.{Node, top, nodeNumber, nameOf, same, isAbove, depthOf, attachTo, nodeAt}
-use Rattle.table_spec.specs.Rows.{Row, textOf}
+use Rattle.table_spec.specs.Rows.{Row, charactersOf}
 use Rattle.table_spec.specs.Tables.{parentOpen, parentHolds, firstText, textFits, rowFits, laterRows, wellFormed}
 use Rattle.text_laws.specs.Tests.{and-cases, and-intro}
 use Rattle.text_spec.specs.Limits.{maxNodes, maxDepth}
@@ -100,7 +100,7 @@ pub record Fitting (s : Types) (before : List Node) (previous : Node) (r : Row) 
 pub fitting : (s : Types) (before : List Node) (previous : Node) (r : Row) → RowFits s before previous r (nodeAt [] before r) → Fitting s before previous r
 fitting s before previous r f = pick (getElem? before (r .parent)) refl f
   where
-    pick : (o : Option Node) → getElem? before (r .parent) ≡ o → RowFits s before previous r (attachTo (r .number) (r .name) (textOf [] r) o)
+    pick : (o : Option Node) → getElem? before (r .parent) ≡ o → RowFits s before previous r (attachTo (r .number) (r .name) (charactersOf [] r) o)
         → Fitting s before previous r
     pick none e c = absurd (c .isOpen)
     pick (some p) e c = record { parent = p; parentAt = e; isOpen = c .isOpen; held = c .held }

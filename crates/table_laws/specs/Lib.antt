@@ -2,6 +2,7 @@ pub mod Places
 pub mod Nodes
 pub mod Fits
 pub mod RowNodes
+pub mod Characters
 pub mod WellFormed
 pub mod Parents
 pub mod Codes

@@ -16,7 +16,7 @@ use Rattle.table_laws.specs.Places.{at-before, at-end, at-bound, at-some
 use Rattle.table_laws.specs.WellFormed.{table-means}
 use Rattle.table_spec.specs.Conditions.{RowAbove, parent, higher, WellFormed}
 use Rattle.table_spec.specs.Nodes.{Node, top, under, nodeNumber, nameOf, isTop, attachTo, nodeAt, nodesFrom, nodesOf}
-use Rattle.table_spec.specs.Rows.{Row, textOf}
+use Rattle.table_spec.specs.Rows.{Row, charactersOf}
 use Rattle.table_spec.specs.Tables.{rowFits, laterRows, wellFormed}
 use Rattle.text_laws.specs.Tests.{and-cases}
 
@@ -35,12 +35,12 @@ module _ {A : Type 0} (f : Node → A) (g : Row → A) (kept : (lent : List ℕ)
 pub nodes-numbered : (lent : List ℕ) (rows : List Row) → map nodeNumber (nodesOf lent rows) ≡ map (λ r. r .number) rows
 unfolding nodesOf
 nodes-numbered lent rows =
-    nodes-from nodeNumber (λ r. r .number) (λ u before r. attached-number (r .number) (r .name) (textOf u r) (getElem? before (r .parent))) lent [] rows
+    nodes-from nodeNumber (λ r. r .number) (λ u before r. attached-number (r .number) (r .name) (charactersOf u r) (getElem? before (r .parent))) lent [] rows
 
 pub nodes-named : (lent : List ℕ) (rows : List Row) → map nameOf (nodesOf lent rows) ≡ map (λ r. r .name) rows
 unfolding nodesOf
 nodes-named lent rows =
-    nodes-from nameOf (λ r. r .name) (λ u before r. attached-name (r .number) (r .name) (textOf u r) (getElem? before (r .parent))) lent [] rows
+    nodes-from nameOf (λ r. r .name) (λ u before r. attached-name (r .number) (r .name) (charactersOf u r) (getElem? before (r .parent))) lent [] rows
 
 -- ---- nodes by their rows
 -- a column in which each later row's parent stands before the row
@@ -122,7 +122,7 @@ module _ (lent : List ℕ) where
       this : length before ≡ r → ChildOf (before ++ (z ∷ rest)) (getD (front ++ (q .parent ∷ map (λ q. q .parent) rs)) r 0) y
       this d =
           let p = at-some before (q .parent) h in
-          let is : z ≡ under (q .number) (q .name) (textOf lent q) (p .0) = ap (attachTo (q .number) (q .name) (textOf lent q)) (p .1) in
+          let is : z ≡ under (q .number) (q .name) (charactersOf lent q) (p .0) = ap (attachTo (q .number) (q .name) (charactersOf lent q)) (p .1) in
           let c : getElem? (before ++ (z ∷ rest)) r ≡ some z = ap (getElem? (before ++ (z ∷ rest))) (sym d) ∙ at-end before z rest in
           let o : y ≡ z = cc in
           let w : getD (front ++ (q .parent ∷ map (λ q. q .parent) rs)) r 0 ≡ q .parent = getD-at front (q .parent) (map (λ q. q .parent) rs) 0 r (e ∙ d) in

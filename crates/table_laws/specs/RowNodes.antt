@@ -9,14 +9,14 @@ use Rattle.schema_spec.specs.Names.{Name, element, text}
 use Rattle.table_laws.specs.Nodes.{nodes-equal, nodes-same}
 use Rattle.table_spec.specs.Conditions.{RowAt, RowAbove, parent, higher, DepthAt, root-depth, element-depth, text-depth}
 use Rattle.table_spec.specs.Nodes.{Node, top, under, nodeNumber, nameOf, same, isAbove, depthOf, deeper}
-use Rattle.table_spec.specs.Rows.{Row, textOf}
+use Rattle.table_spec.specs.Rows.{Row, charactersOf}
 use Rattle.text_laws.specs.Tests.{or-left, or-right, or-cases}
 
 -- y is the node of row i, whose ancestors are the nodes of rows before it
 pub data NodeOf (rows : List Row) : ℕ → Node → Type 0 where
   root-node : {r : Row} → RowAt rows 0 r → NodeOf rows 0 (top (r .number) (r .name))
   later-node : {i : ℕ} {r : Row} {p : Node} → RowAt rows (suc i) r → r .parent ≤ i → NodeOf rows (r .parent) p
-      → NodeOf rows (suc i) (under (r .number) (r .name) (textOf [] r) p)
+      → NodeOf rows (suc i) (under (r .number) (r .name) (charactersOf [] r) p)
 
 -- numbers rise from row to row
 abbrev pub Rising : List Row → Type 0
@@ -33,7 +33,7 @@ module _ {rows : List Row} where
   one-node (later-node {i = i} {r = q} {p = p} g b m) (later-node {r = r} {p = o} h c n) =
       let e : q ≡ r = cc in
       let k : p ≡ o = one-node m (subst (λ (z : Row). NodeOf rows (z .parent) o) (sym e) n) in
-      ap (λ (z : Row). under (z .number) (z .name) (textOf [] z) p) e ∙ ap (under (r .number) (r .name) (textOf [] r)) k
+      ap (λ (z : Row). under (z .number) (z .name) (charactersOf [] z) p) e ∙ ap (under (r .number) (r .name) (charactersOf [] r)) k
 
   -- a node has one row, since numbers differ
   pub one-place : Rising rows → {i j : ℕ} {x : Node} → NodeOf rows i x → NodeOf rows j x → i ≡ j

@@ -2,7 +2,7 @@
 use mathlib.Core.Bool.{Bool, false, not, _&&_, _||_}
 use mathlib.Core.List.{List, [], _∷_, _++_, append-assoc, List·Memᴰ as In}
 use mathlib.Core.Logic.{_↔_, _⊎_, inl, inr, ⊎-elim}
-use mathlib.Core.Option.{some}
+use mathlib.Core.Option.{Option, none, some}
 use mathlib.Core.Path.{_≡_, refl, sym, ap, subst, _∙_}
 use Prim.Native.Nat.{ℕ, zero, suc, _+_, _<_, _≤_}
 use native.Mathlib.Omega.{arith}
@@ -14,15 +14,17 @@ use Rattle.table_laws.specs.Fits.{attached-number, parent-found, RowFits
 use Rattle.table_laws.specs.Nodes.{nodes-equal, nodes-same}
 use Rattle.table_laws.specs.Places.{at-end, at-only, at-before-or-end, at-bound, at-some, in-at, at-in}
 use Rattle.table_laws.specs.RowNodes.{NodeOf, root-node, later-node, Rising, node-row, one-node, one-place, row-above, node-above, depth-of, one-depth}
-use Rattle.table_spec.specs.Conditions.{RowAt, RowAbove, TextCells, of-element, of-text, LaterRow, WellFormed, WellFormedBeside}
+use Rattle.table_spec.specs.Conditions.{RowAt, RowAbove, TextCells, of-element, of-text, LaterRow, WellFormed, CopiedOrDecoded, is-copied, is-decoded, WellFormedBeside}
 use Rattle.table_spec.specs.Nodes.{Node, top, under, nodeNumber, nameOf, same, isAbove, depthOf, attachTo, nodeAt}
-use Rattle.table_spec.specs.Rows.{Row, textOf}
-use Rattle.table_spec.specs.Tables.{parentOpen, sameParent, textFits, rowFits, laterRows, wellFormed, bytesInside, textInside, wellFormedWith}
+use Rattle.table_spec.specs.Rows.{Row, textOf, charactersOf}
+use Rattle.table_spec.specs.Tables.{parentOpen, sameParent, textFits, rowFits, laterRows, wellFormed, bytesInside, isSize, copiedOrDecoded, textInside, wellFormedWith}
 use Rattle.text_laws.specs.Lists.{any-in, in-any, all-in, in-all}
 use Rattle.text_laws.specs.Tests.{or-left, or-right, or-cases, and-cases, and-intro, not-intro, not-elim, decided}
 use Rattle.text_spec.specs.Bytes.{isForeign}
 use Rattle.text_spec.specs.Limits.{maxTextBytes}
 use Rattle.text_spec.specs.Lists.{anyOf, allOf}
+use Rattle.token_laws.specs.Texts.{text-sized, sized-text}
+use Rattle.token_spec.specs.Texts.{decodedSize}
 
 -- "an element .. carries text 0, 0; a text row has length 1 to 4,096"; "an element's decoded length is 0, a text's 1 to its raw length"
 pub cells-mean : (n : Name) (r : Row) → r .name ≡ n → T (textFits n r) → TextCells r
@@ -65,7 +67,7 @@ module _ (s : Types) (rows : List Row) (rise : Rising rows) where
   module _ (before : List Node) (i : ℕ) (previous : Node) (q r : Row) (p : Node) (b : Built before i previous) (g : RowAt rows i q) (h : RowAt rows (suc i) r)
       (e : getElem? before (r .parent) ≡ some p) where
     abbrev y : Node
-    y = under (r .number) (r .name) (textOf [] r) p
+    y = under (r .number) (r .name) (charactersOf [] r) p
 
     previous-node : NodeOf rows i previous
     previous-node = b .nodes i previous (b .last)
@@ -172,15 +174,15 @@ module _ (s : Types) (rows : List Row) (rise : Rising rows) where
   module _ (before : List Node) (i : ℕ) (previous : Node) (q r : Row) (b : Built before i previous) (g : RowAt rows i q) (h : RowAt rows (suc i) r) where
     fits-later : RowFits s before previous r (nodeAt [] before r) → LaterRow s rows i q r × NodeOf rows (suc i) (nodeAt [] before r)
     fits-later f =
-        let o = parent-found previous (r .number) (r .name) (textOf [] r) (getElem? before (r .parent)) (f .isOpen) in
-        let node : nodeAt [] before r ≡ under (r .number) (r .name) (textOf [] r) (o .0) = ap (attachTo (r .number) (r .name) (textOf [] r)) (o .1) in
+        let o = parent-found previous (r .number) (r .name) (charactersOf [] r) (getElem? before (r .parent)) (f .isOpen) in
+        let node : nodeAt [] before r ≡ under (r .number) (r .name) (charactersOf [] r) (o .0) = ap (attachTo (r .number) (r .name) (charactersOf [] r)) (o .1) in
         (fits-mean before i previous q r (o .0) b g h (o .1) (rw node at f), rw node (this-node before i previous q r (o .0) b g h (o .1)))
 
     later-fits : LaterRow s rows i q r → RowFits s before previous r (nodeAt [] before r) × NodeOf rows (suc i) (nodeAt [] before r)
     later-fits f =
         let low : r .parent ≤ i = ⊎-elim (λ u. omega arith) (λ u. let c = row-above u (b .nodes i previous (b .last)) .3 in omega arith) (f .parentOpen) in
         let o = at-some before (r .parent) (omega (arith, b .count)) in
-        let node : nodeAt [] before r ≡ under (r .number) (r .name) (textOf [] r) (o .0) = ap (attachTo (r .number) (r .name) (textOf [] r)) (o .1) in
+        let node : nodeAt [] before r ≡ under (r .number) (r .name) (charactersOf [] r) (o .0) = ap (attachTo (r .number) (r .name) (charactersOf [] r)) (o .1) in
         (rw node (mean-fits before i previous q r (o .0) b g h (o .1) f), rw node (this-node before i previous q r (o .0) b g h (o .1)))
 
   -- the rows from place i + 1 on
@@ -258,7 +260,7 @@ test-rises s before previous x (z ∷ rs) e t zero q r g k =
 test-rises s before previous x (z ∷ rs) e t (suc j) q r g k =
     let y = nodeAt [] before z in
     let c = and-cases (rowFits s before previous z y) (laterRows s (before ++ (y ∷ [])) y rs) t in
-    test-rises s (before ++ (y ∷ [])) y z rs (attached-number (z .number) (z .name) (textOf [] z) (getElem? before (z .parent))) (c .1) j q r g k
+    test-rises s (before ++ (y ∷ [])) y z rs (attached-number (z .number) (z .name) (charactersOf [] z) (getElem? before (z .parent))) (c .1) j q r g k
 
 module _ (s : Types) where
   root-built : (r : Row) (rs : List Row) (rise : Rising (r ∷ rs)) → Built s (r ∷ rs) rise (top (r .number) (r .name) ∷ []) 0 (top (r .number) (r .name))
@@ -289,20 +291,36 @@ module _ (s : Types) where
 abbrev passes : ℕ → Bool
 passes b = not (isForeign b)
 
--- a text row's range lies inside its text, its bytes pass 3, and its lengths are equal
+-- a size is one that is computed
+is-size : (n : ℕ) (o : Option ℕ) → T (isSize n o) → o ≡ some n
+is-size n none t = absurd t
+is-size n (some m) t = ap some (eqb→eq m n t)
+
+-- a text row's range lies inside its text, its bytes pass 3, and it is copied or decoded
 module _ (lent : List ℕ) (r : Row) where
+  pub decodes-means : T (copiedOrDecoded lent r) → CopiedOrDecoded lent r
+  decodes-means t =
+      ⊎-elim (λ u. is-copied (eqb→eq (r .decoded) (r .size) u))
+      (λ u.
+      let c = sized-text (textOf lent r) (r .decoded) (is-size (r .decoded) (decodedSize (textOf lent r)) u) in
+      is-decoded (c .0) (c .1)) (or-cases (eqb (r .decoded) (r .size)) (isSize (r .decoded) (decodedSize (textOf lent r))) t)
+
+  pub means-decodes : CopiedOrDecoded lent r → T (copiedOrDecoded lent r)
+  means-decodes (is-copied e) = or-left (eqb (r .decoded) (r .size)) _ (rw e (eqb-refl (r .size)))
+  means-decodes (is-decoded t e) = or-right (eqb (r .decoded) (r .size)) _ (rw (text-sized t, e) (eqb-refl (r .decoded)))
+
   abbrev Inside : Type 0
-  Inside = (r .start + r .size ≤ length lent) × ((b : ℕ) → In b (textOf lent r) → T (isForeign b) → ⊥) × (r .decoded ≡ r .size)
+  Inside = (r .start + r .size ≤ length lent) × ((b : ℕ) → In b (textOf lent r) → T (isForeign b) → ⊥) × CopiedOrDecoded lent r
 
   inside-means : T (textInside lent r) → T (isText (r .name)) → Inside
   inside-means t u =
       let w = textOf lent r in
-      let c = ⊎-elim (λ n. absurd (not-elim (isText (r .name)) n u)) (λ v. and-cases (bytesInside lent r) (eqb (r .decoded) (r .size)) v)
-      (or-cases (not (isText (r .name))) (bytesInside lent r && eqb (r .decoded) (r .size)) t) in
+      let c = ⊎-elim (λ n. absurd (not-elim (isText (r .name)) n u)) (λ v. and-cases (bytesInside lent r) (copiedOrDecoded lent r) v)
+      (or-cases (not (isText (r .name))) (bytesInside lent r && copiedOrDecoded lent r) t) in
       let d = and-cases (leb (r .start) (length lent)) (eqb (length w) (r .size) && allOf passes w) (c .0) in
       let e = and-cases (eqb (length w) (r .size)) (allOf passes w) (d .1) in
       let size = simp (length-take, length-drop) at (eqb→eq (length w) (r .size) (e .0)) in
-      (omega (arith, leb→le (r .start) (length lent) (d .0), size), (λ b i f. not-elim (isForeign b) (all-in passes (e .1) i) f), eqb→eq (r .decoded) (r .size) (c .1))
+      (omega (arith, leb→le (r .start) (length lent) (d .0), size), (λ b i f. not-elim (isForeign b) (all-in passes (e .1) i) f), decodes-means (c .1))
 
   inside-tests : (T (isText (r .name)) → Inside) → T (textInside lent r)
   inside-tests f = ⊎-elim text-row other (decided (isText (r .name)))
@@ -313,11 +331,11 @@ module _ (lent : List ℕ) (r : Row) where
           let range = c .0 in
           let size : length (textOf lent r) ≡ r .size = simp (length-take, length-drop) (omega arith) in
           or-right (not (isText (r .name))) _
-          (and-intro (bytesInside lent r) (eqb (r .decoded) (r .size))
+          (and-intro (bytesInside lent r) (copiedOrDecoded lent r)
           (and-intro (leb (r .start) (length lent)) _ (le→leb (r .start) (length lent) (omega arith))
           (and-intro (eqb (length (textOf lent r)) (r .size)) _ (rw size (eqb-refl (r .size)))
           (in-all passes (textOf lent r) (λ b i. not-intro (isForeign b) (c .1 b i)))))
-          (rw (c .2) (eqb-refl (r .size))))
+          (means-decodes (c .2)))
 
       other : (T (isText (r .name)) → ⊥) → T (textInside lent r)
       other n = or-left (not (isText (r .name))) _ (not-intro (isText (r .name)) n)
@@ -335,13 +353,13 @@ well-formed-beside s lent rows = (means, tests)
           table = table-means s rows (c .0);
           inside = λ r i u. inside-means lent r (fits r i) u .0;
           passes = λ r i u. inside-means lent r (fits r i) u .1;
-          equalLengths = λ r i u. inside-means lent r (fits r i) u .2;
+          spelt = λ r i u. inside-means lent r (fits r i) u .2;
         }
 
     tests : WellFormedBeside s lent rows → T (wellFormedWith s lent rows)
     tests w =
         and-intro (wellFormed s rows) (allOf (textInside lent) rows) (table-tests s rows (w .table))
-        (in-all (textInside lent) rows (λ r i. inside-tests lent r (λ u. (w .inside r i u, w .passes r i u, w .equalLengths r i u))))
+        (in-all (textInside lent) rows (λ r i. inside-tests lent r (λ u. (w .inside r i u, w .passes r i u, w .spelt r i u))))
 
 -- a table that is well formed beside a text is so without it
 pub well-formed-alone : (s : Types) (lent : List ℕ) (rows : List Row) → T (wellFormedWith s lent rows) → T (wellFormed s rows)

@@ -11,6 +11,7 @@ use Rattle.schema_spec.specs.Types.{Types}
 use Rattle.table_spec.specs.Rows.{Row, textOf}
 use Rattle.text_spec.specs.Bytes.{isForeign}
 use Rattle.text_spec.specs.Limits.{maxNodes, maxDepth, maxTextBytes}
+use Rattle.token_spec.specs.Texts.{OneText}
 
 abbrev pub RowAt : List Row → ℕ → Row → Type 0
 RowAt rows i r = getElem? rows i ≡ some r
@@ -51,9 +52,14 @@ pub record WellFormed (s : Types) (rows : List Row) : Type 0 where
   pub rootRow : (r : Row) → RowAt rows 0 r → (r .number ≡ 0) × (r .name ≡ s .root) × (r .parent ≡ 0) × TextCells r
   pub laterRow : (i : ℕ) (q r : Row) → RowAt rows i q → RowAt rows (suc i) r → LaterRow s rows i q r
 
--- Refusal 1 on a table with the text lent beside it: each text row's range lies inside that text, each of its bytes passes 3, and its lengths are equal.
+-- Document 02, R-2: "a row with two equal lengths is copied, the bytes of any other must be one journal text that decodes to its decoded length"
+pub data CopiedOrDecoded (lent : List ℕ) (r : Row) : Type 0 where
+  is-copied : r .decoded ≡ r .size → CopiedOrDecoded lent r
+  is-decoded : {v : List ℕ} → OneText (textOf lent r) v → length v ≡ r .decoded → CopiedOrDecoded lent r
+
+-- Refusal 1 on a table with the text lent beside it: each text row's range lies inside that text, each of its bytes passes 3, and it is copied or decoded.
 pub record WellFormedBeside (s : Types) (lent : List ℕ) (rows : List Row) : Type 0 where
   pub table : WellFormed s rows
   pub inside : (r : Row) → List·Memᴰ r rows → T (isText (r .name)) → r .start + r .size ≤ length lent
   pub passes : (r : Row) → List·Memᴰ r rows → T (isText (r .name)) → (b : ℕ) → List·Memᴰ b (textOf lent r) → T (isForeign b) → ⊥
-  pub equalLengths : (r : Row) → List·Memᴰ r rows → T (isText (r .name)) → r .decoded ≡ r .size
+  pub spelt : (r : Row) → List·Memᴰ r rows → T (isText (r .name)) → CopiedOrDecoded lent r

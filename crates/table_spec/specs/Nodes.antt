@@ -6,10 +6,10 @@ use Prim.Native.Nat.{ℕ, suc}
 use lib.Dec.{eqb}
 use lib.ListN.{getElem?}
 use Rattle.schema_spec.specs.Names.{Name, element, text, sameName}
-use Rattle.table_spec.specs.Rows.{Row, textOf}
+use Rattle.table_spec.specs.Rows.{Row, charactersOf}
 use Rattle.text_spec.specs.Lists.{sameBytes}
 
--- A node: its number, its name and, but for the root, its text and its parent. So a node carries its ancestors, and is the same node
+-- A node: its number, its name and, but for the root, the characters of its text and its parent. So a node carries its ancestors, and is the same node
 -- in a table and in what is cut from it. The text of an element is empty.
 pub data Node : Type 0 where
   top : ℕ → Name → Node
@@ -71,7 +71,7 @@ attachTo k n w none = top k n
 attachTo k n w (some p) = under k n w p
 
 abbrev pub nodeAt : List ℕ → List Node → Row → Node
-nodeAt lent before r = attachTo (r .number) (r .name) (textOf lent r) (getElem? before (r .parent))
+nodeAt lent before r = attachTo (r .number) (r .name) (charactersOf lent r) (getElem? before (r .parent))
 
 abbrev pub nodesFrom : List ℕ → List Node → List Row → List Node
 nodesFrom lent before [] = []

@@ -1,6 +1,7 @@
 -- Well-formed tables.
 use mathlib.Core.Bool.{Bool, true, false, not, _&&_, _||_}
 use mathlib.Core.List.{List, [], _∷_, _++_}
+use mathlib.Core.Option.{Option, none, some}
 use Prim.Native.Nat.{ℕ}
 use lib.Dec.{eqb, leb, ltb}
 use lib.ListN.{length}
@@ -11,6 +12,7 @@ use Rattle.table_spec.specs.Rows.{Row, textOf}
 use Rattle.text_spec.specs.Bytes.{isForeign}
 use Rattle.text_spec.specs.Limits.{maxNodes, maxDepth, maxTextBytes}
 use Rattle.text_spec.specs.Lists.{anyOf, allOf}
+use Rattle.token_spec.specs.Texts.{decodedSize}
 
 -- "each later parent is the row before or one above that"
 abbrev pub parentOpen : Node → Node → Bool
@@ -59,9 +61,16 @@ wellFormed s (r ∷ rs) =
 abbrev pub bytesInside : List ℕ → Row → Bool
 bytesInside lent r = leb (r .start) (length lent) && (eqb (length (textOf lent r)) (r .size) && allOf (λ b. not (isForeign b)) (textOf lent r))
 
--- No text is decoded yet: a text has two equal lengths.
+-- Document 02, R-2: "a row with two equal lengths is copied, the bytes of any other must be one journal text that decodes to its decoded length, else refusal 1".
+abbrev pub isSize : ℕ → Option ℕ → Bool
+isSize n none = false
+isSize n (some m) = eqb m n
+
+abbrev pub copiedOrDecoded : List ℕ → Row → Bool
+copiedOrDecoded lent r = eqb (r .decoded) (r .size) || isSize (r .decoded) (decodedSize (textOf lent r))
+
 abbrev pub textInside : List ℕ → Row → Bool
-textInside lent r = not (isText (r .name)) || (bytesInside lent r && eqb (r .decoded) (r .size))
+textInside lent r = not (isText (r .name)) || (bytesInside lent r && copiedOrDecoded lent r)
 
 -- a table with the text lent beside it
 unfoldable pub wellFormedWith : Types → List ℕ → List Row → Bool

@@ -1,3 +1,4 @@
 pub mod Handed
 pub mod row_text
 pub mod rows
+pub mod text_ranges

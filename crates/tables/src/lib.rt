@@ -86,7 +86,8 @@ pub fn is_table(
     )
 }
 
-// The same, and each text lies in the text that is lent beside the table, with bytes that pass 3.
+// The same, and each text lies in the text that is lent beside the table, with bytes that pass 3 and that are copied or decode to its
+// decoded length.
 pub fn is_table_beside(
     numbers: &[u16],
     codes: &[u8],

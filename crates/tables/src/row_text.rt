@@ -17,20 +17,31 @@ pub enum RowText {
     // refused by 1: a record, a table or a position that is none
     Refused,
     Element,
-    // where it starts, and its length
-    Text(usize, usize),
+    // where it starts, its length, and its decoded length
+    Text(usize, usize, usize),
 }
 
 // The text of a row, by the columns of a table that has passed its test.
-fn text_of(codes: &[u8], starts: &[u32], lengths: &[u16], count: usize, position: usize) -> RowText
-    requires { ⌜ (count ≤ length (now codes)) × (count ≤ length (now starts)) × (count ≤ length (now lengths)) ⌝ }
-    ensures { λ r. ⌜ r ≡ textOf (now (codes .entry)) (now (starts .entry)) (now (lengths .entry)) count position ⌝ }
+fn text_of(
+    codes: &[u8],
+    starts: &[u32],
+    lengths: &[u16],
+    decoded: &[u16],
+    count: usize,
+    position: usize,
+) -> RowText
+    requires { ⌜ (count ≤ length (now codes)) × (count ≤ length (now starts)) × (count ≤ length (now lengths)) × (count ≤ length (now decoded)) ⌝ }
+    ensures { λ r. ⌜ r ≡ textOf (now (codes .entry)) (now (starts .entry)) (now (lengths .entry)) (now (decoded .entry)) count position ⌝ }
 {
     if count <= position {
         return RowText::Refused;
     }
     if is_text(codes[position]) {
-        return RowText::Text(starts[position] as usize, lengths[position] as usize);
+        return RowText::Text(
+            starts[position] as usize,
+            lengths[position] as usize,
+            decoded[position] as usize,
+        );
     }
     RowText::Element
 }
@@ -67,7 +78,7 @@ pub fn row_text_place(
     ) {
         return RowText::Refused;
     }
-    text_of(codes, starts, lengths, count, position)
+    text_of(codes, starts, lengths, decoded, count, position)
 }
 
 // The text of a row as that part of the lent text: empty for an element, and on refusal.
@@ -99,7 +110,7 @@ pub fn row_text<'a>(
     ) {
         RowText::Refused => &lent[..0],
         RowText::Element => &lent[..0],
-        RowText::Text(start, size) => {
+        RowText::Text(start, size, _) => {
             let end = start + size;
             &lent[start..end]
         }

@@ -1,12 +1,14 @@
 -- Decoding means what character data stands for, and shortens exactly the data that has an entity.
 use mathlib.Core.Bool.{Bool, true, false, not, _||_}
-use mathlib.Core.List.{List, [], _∷_, _++_}
+use mathlib.Core.List.{List, [], _∷_, _++_, Memᴰ·append-right as append-right}
 use mathlib.Core.Path.{_≡_, refl, sym, ap, subst, _∙_}
 use Prim.Native.Nat.{ℕ, zero, suc, _+_, _-_, _≤_, _<_}
 use native.Mathlib.Omega.{arith}
 use lib.Dec.{T, eqb, eqb→eq}
 use lib.ListN.{length, length-append}
+use Rattle.text_laws.specs.Lists.{all-in, in-all}
 use Rattle.text_laws.specs.Tests.{failed, false-of, and-cases, and-intro, or-left, or-right, not-intro, not-elim}
+use Rattle.text_spec.specs.Lists.{allOf}
 use Rattle.token_spec.specs.Characters.{EntityFor, lt as lt-for, gt as gt-for, amp as amp-for, apos as apos-for, quot as quot-for, Decodes, none as no-character, plain as plain-character, entity as entity-character, frontOf, decodeFrom, decode, savedIn, noEntity}
 use Rattle.token_spec.specs.Tokens.{Entity, lt, gt, amp, apos, quot, isPlain, Pieces, none as no-piece, plain, entity}
 
@@ -105,6 +107,11 @@ saved-length w =
     let h : length (decode w) ≤ length w = decode-shorter w in
     omega arith
 
+pub decoded-size : (w : List ℕ) → length w - savedIn w ≡ length (decode w)
+decoded-size w =
+    let h : length (decode w) + savedIn w ≡ length w = saved-length w in
+    omega arith
+
 pub none-saved : savedIn [] ≡ 0
 none-saved = rw decode-none
 
@@ -146,3 +153,17 @@ same-length-no-entity (entity {e = e} {w = w} h p) q =
     let l : 1 < length e = entity-longer h in
     let s : length (decode w) ≤ length w = decode-shorter w in
     absurd (omega arith)
+
+-- so it stands for itself
+pub same-length-decode : {w : List ℕ} → Pieces w → length (decode w) ≡ length w → decode w ≡ w
+same-length-decode {w} p e = no-entity-decode w (same-length-no-entity p e)
+
+-- A test that the bytes of a text and the five characters pass, the characters of the text pass.
+module _ (f : ℕ → Bool) (five : (e : List ℕ) (c : ℕ) → EntityFor e c → T (f c)) where
+  pub decoded-pass : {w v : List ℕ} → Decodes w v → T (allOf f w) → T (allOf f v)
+  decoded-pass no-character t = tt
+  decoded-pass (plain-character {b = b} {w = w} {v = v} h d) t =
+      let c = and-cases (f b) (allOf f w) t in
+      and-intro (f b) (allOf f v) (c .0) (decoded-pass d (c .1))
+  decoded-pass (entity-character {e = e} {w = w} {v = v} {c = c} h d) t =
+      and-intro (f c) (allOf f v) (five e c h) (decoded-pass d (in-all f w (λ b i. all-in f t (append-right e i))))

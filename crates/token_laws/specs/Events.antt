@@ -34,14 +34,14 @@ cond-cases P false x y p q = q refl
 pub cond-both : {A : Type 0} (P : A → Type 0) (b : Bool) (x y : A) → P x → P y → P (cond b x y)
 cond-both P b x y p q = cond-cases P b x y (λ e. p) (λ e. q)
 
--- Tags, and runs of character data that are not empty and lie within so many bytes, no run directly after another; `true`: a run was last.
-pub data InTurn (size : ℕ) : Bool → List Event → Type 0 where
-  no-more : {t : Bool} → InTurn size t []
-  start-next : {t : Bool} {w : List ℕ} {k : ℕ} {es : List Event} → InTurn size false es → InTurn size t (starts w k ∷ es)
-  end-next : {t : Bool} {w : List ℕ} {k : ℕ} {es : List Event} → InTurn size false es → InTurn size t (ends w k ∷ es)
-  run-next : {r : Run} {l : ℕ} {es : List Event} → 1 ≤ l → r .start + l ≤ size → InTurn size true es → InTurn size false (runs r l ∷ es)
+-- Tags, and runs of character data that save less than they have, so that some characters are left, no run directly after another; `true`: a run was last.
+pub data InTurn : Bool → List Event → Type 0 where
+  no-more : {t : Bool} → InTurn t []
+  start-next : {t : Bool} {w : List ℕ} {k : ℕ} {es : List Event} → InTurn false es → InTurn t (starts w k ∷ es)
+  end-next : {t : Bool} {w : List ℕ} {k : ℕ} {es : List Event} → InTurn false es → InTurn t (ends w k ∷ es)
+  run-next : {r : Run} {l : ℕ} {es : List Event} → r .saved < l → InTurn true es → InTurn false (runs r l ∷ es)
 
-in-turn-free : {size : ℕ} (t : Bool) {es : List Event} → InTurn size t es → InTurn size false es
+in-turn-free : (t : Bool) {es : List Event} → InTurn t es → InTurn false es
 in-turn-free false h = h
 in-turn-free true no-more = no-more
 in-turn-free true (start-next h) = start-next h
@@ -61,11 +61,11 @@ inTag (inEndName at n) = true
 inTag (afterEndName at n) = true
 inTag (stopped at) = true
 
--- a run that is not whole yet began before this place
+-- a run that is not whole yet began before this place, and saves less than it has
 abbrev pub BegunBefore : ℕ → Mode → Type 0
 BegunBefore k between = Unit {0}
-BegunBefore k (inData r brackets) = r .start < k
-BegunBefore k (inEntity rests at r) = r .start < k
+BegunBefore k (inData r brackets) = r .start + r .saved < k
+BegunBefore k (inEntity rests at r) = (r .start + r .saved ≤ at) × (at < k)
 BegunBefore k (opened at) = Unit {0}
 BegunBefore k (inName at n) = Unit {0}
 BegunBefore k (afterName at n) = Unit {0}
@@ -76,24 +76,24 @@ BegunBefore k (afterEndName at n) = Unit {0}
 BegunBefore k (stopped at) = Unit {0}
 
 -- one byte, where the events of the rest are in turn
-module _ (size k b : ℕ) (bs : List ℕ) (fits : k ≤ size) (rest : (m : Mode) → BegunBefore (suc k) m → InTurn size (inTag m) (eventsFrom m (suc k) bs)) where
+module _ (k b : ℕ) (bs : List ℕ) (rest : (m : Mode) → BegunBefore (suc k) m → InTurn (inTag m) (eventsFrom m (suc k) bs)) where
   abbrev Next : Bool → Lexed → Type 0
-  Next t l = InTurn size t (told (l .event) (eventsFrom (l .mode) (suc k) bs))
+  Next t l = InTurn t (told (l .event) (eventsFrom (l .mode) (suc k) bs))
 
   free : (m : Mode) → BegunBefore (suc k) m → Next false (goes m)
   free m h = in-turn-free (inTag m) (rest m h)
 
-  data-in-turn : (r : Run) (brackets : ℕ) → r .start < suc k → Next false (goes (dataByte r brackets k b))
+  data-in-turn : (r : Run) (brackets : ℕ) → r .start + r .saved < suc k → Next false (goes (dataByte r brackets k b))
   data-in-turn r brackets h =
       cond-both (λ m. Next false (goes m)) (isBlank b) _ _ (free (inData r 0) h)
-      (cond-both (λ m. Next false (goes m)) (eqb b 0x26) _ _ (free (inEntity _ k (solidBy r k)) h)
+      (cond-both (λ m. Next false (goes m)) (eqb b 0x26) _ _ (free (inEntity _ k (solidBy r k)) (omega arith, omega arith))
       (cond-both (λ m. Next false (goes m)) (eqb b 0x5D) _ _ (free (inData (solidBy r k) (suc brackets)) h)
       (cond-both (λ m. Next false (goes m)) (eqb b 0x3E && leb 2 brackets) _ _ (free (stopped (k - 2)) tt) (free (inData (solidBy r k) 0) h))))
 
-  entity-in-turn : (rests : List (List ℕ)) (at : ℕ) (r : Run) → r .start < suc k → Next false (goes (entityByte rests at k r))
-  entity-in-turn rests at r h =
+  entity-in-turn : (rests : List (List ℕ)) (at : ℕ) (r : Run) → r .start + r .saved ≤ at → at < k → Next false (goes (entityByte rests at k r))
+  entity-in-turn rests at r h g =
       cond-both (λ m. Next false (goes m)) (isEmpty rests) _ _ (free (stopped at) tt)
-      (cond-both (λ m. Next false (goes m)) (anyOf isEmpty rests) _ _ (free (inData (savedBy r (k - at)) 0) h) (free (inEntity rests at r) h))
+      (cond-both (λ m. Next false (goes m)) (anyOf isEmpty rests) _ _ (free (inData (savedBy r (k - at)) 0) (omega arith)) (free (inEntity rests at r) (h, omega arith)))
 
   tag-in-turn : (at : ℕ) (n : List ℕ) → Next true (tagByte at n b)
   tag-in-turn at n =
@@ -114,8 +114,8 @@ module _ (size k b : ℕ) (bs : List ℕ) (fits : k ≤ size) (rest : (m : Mode)
   byte-in-turn between h =
       cond-both (Next false) (eqb b 0x3C) _ _ (free (opened k) tt) (data-in-turn (run k none 0) 0 (omega arith))
   byte-in-turn (inData r brackets) h =
-      cond-both (Next false) (eqb b 0x3C) _ _ (run-next (omega arith) (omega arith) (rest (opened k) tt)) (data-in-turn r brackets (omega arith))
-  byte-in-turn (inEntity rests at r) h = entity-in-turn (tailsWith b rests) at r (omega arith)
+      cond-both (Next false) (eqb b 0x3C) _ _ (run-next (omega arith) (rest (opened k) tt)) (data-in-turn r brackets (omega arith))
+  byte-in-turn (inEntity rests at r) h = entity-in-turn (tailsWith b rests) at r (h .0) (h .1)
   byte-in-turn (opened at) h =
       cond-both (Next true) (eqb b 0x2F) _ _ (rest (ending at) tt)
       (cond-both (Next true) (startsName b) _ _ (rest (inName at (b ∷ [])) tt) (rest (stopped at) tt))
@@ -129,20 +129,20 @@ module _ (size k b : ℕ) (bs : List ℕ) (fits : k ≤ size) (rest : (m : Mode)
   byte-in-turn (afterEndName at n) h = end-tag-in-turn at n
   byte-in-turn (stopped at) h = rest (stopped at) tt
 
-last-in-turn : (size k : ℕ) (m : Mode) → k ≤ size → BegunBefore k m → InTurn size (inTag m) (told (lastEvent m k) [])
-last-in-turn size k between f h = no-more
-last-in-turn size k (inData r brackets) f h = run-next {r = r} {l = k - r .start} (omega arith) (omega arith) no-more
-last-in-turn size k (inEntity rests at r) f h = no-more
-last-in-turn size k (opened at) f h = no-more
-last-in-turn size k (inName at n) f h = no-more
-last-in-turn size k (afterName at n) f h = no-more
-last-in-turn size k (afterSlash at n) f h = no-more
-last-in-turn size k (ending at) f h = no-more
-last-in-turn size k (inEndName at n) f h = no-more
-last-in-turn size k (afterEndName at n) f h = no-more
-last-in-turn size k (stopped at) f h = no-more
+last-in-turn : (k : ℕ) (m : Mode) → BegunBefore k m → InTurn (inTag m) (told (lastEvent m k) [])
+last-in-turn k between h = no-more
+last-in-turn k (inData r brackets) h = run-next {r = r} {l = k - r .start} (omega arith) no-more
+last-in-turn k (inEntity rests at r) h = no-more
+last-in-turn k (opened at) h = no-more
+last-in-turn k (inName at n) h = no-more
+last-in-turn k (afterName at n) h = no-more
+last-in-turn k (afterSlash at n) h = no-more
+last-in-turn k (ending at) h = no-more
+last-in-turn k (inEndName at n) h = no-more
+last-in-turn k (afterEndName at n) h = no-more
+last-in-turn k (stopped at) h = no-more
 
-pub events-in-turn : (size : ℕ) (m : Mode) (k : ℕ) (bs : List ℕ) → k + length bs ≤ size → BegunBefore k m → InTurn size (inTag m) (eventsFrom m k bs)
+pub events-in-turn : (m : Mode) (k : ℕ) (bs : List ℕ) → BegunBefore k m → InTurn (inTag m) (eventsFrom m k bs)
 unfolding eventsFrom
-events-in-turn size m k [] f h = last-in-turn size k m (omega arith) h
-events-in-turn size m k (b ∷ bs) f h = byte-in-turn size k b bs (omega arith) (λ m′ h′. events-in-turn size m′ (suc k) bs (omega arith) h′) m h
+events-in-turn m k [] h = last-in-turn k m h
+events-in-turn m k (b ∷ bs) h = byte-in-turn k b bs (λ m′ h′. events-in-turn m′ (suc k) bs h′) m h

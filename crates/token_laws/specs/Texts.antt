@@ -177,13 +177,13 @@ sized-text w n e =
     let f : decodedSize w ≡ some (length (decode w)) = text-sized t in
     (t, cc)
 
+pub spelt-filled : {w : List ℕ} → Spelt (characters w) → 1 ≤ length w
+spelt-filled (characters-spelt p h) = omega arith
+
 -- A text has one character at least, and no more than it has bytes.
 pub text-bounds : {w v : List ℕ} → OneText w v → (1 ≤ length v) × (length v ≤ length w)
 text-bounds {w} {v} t =
     let e : length v ≡ length (decode w) = ap length (decodes-once (t .stands)) in
-    let f : 1 ≤ length (decode w) = decode-filled w (filled (t .spelt)) in
+    let f : 1 ≤ length (decode w) = decode-filled w (spelt-filled (t .spelt)) in
     let s : length (decode w) ≤ length w = decode-shorter w in
     (omega arith, omega arith)
-  where
-    filled : {u : List ℕ} → Spelt (characters u) → 1 ≤ length u
-    filled (characters-spelt p h) = omega arith

@@ -19,17 +19,19 @@ mod text;
 
 use crate::bundle::{read_bundle, Path};
 use crate::host::{Left, Lent};
-use crate::inputs::{arguments, differs, random_input, report, shown, wanted_steps, Input, Seen, MAX_JOURNAL};
-use crate::journal::read_journal;
+use crate::inputs::{arguments, differs, has_entity, random_input, report, shown, wanted_steps, wanted_texts, Input, Seen, MAX_JOURNAL};
+use crate::journal::{characters, read_journal};
 use crate::random::Random;
 use crate::schema::read_schema;
 use crate::table::Row;
 
+const TOO_LONG: &str = "a text of more than 4,096 raw bytes and fewer characters";
+
 fn wanted() -> Vec<String> {
     let making = (0..=18).filter(|n| *n != 17).map(|n| format!("making: {n}"));
     let selecting = (0..=18).filter(|n| !(11..=16).contains(n)).map(|n| format!("selecting: {n}"));
-    let fewer = "an extract with fewer rows than its journal".to_string();
-    making.chain(selecting).chain(wanted_steps()).chain([fewer]).collect()
+    let others = ["an extract with fewer rows than its journal", TOO_LONG, "an extract's text with an entity"].map(String::from);
+    making.chain(selecting).chain(wanted_steps()).chain(wanted_texts()).chain(others).collect()
 }
 
 /// How many cells to lend for an answer of these sizes: just enough, more, too few of one, or columns of unequal length.
@@ -68,6 +70,11 @@ fn same(ours: &Left, theirs: &Left, call: &str, input: &Input, extract: &[u8]) {
     }
 }
 
+/// The bytes up to the next tag.
+fn run_at(journal: &[u8], place: usize) -> &[u8] {
+    journal[place..].split(|&b| b == b'<').next().unwrap_or_default()
+}
+
 /// Making, and the extract made where nothing is refused.
 fn compare_making(r: &mut Random, seen: &mut Seen, input: &Input) -> Option<(usize, Vec<u8>)> {
     let Input { schema, bundle, journal } = input;
@@ -79,6 +86,9 @@ fn compare_making(r: &mut Random, seen: &mut Seen, input: &Input) -> Option<(usi
     same(&ours, &archive::make_extract(schema, bundle, journal, &lent), "making", input, &[]);
     seen.calls += 1;
     seen.note(format!("making: {}", ours.result[0]));
+    if ours.result[0] == 16 && characters(run_at(journal, ours.result[1] as usize)).is_some_and(|all| all.len() <= 4096) {
+        seen.note(TOO_LONG.to_string());
+    }
     (whole.result[0] == 0).then(|| (rows, whole.cells[6][..items].iter().map(|&b| b as u8).collect()))
 }
 
@@ -123,8 +133,13 @@ fn compare_input(r: &mut Random, seen: &mut Seen) {
         let s = read_schema(&input.schema).unwrap();
         let rows = read_journal(&s, &input.journal, MAX_JOURNAL).unwrap();
         compare_whole(seen, &input, &written, &read_bundle(&s, &input.bundle).unwrap(), &rows);
-        if extract::read_extract(&s, &written).unwrap().len() < all {
+        let kept = extract::read_extract(&s, &written).unwrap();
+        if kept.len() < all {
             seen.note("an extract with fewer rows than its journal".to_string());
+        }
+        seen.texts(kept.iter().map(|k| &rows[k.number]), &input.journal);
+        if kept.iter().any(|k| has_entity(&written[k.start..k.start + k.size])) {
+            seen.note("an extract's text with an entity".to_string());
         }
     }
 }

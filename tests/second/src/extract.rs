@@ -1,6 +1,6 @@
 //! Extracts: fields of a tag, a length and a value.
 use crate::schema::{Name, Schema};
-use crate::table::{texts_inside, well_formed, Row};
+use crate::table::{row_characters, texts_inside, well_formed, Row};
 use crate::text::{refused, Refused};
 
 fn field(out: &mut Vec<u8>, tag: u8, value: &[u8]) {
@@ -20,7 +20,7 @@ pub fn write_extract(rows: &[Row], text: &[u8]) -> Vec<u8> {
                 field(&mut out, 1, &value);
             }
             Name::Text(_) => {
-                value.extend(&text[r.start..r.start + r.size]);
+                value.extend(row_characters(r, text).unwrap());
                 field(&mut out, 2, &value);
             }
         }
@@ -33,7 +33,8 @@ fn number(b: &[u8]) -> usize {
     b.iter().fold(0, |n, &b| n * 256 + b as usize)
 }
 
-/// The rows, where the fields are in order; whether they are a well-formed table is judged after.
+/// The rows, where the fields are in order; whether they are a well-formed table is judged after. Both lengths of a text are that of its bytes, which
+/// are not decoded again.
 fn rows_of(bytes: &[u8]) -> Option<Vec<Row>> {
     let mut rows: Vec<Row> = Vec::new();
     let mut i = 0;

@@ -44,6 +44,7 @@ extern "C" {
         numbers: *mut u16, numbers_len: usize, names: *mut u8, names_len: usize, parents: *mut u16, parents_len: usize,
         starts: *mut u32, starts_len: usize, lengths: *mut u16, lengths_len: usize, decoded: *mut u16, decoded_len: usize,
     ) -> Outcome;
+    // the decoded length as the place, where the text starts as the other number
     fn test_row_text(
         schema: *const u8, schema_cells: usize, schema_len: usize,
         numbers: *const u16, numbers_len: usize, codes: *const u8, codes_len: usize, parents: *const u16, parents_len: usize,

@@ -20,9 +20,10 @@ mod schema;
 mod table;
 mod text;
 
-use crate::inputs::{arguments, differs, random_input, report, shown, wanted_steps, Input, Seen, MAX_JOURNAL};
+use crate::inputs::{arguments, differs, has_entity, random_input, report, shown, wanted_steps, wanted_texts, Input, Seen, MAX_JOURNAL};
+use crate::journal::{characters, ENTITIES};
 use crate::random::Random;
-use crate::records::{in_bytes, in_columns, in_items, Left, Lent, Record, Records, Table, BUNDLE_CELLS, SCHEMA_CELLS};
+use crate::records::{in_bytes, in_columns, in_items, in_text, Left, Lent, Record, Records, Table, BUNDLE_CELLS, SCHEMA_CELLS};
 use crate::table::Row;
 use crate::text::Refused;
 
@@ -34,6 +35,12 @@ struct Comparison<'a> {
     seen: &'a mut Seen,
     input: Input,
 }
+
+// what the texts of a table that was changed are beside their bytes: accepted, and refused
+const DECODED: &str = "changed: unequal lengths, and the bytes are a text of so many characters";
+const COPIED: &str = "changed: equal lengths, and the bytes hold an entity";
+const OTHER_LENGTH: &str = "changed: unequal lengths, and the bytes are a text of another length";
+const NO_TEXT: &str = "changed: unequal lengths, and the bytes are no text";
 
 fn wanted() -> Vec<String> {
     let calls: [(&str, &[usize]); 10] = [
@@ -56,15 +63,19 @@ fn wanted() -> Vec<String> {
         "a table refused",
         "a text beside a table refused",
         "a decoded length refused",
-        "a text of unequal lengths refused beside its bytes",
         "a text of unequal lengths cut",
+        "a text of unequal lengths written",
+        DECODED,
+        COPIED,
+        OTHER_LENGTH,
+        NO_TEXT,
         "columns of unequal length",
         "a place past the last path",
         "a position past the last row",
         "a text handed back",
         "a larger cut with fewer rows than its journal",
     ];
-    numbers.chain(wanted_steps()).chain(others.map(String::from)).collect()
+    numbers.chain(wanted_steps()).chain(wanted_texts()).chain(others.map(String::from)).collect()
 }
 
 /// So many cells to lend for an answer of this size: just enough, more, or too few.
@@ -125,17 +136,42 @@ fn damaged_table(r: &mut Random, mut table: Table) -> Table {
     table
 }
 
-/// A table with a decoded length changed, mostly that of a text.
-fn damaged_decoded(r: &mut Random, mut table: Table) -> Table {
+/// A row, mostly one of a text.
+fn text_row(r: &mut Random, table: &Table) -> Option<usize> {
     let texts: Vec<usize> = (0..table.count).filter(|&i| table.columns[1][i] >= 32 || r.chance(10)).collect();
-    if !texts.is_empty() {
-        let i = texts[r.below(texts.len())];
+    (!texts.is_empty()).then(|| texts[r.below(texts.len())])
+}
+
+/// A table with a decoded length changed: to none that a text may have, to another, or to the raw length.
+fn changed_decoded(r: &mut Random, mut table: Table) -> Table {
+    if let Some(i) = text_row(r, &table) {
         let size = table.columns[4][i] as usize;
-        table.columns[5][i] = match r.below(4) {
+        table.columns[5][i] = match r.below(8) {
             0 => 0,
             1 => size + 1 + r.below(3),
+            2..=4 => size,
             _ => 1 + r.below(size.max(2) - 1),
         } as u32;
+    }
+    table
+}
+
+/// How many characters bytes stand for, if they are a text.
+fn counted(part: &[u8]) -> usize {
+    let times = |written: &str| part.windows(written.len()).filter(|w| *w == written.as_bytes()).count();
+    part.len() - ENTITIES.iter().map(|(written, _)| times(written) * (written.len() - 1)).sum::<usize>()
+}
+
+/// A table with a text's row at other bytes, which begin or end within an entity or a tag now and then.
+fn changed_part(r: &mut Random, mut table: Table, text: &[u8]) -> Table {
+    let Some(i) = text_row(r, &table).filter(|&i| table.columns[4][i] > 0) else { return table };
+    let (old, size) = (table.columns[3][i] as usize, table.columns[4][i] as usize);
+    let start = (old + r.below(5)).saturating_sub(r.below(5));
+    let end = (start + 1 + r.below(size + 5)).min(text.len());
+    let part = &text[start.min(end)..end];
+    let decoded = if r.chance(60) { counted(part) } else { 1 + r.below(part.len() + 1) };
+    for (column, value) in [(3, start), (4, part.len()), (5, decoded)] {
+        table.columns[column][i] = value as u32;
     }
     table
 }
@@ -157,6 +193,21 @@ impl Comparison<'_> {
         }
         self.seen.calls += 1;
         self.seen.note(format!("{call}: {}", ours.result[0]));
+    }
+
+    /// What the texts are that lie in the text beside a table and pass 3.
+    fn parts(&mut self, lent: &Lent) {
+        for row in lent.rows.iter().flatten().filter(|row| row.size > 0) {
+            let Some(part) = lent.text.get(row.start..row.start + row.size).filter(|part| !part.contains(&0x7F)) else { continue };
+            match characters(part) {
+                _ if row.size == row.decoded && !has_entity(part) => {}
+                _ if row.size == row.decoded && lent.inside => self.note(COPIED),
+                Some(all) if all.len() == row.decoded && lent.inside => self.note(DECODED),
+                Some(all) if all.len() != row.decoded && row.size != row.decoded => self.note(OTHER_LENGTH),
+                None if row.size != row.decoded => self.note(NO_TEXT),
+                _ => {}
+            }
+        }
     }
 
     fn note(&mut self, what: &str) {
@@ -217,6 +268,9 @@ impl Comparison<'_> {
         let bytes = records::extract_bytes(lent);
         let size = cells_lent(self.r, bytes.as_ref().map_or(5, |b| b.0.len()));
         self.same("writing an extract", &in_bytes(bytes.clone(), size), &functions::write_extract(records, lent, size));
+        if bytes.is_ok() && lent.rows.iter().flatten().any(|row| row.decoded != row.size) {
+            self.note("a text of unequal lengths written");
+        }
         bytes.map_or(vec![3, 0, 2, 0, 0], |b| b.0)
     }
 
@@ -268,7 +322,7 @@ impl Comparison<'_> {
         if text.as_ref().is_ok_and(|t| !t.0.is_empty()) {
             self.note("a text handed back");
         }
-        self.same("the text of a row", &in_bytes(text, size), &functions::row_text(records, lent, position, size));
+        self.same("the text of a row", &in_text(text, size), &functions::row_text(records, lent, position, size));
         let chain = records::row_chain(records, lent, position);
         let size = cells_lent(self.r, chain.as_ref().map_or(2, |c| c.0.len()));
         self.same("the chain of a row", &in_bytes(chain, size), &functions::row_chain(records, lent, position, size));
@@ -308,6 +362,7 @@ impl Comparison<'_> {
             self.row(records, lent);
         }
         self.row(records, &whole);
+        self.seen.texts(rows.iter(), &self.input.journal);
         if let (Ok(paths), Ok(numbers)) = (&records.paths, &found) {
             paths.iter().zip(numbers).for_each(|(p, n)| self.seen.path(p, n.len()));
         }
@@ -337,16 +392,17 @@ impl Comparison<'_> {
         self.once(&damaged, &Lent::new(&damaged, whole.table.clone(), &whole.text));
     }
 
-    /// A table with a fault, or the text beside it.
-    fn with_damaged_table(&mut self, records: &Records, whole: &Lent) {
+    /// A table that was changed, with a fault most often, or the text beside it.
+    fn with_changed_table(&mut self, records: &Records, whole: &Lent) {
         let (mut table, mut text) = (whole.table.clone(), whole.text.clone());
-        let (mut refused, mut refused_beside) = ("a table refused", "a text beside a table refused");
-        match self.r.below(10) {
+        let mut refused = "a table refused";
+        match self.r.below(12) {
             0..=3 => table = damaged_table(self.r, table),
             4..=6 => {
-                table = damaged_decoded(self.r, table);
-                (refused, refused_beside) = ("a decoded length refused", "a text of unequal lengths refused beside its bytes");
+                table = changed_decoded(self.r, table);
+                refused = "a decoded length refused";
             }
+            7..=9 => table = changed_part(self.r, table, &text),
             _ => text = damaged_text(self.r, whole),
         }
         let lent = Lent::new(records, table, &text);
@@ -354,8 +410,9 @@ impl Comparison<'_> {
             self.note(refused);
         }
         if lent.rows.is_ok() && !lent.inside {
-            self.note(refused_beside);
+            self.note("a text beside a table refused");
         }
+        self.parts(&lent);
         self.once(records, &lent);
     }
 
@@ -368,7 +425,7 @@ impl Comparison<'_> {
             self.with_damaged_record(&records, &whole);
         }
         if self.r.chance(30) {
-            self.with_damaged_table(&records, &whole);
+            self.with_changed_table(&records, &whole);
         }
     }
 }

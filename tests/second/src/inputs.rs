@@ -2,9 +2,10 @@
 use crate::bundle::{Path, AXES};
 use crate::faults;
 use crate::guided;
-use crate::journal::read_journal;
+use crate::journal::{characters, read_journal, ENTITIES};
 use crate::random::{self, Random};
-use crate::schema::{read_schema, Schema};
+use crate::schema::{read_schema, Name, Schema};
+use crate::table::Row;
 use std::collections::BTreeMap;
 
 pub const MAX_JOURNAL: usize = 1_048_576;
@@ -38,6 +39,39 @@ impl Seen {
             }
         }
     }
+}
+
+fn has(part: &[u8], written: &str) -> bool {
+    part.windows(written.len()).any(|w| w == written.as_bytes())
+}
+
+/// Whether an entity stands in the bytes.
+pub fn has_entity(part: &[u8]) -> bool {
+    ENTITIES.iter().any(|(written, _)| has(part, written))
+}
+
+impl Seen {
+    /// What the texts of rows are beside the journal that they were read from.
+    pub fn texts<'a>(&mut self, rows: impl Iterator<Item = &'a Row>, journal: &[u8]) {
+        for row in rows.filter(|row| matches!(row.name, Name::Text(_))) {
+            let part = &journal[row.start..row.start + row.size];
+            ENTITIES.iter().filter(|(written, _)| has(part, written)).for_each(|(written, _)| self.note(format!("a text with {written}")));
+            if row.decoded == row.size {
+                self.note("a text without an entity".to_string());
+            } else if row.size == 4096 {
+                self.note("a text of 4,096 raw bytes with entities".to_string());
+            }
+            if characters(part).is_some_and(|all| has_entity(&all)) {
+                self.note("a text that holds an entity once it is decoded".to_string());
+            }
+        }
+    }
+}
+
+/// What a comparison of texts must see: each entity, none, the longest text, and one of which nothing may be decoded twice.
+pub fn wanted_texts() -> Vec<String> {
+    let others = ["a text without an entity", "a text of 4,096 raw bytes with entities", "a text that holds an entity once it is decoded"];
+    ENTITIES.iter().map(|(written, _)| format!("a text with {written}")).chain(others.map(String::from)).collect()
 }
 
 /// What a comparison of selections must see: each axis with and without a condition and in brackets, with nodes and without.

@@ -33,6 +33,14 @@ fn tag(text: &[u8], place: usize) -> Option<(Token<'_>, usize)> {
     }
 }
 
+/// The five entities, and what each stands for.
+pub const ENTITIES: [(&str, u8); 5] = [("&lt;", b'<'), ("&gt;", b'>'), ("&amp;", b'&'), ("&apos;", b'\''), ("&quot;", b'"')];
+
+/// The entity at `place`.
+fn entity(text: &[u8], place: usize) -> Option<(&'static str, u8)> {
+    ENTITIES.into_iter().find(|(written, _)| text[place..].starts_with(written.as_bytes()))
+}
+
 /// Where the run of character data that starts at `place` ends, or the place of what is misspelt in it.
 fn data(text: &[u8], place: usize) -> Result<usize, usize> {
     let mut i = place;
@@ -40,14 +48,25 @@ fn data(text: &[u8], place: usize) -> Result<usize, usize> {
         if text[i..].starts_with(b"]]>") {
             return Err(i);
         }
-        if text[i] != b'&' {
-            i += 1;
-            continue;
-        }
-        let known = ["&lt;", "&gt;", "&amp;", "&apos;", "&quot;"];
-        i += known.iter().find(|e| text[i..].starts_with(e.as_bytes())).ok_or(i)?.len();
+        i += if text[i] == b'&' { entity(text, i).ok_or(i)?.0.len() } else { 1 };
     }
     Ok(i)
+}
+
+/// The characters that a journal's text stands for (document 02, R-2), where the bytes are one such text: a run that is not empty, with nothing
+/// misspelt in it. What an entity stands for is not looked at again.
+pub fn characters(run: &[u8]) -> Option<Vec<u8>> {
+    if run.is_empty() || data(run, 0) != Ok(run.len()) {
+        return None;
+    }
+    let mut all = Vec::new();
+    let mut i = 0;
+    while i < run.len() {
+        let (size, character) = entity(run, i).map_or((1, run[i]), |(written, character)| (written.len(), character));
+        all.push(character);
+        i += size;
+    }
+    Some(all)
 }
 
 fn tokens(text: &[u8]) -> Result<Vec<Token<'_>>, Refused> {
@@ -144,17 +163,17 @@ fn content_fits(schema: &Schema, text: &[u8], e: &Element) -> bool {
 }
 
 /// The rows below a parent's row, in document order, and where each node starts.
-fn rows(schema: &Schema, e: &Element, parent: usize, all: &mut Vec<(Row, usize)>) {
+fn rows(schema: &Schema, text: &[u8], e: &Element, parent: usize, all: &mut Vec<(Row, usize)>) {
     let own = all.len();
     let index = schema.element(e.name).unwrap();
     all.push((Row { number: own, name: Name::Element(index), parent, start: 0, size: 0, decoded: 0 }, e.place));
     for c in &e.children {
         match c {
-            Child::Element(c) => rows(schema, c, own, all),
+            Child::Element(c) => rows(schema, text, c, own, all),
             Child::Data(i, j) => {
                 if let Content::Characters = schema.contents[index] {
-                    let number = all.len();
-                    all.push((Row { number, name: Name::Text(index), parent: own, start: *i, size: j - i, decoded: j - i }, *i));
+                    let (number, decoded) = (all.len(), characters(&text[*i..*j]).unwrap().len());
+                    all.push((Row { number, name: Name::Text(index), parent: own, start: *i, size: j - i, decoded }, *i));
                 }
             }
         }
@@ -174,7 +193,7 @@ pub fn read_journal(schema: &Schema, text: &[u8], limit: usize) -> Result<Vec<Ro
         return Err(refused(15, e.place));
     }
     let mut made = Vec::new();
-    rows(schema, &root, 0, &mut made);
+    rows(schema, text, &root, 0, &mut made);
     if let Some((_, place)) = made.iter().enumerate().find(|(k, (r, _))| *k >= MAX_NODES || r.size > MAX_TEXT).map(|x| x.1) {
         return Err(refused(16, *place));
     }

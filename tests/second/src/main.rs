@@ -1,8 +1,9 @@
-//! A second implementation of document 01 and of document 02's R-1, written from them and not from the proved code, to compare with. Nothing here is
-//! proved.
+//! A second implementation of document 01 and of document 02's, written from them and not from the proved code, to compare with. Nothing
+//! here is proved.
 //! `second journals SEED COUNT CASES OUTCOMES` writes random journals under random schemas and their outcomes into two files, in the form of
-//! tests/timing/plain_journal.c. `second demand3 SEED COUNT` tries demand 3 on random schemas, bundles and journals. Without arguments standard input holds cases: what is done (a line), the number of texts (a line), the limits (a line), then each text after
-//! its length in four bytes. Standard output holds for each the outcome as in tests/vectors, after its length in four bytes.
+//! tests/timing/plain_journal.c. `second demand3 SEED COUNT` tries demand 3 on random schemas, bundles and journals, and that journals of two spellings
+//! give one extract. Without arguments standard input holds cases: what is done (a line), the number of texts (a line), the limits (a line), then each
+//! text after its length in four bytes. Standard output holds for each the outcome as in tests/vectors, after its length in four bytes.
 mod bundle;
 mod extract;
 #[allow(dead_code)]
@@ -21,7 +22,7 @@ mod table;
 mod text;
 
 use crate::bundle::read_bundle;
-use crate::inputs::{missing, random_bundle, random_texts, wanted_steps, Seen, MAX_JOURNAL};
+use crate::inputs::{missing, random_bundle, random_texts, wanted_steps, wanted_texts, Seen, MAX_JOURNAL};
 use crate::journal::read_journal;
 use crate::needed::{bits, bundle_needs, path_needs};
 use crate::schema::{read_schema, Name, Names, Schema};
@@ -180,6 +181,37 @@ fn numbers(rows: &[Row], path: &bundle::Path) -> Vec<usize> {
     table::selected(rows, path).into_iter().map(|i| rows[i].number).collect()
 }
 
+/// What is counted of journals that are spelt otherwise.
+const SPELT: &str = "a kept text spelt otherwise";
+
+/// What is read from the extract of rows: the rows but for text starts and raw lengths, with the same characters, which are not decoded again.
+fn try_writing(s: &Schema, rows: &[Row], text: &[u8]) -> Vec<Row> {
+    let written = extract::write_extract(rows, text);
+    let read = extract::read_extract(s, &written).expect("an extract is read back");
+    let but_texts = |r: &Row| (r.number, r.name, r.parent, r.decoded);
+    assert!(rows.iter().map(but_texts).eq(read.iter().map(but_texts)) && read.iter().all(|r| r.size == r.decoded));
+    let texts = |rows: &[Row], text: &[u8]| {
+        let all = rows.iter().filter(|r| matches!(r.name, Name::Text(_))).map(|r| table::row_characters(r, text).unwrap());
+        all.collect::<Vec<_>>()
+    };
+    assert!(texts(rows, text) == texts(&read, &written));
+    assert!(extract::write_extract(&read, &written) == written);
+    read
+}
+
+/// Two journals that differ in spelling alone give one extract. The other spelling may pass the limit of a text.
+fn try_spelling(r: &mut random::Random, seen: &mut Seen, s: &Schema, text: &[u8], needed: &Names, kept: &[Row]) {
+    let other = random::respelt(r, text);
+    let other_kept = match read_journal(s, &other, MAX_JOURNAL) {
+        Ok(rows) => table::cut(&rows, needed),
+        Err(refusal) => return assert!(refusal.number == 16),
+    };
+    assert!(extract::write_extract(&other_kept, &other) == extract::write_extract(kept, text));
+    if kept.iter().zip(&other_kept).any(|(k, o)| k.size != o.size) {
+        seen.note(SPELT.to_string());
+    }
+}
+
 /// Each path selects the same nodes on the whole journal, on its extract, and on cuts to sets that contain the needed names.
 fn try_demand3(seed: u64, count: usize) {
     let mut r = random::Random::new(seed);
@@ -192,7 +224,9 @@ fn try_demand3(seed: u64, count: usize) {
         let needed = bundle_needs(&s, &paths);
         let more: Names = (0..64).filter_map(Name::of_code).filter(|n| needed.contains(n) || r.chance(30)).collect();
         let kept = table::cut(&rows, &needed);
-        let read = extract::read_extract(&s, &extract::write_extract(&kept, &text)).expect("an extract is read back");
+        let read = try_writing(&s, &kept, &text);
+        try_spelling(&mut r, &mut seen, &s, &text, &needed, &kept);
+        seen.texts(kept.iter(), &text);
         for p in &paths {
             let whole = numbers(&rows, p);
             assert!(whole == numbers(&kept, p) && whole == numbers(&table::cut(&rows, &more), p) && whole == numbers(&read, p), "{p:?}");
@@ -202,9 +236,11 @@ fn try_demand3(seed: u64, count: usize) {
         smaller += (kept.len() < rows.len()) as usize;
         tried += 1;
     }
+    let spelt = seen.counts.get(SPELT).copied().unwrap_or(0);
     println!("demand 3 held {tried} times; {found} selections had nodes, {smaller} extracts had fewer rows than their journals");
+    println!("{spelt} journals whose kept texts were spelt otherwise gave the same extract");
     assert!(found > count / 10 && smaller > count / 10);
-    let never = missing(&seen, wanted_steps());
+    let never = missing(&seen, wanted_steps().into_iter().chain(wanted_texts()).chain([SPELT.to_string()]).collect());
     assert!(never.is_empty(), "these never came: {}", never.join("; "));
 }
 

@@ -1,5 +1,6 @@
 //! Random schemas, bundles and journals, most of them accepted, some damaged. The same seed gives the same texts.
 use crate::bundle::AXES;
+use crate::journal::ENTITIES;
 use crate::schema::{Content, Particle, Schema};
 
 /// Marsaglia's xorshift, 64 bits.
@@ -129,11 +130,17 @@ impl Maker<'_> {
     }
 
     fn characters(&mut self, r: &mut Random) {
-        if r.below(300) == 0 {
-            self.text += &"x".repeat(4095 + r.below(3));
+        if r.chance(1) {
+            // about as many bytes as a text may have, of plain ones or of an entity again and again
+            let (written, size) = (if r.chance(70) { ENTITIES[r.below(ENTITIES.len())].0 } else { "x" }, 4095 + r.below(3));
+            self.text += &(written.repeat(size / written.len()) + &"x".repeat(size % written.len()));
+            return;
         }
         for _ in 0..r.below(4) {
-            self.text += r.one(&["12", " ", "a b", "&lt;", "&amp;", "&quot;", "&gt;", "&apos;", "]", "]]", ">", "\n", "x-1", "/"]);
+            let plain = ["12", " ", "a b", "]", "]]", ">", "\n", "x-1", "/", "'", "\""];
+            self.text += if r.chance(50) { ENTITIES[r.below(ENTITIES.len())].0 } else { r.one(&plain) };
+            // what then looks like an entity once it is decoded
+            self.text += if self.text.ends_with("&amp;") && r.chance(30) { r.one(&["lt;", "amp;", "quot;"]) } else { "" };
         }
     }
 
@@ -203,6 +210,29 @@ pub fn damaged(r: &mut Random, text: &[u8]) -> Vec<u8> {
         _ => t.truncate(i),
     }
     t
+}
+
+/// The same characters spelt otherwise, now and then: `>` and both quotes by an entity, and those three entities by what they stand for.
+pub fn respelt(r: &mut Random, text: &[u8]) -> Vec<u8> {
+    let (mut out, mut i, mut in_tag) = (Vec::new(), 0, false);
+    while i < text.len() {
+        let changes = !in_tag && r.chance(40);
+        let written = ENTITIES.iter().find(|(w, c)| !matches!(c, b'<' | b'&') && text[i..].starts_with(w.as_bytes()));
+        let bare = ENTITIES.iter().find(|(_, c)| !matches!(c, b'<' | b'&') && text[i] == *c);
+        match (changes, written, bare) {
+            // `>` after `]]` has no other spelling
+            (true, Some((w, c)), _) if *c != b'>' || !out.ends_with(b"]]") => {
+                out.push(*c);
+                i += w.len();
+                continue;
+            }
+            (true, _, Some((w, _))) => out.extend(w.bytes()),
+            _ => out.push(text[i]),
+        }
+        in_tag = text[i] == b'<' || (in_tag && text[i] != b'>');
+        i += 1;
+    }
+    out
 }
 
 /// A tag changed whole: its name exchanged for another one, the tag dropped or written twice.

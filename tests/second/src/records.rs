@@ -120,7 +120,7 @@ pub struct Lent {
     pub table: Table,
     pub text: Vec<u8>,
     pub rows: Result<Vec<Row>, Refused>,
-    /// Whether its texts lie inside, in bytes that pass 3, and have two equal lengths.
+    /// Whether its texts lie inside, in bytes that pass 3, and are journal texts of their decoded lengths where their lengths are unequal.
     pub inside: bool,
 }
 
@@ -241,10 +241,20 @@ pub fn at_place(found: &Result<Vec<Vec<u32>>, Refused>, place: usize) -> Result<
     }
 }
 
-/// The text of a row, and where it starts.
-pub fn row_text(lent: &Lent, position: usize) -> Result<(Vec<u8>, u64), Refused> {
+/// The text of a row as it is written, where it starts, and its decoded length.
+pub fn row_text(lent: &Lent, position: usize) -> Result<(Vec<u8>, u64, u64), Refused> {
     let row = lent.beside()?.get(position).ok_or(NO_RECORD)?;
-    Ok((lent.text[row.start..row.start + row.size].to_vec(), row.start as u64))
+    Ok((lent.text[row.start..row.start + row.size].to_vec(), row.start as u64, row.decoded as u64))
+}
+
+/// The same in lent cells, with the decoded length at the place of a refusal's place.
+pub fn in_text(text: Result<(Vec<u8>, u64, u64), Refused>, lent: usize) -> Left {
+    let decoded = text.as_ref().map_or(0, |t| t.2);
+    let mut all = in_bytes(text.map(|(bytes, start, _)| (bytes, start)), lent);
+    if all.result[0] == 0 {
+        all.result[1] = decoded;
+    }
+    all
 }
 
 pub fn row_chain(records: &Records, lent: &Lent, position: usize) -> Result<(Vec<u8>, u64), Refused> {

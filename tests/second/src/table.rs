@@ -1,5 +1,6 @@
 //! Tables of rows: what is well formed, cutting, selecting, chains of tags.
 use crate::bundle::{Axis, Path, Step, Test};
+use crate::journal::characters;
 use crate::schema::{Name, Names, Schema};
 use crate::text::is_foreign;
 use std::collections::HashSet;
@@ -51,10 +52,19 @@ pub fn well_formed(schema: &Schema, rows: &[Row]) -> bool {
         && (1..rows.len()).all(|i| later_fits(schema, rows, i))
 }
 
-/// Each text lies inside, in bytes that pass 3. None is decoded yet: its lengths are equal.
+/// What a text row stands for beside its text (document 02, R-2): the bytes themselves where its two lengths are equal, else the characters of one
+/// journal text, as many as its decoded length. None where there is no such thing, or a byte fails 3.
+pub fn row_characters(row: &Row, text: &[u8]) -> Option<Vec<u8>> {
+    let part = text.get(row.start..row.start + row.size).filter(|part| !part.iter().any(|&b| is_foreign(b)))?;
+    if row.size == row.decoded {
+        return Some(part.to_vec());
+    }
+    characters(part).filter(|all| all.len() == row.decoded)
+}
+
+/// Each text row stands for something in the text.
 pub fn texts_inside(rows: &[Row], text: &[u8]) -> bool {
-    let inside = |r: &Row| text.get(r.start..r.start + r.size).is_some_and(|t| !t.iter().any(|&b| is_foreign(b)));
-    rows.iter().filter(|r| matches!(r.name, Name::Text(_))).all(|r| r.decoded == r.size && inside(r))
+    rows.iter().filter(|r| matches!(r.name, Name::Text(_))).all(|r| row_characters(r, text).is_some())
 }
 
 pub fn cut(rows: &[Row], set: &Names) -> Vec<Row> {

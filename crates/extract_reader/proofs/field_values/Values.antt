@@ -125,7 +125,7 @@ module _ (bs words levels : List ℕ) (c : Carried) (size : ℕ) (h : ValuePass 
         let s = wordTypes words in
         let st = stateIn levels c in
         ap (laterStep s bs st last) text-item
-        ∙ ap (λ (os : List Placed). cond (not (isEmpty os) && textFits s bs st number os (c .at + 7) n) (onward (textRow number (topElement os) (topRow os) (c .at + 7) n) (state (suc (c .rows)) number true os)) wrong)
+        ∙ ap (λ (os : List Placed). cond (not (isEmpty os) && textFits s bs st number os (c .at + 7) n) (onward (textRow number (topElement os) (topRow os) (c .at + 7) n n) (state (suc (c .rows)) number true os)) wrong)
         (sym (level .found))
         ∙ ap (λ (t : Bool). cond t (fieldStep levels (c .rows) (c .at + 7) (Text number d n)) wrong) (text-test words bs levels (stateIn levels c) number d (c .at + 7) n)
 

@@ -116,7 +116,7 @@ module _ (bs words levels : List ℕ) (c : Carried) (h : Ready bs levels c) (r :
         let b = text-field .bounds in
         let past : pastField bs (c .at) ≡ c .at + 7 + size = omega (arith, b .2) in
         let inside : c .at + 7 + size ≤ length bs = omega (arith, ⊎-elim (λ w. never (cc)) (λ l. l) (text-field .inside), past) in
-        let row = textRow number (topElement (levelsIn levels d)) (topRow (levelsIn levels d)) (c .at + 7) size in
+        let row = textRow number (topElement (levelsIn levels d)) (topRow (levelsIn levels d)) (c .at + 7) size size in
         let code : lastElement levels d + maxDeclarations ≡ maxDeclarations + topElement (levelsIn levels d) = omega (arith, top-element levels d (b .0 .low)) in
         subst (StepAs bs words levels c levels) (sym same)
         (row-field row (sym (text-field .step) ∙ ap (λ (n : ℕ). onward row (state n number true (levelsIn levels d))) (sym (add-one (c .rows))))

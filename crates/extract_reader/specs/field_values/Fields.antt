@@ -26,7 +26,7 @@ fieldStep levels next start Ended = ended
 fieldStep levels next start (Element number e d) =
     onward (elementRow number e (topRow (levelsIn levels d))) (state (suc next) number false (placed next number e ∷ levelsIn levels d))
 fieldStep levels next start (Text number d size) =
-    onward (textRow number (topElement (levelsIn levels d)) (topRow (levelsIn levels d)) start size) (state (suc next) number true (levelsIn levels d))
+    onward (textRow number (topElement (levelsIn levels d)) (topRow (levelsIn levels d)) start size size) (state (suc next) number true (levelsIn levels d))
 
 -- ---- what the functions ask and answer
 -- a value of so many bytes after the tag and the length of the field at the carried place

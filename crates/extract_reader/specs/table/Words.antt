@@ -83,7 +83,7 @@ module _ (s t : Types) (root : s .root ≡ t .root) (elements : (a b : ℕ) → 
   same-later st last (textItem number parent start size) =
       let os = openFrom parent (st .levels) in
       ap (λ (b : Bool). cond (not (isEmpty os) && (numberFits st number && (b && (not (st .afterText) && (leb 1 size && (leb size maxTextBytes && allOf (λ x. not (isForeign x)) (part start size bs)))))))
-      (onward (textRow number (topElement os) (topRow os) start size) (state (suc (st .rows)) number true os)) wrong) (texts (topElement os))
+      (onward (textRow number (topElement os) (topRow os) start size size) (state (suc (st .rows)) number true os)) wrong) (texts (topElement os))
 
   same-step : (k : ℕ) (st : State) → stepAt s bs k st ≡ stepAt t bs k st
   unfolding stepAt

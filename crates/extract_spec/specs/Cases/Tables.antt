@@ -32,7 +32,7 @@ rowsJ start =
     ∷ elementRow 2 2 1
     ∷ elementRow 3 3 2
     ∷ elementRow 4 4 3
-    ∷ textRow 5 4 4 start 2
+    ∷ textRow 5 4 4 start 2 2
     ∷ elementRow 6 3 1
     ∷ []
 
@@ -76,9 +76,9 @@ cut-by-names = refl
 -- of a table in which the cut row stands before its parents: `<scan><plate><well/><tile><focus>x</focus></tile></plate></scan>`; 64 bits
 -- with bits 0, 1, 3, 4 and 36, and bits 5 and 63, which mean nothing
 abbrev pub rowsK : List Row
-rowsK = elementRow 0 0 0 ∷ elementRow 1 1 0 ∷ elementRow 2 2 1 ∷ elementRow 3 3 1 ∷ elementRow 4 4 3 ∷ textRow 5 4 4 33 1 ∷ []
+rowsK = elementRow 0 0 0 ∷ elementRow 1 1 0 ∷ elementRow 2 2 1 ∷ elementRow 3 3 1 ∷ elementRow 4 4 3 ∷ textRow 5 4 4 33 1 1 ∷ []
 
-pub parents-renumbered : cutToWord typesS 9223372105574252603 rowsK ≡ elementRow 0 0 0 ∷ elementRow 1 1 0 ∷ elementRow 3 3 1 ∷ elementRow 4 4 2 ∷ textRow 5 4 3 33 1 ∷ []
+pub parents-renumbered : cutToWord typesS 9223372105574252603 rowsK ≡ elementRow 0 0 0 ∷ elementRow 1 1 0 ∷ elementRow 3 3 1 ∷ elementRow 4 4 2 ∷ textRow 5 4 3 33 1 1 ∷ []
 unfolding computing
 parents-renumbered = refl
 

@@ -1,16 +1,17 @@
 -- The characters of a journal's text, written one after the other: what begins at a place of the text, and how far writing has come.
-use mathlib.Core.Bool.{Bool, true, false, _&&_}
+use mathlib.Core.Bool.{Bool, true, false, cond, _&&_}
 use mathlib.Core.List.{List, [], _∷_, _++_}
 use mathlib.Core.Path.{_≡_, refl, sym, ap, ap₂, _∙_}
 use Prim.Native.Nat.{ℕ, zero, suc, _+_, _-_, _≤_, _<_}
 use native.Mathlib.Numerals.{add-one}
 use native.Mathlib.Omega.{arith}
-use borrow.Author.Tests.{ne-eqb}
+use borrow.Author.Tests.{eq-eqb, ne-eqb}
 use lib.Dec.{T, eqb, eqb→eq}
 use lib.ListN.{length, getD, set, drop, length-append, length-drop, length-set, drop-of-length-le}
 use lib.Seq.{sets, drop-cons, drop-drop}
-use Rattle.extract_writer.specs.fields.Fields.{stored, stored-nothing}
+use Rattle.extract_writer.specs.fields.Fields.{wholeCharacters, stored, stored-nothing}
 use Rattle.extract_writer.specs.rows.Rows.{StoredAt}
+use Rattle.table_spec.specs.Rows.{charactersBy}
 use Rattle.text_laws.specs.Tests.{never, passed, and-cases}
 use Rattle.text_spec.specs.Lists.{bytes, beginsWith}
 use Rattle.token_laws.specs.Characters.{decode-entity, decode-other, decode-filled}
@@ -181,3 +182,12 @@ module _ (t was : List ℕ) (at : ℕ) where
         let z : decode (drop i t) ≡ [] = ap decode (drop-of-length-le t l) ∙ decode-none in
         let y : length (decode (drop i t)) ≡ 0 = ap length z in
         record { bytes = sym (stored-nothing out end) ∙ ap (stored out end) (sym z) ∙ h .bytes; after = omega (arith, h .after) }
+
+-- ---- copied or decoded
+pub copied-as : (w : List ℕ) (n : ℕ) → n ≡ length w → wholeCharacters n w ≡ w
+unfolding charactersBy
+copied-as w n e = ap (λ (b : Bool). cond b w (decode w)) (eq-eqb n (length w) e)
+
+pub decoded-as : (w : List ℕ) (n : ℕ) → (n ≡ length w → ⊥) → wholeCharacters n w ≡ decode w
+unfolding charactersBy
+decoded-as w n d = ap (λ (b : Bool). cond b w (decode w)) (ne-eqb n (length w) d)

@@ -1,18 +1,30 @@
 -- The bytes of an extract's fields, written from a place on.
 use mathlib.Core.List.{List, [], _∷_, _++_}
 use mathlib.Core.Path.{_≡_, refl, sym, ap, subst, _∙_}
-use Prim.Native.Nat.{ℕ, _+_, _/_, _%_}
+use Prim.Native.Nat.{ℕ, _+_, _/_, _%_, _≤_}
 use native.Mathlib.Omega.{arith}
 use lib.ListN.{length, set, length-set}
 use lib.Seq.{sets, length-sets}
 use Rattle.cells.specs.written_text.Written.{WrittenAt}
 use Rattle.extract_spec.specs.Fields.{twoBytes, field, elementTag, textTag, countTag, rowField}
 use Rattle.schema_spec.specs.Names.{element, text}
+use Rattle.table_spec.specs.Rows.{charactersBy}
 use Rattle.text_laws.specs.Cells.{sets-append}
+use Rattle.text_spec.specs.Limits.{maxTextBytes}
 
 -- the tag, the length and the two numbers that a row's field begins with
 abbrev pub head : ℕ → ℕ → ℕ → ℕ → List ℕ
 head tag size number parent = tag ∷ (twoBytes size ++ (twoBytes number ++ twoBytes parent))
+
+-- the characters of a whole text, by their number
+abbrev pub wholeCharacters : ℕ → List ℕ → List ℕ
+wholeCharacters decoded w = charactersBy (length w) decoded w
+
+-- a text's field can be written at a place: it has so many characters, and there is room for them
+pub record TextPass (w : List ℕ) (decoded : ℕ) (out : List ℕ) (at : ℕ) : Type 0 where
+  pub short : decoded ≤ maxTextBytes
+  pub spelt : length (wholeCharacters decoded w) ≡ decoded
+  pub room : at + 7 + decoded ≤ length out
 
 -- bytes stored one after the other from a place on
 unfoldable pub stored : List ℕ → ℕ → List ℕ → List ℕ
@@ -68,11 +80,11 @@ module _ (o : List ℕ) (k : ℕ) where
       ap (λ (u : List ℕ). set u (k + 7) e) d ∙ one-stored (stored o k (head elementTag 5 number parent)) (k + 7) e
       ∙ stored-after o k (head elementTag 5 number parent) (e ∷ []) (k + 7) refl
 
-  pub text-stored : (number parent : ℕ) (w x y : List ℕ) → x ≡ stored o k (head textTag (length w + 4) number parent) → y ≡ stored x (k + 7) w
+  pub text-stored : (number parent size : ℕ) (w x y : List ℕ) → length w ≡ size → x ≡ stored o k (head textTag (size + 4) number parent) → y ≡ stored x (k + 7) w
       → y ≡ stored o k (rowField (text 0) number parent w)
-  text-stored number parent w x y d f =
-      let z : length w + 4 ≡ length (twoBytes number ++ (twoBytes parent ++ w)) = omega arith in
-      f ∙ ap (λ (u : List ℕ). stored u (k + 7) w) d ∙ stored-after o k (head textTag (length w + 4) number parent) w (k + 7) refl
+  text-stored number parent size w x y e d f =
+      let z : size + 4 ≡ length (twoBytes number ++ (twoBytes parent ++ w)) = omega arith in
+      f ∙ ap (λ (u : List ℕ). stored u (k + 7) w) d ∙ stored-after o k (head textTag (size + 4) number parent) w (k + 7) refl
       ∙ ap (λ (n : ℕ). stored o k (head textTag n number parent ++ w)) z
 
   pub count-stored : (n : ℕ) (x y : List ℕ) → x ≡ stored (set o k countTag) (k + 1) (twoBytes 2) → y ≡ stored x (k + 3) (twoBytes n)

@@ -24,7 +24,7 @@ use Rattle.schema_spec.specs.Names.{Name, Names, codeOf}
 use Rattle.schema_spec.specs.Types.{Types}
 use Rattle.table_laws.specs.Parents.{nodes-placed}
 use Rattle.table_laws.specs.Places.{at-bound, at-some, at-in}
-use Rattle.table_spec.specs.Rows.{Row, textOf}
+use Rattle.table_spec.specs.Rows.{Row, charactersBy, charactersOf}
 use Rattle.table_spec.specs.Tables.{wellFormed}
 use Rattle.text_laws.specs.Tests.{passed, true-of, and-cases}
 use Rattle.text_spec.specs.Lists.{gather, part}
@@ -38,10 +38,13 @@ unfolding picked marks
 picked-all [] = refl
 picked-all {A} (x ∷ xs) = ap (λ (l : List A). x ∷ l) (picked-all xs)
 
-same-field : (lent : List ℕ) (n k : Name) (a b c d s t u v : ℕ) → n ≡ k → a ≡ b → c ≡ d → s ≡ t → u ≡ v → rowField n a c (part s u lent) ≡ rowField k b d (part t v lent)
-same-field lent n k a b c d s t u v e f g h i =
-    ap (λ (x : Name). rowField x a c (part s u lent)) e ∙ ap (λ (x : ℕ). rowField k x c (part s u lent)) f ∙ ap (λ (x : ℕ). rowField k b x (part s u lent)) g
-    ∙ ap₂ (λ (x y : ℕ). rowField k b d (part x y lent)) h i
+same-characters : (lent : List ℕ) (s t u v w z : ℕ) → s ≡ t → u ≡ v → w ≡ z → charactersBy u w (part s u lent) ≡ charactersBy v z (part t v lent)
+same-characters lent s t u v w z e f g =
+    ap₂ (λ (x y : ℕ). charactersBy y w (part x y lent)) e f ∙ ap (λ (x : ℕ). charactersBy v x (part t v lent)) g
+
+same-field : (n k : Name) (a b c d : ℕ) (u v : List ℕ) → n ≡ k → a ≡ b → c ≡ d → u ≡ v → rowField n a c u ≡ rowField k b d v
+same-field n k a b c d u v e f g h =
+    ap (λ (x : Name). rowField x a c u) e ∙ ap (λ (x : ℕ). rowField k x c u) f ∙ ap (λ (x : ℕ). rowField k b x u) g ∙ ap (rowField k b d) h
 
 module _ (s : Types) (lent : List ℕ) (rows : List Row) (ok : T (wellFormed s rows)) (coded : CodesNamed rows) where
   -- the row of a row's parent
@@ -53,13 +56,13 @@ module _ (s : Types) (lent : List ℕ) (rows : List Row) (ok : T (wellFormed s r
       at-some rows (r .parent) (omega arith)
 
   field-row : (q : ℕ) (r p : Row) → getElem? rows q ≡ some r → getElem? rows (r .parent) ≡ some p
-      → fieldAt lent (columnsIn rows) q ≡ rowField (r .name) (r .number) (p .number) (textOf lent r)
+      → fieldAt lent (columnsIn rows) q ≡ rowField (r .name) (r .number) (p .number) (charactersOf lent r)
   unfolding fieldAt
   field-row q r p a b =
-      same-field lent _ (r .name) _ (r .number) _ (p .number) _ (r .start) _ (r .size) (ap nameOfCode (getD-map (λ x. codeOf (x .name)) rows q r a) ∙ coded r (at-in rows q r a))
+      same-field _ (r .name) _ (r .number) _ (p .number) _ (charactersOf lent r) (ap nameOfCode (getD-map (λ x. codeOf (x .name)) rows q r a) ∙ coded r (at-in rows q r a))
       (getD-map (λ x. x .number) rows q r a)
       (ap (λ (k : ℕ). getD (map (λ x. x .number) rows) k 0) (getD-map (λ x. x .parent) rows q r a) ∙ getD-map (λ x. x .number) rows (r .parent) p b)
-      (getD-map (λ x. x .start) rows q r a) (getD-map (λ x. x .size) rows q r a)
+      (same-characters lent _ (r .start) _ (r .size) _ (r .decoded) (getD-map (λ x. x .start) rows q r a) (getD-map (λ x. x .size) rows q r a) (getD-map (λ x. x .decoded) rows q r a))
 
   -- the extract of the whole table
   pub table-extract : extractIn lent (columnsIn rows) (marks (length rows) (λ r. true)) ≡ writeExtract lent rows
@@ -75,7 +78,7 @@ module _ (s : Types) (lent : List ℕ) (rows : List Row) (ok : T (wellFormed s r
       row : (q : ℕ) (r : Row) → getElem? rows q ≡ some r → isMarked m q ≡ true → fieldAt lent (columnsIn rows) q ≡ fieldOf lent rows r
       row q r a k =
           let p = parent-row q r a in
-          field-row q r (p .0) a (p .1) ∙ sym (ap (λ (o : Option Row). rowField (r .name) (r .number) (numberAt o) (textOf lent r)) (p .1))
+          field-row q r (p .0) a (p .1) ∙ sym (ap (λ (o : Option Row). rowField (r .name) (r .number) (numberAt o) (charactersOf lent r)) (p .1))
 
       fields : joined (fieldAt lent (columnsIn rows)) m (length m) ≡ gather (fieldOf lent rows) rows
       fields =
@@ -137,7 +140,7 @@ module _ (s : Types) (lent : List ℕ) (rows : List Row) (ok : T (wellFormed s r
         row q r a k =
             let p = parent-row q r a in
             field-row q r (p .0) a (p .1)
-            ∙ sym (ap (λ (o : Option Row). rowField (r .name) (r .number) (numberAt o) (textOf lent r))
+            ∙ sym (ap (λ (o : Option Row). rowField (r .name) (r .number) (numberAt o) (charactersOf lent r))
             (ap (λ (c : List Row). getElem? c (rank m (r .parent))) chosen
             ∙ at-mapped (renumberedBy m) (picked m rows) (rank m (r .parent)) (p .0) (picked-at m rows (r .parent) (p .0) (p .1) (above q r a k))))
 

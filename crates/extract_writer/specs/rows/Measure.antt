@@ -15,7 +15,7 @@ use Rattle.kept_rows.specs.Positions.{rank-bound}
 use Rattle.text_spec.specs.Limits.{maxDeclarations, maxNodes}
 
 abbrev pub sizesIn : List ℕ → List ℕ → ℕ → ℕ
-sizesIn codes lengths r = fieldSize (getD codes r 0) (getD lengths r 0)
+sizesIn codes decoded r = fieldSize (getD codes r 0) (getD decoded r 0)
 
 -- the size of a row's field, if its mark is set
 unfoldable pub markedSize : ℕ → ℕ → ℕ → ℕ
@@ -42,29 +42,29 @@ marked-bound mark code size n e l = rw e (pick (eqb mark 1) (ltb code maxDeclara
     pick true false = omega arith
     pick false b = omega arith
 
-pub record MeasurePass (codes lengths m : List ℕ) : Type 0 where
+pub record MeasurePass (codes decoded m : List ℕ) : Type 0 where
   pub marked : OnlyMarks m
   pub few : length m ≤ maxNodes
   pub names : length codes ≡ length m
-  pub sizes : length lengths ≡ length m
+  pub sizes : length decoded ≡ length m
 
 -- r rows behind
-pub record Measuring (codes lengths m : List ℕ) (r bytes rows : ℕ) : Type 0 where
+pub record Measuring (codes decoded m : List ℕ) (r bytes rows : ℕ) : Type 0 where
   pub within : r ≤ length m
-  pub bytes-are : bytes ≡ total (sizesIn codes lengths) m r
+  pub bytes-are : bytes ≡ total (sizesIn codes decoded) m r
   pub rows-are : rows ≡ rank m r
   pub low : bytes ≤ r * mostBytes
 
-pub record MeasuredAs (codes lengths m : List ℕ) (bytes rows : ℕ) : Type 0 where
-  pub bytes-are : bytes ≡ total (sizesIn codes lengths) m (length m)
+pub record MeasuredAs (codes decoded m : List ℕ) (bytes rows : ℕ) : Type 0 where
+  pub bytes-are : bytes ≡ total (sizesIn codes decoded) m (length m)
   pub rows-are : rows ≡ rank m (length m)
 
-module _ (codes lengths m : List ℕ) where
-  pub measuring-none : Measuring codes lengths m 0 0 0
+module _ (codes decoded m : List ℕ) where
+  pub measuring-none : Measuring codes decoded m 0 0 0
   measuring-none =
-      record { within = omega arith; bytes-are = sym (total-none (sizesIn codes lengths) m); rows-are = sym (total-none (λ q. 1) m); low = omega arith }
+      record { within = omega arith; bytes-are = sym (total-none (sizesIn codes decoded) m); rows-are = sym (total-none (λ q. 1) m); low = omega arith }
 
-  module _ (h : MeasurePass codes lengths m) (r bytes rows : ℕ) (w : Measuring codes lengths m r bytes rows) (l : r < length m) where
+  module _ (h : MeasurePass codes decoded m) (r bytes rows : ℕ) (w : Measuring codes decoded m r bytes rows) (l : r < length m) where
     pub rows-few : rows ≤ r
     rows-few = omega (arith, w .rows-are, rank-bound m r)
 
@@ -75,19 +75,19 @@ module _ (codes lengths m : List ℕ) where
         pick true = omega arith
         pick false = omega arith
 
-    pub measuring-next : (n : ℕ) → n ≡ markedSize (getD m r 0) (getD codes r 0) (getD lengths r 0) → n ≤ mostBytes
-        → Measuring codes lengths m (r + 1) (bytes + n) (rows + getD m r 0)
+    pub measuring-next : (n : ℕ) → n ≡ markedSize (getD m r 0) (getD codes r 0) (getD decoded r 0) → n ≤ mostBytes
+        → Measuring codes decoded m (r + 1) (bytes + n) (rows + getD m r 0)
     unfolding markedSize total
     measuring-next n e b =
         record {
           within = omega arith;
-          bytes-are = ap (λ (k : ℕ). k + n) (w .bytes-are) ∙ ap (λ (k : ℕ). total (sizesIn codes lengths) m r + k) e ∙ sym (ap (total (sizesIn codes lengths) m) (add-one r));
+          bytes-are = ap (λ (k : ℕ). k + n) (w .bytes-are) ∙ ap (λ (k : ℕ). total (sizesIn codes decoded) m r + k) e ∙ sym (ap (total (sizesIn codes decoded) m) (add-one r));
           rows-are =
               ap (λ (k : ℕ). k + getD m r 0) (w .rows-are) ∙ ap (λ (k : ℕ). rank m r + k) (mark-at m (h .marked) r l) ∙ sym (ap (rank m) (add-one r));
           low = omega (arith, w .low);
         }
 
-  pub measured : (r bytes rows : ℕ) → Measuring codes lengths m r bytes rows → length m ≤ r → MeasuredAs codes lengths m bytes rows
+  pub measured : (r bytes rows : ℕ) → Measuring codes decoded m r bytes rows → length m ≤ r → MeasuredAs codes decoded m bytes rows
   measured r bytes rows w l =
       let z : r ≡ length m = omega (arith, w .within) in
-      record { bytes-are = w .bytes-are ∙ ap (total (sizesIn codes lengths) m) z; rows-are = w .rows-are ∙ ap (rank m) z }
+      record { bytes-are = w .bytes-are ∙ ap (total (sizesIn codes decoded) m) z; rows-are = w .rows-are ∙ ap (rank m) z }

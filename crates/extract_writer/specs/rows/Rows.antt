@@ -13,42 +13,47 @@ use mir.Syntax.{w64}
 use mir.Val.{Fits}
 use Rattle.cells.specs.row_sets.Columns.{isMarked}
 use Rattle.extract_spec.specs.Fields.{rowField}
-use Rattle.extract_writer.specs.fields.Fields.{stored, stored-after, stored-length, stored-nothing}
+use Rattle.extract_writer.specs.fields.Fields.{wholeCharacters, TextPass, stored, stored-after, stored-length, stored-nothing}
 use Rattle.kept_rows.specs.Joined.{joined, joined-none}
 use Rattle.kept_rows.specs.cut_rows.Rows.{OfLength}
 use Rattle.names.specs.codes.Codes.{nameOfCode}
 use Rattle.names.specs.codes.Laws.{element-of-code, text-of-code}
 use Rattle.schema_spec.specs.Names.{Name, element, text}
 use Rattle.table_spec.specs.Columns.{Columns}
+use Rattle.table_spec.specs.Rows.{charactersBy}
 use Rattle.text_spec.specs.Limits.{maxDeclarations, maxNodes, maxTextBytes}
 use Rattle.text_spec.specs.Lists.{part}
 
 -- ---- definitions
--- the field of row r: its parent by number, its text a part of the text lent
+-- the characters of row r: those of its part of the text lent
+abbrev pub rowCharacters : List ℕ → Columns → ℕ → List ℕ
+rowCharacters lent c r = charactersBy (getD (c .lengths) r 0) (getD (c .decoded) r 0) (part (getD (c .starts) r 0) (getD (c .lengths) r 0) lent)
+
+-- the field of row r: its parent by number, and its characters
 unfoldable pub fieldAt : List ℕ → Columns → ℕ → List ℕ
 fieldAt lent c r =
-    rowField (nameOfCode (getD (c .names) r 0)) (getD (c .numbers) r 0) (getD (c .numbers) (getD (c .parents) r 0) 0)
-    (part (getD (c .starts) r 0) (getD (c .lengths) r 0) lent)
+    rowField (nameOfCode (getD (c .names) r 0)) (getD (c .numbers) r 0) (getD (c .numbers) (getD (c .parents) r 0) 0) (rowCharacters lent c r)
 
 -- the same, if the row's mark is set
 unfoldable pub markedField : List ℕ → Columns → ℕ → ℕ → List ℕ
 markedField lent c mark r = cond (eqb mark 1) (fieldAt lent c r) []
 
--- how many bytes a field has, by its row's code and the length of its text
+-- how many bytes a field has, by its row's code and the number of its characters
 unfoldable pub fieldSize : ℕ → ℕ → ℕ
 fieldSize code size = cond (ltb code maxDeclarations) 8 (7 + size)
 
 abbrev pub sizeAt : Columns → ℕ → ℕ
-sizeAt c r = fieldSize (getD (c .names) r 0) (getD (c .lengths) r 0)
+sizeAt c r = fieldSize (getD (c .names) r 0) (getD (c .decoded) r 0)
 
 -- ---- what is asked
--- n rows whose parents are among them, and each text row's range inside the text
-pub record TextColumns (lent : List ℕ) (c : Columns) (n : ℕ) : Type 0 where
+-- n rows whose parents are among them, each text row's range inside the text, and as many characters as its decoded length
+pub record ExtractColumns (lent : List ℕ) (c : Columns) (n : ℕ) : Type 0 where
   pub sizes : OfLength c n
   pub few : n ≤ maxNodes
   pub above : (r : ℕ) → r < n → getD (c .parents) r 0 < n
   pub inside : (r : ℕ) → r < n → maxDeclarations ≤ getD (c .names) r 0 → getD (c .starts) r 0 + getD (c .lengths) r 0 ≤ length lent
-  pub short : (r : ℕ) → r < n → maxDeclarations ≤ getD (c .names) r 0 → getD (c .lengths) r 0 ≤ maxTextBytes
+  pub spelt : (r : ℕ) → r < n → maxDeclarations ≤ getD (c .names) r 0 → length (rowCharacters lent c r) ≡ getD (c .decoded) r 0
+  pub short : (r : ℕ) → r < n → maxDeclarations ≤ getD (c .names) r 0 → getD (c .decoded) r 0 ≤ maxTextBytes
 
 -- ---- sizes of fields
 pub size-element : (code size : ℕ) → code < maxDeclarations → 8 ≡ fieldSize code size
@@ -72,28 +77,28 @@ module _ (lent : List ℕ) (c : Columns) (r : ℕ) where
       → rowField (element (getD (c .names) r 0)) (getD (c .numbers) r 0) (getD (c .numbers) (getD (c .parents) r 0) 0) [] ≡ fieldAt lent c r
   unfolding fieldAt
   element-field l =
-      sym (ap (λ (m : Name). rowField m (getD (c .numbers) r 0) (getD (c .numbers) (getD (c .parents) r 0) 0) (part (getD (c .starts) r 0) (getD (c .lengths) r 0) lent))
+      sym (ap (λ (m : Name). rowField m (getD (c .numbers) r 0) (getD (c .numbers) (getD (c .parents) r 0) 0) (rowCharacters lent c r))
       (element-of-code (getD (c .names) r 0) l))
 
   pub text-field : maxDeclarations ≤ getD (c .names) r 0
-      → rowField (text 0) (getD (c .numbers) r 0) (getD (c .numbers) (getD (c .parents) r 0) 0) (part (getD (c .starts) r 0) (getD (c .lengths) r 0) lent) ≡ fieldAt lent c r
+      → rowField (text 0) (getD (c .numbers) r 0) (getD (c .numbers) (getD (c .parents) r 0) 0) (rowCharacters lent c r) ≡ fieldAt lent c r
   unfolding fieldAt
   text-field l =
-      sym (ap (λ (m : Name). rowField m (getD (c .numbers) r 0) (getD (c .numbers) (getD (c .parents) r 0) 0) (part (getD (c .starts) r 0) (getD (c .lengths) r 0) lent))
+      sym (ap (λ (m : Name). rowField m (getD (c .numbers) r 0) (getD (c .numbers) (getD (c .parents) r 0) 0) (rowCharacters lent c r))
       (text-of-code (getD (c .names) r 0) l))
 
-  pub field-length : (n : ℕ) → TextColumns lent c n → r < n → length (fieldAt lent c r) ≡ sizeAt c r
+  pub field-length : (n : ℕ) → ExtractColumns lent c n → r < n → length (fieldAt lent c r) ≡ sizeAt c r
   field-length n h l = pick (ltb (getD (c .names) r 0) maxDeclarations) refl
     where
       pick : (b : Bool) → ltb (getD (c .names) r 0) maxDeclarations ≡ b → length (fieldAt lent c r) ≡ sizeAt c r
       pick true q =
           let k = ltb-true (getD (c .names) r 0) maxDeclarations q in
-          ap length (sym (element-field k)) ∙ size-element (getD (c .names) r 0) (getD (c .lengths) r 0) k
+          ap length (sym (element-field k)) ∙ size-element (getD (c .names) r 0) (getD (c .decoded) r 0) k
       pick false q =
           let k = ltb-false (getD (c .names) r 0) maxDeclarations q in
-          let z = part-length lent (getD (c .starts) r 0) (getD (c .lengths) r 0) (h .inside r l k) in
-          let y : length (rowField (text 0) (getD (c .numbers) r 0) (getD (c .numbers) (getD (c .parents) r 0) 0) (part (getD (c .starts) r 0) (getD (c .lengths) r 0) lent)) ≡ 7 + getD (c .lengths) r 0 = omega arith in
-          ap length (sym (text-field k)) ∙ y ∙ size-text (getD (c .names) r 0) (getD (c .lengths) r 0) k
+          let z = h .spelt r l k in
+          let y : length (rowField (text 0) (getD (c .numbers) r 0) (getD (c .numbers) (getD (c .parents) r 0) 0) (rowCharacters lent c r)) ≡ 7 + getD (c .decoded) r 0 = omega arith in
+          ap length (sym (text-field k)) ∙ y ∙ size-text (getD (c .names) r 0) (getD (c .decoded) r 0) k
 
   pub unmarked-field : (mark : ℕ) → (mark ≡ 1 → ⊥) → markedField lent c mark r ≡ []
   unfolding markedField
@@ -106,7 +111,7 @@ module _ (lent : List ℕ) (c : Columns) (r : ℕ) where
 -- ---- one row
 -- there is room for the field at a place
 pub record RowPass (lent : List ℕ) (c : Columns) (mark r : ℕ) (out : List ℕ) (at : ℕ) : Type 0 where
-  pub columns : TextColumns lent c (length (c .numbers))
+  pub columns : ExtractColumns lent c (length (c .numbers))
   pub inside : r < length (c .numbers)
   pub room : at + length (markedField lent c mark r) ≤ length out
 
@@ -152,7 +157,7 @@ module _ (lent : List ℕ) (c : Columns) (mark r : ℕ) (was : List ℕ) (at : �
   row-room e = omega (arith, h .room, ap length (marked-field lent c r mark e), field-length lent c r (length (c .numbers)) (h .columns) (h .inside))
 
   pub element-room : mark ≡ 1 → getD (c .names) r 0 < maxDeclarations → at + 8 ≤ length was
-  element-room e l = omega (arith, row-room e, size-element (getD (c .names) r 0) (getD (c .lengths) r 0) l)
+  element-room e l = omega (arith, row-room e, size-element (getD (c .names) r 0) (getD (c .decoded) r 0) l)
 
   pub element-put : mark ≡ 1 → getD (c .names) r 0 < maxDeclarations → (out : List ℕ)
       → out ≡ stored was at (rowField (element (getD (c .names) r 0)) (getD (c .numbers) r 0) (getD (c .numbers) (getD (c .parents) r 0) 0) [])
@@ -161,37 +166,41 @@ module _ (lent : List ℕ) (c : Columns) (mark r : ℕ) (was : List ℕ) (at : �
       rw (marked-field lent c r mark e)
       (record {
         bytes = q ∙ ap (stored was at) (element-field lent c r l);
-        after = omega (arith, field-length lent c r (length (c .numbers)) (h .columns) (h .inside), size-element (getD (c .names) r 0) (getD (c .lengths) r 0) l);
+        after = omega (arith, field-length lent c r (length (c .numbers)) (h .columns) (h .inside), size-element (getD (c .names) r 0) (getD (c .decoded) r 0) l);
       })
 
-  pub text-length : maxDeclarations ≤ getD (c .names) r 0 → length (part (getD (c .starts) r 0) (getD (c .lengths) r 0) lent) ≡ getD (c .lengths) r 0
+  text-length : maxDeclarations ≤ getD (c .names) r 0 → length (part (getD (c .starts) r 0) (getD (c .lengths) r 0) lent) ≡ getD (c .lengths) r 0
   text-length l = part-length lent (getD (c .starts) r 0) (getD (c .lengths) r 0) (h .columns .inside r (h .inside) l)
 
-  pub text-room : mark ≡ 1 → maxDeclarations ≤ getD (c .names) r 0 → at + 7 + getD (c .lengths) r 0 ≤ length was
-  text-room e l = omega (arith, row-room e, size-text (getD (c .names) r 0) (getD (c .lengths) r 0) l)
+  ranged-characters : maxDeclarations ≤ getD (c .names) r 0 → wholeCharacters (getD (c .decoded) r 0) ranged ≡ rowCharacters lent c r
+  ranged-characters l =
+      ap (wholeCharacters (getD (c .decoded) r 0)) (range-part lent (getD (c .starts) r 0) (getD (c .lengths) r 0))
+      ∙ ap (λ (n : ℕ). charactersBy n (getD (c .decoded) r 0) (part (getD (c .starts) r 0) (getD (c .lengths) r 0) lent)) (text-length l)
 
-  pub text-asked : mark ≡ 1 → maxDeclarations ≤ getD (c .names) r 0 → (length ranged ≤ maxTextBytes) × (at + 7 + length ranged ≤ length was)
+  pub text-asked : mark ≡ 1 → maxDeclarations ≤ getD (c .names) r 0 → TextPass ranged (getD (c .decoded) r 0) was at
   text-asked e l =
-      let z = ap length (range-part lent (getD (c .starts) r 0) (getD (c .lengths) r 0)) ∙ text-length l in
-      (omega (arith, z, h .columns .short r (h .inside) l), omega (arith, z, text-room e l))
+      record {
+        short = h .columns .short r (h .inside) l;
+        spelt = ap length (ranged-characters l) ∙ h .columns .spelt r (h .inside) l;
+        room = omega (arith, row-room e, size-text (getD (c .names) r 0) (getD (c .decoded) r 0) l);
+      }
 
   pub text-put : mark ≡ 1 → maxDeclarations ≤ getD (c .names) r 0 → (out : List ℕ)
-      → out ≡ stored was at (rowField (text 0) (getD (c .numbers) r 0) (getD (c .numbers) (getD (c .parents) r 0) 0) ranged)
-      → StoredAt was at (markedField lent c mark r) (at + 7 + getD (c .lengths) r 0) out
+      → out ≡ stored was at (rowField (text 0) (getD (c .numbers) r 0) (getD (c .numbers) (getD (c .parents) r 0) 0) (wholeCharacters (getD (c .decoded) r 0) ranged))
+      → StoredAt was at (markedField lent c mark r) (at + 7 + getD (c .decoded) r 0) out
   text-put e l out q =
       rw (marked-field lent c r mark e)
       (record {
         bytes =
             q
-            ∙ ap (λ (u : List ℕ). stored was at (rowField (text 0) (getD (c .numbers) r 0) (getD (c .numbers) (getD (c .parents) r 0) 0) u))
-            (range-part lent (getD (c .starts) r 0) (getD (c .lengths) r 0))
+            ∙ ap (λ (u : List ℕ). stored was at (rowField (text 0) (getD (c .numbers) r 0) (getD (c .numbers) (getD (c .parents) r 0) 0) u)) (ranged-characters l)
             ∙ ap (stored was at) (text-field lent c r l);
-        after = omega (arith, field-length lent c r (length (c .numbers)) (h .columns) (h .inside), size-text (getD (c .names) r 0) (getD (c .lengths) r 0) l);
+        after = omega (arith, field-length lent c r (length (c .numbers)) (h .columns) (h .inside), size-text (getD (c .names) r 0) (getD (c .decoded) r 0) l);
       })
 
 -- ---- the rows before r behind
 pub record FieldsPass (lent : List ℕ) (c : Columns) (m out : List ℕ) : Type 0 where
-  pub columns : TextColumns lent c (length (c .numbers))
+  pub columns : ExtractColumns lent c (length (c .numbers))
   pub size : length m ≡ length (c .numbers)
   pub room : length (joined (fieldAt lent c) m (length m)) ≤ length out
 

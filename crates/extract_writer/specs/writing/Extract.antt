@@ -15,7 +15,7 @@ use Rattle.cells.specs.row_sets.Columns.{OnlyMarks, marks, only-marks, marks-le
 use Rattle.extract_spec.specs.Fields.{countTag, twoBytes, field}
 use Rattle.extract_writer.specs.fields.Fields.{stored, stored-after, stored-length}
 use Rattle.extract_writer.specs.rows.Measure.{MeasurePass, MeasuredAs}
-use Rattle.extract_writer.specs.rows.Rows.{fieldAt, size-element, size-text, field-length, sizeAt, TextColumns, StoredAt, FieldsPass}
+use Rattle.extract_writer.specs.rows.Rows.{fieldAt, size-element, size-text, field-length, sizeAt, ExtractColumns, StoredAt, FieldsPass}
 use Rattle.kept_rows.specs.Joined.{joined, rank, joined-length, total-bound}
 use Rattle.kept_rows.specs.Kept.{isKept, keptMarks, KeptColumns, KeptPass}
 use Rattle.kept_rows.specs.cut_rows.Cells.{sets-cleared}
@@ -44,7 +44,7 @@ WrittenIn out xs n = BytesWritten (now (out .entry)) xs n (now (out .exit))
 
 -- ---- what is asked
 pub record ExtractPass (lent : List ℕ) (c : Columns) (m : List ℕ) : Type 0 where
-  pub columns : TextColumns lent c (length (c .numbers))
+  pub columns : ExtractColumns lent c (length (c .numbers))
   pub marked : OnlyMarks m
   pub size : length m ≡ length (c .numbers)
 
@@ -65,16 +65,16 @@ whole-bytes was xs n mid out e l q w =
     }
 
 module _ (lent : List ℕ) (c : Columns) (m : List ℕ) (h : ExtractPass lent c m) where
-  pub measure-pass : MeasurePass (c .names) (c .lengths) m
+  pub measure-pass : MeasurePass (c .names) (c .decoded) m
   measure-pass =
       record {
         marked = h .marked;
         few = omega (arith, h .size, h .columns .few);
         names = h .columns .sizes .names ∙ sym (h .size);
-        sizes = h .columns .sizes .lengths ∙ sym (h .size);
+        sizes = h .columns .sizes .decoded ∙ sym (h .size);
       }
 
-  module _ (bytes rows : ℕ) (w : MeasuredAs (c .names) (c .lengths) m bytes rows) where
+  module _ (bytes rows : ℕ) (w : MeasuredAs (c .names) (c .decoded) m bytes rows) where
     fields-size : bytes ≡ length (joined (fieldAt lent c) m (length m))
     fields-size =
         w .bytes-are
@@ -85,10 +85,10 @@ module _ (lent : List ℕ) (c : Columns) (m : List ℕ) (h : ExtractPass lent c 
     small r l = pick (ltb (getD (c .names) r 0) maxDeclarations) refl
       where
         pick : (b : Bool) → ltb (getD (c .names) r 0) maxDeclarations ≡ b → sizeAt c r ≤ 4103
-        pick true q = omega (arith, size-element (getD (c .names) r 0) (getD (c .lengths) r 0) (ltb-true (getD (c .names) r 0) maxDeclarations q))
+        pick true q = omega (arith, size-element (getD (c .names) r 0) (getD (c .decoded) r 0) (ltb-true (getD (c .names) r 0) maxDeclarations q))
         pick false q =
             let k = ltb-false (getD (c .names) r 0) maxDeclarations q in
-            omega (arith, size-text (getD (c .names) r 0) (getD (c .lengths) r 0) k, h .columns .short r (omega (arith, h .size)) k)
+            omega (arith, size-text (getD (c .names) r 0) (getD (c .decoded) r 0) k, h .columns .short r (omega (arith, h .size)) k)
 
     pub extract-low : bytes ≤ 65535 * 4103
     extract-low = omega (arith, w .bytes-are, total-bound (sizeAt c) m 4103 (length m) small, h .size, h .columns .few)
@@ -120,7 +120,7 @@ all-marked k n l =
 pub prefix-length : (k n x : ℕ) → n ≤ k → n ≡ length (take n (replicate k x))
 prefix-length k n x l = sym (length-take-le n (replicate k x) (omega (arith, length-replicate k x)))
 
-pub every-row : (lent : List ℕ) (c : Columns) (k : ℕ) → TextColumns lent c (length (c .numbers)) → length (c .numbers) ≤ k → ExtractPass lent c (take (length (c .numbers)) (replicate k 1))
+pub every-row : (lent : List ℕ) (c : Columns) (k : ℕ) → ExtractColumns lent c (length (c .numbers)) → length (c .numbers) ≤ k → ExtractPass lent c (take (length (c .numbers)) (replicate k 1))
 every-row lent c k h l =
     rw (all-marked k (length (c .numbers)) l)
     (record { columns = h; marked = only-marks (length (c .numbers)) (λ r. true); size = marks-length (length (c .numbers)) (λ r. true) })
@@ -130,7 +130,7 @@ answered-same lent c m k was n out e w = subst (λ (x : List ℕ). BytesWritten 
 
 -- scratch that has a cell for each row
 pub record KeptExtract (lent : List ℕ) (c : Columns) (scratch : List ℕ) : Type 0 where
-  pub columns : TextColumns lent c (length (c .numbers))
+  pub columns : ExtractColumns lent c (length (c .numbers))
   pub kept : KeptColumns (c .names) (c .parents)
   pub room : length scratch ≡ length (c .numbers)
 

@@ -20,7 +20,7 @@ use Rattle.compiled_schema.specs.Compiled.{CompiledOf}
 use Rattle.compiled_schema.specs.declared.CompiledSchema.{CompiledSchema}
 use Rattle.extract_writer.specs.asked.Asked.{text-columns}
 use Rattle.extract_writer.specs.row_laws.Written.{cut-extract}
-use Rattle.extract_writer.specs.rows.Rows.{TextColumns}
+use Rattle.extract_writer.specs.rows.Rows.{ExtractColumns}
 use Rattle.extract_writer.specs.writing.Extract.{extractIn, inLentBytes, BytesWritten}
 use Rattle.hosts.specs.columns.Rows.{Rooms, RowsRead, refused-exit-by, staged-by, sizes-after, first-columns, rooms}
 use Rattle.hosts.specs.declared.results.HostResult.{HostResult}
@@ -28,7 +28,7 @@ use Rattle.hosts.specs.laws.Stages.{madeOf, madeUnder}
 use Rattle.hosts.specs.results.Exits.{lentOf, refusedBy, answeredOf, Exits, refused-exit, answered-exit, same-exit}
 use Rattle.inference.specs.relations.Compiled.{compiled-needed}
 use Rattle.inference_spec.specs.Needed.{needed}
-use Rattle.journal_laws.specs.Accepted.{accepted-well-formed}
+use Rattle.journal_laws.specs.TreeNodes.{accepted-well-formed}
 use Rattle.journal_spec.specs.Reading.{readJournal}
 use Rattle.kept_rows.specs.Kept.{inSet, keptMarks, KeptColumns}
 use Rattle.kept_rows.specs.cut_rows.Cells.{all-cleared}
@@ -69,7 +69,7 @@ pub record UnderTexts (schema : List ℕ) (t : CompiledSchema) (paths : Compiled
 -- the first rows of columns are rows whose extract can be written
 pub record FirstAsked (journal : List ℕ) (c : Columns) (n : ℕ) : Type 0 where
   pub rooms : Rooms c n
-  pub texts : TextColumns journal (firstCells n c) (length (firstCells n c .numbers))
+  pub texts : ExtractColumns journal (firstCells n c) (length (firstCells n c .numbers))
   pub kept : KeptColumns (firstCells n c .names) (firstCells n c .parents)
 
 -- the last test
@@ -122,11 +122,11 @@ module _ (schema : List ℕ) (s : Schema) (read : readSchema schema ≡ accepted
   pub first-asked : FirstAsked journal d n
   first-asked =
       let coded = rows-coded schema s read rows alone in
-      let text = subst (λ (k : ℕ). TextColumns journal (columnsIn rows) k) (sym (length-map rows (λ r. r .number))) (text-columns (typesOf s) journal rows beside coded) in
+      let text = subst (λ (k : ℕ). ExtractColumns journal (columnsIn rows) k) (sym (length-map rows (λ r. r .number))) (text-columns (typesOf s) journal rows beside coded) in
       let kept = kept-columns (typesOf s) journal rows beside coded in
       record {
         rooms = rooms (readJournal maxJournalBytes s journal) c equal n d w;
-        texts = subst (λ (y : Columns). TextColumns journal y (length (y .numbers))) (sym same-columns) text;
+        texts = subst (λ (y : Columns). ExtractColumns journal y (length (y .numbers))) (sym same-columns) text;
         kept = subst (λ (y : Columns). KeptColumns (y .names) (y .parents)) (sym same-columns) kept;
       }
 

@@ -14,9 +14,9 @@ returns c =
     let g = judged .before .args in
     let x = c .on-run .ensures in (
       x .0,
-      λ saved s b few w.
+      λ s b few w.
           let u = judged-unbroken w (judged .is-judged .ensures) (c .before .before .if1 .taken) in
-          leaves-as refl (event-judged s (runs (run (g .start) (placeOr (g .solid)) saved) (g .size)) b u) (x .1 saved s b few u w),
+          leaves-as refl (event-judged s (runs (run (g .start) (placeOr (g .solid)) (g .saved)) (g .size)) b u) (x .1 s b few u w),
     )
 
 returns-2 : tie.Need-returns-2
@@ -24,8 +24,8 @@ returns-2 c =
     let judged = c .before .before in
     let g = judged .before .args in (
       kept-safe _ (judged .before .pre .0) (c .without-row .ensures),
-      λ saved s b few w.
-          event-broken (runs (run (g .start) (placeOr (g .solid)) saved) (g .size)) _ w (judged .is-judged .ensures) (c .before .if1 .left) (c .without-row .ensures),
+      λ s b few w.
+          event-broken (runs (run (g .start) (placeOr (g .solid)) (g .saved)) (g .size)) _ w (judged .is-judged .ensures) (c .before .if1 .left) (c .without-row .ensures),
     )
 
 pub on-run-spec : {M : Type 1} → statement M

@@ -2,7 +2,7 @@
 use mathlib.Core.Bool.{Bool, true, cond, not, _&&_, _||_}
 use mathlib.Core.List.{List, [], _∷_, _++_}
 use mathlib.Core.Path.{_≡_}
-use Prim.Native.Nat.{ℕ, suc, _+_, _%_, _≤_, _<_}
+use Prim.Native.Nat.{ℕ, _-_, suc, _+_, _%_, _≤_, _<_}
 use lib.Dec.{eqb, leb, ltb}
 use lib.ListN.{length}
 use denote.Ref.{now}
@@ -113,8 +113,8 @@ noRow = record { name = 0; parent = 0; start = 0; size = 0; decoded = 0 }
 abbrev pub elementCells : ℕ → ℕ → RowCells
 elementCells e parent = record { name = e % 256; parent = parent % 65536; start = 0; size = 0; decoded = 0 }
 
-abbrev pub textCells : ℕ → ℕ → ℕ → ℕ → RowCells
-textCells e parent start size = record { name = e % 32 + 32; parent = parent % 65536; start = start; size = size % 65536; decoded = size % 65536 }
+abbrev pub textCells : ℕ → ℕ → ℕ → ℕ → ℕ → RowCells
+textCells e parent start size saved = record { name = e % 32 + 32; parent = parent % 65536; start = start; size = size % 65536; decoded = (size - saved) % 65536 }
 
 -- a run of character data outside the root
 abbrev pub outsideBy : ℕ → Build → Build

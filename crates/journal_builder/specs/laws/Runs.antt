@@ -3,7 +3,7 @@ use mathlib.Core.Bool.{Bool, true, false, true≢false, cond, not, _||_}
 use mathlib.Core.List.{List, [], _∷_, _++_}
 use mathlib.Core.Option.{Option, none, some}
 use mathlib.Core.Path.{_≡_, refl, sym, ap, ap₂, subst, _∙_}
-use Prim.Native.Nat.{ℕ, zero, suc, _+_, _%_, _≤_, _<_}
+use Prim.Native.Nat.{ℕ, zero, suc, _+_, _-_, _%_, _≤_, _<_}
 use native.Mathlib.Nat.{mod-eq-of-lt}
 use native.Mathlib.Numerals.{add-one}
 use native.Mathlib.Omega.{arith}
@@ -117,8 +117,8 @@ module _ (s : Schema) (b : Building) (levels : List ℕ) (m : Build) (whole : is
       }
 
   -- the cells of its row
-  row-cells : texted m start size .fault ≡ noKey → cells (m .count) (textCells e parent start size) ≡ cellsOf (textRow (b .count) e parent start size)
-  row-cells z =
+  row-cells : (saved : ℕ) → texted m start size .fault ≡ noKey → cells (m .count) (textCells e parent start size saved) ≡ cellsOf (textRow (b .count) e parent start size (size - saved))
+  row-cells saved z =
       let n = none-after z in
       let x = or-false (ltb maxTextBytes size) (leb maxNodes (m .count)) (n .0) in
       let c = leb-false maxNodes (m .count) (x .1) in
@@ -126,15 +126,17 @@ module _ (s : Schema) (b : Building) (levels : List ℕ) (m : Build) (whole : is
       let i : m .count < 65536 = omega arith in
       let j : parent < 65536 = omega (arith, w .count) in
       let k : size < 65536 = omega arith in
+      let v : size - saved < 65536 = omega arith in
       let f : e % 32 + 32 ≡ 32 + e = omega arith in
-      same (m .count % 65536) (b .count) (e % 32 + 32) (32 + e) (parent % 65536) parent (size % 65536) size (mod-eq-of-lt i ∙ w .count) f (mod-eq-of-lt j) (mod-eq-of-lt k)
+      same (m .count % 65536) (b .count) (e % 32 + 32) (32 + e) (parent % 65536) parent (size % 65536) size ((size - saved) % 65536) (size - saved) (mod-eq-of-lt i ∙ w .count) f (mod-eq-of-lt j) (mod-eq-of-lt k)
+      (mod-eq-of-lt v)
     where
-      same : (a a' c c' d d' g g' : ℕ) → a ≡ a' → c ≡ c' → d ≡ d' → g ≡ g'
-          → _≡_ {A = Cells} (record { number = a; name = c; parent = d; start = start; size = g; decoded = g }) (record { number = a'; name = c'; parent = d'; start = start; size = g'; decoded = g' })
-      same a a' c c' d d' g g' p q r t = rw (p, q, r, t)
+      same : (a a' c c' d d' g g' h h' : ℕ) → a ≡ a' → c ≡ c' → d ≡ d' → g ≡ g' → h ≡ h'
+          → _≡_ {A = Cells} (record { number = a; name = c; parent = d; start = start; size = g; decoded = h }) (record { number = a'; name = c'; parent = d'; start = start; size = g'; decoded = h' })
+      same a a' c c' d d' g g' h h' p q r t u = rw (p, q, r, t, u)
 
-  text-leaves : (solid : Option ℕ) (saved : ℕ) → Leaves s levels m b (step (texted m start size) (textCells e parent start size)) (textNode (filledByText e) (run start solid saved) size parent b)
-  text-leaves solid saved = record { built = text-built solid saved; rows = λ z. begun-row (add-one (m .count)) (row-cells z) }
+  text-leaves : (solid : Option ℕ) (saved : ℕ) → Leaves s levels m b (step (texted m start size) (textCells e parent start size saved)) (textNode (filledByText e) (run start solid saved) size parent b)
+  text-leaves solid saved = record { built = text-built solid saved; rows = λ z. begun-row (add-one (m .count)) (row-cells saved z) }
 
 -- a run inside the root
 module _ (s : Schema) (b : Building) (levels u : List ℕ) (m : Build) (whole : isNone (b .broken) ≡ true) (w : Built s levels m b) (start solid size saved : ℕ) (v : Level) (f : FillingState)
@@ -189,15 +191,15 @@ module _ (s : Schema) (b : Building) (levels u : List ℕ) (m : Build) (whole : 
 
   -- that makes one
   pub run-text : length s ≤ maxDeclarations → start < placeLimit → v .filling .kind ≡ pcdataKind
-      → Leaves s u m b (step (texted m start size) (textCells (v .filling .element) (v .row) start size)) (onRun (run start (placeOr solid) saved) size b)
+      → Leaves s u m b (step (texted m start size) (textCells (v .filling .element) (v .row) start size saved)) (onRun (run start (placeOr solid) saved) size b)
   run-text few p e =
       let x = text-state s (v .filling) (top .own .filling) e (level .filling) in
-      subst (λ (y : ℕ). Leaves s u m b (step (texted m start size) (textCells (v .filling .element) y start size)) (onRun (run start (placeOr solid) saved) size b)) (sym (level .row))
-      (subst (Leaves s u m b (step (texted m start size) (textCells (v .filling .element) (top .own .row) start size)))
+      subst (λ (y : ℕ). Leaves s u m b (step (texted m start size) (textCells (v .filling .element) y start size saved)) (onRun (run start (placeOr solid) saved) size b)) (sym (level .row))
+      (subst (Leaves s u m b (step (texted m start size) (textCells (v .filling .element) (top .own .row) start size saved)))
       (sym (run-inside ∙ ap (λ (y : Filling). textNode y (run start (placeOr solid) saved) size (top .own .row) between) (x .1))) (noted x))
     where
       noted : (v .filling .element < length s) × (top .own .filling ≡ filledByText (v .filling .element))
-          → Leaves s u m b (step (texted m start size) (textCells (v .filling .element) (top .own .row) start size)) (textNode (filledByText (v .filling .element)) (run start (placeOr solid) saved) size (top .own .row) between)
+          → Leaves s u m b (step (texted m start size) (textCells (v .filling .element) (top .own .row) start size saved)) (textNode (filledByText (v .filling .element)) (run start (placeOr solid) saved) size (top .own .row) between)
       noted x =
           let l = text-leaves s between u m refl between-built (v .filling .element) start size (top .own .row) (omega (arith, x .0)) p (subst (RowsBelow (b .count)) (top .same) (w .below) .0) (placeOr solid) saved in
           record { built = l .built; rows = l .rows }

@@ -1,15 +1,15 @@
 -- What the functions over the bytes of one mode are asked for: one byte, a turn of a loop, the end of a loop.
-use mathlib.Core.Bool.{Bool, true, false}
+use mathlib.Core.Bool.{Bool, true, false, true≢false}
 use mathlib.Core.List.{List}
-use mathlib.Core.Path.{_≡_, refl, sym, _∙_}
+use mathlib.Core.Path.{_≡_, refl, sym, subst, _∙_}
 use Prim.Native.Nat.{ℕ, _-_, _≤_, _<_}
 use native.Mathlib.Omega.{arith}
 use borrow.Author.Tests.{eqb-true, eqb-false}
 use lib.Dec.{eqb}
 use lib.ListN.{length, getD}
 use Rattle.journal_lexer.specs.declared.state.Lex.{Lex}
-use Rattle.journal_lexer.specs.loop_laws.Advance.{Ready, never, Advance, Looked, byteAt, kindAt}
-use Rattle.journal_lexer.specs.loop_laws.Laws.{looked-handed, ready-after, advance-none, advance-more, advance-end, next-falls, next-quiet}
+use Rattle.journal_lexer.specs.loop_laws.Advance.{Ready, never, only, Progress, moved, stayed, Advance, Looked, byteAt, kindAt}
+use Rattle.journal_lexer.specs.loop_laws.Laws.{looked-handed, ready-after, advance-none, advance-then, advance-more, advance-end, next-falls, next-quiet}
 use Rattle.journal_lexer.specs.state.Laws.{steps-in}
 use Rattle.journal_lexer.specs.state.Relation.{Handed, Steps}
 
@@ -64,3 +64,25 @@ module _ {text kinds : List ℕ} {l s : Lex} {p o : List ℕ} (h : Turn text kin
 
         pub mode-next : eqb x 0 ≡ false → eqb x 6 ≡ false → Turn text kinds l p r q
         mode-next a b = turn-next (λ z. eqb-false x 0 a (sym is ∙ z)) (λ z. eqb-false x 6 b (sym is ∙ z)) (steps-in is k)
+
+  -- two loops in turn, the first of which is in its mode x, so that the place moves
+  module _ {e r : Lex} {n q : List ℕ} {g : ℕ → Bool} (more : s .place < length text) (x : ℕ) (t : eqb (s .mode) x ≡ true) (a : Advance (only x) text s o e n) (b : Advance g text e n r q) where
+    moves : s .place < r .place
+    moves = first (a .progress) (b .progress)
+      where
+        first : Progress (only x) text s e → Progress g text e r → s .place < r .place
+        first (moved m) (moved k) = omega arith
+        first (moved m) (stayed d z) = rw d m
+        first (stayed d z) k = absurd (true≢false (sym t ∙ z more))
+
+    pub loops-fall : length text - r .place < length text - s .place
+    loops-fall = omega (arith, moves, b .inside)
+
+    pub loops-next : Turn text kinds l p r q
+    loops-next =
+        let c = advance-then (h .1) (advance-then a b) in
+        (h .0, record { inside = c .inside; lent = c .lent; valid = c .valid; stands = c .stands; progress = beyond (h .1 .progress) })
+      where
+        beyond : Progress never text l s → Progress never text l r
+        beyond (moved m) = moved (omega (arith, moves))
+        beyond (stayed d z) = moved (subst (λ (y : Lex). y .place < r .place) d moves)

@@ -113,6 +113,24 @@ module _ {text kinds : List ℕ} {p : List ℕ} where
               begun = λ m. omega (arith, moved-on t more (farther .progress));
             }
 
+-- ---- a loop of some modes
+
+not-back : {f : ℕ → Bool} {text : List ℕ} {l r : Lex} → Progress f text l r → l .place ≤ r .place
+not-back (moved m) = omega arith
+not-back {l = l} (stayed e n) = subst (λ (x : Lex). l .place ≤ x .place) (sym e) (le-refl (l .place))
+
+module _ {f : ℕ → Bool} {text : List ℕ} {l r : Lex} {p q : List ℕ} (a : Advance f text l p r q) where
+  pub run-on : {kinds : List ℕ} → Begun text kinds l p → Begun text kinds r q
+  run-on h =
+      record {
+        ready = ready-after (h .ready) a;
+        stands = a .stands 0 between (h .stands);
+        begun = λ m. omega (arith, h .begun m, not-back (a .progress));
+      }
+
+  pub run-still-falls : (n : ℕ) → length text - l .place < n → length text - r .place < n
+  run-still-falls n h = omega (arith, not-back (a .progress))
+
 -- ---- plain bytes
 
 pub skip-none : {text kinds : List ℕ} (l : Lex) → Skipped text kinds l (movedTo (l .place) l)

@@ -28,18 +28,19 @@ pub record Onward (text : List ℕ) (l : Lex) (p : List ℕ) (r : Lex) (q : List
 
 -- every mode is one that a loop reads in
 every-mode : (mode : ℕ) → either dataMode tagMode mode ≡ true
-every-mode mode = pick (eqb mode 0) (eqb mode 1) (eqb mode 2) (eqb mode 6) (eqb mode 10) (eqb mode 7) (eqb mode 11) refl refl refl
+every-mode mode = pick (eqb mode 0) (eqb mode 1) (eqb mode 2) (eqb mode 5) (eqb mode 6) (eqb mode 10) (eqb mode 7) (eqb mode 11) refl refl refl
   where
-    pick : (a b c d e f g : Bool) → eqb mode 0 ≡ a → eqb mode 1 ≡ b → eqb mode 2 ≡ c
-        → ((a || (b || c)) || (d || (e || (f || (g || cond d false (ltb 2 mode)))))) ≡ true
-    pick true b c d e f g x y z = refl
-    pick false true c d e f g x y z = refl
-    pick false false true d e f g x y z = refl
-    pick false false false true e f g x y z = refl
-    pick false false false false true f g x y z = refl
-    pick false false false false false true g x y z = refl
-    pick false false false false false false true x y z = refl
-    pick false false false false false false false x y z =
+    pick : (a b c i d e f g : Bool) → eqb mode 0 ≡ a → eqb mode 1 ≡ b → eqb mode 2 ≡ c
+        → ((a || (b || (c || i))) || (d || (e || (f || (g || cond d false (ltb 2 mode)))))) ≡ true
+    pick true b c i d e f g x y z = refl
+    pick false true c i d e f g x y z = refl
+    pick false false true i d e f g x y z = refl
+    pick false false false true d e f g x y z = refl
+    pick false false false false true e f g x y z = refl
+    pick false false false false false true f g x y z = refl
+    pick false false false false false false true g x y z = refl
+    pick false false false false false false false true x y z = refl
+    pick false false false false false false false false x y z =
         lt-ltb 2 mode (three mode (eqb-false mode 0 x) (eqb-false mode 1 y) (eqb-false mode 2 z))
       where
         three : (k : ℕ) → (k ≡ 0 → ⊥) → (k ≡ 1 → ⊥) → (k ≡ 2 → ⊥) → 2 < k

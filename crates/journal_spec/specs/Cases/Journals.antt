@@ -5,9 +5,11 @@ use Prim.Native.String.{String}
 use Rattle.journal_spec.specs.Cases.Opened.{computing}
 use Rattle.journal_spec.specs.Reading.{readJournal}
 use Rattle.schema_spec.specs.Records.{schemaIn}
+use Rattle.table_spec.specs.Rows.{Row}
 use Rattle.text_spec.specs.Cases.{Case, case, AllHold, answered, Judgement, taken, turnedBack, judgementOf, copies}
 use Rattle.text_spec.specs.Limits.{maxJournalBytes}
 use Rattle.text_spec.specs.Lists.{bytes}
+use Rattle.text_spec.specs.Refusals.{Outcome, accepted, refused}
 
 -- a schema text and a journal
 pub record Question : Type 0 where
@@ -44,6 +46,9 @@ cases =
     -- 16: a long text
     ∷ read schemaA (bytes "<a><t>" ++ (copies 4096 (bytes "x") ++ bytes "</t></a>")) taken
     ∷ read schemaA (bytes "<a><t>" ++ (copies 4097 (bytes "x") ++ bytes "</t></a>")) (turnedBack 16 6)
+    -- 16 counts raw bytes: 4,096 and 4,097 of them, which stand for 820 characters and 821
+    ∷ read schemaA (bytes "<a><t>" ++ (copies 819 (bytes "&amp;") ++ bytes "x</t></a>")) taken
+    ∷ read schemaA (bytes "<a><t>" ++ (copies 819 (bytes "&amp;") ++ bytes "xy</t></a>")) (turnedBack 16 6)
     -- 15: `?`, `+`, `|` and `,`, each on both sides
     ∷ fitted "(b?)" "<a/>" taken
     ∷ fitted "(b?)" "<a><b/></a>" taken
@@ -61,3 +66,31 @@ cases =
 pub all-hold : AllHold (λ q. judgementOf (readJournal maxJournalBytes (schemaIn (q .schema)) (q .journal))) cases
 unfolding computing cases
 all-hold = answered cases
+
+-- ---- texts that stand for fewer characters: their rows
+-- a journal of one text
+abbrev textOnly : String → List ℕ
+textOnly w = bytes "<t>" ++ (bytes w ++ bytes "</t>")
+
+abbrev pub lengths : Outcome (List Row) → List ℕ
+lengths (accepted []) = []
+lengths (accepted (r ∷ [])) = []
+lengths (accepted (r ∷ q ∷ rs)) = q .start ∷ q .size ∷ q .decoded ∷ []
+lengths (refused f) = []
+
+-- the start, the length and the decoded length of its text
+pub texts : List (Case (List ℕ) (List ℕ))
+texts =
+    case (textOnly "12") (3 ∷ 2 ∷ 2 ∷ [])
+    ∷ case (textOnly "&lt;") (3 ∷ 4 ∷ 1 ∷ [])
+    ∷ case (textOnly "&gt;") (3 ∷ 4 ∷ 1 ∷ [])
+    ∷ case (textOnly "&amp;") (3 ∷ 5 ∷ 1 ∷ [])
+    ∷ case (textOnly "&apos;") (3 ∷ 6 ∷ 1 ∷ [])
+    ∷ case (textOnly "&quot;") (3 ∷ 6 ∷ 1 ∷ [])
+    ∷ case (textOnly "a&amp;lt;b ") (3 ∷ 11 ∷ 7 ∷ [])
+    ∷ case (textOnly " &lt;&gt;") (3 ∷ 9 ∷ 3 ∷ [])
+    ∷ []
+
+pub texts-hold : AllHold (λ journal. lengths (readJournal maxJournalBytes (schemaIn schemaT) journal)) texts
+unfolding computing texts
+texts-hold = answered texts

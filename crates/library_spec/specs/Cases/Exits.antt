@@ -72,10 +72,10 @@ selectionsExit items counts o =
     ∷ cellsAfter counts (λ a. a .counts) o
     ∷ []) o
 
--- the text of a row: its start and length where it has one, and the part of the lent text
+-- the text of a row: its start, length and decoded length where it has one, and the part of the lent text
 abbrev pub rangeOf : RowText → List ℕ
 rangeOf noText = []
-rangeOf (textAt start size) = start ∷ size ∷ []
+rangeOf (textAt start size decoded) = start ∷ size ∷ decoded ∷ []
 
 abbrev pub textExit : List ℕ → Outcome RowText → Exit
 textExit lent o = exitOf (λ o. listAfter rangeOf o ∷ partAfter lent o ∷ []) o

@@ -24,7 +24,7 @@ use Rattle.hosts.specs.texts.Texts.{TextsJudged, told-accepted, told-refused}
 use Rattle.inference.specs.relations.Compiled.{compiled-needed}
 use Rattle.inference_spec.specs.Needed.{needed}
 use Rattle.journal.specs.compiled.Compiled.{CompiledRead}
-use Rattle.journal_laws.specs.Accepted.{accepted-well-formed}
+use Rattle.journal_laws.specs.TreeNodes.{accepted-well-formed}
 use Rattle.journal_spec.specs.Reading.{readJournal}
 use Rattle.kept_rows.specs.Joined.{rank}
 use Rattle.kept_rows.specs.Kept.{inSet, keptMarks, KeptColumns}

@@ -17,8 +17,8 @@ schemaText = bytes "<!ELEMENT scan (plate*)><!ELEMENT plate (tile*)><!ELEMENT ti
 -- Two plates: the first with three tiles, of which two have a focus, the second with a tile and, as no journal has it, a text beside the tile.
 abbrev pub rows : List Row
 rows =
-    elementRow 0 0 0 ∷ elementRow 1 1 0 ∷ elementRow 2 2 1 ∷ elementRow 3 3 2 ∷ textRow 4 3 3 0 1 ∷ elementRow 5 2 1 ∷ elementRow 6 3 5 ∷ elementRow 7 2 1 ∷ elementRow 8 1 0
-    ∷ elementRow 9 2 8 ∷ textRow 10 1 8 0 1 ∷ []
+    elementRow 0 0 0 ∷ elementRow 1 1 0 ∷ elementRow 2 2 1 ∷ elementRow 3 3 2 ∷ textRow 4 3 3 0 1 1 ∷ elementRow 5 2 1 ∷ elementRow 6 3 5 ∷ elementRow 7 2 1 ∷ elementRow 8 1 0
+    ∷ elementRow 9 2 8 ∷ textRow 10 1 8 0 1 1 ∷ []
 
 -- the numbers that the path of a bundle's one line selects; of a bundle that is refused, the root's, which no case has
 abbrev pub selects : List ℕ → List ℕ

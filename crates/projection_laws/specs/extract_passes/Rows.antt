@@ -18,10 +18,10 @@ use Rattle.schema_spec.specs.Types.{Types}
 use Rattle.table_laws.specs.Nodes.{nodes-equal, nodes-same}
 use Rattle.table_laws.specs.Places.{at-end}
 use Rattle.table_spec.specs.Nodes.{Node, top, under, nodeNumber, nameOf, same, isAbove, depthOf, nodeAt}
-use Rattle.table_spec.specs.Rows.{Row, elementRow, textRow, textOf}
-use Rattle.table_spec.specs.Tables.{sameParent, rowFits, textInside}
+use Rattle.table_spec.specs.Rows.{Row, elementRow, textRow, charactersOf}
+use Rattle.table_spec.specs.Tables.{sameParent, rowFits, copiedOrDecoded, textInside}
 use Rattle.text_laws.specs.Lists.{any-in, in-any}
-use Rattle.text_laws.specs.Tests.{true-of, same-test, and-cases, or-cases, decided}
+use Rattle.text_laws.specs.Tests.{or-left, true-of, same-test, and-cases, or-cases, decided}
 use Rattle.text_spec.specs.Bytes.{isForeign}
 use Rattle.text_spec.specs.Limits.{maxNodes, maxDepth, maxTextBytes}
 use Rattle.text_spec.specs.Lists.{anyOf, allOf, part}
@@ -79,7 +79,7 @@ text-parts true true true w t m n z e = rw (e tt) (by t m n)
 module _ (s : Types) (apart : Apart s) (bs : List ℕ) (before : List Node) (previous : Node) (st : State) (c : Reached s before previous st) (parent : ℕ) (q : Placed)
     (qs : List Placed) (f : openFrom parent (st .levels) ≡ q ∷ qs) (found : FoundLevel before previous q qs) where
   -- the node of a row under the level that was found
-  pub node-under : (r : Row) → r .parent ≡ q .row → nodeAt [] before r ≡ under (r .number) (r .name) (textOf [] r) (found .node)
+  pub node-under : (r : Row) → r .parent ≡ q .row → nodeAt [] before r ≡ under (r .number) (r .name) (charactersOf [] r) (found .node)
   node-under r e = rw (e, found .isAt)
 
   line-low : nodeNumber (found .node) ≤ nodeNumber previous
@@ -92,7 +92,7 @@ module _ (s : Types) (apart : Apart s) (bs : List ℕ) (before : List Node) (pre
 
   -- ---- an element
   pub element-test : (number e : ℕ)
-      → (rowFits s before previous (elementRow number e (q .row)) (under number (element e) (textOf [] (elementRow number e (q .row))) (found .node))
+      → (rowFits s before previous (elementRow number e (q .row)) (under number (element e) (charactersOf [] (elementRow number e (q .row))) (found .node))
       && textInside bs (elementRow number e (q .row))) ≡ elementFits s st number (q ∷ qs) e
   element-test number e =
       let a = ltb (st .number) number in
@@ -150,11 +150,11 @@ module _ (s : Types) (apart : Apart s) (bs : List ℕ) (before : List Node) (pre
           (λ t. second-twin (c .opened) refl (c .isLast) t) ∙ c .named
 
   pub text-test : (number start size : ℕ) → start + size ≤ length bs
-      → (rowFits s before previous (textRow number (q .element) (q .row) start size) (under number (text (q .element)) (textOf [] (textRow number (q .element) (q .row) start size)) (found .node))
-      && textInside bs (textRow number (q .element) (q .row) start size)) ≡ textFits s bs st number (q ∷ qs) start size
+      → (rowFits s before previous (textRow number (q .element) (q .row) start size size) (under number (text (q .element)) (charactersOf [] (textRow number (q .element) (q .row) start size size)) (found .node))
+      && textInside bs (textRow number (q .element) (q .row) start size size)) ≡ textFits s bs st number (q ∷ qs) start size
   text-test number start size l =
       let e = q .element in
-      let v = textOf [] (textRow number e (q .row) start size) in
+      let v = charactersOf [] (textRow number e (q .row) start size size) in
       let a = ltb (st .number) number in
       let b = ltb number maxNodes in
       let m = leb 1 size in
@@ -163,7 +163,7 @@ module _ (s : Types) (apart : Apart s) (bs : List ℕ) (before : List Node) (pre
       let long : length (part start size bs) ≡ size = omega (arith, length-take size (drop start bs), length-drop start bs) in
       let inside = leb start (length bs) && (eqb (length (part start size bs)) size && z) in
       ap₂ (λ (cells ranges : Bool). ((ltb (nodeNumber previous) number && (b && ((same (found .node) previous || isAbove (found .node) previous) && (s .holds (nameOf (found .node)) (text e) && (leb (depthOf (found .node)) maxDepth && (not (anyOf (twin number v) before) && cells)))))) && ranges))
-      (equal-lengths-fit m n (leb size size) (le→leb size size (omega arith))) (and-passed inside (eqb size size) (eqb-refl size))
+      (equal-lengths-fit m n (leb size size) (le→leb size size (omega arith))) (and-passed inside (copiedOrDecoded bs (textRow number e (q .row) start size size)) (or-left (eqb size size) _ (eqb-refl size)))
       ∙ ap₂ (λ (k : ℕ) (o : Bool). ((ltb k number && (b && (o && (s .holds (nameOf (found .node)) (text e) && (leb (depthOf (found .node)) maxDepth && (not (anyOf (twin number v) before) && (m && n))))))) && (leb start (length bs) && (eqb (length (part start size bs)) size && z))))
       (c .numbered) (true-of (same (found .node) previous || isAbove (found .node) previous) (found .onLine))
       ∙ ap₂ (λ (x : Name) (d : ℕ). ((a && (b && (true && (s .holds x (text e) && (leb d maxDepth && (not (anyOf (twin number v) before) && (m && n))))))) && (leb start (length bs) && (eqb (length (part start size bs)) size && z))))

@@ -55,7 +55,7 @@ laterStep s bs st last (elementItem number parent e) =
 laterStep s bs st last (textItem number parent start size) =
     let os = openFrom parent (st .levels) in
     cond (not (isEmpty os) && textFits s bs st number os start size)
-    (onward (textRow number (topElement os) (topRow os) start size) (state (suc (st .rows)) number true os)) wrong
+    (onward (textRow number (topElement os) (topRow os) start size size) (state (suc (st .rows)) number true os)) wrong
 
 -- the first field
 unfoldable pub rootStep : Types → Bool → Item → Step

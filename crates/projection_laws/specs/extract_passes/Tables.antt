@@ -17,7 +17,7 @@ use Rattle.projection_laws.specs.extract_passes.Steps.{State, state, wro
 use Rattle.schema_spec.specs.Names.{element, text, sameName}
 use Rattle.schema_spec.specs.Types.{Types}
 use Rattle.table_spec.specs.Nodes.{Node, top, under, nodeNumber, nodeAt}
-use Rattle.table_spec.specs.Rows.{Row, elementRow, textRow, textOf}
+use Rattle.table_spec.specs.Rows.{Row, elementRow, textRow, charactersOf}
 use Rattle.table_spec.specs.Tables.{rowFits, laterRows, wellFormed, textInside, wellFormedWith}
 use Rattle.text_laws.specs.Tests.{never}
 use Rattle.text_spec.specs.Lists.{allOf, isEmpty}
@@ -82,13 +82,13 @@ module _ (s : Types) (apart : Apart s) (bs : List ℕ) where
       by (q ∷ qs) f =
           let found = found-level (c .opened) parent q qs f in
           let r = elementRow number e (q .row) in
-          let y = under number (element e) (textOf [] r) (found .node) in
+          let y = under number (element e) (charactersOf [] r) (found .node) in
           let t = state (suc (st .rows)) number false (placed (st .rows) number e ∷ q ∷ qs) in
           let fits = elementFits s st number (q ∷ qs) e in
           let o = rowsOfLaterItems (suc (st .rows)) (placed (st .rows) number e ∷ q ∷ qs) is in
           continued-if fits r t (λ t. laterItems s bs t is)
           ∙ if-same fits (consRow r (laterItems s bs t is)) (consRow r (keptIf (laterTest (before ++ (y ∷ [])) y) o)) none
-          (λ u. ap (consRow r) (rest (before ++ (y ∷ [])) y t (reached-element s apart bs before previous st c parent q qs f found number e (textOf [] r) u)))
+          (λ u. ap (consRow r) (rest (before ++ (y ∷ [])) y t (reached-element s apart bs before previous st c parent q qs f found number e (charactersOf [] r) u)))
           ∙ sym (row-kept before previous r y fits o (node-under s apart bs before previous st c parent q qs f found r refl)
           (element-test s apart bs before previous st c parent q qs f found number e))
 
@@ -98,20 +98,20 @@ module _ (s : Types) (apart : Apart s) (bs : List ℕ) where
     where
       by : (os : List Placed) → openFrom parent (st .levels) ≡ os
           → continued (cond (not (isEmpty os) && textFits s bs st number os start size)
-          (onward (textRow number (topElement os) (topRow os) start size) (state (suc (st .rows)) number true os)) wrong) (λ t. laterItems s bs t is)
+          (onward (textRow number (topElement os) (topRow os) start size size) (state (suc (st .rows)) number true os)) wrong) (λ t. laterItems s bs t is)
           ≡ keptIf (laterTest before previous)
-          (cond (isEmpty os) none (consRow (textRow number (topElement os) (topRow os) start size) (rowsOfLaterItems (suc (st .rows)) os is)))
+          (cond (isEmpty os) none (consRow (textRow number (topElement os) (topRow os) start size size) (rowsOfLaterItems (suc (st .rows)) os is)))
       by [] f = refl
       by (q ∷ qs) f =
           let found = found-level (c .opened) parent q qs f in
-          let r = textRow number (q .element) (q .row) start size in
-          let y = under number (text (q .element)) (textOf [] r) (found .node) in
+          let r = textRow number (q .element) (q .row) start size size in
+          let y = under number (text (q .element)) (charactersOf [] r) (found .node) in
           let t = state (suc (st .rows)) number true (q ∷ qs) in
           let fits = textFits s bs st number (q ∷ qs) start size in
           let o = rowsOfLaterItems (suc (st .rows)) (q ∷ qs) is in
           continued-if fits r t (λ t. laterItems s bs t is)
           ∙ if-same fits (consRow r (laterItems s bs t is)) (consRow r (keptIf (laterTest (before ++ (y ∷ [])) y) o)) none
-          (λ u. ap (consRow r) (rest (before ++ (y ∷ [])) y t (reached-text s apart bs before previous st c parent q qs f found number start size (textOf [] r) u)))
+          (λ u. ap (consRow r) (rest (before ++ (y ∷ [])) y t (reached-text s apart bs before previous st c parent q qs f found number start size (charactersOf [] r) u)))
           ∙ sym (row-kept before previous r y fits o (node-under s apart bs before previous st c parent q qs f found r refl)
           (text-test s apart bs before previous st c parent q qs f found number start size inside))
 

@@ -15,9 +15,10 @@ use Rattle.table_laws.specs.passes.Passes.{isTextCode, rowsPass}
 use Rattle.table_laws.specs.passes.Tables.{passesRows, StandFrom, rows-stand, rows-pass}
 use Rattle.table_spec.specs.Columns.{Columns, cellsAt, cellsFrom}
 use Rattle.table_spec.specs.Rows.{Row, Cells, rowsOf}
-use Rattle.table_spec.specs.Tables.{textInside, wellFormed, wellFormedWith}
+use Rattle.table_spec.specs.Tables.{isSize, textInside, wellFormed, wellFormedWith}
 use Rattle.text_spec.specs.Bytes.{isForeign}
 use Rattle.text_spec.specs.Lists.{part, allOf}
+use Rattle.token_spec.specs.Texts.{decodedSize}
 
 -- ---- definitions
 abbrev pub passes : ℕ → Bool
@@ -27,9 +28,13 @@ passes b = not (isForeign b)
 unfoldable pub rangePasses : List ℕ → ℕ → ℕ → Bool
 rangePasses lent start size = leb start (length lent) && (eqb (length (part start size lent)) size && allOf passes (part start size lent))
 
--- a row that is a text has such a range, and two equal lengths
+-- a range is copied, or it is one journal text of so many characters
+unfoldable pub rangeDecodes : List ℕ → ℕ → ℕ → ℕ → Bool
+rangeDecodes lent start size decoded = eqb decoded size || isSize decoded (decodedSize (part start size lent))
+
+-- a row that is a text has such a range, which is copied or decoded
 abbrev pub textPasses : List ℕ → ℕ → ℕ → ℕ → ℕ → Bool
-textPasses lent code start size decoded = not (isTextCode code) || (rangePasses lent start size && eqb decoded size)
+textPasses lent code start size decoded = not (isTextCode code) || (rangePasses lent start size && rangeDecodes lent start size decoded)
 
 -- the n rows from row i on, by the columns of their codes, starts, lengths and decoded lengths
 abbrev pub textsPass : List ℕ → List ℕ → List ℕ → List ℕ → List ℕ → ℕ → ℕ → Bool
@@ -42,9 +47,9 @@ abbrev cellsPass : List ℕ → Cells → Bool
 cellsPass lent x = textPasses lent (x .name) (x .start) (x .size) (x .decoded)
 
 row-passes : (lent : List ℕ) (c : Columns) (i : ℕ) (r : Row) → Stands c i r → cellsPass lent (cellsAt c i) ≡ textInside lent r
-unfolding rangePasses
+unfolding rangePasses rangeDecodes
 row-passes lent c i r s =
-    ap (cellsPass lent) (s .cells) ∙ ap (λ (b : Bool). not b || (rangePasses lent (r .start) (r .size) && eqb (r .decoded) (r .size))) (code-text (codeOf (r .name)) (r .name) (s .coded))
+    ap (cellsPass lent) (s .cells) ∙ ap (λ (b : Bool). not b || (rangePasses lent (r .start) (r .size) && rangeDecodes lent (r .start) (r .size) (r .decoded))) (code-text (codeOf (r .name)) (r .name) (s .coded))
 
 texts-pass : (lent : List ℕ) (c : Columns) (k n : ℕ) (rows : List Row) → StandFrom c k n rows → textsPass lent (c .names) (c .starts) (c .lengths) (c .decoded) k n ≡ allOf (textInside lent) rows
 texts-pass lent c k zero [] f = refl

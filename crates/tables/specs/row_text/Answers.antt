@@ -41,12 +41,12 @@ use Rattle.text_spec.specs.Refusals.{Outcome, accepted, refused, at, badRecord}
 abbrev pub outcomeOf : RowText → Outcome Calls.RowText
 outcomeOf Refused = refused (at badRecord 0)
 outcomeOf Element = accepted noText
-outcomeOf (Text start size) = accepted (textAt start size)
+outcomeOf (Text start size decoded) = accepted (textAt start size decoded)
 
 -- the answer for a row of tested columns
-abbrev pub textOf : List ℕ → List ℕ → List ℕ → ℕ → ℕ → RowText
-textOf names starts lengths count position =
-    cond (leb count position) Refused (cond (isTextCode (getD names position 0)) (Text (getD starts position 0) (getD lengths position 0)) Element)
+abbrev pub textOf : List ℕ → List ℕ → List ℕ → List ℕ → ℕ → ℕ → RowText
+textOf names starts lengths decoded count position =
+    cond (leb count position) Refused (cond (isTextCode (getD names position 0)) (Text (getD starts position 0) (getD lengths position 0) (getD decoded position 0)) Element)
 
 -- ---- laws
 abbrev afterTable : Option (List Row) → ℕ → Outcome Calls.RowText
@@ -107,27 +107,27 @@ module _ (t : LentTable) (rows : List Row) (stand : StandFrom (t .columns) 0 (t 
       pick none e = refl
       pick (some r) e = absurd (omega (arith, at-bound rows position r e, stand .size))
 
-  by-name : (r : Row) (n : Name) → r .name ≡ n → outcomeOf (cond (isText n) (Text (r .start) (r .size)) Element) ≡ accepted (textOfRow n r)
+  by-name : (r : Row) (n : Name) → r .name ≡ n → outcomeOf (cond (isText n) (Text (r .start) (r .size) (r .decoded)) Element) ≡ accepted (textOfRow n r)
   by-name r (element e) q = refl
   by-name r (text e) q = refl
 
   inside : position < t .count
-      → outcomeOf (cond (isTextCode (getD (t .columns .names) position 0)) (Text (getD (t .columns .starts) position 0) (getD (t .columns .lengths) position 0)) Element)
+      → outcomeOf (cond (isTextCode (getD (t .columns .names) position 0)) (Text (getD (t .columns .starts) position 0) (getD (t .columns .lengths) position 0) (getD (t .columns .decoded) position 0)) Element)
       ≡ afterTable (some rows) position
   inside l =
       let f = at-some rows position (omega (arith, stand .size)) in
       let r = f .0 in
       let zero : 0 + position ≡ position = omega arith in
       let here : Stands (t .columns) position r = subst (λ (x : ℕ). Stands (t .columns) x r) zero (stand .each position r (f .1)) in
-      let answer : Cells → Outcome Calls.RowText = λ x. outcomeOf (cond (isTextCode (x .name)) (Text (x .start) (x .size)) Element) in
-      ap answer (here .cells) ∙ ap (λ (b : Bool). outcomeOf (cond b (Text (r .start) (r .size)) Element)) (code-text (codeOf (r .name)) (r .name) (here .coded)) ∙ by-name r (r .name) refl
+      let answer : Cells → Outcome Calls.RowText = λ x. outcomeOf (cond (isTextCode (x .name)) (Text (x .start) (x .size) (x .decoded)) Element) in
+      ap answer (here .cells) ∙ ap (λ (b : Bool). outcomeOf (cond b (Text (r .start) (r .size) (r .decoded)) Element)) (code-text (codeOf (r .name)) (r .name) (here .coded)) ∙ by-name r (r .name) refl
       ∙ sym (ap (λ (o : Option Row). handed o (λ z. accepted (textOfRow (z .name) z))) (f .1))
 
-  row-answer : outcomeOf (textOf (t .columns .names) (t .columns .starts) (t .columns .lengths) (t .count) position) ≡ afterTable (some rows) position
+  row-answer : outcomeOf (textOf (t .columns .names) (t .columns .starts) (t .columns .lengths) (t .columns .decoded) (t .count) position) ≡ afterTable (some rows) position
   row-answer = ⊎-elim (λ l. ap outcomeOf (at-inside l) ∙ inside l) (λ l. ap outcomeOf (at-past l) ∙ past l) (below-or-past position (t .count))
     where
       answers : Bool → RowText
-      answers b = cond b Refused (cond (isTextCode (getD (t .columns .names) position 0)) (Text (getD (t .columns .starts) position 0) (getD (t .columns .lengths) position 0)) Element)
+      answers b = cond b Refused (cond (isTextCode (getD (t .columns .names) position 0)) (Text (getD (t .columns .starts) position 0) (getD (t .columns .lengths) position 0) (getD (t .columns .decoded) position 0)) Element)
 
       at-inside : position < t .count → answers (leb (t .count) position) ≡ answers false
       at-inside l = ap answers (lt-leb (t .count) position l)
@@ -138,48 +138,48 @@ module _ (t : LentTable) (rows : List Row) (stand : StandFrom (t .columns) 0 (t 
 -- The answer for a row of a table that is handed in.
 module _ (schema : TextRecord) (t : LentTable) (lent : List ℕ) (position : ℕ) (record-passes : passesSchema schema ≡ true) where
   pub row-found : isBeside (schemaIn (textIn schema)) lent t ≡ true
-      → outcomeOf (textOf (t .columns .names) (t .columns .starts) (t .columns .lengths) (t .count) position) ≡ rowText schema t lent position
+      → outcomeOf (textOf (t .columns .names) (t .columns .starts) (t .columns .lengths) (t .columns .decoded) (t .count) position) ≡ rowText schema t lent position
   unfolding isBeside
   row-found e = pick (tableBeside (schemaIn (textIn schema)) lent t) refl e ∙ sym (by-record schema t lent position record-passes)
     where
       pick : (o : Option (List Row)) → tableBeside (schemaIn (textIn schema)) lent t ≡ o → not (isNone o) ≡ true
-          → outcomeOf (textOf (t .columns .names) (t .columns .starts) (t .columns .lengths) (t .count) position) ≡ afterTable (tableBeside (schemaIn (textIn schema)) lent t) position
+          → outcomeOf (textOf (t .columns .names) (t .columns .starts) (t .columns .lengths) (t .columns .decoded) (t .count) position) ≡ afterTable (tableBeside (schemaIn (textIn schema)) lent t) position
       pick none q f = never (cc)
       pick (some rows) q f =
           row-answer t rows (table-found (schemaIn (textIn schema)) lent t rows q .stand) position ∙ ap (λ (x : Option (List Row)). afterTable x position) (sym q)
 
 -- ---- a text that is answered lies inside the lent text
-name-inside : (n : Name) (r : Row) (a k : ℕ) → textOfRow n r ≡ textAt a k → T (isText n) × (r .start ≡ a) × (r .size ≡ k)
-name-inside (element e) r a k q = never (cc)
-name-inside (text e) r a k q = (tt, cc, cc)
+name-inside : (n : Name) (r : Row) (a k d : ℕ) → textOfRow n r ≡ textAt a k d → T (isText n) × (r .start ≡ a) × (r .size ≡ k)
+name-inside (element e) r a k d q = never (cc)
+name-inside (text e) r a k d q = (tt, cc, cc)
 
-found-inside : (z : Schema) (t : LentTable) (lent : List ℕ) (position a k : ℕ) → afterTable (tableBeside z lent t) position ≡ accepted (textAt a k) → a + k ≤ length lent
-found-inside z t lent position a k e = pick (tableBeside z lent t) refl e
+found-inside : (z : Schema) (t : LentTable) (lent : List ℕ) (position a k d : ℕ) → afterTable (tableBeside z lent t) position ≡ accepted (textAt a k d) → a + k ≤ length lent
+found-inside z t lent position a k d e = pick (tableBeside z lent t) refl e
   where
-    at-row : (rows : List Row) → Found z lent t rows → (o : Option Row) → getElem? rows position ≡ o → handed o (λ r. accepted (textOfRow (r .name) r)) ≡ accepted (textAt a k)
+    at-row : (rows : List Row) → Found z lent t rows → (o : Option Row) → getElem? rows position ≡ o → handed o (λ r. accepted (textOfRow (r .name) r)) ≡ accepted (textAt a k d)
         → a + k ≤ length lent
     at-row rows f none q h = never (cc)
     at-row rows f (some r) q h =
-        let same : textOfRow (r .name) r ≡ textAt a k = cc in
-        let n = name-inside (r .name) r a k same in
+        let same : textOfRow (r .name) r ≡ textAt a k d = cc in
+        let n = name-inside (r .name) r a k d same in
         let w = well-formed-beside (typesOf z) lent rows .0 (f .passes) in
         omega (arith, w .inside r (at-in rows position r q) (n .0), n .1, n .2)
 
-    pick : (o : Option (List Row)) → tableBeside z lent t ≡ o → afterTable o position ≡ accepted (textAt a k) → a + k ≤ length lent
+    pick : (o : Option (List Row)) → tableBeside z lent t ≡ o → afterTable o position ≡ accepted (textAt a k d) → a + k ≤ length lent
     pick none q h = never (cc)
     pick (some rows) q h = at-row rows (table-found z lent t rows q) (getElem? rows position) refl h
 
-answer-inside : (schema : TextRecord) (t : LentTable) (lent : List ℕ) (position a k : ℕ) → accepted (textAt a k) ≡ rowText schema t lent position → a + k ≤ length lent
+answer-inside : (schema : TextRecord) (t : LentTable) (lent : List ℕ) (position a k d : ℕ) → accepted (textAt a k d) ≡ rowText schema t lent position → a + k ≤ length lent
 unfolding rowText schemaHeld
-answer-inside schema t lent position a k e = pick (passesSchema schema) (sym e)
+answer-inside schema t lent position a k d e = pick (passesSchema schema) (sym e)
   where
-    pick : (b : Bool) → handed (cond b (some (schemaIn (textIn schema))) none) (λ z. afterTable (tableBeside z lent t) position) ≡ accepted (textAt a k) → a + k ≤ length lent
-    pick true h = found-inside (schemaIn (textIn schema)) t lent position a k h
+    pick : (b : Bool) → handed (cond b (some (schemaIn (textIn schema))) none) (λ z. afterTable (tableBeside z lent t) position) ≡ accepted (textAt a k d) → a + k ≤ length lent
+    pick true h = found-inside (schemaIn (textIn schema)) t lent position a k d h
     pick false h = never (cc)
 
 pub text-inside : (schema : TextRecord) (t : LentTable) (lent : List ℕ) (position : ℕ) (r : RowText) → outcomeOf r ≡ rowText schema t lent position
-    → (a k : ℕ) → r ≡ Text a k → a + k ≤ length lent
-text-inside schema t lent position r is a k e = answer-inside schema t lent position a k (ap outcomeOf (sym e) ∙ is)
+    → (a k d : ℕ) → r ≡ Text a k d → a + k ≤ length lent
+text-inside schema t lent position r is a k d e = answer-inside schema t lent position a k d (ap outcomeOf (sym e) ∙ is)
 
 -- a table that is handed in has a cell for each row in each column
 pub beside-lent : (z : Schema) (lent : List ℕ) (t : LentTable) → isBeside z lent t ≡ true → Lent (t .columns) (t .count)
@@ -201,8 +201,8 @@ module _ (lent : List ℕ) (r : RowText) (o : Outcome Calls.RowText) (is : outco
   unfolding partAfter
   part-element e = ap (λ (x : RowText). partAfter lent (outcomeOf x)) (sym e) ∙ ap (partAfter lent) is
 
-  pub part-text : (start size : ℕ) → r ≡ Text start size → take (start + size - start) (drop start lent) ≡ partAfter lent o
+  pub part-text : (start size decoded : ℕ) → r ≡ Text start size decoded → take (start + size - start) (drop start lent) ≡ partAfter lent o
   unfolding partAfter
-  part-text start size e =
+  part-text start size decoded e =
       let n : start + size - start ≡ size = omega arith in
       ap (λ (x : ℕ). take x (drop start lent)) n ∙ ap (λ (x : RowText). partAfter lent (outcomeOf x)) (sym e) ∙ ap (partAfter lent) is

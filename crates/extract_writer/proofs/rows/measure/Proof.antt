@@ -7,10 +7,10 @@ use Rattle.extract_writer.proofs.rows.measure.Tie as tie
 use Rattle.extract_writer.specs.rows.Measure.{MeasurePass, Measuring, measuring-none, rows-few, mark-low, measuring-next, measured, marked-bound}
 
 abbrev Inv-loop : tie.InvT-loop
-Inv-loop names lengths marks bytes₀ rows₀ r₀ bytes rows r = MeasurePass names lengths marks × Measuring names lengths marks r bytes rows
+Inv-loop names decoded marks bytes₀ rows₀ r₀ bytes rows r = MeasurePass names decoded marks × Measuring names decoded marks r bytes rows
 
 abbrev μ-loop : tie.MeasureT-loop
-μ-loop names lengths marks bytes₀ rows₀ r₀ bytes rows r = length marks - r
+μ-loop names decoded marks bytes₀ rows₀ r₀ bytes rows r = length marks - r
 
 -- back from where a row's field is measured to its turn of the loop
 abbrev turn-before : tie.After-shared-slice-known6 Inv-loop μ-loop → tie.In-loop Inv-loop μ-loop

@@ -35,26 +35,31 @@ returns-2 c =
 
 part-put-text-end : tie.Need-part-put-text-end
 part-put-text-end c =
-    let named = c .before .before .before in
+    let named = c .before .before .before .before in
     let at = text-start named in
     omega (arith, at .pre .columns .inside (at .args .r) (at .pre .inside) (named .if2 .left))
 
 put-text-requires : tie.Need-put-text-requires
 put-text-requires c κs =
-    let named = c .before .before .before .before in
+    let named = c .before .before .before .before .before in
     let row = marked (named .before) in
     let at = start row in
     text-asked (at .args .text .now) (lent at) (at .args .mark) (at .args .r) (at .args .out .now) (at .args .at) (at .pre) (row .if1 .left) (named .if2 .left)
 
+cast-result : tie.Need-cast-result
+cast-result c =
+    let sized = c .before .before .before .before .before in
+    omega (arith, sized .shared-slice-known14 .given (text-start (sized .before .before .before) .args .r))
+
 add-result-3 : tie.Need-add-result-3
 add-result-3 c =
     let sized = c .before .before .before .before .before in
-    let at = text-start (sized .before .before) in
-    omega (arith, sized .shared-slice-known13 .given (at .args .r), at .pre .room)
+    let at = text-start (sized .before .before .before) in
+    omega (arith, sized .shared-slice-known14 .given (at .args .r), at .pre .room)
 
 returns-3 : tie.Need-returns-3
 returns-3 c =
-    let named = c .before .before .before .before .before .before .before in
+    let named = c .before .before .before .before .before .before .before .before in
     let row = marked (named .before) in
     let at = start row in
     text-put (at .args .text .now) (lent at) (at .args .mark) (at .args .r) (at .args .out .now) (at .args .at) (at .pre) (row .if1 .left) (named .if2 .left) _ (c .before .before .put-text .ensures)
@@ -84,11 +89,14 @@ put-row-spec =
     (λ c. row-place (text-start (c .before .before) .pre) .lengths)
     (λ c. omega (arith, c .shared-slice-known13 .given (text-start (c .before .before) .args .r)))
     (λ c. let r = text-start (c .before .before) .args .r in omega (arith, c .before .shared-slice-known12 .given r, c .shared-slice-known13 .given r))
+    (λ c. row-place (text-start (c .before .before) .pre) .halves)
+    (λ c. row-place (text-start (c .before .before .before) .pre) .decoded)
     (λ c. omega arith)
     (λ c. omega arith)
     part-put-text-end
     put-text-requires
     (λ c. omega arith)
+    cast-result
     add-result-3
     (λ c. c .before .out2 .given)
     returns-3)

@@ -17,8 +17,8 @@ returns c =
     let g = start .args in
     let same = c .without-row .ensures ∙ ap (λ (x : Build). step x noRow) (c .before .outside .ensures) in (
       safe-as same (outside-safe (now (g .levels)) (g .m) (g .solid) noRow (start .pre .0)),
-      λ saved s b few u w.
-          leaves-as same refl (outside-leaves s b (now (g .levels)) (g .m) u w (g .start) (g .solid) (g .size) saved noRow (omega (arith, start .fits)) (c .before .before .if1 .taken)),
+      λ s b few u w.
+          leaves-as same refl (outside-leaves s b (now (g .levels)) (g .m) u w (g .start) (g .solid) (g .size) (g .saved) noRow (omega (arith, start .fits)) (c .before .before .if1 .taken)),
     )
 
 returns-2 : tie.Need-returns-2
@@ -30,9 +30,9 @@ returns-2 c =
     let g = start .args in
     let same = ap₂ step (c .with-text .ensures) (c .before .text-row .ensures) in (
       safe-as same (text-safe _ (g .m) (g .start) (g .size) _ (record { all = stored .refill .ensures .long; shallow = start .pre .0 .shallow })),
-      λ saved s b few u w.
+      λ s b few u w.
           leaves-as same refl
-          (run-text s b (now (g .levels)) _ (g .m) u w (g .start) (g .solid) (g .size) saved (loaded .load .result) (new .with-run .result) (loaded .before .before .if1 .left) (loaded .load .ensures)
+          (run-text s b (now (g .levels)) _ (g .m) u w (g .start) (g .solid) (g .size) (g .saved) (loaded .load .result) (new .with-run .result) (loaded .before .before .if1 .left) (loaded .load .ensures)
           (stored .refill .ensures) (new .with-run .ensures s) few (omega (arith, start .fits))
           (eqb-true (loaded .load .result .filling .kind) pcdataKind (sym (c .before .before .before .is-text .ensures) ∙ c .before .before .if2 .taken))),
     )
@@ -45,9 +45,9 @@ returns-3 c =
     let start = loaded .before .before .before in
     let g = start .args in (
       safe-as (c .without-row2 .ensures) (record { safe = record { all = stored .refill .ensures .long; shallow = start .pre .0 .shallow }; counted = omega arith }),
-      λ saved s b few u w.
+      λ s b few u w.
           leaves-as (c .without-row2 .ensures) refl
-          (run-plain s b (now (g .levels)) _ (g .m) u w (g .start) (g .solid) (g .size) saved (loaded .load .result) (new .with-run .result) (loaded .before .before .if1 .left) (loaded .load .ensures)
+          (run-plain s b (now (g .levels)) _ (g .m) u w (g .start) (g .solid) (g .size) (g .saved) (loaded .load .result) (new .with-run .result) (loaded .before .before .if1 .left) (loaded .load .ensures)
           (stored .refill .ensures) (new .with-run .ensures s) noRow
           (eqb-false (loaded .load .result .filling .kind) pcdataKind (sym (c .before .before .is-text .ensures) ∙ c .before .if2 .left))),
     )

@@ -11,11 +11,11 @@ returns c t = event-quiet (c .before .if1 .taken) (c .before .before .before .pr
 
 returns-2 : tie.Need-returns-2
 returns-2 c t =
-    let size = c .before .before .before in
+    let size = c .before .before .before .before in
     let test = size .before .before .before in
     let start = test .before .before in
     let run : start .args .l .event ≡ 4 = ⊎-elim (λ e. absurd (test .if1 .left e)) (λ e. e) (start .pre .3) in
-    event-run (size .run-size .result) run (size .run-size .ensures) (c .on-run .ensures .0) (c .on-run .ensures .1 _)
+    event-run (size .remaining .result) run (size .remaining .ensures) (c .on-run .ensures .0) (c .on-run .ensures .1)
 
 pub on-data-event-spec : {M : Type 1} → statement M
 on-data-event-spec =
@@ -23,5 +23,5 @@ on-data-event-spec =
     (tie.spec
     (λ c κs. search needs)
     returns
-    (λ c. search needs) (λ c. search needs) (λ c κs. search needs) (λ c. search needs) (λ c κs. search needs)
+    (λ c. search needs) (λ c. search needs) (λ c κs. search needs) (λ c. search needs) (λ c. search needs) (λ c κs. search needs)
     returns-2)

@@ -9,13 +9,13 @@ add-end : tie.Need-add-end
 add-end c =
     let answer = c .before .before .before .row-text-place in
     let start = c .before .before .before .before .before .before .before .before .before .before .before in
-    let inside = text-inside _ _ _ _ _ (answer .ensures) _ _ (c .before .start .given .1) in
+    let inside = text-inside _ _ _ _ _ (answer .ensures) _ _ _ (c .before .start .given .1) in
     omega (arith, inside, start .good .1 .1 .1 .1 .1 .1 .1 .1 .0)
 
 part-result-end : tie.Need-part-result-end
 part-result-end c =
     let answer = c .before .before .before .row-text-place in
-    let inside = text-inside _ _ _ _ _ (answer .ensures) _ _ (c .before .start .given .1) in
+    let inside = text-inside _ _ _ _ _ (answer .ensures) _ _ _ (c .before .start .given .1) in
     omega arith
 
 returns : tie.Need-returns
@@ -25,7 +25,7 @@ returns-2 : tie.Need-returns-2
 returns-2 c = part-element _ _ _ (c .before .before .before .row-text-place .ensures) (c .before .enum-told2 .given .1)
 
 returns-3 : tie.Need-returns-3
-returns-3 c = part-text _ _ _ (c .before .before .before .before .row-text-place .ensures) _ _ (c .before .before .start .given .1)
+returns-3 c = part-text _ _ _ (c .before .before .before .before .row-text-place .ensures) _ _ _ (c .before .before .start .given .1)
 
 pub row-text-spec : {M : Type 1} → statement M
 row-text-spec =

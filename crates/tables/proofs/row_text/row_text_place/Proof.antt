@@ -26,7 +26,7 @@ text-of-requires : tie.Need-text-of-requires
 text-of-requires c κs =
     let made = c .before .before .before in
     let lent = beside-lent _ _ _ (sym (c .before .is-table-beside .ensures _ (made .schema-words .ensures)) ∙ not-false _ (c .if2 .left)) in
-    (lent .named, lent .started, lent .sized)
+    (lent .named, lent .started, lent .sized, lent .measured)
 
 returns-3 : tie.Need-returns-3
 returns-3 c =

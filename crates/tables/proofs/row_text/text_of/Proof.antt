@@ -9,16 +9,19 @@ use Rattle.tables.proofs.row_text.text_of.Tie as tie
 returns : tie.Need-returns
 returns c = simp (le-leb _ _ (c .if1 .taken))
 
-cast-t13 : tie.Need-cast-t13
-cast-t13 c = omega (arith, c .shared-slice-known5 .given (c .before .before .before .before .before .before .before .before .args .position))
+cast-t14 : tie.Need-cast-t14
+cast-t14 c = omega (arith, c .shared-slice-known6 .given (c .before .before .before .before .before .before .before .before .before .args .position))
 
-cast-t17 : tie.Need-cast-t17
-cast-t17 c = omega (arith, c .shared-slice-known6 .given (c .before .before .before .before .before .before .before .before .before .args .position))
+cast-t18 : tie.Need-cast-t18
+cast-t18 c = omega (arith, c .shared-slice-known7 .given (c .before .before .before .before .before .before .before .before .before .before .args .position))
+
+cast-t22 : tie.Need-cast-t22
+cast-t22 c = omega (arith, c .shared-slice-known8 .given (c .before .before .before .before .before .before .before .before .before .before .before .args .position))
 
 returns-2 : tie.Need-returns-2
 returns-2 c =
-    let tested = c .before .before .before in
-    simp (lt-leb _ _ (tested .before .before .if1 .left), sym (tested .is-text .ensures) ∙ c .before .before .if2 .taken)
+    let tested = c .before .before .before .before in
+    simp (lt-leb _ _ (tested .before .before .if1 .left), sym (tested .is-text .ensures) ∙ c .before .before .before .if2 .taken)
 
 returns-3 : tie.Need-returns-3
 returns-3 c = simp (lt-leb _ _ (c .before .before .before .if1 .left), sym (c .before .is-text .ensures) ∙ c .if2 .left)
@@ -32,9 +35,12 @@ text-of-spec =
     (λ c κs. search needs)
     (λ c. search needs)
     (λ c. search needs)
-    cast-t13
+    cast-t14
     (λ c. search needs)
     (λ c. search needs)
-    cast-t17
+    cast-t18
+    (λ c. search needs)
+    (λ c. search needs)
+    cast-t22
     returns-2
     returns-3)

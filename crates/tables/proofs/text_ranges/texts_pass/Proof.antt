@@ -1,51 +1,17 @@
--- `texts_pass` meets its contract. The invariant: what is left of the rows decides.
-use mathlib.Core.Path.{sym, _∙_}
-use Prim.Native.Nat.{_-_}
+-- `texts_pass` meets its contract: what the rows that are copied leave decides.
+use native.Mathlib.Omega.{arith}
 use borrow.Author.Needs.{needs}
-use borrow.Author.Tests.{not-true, not-false}
-use Rattle.tables.proofs.text_ranges.Ranges.{Left, left-first, left-fails, left-next, left-done}
+use Rattle.tables.proofs.text_ranges.Ranges.{left-done}
 use Rattle.tables.proofs.text_ranges.texts_pass.Statement.{statement}
 use Rattle.tables.proofs.text_ranges.texts_pass.Tie as tie
 
-abbrev Inv-loop : tie.InvT-loop
-Inv-loop lent codes starts lengths decoded count i₀ i = Left lent codes starts lengths decoded count i
+returns : tie.Need-returns
+returns c = left-done _ _ _ _ _ _ _ (c .before .copied-rows .ensures) (omega (arith, c .if1 .taken))
 
-abbrev μ-loop : tie.MeasureT-loop
-μ-loop lent codes starts lengths decoded count i₀ i = count - i
-
-loop-holds : tie.Need-loop-holds Inv-loop μ-loop
-loop-holds c = left-first _ _ _ _ _ _
-
-returns : tie.Need-returns Inv-loop μ-loop
-returns c =
-    let turn = c .before .before .before .before .before .before in
-    left-fails _ _ _ _ _ _ _ (turn .before .loop .inv) (turn .loop-test .taken) (sym (c .before .text-passes .ensures) ∙ not-true _ (c .if1 .taken))
-
-loop-again : tie.Need-loop-again Inv-loop μ-loop
-loop-again c =
-    let turn = c .before .before .before .before .before .before in
-    left-next _ _ _ _ _ _ _ (turn .before .loop .inv) (turn .loop-test .taken) (sym (c .before .text-passes .ensures) ∙ not-false _ (c .if1 .left))
-
-returns-2 : tie.Need-returns-2 Inv-loop μ-loop
-returns-2 c = left-done _ _ _ _ _ _ _ (c .before .loop .inv) (c .loop-test .left)
+later-texts-pass-requires : tie.Need-later-texts-pass-requires
+later-texts-pass-requires c κs =
+    let pre = c .before .before .before .before .before .before .before .pre in
+    (pre .0, pre .1, pre .2, pre .3, c .before .copied-rows .ensures)
 
 pub texts-pass-spec : {M : Type 1} → statement M
-texts-pass-spec =
-    tie.close
-    (tie.spec
-    Inv-loop
-    μ-loop
-    loop-holds
-    (λ c. search needs)
-    (λ c. search needs)
-    (λ c. search needs)
-    (λ c. search needs)
-    (λ c. search needs)
-    (λ c. search needs)
-    (λ c. search needs)
-    (λ c κs. search needs)
-    returns
-    (λ c. search needs)
-    (λ c. search needs)
-    loop-again
-    returns-2)
+texts-pass-spec = tie.close (tie.spec (λ c κs. search needs) returns later-texts-pass-requires (λ c. c .later-texts-pass .ensures))
