@@ -85,7 +85,7 @@ module _ (schema bundle journal : List ℕ) (s : Schema) (ps : List (LocationPat
   kept-well-formed = cut-well-formed-with (typesOf s) (needed (typesOf s) ps) journal rows (table s journal rows jt .1)
 
   -- 3.2 The extract made for the bundle, read under the schema, is accepted and gives the journal's rows cut to the bundle's needed names, each text
-  -- at its bytes in the extract, which are those that it has in the journal; and each path selects on it what it selects on the whole journal.
+  -- at its characters in the extract, which are those that it stands for in the journal; and each path selects on it what it selects on the whole journal.
   pub extract-gives-the-same : (readExtract (typesOf s) (extractOf s ps journal rows) ≡ accepted (extractRows journal keptRows))
       × SameTables journal (extractOf s ps journal rows) keptRows (extractRows journal keptRows)
       × ((p : LocationPath ℕ) → In p ps → selectRows (extractOf s ps journal rows) (extractRows journal keptRows) p ≡ selectRows journal rows p)
