@@ -7,4 +7,5 @@ pub mod state
 pub mod step
 pub mod tag_loops
 pub mod tags
+pub mod whole_entities
 pub mod whole_texts

@@ -1,2 +1,4 @@
 pub mod Modes
-pub mod Letters
+pub mod Bytes
+pub mod Characters
+pub mod Entities

@@ -1,17 +1,21 @@
 // Loops over a journal's character data: one for each mode that lasts, over the byte functions.
 ghost use mathlib.Core.Path.{_≡_};
+ghost use Rattle.journal_lexer.specs.data_loops.Entities.{pastEntity};
 ghost use Rattle.journal_lexer.specs.data_loops.Modes.{dataMode};
-ghost use Rattle.journal_lexer.specs.data_loops.Letters.{furtherOn, Lettered};
-ghost use Rattle.journal_lexer.specs.loop_laws.Advance.{Ready, Advance, only};
+ghost use Rattle.journal_lexer.specs.data_loops.Characters.{movedTo, PlainBytes, EntityEnd};
+ghost use Rattle.journal_lexer.specs.loop_laws.Advance.{Ready, Advance, never, only};
 use crate::character_data;
-use crate::entities;
-use crate::entities::ENTITY_ENDED;
+use crate::data_runs::entity_ends;
+use crate::kinds::LESS;
 use crate::state::BETWEEN;
 use crate::state::BLANKS;
 use crate::state::ENTITY;
 use crate::state::Lex;
 use crate::state::QUIET;
+use crate::state::SAVED;
 use crate::state::SOLID;
+use crate::whole_entities::Character;
+use crate::whole_entities::entity_after;
 
 // Between tokens, where one byte is read.
 pub fn between_step(t: &[u8], kinds: &[u8; 256], places: &mut [u32; 5], l: Lex) -> Lex
@@ -60,8 +64,45 @@ fn solid_run(t: &[u8], kinds: &[u8; 256], places: &mut [u32; 5], l: Lex) -> Lex
     s
 }
 
-// The bytes of an entity.
-pub fn entity_run(t: &[u8], kinds: &[u8; 256], places: &mut [u32; 5], l: Lex) -> Lex
+// The state past an entity.
+fn past_entity(l: Lex, place: usize) -> Lex
+    ensures { λ r. ⌜ r ≡ pastEntity place l ⌝ }
+{
+    let name = l.name;
+    Lex {
+        place,
+        mode: SOLID,
+        event: QUIET,
+        count: l.count,
+        name,
+    }
+}
+
+// Passes an entity whose `&` alone is read, if it stands whole there.
+fn whole_entity(t: &[u8], kinds: &[u8; 256], places: &mut [u32; 5], l: Lex) -> Lex
+    requires { ⌜ Ready (now t) (now kinds) l (now places) ⌝ }
+    ensures { λ r. ⌜ Advance never (now (t .entry)) l (now (places .entry)) r (now (places .exit)) ⌝ }
+{
+    if l.mode != ENTITY {
+        return l;
+    }
+    if l.event != QUIET {
+        return l;
+    }
+    if l.count != 0 {
+        return l;
+    }
+    let from = l.place;
+    let c = entity_after(t, from);
+    if c.next == from {
+        return l;
+    }
+    entity_ends(places, c.next - 1);
+    past_entity(l, c.next)
+}
+
+// The bytes of an entity, one at a time.
+fn entity_bytes(t: &[u8], kinds: &[u8; 256], places: &mut [u32; 5], l: Lex) -> Lex
     requires { ⌜ Ready (now t) (now kinds) l (now places) ⌝ }
     ensures { λ r. ⌜ Advance (only 5) (now (t .entry)) l (now (places .entry)) r (now (places .exit)) ⌝ }
 {
@@ -76,60 +117,88 @@ pub fn entity_run(t: &[u8], kinds: &[u8; 256], places: &mut [u32; 5], l: Lex) ->
     s
 }
 
-// The state further on in an entity.
-fn further_on(l: Lex, place: usize, count: u32) -> Lex
-    ensures { λ r. ⌜ r ≡ furtherOn place count l ⌝ }
+// An entity: at once where it stands whole, else its bytes one at a time.
+pub fn entity_run(t: &[u8], kinds: &[u8; 256], places: &mut [u32; 5], l: Lex) -> Lex
+    requires { ⌜ Ready (now t) (now kinds) l (now places) ⌝ }
+    ensures { λ r. ⌜ Advance (only 5) (now (t .entry)) l (now (places .entry)) r (now (places .exit)) ⌝ }
+{
+    let whole = whole_entity(t, kinds, places, l);
+    entity_bytes(t, kinds, places, whole)
+}
+
+// The state at another place.
+fn moved_to(l: Lex, place: usize) -> Lex
+    ensures { λ r. ⌜ r ≡ movedTo place l ⌝ }
 {
     let name = l.name;
     Lex {
         place,
         mode: l.mode,
         event: l.event,
-        count,
+        count: l.count,
         name,
     }
 }
 
-// Passes the letters of an entity, up to the byte that ends it or does not belong there: they change nothing but the place and the state of the entity.
-fn letters_run(t: &[u8], l: Lex) -> Lex
-    ensures { λ r. ⌜ Lettered (now (t .entry)) l r ⌝ }
+// The place of the first byte from `from` on that is no plain one.
+fn plain_end(t: &[u8], kinds: &[u8; 256], from: usize) -> usize
+    ensures { λ r. ⌜ PlainBytes (now (t .entry)) (now (kinds .entry)) from r ⌝ }
 {
-    if l.mode != ENTITY {
+    let mut at = from;
+    while at < t.len() && kinds[t[at] as usize] < LESS {
+        at += 1;
+    }
+    at
+}
+
+// The place past the entity that stands at `at`; `at` where none does.
+fn entity_end(t: &[u8], at: usize) -> usize
+    ensures { λ r. ⌜ EntityEnd (now (t .entry)) at r ⌝ }
+{
+    if t.len() <= at {
+        return at;
+    }
+    if t[at] != b'&' {
+        return at;
+    }
+    let c = entity_after(t, at + 1);
+    if c.next == at + 1 {
+        return at;
+    }
+    c.next
+}
+
+// Passes the characters of a run that has a byte that is not a blank, up to a byte that is no plain one and begins no entity.
+pub fn characters_run(t: &[u8], kinds: &[u8; 256], places: &mut [u32; 5], l: Lex) -> Lex
+    requires { ⌜ Ready (now t) (now kinds) l (now places) ⌝ }
+    ensures { λ r. ⌜ Advance never (now (t .entry)) l (now (places .entry)) r (now (places .exit)) ⌝ }
+{
+    if l.mode != SOLID {
         return l;
     }
     if l.event != QUIET {
         return l;
     }
-    let first = l.count;
-    if ENTITY_ENDED <= first {
-        return l;
+    let mut saved = places[SAVED] as usize;
+    let mut at = plain_end(t, kinds, l.place);
+    let mut next = entity_end(t, at);
+    while at < next {
+        saved += next - at - 1;
+        at = plain_end(t, kinds, next);
+        next = entity_end(t, at);
     }
-    let mut at = l.place;
-    let mut state = first;
-    while at < t.len() {
-        let next = entities::entity_next(state, t[at]);
-        if ENTITY_ENDED <= next {
-            return further_on(l, at, state);
-        }
-        state = next;
-        at += 1;
-    }
-    further_on(l, at, state)
+    places[SAVED] = saved as u32;
+    moved_to(l, at)
 }
 
-// From entity to entity, with the bytes between them.
-fn entities_run(t: &[u8], kinds: &[u8; 256], places: &mut [u32; 5], l: Lex) -> Lex
+// An entity whose `&` is read, and what comes after it.
+fn entity_part(t: &[u8], kinds: &[u8; 256], places: &mut [u32; 5], l: Lex) -> Lex
     requires { ⌜ Ready (now t) (now kinds) l (now places) ⌝ }
     ensures { λ r. ⌜ Advance (only 5) (now (t .entry)) l (now (places .entry)) r (now (places .exit)) ⌝ }
 {
-    let mut s = l;
-    while s.place < t.len() && s.mode == ENTITY {
-        let letters = letters_run(t, s);
-        let entity = entity_run(t, kinds, places, letters);
-        let next = solid_run(t, kinds, places, entity);
-        s = next;
-    }
-    s
+    let entity = entity_run(t, kinds, places, l);
+    let characters = characters_run(t, kinds, places, entity);
+    solid_run(t, kinds, places, characters)
 }
 
 // Reads on in character data, up to an event, another mode or the end.
@@ -139,9 +208,10 @@ pub fn data_part(t: &[u8], kinds: &[u8; 256], places: &mut [u32; 5], l: Lex) -> 
 {
     let between = between_step(t, kinds, places, l);
     let blanks = blanks_run(t, kinds, places, between);
-    let solid = solid_run(t, kinds, places, blanks);
+    let characters = characters_run(t, kinds, places, blanks);
+    let solid = solid_run(t, kinds, places, characters);
     if solid.mode == ENTITY {
-        return entities_run(t, kinds, places, solid);
+        return entity_part(t, kinds, places, solid);
     }
     solid
 }

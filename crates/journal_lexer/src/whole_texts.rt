@@ -4,11 +4,10 @@ ghost use Prim.Native.Nat.{_≤_, _<_};
 ghost use lib.ListN.{length};
 ghost use Rattle.journal_lexer.specs.kinds.Kinds.{KindTable};
 ghost use Rattle.journal_lexer.specs.state.Places.{noPlace, Lent};
-ghost use Rattle.journal_lexer.specs.whole_texts.Runs.{runMode, Fresh, Come, sizeAt, Skipped};
+ghost use Rattle.journal_lexer.specs.whole_texts.Runs.{runMode, Fresh, Come, sizeAt};
 ghost use Rattle.text_spec.specs.Lists.{valueOr};
 ghost use Rattle.token_spec.specs.Texts.{decodedSize};
 use crate::data_loops;
-use crate::kinds::LESS;
 use crate::state;
 use crate::state::AFTER_BRACKETS;
 use crate::state::BETWEEN;
@@ -16,7 +15,6 @@ use crate::state::Lex;
 use crate::state::NONE;
 use crate::state::OPENED;
 use crate::state::SAVED;
-use crate::state::SOLID;
 use crate::state::START;
 use crate::step;
 
@@ -28,28 +26,6 @@ fn in_run(mode: u8) -> bool
         return false;
     }
     mode < OPENED
-}
-
-// Passes plain bytes in a run that has a byte that is not a blank: the place alone moves.
-fn skip_plain(text: &[u8], kinds: &[u8; 256], l: Lex) -> Lex
-    requires { ⌜ KindTable (now kinds) ⌝ }
-    ensures { λ r. ⌜ Skipped (now (text .entry)) (now (kinds .entry)) l r ⌝ }
-{
-    if l.mode != SOLID {
-        return l;
-    }
-    let mut at = l.place;
-    while at < text.len() && kinds[text[at] as usize] < LESS {
-        at += 1;
-    }
-    let name = l.name;
-    Lex {
-        place: at,
-        mode: l.mode,
-        event: l.event,
-        count: l.count,
-        name,
-    }
 }
 
 // Reads the first run of character data, up to a tag, to what is misspelt or to the end.
@@ -66,8 +42,8 @@ fn read_run(text: &[u8], kinds: &[u8; 256], places: &mut [u32; 5]) -> Lex
         let c = kinds[b as usize];
         let next = step::data_step(places, s, b, c);
         let entity = data_loops::entity_run(text, kinds, places, next);
-        let skipped = skip_plain(text, kinds, entity);
-        s = skipped;
+        let characters = data_loops::characters_run(text, kinds, places, entity);
+        s = characters;
     }
     s
 }

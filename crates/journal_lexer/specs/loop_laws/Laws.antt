@@ -1,17 +1,15 @@
 -- Laws of loops: none, one byte more, one loop after the other.
-use mathlib.Core.Bool.{Bool, true, false}
+use mathlib.Core.Bool.{Bool, true, false, _||_}
 use mathlib.Core.List.{List}
 use mathlib.Core.Logic.{_⊎_, inl, inr}
 use mathlib.Core.Path.{_≡_, refl, sym, ap, subst, _∙_}
-use Prim.Native.Nat.{ℕ, suc, _+_, _-_, _≤_, _<_}
+use Prim.Native.Nat.{ℕ, suc, _+_, _-_, _<_}
 use native.Mathlib.Numerals.{add-one}
 use native.Mathlib.Omega.{arith}
-use lib.ListN.{length, getD}
+use lib.ListN.{length}
 use Rattle.journal_lexer.specs.declared.state.Lex.{Lex}
-use Rattle.journal_lexer.specs.kinds.Kinds.{kindOf}
-use Rattle.journal_lexer.specs.loop_laws.Advance.{foreignBelow, Stands, Valid, Ready, never, either, Progress, moved, stayed, Advance, Looked, byteAt, kindAt}
+use Rattle.journal_lexer.specs.loop_laws.Advance.{foreignBelow, Stands, Ready, never, either, Progress, moved, stayed, Advance, Looked, byteAt, kindAt}
 use Rattle.journal_lexer.specs.run_laws.Passes.{Passes, reads}
-use Rattle.journal_lexer.specs.state.Places.{noPlace}
 use Rattle.journal_lexer.specs.state.Relation.{TellsEvent, Tells, reportOf, firstForeign, Handed, Steps}
 use Rattle.token_spec.specs.Lexer.{Mode, Event, quiet, lex}
 
@@ -107,6 +105,20 @@ advance-then a b =
       stands = λ k m x. b .stands k m (a .stands k m x);
       progress = progress-then (a .progress) (b .progress);
     }
+
+-- two loops as far as the first is concerned
+pub advance-first : {f g : ℕ → Bool} {text : List ℕ} {l s r : Lex} {p o q : List ℕ} → Advance f text l p s o → Advance g text s o r q → Advance f text l p r q
+advance-first {f} {g} {text} {l} {s} {r} a b =
+    let c = advance-then a b in
+    record { inside = c .inside; lent = c .lent; valid = c .valid; stands = c .stands; progress = pick (c .progress) }
+  where
+    left : (x y : Bool) → (x || y) ≡ false → x ≡ false
+    left true y e = e
+    left false y e = refl
+
+    pick : Progress (either f g) text l r → Progress f text l r
+    pick (moved m) = moved m
+    pick (stayed e n) = stayed e (λ h. left (f (l .mode)) (g (l .mode)) (n h))
 
 -- a turn of a loop, and its end
 pub advance-more : {text kinds : List ℕ} {l s r : Lex} {p o q : List ℕ} → Looked text kinds s o → Steps (s .mode) s o (byteAt text s) r q

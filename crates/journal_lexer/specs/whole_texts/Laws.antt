@@ -4,24 +4,22 @@ use mathlib.Core.List.{List, [], _∷_}
 use mathlib.Core.Logic.{_⊎_, inl, inr}
 use mathlib.Core.Option.{none, some}
 use mathlib.Core.Path.{_≡_, refl, sym, ap, subst, _∙_}
-use Prim.Native.Nat.{ℕ, zero, suc, _+_, _-_, _≤_, _<_}
+use Prim.Native.Nat.{ℕ, zero, suc, _-_, _≤_, _<_}
 use native.Mathlib.Nat.{le-refl}
 use native.Mathlib.Omega.{arith}
 use borrow.Author.Tests.{ltb-true, ltb-false, lt-ltb, le-ltb, eq-eqb, ne-eqb}
 use lib.Dec.{eqb, ltb}
 use lib.ListN.{length, getD, drop, drop-of-length-le}
 use lib.Seq.{drop-cons}
-use Rattle.journal_lexer.specs.character_data.Laws.{plain-less, solid-plain}
 use Rattle.journal_lexer.specs.declared.state.Lex.{Lex}
 use Rattle.journal_lexer.specs.kinds.Kinds.{KindTable}
 use Rattle.journal_lexer.specs.loop_laws.Advance.{foreignBelow, Stands, Ready, only, Progress, moved, stayed, Advance, byteAt, kindAt}
 use Rattle.journal_lexer.specs.loop_laws.Laws.{ready-after}
 use Rattle.journal_lexer.specs.loop_laws.Turns.{byte-handed, byte-quiet}
 use Rattle.journal_lexer.specs.run_laws.Passes.{Passes, stays, reads}
-use Rattle.journal_lexer.specs.state.Laws.{steps-in}
 use Rattle.journal_lexer.specs.state.Places.{noPlace, runStart, savedAt, runOf}
-use Rattle.journal_lexer.specs.state.Relation.{stateOf, Means, Handed, Steps, stepped, initially}
-use Rattle.journal_lexer.specs.whole_texts.Runs.{runMode, Fresh, Begun, Come, sizeAt, movedTo, Skipped}
+use Rattle.journal_lexer.specs.state.Relation.{stateOf, Means, Handed, Steps, initially}
+use Rattle.journal_lexer.specs.whole_texts.Runs.{runMode, Fresh, Begun, Come, sizeAt}
 use Rattle.text.specs.declared.name_words.Name.{Name}
 use Rattle.text_laws.specs.Tests.{never}
 use Rattle.text_spec.specs.Lists.{valueOr}
@@ -130,27 +128,6 @@ module _ {f : ℕ → Bool} {text : List ℕ} {l r : Lex} {p q : List ℕ} (a : 
 
   pub run-still-falls : (n : ℕ) → length text - l .place < n → length text - r .place < n
   run-still-falls n h = omega (arith, not-back (a .progress))
-
--- ---- plain bytes
-
-pub skip-none : {text kinds : List ℕ} (l : Lex) → Skipped text kinds l (movedTo (l .place) l)
-skip-none l = record { after = omega arith; mode = refl; begun = λ p h. h }
-
-pub skip-more : {text kinds : List ℕ} (l : Lex) (k : ℕ) → l .mode ≡ 2 → k < length text → getD text k 0 < 256 → getD kinds (getD text k 0) 0 < 6 → Skipped text kinds l (movedTo k l)
-    → Skipped text kinds l (movedTo (k + 1) l)
-skip-more {text} {kinds} l k e more byte plain s =
-    record { after = omega (arith, s .after); mode = refl; begun = λ p h. on p (s .begun p h) }
-  where
-    on : (p : List ℕ) → Begun text kinds (movedTo k l) p → Begun text kinds (movedTo (k + 1) l) p
-    on p h =
-        let t : runMode (l .mode) ≡ true = ap runMode e in
-        let z : l .event ≡ 0 = run-quiet t (h .stands) in
-        let hd = run-handed h t more byte .0 in
-        let same : movedTo (k + 1) l ≡ stepped 2 0 (movedTo k l) = rw (e, z) in
-        run-next h t more byte (steps-in e (solid-plain hd (plain-less hd plain same)))
-
-pub skip-falls : {text kinds : List ℕ} {l r : Lex} (size k : ℕ) → size - l .place < size - k → Skipped text kinds l r → size - r .place < size - k
-skip-falls size k h s = omega (arith, h, s .after)
 
 -- ---- the size
 

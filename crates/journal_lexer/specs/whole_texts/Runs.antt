@@ -39,13 +39,3 @@ pub record Come (text : List ℕ) (l : Lex) (p : List ℕ) : Type 0 where
 -- the size that is told at a place in a mode
 abbrev pub sizeAt : ℕ → List ℕ → ℕ → ℕ → ℕ
 sizeAt size p place mode = cond (ltb place size) 0 (cond (eqb mode 0) 0 (cond (ltb 4 mode) 0 (cond (eqb (runStart p) 0) (size - savedAt p) 0)))
-
--- the state at another place
-abbrev pub movedTo : ℕ → Lex → Lex
-movedTo k l = record { place = k; mode = l .mode; event = l .event; count = l .count; name = l .name }
-
--- from l to r plain bytes are passed
-pub record Skipped (text kinds : List ℕ) (l r : Lex) : Type 0 where
-  pub after : l .place ≤ r .place
-  pub mode : r .mode ≡ l .mode
-  pub begun : (p : List ℕ) → Begun text kinds l p → Begun text kinds r p

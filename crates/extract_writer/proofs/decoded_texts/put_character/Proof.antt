@@ -15,7 +15,7 @@ entity-after-requires c κs = omega (arith, c .before .before .before .before .p
 returns-2 : tie.Need-returns-2
 returns-2 c =
     let start = c .before .before .before .before .before in
-    entity-put (start .args .text .now) (start .args .i) (start .args .out .now) (start .args .at) (start .pre .0) _ _ (c .before .if1 .left) (c .entity-after .ensures)
+    entity-put (start .args .text .now) (start .args .i) (start .args .out .now) (start .args .at) (start .pre .0) (c .before .if1 .left) (c .entity-after .ensures)
 
 pub put-character-spec : {M : Type 1} → statement M
 put-character-spec =

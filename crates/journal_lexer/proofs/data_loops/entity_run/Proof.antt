@@ -1,48 +1,15 @@
--- `entity_run` meets its contract: from the loop's start to each turn the code goes as the definition goes.
-use mathlib.Core.Path.{refl}
-use Prim.Native.Nat.{_-_}
-use lib.ListN.{length}
-use mir.Facts.{fits-8-64}
+-- `entity_run` meets its contract: one loop after the other.
 use Rattle.journal_lexer.proofs.data_loops.entity_run.Statement.{statement}
 use Rattle.journal_lexer.proofs.data_loops.entity_run.Tie as tie
-use Rattle.journal_lexer.specs.loop_laws.Laws.{advance-end}
-use Rattle.journal_lexer.specs.loop_laws.Turns.{Turn, turn-first, turn-over, turn-handed, mode-falls, mode-next}
+use Rattle.journal_lexer.specs.loop_laws.Laws.{ready-after, advance-then}
 
-abbrev Inv-loop : tie.InvT-loop
-Inv-loop t kinds places₀ s₀ places s = Turn t kinds s₀ places₀ s places
+entity-bytes-requires : tie.Need-entity-bytes-requires
+entity-bytes-requires c κs =
+    let whole = c .before in
+    ready-after (whole .before .before .before .pre) (whole .whole-entity .ensures)
 
-abbrev μ-loop : tie.MeasureT-loop
-μ-loop t kinds places₀ s₀ places s = length t - s .place
-
-entity-byte-requires : tie.Need-entity-byte-requires Inv-loop μ-loop
-entity-byte-requires c κs =
-    let known = c .before .before in
-    let first = known .before .before .before in
-    turn-handed (first .before .before .loop .inv) (first .if1 .taken) (known .shared-slice-known2 .given _ .fits)
-
-loop-less : tie.Need-loop-less Inv-loop μ-loop
-loop-less c =
-    let known = c .before .before .before in
-    let first = known .before .before .before in
-    mode-falls (first .before .before .loop .inv) (first .if1 .taken) (known .shared-slice-known2 .given _ .fits) 5 (known .before .if2 .taken) (c .entity-byte .ensures)
-
-loop-again : tie.Need-loop-again Inv-loop μ-loop
-loop-again c =
-    let known = c .before .before .before in
-    let first = known .before .before .before in
-    mode-next (first .before .before .loop .inv) (first .if1 .taken) (known .shared-slice-known2 .given _ .fits) 5 (known .before .if2 .taken) (c .entity-byte .ensures)
-    refl refl
+returns : tie.Need-returns
+returns c = advance-then (c .before .before .whole-entity .ensures) (c .entity-bytes .ensures)
 
 pub entity-run-spec : {M : Type 1} → statement M
-entity-run-spec =
-    tie.close
-    (tie.spec Inv-loop μ-loop
-    (λ c. turn-first (c .before .pre))
-    (λ c. c .before .before .before .if1 .taken)
-    (λ c. fits-8-64 (c .shared-slice-known2 .given _))
-    (λ c. c .shared-slice-known2 .given _ .fits)
-    entity-byte-requires
-    loop-less
-    loop-again
-    (λ c. advance-end (c .before .before .before .before .loop .inv .1) (λ h. c .if2 .left))
-    (λ c. turn-over (c .before .before .loop .inv) (c .if1 .left)))
+entity-run-spec = tie.close (tie.spec (λ c κs. c .before .before .pre) entity-bytes-requires returns)

@@ -1,11 +1,11 @@
--- `read_run` meets its contract: each turn reads one byte of the run, the rest of the entity that it begins, and plain bytes.
+-- `read_run` meets its contract: each turn reads one byte of the run, the rest of the entity that it begins, and the characters after it.
 use mathlib.Core.Path.{sym, _∙_}
 use Prim.Native.Nat.{_-_}
 use lib.ListN.{length}
 use mir.Facts.{fits-8-64}
 use Rattle.journal_lexer.proofs.whole_texts.read_run.Statement.{statement}
 use Rattle.journal_lexer.proofs.whole_texts.read_run.Tie as tie
-use Rattle.journal_lexer.specs.whole_texts.Laws.{fresh-ready, run-first, run-over, run-ended, run-handed, run-falls, run-next, run-on, run-still-falls, skip-falls}
+use Rattle.journal_lexer.specs.whole_texts.Laws.{fresh-ready, run-first, run-over, run-ended, run-handed, run-falls, run-next, run-on, run-still-falls}
 use Rattle.journal_lexer.specs.whole_texts.Runs.{Begun}
 
 abbrev Inv-loop : tie.InvT-loop
@@ -41,32 +41,37 @@ entity-run-requires c κs =
     run-next (first .before .before .loop .inv) (sym (second .before .in-run .ensures) ∙ second .if2 .taken) (first .if1 .taken)
     (known .shared-slice-known2 .given _ .fits) (read .data-step .ensures) .ready
 
-skip-plain-requires : tie.Need-skip-plain-requires Inv-loop μ-loop
-skip-plain-requires c κs =
-    let first = c .before .before .before .before .before .before .before .before in
-    first .before .before .loop .inv .ready .table
+characters-run-requires : tie.Need-characters-run-requires Inv-loop μ-loop
+characters-run-requires c κs =
+    let entity = c .before in
+    let read = entity .before .before in
+    let known = read .before .before .before in
+    let second = known .before in
+    let first = second .before .before in
+    run-on (entity .entity-run .ensures)
+    (run-next (first .before .before .loop .inv) (sym (second .before .in-run .ensures) ∙ second .if2 .taken) (first .if1 .taken)
+    (known .shared-slice-known2 .given _ .fits) (read .data-step .ensures)) .ready
 
 loop-less : tie.Need-loop-less Inv-loop μ-loop
 loop-less c =
-    let entity = c .before in
+    let entity = c .before .before in
     let read = entity .before .before in
     let known = read .before .before .before in
     let second = known .before in
     let first = second .before .before in
-    skip-falls _ _
+    run-still-falls (c .characters-run .ensures) _
     (run-still-falls (entity .entity-run .ensures) _
     (run-falls (first .before .before .loop .inv) (sym (second .before .in-run .ensures) ∙ second .if2 .taken) (first .if1 .taken)
     (known .shared-slice-known2 .given _ .fits) (read .data-step .ensures)))
-    (c .skip-plain .ensures)
 
 loop-again : tie.Need-loop-again Inv-loop μ-loop
 loop-again c =
-    let entity = c .before in
+    let entity = c .before .before in
     let read = entity .before .before in
     let known = read .before .before .before in
     let second = known .before in
     let first = second .before .before in
-    c .skip-plain .ensures .begun _
+    run-on (c .characters-run .ensures)
     (run-on (entity .entity-run .ensures)
     (run-next (first .before .before .loop .inv) (sym (second .before .in-run .ensures) ∙ second .if2 .taken) (first .if1 .taken)
     (known .shared-slice-known2 .given _ .fits) (read .data-step .ensures)))
@@ -90,7 +95,7 @@ read-run-spec =
     (λ c. c .shared-slice-known2 .given _ .fits)
     data-step-requires
     entity-run-requires
-    skip-plain-requires
+    characters-run-requires
     loop-less
     loop-again
     returns

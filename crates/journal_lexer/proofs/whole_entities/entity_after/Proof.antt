@@ -1,19 +1,19 @@
-use mathlib.Core.Path.{sym, _∙_}
+use mathlib.Core.Path.{refl, sym, _∙_}
 use borrow.Author.Needs.{needs}
-use Rattle.extract_writer.proofs.decoded_texts.entity_after.Statement.{statement}
-use Rattle.extract_writer.proofs.decoded_texts.entity_after.Tie as tie
-use Rattle.extract_writer.specs.decoded_texts.Decoded.{entity-after}
+use Rattle.journal_lexer.proofs.whole_entities.entity_after.Statement.{statement}
+use Rattle.journal_lexer.proofs.whole_entities.entity_after.Tie as tie
+use Rattle.journal_lexer.specs.whole_entities.Entities.{whole}
 use Rattle.text_spec.specs.Lists.{bytes}
 use Rattle.token_spec.specs.Characters.{amp, apos, quot}
 
 returns-amp : tie.Need-returns
-returns-amp c = entity-after _ _ (bytes "amp;") amp (sym (c .before .four-at .ensures) ∙ c .if1 .taken)
+returns-amp c = whole (bytes "amp;") amp (sym (c .before .four-at .ensures) ∙ c .if1 .taken) refl
 
 returns-apos : tie.Need-returns-2
-returns-apos c = entity-after _ _ (bytes "apos;") apos (sym (c .before .five-at .ensures) ∙ c .if2 .taken)
+returns-apos c = whole (bytes "apos;") apos (sym (c .before .five-at .ensures) ∙ c .if2 .taken) refl
 
 returns-quot : tie.Need-returns-3
-returns-quot c = entity-after _ _ (bytes "quot;") quot (sym (c .before .five-at2 .ensures) ∙ c .if3 .taken)
+returns-quot c = whole (bytes "quot;") quot (sym (c .before .five-at2 .ensures) ∙ c .if3 .taken) refl
 
 returns-bracket : tie.Need-returns-4
 returns-bracket c =

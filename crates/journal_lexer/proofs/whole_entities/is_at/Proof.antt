@@ -1,8 +1,8 @@
 use mathlib.Core.Path.{sym}
 use borrow.Author.Needs.{needs}
-use Rattle.extract_writer.proofs.decoded_texts.is_at.Statement.{statement}
-use Rattle.extract_writer.proofs.decoded_texts.is_at.Tie as tie
-use Rattle.extract_writer.specs.decoded_texts.Decoded.{begins-past, begins-byte}
+use Rattle.journal_lexer.proofs.whole_entities.is_at.Statement.{statement}
+use Rattle.journal_lexer.proofs.whole_entities.is_at.Tie as tie
+use Rattle.journal_lexer.specs.whole_entities.Entities.{begins-past, begins-byte}
 
 returns : tie.Need-returns
 returns c =

@@ -3,9 +3,9 @@ use mathlib.Core.Path.{sym, _∙_}
 use Prim.Native.Nat.{_+_}
 use borrow.Author.Needs.{needs}
 use borrow.Author.Tests.{not-true, not-false}
-use Rattle.extract_writer.proofs.decoded_texts.three_at.Statement.{statement}
-use Rattle.extract_writer.proofs.decoded_texts.three_at.Tie as tie
-use Rattle.extract_writer.specs.decoded_texts.Decoded.{begins-not, begins-then, begins-two}
+use Rattle.journal_lexer.proofs.whole_entities.three_at.Statement.{statement}
+use Rattle.journal_lexer.proofs.whole_entities.three_at.Tie as tie
+use Rattle.journal_lexer.specs.whole_entities.Entities.{begins-not, begins-then, begins-two}
 
 returns : tie.Need-returns
 returns c =
