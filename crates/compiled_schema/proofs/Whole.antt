@@ -12,8 +12,8 @@ use Rattle.compiled_schema.specs.Compiled.{CompiledOf}
 use Rattle.compiled_schema.specs.declared.entry_columns.Entries.{Entries}
 use Rattle.compiled_schema.specs.element_entry.Reading.{AcceptedWith}
 use Rattle.compiled_schema.specs.entry_columns.Columns.{EntriesOf}
-use Rattle.names.specs.closures.Relations.{relates, Reachable}
-use Rattle.names.specs.closures.Schemas.{reachability-isBelow}
+use Rattle.names.specs.closures.Relations.{relates, Reachable, NonePast}
+use Rattle.names.specs.closures.Schemas.{reachability-isBelow, holds-none-past}
 use Rattle.names.specs.declared.NameSet.{NameSet}
 use Rattle.schema.specs.Judging.{outcomeOf, sized, declaredAt, JudgedInto}
 use Rattle.schema.specs.declared.Judgement.{Judgement}
@@ -99,7 +99,8 @@ module _ (text : List ℕ) {names uses : List ℕ} {r : Judgement} (J : JudgedIn
         ∙ sym (length-map ds (resolved (declaredNames ds))) ∙ ap length (spelling .gives)
 
     -- the entries, and what lies below each element by what each holds
-    pub schema-compiled : (t : Entries) (below : List NameSet) → EntriesOf (schemaIn text) t → ((a : ℕ) (b : Name) → T (relates below a b) ↔ Reachable (t .«holds») n a b)
+    pub schema-compiled : (t : Entries) (below : List NameSet) → EntriesOf (schemaIn text) t
+        → (NonePast n (t .«holds») → (a : ℕ) (b : Name) → T (relates below a b) ↔ Reachable (t .«holds») n a b)
         → CompiledOf text (schemaIn text)
         (record { count = n; names = names; entries = t; below = below })
     schema-compiled t below made lies =
@@ -111,5 +112,6 @@ module _ (text : List ℕ) {names uses : List ℕ} {r : Judgement} (J : JudgedIn
           places = located .places ∙ ap (padded maxDeclarations) (sym (take-all (length (schemaIn text)) (declaredAt (parse text)) (omega arith)));
           named = ap (λ (k : ℕ). map (nameAt text) (take k names)) count ∙ located .named;
           entries = made;
-          beneath = reachability-isBelow (schemaIn text) (accepted-closed text (schemaIn text) schema-read) (t .«holds») n (omega arith) (made .held) below lies;
+          beneath = reachability-isBelow (schemaIn text) (accepted-closed text (schemaIn text) schema-read) (t .«holds») n (omega arith) (made .held) below
+              (lies (holds-none-past (schemaIn text) n count (t .«holds») (made .held)));
         }

@@ -32,18 +32,28 @@ pub struct Needs {
 }
 
 // A set with all above it.
-fn or_above(holds: [NameSet; MAX_ELEMENTS], below: [NameSet; MAX_ELEMENTS], h: NameSet) -> NameSet
-    ensures { λ r. ⌜ ((s : Schema) → RelationsOf s holds below → setIn s r ≡ unionOf (typesOf s) (setIn s h) (allAbove (typesOf s) (setIn s h))) ⌝ }
+fn or_above(
+    holds: [NameSet; MAX_ELEMENTS],
+    below: [NameSet; MAX_ELEMENTS],
+    count: usize,
+    h: NameSet,
+) -> NameSet
+    ensures { λ r. ⌜ ((s : Schema) → RelationsOf s holds below count → setIn s r ≡ unionOf (typesOf s) (setIn s h) (allAbove (typesOf s) (setIn s h))) ⌝ }
 {
-    let up = all_above(holds, below, h);
+    let up = all_above(holds, below, count, h);
     union_of(h, up)
 }
 
 // A set with all below it.
-fn or_below(holds: [NameSet; MAX_ELEMENTS], below: [NameSet; MAX_ELEMENTS], h: NameSet) -> NameSet
-    ensures { λ r. ⌜ ((s : Schema) → RelationsOf s holds below → setIn s r ≡ unionOf (typesOf s) (setIn s h) (allBelow (typesOf s) (setIn s h))) ⌝ }
+fn or_below(
+    holds: [NameSet; MAX_ELEMENTS],
+    below: [NameSet; MAX_ELEMENTS],
+    count: usize,
+    h: NameSet,
+) -> NameSet
+    ensures { λ r. ⌜ ((s : Schema) → RelationsOf s holds below count → setIn s r ≡ unionOf (typesOf s) (setIn s h) (allBelow (typesOf s) (setIn s h))) ⌝ }
 {
-    let down = all_below(holds, below, h);
+    let down = all_below(holds, below, count, h);
     union_of(h, down)
 }
 
@@ -51,18 +61,19 @@ fn or_below(holds: [NameSet; MAX_ELEMENTS], below: [NameSet; MAX_ELEMENTS], h: N
 fn related_names(
     holds: [NameSet; MAX_ELEMENTS],
     below: [NameSet; MAX_ELEMENTS],
+    count: usize,
     axis: u8,
     h: NameSet,
 ) -> NameSet
-    ensures { λ r. ⌜ ((s : Schema) → RelationsOf s holds below → RelatedTo s (axisOf axis) (setIn s h) (setIn s r)) ⌝ }
+    ensures { λ r. ⌜ ((s : Schema) → RelationsOf s holds below count → RelatedTo s (axisOf axis) (setIn s h) (setIn s r)) ⌝ }
 {
     match axis {
-        CHILD => holding(holds, below, h),
-        DESCENDANT => all_above(holds, below, h),
-        DESCENDANT_OR_SELF => or_above(holds, below, h),
-        PARENT => held_by(holds, below, h),
-        ANCESTOR => all_below(holds, below, h),
-        ANCESTOR_OR_SELF => or_below(holds, below, h),
+        CHILD => holding(holds, below, count, h),
+        DESCENDANT => all_above(holds, below, count, h),
+        DESCENDANT_OR_SELF => or_above(holds, below, count, h),
+        PARENT => held_by(holds, below, count, h),
+        ANCESTOR => all_below(holds, below, count, h),
+        ANCESTOR_OR_SELF => or_below(holds, below, count, h),
         _ => h,
     }
 }
@@ -71,13 +82,14 @@ fn related_names(
 fn complete_from(
     holds: [NameSet; MAX_ELEMENTS],
     below: [NameSet; MAX_ELEMENTS],
+    count: usize,
     axis: u8,
     h: NameSet,
     t: NameSet,
 ) -> NameSet
-    ensures { λ r. ⌜ ((s : Schema) → RelationsOf s holds below → setIn s r ≡ leading (typesOf s) (axisOf axis) (setIn s h) (setIn s t)) ⌝ }
+    ensures { λ r. ⌜ ((s : Schema) → RelationsOf s holds below count → setIn s r ≡ leading (typesOf s) (axisOf axis) (setIn s h) (setIn s t)) ⌝ }
 {
-    let near = related_names(holds, below, axis, h);
+    let near = related_names(holds, below, count, axis, h);
     common_of(t, near)
 }
 
@@ -85,13 +97,14 @@ fn complete_from(
 fn inner_names(
     holds: [NameSet; MAX_ELEMENTS],
     below: [NameSet; MAX_ELEMENTS],
+    count: usize,
     g: NameSet,
     h: NameSet,
 ) -> NameSet
-    ensures { λ r. ⌜ ((s : Schema) → RelationsOf s holds below → setIn s r ≡ within (allBelow (typesOf s) (setIn s g)) (allAbove (typesOf s) (setIn s h))) ⌝ }
+    ensures { λ r. ⌜ ((s : Schema) → RelationsOf s holds below count → setIn s r ≡ within (allBelow (typesOf s) (setIn s g)) (allAbove (typesOf s) (setIn s h))) ⌝ }
 {
-    let down = all_below(holds, below, g);
-    let up = all_above(holds, below, h);
+    let down = all_below(holds, below, count, g);
+    let up = all_above(holds, below, count, h);
     common_of(down, up)
 }
 
@@ -99,15 +112,16 @@ fn inner_names(
 fn names_between(
     holds: [NameSet; MAX_ELEMENTS],
     below: [NameSet; MAX_ELEMENTS],
+    count: usize,
     axis: u8,
     g: NameSet,
     h: NameSet,
 ) -> NameSet
-    ensures { λ r. ⌜ ((s : Schema) → RelationsOf s holds below → setIn s r ≡ between (typesOf s) (axisOf axis) (setIn s g) (setIn s h)) ⌝ }
+    ensures { λ r. ⌜ ((s : Schema) → RelationsOf s holds below count → setIn s r ≡ between (typesOf s) (axisOf axis) (setIn s g) (setIn s h)) ⌝ }
 {
     match axis {
-        DESCENDANT => inner_names(holds, below, g, h),
-        DESCENDANT_OR_SELF => inner_names(holds, below, g, h),
+        DESCENDANT => inner_names(holds, below, count, g, h),
+        DESCENDANT_OR_SELF => inner_names(holds, below, count, g, h),
         _ => NameSet::empty(),
     }
 }
@@ -123,16 +137,17 @@ pub fn together(a: NameSet, b: NameSet) -> NameSet
 pub fn with_step(
     holds: [NameSet; MAX_ELEMENTS],
     below: [NameSet; MAX_ELEMENTS],
+    count: usize,
     axis: u8,
     t: NameSet,
     wanted: NameSet,
     later: Needs,
 ) -> Needs
-    ensures { λ r. ⌜ ((s : Schema) → RelationsOf s holds below → StepNeeds s (axisOf axis) (setIn s t) wanted later r) ⌝ }
+    ensures { λ r. ⌜ ((s : Schema) → RelationsOf s holds below count → StepNeeds s (axisOf axis) (setIn s t) wanted later r) ⌝ }
 {
     let h = later.complete;
-    let complete = complete_from(holds, below, axis, h, t);
-    let inside = names_between(holds, below, axis, complete, h);
+    let complete = complete_from(holds, below, count, axis, h, t);
+    let inside = names_between(holds, below, count, axis, complete, h);
     let rest = together(wanted, later.names);
     let more = together(inside, rest);
     let names = together(complete, more);

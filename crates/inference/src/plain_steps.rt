@@ -22,6 +22,7 @@ use names::NameSet;
 pub fn infer_plain(
     holds: [NameSet; MAX_ELEMENTS],
     below: [NameSet; MAX_ELEMENTS],
+    count: usize,
     axes: &[u8],
     tests: &[u8],
     k: usize,
@@ -29,14 +30,14 @@ pub fn infer_plain(
     e: Inferred,
 ) -> Inferred
     requires { ⌜ HasSteps (now axes) (now tests) k n ⌝ }
-    ensures { λ r. ⌜ ((s : Schema) → RelationsOf s holds below → (i : ℕ) → envIn s r ≡ inferAll (typesOf s) keepsAll (expandFrom tt i (plainIn (now (axes .entry)) (now (tests .entry)) n k)) (envIn s e)) ⌝ }
+    ensures { λ r. ⌜ ((s : Schema) → RelationsOf s holds below count → (i : ℕ) → envIn s r ≡ inferAll (typesOf s) keepsAll (expandFrom tt i (plainIn (now (axes .entry)) (now (tests .entry)) n k)) (envIn s e)) ⌝ }
 {
     if n == 0 {
         e
     } else {
         let axis = axis_number(axes[k]);
-        let f = written_step(holds, below, axis, tests[k], e);
-        infer_plain(holds, below, axes, tests, k + 1, n - 1, f)
+        let f = written_step(holds, below, count, axis, tests[k], e);
+        infer_plain(holds, below, count, axes, tests, k + 1, n - 1, f)
     }
 }
 
@@ -44,6 +45,7 @@ pub fn infer_plain(
 pub fn need_plain(
     holds: [NameSet; MAX_ELEMENTS],
     below: [NameSet; MAX_ELEMENTS],
+    count: usize,
     axes: &[u8],
     tests: &[u8],
     k: usize,
@@ -51,7 +53,7 @@ pub fn need_plain(
     e: Inferred,
 ) -> Needs
     requires { ⌜ HasSteps (now axes) (now tests) k n ⌝ }
-    ensures { λ r. ⌜ ((s : Schema) → RelationsOf s holds below → (i : ℕ) → NeedsOf s keepsAll wantsNothing (expandFrom tt i (plainIn (now (axes .entry)) (now (tests .entry)) n k)) (envIn s e) r) ⌝ }
+    ensures { λ r. ⌜ ((s : Schema) → RelationsOf s holds below count → (i : ℕ) → NeedsOf s keepsAll wantsNothing (expandFrom tt i (plainIn (now (axes .entry)) (now (tests .entry)) n k)) (envIn s e) r) ⌝ }
 {
     let t = e.types;
     if n == 0 {
@@ -61,9 +63,9 @@ pub fn need_plain(
         }
     } else {
         let axis = axis_number(axes[k]);
-        let f = written_step(holds, below, axis, tests[k], e);
-        let later = need_plain(holds, below, axes, tests, k + 1, n - 1, f);
+        let f = written_step(holds, below, count, axis, tests[k], e);
+        let later = need_plain(holds, below, count, axes, tests, k + 1, n - 1, f);
         let none = NameSet::empty();
-        with_written_step(holds, below, axis, e, none, later)
+        with_written_step(holds, below, count, axis, e, none, later)
     }
 }

@@ -39,44 +39,48 @@ fn wide(x: u8) -> usize
 pub fn held_by(
     holds: [NameSet; MAX_ELEMENTS],
     below: [NameSet; MAX_ELEMENTS],
+    count: usize,
     t: NameSet,
 ) -> NameSet
-    ensures { λ r. ⌜ ((s : Schema) → RelationsOf s holds below → setIn s r ≡ heldBy (typesOf s) (setIn s t)) ⌝ }
+    ensures { λ r. ⌜ ((s : Schema) → RelationsOf s holds below count → setIn s r ≡ heldBy (typesOf s) (setIn s t)) ⌝ }
 {
-    related::related_from(holds, t)
+    related::related_from(holds, count, t)
 }
 
 // Those that hold a name of a set.
 pub fn holding(
     holds: [NameSet; MAX_ELEMENTS],
     below: [NameSet; MAX_ELEMENTS],
+    count: usize,
     t: NameSet,
 ) -> NameSet
-    ensures { λ r. ⌜ ((s : Schema) → RelationsOf s holds below → setIn s r ≡ holding (typesOf s) (setIn s t)) ⌝ }
+    ensures { λ r. ⌜ ((s : Schema) → RelationsOf s holds below count → setIn s r ≡ holding (typesOf s) (setIn s t)) ⌝ }
 {
-    related::related_to(holds, t)
+    related::related_to(holds, count, t)
 }
 
 // All below a set.
 pub fn all_below(
     holds: [NameSet; MAX_ELEMENTS],
     below: [NameSet; MAX_ELEMENTS],
+    count: usize,
     t: NameSet,
 ) -> NameSet
-    ensures { λ r. ⌜ ((s : Schema) → RelationsOf s holds below → setIn s r ≡ allBelow (typesOf s) (setIn s t)) ⌝ }
+    ensures { λ r. ⌜ ((s : Schema) → RelationsOf s holds below count → setIn s r ≡ allBelow (typesOf s) (setIn s t)) ⌝ }
 {
-    related::related_from(below, t)
+    related::related_from(below, count, t)
 }
 
 // All above a set.
 pub fn all_above(
     holds: [NameSet; MAX_ELEMENTS],
     below: [NameSet; MAX_ELEMENTS],
+    count: usize,
     t: NameSet,
 ) -> NameSet
-    ensures { λ r. ⌜ ((s : Schema) → RelationsOf s holds below → setIn s r ≡ allAbove (typesOf s) (setIn s t)) ⌝ }
+    ensures { λ r. ⌜ ((s : Schema) → RelationsOf s holds below count → setIn s r ≡ allAbove (typesOf s) (setIn s t)) ⌝ }
 {
-    related::related_to(below, t)
+    related::related_to(below, count, t)
 }
 
 // The names of both sets.
@@ -97,12 +101,13 @@ pub fn common_of(a: NameSet, b: NameSet) -> NameSet
 pub fn cut_to(
     holds: [NameSet; MAX_ELEMENTS],
     below: [NameSet; MAX_ELEMENTS],
+    count: usize,
     t: NameSet,
     k: NameSet,
 ) -> NameSet
-    ensures { λ r. ⌜ ((s : Schema) → RelationsOf s holds below → setIn s r ≡ cutTo (typesOf s) (setIn s t) (setIn s k)) ⌝ }
+    ensures { λ r. ⌜ ((s : Schema) → RelationsOf s holds below count → setIn s r ≡ cutTo (typesOf s) (setIn s t) (setIn s k)) ⌝ }
 {
-    let up = all_above(holds, below, t);
+    let up = all_above(holds, below, count, t);
     let near = union_of(t, up);
     common_of(k, near)
 }
@@ -139,12 +144,13 @@ fn tested(t: NameSet, test: u8) -> NameSet
 fn to_children(
     holds: [NameSet; MAX_ELEMENTS],
     below: [NameSet; MAX_ELEMENTS],
+    count: usize,
     test: u8,
     e: Inferred,
 ) -> Inferred
-    ensures { λ r. ⌜ ((s : Schema) → RelationsOf s holds below → envIn s r ≡ move (typesOf s) child (testOf test) (envIn s e)) ⌝ }
+    ensures { λ r. ⌜ ((s : Schema) → RelationsOf s holds below count → envIn s r ≡ move (typesOf s) child (testOf test) (envIn s e)) ⌝ }
 {
-    let types = held_by(holds, below, e.types);
+    let types = held_by(holds, below, count, e.types);
     let passing = tested(types, test);
     let context = union_of(e.context, passing);
     Inferred { types, context }
@@ -153,11 +159,12 @@ fn to_children(
 fn to_descendants(
     holds: [NameSet; MAX_ELEMENTS],
     below: [NameSet; MAX_ELEMENTS],
+    count: usize,
     e: Inferred,
 ) -> Inferred
-    ensures { λ r. ⌜ ((s : Schema) → RelationsOf s holds below → (w : NodeTest ℕ) → envIn s r ≡ move (typesOf s) descendant w (envIn s e)) ⌝ }
+    ensures { λ r. ⌜ ((s : Schema) → RelationsOf s holds below count → (w : NodeTest ℕ) → envIn s r ≡ move (typesOf s) descendant w (envIn s e)) ⌝ }
 {
-    let types = all_below(holds, below, e.types);
+    let types = all_below(holds, below, count, e.types);
     let context = union_of(e.context, types);
     Inferred { types, context }
 }
@@ -165,11 +172,12 @@ fn to_descendants(
 fn to_descendants_or_self(
     holds: [NameSet; MAX_ELEMENTS],
     below: [NameSet; MAX_ELEMENTS],
+    count: usize,
     e: Inferred,
 ) -> Inferred
-    ensures { λ r. ⌜ ((s : Schema) → RelationsOf s holds below → (w : NodeTest ℕ) → envIn s r ≡ move (typesOf s) descendantOrSelf w (envIn s e)) ⌝ }
+    ensures { λ r. ⌜ ((s : Schema) → RelationsOf s holds below count → (w : NodeTest ℕ) → envIn s r ≡ move (typesOf s) descendantOrSelf w (envIn s e)) ⌝ }
 {
-    let down = all_below(holds, below, e.types);
+    let down = all_below(holds, below, count, e.types);
     let types = union_of(e.types, down);
     let context = union_of(e.context, types);
     Inferred { types, context }
@@ -178,40 +186,43 @@ fn to_descendants_or_self(
 fn to_parents(
     holds: [NameSet; MAX_ELEMENTS],
     below: [NameSet; MAX_ELEMENTS],
+    count: usize,
     e: Inferred,
 ) -> Inferred
-    ensures { λ r. ⌜ ((s : Schema) → RelationsOf s holds below → (w : NodeTest ℕ) → envIn s r ≡ move (typesOf s) parent w (envIn s e)) ⌝ }
+    ensures { λ r. ⌜ ((s : Schema) → RelationsOf s holds below count → (w : NodeTest ℕ) → envIn s r ≡ move (typesOf s) parent w (envIn s e)) ⌝ }
 {
-    let holders = holding(holds, below, e.types);
+    let holders = holding(holds, below, count, e.types);
     let types = common_of(holders, e.context);
-    let context = cut_to(holds, below, types, e.context);
+    let context = cut_to(holds, below, count, types, e.context);
     Inferred { types, context }
 }
 
 fn to_ancestors(
     holds: [NameSet; MAX_ELEMENTS],
     below: [NameSet; MAX_ELEMENTS],
+    count: usize,
     e: Inferred,
 ) -> Inferred
-    ensures { λ r. ⌜ ((s : Schema) → RelationsOf s holds below → (w : NodeTest ℕ) → envIn s r ≡ move (typesOf s) ancestor w (envIn s e)) ⌝ }
+    ensures { λ r. ⌜ ((s : Schema) → RelationsOf s holds below count → (w : NodeTest ℕ) → envIn s r ≡ move (typesOf s) ancestor w (envIn s e)) ⌝ }
 {
-    let up = all_above(holds, below, e.types);
+    let up = all_above(holds, below, count, e.types);
     let types = common_of(up, e.context);
-    let context = cut_to(holds, below, types, e.context);
+    let context = cut_to(holds, below, count, types, e.context);
     Inferred { types, context }
 }
 
 fn to_ancestors_or_self(
     holds: [NameSet; MAX_ELEMENTS],
     below: [NameSet; MAX_ELEMENTS],
+    count: usize,
     e: Inferred,
 ) -> Inferred
-    ensures { λ r. ⌜ ((s : Schema) → RelationsOf s holds below → (w : NodeTest ℕ) → envIn s r ≡ move (typesOf s) ancestorOrSelf w (envIn s e)) ⌝ }
+    ensures { λ r. ⌜ ((s : Schema) → RelationsOf s holds below count → (w : NodeTest ℕ) → envIn s r ≡ move (typesOf s) ancestorOrSelf w (envIn s e)) ⌝ }
 {
-    let up = all_above(holds, below, e.types);
+    let up = all_above(holds, below, count, e.types);
     let near = common_of(up, e.context);
     let types = union_of(e.types, near);
-    let context = cut_to(holds, below, types, e.context);
+    let context = cut_to(holds, below, count, types, e.context);
     Inferred { types, context }
 }
 
@@ -219,19 +230,20 @@ fn to_ancestors_or_self(
 fn moved(
     holds: [NameSet; MAX_ELEMENTS],
     below: [NameSet; MAX_ELEMENTS],
+    count: usize,
     axis: u8,
     test: u8,
     e: Inferred,
 ) -> Inferred
-    ensures { λ r. ⌜ ((s : Schema) → RelationsOf s holds below → envIn s r ≡ move (typesOf s) (axisOf axis) (testOf test) (envIn s e)) ⌝ }
+    ensures { λ r. ⌜ ((s : Schema) → RelationsOf s holds below count → envIn s r ≡ move (typesOf s) (axisOf axis) (testOf test) (envIn s e)) ⌝ }
 {
     match axis {
-        CHILD => to_children(holds, below, test, e),
-        DESCENDANT => to_descendants(holds, below, e),
-        DESCENDANT_OR_SELF => to_descendants_or_self(holds, below, e),
-        PARENT => to_parents(holds, below, e),
-        ANCESTOR => to_ancestors(holds, below, e),
-        ANCESTOR_OR_SELF => to_ancestors_or_self(holds, below, e),
+        CHILD => to_children(holds, below, count, test, e),
+        DESCENDANT => to_descendants(holds, below, count, e),
+        DESCENDANT_OR_SELF => to_descendants_or_self(holds, below, count, e),
+        PARENT => to_parents(holds, below, count, e),
+        ANCESTOR => to_ancestors(holds, below, count, e),
+        ANCESTOR_OR_SELF => to_ancestors_or_self(holds, below, count, e),
         _ => e,
     }
 }
@@ -240,14 +252,15 @@ fn moved(
 pub fn step(
     holds: [NameSet; MAX_ELEMENTS],
     below: [NameSet; MAX_ELEMENTS],
+    count: usize,
     axis: u8,
     test: u8,
     e: Inferred,
 ) -> Inferred
-    ensures { λ r. ⌜ ((s : Schema) → RelationsOf s holds below → envIn s r ≡ narrow (typesOf s) (passes (testOf test)) (move (typesOf s) (axisOf axis) (testOf test) (envIn s e))) ⌝ }
+    ensures { λ r. ⌜ ((s : Schema) → RelationsOf s holds below count → envIn s r ≡ narrow (typesOf s) (passes (testOf test)) (move (typesOf s) (axisOf axis) (testOf test) (envIn s e))) ⌝ }
 {
-    let gone = moved(holds, below, axis, test, e);
+    let gone = moved(holds, below, count, axis, test, e);
     let types = tested(gone.types, test);
-    let context = cut_to(holds, below, types, gone.context);
+    let context = cut_to(holds, below, count, types, gone.context);
     Inferred { types, context }
 }

@@ -5,7 +5,7 @@ ghost use mathlib.Core.Path.{_≡_};
 ghost use Prim.Native.Nat.{ℕ, _<_, _≤_};
 ghost use lib.Dec.{T};
 ghost use Rattle.names.specs.Sets.{member};
-ghost use Rattle.names.specs.closures.Relations.{relates, Reachable, throughElement};
+ghost use Rattle.names.specs.closures.Relations.{relates, Reachable, throughElement, NonePast};
 ghost use Rattle.schema_spec.specs.Names.{Name, element};
 ghost use Rattle.text_spec.specs.Limits.{maxDeclarations};
 use crate::MAX_ELEMENTS;
@@ -22,15 +22,15 @@ pub fn grown(out: NameSet, image: NameSet, s: NameSet, k: usize) -> NameSet
     }
 }
 
-// Each image, once a way may also go through the element `k`.
-fn round(images: [NameSet; MAX_ELEMENTS], k: usize) -> [NameSet; MAX_ELEMENTS]
-    requires { ⌜ k < maxDeclarations ⌝ }
-    ensures { λ r. ⌜ ((a : ℕ) (b : Name) → relates r a b ≡ throughElement images k a b) ⌝ }
+// Each image of `count` elements, once a way may also go through the element `k`.
+fn round(images: [NameSet; MAX_ELEMENTS], count: usize, k: usize) -> [NameSet; MAX_ELEMENTS]
+    requires { ⌜ (k < maxDeclarations) × (count ≤ maxDeclarations) ⌝ }
+    ensures { λ r. ⌜ (NonePast count images → (a : ℕ) (b : Name) → relates r a b ≡ throughElement images k a b) ⌝ }
 {
     let image = images[k];
     let mut out = images;
     let mut i = 0;
-    while i < MAX_ELEMENTS {
+    while i < count {
         let s = out[i];
         let t = grown(s, image, s, k);
         out[i] = t;
@@ -39,8 +39,8 @@ fn round(images: [NameSet; MAX_ELEMENTS], k: usize) -> [NameSet; MAX_ELEMENTS]
     out
 }
 
-// How many rounds `count` elements take.
-fn rounds_of(count: usize) -> usize
+// `count` elements, or as many as a schema may have.
+pub fn at_most(count: usize) -> usize
     ensures { λ r. ⌜ (r ≤ maxDeclarations) × ((r ≡ count) ⊎ ((r ≡ maxDeclarations) × (maxDeclarations ≤ count))) ⌝ }
 {
     if count < MAX_ELEMENTS {
@@ -52,13 +52,13 @@ fn rounds_of(count: usize) -> usize
 
 // What lies below each element, by way of the first `count` elements, from what each holds.
 pub fn below(holds: [NameSet; MAX_ELEMENTS], count: usize) -> [NameSet; MAX_ELEMENTS]
-    ensures { λ r. ⌜ ((a : ℕ) (b : Name) → T (relates r a b) ↔ Reachable holds count a b) ⌝ }
+    ensures { λ r. ⌜ (NonePast count holds → (a : ℕ) (b : Name) → T (relates r a b) ↔ Reachable holds count a b) ⌝ }
 {
-    let rounds = rounds_of(count);
+    let rounds = at_most(count);
     let mut images = holds;
     let mut k = 0;
     while k < rounds {
-        let next = round(images, k);
+        let next = round(images, rounds, k);
         images = next;
         k += 1;
     }

@@ -22,14 +22,15 @@ use names::codes;
 pub fn from_name(
     holds: [NameSet; MAX_ELEMENTS],
     below: [NameSet; MAX_ELEMENTS],
+    count: usize,
     k: NameSet,
     c: usize,
 ) -> Inferred
     requires { ⌜ c < 64 ⌝ }
-    ensures { λ r. ⌜ ((s : Schema) → RelationsOf s holds below → FromName s k c r) ⌝ }
+    ensures { λ r. ⌜ ((s : Schema) → RelationsOf s holds below count → FromName s k c r) ⌝ }
 {
     let types = codes::single(c);
-    let context = cut_to(holds, below, types, k);
+    let context = cut_to(holds, below, count, types, k);
     Inferred { types, context }
 }
 
@@ -38,6 +39,7 @@ fn ends_some(
     all: NameSet,
     holds: [NameSet; MAX_ELEMENTS],
     below: [NameSet; MAX_ELEMENTS],
+    count: usize,
     axes: &[u8],
     tests: &[u8],
     k: usize,
@@ -45,9 +47,9 @@ fn ends_some(
     e: Inferred,
 ) -> bool
     requires { ⌜ HasSteps (now axes) (now tests) k n ⌝ }
-    ensures { λ r. ⌜ ((s : Schema) → RelationsOf s holds below → NamesOf s all → r ≡ endsSome s (envIn s e) (plainIn (now (axes .entry)) (now (tests .entry)) n k)) ⌝ }
+    ensures { λ r. ⌜ ((s : Schema) → RelationsOf s holds below count → NamesOf s all → r ≡ endsSome s (envIn s e) (plainIn (now (axes .entry)) (now (tests .entry)) n k)) ⌝ }
 {
-    let f = infer_plain(holds, below, axes, tests, k, n, e);
+    let f = infer_plain(holds, below, count, axes, tests, k, n, e);
     all.meets(f.types)
 }
 
@@ -56,6 +58,7 @@ pub fn any_ends_some(
     all: NameSet,
     holds: [NameSet; MAX_ELEMENTS],
     below: [NameSet; MAX_ELEMENTS],
+    count: usize,
     axes: &[u8],
     tests: &[u8],
     k: usize,
@@ -63,16 +66,16 @@ pub fn any_ends_some(
     e: Inferred,
 ) -> bool
     requires { ⌜ HasSteps (now axes) (now tests) k n ⌝ }
-    ensures { λ r. ⌜ ((s : Schema) → RelationsOf s holds below → NamesOf s all → r ≡ anyEndsSome s (envIn s e) (alternativesIn (now (axes .entry)) (now (tests .entry)) n k)) ⌝ }
+    ensures { λ r. ⌜ ((s : Schema) → RelationsOf s holds below count → NamesOf s all → r ≡ anyEndsSome s (envIn s e) (alternativesIn (now (axes .entry)) (now (tests .entry)) n k)) ⌝ }
 {
     if n == 0 {
         false
     } else {
         let size = first_size(axes, k, n);
-        if ends_some(all, holds, below, axes, tests, k, size, e) {
+        if ends_some(all, holds, below, count, axes, tests, k, size, e) {
             true
         } else {
-            any_ends_some(all, holds, below, axes, tests, k + size, n - size, e)
+            any_ends_some(all, holds, below, count, axes, tests, k + size, n - size, e)
         }
     }
 }
@@ -81,6 +84,7 @@ pub fn any_ends_some(
 pub fn need_of_all(
     holds: [NameSet; MAX_ELEMENTS],
     below: [NameSet; MAX_ELEMENTS],
+    count: usize,
     axes: &[u8],
     tests: &[u8],
     k: usize,
@@ -88,14 +92,14 @@ pub fn need_of_all(
     e: Inferred,
 ) -> NameSet
     requires { ⌜ HasSteps (now axes) (now tests) k n ⌝ }
-    ensures { λ r. ⌜ ((s : Schema) → RelationsOf s holds below → setIn s r ≡ within (namesOf s) (needOfAll s (envIn s e) (alternativesIn (now (axes .entry)) (now (tests .entry)) n k))) ⌝ }
+    ensures { λ r. ⌜ ((s : Schema) → RelationsOf s holds below count → setIn s r ≡ within (namesOf s) (needOfAll s (envIn s e) (alternativesIn (now (axes .entry)) (now (tests .entry)) n k))) ⌝ }
 {
     if n == 0 {
         NameSet::empty()
     } else {
         let size = first_size(axes, k, n);
-        let one = need_plain(holds, below, axes, tests, k, size, e);
-        let rest = need_of_all(holds, below, axes, tests, k + size, n - size, e);
+        let one = need_plain(holds, below, count, axes, tests, k, size, e);
+        let rest = need_of_all(holds, below, count, axes, tests, k + size, n - size, e);
         together(one.names, rest)
     }
 }

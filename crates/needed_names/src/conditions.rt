@@ -31,6 +31,7 @@ fn keeps(
     all: NameSet,
     holds: [NameSet; MAX_ELEMENTS],
     below: [NameSet; MAX_ELEMENTS],
+    count: usize,
     axes: &[u8],
     tests: &[u8],
     i: usize,
@@ -40,11 +41,11 @@ fn keeps(
     c: usize,
 ) -> bool
     requires { ⌜ HasSteps (now axes) (now tests) i n × (c < 64) ⌝ }
-    ensures { λ r. ⌜ ((s : Schema) → RelationsOf s holds below → NamesOf s all → List·Memᴰ (nameOfCode c) (namesOf s) → r ≡ (member t (nameOfCode c) && keepsIn s k (entryAlternatives axes tests n i) (nameOfCode c))) ⌝ }
+    ensures { λ r. ⌜ ((s : Schema) → RelationsOf s holds below count → NamesOf s all → List·Memᴰ (nameOfCode c) (namesOf s) → r ≡ (member t (nameOfCode c) && keepsIn s k (entryAlternatives axes tests n i) (nameOfCode c))) ⌝ }
 {
     if codes::has(t, c) {
-        let e = from_name(holds, below, k, c);
-        any_ends_some(all, holds, below, axes, tests, i, n, e)
+        let e = from_name(holds, below, count, k, c);
+        any_ends_some(all, holds, below, count, axes, tests, i, n, e)
     } else {
         false
     }
@@ -55,6 +56,7 @@ fn kept_by_some(
     all: NameSet,
     holds: [NameSet; MAX_ELEMENTS],
     below: [NameSet; MAX_ELEMENTS],
+    count: usize,
     axes: &[u8],
     tests: &[u8],
     i: usize,
@@ -63,12 +65,12 @@ fn kept_by_some(
     k: NameSet,
 ) -> NameSet
     requires { ⌜ HasSteps (now axes) (now tests) i n ⌝ }
-    ensures { λ r. ⌜ ((s : Schema) → RelationsOf s holds below → NamesOf s all → (m : Name) → List·Memᴰ m (namesOf s) → member r m ≡ (member t m && keepsIn s k (entryAlternatives axes tests n i) m)) ⌝ }
+    ensures { λ r. ⌜ ((s : Schema) → RelationsOf s holds below count → NamesOf s all → (m : Name) → List·Memᴰ m (namesOf s) → member r m ≡ (member t m && keepsIn s k (entryAlternatives axes tests n i) m)) ⌝ }
 {
     let mut out = NameSet::empty();
     let mut c = 0;
     while c < CODES {
-        let v = keeps(all, holds, below, axes, tests, i, n, t, k, c);
+        let v = keeps(all, holds, below, count, axes, tests, i, n, t, k, c);
         let next = with_name(out, c, v);
         out = next;
         c += 1;
@@ -81,6 +83,7 @@ fn kept(
     all: NameSet,
     holds: [NameSet; MAX_ELEMENTS],
     below: [NameSet; MAX_ELEMENTS],
+    count: usize,
     axes: &[u8],
     tests: &[u8],
     i: usize,
@@ -89,12 +92,12 @@ fn kept(
     k: NameSet,
 ) -> NameSet
     requires { ⌜ HasSteps (now axes) (now tests) i n ⌝ }
-    ensures { λ r. ⌜ ((s : Schema) → RelationsOf s holds below → NamesOf s all → (m : Name) → List·Memᴰ m (namesOf s) → member r m ≡ (member t m && keepsIn s k (conditionIn (now (axes .entry)) (now (tests .entry)) n i) m)) ⌝ }
+    ensures { λ r. ⌜ ((s : Schema) → RelationsOf s holds below count → NamesOf s all → (m : Name) → List·Memᴰ m (namesOf s) → member r m ≡ (member t m && keepsIn s k (conditionIn (now (axes .entry)) (now (tests .entry)) n i) m)) ⌝ }
 {
     if n == 0 {
         t
     } else {
-        kept_by_some(all, holds, below, axes, tests, i, n, t, k)
+        kept_by_some(all, holds, below, count, axes, tests, i, n, t, k)
     }
 }
 
@@ -103,6 +106,7 @@ pub fn conditioned(
     all: NameSet,
     holds: [NameSet; MAX_ELEMENTS],
     below: [NameSet; MAX_ELEMENTS],
+    count: usize,
     axes: &[u8],
     tests: &[u8],
     i: usize,
@@ -110,12 +114,12 @@ pub fn conditioned(
     e: Inferred,
 ) -> Inferred
     requires { ⌜ HasSteps (now axes) (now tests) i n ⌝ }
-    ensures { λ r. ⌜ ((s : Schema) → RelationsOf s holds below → NamesOf s all → envIn s r ≡ narrow (typesOf s) (keepsIn s (e .context) (conditionIn (now (axes .entry)) (now (tests .entry)) n i)) (envIn s e)) ⌝ }
+    ensures { λ r. ⌜ ((s : Schema) → RelationsOf s holds below count → NamesOf s all → envIn s r ≡ narrow (typesOf s) (keepsIn s (e .context) (conditionIn (now (axes .entry)) (now (tests .entry)) n i)) (envIn s e)) ⌝ }
 {
     let t = e.types;
     let k = e.context;
-    let types = kept(all, holds, below, axes, tests, i, n, t, k);
-    let context = cut_to(holds, below, types, k);
+    let types = kept(all, holds, below, count, axes, tests, i, n, t, k);
+    let context = cut_to(holds, below, count, types, k);
     Inferred { types, context }
 }
 
@@ -123,6 +127,7 @@ pub fn conditioned(
 fn wanted_of(
     holds: [NameSet; MAX_ELEMENTS],
     below: [NameSet; MAX_ELEMENTS],
+    count: usize,
     axes: &[u8],
     tests: &[u8],
     i: usize,
@@ -132,11 +137,11 @@ fn wanted_of(
     c: usize,
 ) -> NameSet
     requires { ⌜ HasSteps (now axes) (now tests) i n × (c < 64) ⌝ }
-    ensures { λ r. ⌜ ((s : Schema) → RelationsOf s holds below → Known s g → (m : Name) → List·Memᴰ m (namesOf s) → member r m ≡ (member g (nameOfCode c) && has m (wantsIn s k (entryAlternatives axes tests n i) (nameOfCode c)))) ⌝ }
+    ensures { λ r. ⌜ ((s : Schema) → RelationsOf s holds below count → Known s g → (m : Name) → List·Memᴰ m (namesOf s) → member r m ≡ (member g (nameOfCode c) && has m (wantsIn s k (entryAlternatives axes tests n i) (nameOfCode c)))) ⌝ }
 {
     if codes::has(g, c) {
-        let e = from_name(holds, below, k, c);
-        need_of_all(holds, below, axes, tests, i, n, e)
+        let e = from_name(holds, below, count, k, c);
+        need_of_all(holds, below, count, axes, tests, i, n, e)
     } else {
         NameSet::empty()
     }
@@ -147,6 +152,7 @@ fn wanted_by_some(
     all: NameSet,
     holds: [NameSet; MAX_ELEMENTS],
     below: [NameSet; MAX_ELEMENTS],
+    count: usize,
     axes: &[u8],
     tests: &[u8],
     i: usize,
@@ -155,13 +161,13 @@ fn wanted_by_some(
     k: NameSet,
 ) -> NameSet
     requires { ⌜ HasSteps (now axes) (now tests) i n ⌝ }
-    ensures { λ r. ⌜ ((s : Schema) → RelationsOf s holds below → NamesOf s all → setIn s r ≡ within (namesOf s) (gather (wantsIn s k (entryAlternatives axes tests n i)) (setIn s h))) ⌝ }
+    ensures { λ r. ⌜ ((s : Schema) → RelationsOf s holds below count → NamesOf s all → setIn s r ≡ within (namesOf s) (gather (wantsIn s k (entryAlternatives axes tests n i)) (setIn s h))) ⌝ }
 {
     let g = h.common(all);
     let mut out = NameSet::empty();
     let mut c = 0;
     while c < CODES {
-        let one = wanted_of(holds, below, axes, tests, i, n, g, k, c);
+        let one = wanted_of(holds, below, count, axes, tests, i, n, g, k, c);
         let next = out.union(one);
         out = next;
         c += 1;
@@ -174,6 +180,7 @@ pub fn wanted(
     all: NameSet,
     holds: [NameSet; MAX_ELEMENTS],
     below: [NameSet; MAX_ELEMENTS],
+    count: usize,
     axes: &[u8],
     tests: &[u8],
     i: usize,
@@ -182,11 +189,11 @@ pub fn wanted(
     k: NameSet,
 ) -> NameSet
     requires { ⌜ HasSteps (now axes) (now tests) i n ⌝ }
-    ensures { λ r. ⌜ ((s : Schema) → RelationsOf s holds below → NamesOf s all → setIn s r ≡ within (namesOf s) (gather (wantsIn s k (conditionIn (now (axes .entry)) (now (tests .entry)) n i)) (setIn s h))) ⌝ }
+    ensures { λ r. ⌜ ((s : Schema) → RelationsOf s holds below count → NamesOf s all → setIn s r ≡ within (namesOf s) (gather (wantsIn s k (conditionIn (now (axes .entry)) (now (tests .entry)) n i)) (setIn s h))) ⌝ }
 {
     if n == 0 {
         NameSet::empty()
     } else {
-        wanted_by_some(all, holds, below, axes, tests, i, n, h, k)
+        wanted_by_some(all, holds, below, count, axes, tests, i, n, h, k)
     }
 }

@@ -34,6 +34,7 @@ fn paths_needed(
     all: NameSet,
     holds: [NameSet; MAX_ELEMENTS],
     below: [NameSet; MAX_ELEMENTS],
+    count: usize,
     axes: &[u8],
     tests: &[u8],
     conditions: &[u16],
@@ -42,18 +43,29 @@ fn paths_needed(
     n: usize,
 ) -> NameSet
     requires { ⌜ HasPaths (now axes) (now tests) (now conditions) (now paths) i n ⌝ }
-    ensures { λ r. ⌜ ((s : Schema) → RelationsOf s holds below → NamesOf s all → setIn s r ≡ needed (typesOf s) (bundleIn (now (axes .entry)) (now (tests .entry)) (now (conditions .entry)) (now (paths .entry)) n i)) ⌝ }
+    ensures { λ r. ⌜ ((s : Schema) → RelationsOf s holds below count → NamesOf s all → setIn s r ≡ needed (typesOf s) (bundleIn (now (axes .entry)) (now (tests .entry)) (now (conditions .entry)) (now (paths .entry)) n i)) ⌝ }
 {
     if n == 0 {
         NameSet::empty()
     } else {
         let first = ranges::byte_start(paths, i);
         let size = ranges::byte_size(paths, i);
-        let one = path_needed(all, holds, below, axes, tests, conditions, first, size);
+        let one = path_needed(
+            all,
+            holds,
+            below,
+            count,
+            axes,
+            tests,
+            conditions,
+            first,
+            size,
+        );
         let rest = paths_needed(
             all,
             holds,
             below,
+            count,
             axes,
             tests,
             conditions,
@@ -67,9 +79,9 @@ fn paths_needed(
 
 // The names that `total` paths need, under a schema of `count` elements, as a set of names of the schema alone.
 pub fn needed_set<'a>(
-    count: usize,
     holds: [NameSet; MAX_ELEMENTS],
     below: [NameSet; MAX_ELEMENTS],
+    count: usize,
     axes: &'a [u8; STEPS],
     tests: &'a [u8; STEPS],
     conditions: &'a [u16; CONDITION_STARTS],
@@ -77,9 +89,20 @@ pub fn needed_set<'a>(
     total: usize,
 ) -> NameSet
     requires { ⌜ Shaped (lentPaths (now axes) (now tests) (now conditions) (now paths) total) × (count ≤ maxDeclarations) ⌝ }
-    ensures { λ r. ⌜ ((s : Schema) → RelationsOf s holds below → count ≡ length s → (setIn s r ≡ needed (typesOf s) (pathsIn (entryPaths axes tests conditions paths total))) × Known s r) ⌝ }
+    ensures { λ r. ⌜ ((s : Schema) → RelationsOf s holds below count → (setIn s r ≡ needed (typesOf s) (pathsIn (entryPaths axes tests conditions paths total))) × Known s r) ⌝ }
 {
     let all = known::names_of(holds, count);
-    let whole = paths_needed(all, holds, below, axes, tests, conditions, paths, 0, total);
+    let whole = paths_needed(
+        all,
+        holds,
+        below,
+        count,
+        axes,
+        tests,
+        conditions,
+        paths,
+        0,
+        total,
+    );
     whole.common(all)
 }

@@ -30,6 +30,7 @@ fn infer_step(
     all: NameSet,
     holds: [NameSet; MAX_ELEMENTS],
     below: [NameSet; MAX_ELEMENTS],
+    count: usize,
     axes: &[u8],
     tests: &[u8],
     conditions: &[u16],
@@ -37,13 +38,13 @@ fn infer_step(
     e: Inferred,
 ) -> Inferred
     requires { ⌜ HasWrittenSteps (now axes) (now tests) (now conditions) k 1 ⌝ }
-    ensures { λ r. ⌜ ((s : Schema) → RelationsOf s holds below → NamesOf s all → (i : ℕ) → envIn s r ≡ afterStep s axes tests conditions i k (envIn s e)) ⌝ }
+    ensures { λ r. ⌜ ((s : Schema) → RelationsOf s holds below count → NamesOf s all → (i : ℕ) → envIn s r ≡ afterStep s axes tests conditions i k (envIn s e)) ⌝ }
 {
     let first = ranges::start(conditions, k);
     let size = ranges::size(conditions, k);
     let axis = axis_number(axes[k]);
-    let gone = written_step(holds, below, axis, tests[k], e);
-    conditioned(all, holds, below, axes, tests, first, size, gone)
+    let gone = written_step(holds, below, count, axis, tests[k], e);
+    conditioned(all, holds, below, count, axes, tests, first, size, gone)
 }
 
 // What the condition of the step `k` wants from the names of the set `h`, in a context.
@@ -51,6 +52,7 @@ fn wanted_at(
     all: NameSet,
     holds: [NameSet; MAX_ELEMENTS],
     below: [NameSet; MAX_ELEMENTS],
+    count: usize,
     axes: &[u8],
     tests: &[u8],
     conditions: &[u16],
@@ -59,11 +61,22 @@ fn wanted_at(
     context: NameSet,
 ) -> NameSet
     requires { ⌜ HasWrittenSteps (now axes) (now tests) (now conditions) k 1 ⌝ }
-    ensures { λ r. ⌜ ((s : Schema) → RelationsOf s holds below → NamesOf s all → setIn s r ≡ within (namesOf s) (gather (wantsIn s context (entryCondition axes tests conditions k)) (setIn s h))) ⌝ }
+    ensures { λ r. ⌜ ((s : Schema) → RelationsOf s holds below count → NamesOf s all → setIn s r ≡ within (namesOf s) (gather (wantsIn s context (entryCondition axes tests conditions k)) (setIn s h))) ⌝ }
 {
     let first = ranges::start(conditions, k);
     let size = ranges::size(conditions, k);
-    wanted(all, holds, below, axes, tests, first, size, h, context)
+    wanted(
+        all,
+        holds,
+        below,
+        count,
+        axes,
+        tests,
+        first,
+        size,
+        h,
+        context,
+    )
 }
 
 // What `n` steps from `k` on need.
@@ -71,6 +84,7 @@ fn need_steps(
     all: NameSet,
     holds: [NameSet; MAX_ELEMENTS],
     below: [NameSet; MAX_ELEMENTS],
+    count: usize,
     axes: &[u8],
     tests: &[u8],
     conditions: &[u16],
@@ -79,7 +93,7 @@ fn need_steps(
     e: Inferred,
 ) -> Needs
     requires { ⌜ HasWrittenSteps (now axes) (now tests) (now conditions) k n ⌝ }
-    ensures { λ r. ⌜ ((s : Schema) → RelationsOf s holds below → NamesOf s all → (i : ℕ) → NeedsOf s (keepsName (typesOf s)) (wantsNames (typesOf s)) (expandFrom unconditional i (entrySteps axes tests conditions n k)) (envIn s e) r) ⌝ }
+    ensures { λ r. ⌜ ((s : Schema) → RelationsOf s holds below count → NamesOf s all → (i : ℕ) → NeedsOf s (keepsName (typesOf s)) (wantsNames (typesOf s)) (expandFrom unconditional i (entrySteps axes tests conditions n k)) (envIn s e) r) ⌝ }
 {
     let t = e.types;
     if n == 0 {
@@ -89,12 +103,24 @@ fn need_steps(
         }
     } else {
         let axis = axis_number(axes[k]);
-        let f = infer_step(all, holds, below, axes, tests, conditions, k, e);
-        let later = need_steps(all, holds, below, axes, tests, conditions, k + 1, n - 1, f);
+        let f = infer_step(all, holds, below, count, axes, tests, conditions, k, e);
+        let later = need_steps(
+            all,
+            holds,
+            below,
+            count,
+            axes,
+            tests,
+            conditions,
+            k + 1,
+            n - 1,
+            f,
+        );
         let want = wanted_at(
             all,
             holds,
             below,
+            count,
             axes,
             tests,
             conditions,
@@ -102,7 +128,7 @@ fn need_steps(
             later.complete,
             f.context,
         );
-        with_written_step(holds, below, axis, e, want, later)
+        with_written_step(holds, below, count, axis, e, want, later)
     }
 }
 
@@ -111,6 +137,7 @@ pub fn path_needed(
     all: NameSet,
     holds: [NameSet; MAX_ELEMENTS],
     below: [NameSet; MAX_ELEMENTS],
+    count: usize,
     axes: &[u8],
     tests: &[u8],
     conditions: &[u16],
@@ -118,13 +145,24 @@ pub fn path_needed(
     n: usize,
 ) -> NameSet
     requires { ⌜ HasWrittenSteps (now axes) (now tests) (now conditions) k n ⌝ }
-    ensures { λ r. ⌜ ((s : Schema) → RelationsOf s holds below → NamesOf s all → setIn s r ≡ neededByPath (typesOf s) (fromRootElement (entrySteps axes tests conditions n k))) ⌝ }
+    ensures { λ r. ⌜ ((s : Schema) → RelationsOf s holds below count → NamesOf s all → setIn s r ≡ neededByPath (typesOf s) (fromRootElement (entrySteps axes tests conditions n k))) ⌝ }
 {
     let root = reachable_names::root();
     let start = Inferred {
         types: root,
         context: root,
     };
-    let needs = need_steps(all, holds, below, axes, tests, conditions, k, n, start);
-    reachable_names::from_root(holds, below, needs.names)
+    let needs = need_steps(
+        all,
+        holds,
+        below,
+        count,
+        axes,
+        tests,
+        conditions,
+        k,
+        n,
+        start,
+    );
+    reachable_names::from_root(holds, below, count, needs.names)
 }

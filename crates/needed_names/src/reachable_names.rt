@@ -7,7 +7,7 @@ ghost use lib.ListN.{length};
 ghost use Rattle.inference.specs.type_steps.Relations.{RelationsOf};
 ghost use Rattle.inference_spec.specs.Needed.{fromRoot};
 ghost use Rattle.names.specs.Sets.{member, setIn};
-ghost use Rattle.names.specs.closures.Relations.{relates};
+ghost use Rattle.names.specs.closures.Relations.{relates, NonePast};
 ghost use Rattle.schema_spec.specs.Names.{Name, Names, element, namesOf, within};
 ghost use Rattle.schema_spec.specs.Schemas.{Schema};
 ghost use Rattle.schema_spec.specs.Types.{typesOf};
@@ -26,13 +26,14 @@ fn image_inside(image: NameSet, m: NameSet, a: usize) -> NameSet
     }
 }
 
-// What each element holds inside the set `m`.
-fn held_inside(holds: [NameSet; MAX_ELEMENTS], m: NameSet) -> [NameSet; MAX_ELEMENTS]
-    ensures { λ r. ⌜ ((a : ℕ) (b : Name) → relates r a b ≡ (relates holds a b && (member m (element a) && member m b))) ⌝ }
+// What each of `count` elements holds inside the set `m`.
+fn held_inside(holds: [NameSet; MAX_ELEMENTS], count: usize, m: NameSet) -> [NameSet; MAX_ELEMENTS]
+    ensures { λ r. ⌜ (NonePast count holds → (a : ℕ) (b : Name) → relates r a b ≡ (relates holds a b && (member m (element a) && member m b))) ⌝ }
 {
+    let end = closures::at_most(count);
     let mut out = holds;
     let mut i = 0;
-    while i < MAX_ELEMENTS {
+    while i < end {
         let image = out[i];
         let next = image_inside(image, m, i);
         out[i] = next;
@@ -45,12 +46,13 @@ fn held_inside(holds: [NameSet; MAX_ELEMENTS], m: NameSet) -> [NameSet; MAX_ELEM
 pub fn from_root(
     holds: [NameSet; MAX_ELEMENTS],
     below: [NameSet; MAX_ELEMENTS],
+    count: usize,
     m: NameSet,
 ) -> NameSet
-    ensures { λ r. ⌜ ((s : Schema) → RelationsOf s holds below → (l : Names) → setIn s m ≡ within (namesOf s) l → setIn s r ≡ fromRoot (typesOf s) l) ⌝ }
+    ensures { λ r. ⌜ ((s : Schema) → RelationsOf s holds below count → (l : Names) → setIn s m ≡ within (namesOf s) l → setIn s r ≡ fromRoot (typesOf s) l) ⌝ }
 {
-    let images = held_inside(holds, m);
-    let reach = closures::below(images, MAX_ELEMENTS);
+    let images = held_inside(holds, count, m);
+    let reach = closures::below(images, count);
     let top = reach[0];
     let reached = top.insert_element(0);
     m.common(reached)

@@ -28,5 +28,5 @@ pub fn needed_under<'a>(
     let entries: Entries = compiled.entries;
     let holds: [NameSet; MAX_ELEMENTS] = entries.holds;
     let below: [NameSet; MAX_ELEMENTS] = compiled.below;
-    needed_set(count, holds, below, axes, tests, conditions, paths, total)
+    needed_set(holds, below, count, axes, tests, conditions, paths, total)
 }

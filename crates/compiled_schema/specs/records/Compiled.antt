@@ -32,21 +32,21 @@ use Rattle.text_spec.specs.Scans.{nameAt}
 module _ (text : List ℕ) (s : Schema) (read : readSchema text ≡ accepted s) (t : CompiledSchema) (made : CompiledOf text s t) where
   -- `names::related::related_from` and `related_to` on a set x
   module _ (x r : NameSet) where
-    pub held-means-heldBy : ((b : Name) → member r b ≡ relatedFrom (t .entries .«holds») x b) → setOf (namesOf s) r ≡ heldBy (typesOf s) (setOf (namesOf s) x)
+    pub held-means-heldBy : ((b : Name) → member r b ≡ relatedFrom (t .count) (t .entries .«holds») x b) → setOf (namesOf s) r ≡ heldBy (typesOf s) (setOf (namesOf s) x)
     unfolding typesOf
-    held-means-heldBy = relatedFrom-filter s (accepted-length text s read) (holds s) (holds-relating s (accepted-closed text s read)) (t .entries .«holds») (made .entries .held) x r
+    held-means-heldBy = relatedFrom-filter s (accepted-length text s read) (t .count) (made .counted) (holds s) (holds-relating s (accepted-closed text s read)) (t .entries .«holds») (made .entries .held) x r
 
-    pub holding-means-holding : ((n : Name) → member r n ≡ relatedTo (t .entries .«holds») x n) → setOf (namesOf s) r ≡ holding (typesOf s) (setOf (namesOf s) x)
+    pub holding-means-holding : ((n : Name) → member r n ≡ relatedTo (t .count) (t .entries .«holds») x n) → setOf (namesOf s) r ≡ holding (typesOf s) (setOf (namesOf s) x)
     unfolding typesOf
-    holding-means-holding = relatedTo-filter s (accepted-length text s read) (holds s) (holds-relating s (accepted-closed text s read)) (t .entries .«holds») (made .entries .held) x r
+    holding-means-holding = relatedTo-filter s (accepted-length text s read) (t .count) (made .counted) (holds s) (holds-relating s (accepted-closed text s read)) (t .entries .«holds») (made .entries .held) x r
 
-    pub below-means-allBelow : ((b : Name) → member r b ≡ relatedFrom (t .below) x b) → setOf (namesOf s) r ≡ allBelow (typesOf s) (setOf (namesOf s) x)
+    pub below-means-allBelow : ((b : Name) → member r b ≡ relatedFrom (t .count) (t .below) x b) → setOf (namesOf s) r ≡ allBelow (typesOf s) (setOf (namesOf s) x)
     unfolding typesOf
-    below-means-allBelow = relatedFrom-filter s (accepted-length text s read) (isBelow (typesOf s)) (below-relating s (accepted-closed text s read)) (t .below) (made .beneath) x r
+    below-means-allBelow = relatedFrom-filter s (accepted-length text s read) (t .count) (made .counted) (isBelow (typesOf s)) (below-relating s (accepted-closed text s read)) (t .below) (made .beneath) x r
 
-    pub above-means-allAbove : ((n : Name) → member r n ≡ relatedTo (t .below) x n) → setOf (namesOf s) r ≡ allAbove (typesOf s) (setOf (namesOf s) x)
+    pub above-means-allAbove : ((n : Name) → member r n ≡ relatedTo (t .count) (t .below) x n) → setOf (namesOf s) r ≡ allAbove (typesOf s) (setOf (namesOf s) x)
     unfolding typesOf
-    above-means-allAbove = relatedTo-filter s (accepted-length text s read) (isBelow (typesOf s)) (below-relating s (accepted-closed text s read)) (t .below) (made .beneath) x r
+    above-means-allAbove = relatedTo-filter s (accepted-length text s read) (t .count) (made .counted) (isBelow (typesOf s)) (below-relating s (accepted-closed text s read)) (t .below) (made .beneath) x r
 
   -- `text::lookup::element_named` over the places of the names
   pub found-means-elementNamed : (name : List ℕ) (r : Lookup) → found r ≡ indexFrom 0 name (map (nameAt text) (take (t .count) (t .names))) → found r ≡ elementNamed s name

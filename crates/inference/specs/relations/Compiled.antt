@@ -20,11 +20,12 @@ use Rattle.text_spec.specs.Refusals.{accepted}
 
 module _ (text : List ℕ) (s : Schema) (read : readSchema text ≡ accepted s) (t : CompiledSchema) (made : CompiledOf text s t) where
   -- the relations of the schema
-  pub compiled-relations : RelationsOf s (t .entries .«holds») (t .below)
+  pub compiled-relations : RelationsOf s (t .entries .«holds») (t .below) (t .count)
   compiled-relations =
       record {
         small = accepted-length text s read;
         full = accepted-filled text s read;
+        counted = made .counted;
         closed = accepted-closed text s read;
         holding = made .entries .held;
         below = made .beneath;
@@ -37,12 +38,12 @@ module _ (text : List ℕ) (s : Schema) (read : readSchema text ≡ accepted s) 
   module _ (bundle : CompiledPaths) where
     -- `needed_sets::needed_under`
     pub compiled-needed : (r : NameSet)
-        → ((q : Schema) → RelationsOf q (t .entries .«holds») (t .below) → t .count ≡ length q → (setIn q r ≡ needed (typesOf q) (pathsIn bundle)) × Known q r)
+        → ((q : Schema) → RelationsOf q (t .entries .«holds») (t .below) (t .count) → (setIn q r ≡ needed (typesOf q) (pathsIn bundle)) × Known q r)
         → (setIn s r ≡ needed (typesOf s) (pathsIn bundle)) × Known s r
-    compiled-needed r h = h s compiled-relations (made .counted)
+    compiled-needed r h = h s compiled-relations
 
     -- its 64 bits
     pub compiled-needed-word : (word : ℕ)
-        → ((q : Schema) → RelationsOf q (t .entries .«holds») (t .below) → t .count ≡ length q → word ≡ neededWord (typesOf q) (pathsIn bundle))
+        → ((q : Schema) → RelationsOf q (t .entries .«holds») (t .below) (t .count) → word ≡ neededWord (typesOf q) (pathsIn bundle))
         → word ≡ neededWord (typesOf s) (pathsIn bundle)
-    compiled-needed-word word h = h s compiled-relations (made .counted)
+    compiled-needed-word word h = h s compiled-relations

@@ -75,22 +75,25 @@ module _ (s : Schema) where
   pub common-within : (a b r : NameSet) → ((n : Name) → member r n ≡ (member a n && member b n)) → setIn s r ≡ within (setIn s a) (setIn s b)
   common-within a b r h = setOf-common (namesOf s) a b r h
 
-  module _ (held below : List NameSet) (c : RelationsOf s held below) where
-    pub related-heldBy : (x r : NameSet) → ((b : Name) → member r b ≡ relatedFrom held x b) → setIn s r ≡ heldBy types (setIn s x)
-    unfolding typesOf
-    related-heldBy x r h = relatedFrom-filter s (c .small) (holds s) (holds-relating s (c .closed)) held (c .holding) x r h
+  module _ (held below : List NameSet) (count : ℕ) (c : RelationsOf s held below count) where
+    few : count ≤ maxDeclarations
+    few = omega (arith, c .small, c .counted)
 
-    pub related-holding : (x r : NameSet) → ((n : Name) → member r n ≡ relatedTo held x n) → setIn s r ≡ holding types (setIn s x)
+    pub related-heldBy : (x r : NameSet) → (count ≤ maxDeclarations → (b : Name) → member r b ≡ relatedFrom count held x b) → setIn s r ≡ heldBy types (setIn s x)
     unfolding typesOf
-    related-holding x r h = relatedTo-filter s (c .small) (holds s) (holds-relating s (c .closed)) held (c .holding) x r h
+    related-heldBy x r h = relatedFrom-filter s (c .small) count (c .counted) (holds s) (holds-relating s (c .closed)) held (c .holding) x r (h few)
 
-    pub related-allBelow : (x r : NameSet) → ((b : Name) → member r b ≡ relatedFrom below x b) → setIn s r ≡ allBelow types (setIn s x)
+    pub related-holding : (x r : NameSet) → (count ≤ maxDeclarations → (n : Name) → member r n ≡ relatedTo count held x n) → setIn s r ≡ holding types (setIn s x)
     unfolding typesOf
-    related-allBelow x r h = relatedFrom-filter s (c .small) (isBelow (typesOf s)) (below-relating s (c .closed)) below (c .below) x r h
+    related-holding x r h = relatedTo-filter s (c .small) count (c .counted) (holds s) (holds-relating s (c .closed)) held (c .holding) x r (h few)
 
-    pub related-allAbove : (x r : NameSet) → ((n : Name) → member r n ≡ relatedTo below x n) → setIn s r ≡ allAbove types (setIn s x)
+    pub related-allBelow : (x r : NameSet) → (count ≤ maxDeclarations → (b : Name) → member r b ≡ relatedFrom count below x b) → setIn s r ≡ allBelow types (setIn s x)
     unfolding typesOf
-    related-allAbove x r h = relatedTo-filter s (c .small) (isBelow (typesOf s)) (below-relating s (c .closed)) below (c .below) x r h
+    related-allBelow x r h = relatedFrom-filter s (c .small) count (c .counted) (isBelow (typesOf s)) (below-relating s (c .closed)) below (c .below) x r (h few)
+
+    pub related-allAbove : (x r : NameSet) → (count ≤ maxDeclarations → (n : Name) → member r n ≡ relatedTo count below x n) → setIn s r ≡ allAbove types (setIn s x)
+    unfolding typesOf
+    related-allAbove x r h = relatedTo-filter s (c .small) count (c .counted) (isBelow (typesOf s)) (below-relating s (c .closed)) below (c .below) x r (h few)
 
   pub tested-filter : length s ≤ maxDeclarations → (w : NodeTest ℕ) (x r : NameSet) → Tested w x r → setIn s r ≡ filterBy (passes w) (setIn s x)
   unfolding setOf

@@ -1,13 +1,13 @@
 -- A relation from elements to names, as the image of each element: the set of names that it is related to.
 use mathlib.Core.Bool.{Bool, false, _&&_, _||_}
 use mathlib.Core.List.{List}
-use Prim.Native.Nat.{ℕ, _<_}
-use lib.Dec.{T}
+use mathlib.Core.Path.{_≡_}
+use Prim.Native.Nat.{ℕ, _≤_, _<_}
+use lib.Dec.{T, ltb}
 use lib.ListN.{getD}
 use Rattle.names.specs.Sets.{member, overlap, nothing}
 use Rattle.names.specs.declared.NameSet.{NameSet}
 use Rattle.schema_spec.specs.Names.{Name, element, text}
-use Rattle.text_spec.specs.Limits.{maxDeclarations}
 use Rattle.text_spec.specs.Lists.{anyBelow}
 
 -- element a is related to b
@@ -23,11 +23,15 @@ pub data Reachable (images : List NameSet) (n : ℕ) : ℕ → Name → Type 0 w
 abbrev pub throughElement : List NameSet → ℕ → ℕ → Name → Bool
 throughElement images k a b = relates images a b || (relates images a (element k) && relates images k b)
 
--- some element of the set is related to b
-abbrev pub relatedFrom : List NameSet → NameSet → Name → Bool
-relatedFrom images s b = anyBelow maxDeclarations (λ a. member s (element a) && relates images a b)
+-- of so many elements, some element of the set is related to b
+abbrev pub relatedFrom : ℕ → List NameSet → NameSet → Name → Bool
+relatedFrom count images s b = anyBelow count (λ a. member s (element a) && relates images a b)
 
--- a is an element that is related to some name of the set
-abbrev pub relatedTo : List NameSet → NameSet → Name → Bool
-relatedTo images s (element a) = overlap (getD images a nothing) s
-relatedTo images s (text a) = false
+-- a is one of so many elements, and related to some name of the set
+abbrev pub relatedTo : ℕ → List NameSet → NameSet → Name → Bool
+relatedTo count images s (element a) = ltb a count && overlap (getD images a nothing) s
+relatedTo count images s (text a) = false
+
+-- no element past so many is related to a name
+abbrev pub NonePast : ℕ → List NameSet → Type 0
+NonePast count images = (a : ℕ) (b : Name) → count ≤ a → relates images a b ≡ false

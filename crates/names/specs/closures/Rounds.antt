@@ -11,7 +11,7 @@ use lib.Dec.{T, ltb}
 use lib.ListN.{length, getD, List·getD-eq-default}
 use Rattle.names.specs.SetLaws.{nothing-in}
 use Rattle.names.specs.Sets.{member, nothing}
-use Rattle.names.specs.closures.Relations.{relates, Reachable, one, more, throughElement}
+use Rattle.names.specs.closures.Relations.{relates, Reachable, one, more, throughElement, NonePast}
 use Rattle.names.specs.declared.NameSet.{NameSet}
 use Rattle.schema_spec.specs.Names.{Name, element}
 use Rattle.text_laws.specs.Loops.{Passed}
@@ -119,14 +119,24 @@ module _ (images : List NameSet) (k : ℕ) where
       let same : getD now i nothing ≡ getD images i nothing = p .kept i (omega arith) in
       new b ∙ ap (λ (s : NameSet). member s b || (member s (element k) && relates images k b)) same
 
-  -- an element without an image has nothing to grow
-  pub round-all : (i : ℕ) (now : List NameSet) → length images ≤ i → Passed (AfterRound images k) nothing images i now
+  -- an element that is related to nothing has nothing to grow
+  pub round-all : (i : ℕ) (now : List NameSet) → NonePast i images → Passed (AfterRound images k) nothing images i now
       → (a : ℕ) (b : Name) → relates now a b ≡ throughElement images k a b
-  round-all i now long p a b = pick (ltb a i) refl
+  round-all i now past p a b = pick (ltb a i) refl
     where
       pick : (c : Bool) → ltb a i ≡ c → relates now a b ≡ throughElement images k a b
       pick true e = p .done a (ltb-true a i e) b
       pick false e =
           let l = ltb-false a i e in
-          let none : (n : Name) → relates images a n ≡ false = λ n. false-of (relates images a n) (no-image images a n (omega arith)) in
+          let none : (n : Name) → relates images a n ≡ false = λ n. past a n l in
           ap (λ (s : NameSet). member s b) (p .kept a l) ∙ none b ∙ sym (ap₂ (λ (x y : Bool). x || (y && relates images k b)) (none b) (none (element k)))
+
+-- a round leaves it so
+pub round-none-past : (images : List NameSet) (k count : ℕ) (out : List NameSet) → NonePast count images → ((a : ℕ) (b : Name) → relates out a b ≡ throughElement images k a b)
+    → NonePast count out
+round-none-past images k count out past step a b l = step a b ∙ ap₂ (λ (x y : Bool). x || (y && relates images k b)) (past a b l) (past a (element k) l)
+
+-- past so many elements as are counted, or as there are images, none is related to a name
+pub none-past-rounds : (images : List NameSet) (r count : ℕ) → (r ≡ count) ⊎ ((r ≡ length images) × (length images ≤ count)) → NonePast count images → NonePast r images
+none-past-rounds images r count (inl e) past a b l = past a b (omega arith)
+none-past-rounds images r count (inr (e, h)) past a b l = false-of (relates images a b) (no-image images a b (omega arith))

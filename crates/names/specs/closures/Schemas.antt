@@ -5,11 +5,11 @@ use mathlib.Core.Logic.{_↔_}
 use mathlib.Core.Path.{_≡_, refl, sym, subst, _∙_}
 use Prim.Native.Nat.{ℕ, _≤_}
 use native.Mathlib.Omega.{arith}
-use lib.Dec.{T}
+use lib.Dec.{T, ltb, lt→ltb}
 use lib.ListN.{length, getD}
 use Rattle.names.specs.SetLaws.{in-setOf, setOf-in, overlap-some, element-overlap, text-overlap}
 use Rattle.names.specs.Sets.{member, setOf, overlap, nothing}
-use Rattle.names.specs.closures.Relations.{relates, Reachable, one, more, relatedFrom, relatedTo}
+use Rattle.names.specs.closures.Relations.{relates, Reachable, one, more, relatedFrom, relatedTo, NonePast}
 use Rattle.names.specs.declared.NameSet.{NameSet}
 use Rattle.schema_laws.specs.Closure.{Closed, holds-model, text-holds-none, holder-in, held-in, isBelow-below, below-isBelow, below-names}
 use Rattle.schema_laws.specs.Names.{in-element, in-text}
@@ -53,6 +53,13 @@ module _ (s : Schema) (closed : Closed s) (images : List NameSet) (count : ℕ) 
       same-test (relates r a b) (isBelow (typesOf s) (element a) b) (λ t. below-isBelow s closed (reachable-below (h a b .0 t)))
       (λ t. h a b .1 (below-reachable (isBelow-below s (element a) b t) a refl))
 
+-- no element past those of the schema holds a name
+pub holds-none-past : (s : Schema) (count : ℕ) → count ≡ length s → (images : List NameSet) → RelationOf (holds s) images → NonePast count images
+holds-none-past s count e images relation a b l =
+    relation a b ∙ false-of (holds s (element a) b) (λ t.
+    let i = in-element s a (holder-in s (element a) b t) in
+    omega arith)
+
 -- A relation between the names of a schema, in which text names are related to nothing.
 pub record Relating (s : Schema) (f : Name → Name → Bool) : Type 0 where
   pub known : (a b : Name) → T (f a b) → In a (namesOf s) × In b (namesOf s)
@@ -65,31 +72,32 @@ pub below-relating : (s : Schema) → Closed s → Relating s (isBelow (typesOf 
 below-relating s c =
     record { known = λ a b t. below-names s c (isBelow-below s a b t); leaf = λ a b t. text-leaf (isBelow-below s (text a) b t) a refl }
 
-module _ (s : Schema) (small : length s ≤ maxDeclarations) (f : Name → Name → Bool) (relating : Relating s f) (images : List NameSet) (relation : RelationOf f images) (x r : NameSet) where
+module _ (s : Schema) (small : length s ≤ maxDeclarations) (count : ℕ) (counted : count ≡ length s) (f : Name → Name → Bool) (relating : Relating s f) (images : List NameSet)
+    (relation : RelationOf f images) (x r : NameSet) where
   -- all that a set holds, or all below it
-  pub relatedFrom-filter : ((b : Name) → member r b ≡ relatedFrom images x b) → setOf (namesOf s) r ≡ filterBy (λ n. anyOf (λ a. f a n) (setOf (namesOf s) x)) (namesOf s)
+  pub relatedFrom-filter : ((b : Name) → member r b ≡ relatedFrom count images x b) → setOf (namesOf s) r ≡ filterBy (λ n. anyOf (λ a. f a n) (setOf (namesOf s) x)) (namesOf s)
   unfolding setOf
   relatedFrom-filter h =
       filter-cong (member r) (λ n. anyOf (λ a. f a n) (setOf (namesOf s) x)) (namesOf s)
-      (λ n i. h n ∙ same-test (relatedFrom images x n) (anyOf (λ a. f a n) (setOf (namesOf s) x)) (found n) (λ t. back n (in-any (λ a. f a n) (setOf (namesOf s) x) t)))
+      (λ n i. h n ∙ same-test (relatedFrom count images x n) (anyOf (λ a. f a n) (setOf (namesOf s) x)) (found n) (λ t. back n (in-any (λ a. f a n) (setOf (namesOf s) x) t)))
     where
-      found : (n : Name) → T (relatedFrom images x n) → T (anyOf (λ a. f a n) (setOf (namesOf s) x))
+      found : (n : Name) → T (relatedFrom count images x n) → T (anyOf (λ a. f a n) (setOf (namesOf s) x))
       found n t =
-          let w = below-any maxDeclarations (λ a. member x (element a) && relates images a n) t in
+          let w = below-any count (λ a. member x (element a) && relates images a n) t in
           let c = and-cases (member x (element (w .0))) (relates images (w .0) n) (w .2) in
           let g = subst T (relation (w .0) n) (c .1) in
           any-in (λ a. f a n) (in-setOf x (relating .known (element (w .0)) n g .0) (c .0)) g
 
-      back : (n : Name) → (y : Name) × In y (setOf (namesOf s) x) × T (f y n) → T (relatedFrom images x n)
+      back : (n : Name) → (y : Name) × In y (setOf (namesOf s) x) × T (f y n) → T (relatedFrom count images x n)
       back n (element e, i, g) =
           let m = setOf-in (namesOf s) x i in
           let l = in-element s e (m .0) in
-          any-below maxDeclarations (λ a. member x (element a) && relates images a n) e (omega arith)
+          any-below count (λ a. member x (element a) && relates images a n) e (omega arith)
           (and-intro (member x (element e)) (relates images e n) (m .1) (subst T (sym (relation e n)) g))
       back n (text e, i, g) = absurd (relating .leaf e n g)
 
   -- all that hold a name of a set, or all above it
-  pub relatedTo-filter : ((n : Name) → member r n ≡ relatedTo images x n) → setOf (namesOf s) r ≡ filterBy (λ n. anyOf (λ b. f n b) (setOf (namesOf s) x)) (namesOf s)
+  pub relatedTo-filter : ((n : Name) → member r n ≡ relatedTo count images x n) → setOf (namesOf s) r ≡ filterBy (λ n. anyOf (λ b. f n b) (setOf (namesOf s) x)) (namesOf s)
   unfolding setOf
   relatedTo-filter h = filter-cong (member r) (λ n. anyOf (λ b. f n b) (setOf (namesOf s) x)) (namesOf s) (λ n i. h n ∙ same n)
     where
@@ -109,10 +117,14 @@ module _ (s : Schema) (small : length s ≤ maxDeclarations) (f : Name → Name 
           let g = subst T (relation a (w .0)) (w .1) in
           any-in (λ b. f (element a) b) (in-setOf x (relating .known (element a) (w .0) g .1) (w .2)) g
 
-      same : (n : Name) → relatedTo images x n ≡ anyOf (λ b. f n b) (setOf (namesOf s) x)
+      same : (n : Name) → relatedTo count images x n ≡ anyOf (λ b. f n b) (setOf (namesOf s) x)
       same (element a) =
-          same-test (overlap (getD images a nothing) x) (anyOf (λ b. f (element a) b) (setOf (namesOf s) x)) (found a)
-          (λ t. met a (in-any (λ b. f (element a) b) (setOf (namesOf s) x) t))
+          same-test (ltb a count && overlap (getD images a nothing) x) (anyOf (λ b. f (element a) b) (setOf (namesOf s) x))
+          (λ t. found a (and-cases (ltb a count) (overlap (getD images a nothing) x) t .1))
+          (λ t.
+          let w = in-any (λ b. f (element a) b) (setOf (namesOf s) x) t in
+          let l = in-element s a (relating .known (element a) (w .0) (w .2) .0) in
+          and-intro (ltb a count) (overlap (getD images a nothing) x) (lt→ltb a count (omega arith)) (met a w))
       same (text a) =
           sym (false-of (anyOf (λ b. f (text a) b) (setOf (namesOf s) x)) (λ t.
           let w = in-any (λ b. f (text a) b) (setOf (namesOf s) x) t in

@@ -18,7 +18,7 @@ use Rattle.needed_names.proofs.paths_needed.Reads as paths-needed
 use Rattle.needed_names.specs.Bundles.{path-steps, later-paths, needed-none, needed-one-and-rest}
 
 abbrev μ-paths-needed : Measures 4 paths-needed-kinds.ps ℕ
-μ-paths-needed κs a = a .1 .1 .1 .1 .1 .1 .1 .1 .0
+μ-paths-needed κs a = a .1 .1 .1 .1 .1 .1 .1 .1 .1 .0
 
 abbrev paths-needed-at : ℕ → In 4 paths-needed-kinds.ps
 paths-needed-at t = and 4 paths-needed-kinds.ps (is 4 paths-needed-kinds.ps μ-paths-needed t) paths-needed.Pre

@@ -27,10 +27,10 @@ paths-needed-requires c κs =
 
 returns : tie.Need-returns
 unfolding pathsIn
-returns c = λ s k e.
+returns c = λ s k.
     let all = all-before (c .before .before) .names-of in
     let whole = c .before .paths-needed in
-    let named = all .ensures s (k .holding) e in (
+    let named = all .ensures s (k .holding) (k .counted) in (
       common-setIn s (all .result) (whole .result) (c .common .result) named (c .common .ensures) ∙ whole .ensures s k named,
       common-known s (all .result) (whole .result) (c .common .result) named (c .common .ensures),
     )

@@ -11,7 +11,8 @@ use lib.ListN.{length, getD}
 use Rattle.inference.specs.type_steps.Relations.{RelationsOf}
 use Rattle.names.specs.SetLaws.{nothing-in}
 use Rattle.names.specs.Sets.{member, nothing, setIn}
-use Rattle.names.specs.closures.Relations.{relates}
+use Rattle.names.specs.closures.Relations.{relates, NonePast}
+use Rattle.names.specs.closures.Schemas.{holds-none-past}
 use Rattle.names.specs.codes.Laws.{single-list}
 use Rattle.names.specs.declared.NameSet.{NameSet}
 use Rattle.needed_names.specs.reachable_names.Reached.{HeldInside}
@@ -30,20 +31,27 @@ module _ (images : List NameSet) (m : NameSet) where
       → ((b : Name) → member x b ≡ (member (getD now i nothing) b && (member m (element i) && member m b))) → ImageInside images m i x
   image-is-inside i now x p new b = new b ∙ ap (λ (s : NameSet). member s b && (member m (element i) && member m b)) (p .kept i (omega arith))
 
-  pub images-inside : (i : ℕ) (now : List NameSet) → length images ≤ i → Passed (ImageInside images m) nothing images i now
+  pub images-inside : (i : ℕ) (now : List NameSet) → NonePast i images → Passed (ImageInside images m) nothing images i now
       → (a : ℕ) (b : Name) → relates now a b ≡ (relates images a b && (member m (element a) && member m b))
-  images-inside i now long p a b = pick (ltb a i) refl
+  images-inside i now past p a b = pick (ltb a i) refl
     where
       pick : (c : Bool) → ltb a i ≡ c → relates now a b ≡ (relates images a b && (member m (element a) && member m b))
       pick true e = p .done a (ltb-true a i e) b
       pick false e =
           let l = ltb-false a i e in
-          let none : relates images a b ≡ false = ap (λ (s : NameSet). member s b) (List·getD-eq-default images nothing (omega arith)) ∙ nothing-in b in
+          let none : relates images a b ≡ false = past a b l in
           ap (λ (s : NameSet). member s b) (p .kept a l) ∙ none ∙ sym (ap (λ (c : Bool). c && (member m (element a) && member m b)) none)
 
-pub inside-holds : (s : Schema) (held below r : List NameSet) (m : NameSet) → RelationsOf s held below → ((a : ℕ) (b : Name) → relates r a b ≡ (relates held a b && (member m (element a) && member m b)))
-    → HeldInside s m r
-inside-holds s held below r m c h a b = h a b ∙ ap (λ (x : Bool). x && (member m (element a) && member m b)) (c .holding a b)
+module _ (s : Schema) (held below r : List NameSet) (count : ℕ) (m : NameSet) (c : RelationsOf s held below count)
+    (h : NonePast count held → (a : ℕ) (b : Name) → relates r a b ≡ (relates held a b && (member m (element a) && member m b))) where
+  past : NonePast count held
+  past = holds-none-past s count (c .counted) held (c .holding)
+
+  pub inside-holds : HeldInside s m r
+  inside-holds a b = h past a b ∙ ap (λ (x : Bool). x && (member m (element a) && member m b)) (c .holding a b)
+
+  pub inside-none-past : NonePast count r
+  inside-none-past a b l = h past a b ∙ ap (λ (x : Bool). x && (member m (element a) && member m b)) (past a b l)
 
 sameName-sym : (a b : Name) → sameName a b ≡ sameName b a
 sameName-sym a b =

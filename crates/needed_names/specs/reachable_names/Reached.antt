@@ -22,13 +22,12 @@ use Rattle.schema_spec.specs.Schemas.{Schema}
 use Rattle.schema_spec.specs.Types.{holds, typesOf}
 use Rattle.text_laws.specs.Lists.{filter-filter}
 use Rattle.text_laws.specs.Tests.{and-intro, and-cases, same-test}
-use Rattle.text_spec.specs.Limits.{maxDeclarations}
 
 -- what each element holds inside the set m
 abbrev pub HeldInside : Schema → NameSet → List NameSet → Type 0
 HeldInside s m images = (a : ℕ) (b : Name) → relates images a b ≡ (holds s (element a) b && (member m (element a) && member m b))
 
-module _ (s : Schema) (closed : Closed s) (small : length s ≤ maxDeclarations) (l : Names) (m : NameSet) (is : setIn s m ≡ within (namesOf s) l) (images : List NameSet) (table : HeldInside s m images) where
+module _ (s : Schema) (closed : Closed s) (count : ℕ) (counted : count ≡ length s) (l : Names) (m : NameSet) (is : setIn s m ≡ within (namesOf s) l) (images : List NameSet) (table : HeldInside s m images) where
   abbrev inside : Names
   inside = within (namesOf s) l
 
@@ -48,7 +47,7 @@ module _ (s : Schema) (closed : Closed s) (small : length s ≤ maxDeclarations)
   inside-held a b i j t =
       subst T (sym (table a b)) (and-intro (holds s (element a) b) (member m (element a) && member m b) t (and-intro (member m (element a)) (member m b) (inside-in (element a) i) (inside-in b j)))
 
-  reachable-chain : {a : ℕ} {b : Name} → Reachable images maxDeclarations a b → Chain inside (holds s) (element a) b
+  reachable-chain : {a : ℕ} {b : Name} → Reachable images count a b → Chain inside (holds s) (element a) b
   reachable-chain (one {a = a} {b = b} t) =
       let h = held-inside a b t in
       chains.Chain.one (h .0) (h .1) (h .2)
@@ -60,24 +59,24 @@ module _ (s : Schema) (closed : Closed s) (small : length s ≤ maxDeclarations)
   text-leaf (chains.Chain.one {b = b} i j t) a e = text-holds-none s a b (subst (λ (y : Name). T (holds s y b)) e t)
   text-leaf (chains.Chain.more {b = b} i t c) a e = text-holds-none s a b (subst (λ (y : Name). T (holds s y b)) e t)
 
-  onward : (a : ℕ) (y : Name) {b : Name} → In (element a) inside → T (holds s (element a) y) → Chain inside (holds s) y b → ((k : ℕ) → y ≡ element k → Reachable images maxDeclarations k b) → Reachable images maxDeclarations a b
+  onward : (a : ℕ) (y : Name) {b : Name} → In (element a) inside → T (holds s (element a) y) → Chain inside (holds s) y b → ((k : ℕ) → y ≡ element k → Reachable images count k b) → Reachable images count a b
   onward a (element k) i t c h =
       let j = chain-from c in
       let d = in-element s k (within-in (namesOf s) l j .0) in
       more (inside-held a (element k) i j t) (omega arith) (h k refl)
   onward a (text k) i t c h = absurd (text-leaf c k refl)
 
-  chain-reachable : {x b : Name} → Chain inside (holds s) x b → (a : ℕ) → x ≡ element a → Reachable images maxDeclarations a b
+  chain-reachable : {x b : Name} → Chain inside (holds s) x b → (a : ℕ) → x ≡ element a → Reachable images count a b
   chain-reachable (chains.Chain.one {b = b} i j t) a e = one (inside-held a b (subst (λ (y : Name). In y inside) e i) j (subst (λ (y : Name). T (holds s y b)) e t))
   chain-reachable (chains.Chain.more {b = y} i t c) a e = onward a y (subst (λ (z : Name). In z inside) e i) (subst (λ (z : Name). T (holds s z y)) e t) c (chain-reachable c)
 
-  pub reached-related : (r : List NameSet) → ((a : ℕ) (b : Name) → T (relates r a b) ↔ Reachable images maxDeclarations a b) → (n : Name) → relates r 0 n ≡ related (closure inside (holds s)) (element 0) n
+  pub reached-related : (r : List NameSet) → ((a : ℕ) (b : Name) → T (relates r a b) ↔ Reachable images count a b) → (n : Name) → relates r 0 n ≡ related (closure inside (holds s)) (element 0) n
   reached-related r h n =
       same-test (relates r 0 n) (related (closure inside (holds s)) (element 0) n) (λ t. chain-closure inside (holds s) (reachable-chain (h 0 n .0 t)))
       (λ t. h 0 n .1 (chain-reachable (closure-chain inside (holds s) (element 0) n t) 0 refl))
 
   -- the names of m that the root reaches inside it
-  pub reached-fromRoot : (r : List NameSet) (out : NameSet) → ((a : ℕ) (b : Name) → T (relates r a b) ↔ Reachable images maxDeclarations a b)
+  pub reached-fromRoot : (r : List NameSet) (out : NameSet) → ((a : ℕ) (b : Name) → T (relates r a b) ↔ Reachable images count a b)
       → ((n : Name) → member out n ≡ (member m n && (sameName (element 0) n || relates r 0 n))) → setIn s out ≡ fromRoot (typesOf s) l
   unfolding setOf fromRoot typesOf
   reached-fromRoot r out h new =

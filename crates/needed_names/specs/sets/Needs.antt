@@ -13,4 +13,4 @@ use Rattle.schema_spec.specs.Types.{typesOf}
 
 -- the set has the names that the paths need under each schema that has this compiled form, and no other
 pub record NeededIn (t : CompiledSchema) (paths : CompiledPaths) (x : NameSet) : Type 0 where
-  pub under : (s : Schema) → RelationsOf s (t .entries .«holds») (t .below) → t .count ≡ length s → (setIn s x ≡ needed (typesOf s) (pathsIn paths)) × Known s x
+  pub under : (s : Schema) → RelationsOf s (t .entries .«holds») (t .below) (t .count) → (setIn s x ≡ needed (typesOf s) (pathsIn paths)) × Known s x

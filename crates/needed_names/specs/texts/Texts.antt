@@ -30,5 +30,5 @@ module _ (schema text : List ℕ) (t : CompiledSchema) (made : CompiledOf schema
   unfolding NeededBy neededWord typesOf
   judged-needed x need word e read =
       compiled-needed-word schema (schemaIn schema) read t made (r .paths) word
-      (λ q k n. let is = need .under q k n in e ∙ word-of-known q (k .small) x (needed (typesOf q) (pathsIn (r .paths))) (is .1) (is .0))
+      (λ q k. let is = need .under q k in e ∙ word-of-known q (k .small) x (needed (typesOf q) (pathsIn (r .paths))) (is .1) (is .0))
       ∙ ap (neededWord (typesOf (schemaIn schema))) (judged .under (schemaIn schema) (made .named) .compiled)

@@ -21,7 +21,7 @@ use Rattle.path_spec.specs.Paths.{PlainStep, expandFrom}
 use Rattle.schema_spec.specs.Types.{typesOf}
 
 abbrev μ-infer-plain : Measures 2 infer-plain-kinds.ps ℕ
-μ-infer-plain κs a = a .1 .1 .1 .1 .1 .0
+μ-infer-plain κs a = a .1 .1 .1 .1 .1 .1 .0
 
 abbrev infer-plain-at : ℕ → In 2 infer-plain-kinds.ps
 infer-plain-at t = and 2 infer-plain-kinds.ps (is 2 infer-plain-kinds.ps μ-infer-plain t) infer-plain.Pre

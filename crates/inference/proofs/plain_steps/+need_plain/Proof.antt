@@ -23,7 +23,7 @@ use Rattle.names.proofs.NameSet.empty.Reads as empty-reads
 use Rattle.path_spec.specs.Paths.{PlainStep, expandFrom}
 
 abbrev μ-need-plain : Measures 2 need-plain-kinds.ps ℕ
-μ-need-plain κs a = a .1 .1 .1 .1 .1 .0
+μ-need-plain κs a = a .1 .1 .1 .1 .1 .1 .0
 
 abbrev need-plain-at : ℕ → In 2 need-plain-kinds.ps
 need-plain-at t = and 2 need-plain-kinds.ps (is 2 need-plain-kinds.ps μ-need-plain t) need-plain.Pre

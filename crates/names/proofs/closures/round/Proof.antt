@@ -12,10 +12,10 @@ use Rattle.text_laws.specs.Loops.{Passed, passed-first, passed-next}
 use Rattle.text_spec.specs.Limits.{maxDeclarations}
 
 abbrev Inv-loop : tie.InvT-loop
-Inv-loop k image out₀ i₀ out i = (i ≤ maxDeclarations) × ((length out ≡ maxDeclarations) × Passed (AfterRound out₀ k) nothing out₀ i out)
+Inv-loop count k image out₀ i₀ out i = (i ≤ count) × ((length out ≡ maxDeclarations) × Passed (AfterRound out₀ k) nothing out₀ i out)
 
 abbrev μ-loop : tie.MeasureT-loop
-μ-loop k image out₀ i₀ out i = maxDeclarations - i
+μ-loop count k image out₀ i₀ out i = count - i
 
 loop-holds : tie.Need-loop-holds Inv-loop μ-loop
 loop-holds c =
@@ -35,11 +35,10 @@ loop-again c =
     )
 
 returns : tie.Need-returns Inv-loop μ-loop
-returns c =
+returns c past =
     let at = c .before .loop in
     let args = c .before .before .before .args in
-    let long : length (args .t1) ≡ maxDeclarations = search needs in
-    round-all (args .t1) (args .k) (at .i) (at .out) (omega arith) (at .inv .1 .1)
+    round-all (args .t1) (args .k) (at .i) (at .out) (λ a b l. past a b (omega arith)) (at .inv .1 .1)
 
 pub round-spec : {M : Type 1} → statement M
 round-spec =

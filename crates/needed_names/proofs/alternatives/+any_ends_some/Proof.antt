@@ -17,7 +17,7 @@ use Rattle.needed_names.specs.alternatives.Alternatives.{anyEndsSome}
 use Rattle.needed_names.specs.alternatives.Laws.{first-steps, later-steps, fewer-steps, first-ends, later-ends}
 
 abbrev μ-any-ends-some : Measures 2 any-ends-some-kinds.ps ℕ
-μ-any-ends-some κs a = a .1 .1 .1 .1 .1 .1 .0
+μ-any-ends-some κs a = a .1 .1 .1 .1 .1 .1 .1 .0
 
 abbrev any-ends-some-at : ℕ → In 2 any-ends-some-kinds.ps
 any-ends-some-at t = and 2 any-ends-some-kinds.ps (is 2 any-ends-some-kinds.ps μ-any-ends-some t) any-ends-some.Pre

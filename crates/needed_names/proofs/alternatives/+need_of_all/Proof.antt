@@ -26,7 +26,7 @@ use Rattle.schema_spec.specs.Names.{namesOf, within}
 use Rattle.schema_spec.specs.Types.{typesOf}
 
 abbrev μ-need-of-all : Measures 2 need-of-all-kinds.ps ℕ
-μ-need-of-all κs a = a .1 .1 .1 .1 .1 .0
+μ-need-of-all κs a = a .1 .1 .1 .1 .1 .1 .0
 
 abbrev need-of-all-at : ℕ → In 2 need-of-all-kinds.ps
 need-of-all-at t = and 2 need-of-all-kinds.ps (is 2 need-of-all-kinds.ps μ-need-of-all t) need-of-all.Pre

@@ -18,11 +18,11 @@ use Rattle.schema_spec.specs.Names.{Name, codeOf, namesOf}
 use Rattle.schema_spec.specs.Schemas.{Schema}
 
 abbrev Inv-loop : tie.InvT-loop
-Inv-loop all holds below axes tests i n t k out₀ c₀ out c =
-    (c ≤ 64) × ((s : Schema) → RelationsOf s holds below → NamesOf s all → (m : Name) → List·Memᴰ m (namesOf s) → member out m ≡ (ltb (codeOf m) c && (member t m && keepsIn s k (alternatives (alternativesIn axes tests n i)) m)))
+Inv-loop all holds below count axes tests i n t k out₀ c₀ out c =
+    (c ≤ 64) × ((s : Schema) → RelationsOf s holds below count → NamesOf s all → (m : Name) → List·Memᴰ m (namesOf s) → member out m ≡ (ltb (codeOf m) c && (member t m && keepsIn s k (alternatives (alternativesIn axes tests n i)) m)))
 
 abbrev μ-loop : tie.MeasureT-loop
-μ-loop all holds below axes tests i n t k out₀ c₀ out c = 64 - c
+μ-loop all holds below count axes tests i n t k out₀ c₀ out c = 64 - c
 
 loop-holds : tie.Need-loop-holds Inv-loop μ-loop
 loop-holds c =

@@ -17,11 +17,11 @@ use Rattle.schema_spec.specs.Names.{Name, namesOf}
 use Rattle.schema_spec.specs.Schemas.{Schema}
 
 abbrev Inv-loop : tie.InvT-loop
-Inv-loop holds below axes tests i n k g out₀ c₀ out c =
-    (c ≤ 64) × ((s : Schema) (l : RelationsOf s holds below) → Known s g → (m : Name) → List·Memᴰ m (namesOf s) → member out m ≡ wantedBelow s (l .small) (wantsIn s k (alternatives (alternativesIn axes tests n i))) g c m)
+Inv-loop holds below count axes tests i n k g out₀ c₀ out c =
+    (c ≤ 64) × ((s : Schema) (l : RelationsOf s holds below count) → Known s g → (m : Name) → List·Memᴰ m (namesOf s) → member out m ≡ wantedBelow s (l .small) (wantsIn s k (alternatives (alternativesIn axes tests n i))) g c m)
 
 abbrev μ-loop : tie.MeasureT-loop
-μ-loop holds below axes tests i n k g out₀ c₀ out c = 64 - c
+μ-loop holds below count axes tests i n k g out₀ c₀ out c = 64 - c
 
 loop-holds : tie.Need-loop-holds Inv-loop μ-loop
 loop-holds c =

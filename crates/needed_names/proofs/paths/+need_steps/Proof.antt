@@ -25,7 +25,7 @@ use Rattle.path_spec.specs.Paths.{WrittenStep, Condition, unconditional, expand
 use Rattle.schema_spec.specs.Types.{typesOf}
 
 abbrev μ-need-steps : Measures 3 need-steps-kinds.ps ℕ
-μ-need-steps κs a = a .1 .1 .1 .1 .1 .1 .1 .0
+μ-need-steps κs a = a .1 .1 .1 .1 .1 .1 .1 .1 .0
 
 abbrev need-steps-at : ℕ → In 3 need-steps-kinds.ps
 need-steps-at t = and 3 need-steps-kinds.ps (is 3 need-steps-kinds.ps μ-need-steps t) need-steps.Pre
