@@ -42,7 +42,7 @@ pub data EntityEnd (text : List ℕ) (at next : ℕ) : Type 0 where
   none : next ≡ at → EntityEnd text at next
 
 -- how far the characters from l and p on are passed, up to an entity or to a byte that is no character
-pub record Passed (text kinds : List ℕ) (l : Lex) (p : List ℕ) (at saved next : ℕ) : Type 0 where
+pub record RunSoFar (text kinds : List ℕ) (l : Lex) (p : List ℕ) (at saved next : ℕ) : Type 0 where
   pub ready : Ready text kinds l p
   pub mode : l .mode ≡ 2
   pub event : l .event ≡ 0
@@ -154,7 +154,7 @@ module _ {text kinds : List ℕ} {l : Lex} {p : List ℕ} (saved : ℕ) (h : Rea
 
 -- no entity is passed yet
 pub passed-first : {text kinds : List ℕ} {l : Lex} {p : List ℕ} {at next : ℕ} → Ready text kinds l p → l .mode ≡ 2 → l .event ≡ 0 → PlainBytes text kinds (l .place) at
-    → EntityEnd text at next → Passed text kinds l p at (savedAt p) next
+    → EntityEnd text at next → RunSoFar text kinds l p at (savedAt p) next
 passed-first {text} {l = l} {p = p} h m e b c =
     record {
       ready = h;
@@ -164,7 +164,7 @@ passed-first {text} {l = l} {p = p} h m e b c =
       end = c;
     }
 
-module _ {text kinds : List ℕ} {l : Lex} {p : List ℕ} {at saved next : ℕ} (h : Passed text kinds l p at saved next) where
+module _ {text kinds : List ℕ} {l : Lex} {p : List ℕ} {at saved next : ℕ} (h : RunSoFar text kinds l p at saved next) where
   -- so much is saved, of what was read
   pub passed-saved : saved ≤ at
   passed-saved = omega (arith, h .advance .lent .few, getD-set-same p 4 saved 0 (omega (arith, h .ready .lent .five)))
@@ -191,7 +191,7 @@ module _ {text kinds : List ℕ} {l : Lex} {p : List ℕ} {at saved next : ℕ} 
       by (EntityEnd.none e) = absurd (omega arith)
 
   -- an entity, and the plain bytes after it
-  pub passed-again : {to end : ℕ} → at < next → PlainBytes text kinds next to → EntityEnd text to end → Passed text kinds l p to (saved + (next - at - 1)) end
+  pub passed-again : {to end : ℕ} → at < next → PlainBytes text kinds next to → EntityEnd text to end → RunSoFar text kinds l p to (saved + (next - at - 1)) end
   passed-again less b c =
       record {
         ready = h .ready;

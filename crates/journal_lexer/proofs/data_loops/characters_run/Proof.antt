@@ -6,11 +6,11 @@ use borrow.Author.Needs.{needs}
 use lib.ListN.{length}
 use Rattle.journal_lexer.proofs.data_loops.characters_run.Statement.{statement}
 use Rattle.journal_lexer.proofs.data_loops.characters_run.Tie as tie
-use Rattle.journal_lexer.specs.data_loops.Characters.{Passed, passed-first, passed-again, passed-saved, passed-inside, end-inside, passed-advance, plain-after}
+use Rattle.journal_lexer.specs.data_loops.Characters.{RunSoFar, passed-first, passed-again, passed-saved, passed-inside, end-inside, passed-advance, plain-after}
 use Rattle.journal_lexer.specs.loop_laws.Laws.{advance-none}
 
 abbrev Inv-loop : tie.InvT-loop
-Inv-loop t kinds places l saved₀ at₀ next₀ saved at next = Passed t kinds l places at saved next
+Inv-loop t kinds places l saved₀ at₀ next₀ saved at next = RunSoFar t kinds l places at saved next
 
 abbrev μ-loop : tie.MeasureT-loop
 μ-loop t kinds places l saved₀ at₀ next₀ saved at next = length t - at
