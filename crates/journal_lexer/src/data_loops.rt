@@ -208,8 +208,7 @@ pub fn data_part(t: &[u8], kinds: &[u8; 256], places: &mut [u32; 5], l: Lex) -> 
 {
     let between = between_step(t, kinds, places, l);
     let blanks = blanks_run(t, kinds, places, between);
-    let characters = characters_run(t, kinds, places, blanks);
-    let solid = solid_run(t, kinds, places, characters);
+    let solid = solid_run(t, kinds, places, blanks);
     if solid.mode == ENTITY {
         return entity_part(t, kinds, places, solid);
     }
