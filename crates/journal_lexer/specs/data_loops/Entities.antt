@@ -13,7 +13,7 @@ use Rattle.journal_lexer.specs.run_laws.Passes.{Passes}
 use Rattle.journal_lexer.specs.state.Entities.{restsOf}
 use Rattle.journal_lexer.specs.state.Places.{noPlace, tagAt, solidAt, savedAt, runOf, Lent, withSaved, saved-other, saved-run, lent-saved}
 use Rattle.journal_lexer.specs.state.Relation.{stateOf, reportOf, Means, MeansMode, Tells}
-use Rattle.journal_lexer.specs.whole_entities.Entities.{beginsAt, EntityAfter, whole, itself, whole-split, whole-inside}
+use Rattle.journal_lexer.specs.whole_entities.Entities.{beginsAt, EntityAfter, whole, itself, entity-filled, whole-split, whole-inside}
 use Rattle.text_spec.specs.Lists.{allOf}
 use Rattle.token_laws.specs.Passes.{eventsOver}
 use Rattle.token_spec.specs.Characters.{EntityFor, lt, gt, amp, apos, quot}
@@ -73,14 +73,7 @@ module _ {text kinds : List ℕ} {l : Lex} {p : List ℕ} (h : Ready text kinds 
     inside = whole-inside text (l .place) u begins f
 
     filled : 1 ≤ length u
-    filled = by f
-      where
-        by : {u : List ℕ} {c : ℕ} → EntityFor (0x26 ∷ u) c → 1 ≤ length u
-        by lt = omega arith
-        by gt = omega arith
-        by amp = omega arith
-        by apos = omega arith
-        by quot = omega arith
+    filled = entity-filled f
 
     solid-after : solidAt p < noPlace → solidAt after < noPlace
     solid-after has = rw (saved-other p (next - 1) 2 (λ z. omega arith)) has

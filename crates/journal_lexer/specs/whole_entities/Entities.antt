@@ -79,7 +79,7 @@ begins-split (a ∷ u) (b ∷ w) h =
     ap₂ (λ (x : ℕ) (v : List ℕ). x ∷ v) (sym (eqb→eq a b (k .0))) (begins-split u w (k .1))
 
 -- ---- an entity that stands whole in a text
-entity-filled : {u : List ℕ} {c : ℕ} → EntityFor (0x26 ∷ u) c → 1 ≤ length u
+pub entity-filled : {u : List ℕ} {c : ℕ} → EntityFor (0x26 ∷ u) c → 1 ≤ length u
 entity-filled lt = omega arith
 entity-filled gt = omega arith
 entity-filled amp = omega arith
