@@ -1,4 +1,4 @@
--- The characters of a journal's text, written one after the other: what begins at a place of the text, and how far writing has come.
+-- The characters of a journal's text, written one after the other: how far writing has come.
 use mathlib.Core.Bool.{Bool, cond}
 use mathlib.Core.List.{List, [], _∷_}
 use mathlib.Core.Path.{_≡_, refl, sym, ap, ap₂, _∙_}

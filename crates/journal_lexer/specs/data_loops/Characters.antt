@@ -29,13 +29,13 @@ use Rattle.token_spec.specs.Lexer.{Run, Mode, inData, Event, quiet, ends, modeA
 abbrev pub movedTo : ℕ → Lex → Lex
 movedTo k l = record { place = k; mode = l .mode; event = l .event; count = l .count; name = l .name }
 
--- the bytes from a place up to another are plain
+-- the bytes from a place up to another are plain; there may be more of them
 pub data PlainBytes (text kinds : List ℕ) (from : ℕ) : ℕ → Type 0 where
   none : {next : ℕ} → next ≡ from → PlainBytes text kinds from next
   more : {next : ℕ} (at : ℕ) → PlainBytes text kinds from at → at < length text → getD text at 0 < 256 → getD kinds (getD text at 0) 0 < 6 → next ≡ at + 1
       → PlainBytes text kinds from next
 
--- where the entity ends that stands at a place, if one does
+-- where the entity ends that stands at a place, or that place: nothing need be passed, since the loops over single bytes read what is left
 pub data EntityEnd (text : List ℕ) (at next : ℕ) : Type 0 where
   entity : {c : ℕ} (u : List ℕ) → EntityFor (0x26 ∷ u) c → at < length text → getD text at 0 ≡ 0x26 → beginsAt text (at + 1) u ≡ true → next ≡ at + 1 + length u
       → EntityEnd text at next
