@@ -42,12 +42,10 @@ install: all
 	install -m 644 man/lozhymet.3 man/host_make_extract.3 man/host_select.3 $(DESTDIR)$(PREFIX)/share/man/man3
 	install -m 755 $(LISTING) $(DESTDIR)$(PREFIX)/bin/listing
 
-# the main job on the examples
+# the main job on the example tray
 example: all
 	$(BUILD)/lozhymet extract examples/tray/schema.dtd examples/tray/paths.txt examples/tray/journal.xml -o $(BUILD)/tray.extract
 	$(BUILD)/lozhymet select examples/tray/schema.dtd examples/tray/paths.txt $(BUILD)/tray.extract
-	$(BUILD)/lozhymet extract examples/plate_reader/schema.dtd examples/plate_reader/paths.txt examples/plate_reader/journal.xml -o $(BUILD)/plate_reader.extract
-	$(BUILD)/lozhymet select examples/plate_reader/schema.dtd examples/plate_reader/paths.txt $(BUILD)/plate_reader.extract
 
 check:
 	tests/run

@@ -87,7 +87,7 @@ static void say_schema(struct message *m, uint64_t number) {
             "names have at most 31 bytes, and parentheses stand at most 8 deep.");
         break;
     case LOZHYMET_SCHEMA_LIMIT:
-        if (m->text->bytes[m->place] == '<') say(m, "this is the 65th declaration, and 64 are allowed", "Leave out elements that no journal has.");
+        if (m->text->bytes[m->place] == '<') say(m, "this is the 33rd declaration, and 32 are allowed", "Leave out elements that no journal has.");
         else say(m, "this is the 65th name in its model, and 64 are allowed", "Put a part of the model into an element of its own.");
         break;
     case LOZHYMET_DECLARED_TWICE: say_name(m, "element", "is declared a second time", "Remove or rename one of the two declarations."); break;

@@ -46,12 +46,12 @@ static int save(const char *name, const uint8_t *bytes, size_t len) {
     return 0;
 }
 
-/* a node by its number and, if it is a text, its characters, which an extract has decoded */
+/* a node by its number and, if it is a text, its characters, which an extract has decoded; only a text has a length */
 static void show(uint16_t number) {
     size_t row = 0;
     while (numbers[row] != number) row++;
     printf(" %u", number);
-    if (names[row] >= LOZHYMET_FIRST_TEXT_NAME) printf(" \"%.*s\"", lengths[row], (const char *)extract + starts[row]);
+    if (lengths[row]) printf(" \"%.*s\"", lengths[row], (const char *)extract + starts[row]);
 }
 
 int main(int argc, char **argv) {

@@ -35,12 +35,11 @@ extern "C" {
 #define LOZHYMET_MAX_BUNDLE_BYTES 4104
 #define LOZHYMET_MAX_JOURNAL_BYTES 1048576
 
-#define LOZHYMET_MAX_ELEMENTS 64 /* declared by a schema */
-#define LOZHYMET_MAX_PATHS 8     /* of a bundle */
-#define LOZHYMET_MAX_ROWS 65535  /* of a journal or an extract */
+#define LOZHYMET_MAX_PATHS 8    /* of a bundle */
+#define LOZHYMET_MAX_ROWS 65535 /* of a journal or an extract */
 
 /* Bytes of stack to have free for a call: a bound to which tests/host/run holds what it measures on a journal of 65,521 nodes. Measured there:
-   making 286,904 bytes, selecting 466,904. */
+   making 183,624 bytes, selecting 369,096. */
 #define LOZHYMET_STACK_BYTES 524288
 
 /* ---- how many cells to lend, so that 18 cannot come
@@ -79,7 +78,7 @@ enum lozhymet_refusal {
     LOZHYMET_BAD_LENGTH = 2,         /* a text is empty or over its limit (an extract: is empty); no place is named */
     LOZHYMET_BAD_BYTE = 3,           /* a byte is none of 09, 0A, 20 to 7E hex; place: that byte */
     LOZHYMET_SCHEMA_SYNTAX = 4,      /* the schema departs from its grammar; place: the byte where no schema could go on, or the length */
-    LOZHYMET_SCHEMA_LIMIT = 5,       /* a 65th declaration, or a 65th name in a model; place: its first byte */
+    LOZHYMET_SCHEMA_LIMIT = 5,       /* a 33rd declaration, or a 65th name in a model; place: its first byte */
     LOZHYMET_DECLARED_TWICE = 6,     /* an element is declared twice; place: the second name */
     LOZHYMET_MODEL_UNDECLARED = 7,   /* a model names an undeclared element; place: that name */
     LOZHYMET_PATH_SYNTAX = 8,        /* a path departs from its grammar; place: as for 4, in the bundle */
@@ -106,16 +105,13 @@ struct lozhymet_result {
 
 /* The six columns hold a table, a cell of each for a row, in document order. All six lengths are equal, else the call is refused (1).
      numbers  the node's number; nodes of a journal are numbered from 0 in document order, and keep their numbers in an extract
-     names    e for the element that the schema declares as number e (from 0), 64 + e for the text of such an element
+     names    e for the element that the schema declares as number e (from 0), 32 + e for the text of such an element
      parents  the row of the parent, in the same columns; 0 for the root
      starts   for a text the offset of its first byte in the journal, or in the extract; 0 for an element
      lengths  for a text its bytes, as they stand there, 1 to 4,096; 0 for an element
      decoded  for a text its characters, each of the five entities being one: 1 to its length, and equal to it where it has no entity; 0 for an element
    A text can be read from the journal, or from the extract, at starts[row], lengths[row] bytes long. In the journal it stands as it was written, in an
    extract decoded (for a label `H&amp;E` in the journal, with 7 and 3, the extract has `H&E`, with 3 and 3), and is not decoded again. */
-
-/* the name of element 0's text: a row with this name or a higher one is a text, any other an element */
-#define LOZHYMET_FIRST_TEXT_NAME LOZHYMET_MAX_ELEMENTS
 
 /* Makes the extract of a journal for a bundle of paths.
      schema, bundle, journal  the three texts; none needs a 0 at its end

@@ -133,7 +133,7 @@ def text_case(text, schema):
 
 def main():
     read, written, last = b"", "", None
-    for case in cases(345, "bundle"):
+    for case in cases(285, "bundle"):
         schema, bundle = case["texts"]
         if schema != last:
             read += text_case(schema, True)

@@ -24,8 +24,6 @@ JOURNAL_LIMIT = 1048576
 # A case that is not evaluated, with the reason.
 NOT_EVALUATED = {
     "listing-4096-rows": "the prover's limit of steps for one declaration does not suffice for the nodes of 4,096 rows",
-    "elements: needed, all names of 64 elements": "the same limit, for what lies below 64 elements of which the first holds the others, and these a text each",
-    "elements: needed, a chain of 64": "the same limit, for what lies below 64 elements, each in the one before",
 }
 
 HEAD = """-- Written by tests/definitions.py.
@@ -230,7 +228,7 @@ def evaluate(cases):
 
 
 def main():
-    cases = vector_cases(2102)
+    cases = vector_cases(1764)
     words = sys.argv[1:]
     cases = [c for c in cases if not words or any(word in c["case"] for word in words)]
     chosen = [c for c in cases if c["case"] not in NOT_EVALUATED]

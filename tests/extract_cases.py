@@ -13,14 +13,13 @@ from vector_cases import cases
 
 HERE = os.path.dirname(os.path.abspath(__file__))
 CASES = os.path.join(HERE, "cases", "extract_cases")
-# the code of the first element's text
-TEXTS = 64
+TEXTS = 32
 # the cells of each column, for a case that does not say how many are lent
 EACH = [[64] * 6, [4] * 6]
 
 
 def vectors():
-    for case in cases(173, "read-extract"):
+    for case in cases(149, "read-extract"):
         outcome, *rows = case["gives"].rstrip("\n").split("\n")
         lent = case["limits"][1:]
         yield case["texts"][0], case["texts"][1].encode("latin-1"), outcome, rows, [lent] if lent else EACH

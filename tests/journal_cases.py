@@ -16,8 +16,6 @@ HERE = os.path.dirname(os.path.abspath(__file__))
 CASES = os.path.join(HERE, "cases", "journal_cases")
 LONGEST, LENT, SHOWN = 1048576, 100, 100
 PUBLIC, WITHIN = 0, 1
-# the code of the first element's text
-TEXT = 64
 
 TILES = "<!ELEMENT r (a*)><!ELEMENT a EMPTY>"
 TEXTS = "<!ELEMENT r (t*)><!ELEMENT t (#PCDATA)>"
@@ -39,7 +37,7 @@ def rows(*cells):
 
 def vectors():
     """A schema, the pieces of a journal, the limit of its length, the cells lent and what is written."""
-    for case in vector_cases(332, "journal"):
+    for case in vector_cases(297, "journal"):
         schema, journal = case["texts"]
         limit, lent = (case["limits"] + [LONGEST, LENT][len(case["limits"]):])[:2]
         yield schema, [once(journal)], limit, lent, case["gives"]
@@ -57,9 +55,9 @@ def nodes():
     ):
         yield TILES, [once("<r>"), ("<a/>", count), once("</r>")], lent, gives
     texts = [once("<r>"), ("<t>x</t>", 32767), once("</r>")]
-    last = (65534, TEXT + 1, 65533, 3 + 8 * 32766 + 3, 1, 1)
+    last = (65534, 33, 65533, 3 + 8 * 32766 + 3, 1, 1)
     yield TEXTS, texts, 65535, "ok 65535\n%d %d %d %d %d %d\n" % last
-    decoded = (65534, TEXT + 1, 65533, 3 + 12 * 32766 + 3, 5, 1)
+    decoded = (65534, 33, 65533, 3 + 12 * 32766 + 3, 5, 1)
     yield TEXTS, [once("<r>"), ("<t>&amp;</t>", 32767), once("</r>")], 65535, "ok 65535\n%d %d %d %d %d %d\n" % decoded
     yield TEXTS, [once("<r><t/>")] + texts[1:], 65536, refused(16, 7 + 8 * 32766 + 3)
 
@@ -82,7 +80,7 @@ def lengths():
         ([("&apos;", 682), once("xxxx")], 4096, 686),
         ([("&quot;", 683)], 4098, 683),
     ):
-        gives = rows((0, 0, 0, 0, 0, 0), (1, TEXT, 0, 3, size, decoded)) if size == 4096 else refused(16, 3)
+        gives = rows((0, 0, 0, 0, 0, 0), (1, 32, 0, 3, size, decoded)) if size == 4096 else refused(16, 3)
         yield "<!ELEMENT t (#PCDATA)>", [once("<t>"), *text, once("</t>")], LENT, gives
 
 
@@ -92,7 +90,7 @@ def depths():
     for open_tags, end_tags, gives in ((64, 64, rows(*levels)), (65, 65, refused(13, 192)), (65, 3, refused(13, 192)), (65, 99, refused(13, 192))):
         yield NESTED, [("<a>", open_tags), ("</a>", end_tags)], LENT, gives
     yield NESTED, [("<a>", 64), once("<a/>"), ("</a>", 64)], LENT, refused(13, 192)
-    yield NESTED, [("<a>", 63), once("<t>x</t>"), ("</a>", 63)], LENT, rows(*levels[:63], (63, 1, 62, 0, 0, 0), (64, TEXT + 1, 63, 192, 1, 1))
+    yield NESTED, [("<a>", 63), once("<t>x</t>"), ("</a>", 63)], LENT, rows(*levels[:63], (63, 1, 62, 0, 0, 0), (64, 33, 63, 192, 1, 1))
     yield NESTED, [("<a>", 64), once("</b>"), ("<a>", 9)], LENT, refused(12, 192)
 
 

@@ -1,6 +1,6 @@
 #!/usr/bin/env python3
-"""The program `listing` in folders of its own: the listing cases of tests/vectors, the examples, a refusal of each number that it can give, and both
-sides of its limits. LISTING is the program, target/bin/listing unless set."""
+"""The program `listing` in folders of its own: the listing cases of tests/vectors, a refusal of each number that it can give, and both sides of its
+limits. LISTING is the program, target/bin/listing unless set."""
 import os
 import subprocess
 import sys
@@ -9,7 +9,6 @@ import tempfile
 from vector_cases import cases as vector_cases
 
 HERE = os.path.dirname(os.path.abspath(__file__))
-EXAMPLES = os.path.join(HERE, "..", "examples")
 FILES = ("schema.dtd", "paths.txt", "journal.xml")
 WIDE = "<!ELEMENT a (b*)><!ELEMENT b EMPTY>"
 S = "<!ELEMENT scan (plate*)><!ELEMENT plate (well|tile)*><!ELEMENT well (tile*)><!ELEMENT tile (focus?)><!ELEMENT focus (#PCDATA)>"
@@ -18,24 +17,6 @@ J = "<scan><plate><well><tile><focus>12</focus></tile></well><tile/></plate></sc
 HELD = "self::scan[%s]" % " or ".join(["self::scan/self::scan/self::scan/self::scan"] * 4)
 PATH_512 = HELD + "/" + HELD + "/descendant-or-self::scan" * 3 + "/self::scan" * 4 + "\n"
 P = "child::plate[child::well]/child::tile\ndescendant::tile/parent::well\n"
-
-
-def declared(count):
-    """Elements e0, e1, ..: each but the last may hold the next, and the last holds a text."""
-    return "".join("<!ELEMENT e%d (e%d?)>" % (k, k + 1) for k in range(count - 1)) + "<!ELEMENT e%d (#PCDATA)>" % (count - 1)
-
-
-def nested(count):
-    return "".join("<e%d>" % k for k in range(count)) + "x" + "".join("</e%d>" % k for k in reversed(range(count)))
-
-
-def tags(count):
-    return "".join("/e%d" % k for k in range(count))
-
-
-# a root that holds 63 elements with texts, and a journal with each of them once: ek is node 2k - 1, its text node 2k
-FLAT = "<!ELEMENT e0 (%s)*>" % "|".join("e%d" % k for k in range(1, 64)) + "".join("<!ELEMENT e%d (#PCDATA)>" % k for k in range(1, 64))
-FLAT_JOURNAL = "<e0>%s</e0>" % "".join("<e%d>x</e%d>" % (k, k) for k in range(1, 64))
 
 # three texts, None for a missing file, and what is printed
 CASES = [
@@ -59,16 +40,6 @@ CASES = [
     ("3, in the journal", (S, P, J + "\xff"), "refused 3 at %d\n" % len(J)),
     ("4", ("<!ELEMENT a ANY>", P, J), "refused 4 at 12\n"),
     ("5", ("<!ELEMENT a (%s)>" % ",".join(["a?"] * 65), P, J), "refused 5 at 205\n"),
-    ("33 declarations", (declared(33), "descendant::e32\n", nested(33)), "selected 1 kept 33 of 34\n32 1 %s\n" % tags(33)),
-    ("64 declarations", (declared(64), "descendant::text()\ndescendant::e31\n", nested(64)),
-     "selected 2 kept 65 of 65\n31 2 %s\n64 1 %s/text()\n" % (tags(32), tags(64))),
-    ("5, 65 declarations", (declared(65), P, J), "refused 5 at %d\n" % declared(65).rindex("<")),
-    ("5, 66 declarations", (declared(66), P, J), "refused 5 at %d\n" % declared(66).index("<!ELEMENT e64 ")),
-    ("64 declarations and a name that is none", (declared(64).replace("e63?", "e64?"), P, J), "refused 7 at %d\n" % declared(64).index("e63?")),
-    ("texts and elements 32 apart", (FLAT, "child::e1/child::text()\nchild::e40\nchild::e63/child::text()\n", FLAT_JOURNAL),
-     "selected 3 kept 6 of 127\n2 1 /e0/e1/text()\n79 2 /e0/e40\n126 3 /e0/e63/text()\n"),
-    ("all of 64 elements and 63 texts", (FLAT, "descendant-or-self::node()\n", FLAT_JOURNAL),
-     "selected 127 kept 127 of 127\n0 1 /e0\n" + "".join("%d 1 /e0/e%d\n%d 1 /e0/e%d/text()\n" % (2 * k - 1, k, 2 * k, k) for k in range(1, 64))),
     ("6", ("<!ELEMENT a EMPTY><!ELEMENT a EMPTY>", P, J), "refused 6 at 28\n"),
     ("7", ("<!ELEMENT a (b)>", P, J), "refused 7 at 13\n"),
     ("8", (S, "childs::plate\n", J), "refused 8 at 5\n"),
@@ -94,55 +65,6 @@ CASES = [
     ("15 before 18, within the bytes", (WIDE, "self::a\n", "<a>%s<b> </b></a>" % ("<b/>" * 4097)), "refused 15 at 16391\n"),
 ]
 
-# what is printed for the examples, worked out apart from the library: nodes by libxml2's XPath on the journals, rows kept by document 01's rules
-LISTED = {
-    "tray": """selected 15 kept 55 of 81
-5 3 /scan/plate
-7 8 /scan/plate/label/text()
-8 4 /scan/plate/well
-11 1 /scan/plate/well/tile
-13 5 /scan/plate/well/tile/x/text()
-15 6 /scan/plate/well/tile/y/text()
-28 1 /scan/plate/well/tile
-30 5 /scan/plate/well/tile/x/text()
-32 6 /scan/plate/well/tile/y/text()
-43 7 /scan/plate/well/tile
-62 8 /scan/plate/label/text()
-63 4 /scan/plate/well
-66 1 /scan/plate/well/tile
-68 5 /scan/plate/well/tile/x/text()
-70 6 /scan/plate/well/tile/y/text()
-""",
-    "plate_reader": """selected 18 kept 95 of 226
-48 8 /run/protocol/group/group/group/measure
-73 8 /run/protocol/group/measure
-97 6 /run/calibration/fit/slope/text()
-99 6 /run/calibration/fit/offset/text()
-112 7 /run/plate/label/text()
-117 3 /run/plate/well/read
-122 3 /run/plate/well/read
-127 1 /run/plate/well
-135 2 /run/plate/well/read/value/text()
-142 5 /run/plate/well/position/text()
-151 2 /run/plate/well/read/value/text()
-172 4 /run/plate/well/kinetics/curve/rate/text()
-173 1 /run/plate/well
-193 7 /run/plate/label/text()
-198 3 /run/plate/well/read
-205 5 /run/plate/well/position/text()
-214 2 /run/plate/well/read/value/text()
-225 4 /run/plate/well/kinetics/curve/rate/text()
-""",
-}
-
-
-def example(name):
-    texts = []
-    for file in FILES:
-        with open(os.path.join(EXAMPLES, name, file), encoding="latin-1", newline="") as f:
-            texts.append(f.read())
-    return "the example " + name, texts, LISTED[name]
-
 
 def printed(program, texts):
     with tempfile.TemporaryDirectory() as folder:
@@ -156,7 +78,7 @@ def printed(program, texts):
 
 def main():
     program = os.path.abspath(os.environ.get("LISTING", os.path.join(HERE, "..", "target", "bin", "listing")))
-    cases = CASES + [example(name) for name in sorted(LISTED)] + [(case["case"], case["texts"], case["gives"]) for case in vector_cases(161, "listing")]
+    cases = CASES + [(case["case"], case["texts"], case["gives"]) for case in vector_cases(128, "listing")]
     wrong = 0
     for name, texts, gives in cases:
         got, status = printed(program, texts)

@@ -2,7 +2,7 @@
 """Writes tests/cases/needed_cases.in and needed_cases.out. With --check it compares instead.
 
 The cases of tests/vectors that ask for needed names: the schema (128 is added to the first byte of its length), its bundle, and each path of the
-bundle as a bundle of its own. The case gives the names of the bundle and those of each path, as 128 bits in hex, or the bundle's refusal."""
+bundle as a bundle of its own. The case gives the names of the bundle and those of each path, or the bundle's refusal."""
 import os
 import sys
 
@@ -19,13 +19,13 @@ def asked(case, bundle):
         return [(bundle, lines[0])]
     paths = bundle.splitlines(keepends=True)
     assert len(lines) == 1 + len(paths), case["case"]
-    return zip([bundle] + paths, lines)
+    return zip([bundle] + paths, [str(int(word, 16)) for word in lines])
 
 
 def main():
     read, written = b"", ""
     schema = None
-    for case in cases(296, "needed"):
+    for case in cases(248, "needed"):
         texts = [text.encode("latin-1") for text in case["texts"]]
         if texts[0] != schema:
             schema = texts[0]

@@ -18,15 +18,12 @@ HERE = os.path.dirname(os.path.abspath(__file__))
 CASES = os.path.join(HERE, "cases", "schema_cases")
 NAME = r"[A-Za-z_][A-Za-z0-9._-]*"
 BLANK = r"[ \t\n]"
-# the children that are tried, declared or not
-TRIED = (0, 1, 2, 3, 4, 32, 63)
-# the code of the first element's text
-TEXTS = 64
+TRIED = 5
 
 
 def shown():
     """Accepted schemas, each once."""
-    for case in cases(867, "schema", "needed", "select", "extract"):
+    for case in cases(722, "schema", "needed", "select", "extract"):
         if not case["gives"].startswith("refused"):
             yield case["texts"][0]
     yield from made()
@@ -43,14 +40,12 @@ def group(choose, names, depth):
 
 def made():
     choose = random.Random(1)
-    # few elements with deep models, then many
-    for most, depth in [((1, 6), 4)] * 40 + [((33, 64), 1)] * 6:
-        names = ["e%d" % k for k in range(choose.randint(*most))]
+    for _ in range(40):
+        names = ["e%d" % k for k in range(choose.randint(1, 6))]
         text = ""
         for name in names:
-            model = group(choose, names, choose.randint(0, depth)) + choose.choice(["", "?", "*", "+"])
+            model = group(choose, names, choose.randint(0, 4)) + choose.choice(["", "?", "*", "+"])
             text += "<!ELEMENT %s %s>\n" % (name, choose.choice(["EMPTY", "(#PCDATA)", model, model, model, model]))
-        assert len(text) <= 8192
         yield text
 
 
@@ -63,7 +58,7 @@ def held(k, content, index):
     if content == "EMPTY":
         return set()
     if content == "(#PCDATA)":
-        return {TEXTS + k}
+        return {32 + k}
     return {index[name] for name in re.findall(NAME, content)}
 
 
@@ -73,7 +68,7 @@ def reached(start, holds):
         name = left.pop()
         if name not in below:
             below.add(name)
-            left += holds[name] if name < TEXTS else []
+            left += holds[name] if name < 32 else []
     return below
 
 
@@ -81,8 +76,8 @@ def fits(content, index):
     model = re.sub(NAME, lambda m: chr(256 + index[m[0]]), content)
     model = re.compile(model.replace(",", "").replace("(", "(?:"))
     tried = [()]
-    for a in TRIED:
-        tried += [(a,)] + [(a, b) for b in TRIED]
+    for a in range(TRIED):
+        tried += [(a,)] + [(a, b) for b in range(TRIED)]
     return "".join("1" if model.fullmatch("".join(chr(256 + c) for c in children)) else "0" for children in tried)
 
 
@@ -94,13 +89,13 @@ def tables(text):
     for k, (_, content) in enumerate(declared):
         kind = {"EMPTY": 0, "(#PCDATA)": 1}.get(content, 2)
         bits = [sum(2 ** b for b in names) for names in (holds[k], reached(holds[k], holds))]
-        lines += "%d %032x %032x %s\n" % (kind, *bits, fits(content, index) if kind == 2 else "")
+        lines += "%d %d %d %s\n" % (kind, *bits, fits(content, index) if kind == 2 else "")
     return lines
 
 
 def main():
     read, written = b"", ""
-    for case in cases(114, "schema"):
+    for case in cases(77, "schema"):
         read += len(case["texts"][0]).to_bytes(2, "big") + case["texts"][0].encode("latin-1")
         written += case["gives"]
     for case in cases(2, "schema-record"):

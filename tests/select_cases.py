@@ -17,7 +17,7 @@ CASES = os.path.join(HERE, "cases", "select_cases")
 
 
 def vectors():
-    for case in cases(285, "select"):
+    for case in cases(250, "select"):
         # the function takes records, and one of a text that is refused is none
         if case["gives"].startswith("refused"):
             continue

@@ -4,7 +4,7 @@ structs are not covered by the prover. `rt try` runs it on the interpreter and c
 
 Each group of calls has a schema, a bundle and a journal: the journal is read into row structs, these are cut into others and selected on. What is
 expected is worked out here, from documents 01 and 02: rows from the tags, cutting from the rows, what a path selects and what is refused by hand. The
-interpreter runs the first groups; those on decoded texts, on 64 elements and on a table of 65,535 rows would take more steps than it allows.
+interpreter runs the first groups; those on decoded texts and on a table of 65,535 rows would take more steps than it allows.
 
     tests/structs.py            every group
     tests/structs.py CRATES     over the crates of that folder, to see the test fail where a source is changed
@@ -21,12 +21,11 @@ import tempfile
 HERE = os.path.dirname(os.path.abspath(__file__))
 ROOT = os.path.dirname(HERE)
 PROGRAM = "struct_cases"
-NEEDS = "names row_structs schema schema_reader bundle cells selection struct_reading struct_cutting struct_selecting io"
+NEEDS = "row_structs schema schema_reader bundle cells selection struct_reading struct_cutting struct_selecting io"
 # what the interpreter says where it stops before the program ends
 OUT_OF_STEPS = "the run did not finish within 10000000 steps"
 STACK = 64 << 20
-# the code of the first element's text, which is its bit in a set, too
-TEXTS = 64
+TEXTS = 32
 # as in the program
 MAX_LENT = 65600
 SHOWN = 32
@@ -53,17 +52,16 @@ SIBLINGS = [
     ("descendant::tile[following::tile]", [3]),
     ("following-sibling::node()", []),
 ]
-ALL = 2 ** 128 - 1
+ALL = 2 ** 64 - 1
 
 
 def names_in(schema):
     return re.findall(r"<!ELEMENT (\w+)", schema)
 
 
-def set_of(schema, *names):
-    """A set of elements, and of texts where `/text()` comes after a name, as 128 bits."""
-    known = names_in(schema)
-    return sum(1 << known.index(name.split("/")[0]) + TEXTS * name.endswith("/text()") for name in names)
+def word_of(schema, *names):
+    """A set of elements as 64 bits."""
+    return sum(1 << names_in(schema).index(name) for name in names)
 
 
 def rows_of(schema, journal):
@@ -85,11 +83,11 @@ def rows_of(schema, journal):
     return rows
 
 
-def cut(rows, names):
+def cut(rows, word):
     """The rows whose names and whose ancestors' names are in the set, their parents renumbered."""
     kept, places = [], {}
     for i, (number, code, parent, start, *lengths) in enumerate(rows):
-        if names >> code & 1 and (i == 0 or parent in places):
+        if word >> code & 1 and (i == 0 or parent in places):
             places[i] = len(kept)
             kept.append((number, code, places[parent], start, *lengths))
     return kept
@@ -107,16 +105,16 @@ class Group:
         return struct.pack(">4I", *map(len, self.texts), len(self.calls)) + b"".join(self.texts + self.calls)
 
     def call(self, *numbers):
-        self.calls.append(struct.pack(">7I", *numbers, *[0] * (7 - len(numbers))))
+        self.calls.append(struct.pack(">6I", *numbers, *[0] * (6 - len(numbers))))
 
     def read(self, lent, refused=0, place=0):
         self.call(READ, lent)
         self.rows = [] if refused else rows_of(self.schema, self.journal)
         self.outcomes.append(line(refused, place, len(self.rows)) + structs(self.rows, lent))
 
-    def cut(self, handed, names, out, refused=0):
-        self.call(CUT, handed, out, *(names >> shift & 0xFFFFFFFF for shift in (32, 0, 96, 64)))
-        self.kept = [] if refused else cut(self.rows[:handed], names)
+    def cut(self, handed, word, out, refused=0):
+        self.call(CUT, handed, word >> 32, word % 2 ** 32, out)
+        self.kept = [] if refused else cut(self.rows[:handed], word)
         self.outcomes.append(line(refused, 0, len(self.kept)) + structs(self.kept, out))
 
     def take_cut(self):
@@ -169,7 +167,7 @@ def on_example():
     g.read(0, 18)
     g.read(7)
     g.read(12)
-    some = set_of(S, "scan", "plate", "tile", "focus")
+    some = word_of(S, "scan", "plate", "tile", "focus")
     g.cut(7, some, 3)
     g.cut(7, some, 2, 18)
     g.cut(8, some, 9, 1)
@@ -179,7 +177,7 @@ def on_example():
     g.select(7, 0, 11, 8, 18)
     g.select(7, 9, 12, 8, 1)
     # the names that the fourth path needs: it selects the same node on what is cut
-    g.cut(7, set_of(S, "scan", "plate", "well", "tile"), 6)
+    g.cut(7, word_of(S, "scan", "plate", "well", "tile"), 6)
     g.take_cut()
     g.select(5, 4, 2, 1)
     # a tile in a tile
@@ -195,7 +193,7 @@ def renumbered():
     """A row goes before a parent that stays."""
     g = Group(S, PATHS[:1], "<scan><plate><well/></plate><plate><tile/></plate></scan>")
     g.read(5)
-    g.cut(5, set_of(S, "scan", "plate", "tile"), 4)
+    g.cut(5, word_of(S, "scan", "plate", "tile"), 4)
     return g
 
 
@@ -229,25 +227,6 @@ def decoded():
     return g
 
 
-def sixty_four():
-    """As many elements as there may be, and texts past the thirty-second: each of the set's bits counts for its own name alone."""
-    known = ["e%d" % e for e in range(64)]
-    schema = "<!ELEMENT e0 (%s)*>" % "|".join(known[1:]) + "".join("<!ELEMENT %s (#PCDATA)>" % name for name in known[1:])
-    paths = [("child::e63", [5]), ("child::e32/child::text()", [4]), ("descendant::text()", [2, 4, 6]), ("child::e31[child::text()]", [1])]
-    g = Group(schema, paths, "<e0><e31>1</e31><e32>23</e32><e63>&amp;</e63></e0>")
-    g.read(8)
-    g.cut(7, ALL, 7)
-    g.cut(7, set_of(schema, "e0", "e63", "e63/text()"), 4)
-    g.cut(7, set_of(schema, "e0", "e31", "e32", "e32/text()"), 4)
-    g.cut(7, set_of(schema, *known), 4)
-    g.cut(7, set_of(schema, "e31/text()", "e32/text()", "e63/text()", "e63"), 1)
-    g.cut(7, set_of(schema, "e0", "e31/text()", "e63"), 2)
-    g.cut(7, ALL - set_of(schema, "e32"), 5)
-    g.cut(7, ALL - set_of(schema, "e63/text()"), 6)
-    g.select(7, 0, 6, 4)
-    return g
-
-
 def undeclared():
     g = Group(S, PATHS[:1], J.replace("<tile/>", "<cell/>"))
     g.read(9, 14, J.index("<tile/>"))
@@ -265,8 +244,8 @@ def large():
     g.read(rows)
     g.read(rows + 1)
     g.read(MAX_LENT)
-    g.cut(rows, set_of(g.schema, "a", "b"), count, 18)
-    g.cut(rows, set_of(g.schema, "a", "b"), count + 1)
+    g.cut(rows, word_of(g.schema, "a", "b"), count, 18)
+    g.cut(rows, word_of(g.schema, "a", "b"), count + 1)
     g.cut(rows, ALL, rows)
     g.cut(rows, ALL, rows + 1)
     g.cut(rows + 1, ALL, rows + 1, 1)
@@ -313,7 +292,7 @@ def tried(folder, groups):
 
 def main():
     crates = os.path.abspath(sys.argv[1]) if len(sys.argv) > 1 else os.path.join(ROOT, "crates")
-    small, many = [on_example(), renumbered(), siblings(), undeclared()], [decoded(), sixty_four(), large()]
+    small, many = [on_example(), renumbered(), siblings(), undeclared()], [decoded(), large()]
     with tempfile.TemporaryDirectory() as folder:
         os.makedirs(os.path.join(folder, "crates", PROGRAM, "src"))
         laid_out(folder, crates)
@@ -326,7 +305,7 @@ def main():
         _, lines = tried(folder, many)
         if lines.count("\nok: the native program") != 3 or OUT_OF_STEPS not in lines:
             sys.exit("structs: " + lines)
-    print("structs: %d calls on the interpreter and compiled three ways, %d on decoded texts, 64 elements and a table of 65,535 rows compiled three ways"
+    print("structs: %d calls on the interpreter and compiled three ways, %d on decoded texts and a table of 65,535 rows compiled three ways"
           % (sum(len(g.outcomes) for g in small), sum(len(g.outcomes) for g in many)))
 
 

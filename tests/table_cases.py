@@ -14,12 +14,11 @@ from vector_cases import cases
 
 HERE = os.path.dirname(os.path.abspath(__file__))
 CASES = os.path.join(HERE, "cases", "table_cases")
-# the code of the first element's text
-TEXTS = 64
+TEXTS = 32
 
 
 def vectors():
-    for case in cases(164, "table"):
+    for case in cases(140, "table"):
         schema, table, text = case["texts"]
         rows = [tuple(int(n) for n in row.split()) for row in table.split("\n") if row]
         yield schema, rows, len(rows), text, case["gives"].startswith("ok")

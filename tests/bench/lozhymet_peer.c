@@ -29,7 +29,7 @@ static int read_journal(void) {
 
 static int elements(void) {
     int count = 0;
-    for (size_t i = 0; i < rows; i++) count += names[i] < 64;
+    for (size_t i = 0; i < rows; i++) count += names[i] < 32;
     return count;
 }
 

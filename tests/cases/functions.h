@@ -21,15 +21,11 @@ struct outcome {
 
 struct outcome test_read_schema(SLICE(text), uint8_t *out, size_t out_len);
 bool test_is_schema_record(RECORD(schema));
-/* of an element the kind as the place and the names that it holds, and the names below it: of a set the bits of elements are the size, those of text
-   names the second number */
 struct outcome test_element(SLICE(schema), size_t element);
-struct outcome test_below(SLICE(schema), size_t element);
 bool test_fits(SLICE(schema), size_t element, SLICE(children));
 
 struct outcome test_read_bundle(RECORD(schema), SLICE(text), uint8_t *out, size_t out_len);
 bool test_is_bundle_record(RECORD(schema), RECORD(bundle));
-/* a set, as above */
 struct outcome test_needed_names(RECORD(schema), RECORD(bundle));
 size_t test_compiled_paths(SLICE(schema), SLICE(text), uint8_t *paths, size_t paths_len, uint16_t *conditions, size_t conditions_len,
     uint8_t *axes, size_t axes_len, uint8_t *tests, size_t tests_len);

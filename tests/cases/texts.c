@@ -4,9 +4,8 @@
 
 #include <stdio.h>
 
-/* the children that are tried, declared or not */
-static const uint8_t tried[] = { 0, 1, 2, 3, 4, 32, 63 };
-enum { TRIED = sizeof tried };
+/* The children that are tried are the first elements, declared or not. */
+enum { TRIED = 5 };
 
 /* compiled_schema::entry_parts::CHILDREN */
 enum { CHILDREN = 2 };
@@ -29,30 +28,17 @@ static void show_fit(struct text schema, size_t element, const uint8_t *children
 static void show_fits(struct text schema, size_t element) {
     uint8_t children[2] = { 0, 0 };
     show_fit(schema, element, children, 0);
-    for (int a = 0; a < TRIED; a++) {
-        children[0] = tried[a];
+    for (children[0] = 0; children[0] < TRIED; children[0]++) {
         show_fit(schema, element, children, 1);
-        for (int b = 0; b < TRIED; b++) {
-            children[1] = tried[b];
-            show_fit(schema, element, children, 2);
-        }
+        for (children[1] = 0; children[1] < TRIED; children[1]++) show_fit(schema, element, children, 2);
     }
-}
-
-/* a set as 128 bits in hex: text names, then elements */
-static void show_set(struct outcome set) {
-    printf("%016llx%016llx", (unsigned long long)set.other, (unsigned long long)set.size);
 }
 
 /* of each element its kind, the names that it holds and those below it, and for a children model what fits it */
 static void show_elements(struct text schema) {
     struct outcome e;
     for (size_t i = 0; (e = test_element(GIVEN(schema), i)).number == 0; i++) {
-        printf("%llu ", (unsigned long long)e.place);
-        show_set(e);
-        printf(" ");
-        show_set(test_below(GIVEN(schema), i));
-        printf(" ");
+        printf("%llu %llu %llu ", (unsigned long long)e.place, (unsigned long long)e.size, (unsigned long long)e.other);
         if (e.place == CHILDREN) show_fits(schema, i);
         printf("\n");
     }
@@ -141,13 +127,13 @@ static void show_bundle(const struct schema *schema, struct text text) {
     show_paths((struct text){ schema->cells, schema->len }, text);
 }
 
-/* the names that a bundle needs */
+/* the names that a bundle needs, as 64 bits in decimal */
 static void show_needed(const struct schema *schema, struct text text) {
     static struct bundle bundle;
     struct outcome outcome = read_bundle(&bundle, schema, text);
     if (!outcome.number) outcome = test_needed_names(HANDED(*schema), HANDED(bundle));
     if (outcome.number) show_refusal(outcome);
-    else show_set(outcome);
+    else printf("%llu", (unsigned long long)outcome.other);
     printf("\n");
 }
 

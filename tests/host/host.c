@@ -187,32 +187,6 @@ static void entities(void) {
     free(most), free(over);
 }
 
-/* so many elements: the first holds the others, which hold a text each */
-static char *flat(size_t count) {
-    struct growing g = { NULL, 0 };
-    char part[64];
-    add(&g, "<!ELEMENT e0 (e1", 1);
-    for (size_t i = 2; i < count; i++) snprintf(part, sizeof part, "|e%u", (unsigned)i), add(&g, part, 1);
-    add(&g, ")*>", 1);
-    for (size_t i = 1; i < count; i++) snprintf(part, sizeof part, "<!ELEMENT e%u (#PCDATA)>", (unsigned)i), add(&g, part, 1);
-    return g.bytes;
-}
-
-/* document 02, R-3: elements and texts past the thirty-second, and an element past the last one */
-static void sixty_four_elements(void) {
-    static const uint8_t last[] = "\x01\x00\x05\x00\x00\x00\x00\x00\x01\x00\x05\x00\x03\x00\x00\x3F\x02\x00\x06\x00\x04\x00\x03" "ab\x03\x00\x02\x00\x03";
-    static const uint8_t past[] = "\x01\x00\x05\x00\x00\x00\x00\x00\x01\x00\x05\x00\x03\x00\x00\x40\x03\x00\x02\x00\x02";
-    static const char texts[] = "child::e63/child::text()\n", journal[] = "<e0><e32>a</e32><e63>&amp;</e63><e31>b</e31></e0>";
-    char *schema = flat(64);
-    making("the last element and its text", schema, texts, journal, 8, 32);
-    made_then_selected("names past the thirty-second", schema, "child::e63\nchild::e32/child::text()\nself::e0[child::e31]\n", journal);
-    selecting("an extract of the last element", schema, texts, 0, (struct text){ last, sizeof last - 1 }, 3, 2, 1);
-    selecting("17, an element past the last", schema, texts, 0, (struct text){ past, sizeof past - 1 }, 3, 2, 1);
-    made_then_selected("10, an element past the last", schema, "child::e64\n", journal);
-    made_then_selected("14, an element past the last", schema, "child::e63\n", "<e0><e63/><e64/></e0>");
-    free(schema);
-}
-
 /* document 01, "Accepted and turned back" */
 static void declarations(size_t count) {
     struct growing g = { NULL, 0 };
@@ -264,7 +238,7 @@ static void name_of(size_t count) {
 }
 
 static void both_sides_of_limits(void) {
-    declarations(64), declarations(65);
+    declarations(32), declarations(33);
     parentheses(8), parentheses(9);
     depth(64), depth(65);
     steps(16), steps(17);
@@ -379,7 +353,6 @@ int main(int argc, char **argv) {
     worked_cases();
     sibling_axes();
     entities();
-    sixty_four_elements();
     both_sides_of_limits();
     each_refusal_of_making();
     selections();

@@ -81,20 +81,6 @@ ENTITY_EDITS = [
      "    Ok(Answer { rows, items: bytes.into_iter().map(u32::from).collect(), counts: Vec::new() })", True),
 ]
 
-# those of document 02's R-3, likewise
-CUT = "&cut(&rows, &bundle_needs(&s, &paths))"
-ELEMENT_EDITS = [
-    ("a text's name at 32 + e", "schema.rs", "Name::Text(e) => 64 + e as u32,", "Name::Text(e) => 32 + e as u32,", True),
-    ("5 at the 33rd declaration", "schema.rs", "MAX_DECLARATIONS: usize = 64;", "MAX_DECLARATIONS: usize = 32;", True),
-    ("5 at the 66th declaration", "schema.rs", "MAX_DECLARATIONS: usize = 64;", "MAX_DECLARATIONS: usize = 65;", True),
-    ("5 at the name of the 65th declaration", "schema.rs", "all.get(MAX_DECLARATIONS).map(|d| d.place)", "all.get(MAX_DECLARATIONS).map(|d| d.name.1.max(d.place))", True),
-    ("text names dropped on cutting", "host.rs", CUT, "&cut(&rows, &bundle_needs(&s, &paths).into_iter().filter(|n| n.code() < 64).collect())", True),
-    ("names past the thirty-second dropped on cutting", "host.rs", CUT,
-     "&cut(&rows, &bundle_needs(&s, &paths).into_iter().filter(|n| n.code() % 64 < 32).collect())", True),
-    ("an element's index by its lower bits", "extract.rs", "Name::of_code(value[4] as u32)", "Name::of_code(value[4] as u32 % 64)", False),
-    ("an element's index of five bits", "extract.rs", "value.push(e as u8);", "value.push(e as u8 % 32);", True),
-]
-
 # for tests/compare_inner: name, file, what stands there, what is put in its place
 INNER_EDITS = [
     ("a needed name that the root does not reach", "needed.rs", "reached(s, &needs(s, &rewritten(path), &root, &root))",
@@ -123,15 +109,6 @@ INNER_EDITS = [
     ("columns of unequal length accepted", "records.rs", "lent.iter().any(|&n| n != lent[0])", "lent[..5].iter().any(|&n| n != lent[0])"),
     ("a row written on refusal", "records.rs", "lent.iter().map(|&n| vec![0; n]).collect()", "lent.iter().map(|&n| vec![(r.number == 18) as u32; n]).collect()"),
     ("a bundle's record under another schema", "records.rs", "read_bundle(s, text).map_err(|_| NO_RECORD)", "read_bundle(s, text)"),
-    ("a text's bit at 32 + e", "schema.rs", "Name::Text(e) => 64 + e as u32,", "Name::Text(e) => 32 + e as u32,"),
-    ("32 + e read as a text's name", "schema.rs", "            0..=63 => Some(Name::Element(code as usize)),",
-     "            0..=31 => Some(Name::Element(code as usize)),\n            32..=63 => Some(Name::Text(code as usize - 32)),"),
-    ("a schema refused at its 33rd declaration", "schema.rs", "MAX_DECLARATIONS: usize = 64;", "MAX_DECLARATIONS: usize = 32;"),
-    ("a bit without a name answered", "needed.rs", "names.iter().map(|n| 1u128 << n.code()).sum()",
-     "names.iter().map(|n| 1u128 << n.code()).sum::<u128>() | (names.contains(&Name::Element(0)) as u128) << 64"),
-    ("the words of a set exchanged", "records.rs", "[0, place, set as u64, (set >> 64) as u64]", "[0, place, (set >> 64) as u64, set as u64]"),
-    ("the high word dropped on cutting", "records.rs", "(0..CODES).filter(", "(0..CODES / 2).filter("),
-    ("names past the thirty-second dropped from a set that is handed in", "records.rs", "handed >> code & 1 == 1", "handed >> code & 1 == 1 && code % 64 < 32"),
 ]
 
 
@@ -199,7 +176,7 @@ def main():
         return [edit for edit in edits if not sys.argv[1:] or any(word in edit[0] for word in sys.argv[1:])]
     with tempfile.TemporaryDirectory() as folder:
         faults = without_edit(folder)
-        tried = [attempt(folder, edit) for edit in chosen(EDITS)] + [attempt(folder, edit, True) for edit in chosen(SIBLING_EDITS + ENTITY_EDITS + ELEMENT_EDITS)]
+        tried = [attempt(folder, edit) for edit in chosen(EDITS)] + [attempt(folder, edit, True) for edit in chosen(SIBLING_EDITS + ENTITY_EDITS)]
         tried += [attempt_inner(folder, edit) for edit in chosen(INNER_EDITS)]
     faults += [fault for fault in tried if fault]
     if faults:

@@ -25,7 +25,7 @@ def encoded(case):
 
 
 def main():
-    cases = vector_cases(2102)
+    cases = vector_cases(1764)
     with tempfile.TemporaryDirectory() as folder:
         program = build(folder)
         answer = subprocess.run([program], input=b"".join(map(encoded, cases)), stdout=subprocess.PIPE, check=True).stdout

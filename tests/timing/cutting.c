@@ -12,17 +12,13 @@ struct outcome {
     uint64_t number, place, size, other;
 };
 struct outcome test_cut_table(const uint8_t *, size_t, size_t, const uint16_t *, size_t, const uint8_t *, size_t, const uint16_t *, size_t,
-                              const uint32_t *, size_t, const uint16_t *, size_t, const uint16_t *, size_t, size_t, uint64_t, uint64_t, uint16_t *, size_t,
+                              const uint32_t *, size_t, const uint16_t *, size_t, const uint16_t *, size_t, size_t, uint64_t, uint16_t *, size_t,
                               uint8_t *, size_t, uint16_t *, size_t, uint32_t *, size_t, uint16_t *, size_t, uint16_t *, size_t);
 struct outcome test_row_chain(const uint8_t *, size_t, size_t, const uint16_t *, size_t, const uint8_t *, size_t, const uint16_t *, size_t,
                               const uint32_t *, size_t, const uint16_t *, size_t, const uint16_t *, size_t, size_t, size_t, uint8_t *, size_t);
 
 static const char schema[] = "<!ELEMENT a (a|b)*><!ELEMENT b (#PCDATA)>";
 static const char *const names[] = {"a", "b"};
-
-/* the sets that are cut to: elements alone, and all names; the bits of elements, and those of text names */
-enum { ELEMENTS_ALONE, ALL_NAMES };
-static const uint64_t sets[][2] = {{3, 0}, {~0ull, ~0ull}};
 
 struct columns {
     uint16_t numbers[ROWS], parents[ROWS], lengths[ROWS], decoded[ROWS];
@@ -51,13 +47,13 @@ static void make(void) {
     }
 }
 
-static size_t plain_cut(uint64_t set) {
+static size_t plain_cut(uint64_t word) {
     read_schema((const unsigned char *)schema, sizeof schema - 1);
     if (!well_formed(ROWS)) return 0;
     size_t n = 0;
     for (int row = 0; row < ROWS; row++) {
         int parent = parents[row];
-        if (!(sets[set][codes[row] >= TEXTS] >> codes[row] % TEXTS & 1) || (row && !positions[parent])) {
+        if (!(word >> codes[row] & 1) || (row && !positions[parent])) {
             positions[row] = 0;
             continue;
         }
@@ -72,10 +68,10 @@ static size_t plain_cut(uint64_t set) {
     return n;
 }
 
-static size_t proved_cut(uint64_t set) {
+static size_t proved_cut(uint64_t word) {
     return test_cut_table((const uint8_t *)schema, sizeof schema - 1, sizeof schema - 1, numbers, ROWS, codes, ROWS, parents, ROWS, starts, ROWS,
-                          lengths, ROWS, decoded, ROWS, ROWS, sets[set][0], sets[set][1], proved.numbers, ROWS, proved.codes, ROWS, proved.parents, ROWS,
-                          proved.starts, ROWS, proved.lengths, ROWS, proved.decoded, ROWS)
+                          lengths, ROWS, decoded, ROWS, ROWS, word, proved.numbers, ROWS, proved.codes, ROWS, proved.parents, ROWS, proved.starts, ROWS,
+                          proved.lengths, ROWS, proved.decoded, ROWS)
         .size;
 }
 
@@ -124,9 +120,9 @@ static int compare(const char *name, size_t (*one)(uint64_t), size_t (*other)(ui
 
 int main(void) {
     make();
-    int wrong = compare("cut to elements", plain_cut, proved_cut, ELEMENTS_ALONE);
+    int wrong = compare("cut to elements", plain_cut, proved_cut, 3);
     wrong |= memcmp(&plain, &proved, sizeof plain) != 0;
-    wrong |= compare("cut to all names", plain_cut, proved_cut, ALL_NAMES);
+    wrong |= compare("cut to all names", plain_cut, proved_cut, ~0ull);
     wrong |= memcmp(&plain, &proved, sizeof plain) != 0;
     wrong |= compare("chain of the last row", plain_row, proved_row, ROWS - 1);
     wrong |= memcmp(plain_chain, proved_chain, CHAIN) != 0;

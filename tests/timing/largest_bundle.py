@@ -1,12 +1,11 @@
 #!/usr/bin/env python3
-"""largest_bundle.py SIZE COUNT [ELEMENTS]: writes a schema of so many elements, 32 unless told otherwise, and so many copies of a bundle text under it,
-each text after its length in two bytes: the largest, 4,104 bytes in eight paths of 512, or with 'small' one path of a single step. The last name of
-either is not declared, so that a program only reads it."""
+"""Writes a schema of 32 elements and so many copies of a bundle text under it, each text after its length in two bytes: the largest, 4,104 bytes
+in eight paths of 512, or with 'small' one path of a single step. The last name of either is not declared, so that a program only reads it."""
 import itertools
 import sys
 
 AXES = ["self", "child", "descendant", "descendant-or-self", "parent", "ancestor", "ancestor-or-self"]
-names = ["e%02d" % k for k in range(int(sys.argv[3]) if len(sys.argv) > 3 else 32)]
+names = ["e%02d" % k for k in range(32)]
 schema = "<!ELEMENT e00 (%s)*>" % "|".join(names[1:]) + "".join("<!ELEMENT %s EMPTY>" % name for name in names[1:])
 turn = itertools.cycle(names)
 

@@ -3,13 +3,13 @@
 #include "plain_schema.h"
 
 int main(void) {
-    static unsigned char input[1 << 20];
+    static unsigned char input[1 << 16];
     static struct schema first, second;
     int n = fread(input, 1, sizeof input, stdin);
     fill_classes();
     for (int i = 0; n - i >= 2;) {
         int length = input[i] * 256 + input[i + 1], where, again;
-        if (length >= 1 << 15 || n - i - 2 < length) break;
+        if (n - i - 2 < length) break;
         int number = read_schema(input + i + 2, length, &where, &first);
         if (number) printf("refused %d at %d\n", number, where);
         else {

@@ -4,7 +4,7 @@
 #include <string.h>
 
 typedef unsigned char byte;
-enum { AXES = 11, PATHS = 8, STEPS = 16, ALTERNATIVES = 4, INNER = 4, PATH_BYTES = 512, BYTES = 4104, NAME = 31, ELEMENTS = 64, TEXTS = 64 };
+enum { AXES = 11, PATHS = 8, STEPS = 16, ALTERNATIVES = 4, INNER = 4, PATH_BYTES = 512, BYTES = 4104, NAME = 31, ELEMENTS = 32 };
 static const char *const axes[] = {"self::", "child::", "descendant::", "descendant-or-self::", "parent::", "ancestor::", "ancestor-or-self::",
     "following::", "following-sibling::", "preceding::", "preceding-sibling::"};
 
@@ -39,8 +39,8 @@ static int plain(struct step *p) {
     p->axis = a;
     if (at < n && s[at] == '(') {
         if (at - from != 4 || (memcmp(s + from, "node", 4) && memcmp(s + from, "text", 4))) return 0;
-        p->low = s[from] == 'n' ? 0 : TEXTS;
-        p->high = TEXTS + ELEMENTS - 1;
+        p->low = s[from] == 'n' ? 0 : 32;
+        p->high = 63;
         at++;
         if (at >= n || s[at] != ')') return 0;
         at++;
@@ -126,7 +126,7 @@ static void read_schema(void) {
 }
 
 int main(void) {
-    static byte input[1 << 20];
+    static byte input[1 << 18];
     int size = fread(input, 1, sizeof input, stdin);
     for (int k = 0; k + 2 <= size; k += 2 + n) {
         n = input[k] % 128 * 256 + input[k + 1];

@@ -3,7 +3,7 @@
 #include <stdint.h>
 #include "plain_schema.h"
 
-enum { MAX_NODES = 65535, MAX_DEPTH = 64, MAX_RUN = 4096, MAX_POSITIONS = 64, TEXT_NAMES = 64 };
+enum { MAX_NODES = 65535, MAX_DEPTH = 64, MAX_RUN = 4096, MAX_POSITIONS = 64 };
 
 enum kind { EMPTY, PCDATA, CHILDREN };
 
@@ -185,7 +185,7 @@ static void run(struct reading *r, int start, int end, int solid, int saved) {
     const struct model *m = &r->schema->elements[l->element].model;
     if (m->kind == PCDATA) {
         if (end - start > MAX_RUN || r->nodes >= MAX_NODES) found(r, 16, start);
-        row(r, TEXT_NAMES + l->element, l->row, start, end - start, end - start - saved);
+        row(r, 32 + l->element, l->row, start, end - start, end - start - saved);
     } else if (m->kind == EMPTY || solid < end) misfit(r, l);
 }
 

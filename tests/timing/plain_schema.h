@@ -2,7 +2,7 @@
 #include <stdio.h>
 #include <string.h>
 
-enum { MAX_TEXT = 8192, MAX_NAMES = 64, MAX_USES = 4096, MAX_MODEL = 64, MAX_GROUPS = 8, MAX_NAME = 31 };
+enum { MAX_TEXT = 8192, MAX_NAMES = 32, MAX_USES = 2048, MAX_MODEL = 64, MAX_GROUPS = 8, MAX_NAME = 31 };
 
 struct name { int at, size; };
 

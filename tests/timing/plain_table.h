@@ -2,12 +2,12 @@
    tables.py makes are understood. Nothing here is proved. */
 #include <string.h>
 
-enum { MAX_ROWS = 65535, TEXTS = 64, MAX_DEPTH = 64, MAX_TEXT = 4096, MAX_NAMES = 64 };
+enum { MAX_ROWS = 65535, TEXTS = 32, MAX_DEPTH = 64, MAX_TEXT = 4096, MAX_NAMES = 32 };
 
 static unsigned char codes[MAX_ROWS];
 static unsigned short numbers[MAX_ROWS], parents[MAX_ROWS], lengths[MAX_ROWS], decoded[MAX_ROWS];
 static unsigned starts[MAX_ROWS];
-static unsigned long long held[MAX_NAMES][2]; /* the elements and the text names that an element holds */
+static unsigned long long held[MAX_NAMES];
 
 /* Declarations of one-letter names a, b, .. in order: `(#PCDATA)`, or a model in which each letter is a use. */
 static void read_schema(const unsigned char *s, int size) {
@@ -15,10 +15,10 @@ static void read_schema(const unsigned char *s, int size) {
     int e = 0;
     for (int i = 0; i < size; i++) {
         if (s[i] != '(') continue;
-        if (i + 1 < size && s[i + 1] == '#') held[e][1] |= 1ull << e;
+        if (i + 1 < size && s[i + 1] == '#') held[e] |= 1ull << (TEXTS + e);
         else
             for (int j = i; j < size && s[j] != '>'; j++)
-                if (s[j] >= 'a' && s[j] <= 'z') held[e][0] |= 1ull << (s[j] - 'a');
+                if (s[j] >= 'a' && s[j] <= 'z') held[e] |= 1ull << (s[j] - 'a');
         e++;
         while (i < size && s[i] != '>') i++;
     }
@@ -36,7 +36,7 @@ static int well_formed(int count) {
             depth--;
         }
         if (numbers[row] <= numbers[row - 1] || numbers[row] == 65535) return 0;
-        if (code >= TEXTS + MAX_NAMES || !(held[codes[element]][code >= TEXTS] >> code % TEXTS & 1)) return 0;
+        if (code >= 64 || !(held[codes[element]] >> code & 1)) return 0;
         if (code < TEXTS) {
             if (depth == MAX_DEPTH || starts[row] || lengths[row] || decoded[row]) return 0;
             element = row;

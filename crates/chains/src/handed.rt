@@ -66,7 +66,7 @@ pub fn chain_lent(
     let names = compiled.names;
     let entries: Entries = compiled.entries;
     let sets = entries.holds;
-    let words = held_words(sets, compiled.count);
+    let words = held_words(sets);
     let held = is_table(
         numbers, codes, parents, starts, lengths, decoded, count, &words,
     );

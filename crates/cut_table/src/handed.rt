@@ -1,7 +1,6 @@
 // Cutting a table that is handed in, under the schema of some sets.
 ghost use Rattle.cut_table.specs.laws.Answers.{HeldCutIn};
 ghost use Rattle.cut_table.specs.schema_sets.Sets.{SetsOf, OfSchema};
-ghost use Rattle.names.specs.Sets.{bits_of};
 ghost use Rattle.schema_spec.specs.Schemas.{Schema as Elements};
 ghost use Rattle.tables.specs.Handed.{entry_table};
 
@@ -23,7 +22,7 @@ pub fn cut_lent(
     lengths: &[u16],
     decoded: &[u16],
     count: usize,
-    set: NameSet,
+    word: u64,
     out_numbers: &mut [u16],
     out_names: &mut [u8],
     out_parents: &mut [u16],
@@ -32,7 +31,7 @@ pub fn cut_lent(
     out_decoded: &mut [u16],
 ) -> Verdict
     requires { OfSchema sets }
-    ensures { (s : Elements) → SetsOf s sets → HeldCutIn s (entry_table numbers codes parents starts lengths decoded count) (bits_of set) result out_numbers out_names out_parents out_starts out_lengths out_decoded }
+    ensures { (s : Elements) → SetsOf s sets → HeldCutIn s (entry_table numbers codes parents starts lengths decoded count) word result out_numbers out_names out_parents out_starts out_lengths out_decoded }
 {
     let words = sets.words;
     let all: NameSet = sets.all;
@@ -57,9 +56,9 @@ pub fn cut_lent(
             out_decoded,
         );
     }
-    let known = handed_in(set, all);
+    let set = handed_in(word, all);
     cut_first(
-        known,
+        set,
         numbers,
         codes,
         parents,

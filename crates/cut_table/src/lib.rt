@@ -1,4 +1,4 @@
-// `cut_table`: a table that is handed in cut to a set of names under a schema's record.
+// `cut_table`: a table that is handed in cut to 64 bits under a schema's record.
 pub mod answers;
 pub mod handed;
 pub mod lent;

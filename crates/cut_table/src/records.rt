@@ -1,18 +1,16 @@
-// Cutting a table that is handed in to a set of names, into other lent columns.
+// Cutting a table that is handed in to the names of 64 bits, into other lent columns.
 ghost use Rattle.compiled_schema.specs.records.Records.{record_with};
 ghost use Rattle.cut_table.specs.laws.Answers.{TableCutIn};
-ghost use Rattle.names.specs.Sets.{bits_of};
 ghost use Rattle.tables.specs.Handed.{entry_table};
 
 use crate::answers::refuse;
 use crate::handed::cut_lent;
 use crate::schema_sets::schema_sets;
 use cells::verdicts::Verdict;
-use names::NameSet;
 use schema::Schema;
 use schema_reader::is_schema_record;
 
-// Cuts a table to the names of a set: the rows kept, and then zeros; zeros alone on refusal by 1 or 18.
+// Cuts a table to the names whose bits are in `word`: the rows kept, and then zeros; zeros alone on refusal by 1 or 18.
 pub fn cut_table(
     schema: Schema,
     numbers: &[u16],
@@ -22,7 +20,7 @@ pub fn cut_table(
     lengths: &[u16],
     decoded: &[u16],
     count: usize,
-    set: NameSet,
+    word: u64,
     out_numbers: &mut [u16],
     out_names: &mut [u8],
     out_parents: &mut [u16],
@@ -30,7 +28,7 @@ pub fn cut_table(
     out_lengths: &mut [u16],
     out_decoded: &mut [u16],
 ) -> Verdict
-    ensures { TableCutIn (record_with schema.bytes schema.len) (entry_table numbers codes parents starts lengths decoded count) (bits_of set) result out_numbers out_names out_parents out_starts out_lengths out_decoded }
+    ensures { TableCutIn (record_with schema.bytes schema.len) (entry_table numbers codes parents starts lengths decoded count) word result out_numbers out_names out_parents out_starts out_lengths out_decoded }
 {
     if !is_schema_record(schema) {
         return refuse(
@@ -52,7 +50,7 @@ pub fn cut_table(
         lengths,
         decoded,
         count,
-        set,
+        word,
         out_numbers,
         out_names,
         out_parents,

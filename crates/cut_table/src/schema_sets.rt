@@ -6,15 +6,15 @@ ghost use Rattle.text_spec.specs.Limits.{max_schema_bytes};
 
 use compiled_schema::compile;
 use compiled_schema::entry_columns::Entries;
-use compiled_schema::held_words::{WORDS, held_words};
-use names::NameSet;
+use compiled_schema::held_words::held_words;
 use names::known::names_of;
+use names::{MAX_ELEMENTS, NameSet};
 use schema::Schema;
 
-// For each element the names that it holds, as the bits of two words, and all names.
+// For each element the names that it holds, as the bits of a word, and all names.
 #[derive(Drop)]
 pub struct SchemaSets {
-    pub words: [u64; WORDS],
+    pub words: [u64; MAX_ELEMENTS],
     pub all: NameSet,
 }
 
@@ -29,7 +29,7 @@ pub fn schema_sets(schema: Schema) -> SchemaSets
     let count = compiled.count;
     let entries: Entries = compiled.entries;
     let sets = entries.holds;
-    let words = held_words(sets, count);
+    let words = held_words(sets);
     let all = names_of(sets, count);
     SchemaSets { words, all }
 }

@@ -27,7 +27,7 @@ use Rattle.table_spec.specs.Columns.{Columns, Sizes, sizes_of, columns_of}
 use Rattle.table_spec.specs.Rows.{Row, element_row}
 use Rattle.text_laws.specs.Tests.{never}
 use Rattle.text_spec.specs.Cells.{padded}
-use Rattle.text_spec.specs.Limits.{max_declarations, max_depth}
+use Rattle.text_spec.specs.Limits.{max_depth}
 
 -- ---- after the first field
 abbrev pub none_carried : Carried
@@ -86,7 +86,7 @@ root-level : (levels : List ℕ) → get_or levels 0 0 ≡ 0 → levels_in level
 unfolding levels_in row_in number_in element_in
 root-level levels e = ap (λ (v : ℕ). placed (row_in v) (number_in v) (element_in v) ∷ []) e
 
-root-known : (levels : List ℕ) → get_or levels 0 0 ≡ 0 → (i : ℕ) → i < 1 → element_in (get_or levels i 0) < max_declarations
+root-known : (levels : List ℕ) → get_or levels 0 0 ≡ 0 → (i : ℕ) → i < 1 → element_in (get_or levels i 0) < 32
 unfolding element_in
 root-known levels e zero l = let z : element_in (get_or levels 0 0) ≡ 0 = ap element_in e in omega (arith, z)
 root-known levels e (suc i) l = absurd (omega arith)

@@ -6,7 +6,6 @@ ghost use Rattle.extract_reader.specs.levels.Levels.{level_word};
 use crate::field_values::{Carried, FieldRead};
 use crate::fields::read_field;
 use crate::levels::{element_of, open, row_of};
-use compiled_schema::held_words::WORDS;
 use names::MAX_ELEMENTS;
 use text::limits::MAX_DEPTH;
 
@@ -93,7 +92,7 @@ fn text_row(
 // The next field.
 pub fn step(
     extract: &[u8],
-    words: &[u64; WORDS],
+    words: &[u64; MAX_ELEMENTS],
     levels: &mut [u64; MAX_DEPTH],
     carried: Carried,
 ) -> FieldStep

@@ -6,8 +6,8 @@ ghost use Rattle.schema_spec.specs.Names.{element};
 ghost use Rattle.text_spec.specs.Limits.{max_declarations, max_nodes};
 
 use crate::levels::element_of;
-use compiled_schema::held_words::{WORDS, holds_code};
 use names::MAX_ELEMENTS;
+use names::bits::has_bit;
 use text::limits::{MAX_DEPTH, MAX_NODES};
 
 // The number in the two bytes at a place, the high one first.
@@ -29,19 +29,19 @@ pub fn number_fits(before: usize, number: usize) -> bool
 }
 
 // Whether an element holds another one. `words` has for each element the names that it holds, as bits.
-fn holds_element(words: &[u64; WORDS], parent: usize, child: usize) -> bool
+fn holds_element(words: &[u64; MAX_ELEMENTS], parent: usize, child: usize) -> bool
     requires { parent < max_declarations }
     ensures { result ≡ held_by words.now (element parent) (element child) }
 {
     if MAX_ELEMENTS <= child {
         return false;
     }
-    holds_code(words, parent, child)
+    has_bit(words[parent], child)
 }
 
 // Whether an element may stand under the last of the first `depth` open elements.
 pub fn element_fits(
-    words: &[u64; WORDS],
+    words: &[u64; MAX_ELEMENTS],
     levels: &[u64; MAX_DEPTH],
     depth: usize,
     child: u8,
@@ -59,7 +59,12 @@ pub fn element_fits(
 }
 
 // Whether a text may stand there, after a row that is a text or not.
-pub fn text_fits(words: &[u64; WORDS], levels: &[u64; MAX_DEPTH], depth: usize, after: bool) -> bool
+pub fn text_fits(
+    words: &[u64; MAX_ELEMENTS],
+    levels: &[u64; MAX_DEPTH],
+    depth: usize,
+    after: bool,
+) -> bool
     requires { LevelPass levels.now depth }
     ensures { result ≡ text_under words.now levels.now depth after }
 {
@@ -70,5 +75,5 @@ pub fn text_fits(words: &[u64; WORDS], levels: &[u64; MAX_DEPTH], depth: usize, 
         return false;
     }
     let parent = element_of(levels[depth - 1]);
-    holds_code(words, parent, MAX_ELEMENTS + parent)
+    has_bit(words[parent], parent + MAX_ELEMENTS)
 }

@@ -3,7 +3,7 @@ ghost use Rattle.extract_reader.specs.field_values.Fields.{ValuePass, ElementAs,
 
 use crate::field_tests::{element_fits, number_fits, text_fits, two_bytes};
 use crate::levels::level_of;
-use compiled_schema::held_words::WORDS;
+use names::MAX_ELEMENTS;
 use text::foreign_bytes::any_foreign;
 use text::limits::{MAX_DEPTH, MAX_TEXT_BYTES};
 
@@ -38,7 +38,7 @@ pub enum FieldRead {
 // A field of an element, by its value of `size` bytes.
 pub fn element_field(
     extract: &[u8],
-    words: &[u64; WORDS],
+    words: &[u64; MAX_ELEMENTS],
     levels: &[u64; MAX_DEPTH],
     carried: Carried,
     size: usize,
@@ -69,7 +69,7 @@ pub fn element_field(
 // A field of a text, by its value of `size` bytes.
 pub fn text_field(
     extract: &[u8],
-    words: &[u64; WORDS],
+    words: &[u64; MAX_ELEMENTS],
     levels: &[u64; MAX_DEPTH],
     carried: Carried,
     size: usize,

@@ -6,8 +6,8 @@ ghost use Rattle.projection_laws.specs.extract_passes.Steps.{has_field};
 use crate::field_ends::{is_count, is_root};
 use crate::field_tests::two_bytes;
 use crate::field_values::{Carried, FieldRead, element_field, text_field};
-use compiled_schema::held_words::WORDS;
 use extract_writer::fields::{COUNT_TAG, ELEMENT_TAG, TEXT_TAG};
+use names::MAX_ELEMENTS;
 use text::limits::MAX_DEPTH;
 
 // What the first field says.
@@ -44,7 +44,7 @@ fn count_field(extract: &[u8], carried: Carried, size: usize) -> FieldRead
 // The field at the carried place.
 pub fn read_field(
     extract: &[u8],
-    words: &[u64; WORDS],
+    words: &[u64; MAX_ELEMENTS],
     levels: &[u64; MAX_DEPTH],
     carried: Carried,
 ) -> FieldRead

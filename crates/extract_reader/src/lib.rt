@@ -19,7 +19,7 @@ ghost use Rattle.extract_reader.specs.steps.Reads.{Hold};
 use crate::field_values::Carried;
 use crate::fields::{First, first_field};
 use crate::steps::{Progress, read_row};
-use compiled_schema::held_words::WORDS;
+use names::MAX_ELEMENTS;
 use text::limits::MAX_DEPTH;
 
 // Whether the whole extract was read, and how many rows it has.
@@ -68,7 +68,7 @@ fn begin(extract: &[u8]) -> Progress
 
 pub fn read_rows(
     extract: &[u8],
-    words: &[u64; WORDS],
+    words: &[u64; MAX_ELEMENTS],
     numbers: &mut [u16],
     names: &mut [u8],
     parents: &mut [u16],

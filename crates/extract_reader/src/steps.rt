@@ -7,7 +7,7 @@ ghost use Rattle.extract_reader.specs.steps.Reads.{Reads, ReadOn};
 
 use crate::field_rows::{FieldRow, FieldStep, step};
 use crate::field_values::Carried;
-use compiled_schema::held_words::WORDS;
+use names::MAX_ELEMENTS;
 use text::limits::MAX_DEPTH;
 
 // Where reading stands: whether it goes on, whether the whole extract was read, and what is carried.
@@ -45,7 +45,7 @@ fn put_row(
 // Reads the field at the carried place.
 pub fn read_row(
     extract: &[u8],
-    words: &[u64; WORDS],
+    words: &[u64; MAX_ELEMENTS],
     levels: &mut [u64; MAX_DEPTH],
     numbers: &mut [u16],
     names: &mut [u8],

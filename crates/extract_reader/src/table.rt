@@ -9,12 +9,12 @@ use crate::RowsFound;
 use crate::verdict::verdict_of;
 use cells::verdicts::{BAD_LENGTH, Verdict};
 use cells::{columns, verdicts};
-use compiled_schema::held_words::WORDS;
+use names::MAX_ELEMENTS;
 
 // The verdict, with the rows in the columns, which are clear at first.
 fn judge(
     extract: &[u8],
-    words: &[u64; WORDS],
+    words: &[u64; MAX_ELEMENTS],
     numbers: &mut [u16],
     names: &mut [u8],
     parents: &mut [u16],
@@ -38,7 +38,7 @@ fn judge(
 // `words` has for each element of the schema the names that it holds.
 pub fn read_extract_table(
     extract: &[u8],
-    words: &[u64; WORDS],
+    words: &[u64; MAX_ELEMENTS],
     numbers: &mut [u16],
     names: &mut [u8],
     parents: &mut [u16],

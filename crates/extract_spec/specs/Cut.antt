@@ -25,6 +25,6 @@ cut_from set before (r ∷ rs) =
 unfoldable pub cut : Names → List Row → List Row
 cut set rows = cut_from set [] rows
 
--- to a set that is handed in as 128 bits, of which those without a name are ignored
+-- to a set that is handed in as 64 bits, of which those without a name are ignored
 unfoldable pub cut_to_word : Types → ℕ → List Row → List Row
 cut_to_word s word rows = cut (set_of_word s.names word) rows

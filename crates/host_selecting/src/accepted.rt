@@ -12,7 +12,7 @@ use cells::lent::{clear_numbers, clear_places};
 use compiled_paths::{CONDITION_STARTS, PATH_STARTS, STEPS};
 use compiled_schema::CompiledSchema;
 use compiled_schema::entry_columns::Entries;
-use compiled_schema::held_words::{WORDS, held_words};
+use compiled_schema::held_words::held_words;
 use extract_reader::table::read_extract_table;
 use hosts::results;
 use hosts::results::HostResult;
@@ -20,13 +20,13 @@ use names::{MAX_ELEMENTS, NameSet};
 use selection::answers::Selected;
 use selection::table::select_table;
 
-// For each element the names that it holds, as the bits of two words.
-fn words_of(compiled: CompiledSchema) -> [u64; WORDS]
+// For each element the names that it holds, as the bits of a word.
+fn words_of(compiled: CompiledSchema) -> [u64; MAX_ELEMENTS]
     ensures { WordsIn compiled result }
 {
     let entries: Entries = compiled.entries;
     let sets: [NameSet; MAX_ELEMENTS] = entries.holds;
-    held_words(sets, compiled.count)
+    held_words(sets)
 }
 
 // The result for rows in the columns and what is selected on them; no row is left where selecting is refused.

@@ -83,6 +83,6 @@ needed_by_path s p = from_root s (needed_before_filter s p)
 unfoldable pub needed : Types → List (LocationPath ℕ) → Names
 needed s ps = within s.names (gather (needed_by_path s) ps)
 
--- as 128 bits
+-- as 64 bits
 unfoldable pub needed_word : Types → List (LocationPath ℕ) → ℕ
 needed_word s ps = word_of_set s.names (needed s ps)

@@ -7,10 +7,10 @@ ghost use Rattle.text.specs.name_words.Words.{Spells};
 ghost use Rattle.text_spec.specs.Limits.{max_declarations};
 
 use names::MAX_ELEMENTS;
-use text::name_words::{Name, TABLE_WORDS};
+use text::name_words::Name;
 
-// The words of the names of all elements.
-pub const WORDS: usize = TABLE_WORDS;
+// Four words for each name.
+pub const WORDS: usize = 4 * MAX_ELEMENTS;
 
 // How many hashes there are.
 pub const HASHES: usize = 256;

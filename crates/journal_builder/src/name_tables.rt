@@ -1,5 +1,5 @@
 // The names of a schema's elements as words, four for each, from their places in its text.
-ghost use Rattle.std.specs.Prelude.{◌&&◌, ◌≡◌, ℕ, ◌*◌, ◌≤◌, ◌<◌, ltb, length, get_or};
+ghost use Rattle.std.specs.Prelude.{◌&&◌, ◌≡◌, ℕ, ◌≤◌, ◌<◌, ltb, length, get_or};
 ghost use Rattle.journal_builder.specs.name_tables.Words.{Stored};
 ghost use Rattle.text.specs.name_words.Words.{words_of, name_at as words_at};
 ghost use Rattle.text_spec.specs.Bytes.{continues_name};
@@ -37,7 +37,7 @@ fn words_at(text: &[u8], p: usize) -> Name
 }
 
 fn store(words: &mut [u64; WORDS], e: usize, name: Name)
-    requires { (e < max_declarations) × (length words.old ≡ 4 * max_declarations) }
+    requires { (e < max_declarations) × (length words.old ≡ 128) }
     ensures { Stored words.old e name words.new }
 {
     let k = e * 4;

@@ -95,6 +95,12 @@ kept_table f table codes ps e h =
     same : (r : ℕ) → is_marked table (get_or codes r 0) ≡ f (get_or codes r 0)
     same r = ap (λ (t : List ℕ). is_marked t (get_or codes r 0)) e ∙ marks-marked code_count f (get_or codes r 0) (h.coded r)
 
+-- one code more
+pub codes-next : (f : ℕ → Bool) (was : List ℕ) (c : ℕ) (out : List ℕ) (b : Bool) (x : ℕ) → c < code_count → Forward (marks code_count f) was c out
+    → x ≡ mark b → b ≡ f c → length was ≡ code_count → Forward (marks code_count f) was (c + 1) (set out c x)
+codes-next f was c out b x l w e d z =
+    forward-next (marks code_count f) was c out x w (omega (arith, w.size)) (e ∙ ap mark d ∙ sym (marks-at code_count f c l))
+
 module _ (f : ℕ → Bool) (codes ps was : List ℕ) (h : KeptPass codes ps was) where
   pub kept-length : length was ≡ length (kept_marks f codes ps)
   unfolding kept_marks

@@ -1,5 +1,4 @@
 pub mod Kept
-pub mod Marked
 pub mod Joined
 pub mod Positions
 pub mod columns

@@ -5,13 +5,12 @@ pub mod cut_rows;
 ghost use Rattle.std.specs.Prelude.{◌≡◌, ◌<◌};
 ghost use Rattle.cells.specs.row_sets.Columns.{mark, marks};
 ghost use Rattle.kept_rows.specs.Kept.{code_count, in_set, kept_marks, KeptPass};
-ghost use Rattle.kept_rows.specs.Marked.{HasFrom};
 ghost use Rattle.kept_rows.specs.Positions.{next_position, last_position, Numbered};
 ghost use Rattle.text_spec.specs.Limits.{max_nodes};
 
 use cells::row_sets::{MARKED, UNMARKED};
-use names::codes::CODES;
-use names::{MAX_ELEMENTS, NameSet};
+use names::NameSet;
+use names::codes::{CODES, has};
 
 // The position of a row that is not kept; kept rows are counted from 1.
 pub const NOT_KEPT: u16 = 0;
@@ -22,26 +21,15 @@ fn mark_of(b: bool) -> u8
     if b { MARKED } else { UNMARKED }
 }
 
-// Whether the set may have a name of an element from `e` on.
-fn has_from(set: NameSet, e: usize) -> bool
-    ensures { HasFrom set e result }
-{
-    if MAX_ELEMENTS <= e {
-        return false;
-    }
-    (set.elements | set.texts) >> e != 0
-}
-
-// A mark for each code: whether its name is in the set. The loop ends at the last element that has a name in the set.
+// A mark for each code: whether its name is in the set.
 fn code_marks(set: NameSet) -> [u8; CODES]
     ensures { result ≡ marks code_count (in_set set) }
 {
     let mut table = [UNMARKED; CODES];
-    let mut e = 0;
-    while has_from(set, e) {
-        table[e] = mark_of(set.has_element(e));
-        table[MAX_ELEMENTS + e] = mark_of(set.has_text(e));
-        e += 1;
+    let mut c = 0;
+    while c < CODES {
+        table[c] = mark_of(has(set, c));
+        c += 1;
     }
     table
 }

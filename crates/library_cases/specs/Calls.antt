@@ -93,9 +93,9 @@ records =
     -- all cells full, and a size past them
     ∷ case (reads_bundle (text_record full_text 8192 0) (bytes "self::node()\n")) (back (13 ∷ []) (bytes "self::node()\n" ++ zeros 4091))
     ∷ case (reads_bundle (text_record full_text 8193 0) (bytes "self::node()\n")) (no_record 4104 1 0)
-    -- needed names: bits 0, 1, 3 and 4; bits 0 to 4 and 68; a name that this schema lacks is 1
+    -- needed names: bits 0, 1, 3 and 4; bits 0 to 4 and 36; a name that this schema lacks is 1
     ∷ case (gives_needed record_s record_p) (leaves (exit 0 0 ((27 ∷ []) ∷ [])))
-    ∷ case (gives_needed record_s record_t) (leaves (exit 0 0 ((295147905179352825887 ∷ []) ∷ [])))
+    ∷ case (gives_needed record_s record_t) (leaves (exit 0 0 ((68719476767 ∷ []) ∷ [])))
     ∷ case (gives_needed record_s (text_record (bytes "self::cell\n") 11 4093)) (leaves (exit 1 0 ([] ∷ [])))
     ∷ case (gives_needed record_s (text_record bundle_p 39 4064)) (leaves (exit 1 0 ([] ∷ [])))
     ∷ case (gives_needed of_refused record_p) (leaves (exit 1 0 ([] ∷ [])))
@@ -113,7 +113,7 @@ table columns count = record { columns = columns; count = count }
 abbrev pub lent_j : LentTable
 lent_j =
     table
-    (columns (0 ∷ 1 ∷ 2 ∷ 3 ∷ 4 ∷ 5 ∷ 6 ∷ 9 ∷ []) (0 ∷ 1 ∷ 2 ∷ 3 ∷ 4 ∷ 68 ∷ 3 ∷ 128 ∷ []) (0 ∷ 0 ∷ 1 ∷ 2 ∷ 3 ∷ 4 ∷ 1 ∷ 9 ∷ [])
+    (columns (0 ∷ 1 ∷ 2 ∷ 3 ∷ 4 ∷ 5 ∷ 6 ∷ 9 ∷ []) (0 ∷ 1 ∷ 2 ∷ 3 ∷ 4 ∷ 36 ∷ 3 ∷ 64 ∷ []) (0 ∷ 0 ∷ 1 ∷ 2 ∷ 3 ∷ 4 ∷ 1 ∷ 9 ∷ [])
     (0 ∷ 0 ∷ 0 ∷ 0 ∷ 0 ∷ 32 ∷ 0 ∷ 9 ∷ []) (0 ∷ 0 ∷ 0 ∷ 0 ∷ 0 ∷ 2 ∷ 0 ∷ 9 ∷ []) (0 ∷ 0 ∷ 0 ∷ 0 ∷ 0 ∷ 2 ∷ 0 ∷ 9 ∷ [])) 7
 
 -- tables that are refused by 1: two text rows of one element, more rows than cells, columns of unequal length, a code that no name has
@@ -127,13 +127,13 @@ abbrev pub last_unequal : LentTable
 last_unequal = table (columns (0 ∷ 1 ∷ []) (0 ∷ 1 ∷ []) (0 ∷ 0 ∷ []) (0 ∷ 0 ∷ []) (0 ∷ 0 ∷ []) (0 ∷ [])) 2
 
 abbrev pub nameless : LentTable
-nameless = table (columns (0 ∷ 1 ∷ []) (0 ∷ 128 ∷ []) (0 ∷ 0 ∷ []) (0 ∷ 0 ∷ []) (0 ∷ 0 ∷ []) (0 ∷ 0 ∷ [])) 2
+nameless = table (columns (0 ∷ 1 ∷ []) (0 ∷ 64 ∷ []) (0 ∷ 0 ∷ []) (0 ∷ 0 ∷ []) (0 ∷ 0 ∷ []) (0 ∷ 0 ∷ [])) 2
 
 -- six rows, the text at 33 and of the two lengths given
 abbrev pub table_k : ℕ → ℕ → LentTable
 table_k size decoded =
     table
-    (columns (0 ∷ 1 ∷ 2 ∷ 3 ∷ 4 ∷ 5 ∷ []) (0 ∷ 1 ∷ 2 ∷ 3 ∷ 4 ∷ 68 ∷ []) (0 ∷ 0 ∷ 1 ∷ 1 ∷ 3 ∷ 4 ∷ []) (0 ∷ 0 ∷ 0 ∷ 0 ∷ 0 ∷ 33 ∷ []) (0 ∷ 0 ∷ 0 ∷ 0 ∷ 0 ∷ size ∷ [])
+    (columns (0 ∷ 1 ∷ 2 ∷ 3 ∷ 4 ∷ 5 ∷ []) (0 ∷ 1 ∷ 2 ∷ 3 ∷ 4 ∷ 36 ∷ []) (0 ∷ 0 ∷ 1 ∷ 1 ∷ 3 ∷ 4 ∷ []) (0 ∷ 0 ∷ 0 ∷ 0 ∷ 0 ∷ 33 ∷ []) (0 ∷ 0 ∷ 0 ∷ 0 ∷ 0 ∷ size ∷ [])
     (0 ∷ 0 ∷ 0 ∷ 0 ∷ 0 ∷ decoded ∷ [])) 6
 
 -- `<scan><plate><well/><tile><focus>x</focus></tile></plate></scan>`
@@ -157,7 +157,7 @@ last_less = record { numbers = 9; names = 9; parents = 9; starts = 9; lengths = 
 -- J's table in nine cells, the text at the start given
 abbrev pub in_nine : ℕ → Answer
 in_nine start =
-    in_columns 7 (0 ∷ 1 ∷ 2 ∷ 3 ∷ 4 ∷ 5 ∷ 6 ∷ 0 ∷ 0 ∷ []) (0 ∷ 1 ∷ 2 ∷ 3 ∷ 4 ∷ 68 ∷ 3 ∷ 0 ∷ 0 ∷ []) (0 ∷ 0 ∷ 1 ∷ 2 ∷ 3 ∷ 4 ∷ 1 ∷ 0 ∷ 0 ∷ [])
+    in_columns 7 (0 ∷ 1 ∷ 2 ∷ 3 ∷ 4 ∷ 5 ∷ 6 ∷ 0 ∷ 0 ∷ []) (0 ∷ 1 ∷ 2 ∷ 3 ∷ 4 ∷ 36 ∷ 3 ∷ 0 ∷ 0 ∷ []) (0 ∷ 0 ∷ 1 ∷ 2 ∷ 3 ∷ 4 ∷ 1 ∷ 0 ∷ 0 ∷ [])
     (0 ∷ 0 ∷ 0 ∷ 0 ∷ 0 ∷ start ∷ 0 ∷ 0 ∷ 0 ∷ []) (0 ∷ 0 ∷ 0 ∷ 0 ∷ 0 ∷ 2 ∷ 0 ∷ 0 ∷ 0 ∷ []) (0 ∷ 0 ∷ 0 ∷ 0 ∷ 0 ∷ 2 ∷ 0 ∷ 0 ∷ 0 ∷ [])
 
 pub tables : List Case
@@ -168,17 +168,17 @@ tables =
     ∷ case (reads_journal record_s [] one_less) (no_columns one_less 1 0)
     ∷ case (reads_journal record_s [] last_less) (no_columns last_less 1 0)
     ∷ case (reads_journal empty_record [] (all_of_size 9)) (no_columns (all_of_size 9) 1 0)
-    -- cut to scan, plate, tile and focus; bits 5, 36, 64 and 127 mean nothing
+    -- cut to scan, plate, tile and focus; bits 5, 32 and 63 mean nothing
     ∷ case (cuts_table record_s lent_j 27 (all_of_size 4)) (in_columns 3 (0 ∷ 1 ∷ 6 ∷ 0 ∷ []) (0 ∷ 1 ∷ 3 ∷ 0 ∷ []) (0 ∷ 0 ∷ 1 ∷ 0 ∷ []) (zeros 4) (zeros 4) (zeros 4))
-    ∷ case (cuts_table record_s lent_j 170141183460469231750134047858313134139 (all_of_size 3)) (in_columns 3 (0 ∷ 1 ∷ 6 ∷ []) (0 ∷ 1 ∷ 3 ∷ []) (0 ∷ 0 ∷ 1 ∷ []) (zeros 3) (zeros 3) (zeros 3))
-    -- bit 68 too, of a table in which the cut row stands before its parents
-    ∷ case (cuts_table record_s lent_k 295147905179352825883 (all_of_size 6))
-    (in_columns 5 (0 ∷ 1 ∷ 3 ∷ 4 ∷ 5 ∷ 0 ∷ []) (0 ∷ 1 ∷ 3 ∷ 4 ∷ 68 ∷ 0 ∷ []) (0 ∷ 0 ∷ 1 ∷ 2 ∷ 3 ∷ 0 ∷ []) (0 ∷ 0 ∷ 0 ∷ 0 ∷ 33 ∷ 0 ∷ []) (0 ∷ 0 ∷ 0 ∷ 0 ∷ 1 ∷ 0 ∷ []) (0 ∷ 0 ∷ 0 ∷ 0 ∷ 1 ∷ 0 ∷ []))
+    ∷ case (cuts_table record_s lent_j 9223372041149743163 (all_of_size 3)) (in_columns 3 (0 ∷ 1 ∷ 6 ∷ []) (0 ∷ 1 ∷ 3 ∷ []) (0 ∷ 0 ∷ 1 ∷ []) (zeros 3) (zeros 3) (zeros 3))
+    -- bit 36 too, of a table in which the cut row stands before its parents
+    ∷ case (cuts_table record_s lent_k 68719476763 (all_of_size 6))
+    (in_columns 5 (0 ∷ 1 ∷ 3 ∷ 4 ∷ 5 ∷ 0 ∷ []) (0 ∷ 1 ∷ 3 ∷ 4 ∷ 36 ∷ 0 ∷ []) (0 ∷ 0 ∷ 1 ∷ 2 ∷ 3 ∷ 0 ∷ []) (0 ∷ 0 ∷ 0 ∷ 0 ∷ 33 ∷ 0 ∷ []) (0 ∷ 0 ∷ 0 ∷ 0 ∷ 1 ∷ 0 ∷ []) (0 ∷ 0 ∷ 0 ∷ 0 ∷ 1 ∷ 0 ∷ []))
     -- with no text beside it, a text's decoded length is 1 to its raw length
-    ∷ case (cuts_table record_s (table_k 2 1) 295147905179352825883 (all_of_size 5))
-    (in_columns 5 (0 ∷ 1 ∷ 3 ∷ 4 ∷ 5 ∷ []) (0 ∷ 1 ∷ 3 ∷ 4 ∷ 68 ∷ []) (0 ∷ 0 ∷ 1 ∷ 2 ∷ 3 ∷ []) (0 ∷ 0 ∷ 0 ∷ 0 ∷ 33 ∷ []) (0 ∷ 0 ∷ 0 ∷ 0 ∷ 2 ∷ []) (0 ∷ 0 ∷ 0 ∷ 0 ∷ 1 ∷ []))
-    ∷ case (cuts_table record_s (table_k 2 0) 295147905179352825883 (all_of_size 5)) (no_columns (all_of_size 5) 1 0)
-    ∷ case (cuts_table record_s (table_k 2 3) 295147905179352825883 (all_of_size 5)) (no_columns (all_of_size 5) 1 0)
+    ∷ case (cuts_table record_s (table_k 2 1) 68719476763 (all_of_size 5))
+    (in_columns 5 (0 ∷ 1 ∷ 3 ∷ 4 ∷ 5 ∷ []) (0 ∷ 1 ∷ 3 ∷ 4 ∷ 36 ∷ []) (0 ∷ 0 ∷ 1 ∷ 2 ∷ 3 ∷ []) (0 ∷ 0 ∷ 0 ∷ 0 ∷ 33 ∷ []) (0 ∷ 0 ∷ 0 ∷ 0 ∷ 2 ∷ []) (0 ∷ 0 ∷ 0 ∷ 0 ∷ 1 ∷ []))
+    ∷ case (cuts_table record_s (table_k 2 0) 68719476763 (all_of_size 5)) (no_columns (all_of_size 5) 1 0)
+    ∷ case (cuts_table record_s (table_k 2 3) 68719476763 (all_of_size 5)) (no_columns (all_of_size 5) 1 0)
     ∷ case (cuts_table record_s lent_j 26 (all_of_size 1)) (in_columns 0 (zeros 1) (zeros 1) (zeros 1) (zeros 1) (zeros 1) (zeros 1))
     ∷ case (cuts_table record_s lent_j 27 (all_of_size 2)) (no_columns (all_of_size 2) 18 0)
     ∷ case (cuts_table record_s lent_j 27 one_less) (no_columns one_less 1 0)

@@ -53,7 +53,7 @@ abbrev pub chain_to_text : ℕ → Columns
 chain_to_text n =
     record {
       numbers = from 0 (suc (suc n));
-      names = zeros n ++ (1 ∷ 65 ∷ []);
+      names = zeros n ++ (1 ∷ 33 ∷ []);
       parents = 0 ∷ from 0 (suc n);
       starts = zeros (suc (suc n));
       lengths = zeros (suc n) ++ (1 ∷ []);
@@ -66,14 +66,14 @@ schema_at = bytes "<!ELEMENT a (a|t)*><!ELEMENT t (#PCDATA)>"
 -- the root, a `t` of the number given, and its text with the next number and of the length given
 abbrev pub text_of : ℕ → ℕ → ℕ → Columns
 text_of number next size =
-    record { numbers = 0 ∷ number ∷ next ∷ []; names = 0 ∷ 1 ∷ 65 ∷ []; parents = 0 ∷ 0 ∷ 1 ∷ []; starts = 0 ∷ 0 ∷ 0 ∷ []; lengths = 0 ∷ 0 ∷ size ∷ []; decoded = 0 ∷ 0 ∷ size ∷ [] }
+    record { numbers = 0 ∷ number ∷ next ∷ []; names = 0 ∷ 1 ∷ 33 ∷ []; parents = 0 ∷ 0 ∷ 1 ∷ []; starts = 0 ∷ 0 ∷ 0 ∷ []; lengths = 0 ∷ 0 ∷ size ∷ []; decoded = 0 ∷ 0 ∷ size ∷ [] }
 
 -- the root, a `t` with the decoded length given, and its text of the two lengths given
 abbrev pub decoded_of : ℕ → ℕ → ℕ → Columns
 decoded_of above size decoded =
     record {
       numbers = 0 ∷ 1 ∷ 2 ∷ [];
-      names = 0 ∷ 1 ∷ 65 ∷ [];
+      names = 0 ∷ 1 ∷ 33 ∷ [];
       parents = 0 ∷ 0 ∷ 1 ∷ [];
       starts = 0 ∷ 0 ∷ 0 ∷ [];
       lengths = 0 ∷ 0 ∷ size ∷ [];

@@ -80,20 +80,20 @@ abbrev pub cells_of : ℕ → ℕ → ℕ → ℕ → ℕ → Cells
 cells_of number name parent start size = record { number = number; name = name; parent = parent; start = start; size = size; decoded = size }
 
 abbrev pub structs_k : List Cells
-structs_k = cells_of 0 0 0 0 0 ∷ cells_of 1 1 0 0 0 ∷ cells_of 2 2 1 0 0 ∷ cells_of 3 3 1 0 0 ∷ cells_of 4 4 3 0 0 ∷ cells_of 5 68 4 33 1 ∷ []
+structs_k = cells_of 0 0 0 0 0 ∷ cells_of 1 1 0 0 0 ∷ cells_of 2 2 1 0 0 ∷ cells_of 3 3 1 0 0 ∷ cells_of 4 4 3 0 0 ∷ cells_of 5 36 4 33 1 ∷ []
 
 pub structs : List Case
 structs =
     case (reads_journal_rows record_s (bytes "<scan><plate><well/><tile><focus>x</focus></tile></plate></scan>") 7)
     (leaves (exit 0 0
     ((6 ∷ []) ∷ (0 ∷ 0 ∷ 0 ∷ 0 ∷ 0 ∷ 0 ∷ []) ∷ (1 ∷ 1 ∷ 0 ∷ 0 ∷ 0 ∷ 0 ∷ []) ∷ (2 ∷ 2 ∷ 1 ∷ 0 ∷ 0 ∷ 0 ∷ []) ∷ (3 ∷ 3 ∷ 1 ∷ 0 ∷ 0 ∷ 0 ∷ []) ∷ (4 ∷ 4 ∷ 3 ∷ 0 ∷ 0 ∷ 0 ∷ [])
-    ∷ (5 ∷ 68 ∷ 4 ∷ 33 ∷ 1 ∷ 1 ∷ []) ∷ zeros 6 ∷ [])))
+    ∷ (5 ∷ 36 ∷ 4 ∷ 33 ∷ 1 ∷ 1 ∷ []) ∷ zeros 6 ∷ [])))
     ∷ case (reads_journal_rows record_s journal_j 2) (leaves (exit 18 0 ((0 ∷ []) ∷ zeros 6 ∷ zeros 6 ∷ [])))
     ∷ case (reads_journal_rows record_s misfit 1) (leaves (exit 15 6 ((0 ∷ []) ∷ zeros 6 ∷ [])))
     ∷ case (reads_journal_rows of_refused journal_j 1) (leaves (exit 1 0 ((0 ∷ []) ∷ zeros 6 ∷ [])))
-    ∷ case (cuts_rows record_s structs_k 295147905179352825883 6)
+    ∷ case (cuts_rows record_s structs_k 68719476763 6)
     (leaves (exit 0 0
-    ((5 ∷ []) ∷ (0 ∷ 0 ∷ 0 ∷ 0 ∷ 0 ∷ 0 ∷ []) ∷ (1 ∷ 1 ∷ 0 ∷ 0 ∷ 0 ∷ 0 ∷ []) ∷ (3 ∷ 3 ∷ 1 ∷ 0 ∷ 0 ∷ 0 ∷ []) ∷ (4 ∷ 4 ∷ 2 ∷ 0 ∷ 0 ∷ 0 ∷ []) ∷ (5 ∷ 68 ∷ 3 ∷ 33 ∷ 1 ∷ 1 ∷ []) ∷ zeros 6 ∷ [])))
+    ((5 ∷ []) ∷ (0 ∷ 0 ∷ 0 ∷ 0 ∷ 0 ∷ 0 ∷ []) ∷ (1 ∷ 1 ∷ 0 ∷ 0 ∷ 0 ∷ 0 ∷ []) ∷ (3 ∷ 3 ∷ 1 ∷ 0 ∷ 0 ∷ 0 ∷ []) ∷ (4 ∷ 4 ∷ 2 ∷ 0 ∷ 0 ∷ 0 ∷ []) ∷ (5 ∷ 36 ∷ 3 ∷ 33 ∷ 1 ∷ 1 ∷ []) ∷ zeros 6 ∷ [])))
     ∷ case (cuts_rows record_s structs_k 3 1) (leaves (exit 18 0 ((0 ∷ []) ∷ zeros 6 ∷ [])))
     ∷ case (cuts_rows record_s (cells_of 0 1 0 0 0 ∷ []) 27 1) (leaves (exit 1 0 ((0 ∷ []) ∷ zeros 6 ∷ [])))
     -- the text 5; the parent 1 of the tile

@@ -57,11 +57,11 @@ journal_read schema journal z =
     handed (schema_held schema) (λ s. tested (equal_sizes z) (and_then (read_journal max_journal_bytes s journal) (λ rows. in_columns z rows)))
 
 -- ---- needed names and cutting
--- The needed names of a bundle, as 128 bits. Handed in: the records of a schema and a bundle.
+-- The needed names of a bundle, as 64 bits. Handed in: the records of a schema and a bundle.
 unfoldable pub needed_names : TextRecord → TextRecord → Outcome ℕ
 needed_names schema bundle = handed (schema_held schema) (λ s. handed (bundle_held s bundle) (λ ps. accepted (needed_word (types_of s) ps)))
 
--- Cutting a table to 128 bits. Handed in: a schema's record, a table, the bits. Lent: other columns.
+-- Cutting a table to 64 bits. Handed in: a schema's record, a table, the bits. Lent: other columns.
 unfoldable pub table_cut : TextRecord → LentTable → ℕ → Sizes → Outcome (List Row)
 table_cut schema table word z =
     handed (schema_held schema) (λ s. handed (table_held s table) (λ rows. tested (equal_sizes z) (in_columns z (cut_to_word (types_of s) word rows))))

@@ -41,17 +41,14 @@ in_lent l a = in_room (too_small l.columns.numbers a.rows || (too_small l.items 
 unfoldable pub extract_of : Schema → List (LocationPath ℕ) → List ℕ → List Row → List ℕ
 extract_of s ps journal rows = write_extract journal (cut (needed (types_of s) ps) rows)
 
--- Making an extract, by what reading the schema gives. Handed in: the texts of a schema, a bundle and a journal. Lent: columns, and bytes; no counts are answered.
-abbrev pub extract_under : Outcome Schema → List ℕ → List ℕ → Lent → Outcome HostAnswer
-extract_under schema bundle journal l =
+-- Making an extract. Handed in: the texts of a schema, a bundle and a journal. Lent: columns, and bytes; no counts are answered.
+unfoldable pub make_extract : List ℕ → List ℕ → List ℕ → Lent → Outcome HostAnswer
+make_extract schema bundle journal l =
     tested (equal_sizes l.columns)
-    (and_then schema (λ s.
+    (and_then (read_schema schema) (λ s.
     and_then (read_bundle s bundle) (λ ps.
     and_then (read_journal max_journal_bytes s journal) (λ rows.
     in_lent l (host_answer rows (extract_of s ps journal rows) [])))))
-
-unfoldable pub make_extract : List ℕ → List ℕ → List ℕ → Lent → Outcome HostAnswer
-make_extract schema bundle journal l = extract_under (read_schema schema) bundle journal l
 
 -- the paths of a bundle under a schema
 unfoldable pub bundle_paths : List ℕ → List ℕ → Outcome (List (LocationPath ℕ))

@@ -37,16 +37,13 @@ pub record FilesRead : Type 0 where
   pub paths : List (LocationPath ℕ)
   pub rows : List Row
 
--- "It lends 4,096 rows for the whole journal, reads at most 32,768 bytes of journal"; by what reading the schema gives
-abbrev pub files_under : Outcome Schema → List ℕ → List ℕ → Outcome FilesRead
-files_under schema bundle journal =
-    and_then schema (λ s.
+-- "It lends 4,096 rows for the whole journal, reads at most 32,768 bytes of journal"
+unfoldable pub judge_files : List ℕ → List ℕ → List ℕ → Outcome FilesRead
+judge_files schema bundle journal =
+    and_then (read_schema schema) (λ s.
     and_then (read_bundle s bundle) (λ ps.
     and_then (read_journal listing_journal_bytes s journal) (λ rows.
     in_room (too_small listing_rows rows) (record { schema = s; paths = ps; rows = rows }))))
-
-unfoldable pub judge_files : List ℕ → List ℕ → List ℕ → Outcome FilesRead
-judge_files schema bundle journal = files_under (read_schema schema) bundle journal
 
 -- what is listed: the schema, the nodes of the journal, the rows kept, and the numbers that each path selects
 pub record ListingData : Type 0 where

@@ -7,7 +7,7 @@ pub use bundle::reader::read_bundle;
 pub use bundle::record_tests::is_bundle_record;
 pub use schema_reader::{is_schema_record, read_schema};
 
-// The needed names of a bundle, as 128 bits in two words.
+// The needed names of a bundle, as 64 bits.
 pub use needed_names::records::needed_names;
 
 // Tables in lent columns: a journal read into them, a cut, the text and the chain of a row.

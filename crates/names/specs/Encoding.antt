@@ -1,21 +1,30 @@
--- Sets handed in and back as two words: which bits they stand for, and that this is right for the names of a schema.
-use Rattle.std.specs.Prelude.{Bool, false, ◌&&◌, ◌⊎◌, ◌≡◌, refl, ℕ, ◌+◌, ◌-◌, ◌*◌, ◌/◌, ◌%◌, ◌^◌, ◌≤◌, ◌<◌, T, length}
+-- Sets handed in and back as 64 bits: what two words must hold, and that this is right for the names of a schema.
+use Rattle.std.specs.Prelude.{Bool, false, ◌&&◌, ◌||◌, ◌⊎◌, ◌≡◌, refl, ℕ, ◌+◌, ◌-◌, ◌*◌, ◌/◌, ◌%◌, ◌^◌, ◌≤◌, ◌<◌, T, length}
+use Rattle.std.proofs.Math.Bool.{or-false}
 use mathlib.Core.List.{Memᴰ as In}
-use Rattle.std.proofs.Common.{inl, inr, ⊎_elim, sym, ◌∙◌, suc-mul, mul-le-mul_right, arith, pow_pos, pow-add}
-use Rattle.std.proofs.Math.Path.{ap, subst}
-use Rattle.std.proofs.Math.Nat.{add-mul-mod_self_right, add-mul-div_right, mod-eq_of_lt, div-eq_of_lt, zero-add}
+use Rattle.std.proofs.Common.{inl, inr, ⊎_elim, sym, ap, ap₂, subst, ◌∙◌, arith}
+use Rattle.std.specs.Int.Bits.{bit_or}
+use Rattle.std.proofs.lemmas.Nat.{or_lt}
 use Rattle.names.specs.SetLaws.{has-filter, in-set_of, set_of-in, element-every, every_element, text-every, every-text, every-coded, schema-every}
-use Rattle.names.specs.Sets.{member, bits_of, set_of, every_name}
-use Rattle.names.specs.bits.Bits.{bit_past, bit-down, bit_cut, same_bits}
+use Rattle.names.specs.Sets.{member, set_of, largest, every_name}
+use Rattle.names.specs.bits.Bits.{bit-or, bit_past, bit-down, bit_up, bit-up-below, bit_cut, bit-cut-past, same_bits}
 use Rattle.names.specs.declared.NameSet.{NameSet}
 use Rattle.schema_laws.specs.Names.{has_in, in-has}
-use Rattle.schema_laws.specs.Words.{Coded, schema-coded, word-has, has_word, word-clear, bits_below, word_below}
-use Rattle.schema_spec.specs.Names.{Name, Names, element, text, has, names_of, code_of, in_two_words, has_bit, set_of_word, word_of_set}
+use Rattle.schema_laws.specs.Words.{Coded, schema-coded, word-has, has_word, word-clear, word_below}
+use Rattle.schema_spec.specs.Names.{Name, Names, element, text, has, names_of, code_of, has_bit, set_of_word, word_of_set}
 use Rattle.schema_spec.specs.Schemas.{Schema}
 use Rattle.text_laws.specs.Lists.{filter-cong}
 use Rattle.text_laws.specs.Searches.{below-or-past}
 use Rattle.text_laws.specs.Tests.{decided, true_of, false_of, same_test}
 use Rattle.text_spec.specs.Limits.{max_declarations}
+
+-- the two words of a set that is handed in
+abbrev pub split : ℕ → NameSet
+split w = record { elements = w % 2 ^ 32; texts = w / 2 ^ 32 }
+
+-- the one word of a set that is handed back
+abbrev pub joined : NameSet → ℕ
+joined s = bit_or (s.elements % 2 ^ 32) (s.texts % 2 ^ 32 * 2 ^ 32)
 
 in-every : (w : ℕ) (n : Name) → In n every_name → has n (set_of_word every_name w) ≡ has_bit w (code_of n)
 unfolding set_of_word
@@ -26,47 +35,14 @@ unfolding set_of_word
 not-every w n h =
     has-filter (λ m. has_bit w (code_of m)) every_name n ∙ ap (λ (b : Bool). b && has_bit w (code_of n)) (false_of (has n every_name) (λ t. h (has_in n every_name t)))
 
--- ---- two words and the bits of both
-pair-below : (p a b : ℕ) → a < p → b < p → a + b * p < p * p
-pair-below p a b l m = under (b * p) (p * p) (subst (λ (x : ℕ). x ≤ p * p) (suc-mul b p) (mul-le-mul_right p m))
-  where
-    under : (q r : ℕ) → q + p ≤ r → a + q < r
-    under q r h = omega arith
-
-module _ (elements texts : ℕ) (fits : elements < 2 ^ max_declarations) where
-  low_word : in_two_words elements texts % 2 ^ max_declarations ≡ elements
-  unfolding in_two_words
-  low_word = add-mul-mod_self_right elements texts (2 ^ max_declarations) ∙ mod-eq_of_lt fits
-
-  high_word : in_two_words elements texts / 2 ^ max_declarations ≡ texts
-  unfolding in_two_words
-  high_word =
-      add-mul-div_right elements texts (pow_pos max_declarations) ∙ ap (λ (q : ℕ). q + texts) (div-eq_of_lt fits) ∙ zero-add texts
-
-  -- the bit of a name
-  two-words : (n : Name) → In n every_name → has_bit (in_two_words elements texts) (code_of n) ≡ member (record { elements = elements; texts = texts }) n
-  two-words (element e) i =
-      sym (bit_cut (in_two_words elements texts) max_declarations e (every_element e i)) ∙ ap (λ (w : ℕ). has_bit w e) low_word
-  two-words (text e) i = sym (bit-down (in_two_words elements texts) max_declarations e) ∙ ap (λ (w : ℕ). has_bit w e) high_word
-
-  pub words-mean-set_of_word : texts < 2 ^ max_declarations → (n : Name)
-      → member (record { elements = elements; texts = texts }) n ≡ has n (set_of_word every_name (in_two_words elements texts))
-  words-mean-set_of_word small n = ⊎_elim named nameless (decided (has n every_name))
-    where
-      named : T (has n every_name) → member (record { elements = elements; texts = texts }) n ≡ has n (set_of_word every_name (in_two_words elements texts))
-      named t = let i = has_in n every_name t in sym (two-words n i) ∙ sym (in-every (in_two_words elements texts) n i)
-
-      past : (m : Name) → (In m every_name → ⊥) → member (record { elements = elements; texts = texts }) m ≡ false
-      past (element e) out = ⊎_elim (λ h. absurd (out (element-every e h))) (λ h. bit_past max_declarations elements e fits h) (below-or-past e max_declarations)
-      past (text e) out = ⊎_elim (λ h. absurd (out (text-every e h))) (λ h. bit_past max_declarations texts e small h) (below-or-past e max_declarations)
-
-      nameless : (T (has n every_name) → ⊥) → member (record { elements = elements; texts = texts }) n ≡ has n (set_of_word every_name (in_two_words elements texts))
-      nameless f = past n (λ i. f (in-has i)) ∙ sym (not-every (in_two_words elements texts) n (λ i. f (in-has i)))
-
-  two-words-below : texts < 2 ^ max_declarations → in_two_words elements texts < 2 ^ (max_declarations + max_declarations)
-  unfolding in_two_words
-  two-words-below small =
-      subst (λ (p : ℕ). elements + texts * 2 ^ max_declarations < p) (sym (pow-add 2 max_declarations max_declarations)) (pair-below (2 ^ max_declarations) elements texts fits small)
+pub split-means-set_of_word : (w : ℕ) → w < 2 ^ 64 → (n : Name) → member (split w) n ≡ has n (set_of_word every_name w)
+split-means-set_of_word w fits (element e) =
+    ⊎_elim (λ h. bit_cut w 32 e h ∙ sym (in-every w (element e) (element-every e h)))
+    (λ h. bit-cut-past w 32 e h ∙ sym (not-every w (element e) (λ i. let l = every_element e i in omega arith))) (below-or-past e 32)
+split-means-set_of_word w fits (text e) =
+    bit-down w 32 e
+    ∙ ⊎_elim (λ h. sym (in-every w (text e) (text-every e h)))
+    (λ h. bit_past 64 w (32 + e) fits (omega arith) ∙ sym (not-every w (text e) (λ i. let l = every-text e i in omega arith))) (below-or-past e 32)
 
 -- the bit of a name, in the word of a set
 module _ (names : Names) (c : Coded names) (s : NameSet) where
@@ -75,11 +51,36 @@ module _ (names : Names) (c : Coded names) (s : NameSet) where
       same_test (has_bit (word_of_set names (set_of names s)) (code_of n)) (member s n) (λ t. (set_of-in names s (has_word names (set_of names s) c i t)).1)
       (λ t. word-has names (set_of names s) c i (in-set_of s i t))
 
--- each bit is a name's
-pub bit-name : (i : ℕ) → i < max_declarations + max_declarations → (n : Name) × In n every_name × (code_of n ≡ i)
+-- each of 64 bits is a name's
+pub bit-name : (i : ℕ) → i < 64 → (n : Name) × In n every_name × (code_of n ≡ i)
 bit-name i l =
-    ⊎_elim (λ h. (element i, element-every i h, refl)) (λ h. (text (i - max_declarations), text-every (i - max_declarations) (omega arith), omega arith))
-    (below-or-past i max_declarations)
+    ⊎_elim (λ h. (element i, element-every i h, refl)) (λ h. (text (i - 32), text-every (i - 32) (omega arith), omega arith)) (below-or-past i 32)
+
+joined-member : (s : NameSet) (n : Name) → In n every_name → has_bit (joined s) (code_of n) ≡ member s n
+joined-member s (element e) i =
+    let h = every_element e i in
+    bit-or (s.elements % 2 ^ 32) (s.texts % 2 ^ 32 * 2 ^ 32) e ∙ ap₂ ◌||◌ (bit_cut s.elements 32 e h) (bit-up-below (s.texts % 2 ^ 32) 32 e h)
+    ∙ or-false (has_bit s.elements e)
+joined-member s (text e) i =
+    let h = every-text e i in
+    bit-or (s.elements % 2 ^ 32) (s.texts % 2 ^ 32 * 2 ^ 32) (32 + e)
+    ∙ ap₂ ◌||◌ (bit-cut-past s.elements 32 (32 + e) (omega arith)) (bit_up (s.texts % 2 ^ 32) 32 e ∙ bit_cut s.texts 32 e h)
+
+joined-below : (s : NameSet) → joined s < 2 ^ 64
+joined-below s = or_lt 64 (s.elements % 2 ^ 32) (s.texts % 2 ^ 32 * 2 ^ 32) (omega arith) (omega arith)
+
+every-below : (s : Names) → word_of_set every_name s < 2 ^ 64
+unfolding every_name
+every-below s = word_below (largest max_declarations) (omega arith) s
+
+pub joined-means-word_of_set : (s : NameSet) → joined s ≡ word_of_set every_name (set_of every_name s)
+joined-means-word_of_set s = same_bits 64 (joined s) (word_of_set every_name (set_of every_name s)) (joined-below s) (every-below (set_of every_name s)) same
+  where
+    same : (i : ℕ) → i < 64 → has_bit (joined s) i ≡ has_bit (word_of_set every_name (set_of every_name s)) i
+    same i l =
+        let r = bit-name i l in
+        subst (λ (j : ℕ). has_bit (joined s) j ≡ has_bit (word_of_set every_name (set_of every_name s)) j) r.2
+        (joined-member s r.0 r.1 ∙ sym (word-member every_name every-coded s r.0 r.1))
 
 -- what is handed in is right for a schema's names: this set is the paper's
 pub handed-in : (s : Schema) → length s ≤ max_declarations → (w : ℕ) (r : NameSet) → ((n : Name) → member r n ≡ has n (set_of_word every_name w))
@@ -88,32 +89,26 @@ unfolding set_of set_of_word
 handed-in s l w r h =
     filter-cong (member r) (λ n. has_bit w (code_of n)) (names_of s) (λ n i. h n ∙ in-every w n (schema-every s l n i))
 
--- and what is handed back, for a set of a schema's names: its two words are the set's bits
+-- and what is handed back, for a set of a schema's names
 pub handed-back : (s : Schema) → length s ≤ max_declarations → (x : NameSet) → ((n : Name) → T (member x n) → In n (names_of s))
-    → bits_of x ≡ word_of_set (names_of s) (set_of (names_of s) x)
+    → word_of_set every_name (set_of every_name x) ≡ word_of_set (names_of s) (set_of (names_of s) x)
 handed-back s l x only =
-    same_bits (max_declarations + max_declarations) (bits_of x) (word_of_set (names_of s) (set_of (names_of s) x))
-    (two-words-below x.elements x.texts low high) (word_below s l (set_of (names_of s) x)) same
+    same_bits 64 (word_of_set every_name (set_of every_name x)) (word_of_set (names_of s) (set_of (names_of s) x)) (every-below (set_of every_name x))
+    (word_below s l (set_of (names_of s) x)) same
   where
     coded : Coded (names_of s)
     coded = schema-coded s l
 
-    low : x.elements < 2 ^ max_declarations
-    low = bits_below max_declarations x.elements (λ e t. every_element e (schema-every s l (element e) (only (element e) t)))
-
-    high : x.texts < 2 ^ max_declarations
-    high = bits_below max_declarations x.texts (λ e t. every-text e (schema-every s l (text e) (only (text e) t)))
-
     by_name : (n : Name) → In n every_name → T (has n (names_of s)) ⊎ (T (has n (names_of s)) → ⊥)
-        → has_bit (bits_of x) (code_of n) ≡ has_bit (word_of_set (names_of s) (set_of (names_of s) x)) (code_of n)
-    by_name n i (inl t) = two-words x.elements x.texts low n i ∙ sym (word-member (names_of s) coded x n (has_in n (names_of s) t))
+        → has_bit (word_of_set every_name (set_of every_name x)) (code_of n) ≡ has_bit (word_of_set (names_of s) (set_of (names_of s) x)) (code_of n)
+    by_name n i (inl t) = word-member every_name every-coded x n i ∙ sym (word-member (names_of s) coded x n (has_in n (names_of s) t))
     by_name n i (inr f) =
-        two-words x.elements x.texts low n i ∙ false_of (member x n) (λ t. f (in-has (only n t)))
+        word-member every_name every-coded x n i ∙ false_of (member x n) (λ t. f (in-has (only n t)))
         ∙ sym (word-clear (names_of s) (set_of (names_of s) x) coded (code_of n)
         (λ m j e. f (in-has (subst (λ (k : Name). In k (names_of s)) (every-coded.apart m n (schema-every s l m j) i e) j))))
 
-    same : (i : ℕ) → i < max_declarations + max_declarations → has_bit (bits_of x) i ≡ has_bit (word_of_set (names_of s) (set_of (names_of s) x)) i
+    same : (i : ℕ) → i < 64 → has_bit (word_of_set every_name (set_of every_name x)) i ≡ has_bit (word_of_set (names_of s) (set_of (names_of s) x)) i
     same i b =
         let r = bit-name i b in
-        subst (λ (j : ℕ). has_bit (bits_of x) j ≡ has_bit (word_of_set (names_of s) (set_of (names_of s) x)) j) r.2
+        subst (λ (j : ℕ). has_bit (word_of_set every_name (set_of every_name x)) j ≡ has_bit (word_of_set (names_of s) (set_of (names_of s) x)) j) r.2
         (by_name r.0 r.1 (decided (has r.0 (names_of s))))

@@ -52,7 +52,7 @@ largest-data zero e h = absurd (omega arith)
 largest-data (suc n) zero h = tt
 largest-data (suc n) (suc e) h = largest-data n e (omega arith)
 
--- it has the elements that a schema may have, and their text names
+-- it has the elements below 32, and their text names
 pub element-every : (e : ℕ) → e < max_declarations → In (element e) every_name
 unfolding every_name
 element-every e h = element-in (largest max_declarations) e h
@@ -73,7 +73,7 @@ pub every-coded : Coded every_name
 unfolding every_name
 every-coded = schema-coded (largest max_declarations) (omega arith)
 
--- so it has each name of a schema
+-- so it has each name of a schema with at most 32 elements
 pub schema-every : (s : Schema) → length s ≤ max_declarations → (n : Name) → In n (names_of s) → In n every_name
 schema-every s l (element e) i =
     let h = in-element s e i in

@@ -3,7 +3,7 @@ use Rattle.std.specs.Prelude.{Bool, ◌&&◌, ◌||◌, ◌≡◌, ℕ, zero, su
 use mathlib.Core.List.{[], ◌∷◌, Memᴰ}
 use Rattle.names.specs.declared.NameSet.{NameSet}
 use Rattle.schema_spec.specs.Models.{pcdata}
-use Rattle.schema_spec.specs.Names.{Name, Names, element, text, has, names_of, in_two_words, has_bit}
+use Rattle.schema_spec.specs.Names.{Name, Names, element, text, has, names_of, has_bit}
 use Rattle.schema_spec.specs.Schemas.{Schema}
 use Rattle.text_spec.specs.Limits.{max_declarations}
 use Rattle.text_spec.specs.Lists.{filter_by, any_below}
@@ -12,10 +12,6 @@ use Rattle.text_spec.specs.Lists.{filter_by, any_below}
 abbrev pub member : NameSet → Name → Bool
 member s (element e) = has_bit s.elements e
 member s (text e) = has_bit s.texts e
-
--- the paper's 128 bits
-abbrev pub bits_of : NameSet → ℕ
-bits_of s = in_two_words s.elements s.texts
 
 -- those of the names that are in the set, in their order
 unfoldable pub set_of : Names → NameSet → Names
@@ -42,7 +38,7 @@ abbrev pub largest : ℕ → Schema
 largest zero = []
 largest (suc n) = record { name = []; content = pcdata } ∷ largest n
 
--- every name that has a place among a set's bits
+-- every name that has a place among 64 bits
 unfoldable pub every_name : Names
 every_name = names_of (largest max_declarations)
 

@@ -1,45 +1,46 @@
-// The names of `count` elements in order, one at a time: the elements, and then their text names.
-ghost use Rattle.std.specs.Prelude.{◌&&◌, ◌||◌, ◌≡◌, ◌+◌, ◌<◌, ◌≤◌};
+// Names by their codes, one at a time.
+ghost use Rattle.std.specs.Prelude.{◌&&◌, ◌||◌, ◌≡◌, ◌<◌};
 ghost use Rattle.names.specs.Sets.{member};
-ghost use Rattle.names.specs.codes.Codes.{name_at};
+ghost use Rattle.names.specs.codes.Codes.{name_of_code};
 ghost use Rattle.schema_spec.specs.Names.{Name, same_name};
-ghost use Rattle.text_spec.specs.Limits.{max_declarations};
 
 use crate::{MAX_ELEMENTS, NameSet};
 
-// How many codes there are: one for each element and one for its text name. Of as many elements as a schema may have, the place of a name in order
-// is its code.
+// How many codes there are: one for each element and one for its text name.
 pub const CODES: usize = 2 * MAX_ELEMENTS;
 
-// The name at the place `k` alone.
-pub fn single(count: usize, k: usize) -> NameSet
-    ensures { count ≤ max_declarations → k < count + count → (n : Name) → member result n ≡ same_name n (name_at count k) }
+// The name of the code `c` alone.
+pub fn single(c: usize) -> NameSet
+    requires { c < 64 }
+    ensures { (n : Name) → member result n ≡ same_name n (name_of_code c) }
 {
     let none = NameSet::empty();
-    if k < count {
-        none.insert_element(k)
+    if c < MAX_ELEMENTS {
+        none.insert_element(c)
     } else {
-        none.insert_text(k - count)
+        none.insert_text(c - MAX_ELEMENTS)
     }
 }
 
-// Whether the name at the place `k` is in the set.
-pub fn has(t: NameSet, count: usize, k: usize) -> bool
-    ensures { result ≡ member t (name_at count k) }
+// Whether the name of the code `c` is in the set.
+pub fn has(t: NameSet, c: usize) -> bool
+    requires { c < 64 }
+    ensures { result ≡ member t (name_of_code c) }
 {
-    if k < count {
-        t.has_element(k)
+    if c < MAX_ELEMENTS {
+        t.has_element(c)
     } else {
-        t.has_text(k - count)
+        t.has_text(c - MAX_ELEMENTS)
     }
 }
 
-// The set `out`, and with it the name at the place `k`, if `v`.
-pub fn with_name(out: NameSet, count: usize, k: usize, v: bool) -> NameSet
-    ensures { count ≤ max_declarations → k < count + count → (n : Name) → member result n ≡ (member out n || (same_name n (name_at count k) && v)) }
+// The set `out`, and with it the name of the code `c`, if `v`.
+pub fn with_name(out: NameSet, c: usize, v: bool) -> NameSet
+    requires { c < 64 }
+    ensures { (n : Name) → member result n ≡ (member out n || (same_name n (name_of_code c) && v)) }
 {
     if v {
-        let one = single(count, k);
+        let one = single(c);
         out.union(one)
     } else {
         out

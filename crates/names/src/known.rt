@@ -1,6 +1,6 @@
 // The names of a schema as a set, from the number of its elements and what each holds; sets that are handed in, cut to it.
 ghost use Rattle.std.specs.Prelude.{◌||◌, ◌≡◌, ◌<◌, ◌≤◌, length};
-ghost use Rattle.names.specs.Sets.{member, bits_of, set_in, NamesOf, Known};
+ghost use Rattle.names.specs.Sets.{member, set_in, NamesOf, Known};
 ghost use Rattle.names.specs.closures.Schemas.{RelationOf};
 ghost use Rattle.names.specs.known.Known.{of_element};
 ghost use Rattle.schema_spec.specs.Names.{Name, names_of, set_of_word};
@@ -39,9 +39,10 @@ pub fn names_of(images: [NameSet; MAX_ELEMENTS], count: usize) -> NameSet
     out
 }
 
-// A set that is handed in, without the bits that are no names of the schema.
-pub fn handed_in(set: NameSet, all: NameSet) -> NameSet
-    ensures { (s : Schema) → length s ≤ max_declarations → NamesOf s all → (set_in s result ≡ set_of_word (names_of s) (bits_of set)) × Known s result }
+// The set that 64 bits hand in, without the bits that are no names of the schema.
+pub fn handed_in(word: u64, all: NameSet) -> NameSet
+    ensures { (s : Schema) → length s ≤ max_declarations → NamesOf s all → (set_in s result ≡ set_of_word (names_of s) word) × Known s result }
 {
+    let set = NameSet::from_word(word);
     set.common(all)
 }

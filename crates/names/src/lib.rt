@@ -6,16 +6,14 @@ pub mod known;
 pub mod related;
 
 ghost use Rattle.std.specs.Prelude.{false, not, ◌&&◌, ◌||◌, ◌↔◌, ◌≡◌, T, ltb};
-ghost use Rattle.names.specs.Sets.{member, overlap};
-ghost use Rattle.schema_spec.specs.Names.{Name, element, text, same_name};
+ghost use Rattle.names.specs.Sets.{member, set_of, every_name, overlap};
+ghost use Rattle.schema_spec.specs.Names.{Name, element, text, same_name, has, set_of_word, word_of_set};
 
 use text::limits;
 
 // How many elements a schema may have.
 pub const MAX_ELEMENTS: usize = limits::MAX_DECLARATIONS;
 
-// A set of names, as the paper's 128 bits in two words (`in_two_words`): bit e of `elements`, the low word, is element e's, and bit e of `texts`, the high
-// word, its text name's.
 #[derive(Drop)]
 pub struct NameSet {
     pub elements: u64,
@@ -106,5 +104,22 @@ impl NameSet {
         ensures { result ≡ overlap self other }
     {
         bits::meets(self.elements, other.elements) || bits::meets(self.texts, other.texts)
+    }
+
+    // The set that 64 bits hand in: bit e for element e, bit 32 + e for its text name.
+    pub fn from_word(word: u64) -> NameSet
+        ensures { (n : Name) → member result n ≡ has n (set_of_word every_name word) }
+    {
+        NameSet {
+            elements: word % 4294967296,
+            texts: word >> 32,
+        }
+    }
+
+    // The 64 bits that hand the set back: what is past element 31 has none.
+    pub fn to_word(self) -> u64
+        ensures { result ≡ word_of_set every_name (set_of every_name self) }
+    {
+        (self.elements % 4294967296) | ((self.texts % 4294967296) << 32)
     }
 }

@@ -1,18 +1,18 @@
--- The bits of a set that has only names of a schema, and compiled paths in their columns.
+-- The 64 bits of a set that has only names of a schema, and compiled paths in their columns.
 use Rattle.std.specs.Prelude.{◌≡◌, ◌+◌, ◌≤◌, length}
 use Rattle.std.proofs.Common.{ap, ◌∙◌, arith}
 use Rattle.compiled_paths.specs.Paths.{Shaped}
 use Rattle.compiled_paths.specs.Sizes.{written_steps, all_steps}
 use Rattle.compiled_paths.specs.declared.CompiledPaths.{CompiledPaths}
 use Rattle.names.specs.Encoding.{handed-back}
-use Rattle.names.specs.Sets.{bits_of, set_in, Known}
+use Rattle.names.specs.Sets.{set_of, every_name, set_in, Known}
 use Rattle.names.specs.declared.NameSet.{NameSet}
 use Rattle.needed_names.specs.Bundles.{HasPaths}
 use Rattle.schema_spec.specs.Names.{Names, word_of_set, names_of}
 use Rattle.schema_spec.specs.Schemas.{Schema}
 use Rattle.text_spec.specs.Limits.{max_declarations, max_paths}
 
-pub word-of-known : (s : Schema) → length s ≤ max_declarations → (x : NameSet) (l : Names) → Known s x → set_in s x ≡ l → bits_of x ≡ word_of_set (names_of s) l
+pub word-of-known : (s : Schema) → length s ≤ max_declarations → (x : NameSet) (l : Names) → Known s x → set_in s x ≡ l → word_of_set every_name (set_of every_name x) ≡ word_of_set (names_of s) l
 word-of-known s small x l only e = handed-back s small x only ∙ ap (word_of_set (names_of s)) e
 
 -- the columns of compiled paths have their lengths

@@ -1,5 +1,5 @@
 // The alternatives of a condition, from one name: whether one of them ends with a type that is not empty, and what they need.
-ghost use Rattle.std.specs.Prelude.{◌≡◌};
+ghost use Rattle.std.specs.Prelude.{◌≡◌, ◌<◌};
 ghost use Rattle.compiled_paths.specs.Columns.{plain_in, alternatives_in};
 ghost use Rattle.inference.specs.plain_steps.Columns.{HasSteps};
 ghost use Rattle.inference.specs.type_steps.Relations.{RelationsOf, env_in};
@@ -14,7 +14,7 @@ use inference::plain_steps::{infer_plain, need_plain};
 use inference::type_steps::{Inferred, cut_to};
 use names::{MAX_ELEMENTS, NameSet, codes};
 
-// The type of the name at the place `c` alone, and the context `k` cut to it and above it.
+// The type of the name of the code `c` alone, and the context `k` cut to it and above it.
 pub fn from_name(
     holds: [NameSet; MAX_ELEMENTS],
     below: [NameSet; MAX_ELEMENTS],
@@ -22,9 +22,10 @@ pub fn from_name(
     k: NameSet,
     c: usize,
 ) -> Inferred
-    ensures { (s : Schema) → RelationsOf s holds below count → FromName s k count c result }
+    requires { c < 64 }
+    ensures { (s : Schema) → RelationsOf s holds below count → FromName s k c result }
 {
-    let types = codes::single(count, c);
+    let types = codes::single(c);
     let context = cut_to(holds, below, count, types, k);
     Inferred { types, context }
 }

@@ -1,5 +1,5 @@
 // The condition of a step: which names of a type it keeps, and what it wants from names.
-ghost use Rattle.std.specs.Prelude.{◌&&◌, ◌≡◌};
+ghost use Rattle.std.specs.Prelude.{◌&&◌, ◌≡◌, ◌<◌};
 ghost use mathlib.Core.List.{Memᴰ};
 ghost use Rattle.compiled_paths.specs.Columns.{condition_in};
 ghost use Rattle.compiled_paths.specs.Paths.{entry_alternatives};
@@ -7,7 +7,7 @@ ghost use Rattle.inference.specs.plain_steps.Columns.{HasSteps};
 ghost use Rattle.inference.specs.type_steps.Relations.{RelationsOf, env_in};
 ghost use Rattle.inference_spec.specs.Types.{narrow};
 ghost use Rattle.names.specs.Sets.{member, set_in, NamesOf, Known};
-ghost use Rattle.names.specs.codes.Codes.{name_at};
+ghost use Rattle.names.specs.codes.Codes.{name_of_code};
 ghost use Rattle.needed_names.specs.conditions.Conditions.{keeps_in, wants_in};
 ghost use Rattle.schema_spec.specs.Names.{Name, has, names_of, within};
 ghost use Rattle.schema_spec.specs.Schemas.{Schema};
@@ -16,11 +16,10 @@ ghost use Rattle.text_spec.specs.Lists.{gather};
 
 use crate::alternatives::{any_ends_some, from_name, need_of_all};
 use inference::type_steps::{Inferred, cut_to};
-use names::closures::at_most;
-use names::codes::with_name;
+use names::codes::{CODES, with_name};
 use names::{MAX_ELEMENTS, NameSet, codes};
 
-// Whether the name at the place `c` is in the type `t` and the alternatives in `n` steps from `i` on keep it, in the context `k`.
+// Whether the name of the code `c` is in the type `t` and the alternatives in `n` steps from `i` on keep it, in the context `k`.
 fn keeps(
     all: NameSet,
     holds: [NameSet; MAX_ELEMENTS],
@@ -34,10 +33,10 @@ fn keeps(
     k: NameSet,
     c: usize,
 ) -> bool
-    requires { HasSteps axes.now tests.now i n }
-    ensures { (s : Schema) → RelationsOf s holds below count → NamesOf s all → Memᴰ (name_at count c) (names_of s) → result ≡ (member t (name_at count c) && keeps_in s k (entry_alternatives axes tests n i) (name_at count c)) }
+    requires { HasSteps axes.now tests.now i n × (c < 64) }
+    ensures { (s : Schema) → RelationsOf s holds below count → NamesOf s all → Memᴰ (name_of_code c) (names_of s) → result ≡ (member t (name_of_code c) && keeps_in s k (entry_alternatives axes tests n i) (name_of_code c)) }
 {
-    if codes::has(t, count, c) {
+    if codes::has(t, c) {
         let e = from_name(holds, below, count, k, c);
         any_ends_some(all, holds, below, count, axes, tests, i, n, e)
     } else {
@@ -61,12 +60,11 @@ fn kept_by_some(
     requires { HasSteps axes.now tests.now i n }
     ensures { (s : Schema) → RelationsOf s holds below count → NamesOf s all → (m : Name) → Memᴰ m (names_of s) → member result m ≡ (member t m && keeps_in s k (entry_alternatives axes tests n i) m) }
 {
-    let total = 2 * at_most(count);
     let mut out = NameSet::empty();
     let mut c = 0;
-    while c < total {
+    while c < CODES {
         let v = keeps(all, holds, below, count, axes, tests, i, n, t, k, c);
-        let next = with_name(out, count, c, v);
+        let next = with_name(out, c, v);
         out = next;
         c += 1;
     }
@@ -118,7 +116,7 @@ pub fn conditioned(
     Inferred { types, context }
 }
 
-// What the alternatives in `n` steps from `i` on want from the name at the place `c`, if it is in the set `g`, in the context `k`.
+// What the alternatives in `n` steps from `i` on want from the name of the code `c`, if it is in the set `g`, in the context `k`.
 fn wanted_of(
     holds: [NameSet; MAX_ELEMENTS],
     below: [NameSet; MAX_ELEMENTS],
@@ -131,10 +129,10 @@ fn wanted_of(
     k: NameSet,
     c: usize,
 ) -> NameSet
-    requires { HasSteps axes.now tests.now i n }
-    ensures { (s : Schema) → RelationsOf s holds below count → Known s g → (m : Name) → Memᴰ m (names_of s) → member result m ≡ (member g (name_at count c) && has m (wants_in s k (entry_alternatives axes tests n i) (name_at count c))) }
+    requires { HasSteps axes.now tests.now i n × (c < 64) }
+    ensures { (s : Schema) → RelationsOf s holds below count → Known s g → (m : Name) → Memᴰ m (names_of s) → member result m ≡ (member g (name_of_code c) && has m (wants_in s k (entry_alternatives axes tests n i) (name_of_code c))) }
 {
-    if codes::has(g, count, c) {
+    if codes::has(g, c) {
         let e = from_name(holds, below, count, k, c);
         need_of_all(holds, below, count, axes, tests, i, n, e)
     } else {
@@ -159,10 +157,9 @@ fn wanted_by_some(
     ensures { (s : Schema) → RelationsOf s holds below count → NamesOf s all → set_in s result ≡ within (names_of s) (gather (wants_in s k (entry_alternatives axes tests n i)) (set_in s h)) }
 {
     let g = h.common(all);
-    let total = 2 * at_most(count);
     let mut out = NameSet::empty();
     let mut c = 0;
-    while c < total {
+    while c < CODES {
         let one = wanted_of(holds, below, count, axes, tests, i, n, g, k, c);
         let next = out.union(one);
         out = next;

@@ -7,13 +7,12 @@ ghost use Rattle.needed_names.specs.records.Records.{outcome_of};
 use crate::texts::needed_by_texts;
 use bundle::reader::Bundle;
 use bundle::record_tests::is_bundle_record;
-use names::NameSet;
 use schema::Schema;
 
-// The names, or refusal 1.
+// The names as 64 bits, or refusal 1.
 #[derive(Drop)]
 pub enum Needed {
-    Names(NameSet),
+    Names(u64),
     BadRecord,
 }
 

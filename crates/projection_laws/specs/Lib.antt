@@ -21,7 +21,6 @@ pub mod Calls
 pub mod Hosts
 pub mod Prints
 pub mod Limits
-pub mod Declarations
 pub mod Fields
 pub mod Items
 pub mod TextNames

@@ -1,5 +1,5 @@
 -- For an accepted schema: the types and contexts that are computed are those of document 01's rules, the needed names those on its walks,
--- and the 128 bits answered are the bits of these names.
+-- and the 64 bits answered are the bits of these names.
 use mathlib.Core.List.{List, [], Memᴰ as In}
 use Rattle.std.specs.Prelude.{◌↔◌, ◌≡◌, T}
 use Rattle.std.proofs.Common.{sym, subst}
@@ -98,7 +98,7 @@ module _ (schema : List ℕ) (s : Schema) (taken : SchemaTaken schema s) where
       λ z. word-has (names_of s) (needed (types_of s) ps) coded i (needed-complete n z),
     )
 
-    -- and there are 128
-    pub needed-below : needed_word (types_of s) ps < 2 ^ 128
+    -- and there are 64
+    pub needed-below : needed_word (types_of s) ps < 2 ^ 64
     unfolding needed_word types_of
     needed-below = word_below s (accepted-length schema s read) (needed (types_of s) ps)

@@ -193,7 +193,7 @@ names-of-elements ns [] = refl
 names-of-elements ns (d ∷ ds) = ap {B = List (List ℕ)} (λ l. d.name.name ∷ l) (names-of-elements ns ds)
 
 module _ (text : List ℕ) (s : Schema) (e : read_schema text ≡ accepted s) where
-  -- at most 64 declarations (document 02, R-3)
+  -- "at most 32 declarations"
   pub accepted-length : length s ≤ max_declarations
   accepted-length =
       let p = accepted-spelt text s e in
@@ -212,7 +212,7 @@ module _ (text : List ℕ) (s : Schema) (e : read_schema text ≡ accepted s) wh
       let p = accepted-spelt text s e in
       subst Closed p.gives (gives-closed p.declarations p.all-declared)
 
-  -- "64 names in a model"
+  -- "At most 32 declarations, 64 names in a model": the second
   pub accepted-models : (a : ℕ) → length (model_at s a) ≤ max_model_names
   accepted-models a =
       let p = accepted-spelt text s e in
@@ -236,7 +236,7 @@ module _ (text : List ℕ) (s : Schema) (e : read_schema text ≡ accepted s) wh
       let r = map-in (resolved (declared_names ds)) ds (subst (λ (y : Schema). In x y) (sym p.gives) i) in
       subst (λ (y : Element). T (is_name y.name)) (sym r.2) ((spelt-named text ds p.spelt).1 r.0 r.1)
 
-  -- an element's index is below the limit of declarations, and so is that of a text name
+  -- an element's index is below 32, and so is that of a text name
   pub accepted-element : (a : ℕ) → In (element a) (names_of s) → a < max_declarations
   accepted-element a i =
       let h = in-element s a i in

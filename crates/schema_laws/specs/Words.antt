@@ -1,10 +1,10 @@
--- Sets of names as 128 bits: a set that is handed back and in again is the same, and bits without a name mean nothing.
+-- Sets of names as 64 bits: a set that is handed back and in again is the same, and bits without a name mean nothing.
 use Rattle.std.specs.Prelude.{Bool, true, false, cond, ◌⊎◌, ◌≡◌, refl, ℕ, zero, suc, ◌+◌, ◌-◌, ◌*◌, ◌/◌, ◌%◌, ◌^◌, ◌≤◌, ◌<◌, T, eqb, ltb, length}
 use mathlib.Core.List.Memᴰ.{cases_cons}
 use mathlib.Core.List.Memᴰ.{head as here}
 use mathlib.Core.List.Memᴰ.{tail as there}
 use mathlib.Core.List.{[], ◌∷◌, map, Memᴰ as In}
-use Rattle.std.proofs.Common.{inl, inr, ⊎_elim, sym, ap, subst, ◌∙◌, div-one, div-add-mod', mod-lt, zero-mul, zero-add, arith, eqb→eq, ltb→lt, lt→ltb, nltb→le, pow-add, pow_pos}
+use Rattle.std.proofs.Common.{inl, inr, ⊎_elim, sym, ap, subst, ◌∙◌, div-one, arith, eqb→eq, ltb→lt, lt→ltb, nltb→le, pow-add}
 use Rattle.std.proofs.Math.Option.{none, some}
 use Rattle.std.proofs.Math.Nat.{pow-succ', div-div-eq-div-mul, zero-div}
 use Rattle.std.proofs.Math.Dec.{eqb_refl, not_T}
@@ -83,7 +83,7 @@ pub record Coded (names : Names) : Type 0 where
   pub once : Distinct names
   pub apart : (a b : Name) → In a names → In b names → code_of a ≡ code_of b → a ≡ b
 
--- the codes of a schema's names, of which so many are elements at most: below twice as many, and distinct
+-- the codes of a schema's names, of which 32 are elements at most: below 64, and distinct
 pub code_below : (s : Schema) → length s ≤ max_declarations → (n : Name) → In n (names_of s) → code_of n < max_declarations + max_declarations
 code_below s l (element e) i =
     let h = in-element s e i in
@@ -216,35 +216,18 @@ no_bits (suc k) v l h =
     let r : v / 2 ≡ 0 = no_bits k (v / 2) (omega arith) (λ i. sym (bit-half v i) ∙ h (suc i)) in
     omega arith
 
--- a number without bits at or past a width fits it
-fits_width : (w v : ℕ) → ((i : ℕ) → bit v (w + i) ≡ 0) → v < 2 ^ w
-fits_width w v h =
-    let none_above : (i : ℕ) → bit (v / 2 ^ w) i ≡ 0 = λ i.
-    ap (λ (x : ℕ). x % 2) (div-div-eq-div-mul v (2 ^ w) (2 ^ i) ∙ ap (λ (p : ℕ). v / p) (sym (pow-add 2 w i))) ∙ h i in
-    let z : v / 2 ^ w ≡ 0 = no_bits (v / 2 ^ w) (v / 2 ^ w) (omega arith) none_above in
-    let rest : v % 2 ^ w ≡ v = sym (ap (λ (q : ℕ). q * 2 ^ w + v % 2 ^ w) z ∙ ap (λ (n : ℕ). n + v % 2 ^ w) (zero-mul (2 ^ w)) ∙ zero-add (v % 2 ^ w)) ∙ div-add-mod' v (2 ^ w) in
-    subst (λ (x : ℕ). x < 2 ^ w) rest (mod-lt v (pow_pos w))
-
--- a number whose bits are all below a width fits it
-pub bits_below : (w v : ℕ) → ((i : ℕ) → T (has_bit v i) → i < w) → v < 2 ^ w
-bits_below w v h = fits_width w v (λ i. clear (w + i) (omega arith) (decided (has_bit v (w + i))))
-  where
-    clear : (i : ℕ) → w ≤ i → T (has_bit v i) ⊎ (T (has_bit v i) → ⊥) → bit v i ≡ 0
-    clear i l (inl t) = let b = h i t in absurd (omega arith)
-    clear i l (inr f) =
-        let other : bit v i ≡ 1 → ⊥ = λ e. f (subst (λ (x : ℕ). T (eqb x 1)) (sym e) tt) in
-        let two : bit v i < 2 = mod-lt (v / 2 ^ i) (omega arith) in
-        omega arith
-
--- a set of a schema's names takes a bit for each element and one for its text name at most
-pub word_below : (s : Schema) → length s ≤ max_declarations → (t : Names) → word_of_set (names_of s) t < 2 ^ (max_declarations + max_declarations)
+-- a set of a schema's names takes 64 bits at most
+pub word_below : (s : Schema) → length s ≤ max_declarations → (t : Names) → word_of_set (names_of s) t < 2 ^ 64
 unfolding word_of_set
 word_below s l t =
-    fits_width (max_declarations + max_declarations) (sum (within (names_of s) t))
-    (λ i.
-    (set-bits (names_of s) t (schema-coded s l) (max_declarations + max_declarations + i)).1
+    let w = sum (within (names_of s) t) in
+    let none_above : (i : ℕ) → bit (w / 2 ^ 64) i ≡ 0 = λ i.
+    ap (λ (x : ℕ). x % 2) (div-div-eq-div-mul w (2 ^ 64) (2 ^ i) ∙ ap (λ (p : ℕ). w / p) (sym (pow-add 2 64 i)))
+    ∙ (set-bits (names_of s) t (schema-coded s l) (64 + i)).1
     (λ j.
     let r = map-in code_of (within (names_of s) t) j in
     let b = code_below s l r.0 (filter-in (λ n. has n t) (names_of s) r.1).0 in
-    let e : max_declarations + max_declarations + i ≡ code_of r.0 = r.2 in
-    omega arith))
+    let e : 64 + i ≡ code_of r.0 = r.2 in
+    omega arith) in
+    let z : w / 2 ^ 64 ≡ 0 = no_bits (w / 2 ^ 64) (w / 2 ^ 64) (omega arith) none_above in
+    omega arith

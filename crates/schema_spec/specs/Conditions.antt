@@ -13,7 +13,7 @@ use Rattle.text_spec.specs.Texts.{SplitAt, LengthApplies, ByteApplies, Departs}
 abbrev pub Grammatical : List ℕ → Type 0
 Grammatical text = (ds : List Declaration) × SchemaText text ds
 
--- 5. a declaration with 64 before it (document 02, R-3: "refusal 5 moves to the 65th"), or a name with 64 before it in its model
+-- 5. a declaration with 32 before it, or a name with 64 before it in its model
 pub data OverLimit (ds : List Declaration) : ℕ → Type 0 where
   declaration : {i : ℕ} (s : SplitAt ds i) → max_declarations ≤ i → OverLimit ds s.here.place
   model_name : {i j : ℕ} (s : SplitAt ds i) (u : SplitAt (uses_in s.here.content) j) → max_model_names ≤ j → OverLimit ds u.here.place

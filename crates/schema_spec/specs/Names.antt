@@ -1,5 +1,5 @@
--- Names of the type system, sets of them, and their encoding in 128 bits.
-use Rattle.std.specs.Prelude.{Bool, true, false, cond, List, [], ◌∷◌, ◌++◌, map, ℕ, suc, ◌+◌, ◌-◌, ◌*◌, ◌/◌, ◌%◌, ◌^◌, eqb, ltb}
+-- Names of the type system, sets of them, and their 64-bit encoding.
+use Rattle.std.specs.Prelude.{Bool, true, false, cond, List, [], ◌∷◌, ◌++◌, map, ℕ, suc, ◌+◌, ◌-◌, ◌/◌, ◌%◌, ◌^◌, eqb, ltb}
 use Rattle.std.proofs.Math.Option.{Option, none, some}
 use Rattle.schema_spec.specs.Schemas.{Schema, is_pcdata}
 use Rattle.text_spec.specs.Limits.{max_declarations}
@@ -43,7 +43,7 @@ has n s = any_of (same_name n) s
 abbrev pub within : Names → Names → Names
 within a b = filter_by (λ n. has n b) a
 
--- document 02, R-3: "A set of names becomes 128 bits, bit e for element e and bit 64+e for its text"
+-- "A set of names is 64 bits: bit e for element e, bit 32+e for its text name"
 abbrev pub code_of : Name → ℕ
 code_of (element e) = e
 code_of (text e) = max_declarations + e
@@ -51,10 +51,6 @@ code_of (text e) = max_declarations + e
 -- the name with this code, if there can be one
 abbrev pub name_of_code : ℕ → Option Name
 name_of_code c = cond (ltb c max_declarations) (some (element c)) (cond (ltb c (max_declarations + max_declarations)) (some (text (c - max_declarations))) none)
-
--- the 128 bits as two words: the low one has the elements, the high one the text names
-unfoldable pub in_two_words : ℕ → ℕ → ℕ
-in_two_words elements texts = elements + texts * 2 ^ max_declarations
 
 abbrev pub has_bit : ℕ → ℕ → Bool
 has_bit word i = eqb (word / (2 ^ i) % 2) 1

@@ -13,12 +13,9 @@ use Rattle.text_spec.specs.Texts.{length_refusals, byte_refusals}
 abbrev pub uses_of : Declaration → List Use
 uses_of d = uses_in d.content
 
--- 5. "the `<` of the first declaration too many, or the first name too many", where there may be `most` declarations
-abbrev pub limit_places_within : ℕ → List Declaration → List ℕ
-limit_places_within most ds = map (λ d. d.place) (drop most ds) ++ gather (λ d. map (λ u. u.place) (drop max_model_names (uses_of d))) ds
-
+-- 5. "the `<` of the first declaration too many, or the first name too many"
 abbrev pub limit_places : List Declaration → List ℕ
-limit_places ds = limit_places_within max_declarations ds
+limit_places ds = map (λ d. d.place) (drop max_declarations ds) ++ gather (λ d. map (λ u. u.place) (drop max_model_names (uses_of d))) ds
 
 -- 6. "An element is declared twice (the second name)": those declared among the names before
 abbrev pub twice_places : List (List ℕ) → List Declaration → List ℕ
@@ -33,28 +30,16 @@ undeclared_places ds =
     map (λ u. u.place) (filter_by (λ u. not (any_of (same_bytes u.name) (declared_names ds))) (gather uses_of ds))
 
 -- 4 to 7
-abbrev pub parsed_refusals_within : ℕ → Parsed (List Declaration) → List Refusal
-parsed_refusals_within most (departs k) = at bad_schema k ∷ []
-parsed_refusals_within most (spells ds) =
-    all_at over_schema_limit (limit_places_within most ds) ++ (all_at declared_twice (twice_places [] ds) ++ all_at undeclared_in_model (undeclared_places ds))
-
 abbrev pub parsed_refusals : Parsed (List Declaration) → List Refusal
-parsed_refusals p = parsed_refusals_within max_declarations p
+parsed_refusals (departs k) = at bad_schema k ∷ []
+parsed_refusals (spells ds) = all_at over_schema_limit (limit_places ds) ++ (all_at declared_twice (twice_places [] ds) ++ all_at undeclared_in_model (undeclared_places ds))
 
 abbrev pub parsed_schema : Parsed (List Declaration) → Schema
 parsed_schema (departs k) = []
 parsed_schema (spells ds) = schema_of ds
 
-abbrev pub schema_refusals_within : ℕ → List ℕ → List Refusal
-schema_refusals_within most text = length_refusals max_schema_bytes text ++ (byte_refusals text ++ parsed_refusals_within most (parse text))
-
 unfoldable pub schema_refusals : List ℕ → List Refusal
-schema_refusals text = schema_refusals_within max_declarations text
-
--- A schema text read where there may be `most` declarations. Nothing else of a schema, and nothing that is read under one, mentions that limit but the
--- codes of text names (`code_of`).
-abbrev pub read_schema_within : ℕ → List ℕ → Outcome Schema
-read_schema_within most text = judged (schema_refusals_within most text) (parsed_schema (parse text))
+schema_refusals text = length_refusals max_schema_bytes text ++ (byte_refusals text ++ parsed_refusals (parse text))
 
 unfoldable pub read_schema : List ℕ → Outcome Schema
-read_schema text = read_schema_within max_declarations text
+read_schema text = judged (schema_refusals text) (parsed_schema (parse text))

@@ -6,7 +6,7 @@ ghost use Rattle.tables.specs.Handed.{entry_table};
 use crate::answers::{Selected, bad_record};
 use crate::table::select_table;
 use compiled_paths::{CONDITION_STARTS, PATH_STARTS, STEPS};
-use compiled_schema::held_words::WORDS;
+use names::MAX_ELEMENTS;
 use tables::is_table_beside;
 
 // Selects by compiled paths, `total` of them; `words` has for each element of the schema the names that it holds.
@@ -16,7 +16,7 @@ pub fn select_lent<'a>(
     conditions: &'a [u16; CONDITION_STARTS],
     paths: &'a [u8; PATH_STARTS],
     total: usize,
-    words: &[u64; WORDS],
+    words: &[u64; MAX_ELEMENTS],
     place: usize,
     numbers: &[u16],
     codes: &[u8],

@@ -38,7 +38,7 @@ fn select_texts(
     let names = compiled.names;
     let entries: Entries = compiled.entries;
     let holds: [NameSet; MAX_ELEMENTS] = entries.holds;
-    let words = held_words::held_words(holds, elements);
+    let words = held_words::held_words(holds);
     let judged = byte_judging::judge_bundle(schema, &names[..elements], text);
     select_lent(
         &judged.paths.axes,

@@ -2,29 +2,21 @@
 ghost use Rattle.std.specs.Prelude.{List, ◌≡◌, ℕ, ◌≤◌, length};
 ghost use Rattle.compiled_schema.specs.records.Records.{record_with};
 ghost use Rattle.library_spec.specs.Calls.{table_cut_rows};
-ghost use Rattle.names.specs.Sets.{bits_of};
 ghost use Rattle.row_structs.specs.Structs.{AnsweredFor, Laid, columns_in};
 ghost use Rattle.table_spec.specs.Rows.{Cells};
 ghost use Rattle.text_spec.specs.Limits.{max_nodes};
 
 use cells::verdicts::Verdict;
 use cut_table::records::cut_table;
-use names::NameSet;
 use row_structs::refused::refused_table;
 use row_structs::{CELLS, RowColumns, TableAnswer, cell_of};
 use schema::Schema;
 use tables::row_counts::are_too_many;
 
 // Cuts a table of no more rows than a table can have.
-fn cut_laid(
-    schema: Schema,
-    laid: RowColumns,
-    count: usize,
-    set: NameSet,
-    room: usize,
-) -> TableAnswer
+fn cut_laid(schema: Schema, laid: RowColumns, count: usize, word: u64, room: usize) -> TableAnswer
     requires { count ≤ max_nodes }
-    ensures { (rows : List Cells) → length rows ≡ count → Laid rows (columns_in laid) → AnsweredFor (table_cut_rows (record_with schema.bytes schema.len) rows (bits_of set) room) room result }
+    ensures { (rows : List Cells) → length rows ≡ count → Laid rows (columns_in laid) → AnsweredFor (table_cut_rows (record_with schema.bytes schema.len) rows word room) room result }
 {
     let held = laid.numbers;
     let codes = laid.names;
@@ -48,7 +40,7 @@ fn cut_laid(
         &sizes,
         &decoded_sizes,
         count,
-        set,
+        word,
         &mut numbers[..size],
         &mut names[..size],
         &mut parents[..size],
@@ -72,13 +64,13 @@ pub fn cut_columns(
     schema: Schema,
     columns: RowColumns,
     count: usize,
-    set: NameSet,
+    word: u64,
     room: usize,
 ) -> TableAnswer
-    ensures { (rows : List Cells) → length rows ≡ count → Laid rows (columns_in columns) → AnsweredFor (table_cut_rows (record_with schema.bytes schema.len) rows (bits_of set) room) room result }
+    ensures { (rows : List Cells) → length rows ≡ count → Laid rows (columns_in columns) → AnsweredFor (table_cut_rows (record_with schema.bytes schema.len) rows word room) room result }
 {
     if are_too_many(count) {
         return refused_table();
     }
-    cut_laid(schema, columns, count, set, room)
+    cut_laid(schema, columns, count, word, room)
 }

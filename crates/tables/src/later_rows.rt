@@ -4,17 +4,18 @@ ghost use Rattle.table_laws.specs.passes.Passes.{later_fits};
 ghost use Rattle.text_spec.specs.Limits.{max_depth};
 
 use crate::{row_limits, row_tests};
+use names::bits;
 use text::limits;
 
 // One more than the highest number of a row.
 const MAX_NODES: u16 = limits::MAX_NODES as u16;
 
-// Whether a row fits after the row with the number `before`, which is a text or not, and under a parent of this depth, which holds its name
-// or not.
+// Whether a row fits after the row with the number `before`, which is a text or not, and under a parent of this depth, which holds the names
+// whose bits are in `word`.
 pub fn later_fits(
     before: u16,
     text: bool,
-    held: bool,
+    word: u64,
     depth: usize,
     number: u16,
     code: u8,
@@ -23,7 +24,7 @@ pub fn later_fits(
     decoded: u16,
 ) -> bool
     requires { depth ≤ max_depth }
-    ensures { result ≡ later_fits before text held depth number code start length decoded }
+    ensures { result ≡ later_fits before text word depth number code start length decoded }
 {
     if number <= before {
         return false;
@@ -31,7 +32,7 @@ pub fn later_fits(
     if MAX_NODES <= number {
         return false;
     }
-    if !held {
+    if !bits::has_bit(word, code as usize) {
         return false;
     }
     if row_tests::is_text(code) {

@@ -17,7 +17,7 @@ ghost use Rattle.tables.specs.Handed.{is_held, is_beside, entry_table};
 
 use crate::rows::rows_fit;
 use crate::text_ranges::texts_pass;
-use compiled_schema::held_words::WORDS;
+use names::MAX_ELEMENTS;
 
 // Whether columns of these lengths are of one length, and have so many rows.
 fn sizes_fit(
@@ -58,7 +58,7 @@ pub fn is_table(
     lengths: &[u16],
     decoded: &[u16],
     count: usize,
-    words: &[u64; WORDS],
+    words: &[u64; MAX_ELEMENTS],
 ) -> bool
     ensures { (s : Schema) → HeldWords (types_of s) words.now → result ≡ is_held s (entry_table numbers codes parents starts lengths decoded count) }
 {
@@ -88,7 +88,7 @@ pub fn is_table_beside(
     lengths: &[u16],
     decoded: &[u16],
     count: usize,
-    words: &[u64; WORDS],
+    words: &[u64; MAX_ELEMENTS],
     lent: &[u8],
 ) -> bool
     ensures { (s : Schema) → HeldWords (types_of s) words.now → result ≡ is_beside s lent.now (entry_table numbers codes parents starts lengths decoded count) }

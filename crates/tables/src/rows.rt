@@ -7,7 +7,7 @@ ghost use Rattle.text_spec.specs.Limits.{max_depth};
 
 use crate::later_rows::later_fits;
 use crate::row_tests::{is_text, root_fits};
-use compiled_schema::held_words::{WORDS, holds_code};
+use names::MAX_ELEMENTS;
 
 // Whether a row fits after the row before it, under the row `parent`, whose depth this is.
 fn row_fits(
@@ -16,7 +16,7 @@ fn row_fits(
     starts: &[u32],
     lengths: &[u16],
     decoded: &[u16],
-    words: &[u64; WORDS],
+    words: &[u64; MAX_ELEMENTS],
     row: usize,
     parent: usize,
     depth: usize,
@@ -25,11 +25,11 @@ fn row_fits(
     ensures { result ≡ row_fits numbers.now codes.now starts.now lengths.now decoded.now words.now row parent depth }
 {
     let text = is_text(codes[row - 1]);
-    let held = holds_code(words, codes[parent] as usize, codes[row] as usize);
+    let word = words[codes[parent] as usize];
     later_fits(
         numbers[row - 1],
         text,
-        held,
+        word,
         depth,
         numbers[row],
         codes[row],
@@ -49,7 +49,7 @@ fn later_rows_fit(
     lengths: &[u16],
     decoded: &[u16],
     count: usize,
-    words: &[u64; WORDS],
+    words: &[u64; MAX_ELEMENTS],
 ) -> bool
     requires { Lent (held_columns numbers codes parents starts lengths decoded) count × RootAt (held_columns numbers codes parents starts lengths decoded) count }
     ensures { result ≡ later_pass words.now (entry_columns numbers codes parents starts lengths decoded) (count - 1) 0 0 1 }
@@ -89,7 +89,7 @@ pub fn rows_fit(
     lengths: &[u16],
     decoded: &[u16],
     count: usize,
-    words: &[u64; WORDS],
+    words: &[u64; MAX_ELEMENTS],
 ) -> bool
     requires { Lent (held_columns numbers codes parents starts lengths decoded) count }
     ensures { result ≡ rows_pass words.now (entry_columns numbers codes parents starts lengths decoded) count }

@@ -1,7 +1,7 @@
-// Every limit of document 01, in one place, with document 02's in place of those that a request moves: contracts cite the definitions of the same names (text_spec's Limits), so a proof fails where the two differ.
+// Every limit of document 01, in one place: contracts cite the definitions of the same names (text_spec's Limits), so a proof fails where the two differ.
 
 // Schema: declarations, names in a model, bytes, open parentheses, bytes of a name.
-pub const MAX_DECLARATIONS: usize = 64;
+pub const MAX_DECLARATIONS: usize = 32;
 
 pub const MAX_MODEL_NAMES: usize = 64;
 

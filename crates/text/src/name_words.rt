@@ -1,13 +1,7 @@
 // Names of at most 31 bytes as four words, by value.
 ghost use Rattle.std.specs.Prelude.{List, [], ◌∷◌, ◌++◌, ◌≡◌, ℕ, ◌<◌, length};
-ghost use Rattle.text_spec.specs.Limits.{max_declarations};
 ghost use Rattle.text_spec.specs.Lists.{same_bytes};
 ghost use Rattle.text.specs.name_words.Words.{words_of, name_at, Spells};
-
-use crate::limits;
-
-// How many words a table has with the name of each element: four for each.
-pub const TABLE_WORDS: usize = 4 * limits::MAX_DECLARATIONS;
 
 // The bytes in groups of eight, the last group in `a` as a number to the base 256, the group before it in `b`, and so on.
 #[derive(Drop)]
@@ -76,8 +70,8 @@ impl Name {
     }
 
     // Whether this is the name at cell e of a table of words, four for each name.
-    pub fn is(self, table: &[u64; TABLE_WORDS], e: usize) -> bool
-        requires { e < max_declarations }
+    pub fn is(self, table: &[u64; 128], e: usize) -> bool
+        requires { e < 32 }
         ensures { (u v : List ℕ) → Spells self u → Spells (name_at table.now e) v → result ≡ same_bytes u v }
     {
         let k = e * 4;

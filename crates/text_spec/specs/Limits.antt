@@ -1,9 +1,9 @@
--- Every limit of document 01, in one place, with document 02's in place of those that a request moves.
+-- Every limit of document 01, in one place.
 use Rattle.std.specs.Prelude.{ℕ}
 
--- Schema: declarations (document 02, R-3: "Raise 32 to 64"), names in a model, bytes, open parentheses, bytes of a name
+-- Schema: declarations, names in a model, bytes, open parentheses, bytes of a name
 abbrev pub max_declarations : ℕ
-max_declarations = 64
+max_declarations = 32
 
 abbrev pub max_model_names : ℕ
 max_model_names = 64

@@ -19,8 +19,7 @@ mod text;
 
 use crate::bundle::{read_bundle, Path};
 use crate::host::{Left, Lent};
-use crate::inputs::{arguments, differs, has_entity, random_input, report, shown, wanted_elements, wanted_refused_schema, wanted_steps, wanted_texts};
-use crate::inputs::{Input, Seen, MAX_JOURNAL};
+use crate::inputs::{arguments, differs, has_entity, random_input, report, shown, wanted_steps, wanted_texts, Input, Seen, MAX_JOURNAL};
 use crate::journal::{characters, read_journal};
 use crate::random::Random;
 use crate::schema::read_schema;
@@ -32,8 +31,7 @@ fn wanted() -> Vec<String> {
     let making = (0..=18).filter(|n| *n != 17).map(|n| format!("making: {n}"));
     let selecting = (0..=18).filter(|n| !(11..=16).contains(n)).map(|n| format!("selecting: {n}"));
     let others = ["an extract with fewer rows than its journal", TOO_LONG, "an extract's text with an entity"].map(String::from);
-    let common = [wanted_steps(), wanted_texts(), wanted_elements(), wanted_refused_schema()].concat();
-    making.chain(selecting).chain(common).chain(others).collect()
+    making.chain(selecting).chain(wanted_steps()).chain(wanted_texts()).chain(others).collect()
 }
 
 /// How many cells to lend for an answer of these sizes: just enough, more, too few of one, or columns of unequal length.
@@ -88,7 +86,6 @@ fn compare_making(r: &mut Random, seen: &mut Seen, input: &Input) -> Option<(usi
     same(&ours, &archive::make_extract(schema, bundle, journal, &lent), "making", input, &[]);
     seen.calls += 1;
     seen.note(format!("making: {}", ours.result[0]));
-    seen.refused_schema(schema, ours.result[0], ours.result[1]);
     if ours.result[0] == 16 && characters(run_at(journal, ours.result[1] as usize)).is_some_and(|all| all.len() <= 4096) {
         seen.note(TOO_LONG.to_string());
     }
@@ -137,8 +134,6 @@ fn compare_input(r: &mut Random, seen: &mut Seen) {
         let rows = read_journal(&s, &input.journal, MAX_JOURNAL).unwrap();
         compare_whole(seen, &input, &written, &read_bundle(&s, &input.bundle).unwrap(), &rows);
         let kept = extract::read_extract(&s, &written).unwrap();
-        seen.schema(&s);
-        seen.rows(&kept);
         if kept.len() < all {
             seen.note("an extract with fewer rows than its journal".to_string());
         }

@@ -1,7 +1,7 @@
 //! Random texts and extracts with one fault each, so that every refusal comes.
 use crate::bundle::AXES;
 use crate::random::{damaged, Random};
-use crate::schema::{Schema, MAX_DECLARATIONS};
+use crate::schema::Schema;
 
 /// A schema text for a valid one: as it is, or with a fault.
 pub fn schema(r: &mut Random, valid: &[u8], s: &Schema) -> Vec<u8> {
@@ -11,7 +11,7 @@ pub fn schema(r: &mut Random, valid: &[u8], s: &Schema) -> Vec<u8> {
         0..=1 => damaged(r, valid),
         2 => with(format!("<!ELEMENT {first} EMPTY>")),
         3 => with(format!("<!ELEMENT another ({first}, missing?)>")),
-        4 => with((0..MAX_DECLARATIONS + r.below(3) - s.names.len()).map(|k| format!("<!ELEMENT more{k} EMPTY>")).collect()),
+        4 => with((0..33 - s.names.len() + r.below(2)).map(|k| format!("<!ELEMENT more{k} EMPTY>")).collect()),
         5 => with(format!("<!ELEMENT another ({})>", vec![first; 63 + r.below(3)].join("|"))),
         6 => with(format!("<!ELEMENT another {}{first}{}>", "(".repeat(7 + r.below(3)), ")".repeat(9))),
         7 => with(format!("<!ELEMENT {} EMPTY>", "n".repeat(30 + r.below(4)))),
@@ -98,7 +98,6 @@ pub fn extract(r: &mut Random, written: &[u8]) -> Vec<u8> {
         8 => one = counted(written.to_vec(), if r.chance(50) { 1 } else { -1 }),
         9 if field.len() > 7 => one[starts[k] + 3 + r.below(5)] = r.below(12) as u8,
         10 if r.chance(10) => one.clear(),
-        13 if field.len() > 7 => one[starts[k] + 7] = r.below(MAX_DECLARATIONS + 4) as u8,
         11..=12 if field.len() > 7 => one = counted([before, field, &numbered_next(field), after].concat(), 1),
         _ => {}
     }

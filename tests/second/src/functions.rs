@@ -12,9 +12,6 @@ struct Outcome {
 
 extern "C" {
     fn test_read_schema(text: *const u8, text_len: usize, out: *mut u8, out_len: usize) -> Outcome;
-    // the kind of an element as the place; of a set the elements as the size, the text names as the other number
-    fn test_element(schema: *const u8, schema_len: usize, element: usize) -> Outcome;
-    fn test_below(schema: *const u8, schema_len: usize, element: usize) -> Outcome;
     fn test_read_bundle(schema: *const u8, schema_cells: usize, schema_len: usize, text: *const u8, text_len: usize, out: *mut u8, out_len: usize) -> Outcome;
     fn test_needed_names(schema: *const u8, schema_cells: usize, schema_len: usize, bundle: *const u8, bundle_cells: usize, bundle_len: usize) -> Outcome;
     fn test_read_journal(
@@ -26,7 +23,7 @@ extern "C" {
         schema: *const u8, schema_cells: usize, schema_len: usize,
         numbers: *const u16, numbers_len: usize, codes: *const u8, codes_len: usize, parents: *const u16, parents_len: usize,
         starts: *const u32, starts_len: usize, lengths: *const u16, lengths_len: usize, decoded: *const u16, decoded_len: usize,
-        count: usize, elements: u64, texts: u64,
+        count: usize, word: u64,
         out_numbers: *mut u16, out_numbers_len: usize, out_names: *mut u8, out_names_len: usize, out_parents: *mut u16, out_parents_len: usize,
         out_starts: *mut u32, out_starts_len: usize, out_lengths: *mut u16, out_lengths_len: usize, out_decoded: *mut u16, out_decoded_len: usize,
     ) -> Outcome;
@@ -100,15 +97,6 @@ pub fn read_schema(text: &[u8]) -> Left {
     left(outcome, vec![out.cells()])
 }
 
-/// What the compiled schema of an accepted text says of an element.
-pub fn element(text: &[u8], e: usize) -> Left {
-    left(unsafe { test_element(text.as_ptr(), text.len(), e) }, Vec::new())
-}
-
-pub fn below(text: &[u8], e: usize) -> Left {
-    left(unsafe { test_below(text.as_ptr(), text.len(), e) }, Vec::new())
-}
-
 pub fn read_bundle(schema: &Record, text: &[u8]) -> Left {
     let mut out: Output<u8> = Output::new(BUNDLE_CELLS);
     let outcome = unsafe { test_read_bundle(schema.bytes.as_ptr(), schema.bytes.len(), schema.len, text.as_ptr(), text.len(), out.first(), out.size()) };
@@ -132,15 +120,14 @@ pub fn read_journal(records: &Records, text: &[u8], lent: [usize; 6]) -> Left {
     left(outcome, c.cells().to_vec())
 }
 
-/// Cuts to a set, which is handed in as two numbers.
-pub fn cut_table(records: &Records, table: &Table, set: u128, lent: [usize; 6]) -> Left {
+pub fn cut_table(records: &Records, table: &Table, word: u64, lent: [usize; 6]) -> Left {
     let (s, h, mut c) = (&records.schema, handed(table), Columns::new(lent));
     let outcome = unsafe {
         test_cut_table(
             s.bytes.as_ptr(), s.bytes.len(), s.len,
             h.numbers.as_ptr(), h.numbers.len(), h.names.as_ptr(), h.names.len(), h.parents.as_ptr(), h.parents.len(),
             h.starts.as_ptr(), h.starts.len(), h.lengths.as_ptr(), h.lengths.len(), h.decoded.as_ptr(), h.decoded.len(),
-            table.count, set as u64, (set >> 64) as u64,
+            table.count, word,
             c.numbers.first(), c.numbers.size(), c.names.first(), c.names.size(), c.parents.first(), c.parents.size(),
             c.starts.first(), c.starts.size(), c.lengths.first(), c.lengths.size(), c.decoded.first(), c.decoded.size(),
         )

@@ -20,12 +20,10 @@ mod schema;
 mod table;
 mod text;
 
-use crate::inputs::{arguments, differs, has_entity, random_input, report, shown, wanted_elements, wanted_needed, wanted_refused_schema, wanted_steps};
-use crate::inputs::{wanted_texts, Input, Seen, MAX_JOURNAL};
+use crate::inputs::{arguments, differs, has_entity, random_input, report, shown, wanted_steps, wanted_texts, Input, Seen, MAX_JOURNAL};
 use crate::journal::{characters, ENTITIES};
 use crate::random::Random;
 use crate::records::{in_bytes, in_columns, in_items, in_text, Left, Lent, Record, Records, Table, BUNDLE_CELLS, SCHEMA_CELLS};
-use crate::schema::{Name, Schema, CODES};
 use crate::table::Row;
 use crate::text::Refused;
 
@@ -45,10 +43,8 @@ const OTHER_LENGTH: &str = "changed: unequal lengths, and the bytes are a text o
 const NO_TEXT: &str = "changed: unequal lengths, and the bytes are no text";
 
 fn wanted() -> Vec<String> {
-    let calls: [(&str, &[usize]); 12] = [
+    let calls: [(&str, &[usize]); 10] = [
         ("reading a schema", &[0, 2, 3, 4, 5, 6, 7]),
-        ("an element", &[0, 1]),
-        ("the names below an element", &[0, 1]),
         ("reading a bundle", &[0, 1, 2, 3, 8, 9, 10]),
         ("reading a journal", &[0, 1, 2, 3, 11, 12, 13, 14, 15, 16, 18]),
         ("needed names", &[0, 1]),
@@ -79,8 +75,7 @@ fn wanted() -> Vec<String> {
         "a text handed back",
         "a larger cut with fewer rows than its journal",
     ];
-    let common = [wanted_steps(), wanted_texts(), wanted_elements(), wanted_needed(), wanted_refused_schema()].concat();
-    numbers.chain(common).chain(others.map(String::from)).collect()
+    numbers.chain(wanted_steps()).chain(wanted_texts()).chain(others.map(String::from)).collect()
 }
 
 /// So many cells to lend for an answer of this size: just enough, more, or too few.
@@ -92,13 +87,9 @@ fn cells_lent(r: &mut Random, size: usize) -> usize {
     }
 }
 
-/// A set of names as 128 bits, each in it so often in a hundred times.
-fn random_set(r: &mut Random, percent: usize) -> u128 {
-    (0..CODES).fold(0, |set, code| set | (r.chance(percent) as u128) << code)
-}
-
-fn is_text(code: u32) -> bool {
-    matches!(Name::of_code(code), Some(Name::Text(_)))
+/// A set of names as 64 bits, each in it so often in a hundred times.
+fn random_set(r: &mut Random, percent: usize) -> u64 {
+    (0..64).fold(0, |word, code| word | (r.chance(percent) as u64) << code)
 }
 
 /// The record that a reader left: the empty one on refusal.
@@ -127,7 +118,7 @@ fn damaged_record(r: &mut Random, record: &Record, cells: usize) -> Record {
 fn table_of(r: &mut Random, rows: &[Row]) -> Table {
     let mut table = Table::of(rows);
     for _ in 0..r.below(3) {
-        table.columns.iter_mut().for_each(|c| c.push(r.below(140) as u32));
+        table.columns.iter_mut().for_each(|c| c.push(r.below(70) as u32));
     }
     table
 }
@@ -147,7 +138,7 @@ fn damaged_table(r: &mut Random, mut table: Table) -> Table {
 
 /// A row, mostly one of a text.
 fn text_row(r: &mut Random, table: &Table) -> Option<usize> {
-    let texts: Vec<usize> = (0..table.count).filter(|&i| is_text(table.columns[1][i]) || r.chance(10)).collect();
+    let texts: Vec<usize> = (0..table.count).filter(|&i| table.columns[1][i] >= 32 || r.chance(10)).collect();
     (!texts.is_empty()).then(|| texts[r.below(texts.len())])
 }
 
@@ -236,16 +227,7 @@ impl Comparison<'_> {
     fn schema(&mut self) -> Record {
         let ours = in_bytes(records::schema_record(&self.input.schema), SCHEMA_CELLS);
         self.same("reading a schema", &ours, &functions::read_schema(&self.input.schema));
-        self.seen.refused_schema(&self.input.schema, ours.result[0], ours.result[1]);
         record_left(&ours)
-    }
-
-    /// What is compiled of an element of the schema, or of the index past the last one.
-    fn element(&mut self, s: &Schema) {
-        let e = self.r.below(s.names.len() + 1);
-        self.same("an element", &records::element(s, e), &functions::element(&self.input.schema, e));
-        self.same("the names below an element", &records::below(s, e), &functions::below(&self.input.schema, e));
-        self.seen.schema(s);
     }
 
     fn bundle(&mut self, schema: &Record) -> Record {
@@ -254,16 +236,15 @@ impl Comparison<'_> {
         record_left(&ours)
     }
 
-    fn needed(&mut self, records: &Records) -> u128 {
+    fn needed(&mut self, records: &Records) -> u64 {
         let ours = records::needed_names(records);
         self.same("needed names", &ours, &functions::needed_names(records));
-        self.seen.needed(&records::needed_set(records).unwrap_or_default());
         match ours.result {
-            [0, _, 0, 0] => self.note("no name needed"),
+            [0, _, _, 0] => self.note("no name needed"),
             [0, ..] => self.note("names needed"),
             _ => self.note("records refused"),
         }
-        ours.result[2] as u128 | (ours.result[3] as u128) << 64
+        ours.result[3]
     }
 
     fn journal(&mut self, records: &Records) -> Vec<Row> {
@@ -273,10 +254,10 @@ impl Comparison<'_> {
         rows.unwrap_or_default()
     }
 
-    fn cut(&mut self, records: &Records, whole: &Lent, set: u128) -> Vec<Row> {
-        let rows = records::cut_rows(records, whole, set);
+    fn cut(&mut self, records: &Records, whole: &Lent, word: u64) -> Vec<Row> {
+        let rows = records::cut_rows(records, whole, word);
         let lent = self.columns_lent(&rows);
-        self.same("cutting", &in_columns(&rows, lent), &functions::cut_table(records, &whole.table, set, lent));
+        self.same("cutting", &in_columns(&rows, lent), &functions::cut_table(records, &whole.table, word, lent));
         if rows.iter().flatten().any(|row| row.decoded != row.size) {
             self.note("a text of unequal lengths cut");
         }
@@ -319,7 +300,7 @@ impl Comparison<'_> {
 
     /// A row, one with a text now and then, or the position past the last one.
     fn position(&mut self, table: &Table) -> usize {
-        let texts: Vec<usize> = (0..table.count).filter(|&i| table.columns[1].get(i).is_some_and(|&code| is_text(code))).collect();
+        let texts: Vec<usize> = (0..table.count).filter(|&i| table.columns[1].get(i).is_some_and(|&code| code >= 32)).collect();
         let position = match self.r.below(10) {
             0..=4 if !texts.is_empty() => texts[self.r.below(texts.len())],
             _ => self.r.below(table.count + 1),
@@ -369,7 +350,7 @@ impl Comparison<'_> {
         self.select(records, &whole, &found);
         let percent = 10 + self.r.below(80);
         let (more, other) = (needed | random_set(self.r, percent), random_set(self.r, percent));
-        let [kept, larger, _] = [needed, more, other].map(|set| self.cut(records, &whole, set));
+        let [kept, larger, _] = [needed, more, other].map(|word| self.cut(records, &whole, word));
         if !larger.is_empty() && larger.len() < rows.len() {
             self.note("a larger cut with fewer rows than its journal");
         }
@@ -382,7 +363,6 @@ impl Comparison<'_> {
         }
         self.row(records, &whole);
         self.seen.texts(rows.iter(), &self.input.journal);
-        self.seen.rows(&rows);
         if let (Ok(paths), Ok(numbers)) = (&records.paths, &found) {
             paths.iter().zip(numbers).for_each(|(p, n)| self.seen.path(p, n.len()));
         }
@@ -393,8 +373,8 @@ impl Comparison<'_> {
     fn once(&mut self, records: &Records, lent: &Lent) {
         self.bundle(&records.schema);
         self.journal(records);
-        let set = self.needed(records);
-        self.cut(records, lent, set);
+        let word = self.needed(records);
+        self.cut(records, lent, word);
         self.extract(records, lent);
         self.select(records, lent, &records::selections(records, lent));
         self.row(records, lent);
@@ -440,9 +420,6 @@ impl Comparison<'_> {
         let schema = self.schema();
         let bundle = self.bundle(&schema);
         let records = Records::new(schema, bundle);
-        if let Ok(s) = &records.elements {
-            self.element(s);
-        }
         let whole = self.whole(&records);
         if self.r.chance(15) {
             self.with_damaged_record(&records, &whole);

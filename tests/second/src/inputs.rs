@@ -1,10 +1,10 @@
 //! Random inputs of the comparisons, and how often each thing came in them.
-use crate::bundle::{Path, Test, AXES};
+use crate::bundle::{Path, AXES};
 use crate::faults;
 use crate::guided;
 use crate::journal::{characters, read_journal, ENTITIES};
 use crate::random::{self, Random};
-use crate::schema::{read_schema, Name, Names, Schema, MAX_DECLARATIONS};
+use crate::schema::{read_schema, Name, Schema};
 use crate::table::Row;
 use std::collections::BTreeMap;
 
@@ -34,9 +34,6 @@ impl Seen {
         for step in path {
             let conditional = if step.condition.is_some() { " with a condition" } else { "" };
             self.note(format!("{:?}{conditional}, {selected}", step.axis));
-            if nodes > 0 && matches!(step.test, Test::Element(FIRST..)) {
-                self.note(STEP.to_string());
-            }
             for inner in step.condition.iter().flatten().flatten() {
                 self.note(format!("{:?} in brackets, {selected}", inner.axis));
             }
@@ -69,68 +66,6 @@ impl Seen {
             }
         }
     }
-}
-
-/// The index of the first element that no schema had before document 02's R-3.
-const FIRST: usize = 32;
-
-// what is counted of schemas with such elements
-const SCHEMA: &str = "a schema of more than 32 elements";
-const LARGEST: &str = "a schema of 64 elements";
-const TOO_MANY: &str = "a schema refused at its 65th declaration";
-const ROW: &str = "a row of an element past the 32nd";
-const TEXT_ROW: &str = "a row of the text of an element past the 32nd";
-const STEP: &str = "a step to an element past the 32nd, nodes selected";
-const NEEDED: &str = "an element past the 32nd needed";
-const TEXT_NEEDED: &str = "the text of an element past the 32nd needed";
-
-impl Seen {
-    pub fn schema(&mut self, s: &Schema) {
-        if s.names.len() > FIRST {
-            self.note(SCHEMA.to_string());
-        }
-        if s.names.len() == MAX_DECLARATIONS {
-            self.note(LARGEST.to_string());
-        }
-    }
-
-    /// A schema text that is refused by 5: at a declaration, or at a name of a model.
-    pub fn refused_schema(&mut self, text: &[u8], number: u64, place: u64) {
-        if number == 5 && text[place as usize] == b'<' {
-            self.note(TOO_MANY.to_string());
-        }
-    }
-
-    fn names(&mut self, names: impl Iterator<Item = Name>, element: &str, text: &str) {
-        for name in names {
-            match name {
-                Name::Element(FIRST..) => self.note(element.to_string()),
-                Name::Text(FIRST..) => self.note(text.to_string()),
-                _ => {}
-            }
-        }
-    }
-
-    pub fn rows(&mut self, rows: &[Row]) {
-        self.names(rows.iter().map(|row| row.name), ROW, TEXT_ROW);
-    }
-
-    pub fn needed(&mut self, names: &Names) {
-        self.names(names.iter().copied(), NEEDED, TEXT_NEEDED);
-    }
-}
-
-/// What a comparison must see of schemas with more than 32 elements.
-pub fn wanted_elements() -> Vec<String> {
-    [SCHEMA, LARGEST, ROW, TEXT_ROW, STEP].map(String::from).to_vec()
-}
-
-pub fn wanted_refused_schema() -> Vec<String> {
-    vec![TOO_MANY.to_string()]
-}
-
-pub fn wanted_needed() -> Vec<String> {
-    [NEEDED, TEXT_NEEDED].map(String::from).to_vec()
 }
 
 /// What a comparison of texts must see: each entity, none, the longest text, and one of which nothing may be decoded twice.

@@ -150,7 +150,6 @@ pub fn bundle_needs(s: &Schema, paths: &[Path]) -> Names {
     paths.iter().flat_map(|p| path_needs(s, p)).collect()
 }
 
-/// A set as 128 bits (document 02, R-3).
-pub fn bits(names: &Names) -> u128 {
-    names.iter().map(|n| 1u128 << n.code()).sum()
+pub fn bits(names: &Names) -> u64 {
+    names.iter().map(|n| 1u64 << n.code()).sum()
 }

@@ -1,7 +1,7 @@
 //! Random schemas, bundles and journals, most of them accepted, some damaged. The same seed gives the same texts.
 use crate::bundle::AXES;
 use crate::journal::ENTITIES;
-use crate::schema::{Content, Particle, Schema, MAX_DECLARATIONS};
+use crate::schema::{Content, Particle, Schema};
 
 /// Marsaglia's xorshift, 64 bits.
 pub struct Random(u64);
@@ -29,21 +29,6 @@ impl Random {
 
 const NAMES: [&str; 12] = ["scan", "plate", "well", "tile", "focus", "x", "y-1", "_z", "node", "text", "label.2", "image"];
 
-/// The name of an element by its index.
-fn name(e: usize) -> String {
-    NAMES.get(e).map_or_else(|| format!("e{e}"), |n| n.to_string())
-}
-
-/// How many elements a schema has: mostly few, now and then more than 32, and as many as there may be.
-fn elements(r: &mut Random) -> usize {
-    match r.below(100) {
-        0..=87 => 1 + r.below(NAMES.len()),
-        88..=92 => NAMES.len() + 1 + r.below(20),
-        93..=97 => 33 + r.below(31),
-        _ => MAX_DECLARATIONS,
-    }
-}
-
 fn blanks(r: &mut Random, percent: usize) -> &'static str {
     if r.chance(percent) {
         r.one(&[" ", "\n", "\t", "  ", " \n\t"])
@@ -57,9 +42,9 @@ fn particle(r: &mut Random, first: usize, count: usize, depth: usize) -> String 
     let body = if depth > 0 && r.chance(35) {
         group(r, first, count, depth - 1)
     } else if first + 1 < count && r.chance(85) {
-        name(first + 1 + r.below(count - first - 1))
+        NAMES[first + 1 + r.below(count - first - 1)].to_string()
     } else {
-        name(r.below(count))
+        NAMES[r.below(count)].to_string()
     };
     body + r.one(&["", "", "?", "*", "*", "+"])
 }
@@ -71,7 +56,7 @@ fn group(r: &mut Random, first: usize, count: usize, depth: usize) -> String {
 }
 
 pub fn schema(r: &mut Random) -> String {
-    let count = elements(r);
+    let count = 1 + r.below(NAMES.len());
     let mut text = blanks(r, 10).to_string();
     for e in 0..count {
         let content = match r.below(10) {
@@ -80,7 +65,7 @@ pub fn schema(r: &mut Random) -> String {
             _ if e + 1 == count && r.chance(70) => "(#PCDATA)".to_string(),
             _ => group(r, e, count, 2) + r.one(&["", "*", "?", "+"]),
         };
-        text += &format!("<!ELEMENT {}{} {}{}{}>", blanks(r, 10), name(e), blanks(r, 10), content, blanks(r, 10));
+        text += &format!("<!ELEMENT {}{} {}{}{}>", blanks(r, 10), NAMES[e], blanks(r, 10), content, blanks(r, 10));
         text += blanks(r, 20);
     }
     text

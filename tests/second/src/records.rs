@@ -3,7 +3,7 @@ use crate::bundle::{read_bundle, Path};
 use crate::extract::{read_extract, write_extract};
 use crate::journal::read_journal;
 use crate::needed::{bits, bundle_needs};
-use crate::schema::{read_schema, Content, Name, Names, Particle, Schema, CODES};
+use crate::schema::{read_schema, Content, Name, Names, Particle, Schema};
 use crate::table::{chain, cut, selected, texts_inside, well_formed, Row};
 use crate::text::{refused, Refused};
 
@@ -145,7 +145,7 @@ impl Lent {
     }
 }
 
-/// The result of a call, four numbers, of which the last two are a set's elements and its text names where a set is answered; and each lent output whole.
+/// The result of a call, four numbers, and each lent output whole.
 #[derive(Clone, Debug, PartialEq, Eq)]
 pub struct Left {
     pub result: [u64; 4],
@@ -198,41 +198,14 @@ pub fn schema_record(text: &[u8]) -> Result<(Vec<u8>, u64), Refused> {
     read_schema(text).map(|s| (normal(&s), s.names.len() as u64))
 }
 
-/// A set as two numbers after a place.
-fn in_words(place: u64, names: &Names) -> Left {
-    let set = bits(names);
-    Left { result: [0, place, set as u64, (set >> 64) as u64], cells: Vec::new() }
-}
-
-/// Of an element its kind (0: EMPTY, 1: characters, 2: a children model) and the names that it holds; of none past the last.
-pub fn element(s: &Schema, e: usize) -> Left {
-    let kind = |content: &Content<usize>| match content {
-        Content::Empty => 0,
-        Content::Characters => 1,
-        Content::Children(_) => 2,
-    };
-    s.contents.get(e).map_or_else(|| left(Err(NO_RECORD), &[]), |content| in_words(kind(content), &s.held_by(Name::Element(e))))
-}
-
-/// The names below an element.
-pub fn below(s: &Schema, e: usize) -> Left {
-    s.contents.get(e).map_or_else(|| left(Err(NO_RECORD), &[]), |_| in_words(0, &s.below(Name::Element(e))))
-}
-
 /// The record of a bundle text, and the number of paths.
 pub fn bundle_record(schema: &Record, text: &[u8]) -> Result<(Vec<u8>, u64), Refused> {
     read_bundle(&schema_held(schema)?, text).map(|paths| (text.to_vec(), paths.len() as u64))
 }
 
-pub fn needed_set(records: &Records) -> Result<Names, Refused> {
-    records.elements().and_then(|s| records.paths().map(|paths| bundle_needs(s, paths)))
-}
-
 pub fn needed_names(records: &Records) -> Left {
-    match needed_set(records) {
-        Ok(names) => in_words(0, &names),
-        Err(r) => left(Err(r), &[]),
-    }
+    let needed = records.elements().and_then(|s| records.paths().map(|paths| bits(&bundle_needs(s, paths))));
+    left(needed.map(|other| Given { size: 0, other, outputs: Vec::new() }), &[])
 }
 
 pub fn journal_rows(records: &Records, text: &[u8]) -> Result<Vec<Row>, Refused> {
@@ -240,9 +213,9 @@ pub fn journal_rows(records: &Records, text: &[u8]) -> Result<Vec<Row>, Refused>
 }
 
 /// Bits without a name mean nothing.
-pub fn cut_rows(records: &Records, lent: &Lent, handed: u128) -> Result<Vec<Row>, Refused> {
+pub fn cut_rows(records: &Records, lent: &Lent, word: u64) -> Result<Vec<Row>, Refused> {
     let s = records.elements()?;
-    let set: Names = (0..CODES).filter(|code| handed >> code & 1 == 1).filter_map(Name::of_code).filter(|&n| s.has(n)).collect();
+    let set: Names = (0..64).filter(|code| word >> code & 1 == 1).filter_map(Name::of_code).filter(|&n| s.has(n)).collect();
     lent.rows().map(|rows| cut(rows, &set))
 }
 

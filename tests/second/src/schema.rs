@@ -1,6 +1,5 @@
 //! Schemas: declarations as trees, what fits them, and which name holds which.
 use crate::text::*;
-use std::cell::OnceCell;
 use std::collections::{BTreeSet, HashMap};
 
 /// A name of the type system.
@@ -14,23 +13,20 @@ impl Name {
     pub fn code(self) -> u32 {
         match self {
             Name::Element(e) => e as u32,
-            Name::Text(e) => 64 + e as u32,
+            Name::Text(e) => 32 + e as u32,
         }
     }
 
     pub fn of_code(code: u32) -> Option<Name> {
         match code {
-            0..=63 => Some(Name::Element(code as usize)),
-            64..=127 => Some(Name::Text(code as usize - 64)),
+            0..=31 => Some(Name::Element(code as usize)),
+            32..=63 => Some(Name::Text(code as usize - 32)),
             _ => None,
         }
     }
 }
 
 pub type Names = BTreeSet<Name>;
-
-/// How many codes a name may have, each a bit of a set.
-pub const CODES: u32 = 128;
 
 #[derive(Clone, Debug)]
 pub enum Particle<N> {
@@ -52,15 +48,12 @@ pub enum Content<N> {
 pub struct Schema {
     pub names: Vec<Vec<u8>>,
     pub contents: Vec<Content<usize>>,
-    /// The names below each element, once they are asked for.
-    found: OnceCell<Vec<Names>>,
 }
 
 type Use = (Vec<u8>, usize);
 
 const MAX_SCHEMA: usize = 8192;
-/// Document 02, R-3.
-pub const MAX_DECLARATIONS: usize = 64;
+const MAX_DECLARATIONS: usize = 32;
 const MAX_MODEL_NAMES: usize = 64;
 const MAX_GROUPS: usize = 8;
 
@@ -206,7 +199,7 @@ pub fn read_schema(text: &[u8]) -> Result<Schema, Refused> {
             Content::Children(p) => Content::Children(resolved(p, &known)),
         })
         .collect();
-    Ok(Schema { names: all.into_iter().map(|d| d.name.0).collect(), contents, found: OnceCell::new() })
+    Ok(Schema { names: all.into_iter().map(|d| d.name.0).collect(), contents })
 }
 
 /// All places in `children` at which a match of p may end that begins at one of `from`.
@@ -263,7 +256,7 @@ impl Schema {
     }
 
     /// One or more holdings down.
-    fn search(&self, n: Name) -> Names {
+    pub fn below(&self, n: Name) -> Names {
         let mut found = Names::new();
         let mut due: Vec<Name> = self.held_by(n).into_iter().collect();
         while let Some(m) = due.pop() {
@@ -274,18 +267,7 @@ impl Schema {
         found
     }
 
-    fn below_element(&self, e: usize) -> &Names {
-        &self.found.get_or_init(|| (0..self.names.len()).map(|e| self.search(Name::Element(e))).collect())[e]
-    }
-
-    pub fn below(&self, n: Name) -> Names {
-        match n {
-            Name::Element(e) => self.below_element(e).clone(),
-            Name::Text(_) => Names::new(),
-        }
-    }
-
     pub fn is_below(&self, low: Name, high: Name) -> bool {
-        matches!(high, Name::Element(e) if self.below_element(e).contains(&low))
+        self.below(high).contains(&low)
     }
 }

@@ -20,10 +20,6 @@ name_with_code c = cond (ltb c max_declarations) (element c) (text (c - max_decl
 abbrev pub names_in : List ℕ → List Name
 names_in codes = map name_with_code codes
 
--- the last code that a name can have
-abbrev pub last_code : ℕ
-last_code = max_declarations + max_declarations - 1
-
 -- the codes that pass a test are those of a range
 abbrev pub InRange : ℕ → ℕ → NodeTest ℕ → Type 0
 InRange low high t = (c : ℕ) → c < max_declarations + max_declarations → (leb low c && leb c high) ≡ passes t (name_with_code c)
@@ -57,13 +53,13 @@ no-range e l c b =
     by_code (named e) 1 0 c (λ h. between 1 0 c (eqb e c) (λ t. let z : e ≡ c = eqb→eq e c t in absurd (omega arith)) (λ x y. absurd (omega arith)))
     (λ h. between 1 0 c false (λ t. absurd t) (λ x y. absurd (omega arith)))
 
-pub node-range : InRange 0 last_code any_node
-node-range c b = by_code any_node 0 last_code c (λ h. between 0 last_code c true (λ t. (omega arith, omega arith)) (λ x y. tt)) (λ h. between 0 last_code c true (λ t. (omega arith, omega arith)) (λ x y. tt))
+pub node-range : InRange 0 63 any_node
+node-range c b = by_code any_node 0 63 c (λ h. between 0 63 c true (λ t. (omega arith, omega arith)) (λ x y. tt)) (λ h. between 0 63 c true (λ t. (omega arith, omega arith)) (λ x y. tt))
 
-pub text-range : InRange max_declarations last_code any_text
+pub text-range : InRange 32 63 any_text
 text-range c b =
-    by_code any_text max_declarations last_code c (λ h. between max_declarations last_code c false (λ t. absurd t) (λ x y. absurd (omega arith)))
-    (λ h. between max_declarations last_code c true (λ t. (omega arith, omega arith)) (λ x y. tt))
+    by_code any_text 32 63 c (λ h. between 32 63 c false (λ t. absurd t) (λ x y. absurd (omega arith)))
+    (λ h. between 32 63 c true (λ t. (omega arith, omega arith)) (λ x y. tt))
 
 -- ---- the test of a compiled step
 pub test-node : (t : ℕ) → t ≡ 254 → test_of t ≡ any_node

@@ -24,7 +24,7 @@ use Rattle.library_spec.specs.Calls.{in_columns, columns_after, table_cut}
 use Rattle.library_spec.specs.Records.{LentTable, table_held, passes_schema}
 use Rattle.names.specs.SetLaws.{in-set_of, set_of-in}
 use Rattle.names.specs.Sets.{member, set_in, Known}
-use Rattle.names.specs.codes.Codes.{name_at, name_of_code}
+use Rattle.names.specs.codes.Codes.{name_of_code}
 use Rattle.names.specs.declared.NameSet.{NameSet}
 use Rattle.schema_laws.specs.Names.{has_in, in-has}
 use Rattle.schema_spec.specs.Names.{Name, Names, element, text, code_of, has, names_of, set_of_word}
@@ -121,7 +121,7 @@ sizes-equal o e =
 
 -- ---- the set that is handed in
 name-of-code : (n : Name) → HasCode n → name_of_code (code_of n) ≡ n
-unfolding name_at
+unfolding name_of_code
 name-of-code (element e) h = ap (λ (b : Bool). cond b (element e) (text (e - max_declarations))) (lt-ltb e max_declarations h)
 name-of-code (text e) h =
     let z : max_declarations + e - max_declarations ≡ e = omega arith in

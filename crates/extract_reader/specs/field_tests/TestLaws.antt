@@ -11,8 +11,7 @@ use Rattle.extract_reader.specs.field_tests.Tests.{held_by, word_types, LevelPas
 use Rattle.extract_reader.specs.levels.LevelLaws.{levels-length}
 use Rattle.extract_reader.specs.levels.Levels.{element_in, levels_in, last_element}
 use Rattle.projection_laws.specs.extract_passes.Steps.{State, element_fits, text_fits}
-use Rattle.schema_spec.specs.Names.{element, text}
-use Rattle.table_laws.specs.passes.Passes.{held_in}
+use Rattle.schema_spec.specs.Names.{element, text, has_bit}
 use Rattle.text_spec.specs.Bytes.{is_foreign}
 use Rattle.text_spec.specs.Limits.{max_declarations, max_nodes, max_depth, max_text_bytes}
 use Rattle.text_spec.specs.Lists.{all_of, is_empty, part}
@@ -34,10 +33,10 @@ number-high before number l = sym (ap (λ (b : Bool). b && ltb number max_nodes)
 
 -- ---- an element among those of a schema, or past them
 pub held-past : (words : List ℕ) (a b : ℕ) → max_declarations ≤ b → false ≡ held_by words (element a) (element b)
-held-past words a b l = sym (ap (λ (x : Bool). x && held_in words a b) (le-ltb b max_declarations l))
+held-past words a b l = sym (ap (λ (x : Bool). x && has_bit (get_or words a 0) b) (le-ltb b max_declarations l))
 
-pub held_low : (words : List ℕ) (a b : ℕ) → b < max_declarations → held_in words a b ≡ held_by words (element a) (element b)
-held_low words a b l = sym (ap (λ (x : Bool). x && held_in words a b) (lt-ltb b max_declarations l))
+pub held_low : (words : List ℕ) (a b : ℕ) → b < max_declarations → has_bit (get_or words a 0) b ≡ held_by words (element a) (element b)
+held_low words a b l = sym (ap (λ (x : Bool). x && has_bit (get_or words a 0) b) (lt-ltb b max_declarations l))
 
 -- ---- under a level
 pub level-known : (levels : List ℕ) (d : ℕ) → LevelPass levels d → (d ≡ 0 → ⊥) → (e : ℕ) → e ≡ last_element levels d → e < max_declarations
@@ -73,7 +72,7 @@ module _ (words levels : List ℕ) (d : ℕ) (after : Bool) where
   unfolding text_under
   text-after z = sym (ap (λ (b : Bool). not (eqb d 0) && (own && not b)) z ∙ ap (λ (b : Bool). not (eqb d 0) && b) (and-nothing own) ∙ and-nothing (not (eqb d 0)))
 
-  pub text-held : (d ≡ 0 → ⊥) → after ≡ false → (r : Bool) (p : ℕ) → r ≡ held_in words p (max_declarations + p) → p ≡ last_element levels d → r ≡ text_under words levels d after
+  pub text-held : (d ≡ 0 → ⊥) → after ≡ false → (r : Bool) (p : ℕ) → r ≡ has_bit (get_or words p 0) (p + max_declarations) → p ≡ last_element levels d → r ≡ text_under words levels d after
   unfolding text_under
   text-held z y r p q f = q ∙ ap (λ (x : ℕ). held_by words (element x) (text x)) f ∙ sym (ap₂ (λ (a b : Bool). not a && (own && not b)) (ne_eqb d 0 z) y ∙ and-all own)
 

@@ -1,15 +1,14 @@
 -- What each element holds, as words of bits, and whether a row may stand under an open element.
-use Rattle.std.specs.Prelude.{Bool, false, not, ◌&&◌, List, [], ℕ, suc, ◌+◌, ◌≤◌, eqb, leb, ltb}
+use Rattle.std.specs.Prelude.{Bool, false, not, ◌&&◌, List, [], ℕ, suc, ◌+◌, ◌≤◌, eqb, leb, ltb, get_or}
 use Rattle.extract_reader.specs.levels.Levels.{last_element, Known}
-use Rattle.schema_spec.specs.Names.{Name, element, text}
+use Rattle.schema_spec.specs.Names.{Name, element, text, has_bit}
 use Rattle.schema_spec.specs.Types.{Types}
-use Rattle.table_laws.specs.passes.Passes.{held_in}
 use Rattle.text_spec.specs.Limits.{max_declarations, max_depth}
 
--- ---- what an element holds is told by the codes of names
+-- ---- bit e of an element's word is set if it holds the element e, bit 32 + e if it holds the text name of e
 abbrev pub held_by : List ℕ → Name → Name → Bool
-held_by words (element a) (element b) = ltb b max_declarations && held_in words a b
-held_by words (element a) (text b) = held_in words a (max_declarations + b)
+held_by words (element a) (element b) = ltb b max_declarations && has_bit (get_or words a 0) b
+held_by words (element a) (text b) = has_bit (get_or words a 0) (b + max_declarations)
 held_by words (text a) n = false
 
 abbrev pub word_types : List ℕ → Types

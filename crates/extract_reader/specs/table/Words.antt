@@ -1,12 +1,13 @@
 -- What a pass asks of a schema is in the words of what each element holds.
-use Rattle.std.specs.Prelude.{Bool, ◌&&◌, ◌≡◌, T, eqb, ltb, length}
+use Rattle.std.specs.Prelude.{Bool, ◌&&◌, ◌≡◌, T, eqb, ltb, length, get_or}
 use Rattle.std.proofs.Math.Bool.{true, false, cond, not}
 use mathlib.Core.List.{List, [], ◌∷◌, Memᴰ as In}
 use Rattle.std.proofs.Math.Logic.{⊎_elim}
 use Rattle.std.proofs.Math.Option.{Option, none, some}
 use Rattle.std.proofs.Math.Path.{refl, sym, ap}
-use Rattle.std.proofs.Common.{ap₂, ◌∙◌, arith, lt-ltb, le-ltb}
+use Rattle.std.proofs.Common.{ap₂, ◌∙◌, lt-ltb, le-ltb}
 use Prim.Native.Nat.{ℕ, zero, suc, ◌+◌, ◌-◌, ◌<◌, ◌≤◌}
+use native.Mathlib.Omega.{arith}
 use Rattle.std.proofs.Math.Dec.{leb}
 use Rattle.extract_reader.specs.field_tests.Tests.{held_by, word_types}
 use Rattle.extract_spec.specs.Reading.{Item, element_item, text_item, count_item, no_item, open_from, Placed, top_row, top_element, cons_row}
@@ -15,12 +16,11 @@ use Rattle.projection_laws.specs.extract_passes.Steps.{State, state, Step, wrong
 use Rattle.schema_laws.specs.Accepted.{schema_in-length, schema_in-closed}
 use Rattle.schema_laws.specs.Closure.{held_in}
 use Rattle.schema_laws.specs.Names.{in-element, in-text}
-use Rattle.schema_spec.specs.Names.{Name, element, text, code_of, name_of_code, same_name, names_of}
+use Rattle.schema_spec.specs.Names.{Name, element, text, has_bit, code_of, name_of_code, same_name, names_of}
 use Rattle.schema_spec.specs.Records.{schema_in}
 use Rattle.schema_spec.specs.Schemas.{Schema}
 use Rattle.schema_spec.specs.Types.{Types, holds, types_of}
 use Rattle.table_laws.specs.passes.Codes.{HeldWords, Coded}
-use Rattle.table_laws.specs.passes.Passes.{held_in}
 use Rattle.table_spec.specs.Rows.{Row, element_row, text_row}
 use Rattle.text_laws.specs.Searches.{below-or-past}
 use Rattle.text_laws.specs.Tests.{never, false_of}
@@ -123,23 +123,27 @@ module _ (s : Schema) (words : List ℕ) (w : ReadWords s words) where
   words-element a b = ⊎_elim low past (below-or-past b max_declarations)
     where
       low : b < max_declarations → held_by words (element a) (element b) ≡ holds s (element a) (element b)
-      low l = ap (λ (x : Bool). x && held_in words a b) (lt-ltb b max_declarations l) ∙ w.held.held a b (element b) (element-coded b l)
+      low l = ap (λ (x : Bool). x && has_bit (get_or words a 0) b) (lt-ltb b max_declarations l) ∙ w.held.held a b (element b) (element-coded b l)
 
       past : max_declarations ≤ b → held_by words (element a) (element b) ≡ holds s (element a) (element b)
       past l =
-          ap (λ (x : Bool). x && held_in words a b) (le-ltb b max_declarations l)
+          ap (λ (x : Bool). x && has_bit (get_or words a 0) b) (le-ltb b max_declarations l)
           ∙ sym (false_of (holds s (element a) (element b)) (λ t. uncoded-element b l (w.coded a (element b) t)))
 
   words-text : (a : ℕ) → held_by words (element a) (text a) ≡ holds s (element a) (text a)
   unfolding types_of
   words-text a = ⊎_elim low past (below-or-past a max_declarations)
     where
+      turned : a + max_declarations ≡ max_declarations + a
+      turned = omega arith
+
       low : a < max_declarations → held_by words (element a) (text a) ≡ holds s (element a) (text a)
-      low l = w.held.held a (max_declarations + a) (text a) (text-coded a l)
+      low l = ap (has_bit (get_or words a 0)) turned ∙ w.held.held a (max_declarations + a) (text a) (text-coded a l)
 
       past : max_declarations ≤ a → held_by words (element a) (text a) ≡ holds s (element a) (text a)
       past l =
-          w.held.unnamed a (max_declarations + a) (text-uncoded a l)
+          ap (has_bit (get_or words a 0)) turned
+          ∙ w.held.unnamed a (max_declarations + a) (text-uncoded a l)
           ∙ sym (false_of (holds s (element a) (text a)) (λ t. uncoded-text a l (w.coded a (text a) t)))
 
   pub words-rows : (bs : List ℕ) → rows_in (types_of s) bs ≡ rows_in (word_types words) bs

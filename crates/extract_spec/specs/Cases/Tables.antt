@@ -4,7 +4,7 @@ use Rattle.extract_spec.specs.Cases.Opened.{computing}
 use Rattle.extract_spec.specs.Cut.{cut, cut_to_word}
 use Rattle.extract_spec.specs.Fields.{write_extract, extract_rows}
 use Rattle.extract_spec.specs.Reading.{read_extract}
-use Rattle.schema_spec.specs.Names.{element, in_two_words}
+use Rattle.schema_spec.specs.Names.{element}
 use Rattle.schema_spec.specs.Records.{schema_in}
 use Rattle.schema_spec.specs.Types.{Types, types_of}
 use Rattle.table_spec.specs.Rows.{Row, element_row, text_row}
@@ -71,19 +71,14 @@ pub cut-by-names : cut (map element (0 ∷ 1 ∷ 3 ∷ 4 ∷ [])) (rows_j 32) �
 unfolding computing
 cut-by-names = refl
 
--- of a table in which the cut row stands before its parents: `<scan><plate><well/><tile><focus>x</focus></tile></plate></scan>`; 128 bits
--- with bits 0, 1, 3, 4 and 68, and bits 5, 36 and 127, which mean nothing
+-- of a table in which the cut row stands before its parents: `<scan><plate><well/><tile><focus>x</focus></tile></plate></scan>`; 64 bits
+-- with bits 0, 1, 3, 4 and 36, and bits 5 and 63, which mean nothing
 abbrev pub rows_k : List Row
 rows_k = element_row 0 0 0 ∷ element_row 1 1 0 ∷ element_row 2 2 1 ∷ element_row 3 3 1 ∷ element_row 4 4 3 ∷ text_row 5 4 4 33 1 1 ∷ []
 
-pub parents-renumbered : cut_to_word types_s (in_two_words 68719476795 9223372036854775824) rows_k ≡ element_row 0 0 0 ∷ element_row 1 1 0 ∷ element_row 3 3 1 ∷ element_row 4 4 2 ∷ text_row 5 4 3 33 1 1 ∷ []
+pub parents-renumbered : cut_to_word types_s 9223372105574252603 rows_k ≡ element_row 0 0 0 ∷ element_row 1 1 0 ∷ element_row 3 3 1 ∷ element_row 4 4 2 ∷ text_row 5 4 3 33 1 1 ∷ []
 unfolding computing
 parents-renumbered = refl
-
--- without bit 68 the text is cut, whatever bit 36 is
-pub text-cut : cut_to_word types_s 68719476763 rows_k ≡ element_row 0 0 0 ∷ element_row 1 1 0 ∷ element_row 3 3 1 ∷ element_row 4 4 2 ∷ []
-unfolding computing
-text-cut = refl
 
 -- ---- writing
 pub written-J : write_extract journal_j (rows_j 32) ≡ extract_j

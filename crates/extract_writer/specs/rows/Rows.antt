@@ -10,7 +10,7 @@ use Rattle.extract_writer.specs.fields.Fields.{whole_characters, TextPass, store
 use Rattle.kept_rows.specs.Joined.{joined, joined-none}
 use Rattle.kept_rows.specs.cut_rows.Rows.{OfLength}
 use Rattle.names.specs.codes.Codes.{name_of_code}
-use Rattle.names.specs.codes.Laws.{element-at, text_at}
+use Rattle.names.specs.codes.Laws.{element-of-code, text-of-code}
 use Rattle.schema_spec.specs.Names.{Name, element, text}
 use Rattle.table_spec.specs.Columns.{Columns}
 use Rattle.table_spec.specs.Rows.{characters_by}
@@ -71,14 +71,14 @@ module _ (lent : List ℕ) (c : Columns) (r : ℕ) where
   unfolding field_at
   element-field l =
       sym (ap (λ (m : Name). row_field m (get_or c.numbers r 0) (get_or c.numbers (get_or c.parents r 0) 0) (row_characters lent c r))
-      (element-at max_declarations (get_or c.names r 0) l))
+      (element-of-code (get_or c.names r 0) l))
 
   pub text-field : max_declarations ≤ get_or c.names r 0
       → row_field (text 0) (get_or c.numbers r 0) (get_or c.numbers (get_or c.parents r 0) 0) (row_characters lent c r) ≡ field_at lent c r
   unfolding field_at
   text-field l =
       sym (ap (λ (m : Name). row_field m (get_or c.numbers r 0) (get_or c.numbers (get_or c.parents r 0) 0) (row_characters lent c r))
-      (text_at max_declarations (get_or c.names r 0) l))
+      (text-of-code (get_or c.names r 0) l))
 
   pub field-length : (n : ℕ) → ExtractColumns lent c n → r < n → length (field_at lent c r) ≡ size_at c r
   field-length n h l = pick (ltb (get_or c.names r 0) max_declarations) refl

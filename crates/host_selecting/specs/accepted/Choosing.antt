@@ -59,7 +59,7 @@ pub record UnderSchema (t : CompiledSchema) (paths : CompiledPaths) (place : ℕ
 
 -- the words of what each element holds
 pub record WordsIn (t : CompiledSchema) (words : List ℕ) : Type 0 where
-  pub held : WordsOf t.count t.entries.«holds» words
+  pub held : WordsOf t.entries.«holds» words
 
 -- the first rows of columns are rows on which paths select
 pub record RowsAsked (c : Columns) (n : ℕ) : Type 0 where
@@ -94,7 +94,7 @@ last-enough n a c r l e = record { short = λ k. absurd (k l); enough = λ k. (e
 -- ---- the words are those that reading asks for
 pub words-read : (schema : List ℕ) (t : CompiledSchema) → CompiledOf schema (schema_in schema) t → (words : List ℕ) → WordsIn t words → ReadWords (schema_in schema) words
 words-read schema t made words w =
-    read-words schema words (words-held (schema_in schema) (schema_in-length schema) t.count made.counted t.entries.«holds» made.entries.held words w.held)
+    read-words schema words (words-held (schema_in schema) (schema_in-length schema) t.entries.«holds» made.entries.held words w.held)
 
 -- ---- the extract is refused: nothing is selected
 pub refused-chosen : (s : Schema) (extract : List ℕ) (c : Columns) (v : Verdict) (d : Columns) → v ≡ verdict (and_then (read_extract (types_of s) extract) (in_columns (sizes_of c)))

@@ -39,7 +39,7 @@ module _ (text : List ℕ) (s : Schema) (read : read_schema text ≡ accepted s)
         → (set_in s r ≡ needed (types_of s) (paths_in bundle)) × Known s r
     compiled-needed r h = h s compiled-relations
 
-    -- its bits
+    -- its 64 bits
     pub compiled-needed-word : (word : ℕ)
         → ((q : Schema) → RelationsOf q t.entries.«holds» t.below t.count → word ≡ needed_word (types_of q) (paths_in bundle))
         → word ≡ needed_word (types_of s) (paths_in bundle)

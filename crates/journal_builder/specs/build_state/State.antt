@@ -108,7 +108,7 @@ abbrev pub element_cells : ℕ → ℕ → RowCells
 element_cells e parent = record { name = e % 256; parent = parent % 65536; start = 0; size = 0; decoded = 0 }
 
 abbrev pub text_cells : ℕ → ℕ → ℕ → ℕ → ℕ → RowCells
-text_cells e parent start size saved = record { name = e % max_declarations + max_declarations; parent = parent % 65536; start = start; size = size % 65536; decoded = (size - saved) % 65536 }
+text_cells e parent start size saved = record { name = e % 32 + 32; parent = parent % 65536; start = start; size = size % 65536; decoded = (size - saved) % 65536 }
 
 -- a run of character data outside the root
 abbrev pub outside_by : ℕ → Build → Build

@@ -119,8 +119,8 @@ module _ (s : Schema) (b : Building) (levels : List ℕ) (m : Build) (whole : is
       let j : parent < 65536 = omega (arith, w.count) in
       let k : size < 65536 = omega arith in
       let v : size - saved < 65536 = omega arith in
-      let f : e % max_declarations + max_declarations ≡ max_declarations + e = omega arith in
-      same (m.count % 65536) b.count (e % max_declarations + max_declarations) (max_declarations + e) (parent % 65536) parent (size % 65536) size ((size - saved) % 65536) (size - saved) (mod-eq_of_lt i ∙ w.count) f (mod-eq_of_lt j) (mod-eq_of_lt k)
+      let f : e % 32 + 32 ≡ 32 + e = omega arith in
+      same (m.count % 65536) b.count (e % 32 + 32) (32 + e) (parent % 65536) parent (size % 65536) size ((size - saved) % 65536) (size - saved) (mod-eq_of_lt i ∙ w.count) f (mod-eq_of_lt j) (mod-eq_of_lt k)
       (mod-eq_of_lt v)
     where
       same : (a a' c c' d d' g g' h h' : ℕ) → a ≡ a' → c ≡ c' → d ≡ d' → g ≡ g' → h ≡ h'

@@ -55,7 +55,7 @@ pub record Stored (t : List ℕ) (e : ℕ) (name : Name) (u : List ℕ) : Type 0
   pub new : words_at u e ≡ name
   pub kept : (a : ℕ) → a < e → words_at u a ≡ words_at t a
 
-module _ (t : List ℕ) (e : ℕ) (room : e < max_declarations) (long : length t ≡ 4 * max_declarations) (n : Name) where
+module _ (t : List ℕ) (e : ℕ) (room : e < max_declarations) (long : length t ≡ 128) (n : Name) where
   abbrev one : List ℕ
   one = set t (e * 4) n.a
 
@@ -71,14 +71,14 @@ module _ (t : List ℕ) (e : ℕ) (room : e < max_declarations) (long : length t
   sized : (l : List ℕ) (i x k : ℕ) → length l ≡ k → length (set l i x) ≡ k
   sized l i x k h = length-set l i x ∙ h
 
-  long-one : length one ≡ 4 * max_declarations
-  long-one = sized t (e * 4) n.a (4 * max_declarations) long
+  long-one : length one ≡ 128
+  long-one = sized t (e * 4) n.a 128 long
 
-  long-two : length two ≡ 4 * max_declarations
-  long-two = sized one (e * 4 + 1) n.b (4 * max_declarations) long-one
+  long-two : length two ≡ 128
+  long-two = sized one (e * 4 + 1) n.b 128 long-one
 
-  long-three : length three ≡ 4 * max_declarations
-  long-three = sized two (e * 4 + 2) n.c (4 * max_declarations) long-two
+  long-three : length three ≡ 128
+  long-three = sized two (e * 4 + 2) n.c 128 long-two
 
   other : (l : List ℕ) (i k x : ℕ) → (k ≡ i → ⊥) → get_or (set l i x) k 0 ≡ get_or l k 0
   other l i k x h = get_or-set_other l i k x 0 h

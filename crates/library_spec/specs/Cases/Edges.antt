@@ -13,7 +13,7 @@ abbrev pub table_j : Columns
 table_j =
     record {
       numbers = 0 ∷ 1 ∷ 2 ∷ 3 ∷ 4 ∷ 5 ∷ 6 ∷ [];
-      names = 0 ∷ 1 ∷ 2 ∷ 3 ∷ 4 ∷ 68 ∷ 3 ∷ [];
+      names = 0 ∷ 1 ∷ 2 ∷ 3 ∷ 4 ∷ 36 ∷ 3 ∷ [];
       parents = 0 ∷ 0 ∷ 1 ∷ 2 ∷ 3 ∷ 4 ∷ 1 ∷ [];
       starts = 0 ∷ 0 ∷ 0 ∷ 0 ∷ 0 ∷ 32 ∷ 0 ∷ [];
       lengths = 0 ∷ 0 ∷ 0 ∷ 0 ∷ 0 ∷ 2 ∷ 0 ∷ [];
@@ -24,7 +24,7 @@ abbrev pub two_texts : Columns
 two_texts =
     record {
       numbers = 0 ∷ 1 ∷ 2 ∷ 3 ∷ 4 ∷ 5 ∷ 6 ∷ 7 ∷ [];
-      names = 0 ∷ 1 ∷ 2 ∷ 3 ∷ 4 ∷ 68 ∷ 68 ∷ 3 ∷ [];
+      names = 0 ∷ 1 ∷ 2 ∷ 3 ∷ 4 ∷ 36 ∷ 36 ∷ 3 ∷ [];
       parents = 0 ∷ 0 ∷ 1 ∷ 2 ∷ 3 ∷ 4 ∷ 4 ∷ 1 ∷ [];
       starts = 0 ∷ 0 ∷ 0 ∷ 0 ∷ 0 ∷ 32 ∷ 32 ∷ 0 ∷ [];
       lengths = 0 ∷ 0 ∷ 0 ∷ 0 ∷ 0 ∷ 2 ∷ 1 ∷ 0 ∷ [];

@@ -52,7 +52,7 @@ cell_list c = c.number ∷ c.name ∷ c.parent ∷ c.start ∷ c.size ∷ c.deco
 abbrev pub structs_exit : ℕ → Outcome (List Row) → Exit
 structs_exit n o = exit_of (λ o. (length (rows_after (λ rows. rows) o) ∷ []) ∷ map cell_list (structs_after n o)) o
 
--- a set as 128 bits
+-- a set as 64 bits
 abbrev pub word_exit : Outcome ℕ → Exit
 word_exit o = exit_of (λ o. list_after (λ word. word ∷ []) o ∷ []) o
 

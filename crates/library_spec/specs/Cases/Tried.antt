@@ -1,4 +1,4 @@
--- Document 01's cases, with what document 02's requests put in their place: the paths tried on S and J, the two extracts in hex, the fourth row's numbers, the listing, and the pairs
+-- Document 01's cases: the paths tried on S and J, the two extracts in hex, the fourth row's numbers, the listing, and the pairs
 -- accepted and turned back. One table, one theorem.
 use Rattle.std.specs.Prelude.{List, [], ◌∷◌, ◌++◌, map, ℕ, zero, suc}
 use Prim.Native.String.{String}
@@ -63,8 +63,8 @@ cases =
     ∷ case (rows_kept schema_s (bytes "child::plate/child::tile[child::focus]\n") journal_j) (the_numbers ((0 ∷ 1 ∷ 6 ∷ []) ∷ []))
     ∷ case (printed schema_s (bytes "child::plate[child::well]/child::tile\ndescendant::tile/parent::well\n") journal_j)
     (the_bytes (bytes "selected 2 kept 5 of 7\n2 2 /scan/plate/well\n6 1 /scan/plate/tile\n"))
-    ∷ case (schema_read (declarations 64 0)) (says taken)
-    ∷ case (schema_read (declarations 65 0)) (says (turned_back 5 1270))
+    ∷ case (schema_read (declarations 32 0)) (says taken)
+    ∷ case (schema_read (declarations 33 0)) (says (turned_back 5 630))
     ∷ case (schema_read (parentheses 8)) (says taken)
     ∷ case (schema_read (parentheses 9)) (says (turned_back 4 20))
     ∷ case (journal_read (bytes "<!ELEMENT a (a*)>") (depth 64)) (says taken)

@@ -9,7 +9,6 @@ use Rattle.names.specs.declared.NameSet.{NameSet}
 use Rattle.schema_spec.specs.Names.{Name, element}
 use Rattle.text_laws.specs.Loops.{Passed}
 use Rattle.text_laws.specs.Tests.{or_left, or_right, or_cases, and_intro, and_cases, false_of}
-use Rattle.text_spec.specs.Limits.{max_declarations}
 
 module _ (images : List NameSet) where
   wider : {n a : ℕ} {b : Name} → Reachable images n a b → Reachable images (suc n) a b
@@ -134,8 +133,3 @@ round-none-past images k count out past step a b l = step a b ∙ ap₂ (λ (x y
 pub none-past-rounds : (images : List NameSet) (r count : ℕ) → (r ≡ count) ⊎ ((r ≡ length images) × (length images ≤ count)) → NonePast count images → NonePast r images
 none-past-rounds images r count (inl e) past a b l = past a b (omega arith)
 none-past-rounds images r count (inr (e, h)) past a b l = false_of (relates images a b) (no-image images a b (omega arith))
-
--- as many elements are visited as are counted, where they are not too many
-pub counted-all : {end count : ℕ} → (end ≡ count) ⊎ ((end ≡ max_declarations) × (max_declarations ≤ count)) → count ≤ max_declarations → end ≡ count
-counted-all (inl e) l = e
-counted-all (inr (e, h)) l = omega arith

@@ -1,107 +1,83 @@
--- Laws of names in order, and of the set of one name.
-use Rattle.std.specs.Prelude.{Bool, true, false, cond, ◌&&◌, ◌||◌, ◌≡◌, refl, ℕ, ◌+◌, ◌-◌, ◌<◌, ◌≤◌, T, eqb, ltb, length}
+-- Laws of names by their codes, and of the set of one name.
+use Rattle.std.specs.Prelude.{Bool, true, false, cond, ◌&&◌, ◌||◌, ◌≡◌, refl, ℕ, ◌+◌, ◌-◌, ◌<◌, ◌≤◌, T, eqb, ltb}
 use Rattle.std.proofs.Math.Bool.{and-true}
 use mathlib.Core.List.Memᴰ.{head as here}
 use mathlib.Core.List.Memᴰ.{tail as there}
 use mathlib.Core.List.{[], ◌∷◌, Memᴰ as In}
-use Rattle.std.proofs.Common.{⊎_elim, sym, ap, ap₂, subst, ◌∙◌, arith, ne_eqb, lt-ltb, le-ltb, ltb-true, ltb-false, eqb→eq}
+use Rattle.std.proofs.Common.{sym, ap, ap₂, subst, ◌∙◌, arith, ne_eqb, lt-ltb, le-ltb, ltb-true, ltb-false, eqb→eq}
 use Rattle.std.proofs.Math.Dec.{eqb_refl}
 use Rattle.names.specs.SetLaws.{every_element, every-text}
 use Rattle.names.specs.Sets.{member, set_of, every_name}
-use Rattle.names.specs.codes.Codes.{name_at, place_of, Among, name_of_code}
+use Rattle.names.specs.codes.Codes.{name_of_code}
 use Rattle.names.specs.declared.NameSet.{NameSet}
 use Rattle.schema_laws.specs.Lists.{Distinct, none-twice, next}
-use Rattle.schema_laws.specs.Names.{same-equal, same-name, names-distinct, in-element, in-text}
-use Rattle.schema_spec.specs.Names.{Name, Names, element, text, same_name, code_of, names_of}
+use Rattle.schema_laws.specs.Names.{same-equal, same-name, names-distinct}
+use Rattle.schema_spec.specs.Names.{Name, Names, element, text, same_name, code_of, has, names_of}
 use Rattle.schema_spec.specs.Schemas.{Schema}
 use Rattle.text_laws.specs.Lists.{filter-cong, filter-in, memberless}
-use Rattle.text_laws.specs.Searches.{below-or-past}
 use Rattle.text_laws.specs.Tests.{passed, failed, same_test}
 use Rattle.text_spec.specs.Limits.{max_declarations}
 use Rattle.text_spec.specs.Lists.{filter_by}
 
-pub element-at : (count k : ℕ) → k < count → name_at count k ≡ element k
-unfolding name_at
-element-at count k l = rw (lt-ltb k count l)
+pub element-of-code : (c : ℕ) → c < max_declarations → name_of_code c ≡ element c
+unfolding name_of_code
+element-of-code c l = rw (lt-ltb c 32 l)
 
-pub text_at : (count k : ℕ) → count ≤ k → name_at count k ≡ text (k - count)
-unfolding name_at
-text_at count k l = rw (le-ltb k count l)
+pub text-of-code : (c : ℕ) → max_declarations ≤ c → name_of_code c ≡ text (c - 32)
+unfolding name_of_code
+text-of-code c l = rw (le-ltb c 32 l)
 
--- ---- the set of one name
-module _ (count k : ℕ) (few : count ≤ max_declarations) (none r : NameSet) (bare : (n : Name) → member none n ≡ false) where
-  pub single-element : k < count → ((n : Name) → member r n ≡ (member none n || (same_name n (element k) && ltb k 64))) → (n : Name) → member r n ≡ same_name n (name_at count k)
-  single-element l one n =
-      one n ∙ ap₂ (λ (x y : Bool). x || (same_name n (element k) && y)) (bare n) (lt-ltb k 64 (omega arith)) ∙ and-true (same_name n (element k)) ∙ ap (same_name n) (sym (element-at count k l))
+pub single-element : (c : ℕ) (none r : NameSet) → c < max_declarations → ((n : Name) → member none n ≡ false) → ((n : Name) → member r n ≡ (member none n || (same_name n (element c) && ltb c 64)))
+    → (n : Name) → member r n ≡ same_name n (name_of_code c)
+single-element c none r l bare one n =
+    one n ∙ ap₂ (λ (x y : Bool). x || (same_name n (element c) && y)) (bare n) (lt-ltb c 64 (omega arith)) ∙ and-true (same_name n (element c)) ∙ ap (same_name n) (sym (element-of-code c l))
 
-  pub single-text : count ≤ k → k < count + count → ((n : Name) → member r n ≡ (member none n || (same_name n (text (k - count)) && ltb (k - count) 64)))
-      → (n : Name) → member r n ≡ same_name n (name_at count k)
-  single-text l h one n =
-      one n ∙ ap₂ (λ (x y : Bool). x || (same_name n (text (k - count)) && y)) (bare n) (lt-ltb (k - count) 64 (omega arith)) ∙ and-true (same_name n (text (k - count)))
-      ∙ ap (same_name n) (sym (text_at count k l))
+pub single-text : (c : ℕ) (none r : NameSet) → max_declarations ≤ c → c < 64 → ((n : Name) → member none n ≡ false)
+    → ((n : Name) → member r n ≡ (member none n || (same_name n (text (c - 32)) && ltb (c - 32) 64))) → (n : Name) → member r n ≡ same_name n (name_of_code c)
+single-text c none r l h bare one n =
+    one n ∙ ap₂ (λ (x y : Bool). x || (same_name n (text (c - 32)) && y)) (bare n) (lt-ltb (c - 32) 64 (omega arith)) ∙ and-true (same_name n (text (c - 32)))
+    ∙ ap (same_name n) (sym (text-of-code c l))
 
--- ---- a place, and the name that has it
-pub place-below : (count : ℕ) (n : Name) → Among count n → place_of count n < count + count
-place-below count (element e) l = omega arith
-place-below count (text e) l = omega arith
+-- a code, and the name that has it
+pub code_below : (n : Name) → In n every_name → code_of n < 64
+code_below (element e) i =
+    let l = every_element e i in
+    omega arith
+code_below (text e) i =
+    let l = every-text e i in
+    omega arith
 
-pub same-name-place : (count : ℕ) (n : Name) (k : ℕ) → Among count n → same_name n (name_at count k) ≡ eqb (place_of count n) k
-same-name-place count (element e) k l = pick (ltb k count) refl
+pub same-name-code : (n : Name) (c : ℕ) → In n every_name → same_name n (name_of_code c) ≡ eqb (code_of n) c
+same-name-code (element e) c i = pick (ltb c 32) refl
   where
-    pick : (b : Bool) → ltb k count ≡ b → same_name (element e) (name_at count k) ≡ eqb e k
-    pick true d = ap (same_name (element e)) (element-at count k (ltb-true k count d))
+    pick : (b : Bool) → ltb c 32 ≡ b → same_name (element e) (name_of_code c) ≡ eqb e c
+    pick true d = ap (same_name (element e)) (element-of-code c (ltb-true c 32 d))
     pick false d =
-        let g = ltb-false k count d in
-        ap (same_name (element e)) (text_at count k g) ∙ sym (ne_eqb e k (λ q. omega arith))
-same-name-place count (text e) k l = pick (ltb k count) refl
+        let l = every_element e i in
+        let g = ltb-false c 32 d in
+        ap (same_name (element e)) (text-of-code c g) ∙ sym (ne_eqb e c (λ q. omega arith))
+same-name-code (text e) c i = pick (ltb c 32) refl
   where
-    to : count ≤ k → T (eqb e (k - count)) → T (eqb (count + e) k)
+    to : max_declarations ≤ c → T (eqb e (c - 32)) → T (eqb (32 + e) c)
     to g t =
-        let q : e ≡ k - count = eqb→eq e (k - count) t in
-        let r : count + e ≡ k = omega arith in
-        subst (λ (x : ℕ). T (eqb (count + e) x)) r (eqb_refl (count + e))
+        let q : e ≡ c - 32 = eqb→eq e (c - 32) t in
+        let r : 32 + e ≡ c = omega arith in
+        subst (λ (x : ℕ). T (eqb (32 + e) x)) r (eqb_refl (32 + e))
 
-    of : T (eqb (count + e) k) → T (eqb e (k - count))
+    of : T (eqb (32 + e) c) → T (eqb e (c - 32))
     of t =
-        let q : count + e ≡ k = eqb→eq (count + e) k t in
-        let r : e ≡ k - count = omega arith in
+        let q : 32 + e ≡ c = eqb→eq (32 + e) c t in
+        let r : e ≡ c - 32 = omega arith in
         subst (λ (x : ℕ). T (eqb e x)) r (eqb_refl e)
 
-    pick : (b : Bool) → ltb k count ≡ b → same_name (text e) (name_at count k) ≡ eqb (count + e) k
+    pick : (b : Bool) → ltb c 32 ≡ b → same_name (text e) (name_of_code c) ≡ eqb (32 + e) c
     pick true d =
-        let g = ltb-true k count d in
-        ap (same_name (text e)) (element-at count k g) ∙ sym (ne_eqb (count + e) k (λ q. omega arith))
-    pick false d = ap (same_name (text e)) (text_at count k (ltb-false k count d)) ∙ same_test (eqb e (k - count)) (eqb (count + e) k) (to (ltb-false k count d)) of
-
-pub name-of-its-place : (count : ℕ) (n : Name) → Among count n → n ≡ name_at count (place_of count n)
-name-of-its-place count n l = same-equal n (name_at count (place_of count n)) (subst T (sym (same-name-place count n (place_of count n) l)) (eqb_refl (place_of count n)))
-
--- the names of a schema are those of its elements
-pub schema-among : (s : Schema) (count : ℕ) → count ≡ length s → (n : Name) → In n (names_of s) → Among count n
-schema-among s count e (element a) i = let l = in-element s a i in omega arith
-schema-among s count e (text a) i = let l = (in-text s a i).0 in omega arith
-
--- and no name of the schema stands at a place past them
-pub named-place : (s : Schema) (count : ℕ) → count ≡ length s → (k : ℕ) → In (name_at count k) (names_of s) → k < count + count
-named-place s count e k i = ⊎_elim (λ l. omega arith) past (below-or-past k count)
-  where
-    past : count ≤ k → k < count + count
-    past l = let m = (in-text s (k - count) (subst (λ (n : Name). In n (names_of s)) (text_at count k l) i)).0 in omega arith
-
--- ---- the same of codes
-every-among : (n : Name) → In n every_name → Among max_declarations n
-every-among (element e) i = every_element e i
-every-among (text e) i = every-text e i
-
-place-code : (n : Name) → place_of max_declarations n ≡ code_of n
-place-code (element e) = refl
-place-code (text e) = refl
-
-pub code_below : (n : Name) → In n every_name → code_of n < max_declarations + max_declarations
-code_below n i = subst (λ (c : ℕ). c < max_declarations + max_declarations) (place-code n) (place-below max_declarations n (every-among n i))
+        let g = ltb-true c 32 d in
+        ap (same_name (text e)) (element-of-code c g) ∙ sym (ne_eqb (32 + e) c (λ q. omega arith))
+    pick false d = ap (same_name (text e)) (text-of-code c (ltb-false c 32 d)) ∙ same_test (eqb e (c - 32)) (eqb (32 + e) c) (to (ltb-false c 32 d)) of
 
 pub name-of-its-code : (n : Name) → In n every_name → n ≡ name_of_code (code_of n)
-name-of-its-code n i = name-of-its-place max_declarations n (every-among n i) ∙ ap name_of_code (place-code n)
+name-of-its-code n i = same-equal n (name_of_code (code_of n)) (subst T (sym (same-name-code n (code_of n) i)) (eqb_refl (code_of n)))
 
 -- one name of a list in which no name stands twice
 only_one : (a : Name) {xs : Names} → Distinct xs → In a xs → filter_by (λ n. same_name n a) xs ≡ a ∷ []

@@ -6,7 +6,7 @@ use Rattle.inference.specs.type_steps.Relations.{env_in}
 use Rattle.inference_spec.specs.Needed.{keeps_all, wants_nothing, need}
 use Rattle.inference_spec.specs.Types.{Env, env, cut_to, infer_all}
 use Rattle.names.specs.Sets.{set_in}
-use Rattle.names.specs.codes.Codes.{name_at}
+use Rattle.names.specs.codes.Codes.{name_of_code}
 use Rattle.names.specs.declared.NameSet.{NameSet}
 use Rattle.path_spec.specs.Paths.{PlainStep, expand}
 use Rattle.schema_spec.specs.Names.{Names, names_of}
@@ -14,10 +14,9 @@ use Rattle.schema_spec.specs.Schemas.{Schema}
 use Rattle.schema_spec.specs.Types.{types_of}
 use Rattle.text_spec.specs.Lists.{any_of, gather, is_empty}
 
--- the name at a place, in the context k cut to it and above it
-abbrev pub FromName : Schema → NameSet → ℕ → ℕ → Inferred → Type 0
-FromName s k count c r =
-    Memᴰ (name_at count c) (names_of s) → env_in s r ≡ env (name_at count c ∷ []) (cut_to (types_of s) (name_at count c ∷ []) (set_in s k))
+-- one name, in the context k cut to it and above it
+abbrev pub FromName : Schema → NameSet → ℕ → Inferred → Type 0
+FromName s k c r = Memᴰ (name_of_code c) (names_of s) → env_in s r ≡ env (name_of_code c ∷ []) (cut_to (types_of s) (name_of_code c ∷ []) (set_in s k))
 
 -- the steps end with a type that is not empty
 abbrev pub ends_some : Schema → Env → List (PlainStep ℕ) → Bool

@@ -9,8 +9,6 @@ use Rattle.compiled_schema.specs.records.Records.{record_with}
 use Rattle.inference_spec.specs.Needed.{needed_word}
 use Rattle.library_spec.specs.Calls.{needed_names}
 use Rattle.library_spec.specs.Records.{schema_held, bundle_held, passes_schema, passes_bundle}
-use Rattle.names.specs.Sets.{bits_of}
-use Rattle.names.specs.declared.NameSet.{NameSet}
 use Rattle.needed_names.specs.declared.records.Needed.{Needed}
 use Rattle.needed_names.specs.declared.records.Needed.TheVariants.{Names, BadRecord}
 use Rattle.needed_names.specs.texts.Texts.{NeededBy}
@@ -27,9 +25,9 @@ use Rattle.text_spec.specs.Limits.{max_schema_bytes}
 use Rattle.text_spec.specs.Lists.{same_bytes}
 use Rattle.text_spec.specs.Refusals.{Outcome, accepted, refused, at, bad_record, result_or}
 
--- what is answered, as an outcome: the set by its 128 bits
+-- what is answered, as an outcome
 abbrev pub outcome_of : Needed → Outcome ℕ
-outcome_of (Names x) = accepted (bits_of x)
+outcome_of (Names w) = accepted w
 outcome_of BadRecord = refused (at bad_record 0)
 
 module _ (cells : List ℕ) (size : ℕ) (bundle : List ℕ) (n : ℕ) where
@@ -70,8 +68,8 @@ module _ (cells : List ℕ) (size : ℕ) (bundle : List ℕ) (n : ℕ) where
     second : T (passes_bundle_record schema bundle n)
     second = (and_cases (passes_record cells size) (passes_bundle_record schema bundle n) (passed both)).1
 
-    pub both-records : (x : NameSet) → NeededBy (take size cells) (take n bundle) (bits_of x) → outcome_of (Names x) ≡ needed_names (record_with cells size) (record_with bundle n)
+    pub both-records : (w : ℕ) → NeededBy (take size cells) (take n bundle) w → outcome_of (Names w) ≡ needed_names (record_with cells size) (record_with bundle n)
     unfolding NeededBy outcome under
-    both-records x h =
+    both-records w h =
         ap accepted (h (record-accepted (take size cells) (and_cases (leb size max_schema_bytes && same_bytes cells (padded max_schema_bytes (take size cells))) (is_schema_record (take size cells)) first).1))
         ∙ sym (called ∙ ap outcome (true_of (passes_record cells size) first) ∙ judged ∙ ap under (true_of (passes_bundle_record schema bundle n) second))

@@ -10,11 +10,12 @@ use Rattle.compiled_schema.specs.Places.{names_at}
 use Rattle.compiled_schema.specs.declared.CompiledSchema.{CompiledSchema}
 use Rattle.inference.specs.relations.Compiled.{compiled-needed-word}
 use Rattle.inference_spec.specs.Needed.{needed, needed_word}
-use Rattle.names.specs.Sets.{bits_of}
+use Rattle.names.specs.Sets.{set_of, every_name}
 use Rattle.names.specs.declared.NameSet.{NameSet}
 use Rattle.needed_names.specs.Words.{word-of-known}
 use Rattle.needed_names.specs.sets.Needs.{NeededIn}
 use Rattle.path_spec.specs.Reading.{read_bundle}
+use Rattle.schema_spec.specs.Names.{word_of_set}
 use Rattle.schema_spec.specs.Reading.{read_schema}
 use Rattle.schema_spec.specs.Records.{schema_in}
 use Rattle.schema_spec.specs.Types.{types_of}
@@ -25,9 +26,9 @@ unfoldable pub NeededBy : List ℕ → List ℕ → ℕ → Type 0
 NeededBy schema text r = read_schema schema ≡ accepted (schema_in schema) → r ≡ needed_word (types_of (schema_in schema)) (result_or [] (read_bundle (schema_in schema) text))
 
 module _ (schema text : List ℕ) (t : CompiledSchema) (made : CompiledOf schema (schema_in schema) t) (r : Judged) (judged : JudgedUnder (names_at schema t) text r) where
-  pub judged-needed : (x : NameSet) → NeededIn t r.paths x → NeededBy schema text (bits_of x)
+  pub judged-needed : (x : NameSet) → NeededIn t r.paths x → (word : ℕ) → word ≡ word_of_set every_name (set_of every_name x) → NeededBy schema text word
   unfolding NeededBy needed_word types_of
-  judged-needed x need read =
-      compiled-needed-word schema (schema_in schema) read t made r.paths (bits_of x)
-      (λ q k. let is = need.under q k in word-of-known q k.small x (needed (types_of q) (paths_in r.paths)) is.1 is.0)
+  judged-needed x need word e read =
+      compiled-needed-word schema (schema_in schema) read t made r.paths word
+      (λ q k. let is = need.under q k in e ∙ word-of-known q k.small x (needed (types_of q) (paths_in r.paths)) is.1 is.0)
       ∙ ap (needed_word (types_of (schema_in schema))) (judged.under (schema_in schema) made.named).compiled

@@ -89,7 +89,7 @@ module _ (text : List ℕ) where
 
 -- Reading a schema text: it is turned back by the first refusal that applies, or it gives the schema of its derivation.
 pub schema-read : (text : List ℕ) → Judged (SchemaApplies text) (SchemaGives text) (read_schema text)
-unfolding read_schema schema_refusals
+unfolding read_schema
 schema-read text =
     judged-first (SchemaApplies text) (SchemaGives text) (schema_refusals text) (parsed_schema (parse text)) (schema-found text) (schema-listed text) (schema-given text (parse text) refl)
 

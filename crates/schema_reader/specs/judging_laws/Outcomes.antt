@@ -47,7 +47,7 @@ abbrev FirstIs : List ℕ → Refusal → Type 0
 FirstIs text f = first_of (schema_refusals text) ≡ some f
 
 first-outcome : (text : List ℕ) (f : Refusal) → FirstIs text f → read_schema text ≡ refused f
-unfolding read_schema schema_refusals
+unfolding read_schema
 first-outcome text f e = ap (λ (o : Option Refusal). by_first o (parsed_schema (parse text))) e
 
 read-refused : (text : List ℕ) (k : Kind) (p : ℕ) → FirstIs text (at (reason_of k) p) → JudgedAs text (Refused k p)
@@ -68,7 +68,7 @@ module _ {text names uses : List ℕ} {k : Kind} {p : ℕ} (J : JudgedAs text (R
 
 -- ---- acceptance
 accepted-outcome : (text : List ℕ) {ds : List Declaration} → parse text ≡ spells ds → schema_refusals text ≡ [] → read_schema text ≡ accepted (schema_of ds)
-unfolding read_schema schema_refusals first_of
+unfolding read_schema first_of
 accepted-outcome text e f = ap₂ (λ (fs : List Refusal) (q : Parsed (List Declaration)). judged fs (parsed_schema q)) f e
 
 elements : (ds : List Declaration) → length (schema_of ds) ≡ length ds

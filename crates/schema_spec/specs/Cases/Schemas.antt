@@ -1,5 +1,5 @@
 -- Schema texts at the edges of refusals 4 to 7.
-use Rattle.std.specs.Prelude.{List, [], ◌∷◌, ◌++◌, ℕ, zero, suc, ◌+◌, ◌/◌, ◌%◌}
+use Rattle.std.specs.Prelude.{List, [], ◌∷◌, ◌++◌, ℕ}
 use Prim.Native.String.{String}
 use Rattle.schema_spec.specs.Cases.Opened.{computing}
 use Rattle.schema_spec.specs.Reading.{read_schema}
@@ -9,11 +9,6 @@ use Rattle.text_spec.specs.Lists.{bytes}
 -- a model of so many names, parted by a separator
 abbrev pub model_names : ℕ → String → List ℕ
 model_names n separator = bytes "(" ++ (joined n (bytes separator) (bytes "a") ++ bytes ")>")
-
--- so many declarations of names of two letters, from the k-th on
-abbrev pub declared : ℕ → ℕ → List ℕ
-declared zero k = []
-declared (suc n) k = bytes "<!ELEMENT " ++ ((97 + k / 8) ∷ (97 + k % 8) ∷ (bytes " EMPTY>" ++ declared n (suc k)))
 
 pub cases : List (Case (List ℕ) Judgement)
 cases =
@@ -32,11 +27,6 @@ cases =
     ∷ case (bytes "<!ELEMENT a " ++ model_names 64 ",") taken
     ∷ case (bytes "<!ELEMENT a " ++ model_names 65 ",") (turned_back 5 141)
     ∷ case (bytes "<!ELEMENT a EMPTY><!ELEMENT b " ++ model_names 65 "|") (turned_back 5 159)
-    -- 5: 33, 64 and 65 declarations, and a 65th that is the second of its name
-    ∷ case (declared 33 0) taken
-    ∷ case (declared 64 0) taken
-    ∷ case (declared 65 0) (turned_back 5 1216)
-    ∷ case (declared 64 0 ++ declared 1 0) (turned_back 5 1216)
     -- 6: a name that is not the last one declared before
     ∷ case (bytes "<!ELEMENT a EMPTY><!ELEMENT b EMPTY><!ELEMENT a EMPTY>") (turned_back 6 46)
     -- 7: in a model that is not the first

@@ -92,9 +92,9 @@ module _ (cells : List ℕ) (size : ℕ) (bundle : List ℕ) (n place : ℕ) (t 
   both-records e h = rw (by-test, e) h
 
 -- ---- the texts, compiled
-module _ (text : List ℕ) (t : CompiledSchema) (made : CompiledOf text (schema_in text) t) (words : List ℕ) (are : WordsOf t.count t.entries.«holds» words) where
+module _ (text : List ℕ) (t : CompiledSchema) (made : CompiledOf text (schema_in text) t) (words : List ℕ) (are : WordsOf t.entries.«holds» words) where
   pub schema-words : HeldWords (types_of (schema_in text)) words
-  schema-words = words-held (schema_in text) (schema_in-length text) t.count made.counted t.entries.«holds» made.entries.held words are
+  schema-words = words-held (schema_in text) (schema_in-length text) t.entries.«holds» made.entries.held words are
 
   pub some-schema : SomeSchema words
   some-schema = record { schema = schema_in text; held = schema-words }

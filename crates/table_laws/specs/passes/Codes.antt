@@ -1,5 +1,5 @@
 -- Names by their codes, and what each element holds as words of bits.
-use Rattle.std.specs.Prelude.{Bool, true, false, cond, ◌&&◌, List, ◌≡◌, refl, ℕ, suc, ◌+◌, ◌-◌, ◌<◌, ◌≤◌, eqb, ltb}
+use Rattle.std.specs.Prelude.{Bool, true, false, cond, ◌&&◌, List, ◌≡◌, refl, ℕ, suc, ◌+◌, ◌-◌, ◌<◌, ◌≤◌, eqb, ltb, get_or}
 use Rattle.std.proofs.Math.Bool.{not}
 use Rattle.std.proofs.Math.Option.{Option, none, some}
 use Rattle.std.proofs.Common.{sym, ap, ◌∙◌, le-leb, ltb-true, ltb-false, leb→le, le→leb, lt→ltb}
@@ -7,23 +7,23 @@ use Rattle.std.proofs.Math.Path.{subst}
 use Rattle.std.proofs.lemmas.Bool.{lt-leb}
 use Rattle.std.proofs.Math.Dec.{T, leb, ltb→lt}
 use Rattle.schema_laws.specs.Words.{code_of-name_of_code}
-use Rattle.schema_spec.specs.Names.{Name, element, text, is_text, code_of, name_of_code}
+use Rattle.schema_spec.specs.Names.{Name, element, text, is_text, has_bit, code_of, name_of_code}
 use Rattle.schema_spec.specs.Types.{Types}
-use Rattle.table_laws.specs.passes.Passes.{is_text_code, depth_under, text_cells_fit, held_in, later_fits, later_cells}
+use Rattle.table_laws.specs.passes.Passes.{is_text_code, depth_under, text_cells_fit, later_fits, later_cells}
 use Rattle.table_spec.specs.Nodes.{deeper}
 use Rattle.table_spec.specs.Rows.{Row, cells_of}
 use Rattle.table_spec.specs.Tables.{text_fits}
 use Rattle.text_laws.specs.Tests.{never, and_intro, and_cases, not-intro, not-elim}
 use Rattle.text_spec.specs.Limits.{max_declarations, max_nodes, max_depth, max_text_bytes}
 
--- What a pass is handed of a schema: the names that each element holds, as the bits of two words. A text name holds nothing, and an element that
+-- What a pass is handed of a schema: the names that each element holds, as the bits of a word. A text name holds nothing, and an element that
 -- holds its text name holds no element.
 pub record HeldWords (s : Types) (words : List ℕ) : Type 0 where
   pub root : s.root ≡ element 0
   pub leaf : (a : ℕ) (b : Name) → T (s.holds (text a) b) → ⊥
   pub apart : (a b e : ℕ) → T (s.holds (element a) (element b)) → T (s.holds (element a) (text e)) → ⊥
-  pub held : (a code : ℕ) (n : Name) → name_of_code code ≡ some n → held_in words a code ≡ s.holds (element a) n
-  pub unnamed : (a code : ℕ) → name_of_code code ≡ none → held_in words a code ≡ false
+  pub held : (a code : ℕ) (n : Name) → name_of_code code ≡ some n → has_bit (get_or words a 0) code ≡ s.holds (element a) n
+  pub unnamed : (a code : ℕ) → name_of_code code ≡ none → has_bit (get_or words a 0) code ≡ false
 
 -- ---- a name by its code
 named_by : ℕ → Bool → Bool → Option Name
@@ -69,17 +69,17 @@ code-cells r k =
     ap (cells_fit r) (code-text (code_of r.name) r.name k) ∙ fit-by r r.name refl
 
 -- ---- a row after another, part by part
-pub record FitsAfter (q : Row) (words : List ℕ) (a depth : ℕ) (r : Row) : Type 0 where
+pub record FitsAfter (q : Row) (word depth : ℕ) (r : Row) : Type 0 where
   pub rises : q.number < r.number
   pub small : r.number < max_nodes
-  pub held : T (held_in words a (code_of r.name))
+  pub held : T (has_bit word (code_of r.name))
   pub shallow : deeper r.name depth ≤ max_depth
   pub lone : T (is_text r.name) → T (is_text q.name) → ⊥
   pub cells : T (text_fits r.name r)
 
-module _ (q : Row) (words : List ℕ) (a depth : ℕ) (r : Row) (before : Coded q.name) (this : Coded r.name) where
+module _ (q : Row) (word depth : ℕ) (r : Row) (before : Coded q.name) (this : Coded r.name) where
   bits : Bool
-  bits = held_in words a (code_of r.name)
+  bits = has_bit word (code_of r.name)
 
   both : Bool
   both = is_text_code (code_of r.name) && is_text_code (code_of q.name)
@@ -90,7 +90,7 @@ module _ (q : Row) (words : List ℕ) (a depth : ℕ) (r : Row) (before : Coded 
   was-text : is_text_code (code_of q.name) ≡ is_text q.name
   was-text = code-text (code_of q.name) q.name before
 
-  pub later-parts : T (later_cells (cells_of q) words a depth (cells_of r)) → FitsAfter q words a depth r
+  pub later-parts : T (later_cells (cells_of q) word depth (cells_of r)) → FitsAfter q word depth r
   unfolding later_fits bits both
   later-parts t =
       let rest₄ = text_cells_fit (code_of r.name) r.start r.size r.decoded in
@@ -111,7 +111,7 @@ module _ (q : Row) (words : List ℕ) (a depth : ℕ) (r : Row) (before : Coded 
         cells = subst T (code-cells r this) c₄.1;
       }
 
-  pub parts-later : FitsAfter q words a depth r → T (later_cells (cells_of q) words a depth (cells_of r))
+  pub parts-later : FitsAfter q word depth r → T (later_cells (cells_of q) word depth (cells_of r))
   unfolding later_fits bits both
   parts-later f =
       and_intro (ltb q.number r.number) _ (lt→ltb _ _ f.rises)
@@ -127,11 +127,11 @@ module _ (q : Row) (words : List ℕ) (a depth : ℕ) (r : Row) (before : Coded 
           f.lone (subst T is-text c.0) (subst T was-text c.1)
 
 -- a row that fits is not too deep
-pub fits-depth : (before : ℕ) (follows held : Bool) (depth number code start size decoded : ℕ) → T (later_fits before follows held depth number code start size decoded)
+pub fits-depth : (before : ℕ) (follows : Bool) (word depth number code start size decoded : ℕ) → T (later_fits before follows word depth number code start size decoded)
     → depth_under code depth ≤ max_depth
 unfolding later_fits
-fits-depth before follows held depth number code start size decoded t =
+fits-depth before follows word depth number code start size decoded t =
     let c₀ = and_cases (ltb before number) _ t in
     let c₁ = and_cases (ltb number max_nodes) _ c₀.1 in
-    let c₂ = and_cases held _ c₁.1 in
+    let c₂ = and_cases (has_bit word code) _ c₁.1 in
     leb→le _ _ (and_cases (leb (depth_under code depth) max_depth) _ c₂.1).0

@@ -1,6 +1,6 @@
 -- A table judged in one pass over its columns, row by row. What is carried from row to row: the innermost open element, which is the row
 -- before or, where that is a text, its parent; and its depth.
-use Rattle.std.specs.Prelude.{Bool, true, false, cond, not, ◌&&◌, List, ℕ, zero, suc, ◌+◌, ◌*◌, ◌-◌, eqb, leb, ltb, get_or}
+use Rattle.std.specs.Prelude.{Bool, true, false, cond, not, ◌&&◌, List, ℕ, zero, suc, eqb, leb, ltb, get_or}
 use Rattle.schema_spec.specs.Names.{has_bit}
 use Rattle.table_laws.specs.passes.Climbs.{Climbed, stopped, nowhere, climb}
 use Rattle.table_spec.specs.Columns.{Columns, cells_at}
@@ -24,26 +24,21 @@ text_cells_fit code start size decoded =
 unfoldable pub root_fits : ℕ → ℕ → ℕ → ℕ → ℕ → ℕ → Bool
 root_fits number code parent start size decoded = eqb number 0 && (eqb code 0 && (eqb parent 0 && (eqb start 0 && (eqb size 0 && eqb decoded 0))))
 
--- Whether an element holds the name of a code. `words` has two words for each element: the bits of the elements that it holds, then those of the text names.
-unfoldable pub held_in : List ℕ → ℕ → ℕ → Bool
-held_in words a code = cond (is_text_code code) (has_bit (get_or words (2 * a + 1) 0) (code - max_declarations)) (has_bit (get_or words (2 * a) 0) code)
-
--- A later row, after a row with this number that is a text or not, under a parent of this depth which holds its name or not.
+-- A later row, after a row with this number that is a text or not, under a parent of this depth which holds the names whose bits a word has.
 -- A second text of an element follows on the first.
-unfoldable pub later_fits : ℕ → Bool → Bool → ℕ → ℕ → ℕ → ℕ → ℕ → ℕ → Bool
-later_fits before after_text held depth number code start size decoded =
+unfoldable pub later_fits : ℕ → Bool → ℕ → ℕ → ℕ → ℕ → ℕ → ℕ → ℕ → Bool
+later_fits before after_text word depth number code start size decoded =
     ltb before number && (ltb number max_nodes
-    && (held && (leb (depth_under code depth) max_depth && (not (is_text_code code && after_text) && text_cells_fit code start size decoded))))
+    && (has_bit word code && (leb (depth_under code depth) max_depth && (not (is_text_code code && after_text) && text_cells_fit code start size decoded))))
 
--- the same by the rows' cells; the parent is the element a
+-- the same by the rows' cells
 abbrev pub root_cells : Cells → Bool
 root_cells r = root_fits r.number r.name r.parent r.start r.size r.decoded
 
-abbrev pub later_cells : Cells → List ℕ → ℕ → ℕ → Cells → Bool
-later_cells before words a depth r =
-    later_fits before.number (is_text_code before.name) (held_in words a r.name) depth r.number r.name r.start r.size r.decoded
+abbrev pub later_cells : Cells → ℕ → ℕ → Cells → Bool
+later_cells before word depth r = later_fits before.number (is_text_code before.name) word depth r.number r.name r.start r.size r.decoded
 
--- ---- all rows
+-- ---- all rows; `words` has for each element the names that it holds
 -- the innermost open element after row i, whose parent is row p
 abbrev pub open_after : ℕ → ℕ → ℕ → ℕ
 open_after code i p = cond (is_text_code code) p i
@@ -60,7 +55,7 @@ module _ (words : List ℕ) (c : Columns) where
   abbrev pub fits_under : ℕ → (ℕ → ℕ → Bool) → Climbed → Bool
   fits_under i later nowhere = false
   fits_under i later (stopped p d) =
-      later_cells (cells_at c i) words (code_at c p) d (cells_at c (suc i)) && later (open_after (code_at c (suc i)) (suc i) p) (depth_under (code_at c (suc i)) d)
+      later_cells (cells_at c i) (get_or words (code_at c p) 0) d (cells_at c (suc i)) && later (open_after (code_at c (suc i)) (suc i) p) (depth_under (code_at c (suc i)) d)
 
   -- the n rows after row i
   abbrev pub later_pass : ℕ → ℕ → ℕ → ℕ → Bool

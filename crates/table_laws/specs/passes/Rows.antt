@@ -1,13 +1,13 @@
 -- What is carried from row to row in a pass, and one row more: it fits exactly if what document 01 says of a later row holds.
-use Rattle.std.specs.Prelude.{true, false, List, ◌⊎◌, ◌≡◌, refl, ℕ, zero, suc, ◌<◌, ◌≤◌, T, eqb}
+use Rattle.std.specs.Prelude.{true, false, List, ◌⊎◌, ◌≡◌, refl, ℕ, zero, suc, ◌<◌, ◌≤◌, T, eqb, get_or}
 use Rattle.std.proofs.Common.{inl, inr, ⊎_elim, sym, ap, subst, ◌∙◌, eq-or-lt_of_le, arith, eqb→eq}
-use Rattle.schema_spec.specs.Names.{Name, element, text, is_text, code_of}
+use Rattle.schema_spec.specs.Names.{Name, element, text, is_text, has_bit, code_of}
 use Rattle.schema_spec.specs.Types.{Types}
 use Rattle.table_laws.specs.WellFormed.{cells-mean, mean-cells}
 use Rattle.table_laws.specs.passes.Climbs.{stopped, climb, Line, OnLine, itself, StoppedAt, line-once, line-cases, climb-stopped, climb-to}
 use Rattle.table_laws.specs.passes.Codes.{HeldWords, code-text, FitsAfter}
 use Rattle.table_laws.specs.passes.Lines.{Stands, parent-cell, above-on-line, Open, open_next, HoldsElement, ElementAt, open-element, open-line, open-low, open_above, open-holds, open-row-above, depth-under, one-depth-under}
-use Rattle.table_laws.specs.passes.Passes.{is_text_code, depth_under, held_in, open_after, code_at, parent_at}
+use Rattle.table_laws.specs.passes.Passes.{is_text_code, depth_under, open_after, code_at, parent_at}
 use Rattle.table_spec.specs.Columns.{Columns}
 use Rattle.table_spec.specs.Conditions.{RowAt, RowAbove, LaterRow}
 use Rattle.table_spec.specs.Conditions as Conditions
@@ -33,7 +33,7 @@ name-cell h = ap (λ (x : Cells). x.name) h.cells
 module _ (s : Types) (words : List ℕ) (hw : HeldWords s words) (rows : List Row) (c : Columns) (stands : (i : ℕ) (r : Row) → RowAt rows i r → Stands c i r) where
   -- what an open element's word says of a name is what the element holds
   word_holds : (p : ℕ) (u r : Row) (i : ℕ) (e : ℕ) → RowAt rows p u → u.name ≡ element e → RowAt rows i r
-      → held_in words (code_at c p) (code_of r.name) ≡ s.holds u.name r.name
+      → has_bit (get_or words (code_at c p) 0) (code_of r.name) ≡ s.holds u.name r.name
   word_holds p u r i e g q h =
       let k = name-cell (stands p u g) ∙ ap code_of q in
       rw (k, q) (hw.held e (code_of r.name) r.name (stands i r h).coded)
@@ -151,7 +151,7 @@ module _ (s : Types) (words : List ℕ) (hw : HeldWords s words) (rows : List Ro
     Next x e = Carried s rows (suc i) r (open_after (code_at c (suc i)) (suc i) x) (depth_under (code_at c (suc i)) e)
 
     -- The row fits under the row where the climb stops: what is said of it holds.
-    pub fits-later : (x e : ℕ) → climb (eqb (parent_at c (suc i))) c.parents p d ≡ stopped x e → FitsAfter q words (code_at c x) e r
+    pub fits-later : (x e : ℕ) → climb (eqb (parent_at c (suc i))) c.parents p d ≡ stopped x e → FitsAfter q (get_or words (code_at c x) 0) e r
         → LaterRow s rows i q r × Next x e
     fits-later x e stop f = (meant, subst (λ (y : ℕ). Next y e) same (carried-next e on o u parent held))
       where
@@ -181,7 +181,7 @@ module _ (s : Types) (words : List ℕ) (hw : HeldWords s words) (rows : List Ro
         held : T (s.holds u.name r.name)
         held =
             subst T (word_holds r.parent u r (suc i) found.index parent found.name h)
-            (subst (λ (y : ℕ). T (held_in words (code_at c y) (code_of r.name))) (sym same) f.held)
+            (subst (λ (y : ℕ). T (has_bit (get_or words (code_at c y) 0) (code_of r.name))) (sym same) f.held)
 
         lone : T (is_text r.name) → (j : ℕ) (z : Row) → j < i → RowAt rows (suc j) z → T (is_text z.name) → z.parent ≡ r.parent → ⊥
         lone t j z l w v y = pick k.place
@@ -207,7 +207,7 @@ module _ (s : Types) (words : List ℕ) (hw : HeldWords s words) (rows : List Ro
 
     -- What is said of the row holds: the climb finds its parent, and it fits there.
     pub later-fits : LaterRow s rows i q r
-        → (e : ℕ) × (climb (eqb (parent_at c (suc i))) c.parents p d ≡ stopped r.parent e) × FitsAfter q words (code_at c r.parent) e r × Next r.parent e
+        → (e : ℕ) × (climb (eqb (parent_at c (suc i))) c.parents p d ≡ stopped r.parent e) × FitsAfter q (get_or words (code_at c r.parent) 0) e r × Next r.parent e
     later-fits f = (e, climbed.1, fits, carried-next e on o u parent held)
       where
         place : ((r.parent ≡ i) × (is_text q.name ≡ true)) ⊎ OnLine c.parents r.parent p
@@ -255,7 +255,7 @@ module _ (s : Types) (words : List ℕ) (hw : HeldWords s words) (rows : List Ro
             pick (inl a) = failed a.1 v
             pick (inr a) = at_next i refl a.2 (a.0 ∙ sym (text-innermost e on o u parent held t))
 
-        fits : FitsAfter q words (code_at c r.parent) e r
+        fits : FitsAfter q (get_or words (code_at c r.parent) 0) e r
         fits =
             record {
               rises = f.rises;

@@ -1,5 +1,5 @@
 -- The pass over the columns is the test of well-formed tables on the rows in them.
-use Rattle.std.specs.Prelude.{Bool, false, ◌&&◌, ◌⊎◌, ◌≡◌, ltb}
+use Rattle.std.specs.Prelude.{Bool, false, ◌&&◌, ◌⊎◌, ◌≡◌, ltb, get_or}
 use mathlib.Core.List.{List, [], ◌∷◌}
 use Rattle.std.proofs.Common.{inl, ⊎_elim, ap, ◌∙◌, eq-or-lt_of_le}
 use Rattle.std.proofs.Math.Option.{Option, none, some}
@@ -9,14 +9,14 @@ use native.Mathlib.Omega.{arith}
 use Rattle.std.proofs.Math.Dec.{T, eqb, eqb→eq}
 use Rattle.std.proofs.Math.ListN.{length}
 use Rattle.schema_laws.specs.Words.{code_of-name_of_code}
-use Rattle.schema_spec.specs.Names.{Name, element, text, code_of, name_of_code}
+use Rattle.schema_spec.specs.Names.{Name, element, text, has_bit, code_of, name_of_code}
 use Rattle.schema_spec.specs.Types.{Types}
 use Rattle.table_laws.specs.Places.{at_bound, at_some}
 use Rattle.table_laws.specs.WellFormed.{table-means, table-tests}
 use Rattle.table_laws.specs.passes.Climbs.{Climbed, stopped, nowhere, climb}
 use Rattle.table_laws.specs.passes.Codes.{HeldWords, named-coded, later-parts, parts-later}
 use Rattle.table_laws.specs.passes.Lines.{Stands, open-root}
-use Rattle.table_laws.specs.passes.Passes.{held_in, root_fits, later_fits, root_cells, later_cells, fits_under, later_pass, rows_pass, open_after, depth_under, code_at, parent_at}
+use Rattle.table_laws.specs.passes.Passes.{root_fits, later_fits, root_cells, later_cells, fits_under, later_pass, rows_pass, open_after, depth_under, code_at, parent_at}
 use Rattle.table_laws.specs.passes.Rows.{Carried, fits-later, later-fits}
 use Rattle.table_spec.specs.Columns.{Columns, cells_at, cells_from}
 use Rattle.table_spec.specs.Conditions.{RowAt, TextCells, of-element, of-text, LaterRow, WellFormed}
@@ -75,8 +75,8 @@ rows-stand c k (suc n) rows e =
         subst (λ (x : ℕ). Stands c x r) w (t.each i r g)
 
 -- ---- the pass on rows that stand in columns
-cells_fit : {a b x y : Cells} → a ≡ x → b ≡ y → (words : List ℕ) (p depth : ℕ) → T (later_cells a words p depth b) → T (later_cells x words p depth y)
-cells_fit {b = b} {x = x} e f words p depth t = subst (λ (z : Cells). T (later_cells x words p depth z)) f (subst (λ (z : Cells). T (later_cells z words p depth b)) e t)
+cells_fit : {a b x y : Cells} → a ≡ x → b ≡ y → (word depth : ℕ) → T (later_cells a word depth b) → T (later_cells x word depth y)
+cells_fit {b = b} {x = x} e f word depth t = subst (λ (z : Cells). T (later_cells x word depth z)) f (subst (λ (z : Cells). T (later_cells z word depth b)) e t)
 
 module _ (s : Types) (words : List ℕ) (hw : HeldWords s words) (c : Columns) where
   module _ (rows : List Row) (stands : (i : ℕ) (r : Row) → RowAt rows i r → Stands c i r) where
@@ -90,9 +90,9 @@ module _ (s : Types) (words : List ℕ) (hw : HeldWords s words) (c : Columns) w
         pick nowhere z u = absurd u
         pick (stopped x e) z u =
             let code = code_at c (suc i) in
-            let w = code_at c x in
-            let a = and_cases (later_cells (cells_at c i) words w e (cells_at c (suc i))) (later_pass words c n (suc i) (open_after code (suc i) x) (depth_under code e)) u in
-            let f = later-parts q words w e r (stands i q g).coded (stands (suc i) r h).coded (cells_fit (stands i q g).cells (stands (suc i) r h).cells words w e a.0) in
+            let w = get_or words (code_at c x) 0 in
+            let a = and_cases (later_cells (cells_at c i) w e (cells_at c (suc i))) (later_pass words c n (suc i) (open_after code (suc i) x) (depth_under code e)) u in
+            let f = later-parts q w e r (stands i q g).coded (stands (suc i) r h).coded (cells_fit (stands i q g).cells (stands (suc i) r h).cells w e a.0) in
             let m = fits-later s words hw rows c stands i q r p d k g h x e z f in
             (m.0, (open_after code (suc i) x, depth_under code e, m.1, a.1))
 
@@ -119,10 +119,10 @@ module _ (s : Types) (words : List ℕ) (hw : HeldWords s words) (c : Columns) w
         let m = later-fits s words hw rows c stands i q r p d k g h.1 (w.later_row i q r g h.1) in
         let code = code_at c (suc i) in
         let e = m.0 in
-        let x = code_at c r.parent in
-        let fit = parts-later q words x e r (stands i q g).coded (stands (suc i) r h.1).coded m.2 in
-        rw m.1 (and_intro (later_cells (cells_at c i) words x e (cells_at c (suc i))) (later_pass words c n (suc i) (open_after code (suc i) r.parent) (depth_under code e))
-        (cells_fit (sym (stands i q g).cells) (sym (stands (suc i) r h.1).cells) words x e fit)
+        let x = get_or words (code_at c r.parent) 0 in
+        let fit = parts-later q x e r (stands i q g).coded (stands (suc i) r h.1).coded m.2 in
+        rw m.1 (and_intro (later_cells (cells_at c i) x e (cells_at c (suc i))) (later_pass words c n (suc i) (open_after code (suc i) r.parent) (depth_under code e))
+        (cells_fit (sym (stands i q g).cells) (sym (stands (suc i) r h.1).cells) x e fit)
         (means-pass n (suc i) (open_after code (suc i) r.parent) (depth_under code e) r m.3 h.1 (omega arith) w))
 
   root-carried : (rows : List Row) (r : Row) → RowAt rows 0 r → r.name ≡ element 0 → Carried s rows 0 r 0 1
@@ -182,12 +182,12 @@ module _ (s : Types) (words : List ℕ) (hw : HeldWords s words) (c : Columns) w
       (λ t. means-passed r rs n size stands (table-means s (r ∷ rs) t))
 
   -- ---- rows that pass have names
-  fits-named : (before : Cells) (a depth : ℕ) (r : Cells) → T (later_cells before words a depth r) → T (held_in words a r.name)
+  fits-named : (before : Cells) (a depth : ℕ) (r : Cells) → T (later_cells before (get_or words a 0) depth r) → T (has_bit (get_or words a 0) r.name)
   unfolding later_fits
   fits-named before a depth r t =
       let c₀ = and_cases (ltb before.number r.number) _ t in
       let c₁ = and_cases (ltb r.number max_nodes) _ c₀.1 in
-      (and_cases (held_in words a r.name) _ c₁.1).0
+      (and_cases (has_bit (get_or words a 0) r.name) _ c₁.1).0
 
   named-row : (k : ℕ) (o : Option Name) → name_of_code (code_at c k) ≡ o → (o ≡ none → ⊥) → (r : Row) × (row_of (cells_at c k) ≡ some r)
   named-row k none e h = absurd (h refl)
@@ -207,7 +207,7 @@ module _ (s : Types) (words : List ℕ) (hw : HeldWords s words) (c : Columns) w
       pick (stopped x e) u rest =
           let code = code_at c (suc i) in
           let w = code_at c x in
-          let a = and_cases (later_cells (cells_at c i) words w e (cells_at c (suc i))) (later_pass words c n (suc i) (open_after code (suc i) x) (depth_under code e)) u in
+          let a = and_cases (later_cells (cells_at c i) (get_or words w 0) e (cells_at c (suc i))) (later_pass words c n (suc i) (open_after code (suc i) x) (depth_under code e)) u in
           let bit = fits-named (cells_at c i) w e (cells_at c (suc i)) a.0 in
           cons-some (row_of (cells_at c (suc i))) (rows_of (cells_from c (suc (suc i)) n))
           (named-row (suc i) (name_of_code code) refl (λ h. failed (hw.unnamed w code h) bit)) (rest (open_after code (suc i) x) (depth_under code e) a.1)

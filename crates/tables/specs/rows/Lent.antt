@@ -1,6 +1,6 @@
 -- Lent columns that have a cell for each row, and one row of them.
 use Rattle.std.specs.Prelude.{Bool, List, ◌≡◌, ℕ, ◌-◌, ◌<◌, ◌≤◌, length, get_or}
-use Rattle.table_laws.specs.passes.Passes.{is_text_code, held_in, later_fits, code_at, parent_at}
+use Rattle.table_laws.specs.passes.Passes.{is_text_code, later_fits, code_at, parent_at}
 use Rattle.table_spec.specs.Columns.{Columns}
 use Rattle.text_spec.specs.Limits.{max_declarations}
 
@@ -33,5 +33,5 @@ pub record RowLent (numbers names starts lengths decoded : List ℕ) (row parent
 -- the row fits under its parent, whose depth this is
 abbrev pub row_fits : List ℕ → List ℕ → List ℕ → List ℕ → List ℕ → List ℕ → ℕ → ℕ → ℕ → Bool
 row_fits numbers names starts lengths decoded words row parent depth =
-    later_fits (get_or numbers (row - 1) 0) (is_text_code (get_or names (row - 1) 0)) (held_in words (get_or names parent 0) (get_or names row 0)) depth (get_or numbers row 0) (get_or names row 0)
+    later_fits (get_or numbers (row - 1) 0) (is_text_code (get_or names (row - 1) 0)) (get_or words (get_or names parent 0) 0) depth (get_or numbers row 0) (get_or names row 0)
     (get_or starts row 0) (get_or lengths row 0) (get_or decoded row 0)

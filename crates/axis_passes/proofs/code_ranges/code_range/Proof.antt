@@ -1,14 +1,13 @@
 use native.Mathlib.Omega.{arith}
 use Rattle.axis_passes.proofs.code_ranges.code_range.Statement.{statement}
 use Rattle.axis_passes.proofs.code_ranges.code_range.Tie as tie
-use Rattle.axis_passes.specs.code_ranges.Tests.{last_code, element-range, no-range, node-range, text-range, test-named, test-node, test-text, in-range-of}
-use Rattle.text_spec.specs.Limits.{max_declarations}
+use Rattle.axis_passes.specs.code_ranges.Tests.{element-range, no-range, node-range, text-range, test-named, test-node, test-text, in-range-of}
 
 returns : tie.Need-returns
-returns c = in-range-of 0 last_code _ _ (test-node _ c.if1.true) node-range
+returns c = in-range-of 0 63 _ _ (test-node _ c.if1.true) node-range
 
 returns-2 : tie.Need-returns-2
-returns-2 c = in-range-of max_declarations last_code _ _ (test-text _ c.before.if1.false c.if2.true) text-range
+returns-2 c = in-range-of 32 63 _ _ (test-text _ c.before.if1.false c.if2.true) text-range
 
 returns-3 : tie.Need-returns-3
 returns-3 c =

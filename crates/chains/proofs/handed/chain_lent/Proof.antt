@@ -27,7 +27,7 @@ abbrev given : tie.After-is-table → LentTable
 given c = let at = (start (compiled c)).args in lent_table at.numbers.now at.codes.now at.parents.now at.starts.now at.lengths.now at.decoded.now at.count
 
 told : (c : tie.After-is-table) → c.is-table.result ≡ is_held (schema c) (given c)
-told c = c.is-table.ensures (schema c) (words-held (schema c) (schema_in-length _) _ (compiled c).compile.ensures.counted _ (compiled c).compile.ensures.entries.held _ c.before.before.held-words.ensures)
+told c = c.is-table.ensures (schema c) (words-held (schema c) (schema_in-length _) _ (compiled c).compile.ensures.entries.held _ c.before.before.held-words.ensures)
 
 returns : tie.Need-returns
 returns c =

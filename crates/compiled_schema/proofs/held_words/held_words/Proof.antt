@@ -1,44 +1,39 @@
 -- `held_words` meets its contract: the words that the loop has passed are those of their sets.
-use mathlib.Core.Logic.{◌⊎◌}
-use mathlib.Core.Path.{◌≡◌, refl, sym, subst}
-use Prim.Native.Nat.{ℕ, ◌≤◌, ◌-◌}
+use mathlib.Core.Path.{◌≡◌, ◌∙◌}
+use Prim.Native.Nat.{◌≤◌, ◌-◌}
 use native.Mathlib.Omega.{arith}
 use borrow.Author.Rules.{rules}
-use lib.ListN.{length}
+use lib.ListN.{length, length-set, get_or-eq_default}
 use Rattle.compiled_schema.proofs.held_words.held_words.Statement.{statement}
 use Rattle.compiled_schema.proofs.held_words.held_words.Tie as tie
-use Rattle.compiled_schema.specs.held_words.Words.{StoredTo, stored-none, stored_next, stored-all}
-use Rattle.names.specs.closures.Relations.{NonePast}
-use Rattle.names.specs.closures.Rounds.{none-past-rounds}
+use Rattle.compiled_schema.specs.held_words.Words.{WordAt}
+use Rattle.text_laws.specs.Loops.{Passed, passed_first, passed-next}
 use Rattle.text_spec.specs.Limits.{max_declarations}
 
 abbrev invariant-loop : tie.invariant-loop
-invariant-loop count sets end out₀ i₀ out i = (i ≤ end) × (end ≤ max_declarations) × StoredTo sets i out
+invariant-loop sets out₀ i₀ out i = (i ≤ max_declarations) × ((length out ≡ max_declarations) × Passed (WordAt sets) 0 out₀ i out)
 
 abbrev decreases-loop : tie.decreases-loop
-decreases-loop count sets end out₀ i₀ out i = end - i
+decreases-loop sets out₀ i₀ out i = max_declarations - i
 
 loop-holds : tie.Need-loop-init invariant-loop decreases-loop
-loop-holds c = (omega arith, c.at_most.ensures.0, stored-none c.before.args.t1)
-
-array-write-out : tie.Need-array-write-out invariant-loop decreases-loop
-array-write-out c = let at = c.before.before.loop in omega (arith, at.invariant.2.long)
+loop-holds c = (omega arith, (search rules, passed_first (WordAt c.args.t1) 0 _))
 
 loop-again : tie.Need-loop-preserved invariant-loop decreases-loop
 loop-again c =
-    let at = c.before.before.loop in
-    let start = c.before.before.before.before.args in
-    (omega arith, at.invariant.1, stored_next start.t1 at.i at.out at.invariant.2 (omega arith) _ refl)
+    let at = c.before.before.before.loop in (
+      omega arith,
+      (
+        length-set at.out at.i c.to_word.result ∙ at.invariant.1.0,
+        passed-next (WordAt c.before.before.before.before.args.t1) 0 _ at.i at.out c.to_word.result (omega arith) at.invariant.1.1 c.to_word.ensures,
+      ),
+    )
 
 returns : tie.Need-returns invariant-loop decreases-loop
-returns c past =
+returns c =
     let at = c.before.loop in
-    let made = c.before.before in
-    let start = made.before.args in
-    let last : at.i ≡ made.at_most.result = omega arith in
-    let long : length start.t1 ≡ max_declarations = search rules in
-    let few = subst (λ (m : ℕ). (made.at_most.result ≡ start.count) ⊎ ((made.at_most.result ≡ m) × (m ≤ start.count))) (sym long) made.at_most.ensures.1 in
-    stored-all start.t1 at.i at.out at.invariant.2 (subst (λ (r : ℕ). NonePast r start.t1) (sym last) (none-past-rounds start.t1 _ start.count few past))
+    let start : length at.out ≡ max_declarations = at.invariant.1.0 in
+    record { each = λ a l. at.invariant.1.1.done a (omega arith); past = λ a l. get_or-eq_default at.out 0 (omega arith) }
 
 pub held-words-spec : {M : Type 1} → statement M
 held-words-spec =
@@ -46,14 +41,10 @@ held-words-spec =
     (tie.spec
     invariant-loop
     decreases-loop
-    (λ c κs. search rules)
     loop-holds
     (λ c. search rules)
     (λ c. search rules)
-    (λ c. search rules)
-    (λ c. search rules)
-    array-write-out
-    (λ c. search rules)
+    (λ c κs. search rules)
     (λ c. search rules)
     (λ c. search rules)
     (λ c. search rules)

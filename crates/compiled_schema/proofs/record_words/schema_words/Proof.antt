@@ -22,7 +22,7 @@ slice-aggregate-compile c =
 returns : tie.Need-returns
 returns c =
     let made = c.before.before.before.compile.ensures in
-    words-held _ (schema_in-length _) _ made.counted _ made.entries.held _ c.held-words.ensures
+    words-held _ (schema_in-length _) _ made.entries.held _ c.held-words.ensures
 
 pub schema-words-spec : {M : Type 1} → statement M
 schema-words-spec =

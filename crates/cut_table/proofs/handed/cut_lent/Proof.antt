@@ -4,7 +4,6 @@ use Rattle.cut_table.proofs.handed.Tests.{not-cut, may-be-cut, cut-answered}
 use Rattle.cut_table.proofs.handed.cut_lent.Statement.{statement}
 use Rattle.cut_table.proofs.handed.cut_lent.Tie as tie
 use Rattle.library_spec.specs.Records.{LentTable}
-use Rattle.names.specs.Sets.{bits_of}
 use Rattle.table_spec.specs.Columns.{Columns, columns}
 use Rattle.tables.specs.Handed.{lent_table}
 
@@ -33,7 +32,7 @@ returns : tie.Need-returns
 returns c = λ s h.
     let tested = (refused c).before.before.before.before.before.before.before in
     let fit = tested.before in
-    not-cut s (given fit) (lent fit) fit.before.is-table.result fit.may-cut.result (fit.before.is-table.ensures s h.words) fit.may-cut.ensures tested.if1.taken (bits_of (start fit).args.set) _ _ (refused c).refuse.ensures.0 (refused c).refuse.ensures.1
+    not-cut s (given fit) (lent fit) fit.before.is-table.result fit.may-cut.result (fit.before.is-table.ensures s h.words) fit.may-cut.ensures tested.if1.taken (start fit).args.word _ _ (refused c).refuse.ensures.0 (refused c).refuse.ensures.1
 
 cut-first-requires : tie.Need-cut-first-requires
 cut-first-requires c κs =
@@ -47,7 +46,7 @@ returns-2 c = λ s h.
     let made = handed (called c).before in
     let tested = made.before in
     let fit = tested.before in
-    cut-answered s (given fit) (lent fit) fit.before.is-table.result fit.may-cut.result (fit.before.is-table.ensures s h.words) fit.may-cut.ensures tested.if1.left (bits_of (start fit).args.set) made.handed-in.result (made.handed-in.ensures s h.few h.names) _ _ (called c).cut-first.ensures
+    cut-answered s (given fit) (lent fit) fit.before.is-table.result fit.may-cut.result (fit.before.is-table.ensures s h.words) fit.may-cut.ensures tested.if1.left (start fit).args.word made.handed-in.result (made.handed-in.ensures s h.few h.names) _ _ (called c).cut-first.ensures
 
 pub cut-lent-spec : {M : Type 1} → statement M
 cut-lent-spec =

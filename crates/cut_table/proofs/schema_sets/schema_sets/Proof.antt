@@ -28,7 +28,7 @@ returns c =
     let made = c.before.before.before.before.compile.ensures in
     record {
       few = schema_in-length _;
-      words = words-held _ (schema_in-length _) _ made.counted _ made.entries.held _ c.before.held-words.ensures;
+      words = words-held _ (schema_in-length _) _ made.entries.held _ c.before.held-words.ensures;
       names = c.names_of.ensures _ made.entries.held made.counted;
     }
 

@@ -1,4 +1,4 @@
--- `holds_element` meets its contract: an element past the last holds none, else it is told by its code.
+-- `holds_element` meets its contract: an element past the last holds none, else the bit of the word.
 use mathlib.Core.Path.{◌∙◌}
 use borrow.Author.Rules.{rules}
 use Rattle.extract_reader.proofs.field_tests.holds_element.Statement.{statement}
@@ -9,8 +9,8 @@ returns : tie.Need-returns
 returns c = held-past c.before.args.words.now c.before.args.parent _ c.if1.true
 
 returns-2 : tie.Need-returns-2
-returns-2 c = c.holds-code.ensures ∙ held_low c.before.before.args.words.now c.before.before.args.parent _ c.before.if1.false
+returns-2 c = c.has-bit.ensures ∙ held_low c.before.before.before.args.words.now c.before.before.before.args.parent _ c.before.before.if1.false
 
 pub holds-element-spec : {M : Type 1} → statement M
 holds-element-spec =
-    tie.close (tie.spec returns (λ c κs. search rules) returns-2)
+    tie.close (tie.spec returns (λ c. search rules) (λ c. search rules) (λ c κs. search rules) returns-2)

@@ -11,14 +11,17 @@ returns c = text-none _ _ _ _ c.if1.true
 returns-2 : tie.Need-returns-2
 returns-2 c = text-after _ _ _ _ c.if2.true
 
-add-holds-code : tie.Need-overflow-add-holds-code
-add-holds-code c = let l = level-known _ _ c.before.before.before.before.requires c.before.before.before.if1.false _ c.element-of.ensures in omega arith
+mul-has-bit : tie.Need-overflow-mul-has-bit
+mul-has-bit c = let l = level-known _ _ c.before.before.before.before.requires c.before.before.before.if1.false _ c.element-of.ensures in omega arith
 
-holds-code-requires : tie.Need-holds-code-requires
-holds-code-requires c κs = level-known _ _ c.before.before.before.before.requires c.before.before.before.if1.false _ c.element-of.ensures
+element-copy-out-has-bit : tie.Need-element-copy-out-has-bit
+element-copy-out-has-bit c = level-known _ _ c.before.before.before.before.requires c.before.before.before.if1.false _ c.element-of.ensures
+
+add-has-bit : tie.Need-overflow-add-has-bit
+add-has-bit c = let l = level-known _ _ c.before.before.before.before.before.requires c.before.before.before.before.if1.false _ c.before.element-of.ensures in omega arith
 
 returns-3 : tie.Need-returns-3
-returns-3 c = text-held _ _ _ _ c.before.before.before.before.if1.false c.before.before.before.if2.false _ _ c.holds-code.ensures c.before.element-of.ensures
+returns-3 c = text-held _ _ _ _ c.before.before.before.before.before.if1.false c.before.before.before.before.if2.false _ _ c.has-bit.ensures c.before.before.element-of.ensures
 
 pub text-fits-spec : {M : Type 1} → statement M
 text-fits-spec =
@@ -30,6 +33,8 @@ text-fits-spec =
     (λ c. search rules)
     (λ c. search rules)
     (λ c κs. search rules)
-    add-holds-code
-    holds-code-requires
+    mul-has-bit
+    element-copy-out-has-bit
+    add-has-bit
+    (λ c κs. search rules)
     returns-3)

@@ -1,5 +1,5 @@
 use mathlib.Core.Path.{◌≡◌, ◌∙◌}
-use Prim.Native.Nat.{ℕ, ◌-◌, ◌*◌, ◌≤◌, ◌<◌}
+use Prim.Native.Nat.{ℕ, ◌-◌, ◌≤◌, ◌<◌}
 use native.Mathlib.Omega.{arith}
 use borrow.Author.Rules.{rules}
 use lib.ListN.{length, get_or}
@@ -8,11 +8,10 @@ use Rattle.journal_builder.proofs.name_tables.all_words.Tie as tie
 use Rattle.journal_builder.specs.name_tables.Words.{words_more}
 use Rattle.text.specs.name_words.Words.{words_of, name_at as words_at}
 use Rattle.text_spec.specs.Scans.{name_at}
-use Rattle.text_spec.specs.Limits.{max_declarations}
 
 abbrev invariant-loop : tie.invariant-loop
 invariant-loop text names count words₀ e₀ words e =
-    (e ≤ count) × (length words ≡ 4 * max_declarations) × ((a : ℕ) → a < e → words_at words a ≡ words_of (name_at text (get_or names a 0)))
+    (e ≤ count) × (length words ≡ 128) × ((a : ℕ) → a < e → words_at words a ≡ words_of (name_at text (get_or names a 0)))
 
 abbrev decreases-loop : tie.decreases-loop
 decreases-loop text names count words₀ e₀ words e = count - e

@@ -6,14 +6,10 @@ use Rattle.names.proofs.codes.single.Tie as tie
 use Rattle.names.specs.codes.Laws.{single-element, single-text}
 
 returns : tie.Need-returns
-returns c few h =
-    let start = c.before.before.before.args in
-    single-element start.count start.k few c.before.before.empty.result c.insert-element.result c.before.before.empty.ensures c.before.if1.true c.insert-element.ensures
+returns c = single-element c.before.before.before.args.c c.before.before.empty.result c.insert-element.result c.before.if1.true c.before.before.empty.ensures c.insert-element.ensures
 
 returns-2 : tie.Need-returns-2
-returns-2 c few h =
-    let start = c.before.before.before.args in
-    single-text start.count start.k few c.before.before.empty.result c.insert-text.result c.before.before.empty.ensures (omega arith) h c.insert-text.ensures
+returns-2 c = single-text c.before.before.before.args.c c.before.before.empty.result c.insert-text.result (omega arith) (omega arith) c.before.before.empty.ensures c.insert-text.ensures
 
 pub single-spec : {M : Type 1} → statement M
 single-spec =

@@ -5,7 +5,7 @@ use Prim.Native.Nat.{ℕ, ◌≤◌, ◌-◌}
 use native.Mathlib.Numerals.{add-one}
 use native.Mathlib.Omega.{arith}
 use borrow.Author.Rules.{rules}
-use Rattle.names.specs.closures.Rounds.{counted-all}
+use Rattle.names.proofs.related.Counted.{counted-all}
 use Rattle.names.proofs.related.related_from.Statement.{statement}
 use Rattle.names.proofs.related.related_from.Tie as tie
 use Rattle.names.specs.Sets.{member}

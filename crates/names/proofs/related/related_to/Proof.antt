@@ -3,7 +3,7 @@ use mathlib.Core.Path.{◌≡◌, ap, ◌∙◌}
 use Prim.Native.Nat.{ℕ, ◌≤◌, ◌-◌}
 use native.Mathlib.Omega.{arith}
 use borrow.Author.Rules.{rules}
-use Rattle.names.specs.closures.Rounds.{counted-all}
+use Rattle.names.proofs.related.Counted.{counted-all}
 use Rattle.names.proofs.related.Holders.{holders-first, holders-next}
 use Rattle.names.proofs.related.related_to.Statement.{statement}
 use Rattle.names.proofs.related.related_to.Tie as tie

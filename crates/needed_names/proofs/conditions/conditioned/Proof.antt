@@ -15,7 +15,7 @@ returns c = λ s k named.
     let q = condition_in start.axes.now start.tests.now start.n start.i in
     let kept = c.before.kept in
     narrow-parts s (keeps_in s start.e.context q) (env_in s start.e) (set_in s kept.result) (set_in s c.cut-to.result)
-    (kept-filter s (keeps_in s start.e.context q) start.e.types kept.result (kept.ensures s k named)) (c.cut-to.ensures s k)
+    (kept-filter s k.small (keeps_in s start.e.context q) start.e.types kept.result (kept.ensures s k named)) (c.cut-to.ensures s k)
 
 pub conditioned-spec : {M : Type 1} → statement M
 conditioned-spec = tie.close (tie.spec (λ c κs. search rules) (λ c κs. search rules) returns)

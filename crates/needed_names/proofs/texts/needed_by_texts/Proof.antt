@@ -29,8 +29,9 @@ needed-under-requires c κs =
 
 returns : tie.Need-returns
 returns c =
-    let judged = judged-before c.before in
-    judged-needed _ _ _ (compile-before judged.before).compile.ensures _ judged.judge-bundle.ensures _ c.needed-under.ensures
+    let needed = c.before in
+    let judged = judged-before needed.before in
+    judged-needed _ _ _ (compile-before judged.before).compile.ensures _ judged.judge-bundle.ensures _ needed.needed-under.ensures _ c.to_word.ensures
 
 pub needed-by-texts-spec : {M : Type 1} → statement M
 needed-by-texts-spec =
@@ -41,4 +42,5 @@ needed-by-texts-spec =
     slice-aggregate-judge-bundle
     judge-bundle-requires
     needed-under-requires
+    (λ c κs. search rules)
     returns)

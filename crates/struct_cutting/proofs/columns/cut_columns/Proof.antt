@@ -4,7 +4,6 @@ use native.Mathlib.Omega.{arith}
 use borrow.Author.Rules.{rules}
 use borrow.Author.Tests.{ltb-true, ltb-false}
 use Rattle.compiled_schema.specs.records.Records.{record_with}
-use Rattle.names.specs.Sets.{bits_of}
 use Rattle.struct_cutting.proofs.columns.cut_columns.Statement.{statement}
 use Rattle.struct_cutting.proofs.columns.cut_columns.Tie as tie
 use Rattle.struct_cutting.specs.columns.Cutting.{cut-many}
@@ -15,7 +14,7 @@ returns c = λ rows long laid.
     let many = c.before in
     let args = many.before.before.args in
     let past = ltb-true max_nodes args.count (sym many.before.are-too-many.ensures ∙ many.if1.true) in
-    cut-many (record_with args.schema.bytes args.schema.len) (bits_of args.set) rows args.room (omega arith) c.refused-table.result (c.refused-table.ensures args.room)
+    cut-many (record_with args.schema.bytes args.schema.len) args.word rows args.room (omega arith) c.refused-table.result (c.refused-table.ensures args.room)
 
 cut-laid-requires : tie.Need-cut-laid-requires
 cut-laid-requires c κs =

@@ -5,7 +5,6 @@ use borrow.Author.Rules.{rules}
 use lib.ListN.{length}
 use Rattle.compiled_schema.specs.records.Records.{record_with}
 use Rattle.handed_tables.specs.structs.Tables.{sizes-of}
-use Rattle.names.specs.Sets.{bits_of}
 use Rattle.row_structs.specs.Structs.{columns_in}
 use Rattle.row_structs.specs.laws.Answers.{cell_count, zeros_in, cell-inside, cell-part}
 use Rattle.struct_cutting.proofs.columns.cut_laid.Statement.{statement}
@@ -57,7 +56,7 @@ returns c = λ rows long laid.
     let cells = answered.cut-table.new.1.1.1.1.1.1.1.1.1 in
     let at = start made in
     let schema = at.args.schema in
-    cut-for (record_with schema.bytes schema.len) (bits_of at.args.set) rows at.args.room (columns_in at.args.laid) at.args.count (columns-long at) long laid at.pre
+    cut-for (record_with schema.bytes schema.len) at.args.word rows at.args.room (columns_in at.args.laid) at.args.count (columns-long at) long laid at.pre
     made.cell-of.result made.cell-of.ensures answered.cut-table.result cells.0 cells.1.0 cells.1.1.0 cells.1.1.1.0 cells.1.1.1.1.0 cells.1.1.1.1.1.0 answered.cut-table.ensures
 
 pub cut-laid-spec : {M : Type 1} → statement M

@@ -1,7 +1,7 @@
 -- A walk of the function's MIR, since the borrow checker does not cover a slice of structs: three calls, and the lent structs are passed on for good.
 use mathlib.Core.List.{List, [], ◌∷◌, ◌++◌, map}
 use mathlib.Core.Path.{◌≡◌, refl, sym, ◌∙◌, ap, subst}
-use Prim.Native.Nat.{ℕ}
+use Prim.Native.Nat.{ℕ, ◌<◌, ◌^◌}
 use seplogic.Ra.TreeShare.{full_share}
 use seplogic.Ra.Ura.{Ura}
 use lib.Dec.{T as Holds}
@@ -11,11 +11,11 @@ use base.Logic.{SProp, ent, emp, id⊢, fst∗, via}
 use contract.Lifetimes.{Lfts}
 use contract.Monad.{Fun}
 use contract.Running.{tables, tables_of}
-use denote.Builtin.{usize}
+use denote.Builtin.{usize, u64}
 use denote.Exit.{yes}
 use denote.Laws.{Is, shows}
 use denote.Memory.{pointee}
-use denote.Plain.{Nothing, uint_Makes}
+use denote.Plain.{Nothing, uint_Makes, uint_Tells, uint_vals}
 use denote.RattleType.{owns}
 use denote.Ref.{Bor}
 use denote.Signature.{plain, shr_slice_of}
@@ -45,10 +45,6 @@ use Rattle.cells.specs.declared.verdicts.Verdict.{Verdict as VerdictRecord}
 use Rattle.cells.specs.verdicts.Verdicts.{verdict}
 use Rattle.compiled_schema.specs.records.Records.{record_with}
 use Rattle.library_spec.specs.Calls.{structs_after, table_cut_rows}
-use Rattle.names.specs.contracts.NameSet as NameSet
-use Rattle.names.proofs.NameSet.TheLaws as NameSet'
-use Rattle.names.specs.Sets.{bits_of}
-use Rattle.names.specs.declared.NameSet.{NameSet as NameSetRecord}
 use Rattle.row_structs.specs.contracts.Row as T
 use Rattle.row_structs.specs.contracts.RowColumns as Columns
 use Rattle.row_structs.proofs.RowColumns.TheLaws as Columns'
@@ -88,7 +84,7 @@ use Rattle.text_spec.specs.Refusals.{Outcome}
 
 abbrev stayed : Stays (f.ended).signature.params (f.ended).kept
 stayed =
-    (stay_dropped (plain (λ _. Schema.the_row)) yes, (stay_dropped (shr_slice_of (0 ∷ []) tt (plain (λ _. T.the_row))) yes, (stay_dropped (plain (λ _. NameSet.the_row)) yes, (gave_slice (1 ∷ []) tt (plain (λ _. T.the_row)), tt))))
+    (stay_dropped (plain (λ _. Schema.the_row)) yes, (stay_dropped (shr_slice_of (0 ∷ []) tt (plain (λ _. T.the_row))) yes, (stay_dropped (plain (λ _. u64)) yes, (gave_slice (1 ∷ []) tt (plain (λ _. T.the_row)), tt))))
 
 module _ {M : Type 1} {𝓤 : Ura M} (𝓛 : Logic 𝓤) (mem : Memory → SProp 𝓤) (run : Routine → Fun 𝓤) where
   -- the contracts that the proof cites
@@ -102,7 +98,7 @@ module _ {M : Type 1} {𝓤 : Ura M} (𝓛 : Logic 𝓤) (mem : Memory → SProp
   PutRows = triple_of 𝓛 e₃.signature (e₃.spec 𝓛 mem run)
 
 module _ {M : Type 1} {𝓤 : Ura M} (𝓛 : Logic 𝓤) (mem : Memory → SProp 𝓤) (run : Routine → Fun 𝓤) (κ₀ κ₁ : Lft) (q₀ q₁ : Share)
-    (sc : SchemaRecord) (vs : Val) (is-s : Is Schema.the_row sc (vs ∷ [])) (x₀ : Bor (List Row)) (ns : NameSetRecord) (vw : Val) (is-w : Is NameSet.the_row ns (vw ∷ [])) (x₁ : Bor (List Row)) (g₀ : Room T.the_row (length x₀.now)) (g₁ : Room T.the_row (length x₁.now)) where
+    (sc : SchemaRecord) (vs : Val) (is-s : Is Schema.the_row sc (vs ∷ [])) (x₀ : Bor (List Row)) (word : ℕ) (fw : word < 2 ^ 64) (x₁ : Bor (List Row)) (g₀ : Room T.the_row (length x₀.now)) (g₁ : Room T.the_row (length x₁.now)) where
   open 𝓛 use {H}
 
   abbrev ys : List Row
@@ -118,7 +114,7 @@ module _ {M : Type 1} {𝓤 : Ura M} (𝓛 : Logic 𝓤) (mem : Memory → SProp
   κs = (κ₀, (κ₁, tt))
 
   abbrev a : Args f.signature κs
-  a = (sc, (x₀, (ns, (x₁, tt))))
+  a = (sc, (x₀, (word, (x₁, tt))))
 
   abbrev vr : Val
   vr = slice_val x₀.ptr n
@@ -127,14 +123,14 @@ module _ {M : Type 1} {𝓤 : Ura M} (𝓛 : Logic 𝓤) (mem : Memory → SProp
   vo = slice_val x₁.ptr m
 
   abbrev at : Vals f.signature κs
-  at = (vs ∷ [], (vr ∷ [], (vw ∷ [], (vo ∷ [], tt))))
+  at = (vs ∷ [], (vr ∷ [], (vint w64 word ∷ [], (vo ∷ [], tt))))
 
   abbrev Post : Val → SProp 𝓤
   Post = (walk_of 𝓛 f.ended stayed (f.clauses 𝓛 mem run)).post ((κs, (q₀, (q₁, tt)), tt, a, at), tt)
 
   -- what cutting rows with these cells comes to
   abbrev outcome : List Cells → Outcome (List TableRow)
-  outcome rows = table_cut_rows (record_with sc.bytes sc.len) rows (bits_of ns) m
+  outcome rows = table_cut_rows (record_with sc.bytes sc.len) rows word m
 
   abbrev Cut : RowColumns → TableAnswer → Type 0
   Cut c t = (rows : List Cells) → length rows ≡ n → Laid rows (columns_in c) → AnsweredFor (outcome rows) m t
@@ -144,9 +140,6 @@ module _ {M : Type 1} {𝓤 : Ura M} (𝓛 : Logic 𝓤) (mem : Memory → SProp
 
   t_s : Holds (has_ty Schema'.mir vs) × WT vs
   t_s = ((LL.lawful Schema.the_type Schema'.the_laws 𝓛).typed sc (vs ∷ []) is-s).0
-
-  t_w : Holds (has_ty NameSet'.mir vw) × WT vw
-  t_w = ((LL.lawful NameSet.the_type NameSet'.the_laws 𝓛).typed ns (vw ∷ []) is-w).0
 
   typed-columns : (c : RowColumns) (v : Val) → Is Columns.the_row c (v ∷ []) → Holds (has_ty Columns'.mir v) × WT v
   typed-columns c v is = ((LL.lawful Columns.the_type Columns'.the_laws 𝓛).typed c (v ∷ []) is).0
@@ -159,7 +152,7 @@ module _ {M : Type 1} {𝓤 : Ura M} (𝓛 : Logic 𝓤) (mem : Memory → SProp
   Output = (MutSlice (named 1) κ₁ T.the_row).own_val x₁ (vo ∷ [])
 
   abbrev Entry : List (Item 𝓤)
-  Entry = (‵ (flft κ₀ q₀) ⊛ ‵ (flft κ₁ q₁) ⊛ ‵ ftrue) ∷ ‵ (owns (Schema.the_row ∷ ShrSlice (named 0) κ₀ T.the_row ∷ NameSet.the_row ∷ MutSlice (named 1) κ₁ T.the_row ∷ []) a at) ∷ []
+  Entry = (‵ (flft κ₀ q₀) ⊛ ‵ (flft κ₁ q₁) ⊛ ‵ ftrue) ∷ ‵ (owns (Schema.the_row ∷ ShrSlice (named 0) κ₀ T.the_row ∷ u64 ∷ MutSlice (named 1) κ₁ T.the_row ∷ []) a at) ∷ []
 
   -- what each callee takes
   abbrev to₁ : (ColumnsOf 𝓛 mem run).Ghost
@@ -169,10 +162,10 @@ module _ {M : Type 1} {𝓤 : Ura M} (𝓛 : Logic 𝓤) (mem : Memory → SProp
   goes₁ = qed 𝓛 (raw (on_entry 𝓛 e₁.signature (κ₀, tt) (q₀, tt) (x₀, tt) (vr ∷ [], tt)) ∷ []) ∵ frame ! $ done !
 
   abbrev args₂ : RowColumns → Args e₂.signature tt
-  args₂ c = (sc, (c, (n, (ns, (m, tt)))))
+  args₂ c = (sc, (c, (n, (word, (m, tt)))))
 
   abbrev at₂ : Val → Vals e₂.signature tt
-  at₂ w = (vs ∷ [], (w ∷ [], (vint w64 n ∷ [], (vw ∷ [], (vint w64 m ∷ [], tt)))))
+  at₂ w = (vs ∷ [], (w ∷ [], (vint w64 n ∷ [], (vint w64 word ∷ [], (vint w64 m ∷ [], tt)))))
 
   abbrev to₂ : RowColumns → Val → (CutColumns 𝓛 mem run).Ghost
   to₂ c w = ((tt, tt, tt, args₂ c, at₂ w), tt)
@@ -216,17 +209,17 @@ module _ {M : Type 1} {𝓤 : Ura M} (𝓛 : Logic 𝓤) (mem : Memory → SProp
     ref = ty_ref erased mut (pointee (T.the_row).written)
 
     abbrev En : Env 𝓤 H
-    En = (Verdict'.mir, l₀) ∷ (Schema'.mir, l₁) ∷ (slice_r, l₂) ∷ (NameSet'.mir, l₃) ∷ (slice_o, l₄) ∷ (Table'.mir, l₅) ∷ (Columns'.mir, l₆) ∷ (Columns'.mir, l₇) ∷ (ty_int w64, l₈) ∷ (ty_int w64, l₉) ∷ (ty_unit, l₁₀) ∷ (ref, l₁₁) ∷ (slice_ty ref, l₁₂) ∷ []
+    En = (Verdict'.mir, l₀) ∷ (Schema'.mir, l₁) ∷ (slice_r, l₂) ∷ (ty_int w64, l₃) ∷ (slice_o, l₄) ∷ (Table'.mir, l₅) ∷ (Columns'.mir, l₆) ∷ (Columns'.mir, l₇) ∷ (ty_int w64, l₈) ∷ (ty_int w64, l₉) ∷ (ty_unit, l₁₀) ∷ (ref, l₁₁) ∷ (slice_ty ref, l₁₂) ∷ []
 
     -- what the first call does not touch
     abbrev Others : List (Item 𝓤)
     Others =
-        ‵ (flft κ₁ q₁) ∷ ‵ Output ∷ ‵ (fat full_share Schema'.mir l₁ 0 vs) ∷ ‵ (fat full_share NameSet'.mir l₃ 0 vw) ∷ ‵ (fat full_share slice_o l₄ 0 vo)
+        ‵ (flft κ₁ q₁) ∷ ‵ Output ∷ ‵ (fat full_share Schema'.mir l₁ 0 vs) ∷ ‵ (fat full_share (ty_int w64) l₃ 0 (vint w64 word)) ∷ ‵ (fat full_share slice_o l₄ 0 vo)
         ∷ rooms ((Verdict'.mir, l₀) ∷ (Table'.mir, l₅) ∷ (Columns'.mir, l₆) ∷ (ty_int w64, l₈) ∷ (ty_int w64, l₉) ∷ (ty_unit, l₁₀) ∷ (ref, l₁₁) ∷ (slice_ty ref, l₁₂) ∷ []) ++ raw (⋆ 𝓛 (dies En)) ∷ []
 
     -- what the last call does not touch
     abbrev Tail : List (Item 𝓤)
-    Tail = ‵ (flft κ₀ q₀) ∷ rooms ((Schema'.mir, l₁) ∷ (slice_r, l₂) ∷ (NameSet'.mir, l₃) ∷ (Columns'.mir, l₇) ∷ (ty_int w64, l₈) ∷ (ty_int w64, l₉) ∷ []) ++ dies En
+    Tail = ‵ (flft κ₀ q₀) ∷ rooms ((Schema'.mir, l₁) ∷ (slice_r, l₂) ∷ (ty_int w64, l₃) ∷ (Columns'.mir, l₇) ∷ (ty_int w64, l₈) ∷ (ty_int w64, l₉) ∷ []) ++ dies En
 
     -- the answer, and what the last call takes
     abbrev Answer : (t : TableAnswer) {u : Val} → Parts t u → List (Item 𝓤)
@@ -266,7 +259,7 @@ module _ {M : Type 1} {𝓤 : Ura M} (𝓛 : Logic 𝓤) (mem : Memory → SProp
         qed 𝓛 (‵ (flft κ₀ q₀) ∷ ‵ (fat full_share slice_r l₂ 0 vr) ∷ ‵ (fat full_share Columns'.mir l₇ 0 w) ∷ Others) ∵ exec ! C Λ En body.t-2 (at_ret En Post) $
         assigns ! (of_opd ! (load ! (from ! (fld ! refl (stop !))) (look_in ! 1 (sub ! 1 refl (whole !))))) (from ! (stop !)) (init ! 11 refl (tt, record { fits = g₀.0 })) $
         assigns ! (of_opd ! (load ! (from ! (fld ! refl (stop !))) (look_in ! 7 (sub ! 1 refl (whole !))))) (from ! (stop !)) (init ! 12 refl (tt, record { fits = g₁.0 })) $ nothing ! $
-        owned ! usize (Is usize) (uint_Makes 𝓛 w64) m (vint w64 m ∷ []) (refl, g₁.0) $ fjoin ! $ owned ! NameSet.the_row (Is NameSet.the_row) (LL.makes NameSet.the_type NameSet'.the_plain 𝓛) ns (vw ∷ []) is-w $ fjoin ! $
+        owned ! usize (Is usize) (uint_Makes 𝓛 w64) m (vint w64 m ∷ []) (refl, g₁.0) $ fjoin ! $ owned ! usize (Is usize) (uint_Makes 𝓛 w64) word (vint w64 word ∷ []) (refl, fw) $ fjoin ! $
         owned ! usize (Is usize) (uint_Makes 𝓛 w64) n (vint w64 n ∷ []) (refl, g₀.0) $ fjoin ! $
         owned ! Columns.the_row (Is Columns.the_row) (LL.makes Columns.the_type Columns'.the_plain 𝓛) c (w ∷ []) is $ fjoin ! $
         owned ! Schema.the_row (Is Schema.the_row) (LL.makes Schema.the_type Schema'.the_plain 𝓛) sc (vs ∷ []) is-s $ fjoin ! $
@@ -287,18 +280,18 @@ module _ {M : Type 1} {𝓤 : Ura M} (𝓛 : Logic 𝓤) (mem : Memory → SProp
         land ! (from ! (stop !)) (init ! 2 refl (typed-columns c w is)) $ split ! $ move ! (1 ∷ []) $ drop ! $ by ! (second c w is laid))))
 
     -- the parameters are stored
-    begun : Seq (Go {0}) 𝓛 (allocated En Entry) (params' En (vs ∷ vr ∷ vw ∷ vo ∷ []) (runs C Λ En body.t-1 (at_ret En Post)))
+    begun : Seq (Go {0}) 𝓛 (allocated En Entry) (params' En (vs ∷ vr ∷ vint w64 word ∷ vo ∷ []) (runs C Λ En body.t-1 (at_ret En Post)))
     begun =
         params1 ! $
-        pass1 ! (init ! 22 refl (t_s)) $ pass1 ! (init ! 20 refl (tt, (tt, (record { fits = g₀.0 }, tt)))) $ pass1 ! (init ! 18 refl (t_w)) $
+        pass1 ! (init ! 22 refl (t_s)) $ pass1 ! (init ! 20 refl (tt, (tt, (record { fits = g₀.0 }, tt)))) $ pass1 ! (init ! 18 refl (tt, record { fits = fw })) $
         pass1 ! (init ! 16 refl (tt, (tt, (record { fits = g₁.0 }, tt)))) $ pass0 ! $ move ! (26 ∷ []) $ split ! $ move ! (1 ∷ []) $ split ! $ move ! (1 ∷ []) $ drop ! $ move ! (28 ∷ []) $ fsplit ! $
         move ! (1 ∷ []) $ fsplit ! $ move ! (1 ∷ []) $ fsplit ! $ move ! (1 ∷ []) $ fsplit ! $ move ! (1 ∷ []) $ drop ! $
         keep ! (5 ∷ 2 ∷ 26 ∷ 16 ∷ 4 ∷ 0 ∷ 28 ∷ 24 ∷ 22 ∷ 30 ∷ 20 ∷ 18 ∷ 14 ∷ 12 ∷ 10 ∷ 8 ∷ 6 ∷ 31 ∷ 29 ∷ 27 ∷ 25 ∷ 23 ∷ 21 ∷ 19 ∷ 17 ∷ 15 ∷ 13 ∷ 11 ∷ 9 ∷ 7 ∷ []) $ by ! first
 
   walk : (𝓣 : Tables 𝓤 H) → Triple 𝓤 (𝓣.C #columns-of) (ColumnsOf 𝓛 mem run) → Triple 𝓤 (𝓣.C #cut-columns) (CutColumns 𝓛 mem run) → Triple 𝓤 (𝓣.C #put-rows) (PutRows 𝓛 mem run)
-      → ent 𝓤 (on_entry 𝓛 f.signature κs (q₀, (q₁, tt)) a at) (WpFn 𝓤 H 𝓣.C 𝓣.Λ code.function (vs ∷ vr ∷ vw ∷ vo ∷ []) Post)
+      → ent 𝓤 (on_entry 𝓛 f.signature κs (q₀, (q₁, tt)) a at) (WpFn 𝓤 H 𝓣.C 𝓣.Λ code.function (vs ∷ vr ∷ vint w64 word ∷ vo ∷ []) Post)
   walk 𝓣 known₁ known₂ known₃ =
-      qed 𝓛 Entry ∵ enter ! 𝓣.C 𝓣.Λ code.function (vs ∷ vr ∷ vw ∷ vo ∷ []) _ $
+      qed 𝓛 Entry ∵ enter ! 𝓣.C 𝓣.Λ code.function (vs ∷ vr ∷ vint w64 word ∷ vo ∷ []) _ $
       alloc1 ! (λ l₀. alloc1 ! (λ l₁. alloc1 ! (λ l₂. alloc1 ! (λ l₃. alloc1 ! (λ l₄. alloc1 ! (λ l₅. alloc1 ! (λ l₆. alloc1 ! (λ l₇. alloc1 ! (λ l₈. alloc1 ! (λ l₉. alloc1 ! (λ l₁₀. alloc1 ! (λ l₁₁. alloc1 ! (λ l₁₂. alloc0 ! $ begun 𝓣.C 𝓣.Λ (fm_of 𝓤 H 𝓛.laws 𝓣) known₁ known₂ known₃ l₀ l₁ l₂ l₃ l₄ l₅ l₆ l₇ l₈ l₉ l₁₀ l₁₁ l₁₂)))))))))))))
 
 module _ {M : Type 1} {𝓤 : Ura M} (𝓛 : Logic 𝓤) (mem : Memory → SProp 𝓤) (run : Routine → Fun 𝓤) (𝓣 : Tables 𝓤 𝓛.H) (known₁ : Triple 𝓤 (𝓣.C #columns-of) (ColumnsOf 𝓛 mem run)) (known₂ : Triple 𝓤 (𝓣.C #cut-columns) (CutColumns 𝓛 mem run))
@@ -307,10 +300,10 @@ module _ {M : Type 1} {𝓤 : Ura M} (𝓛 : Logic 𝓤) (mem : Memory → SProp
 
   cut-table-rows-walks : Walks 𝓛 f.ended stayed (WpFn 𝓤 H 𝓣.C 𝓣.Λ code.function) (f.clauses 𝓛 mem run)
   cut-table-rows-walks = walked 𝓛 f.ended stayed (f.clauses 𝓛 mem run) (WpFn 𝓤 H 𝓣.C 𝓣.Λ code.function)
-      (λ κs. ((λ d. Schema'.lowered d ∷ []), (shr_slice_vals, ((λ d. NameSet'.lowered d ∷ []), (shr_slice_vals, tt)))))
-      (λ κs. ((Schema'.lowers).val_is, (shr_slice_Tells (named 0) κs.0 T.the_row, ((NameSet'.lowers).val_is, (mut_slice_Tells (named 1) κs.1.0 T.the_row, tt)))))
+      (λ κs. ((λ d. Schema'.lowered d ∷ []), (shr_slice_vals, (uint_vals w64, (shr_slice_vals, tt)))))
+      (λ κs. ((Schema'.lowers).val_is, (shr_slice_Tells (named 0) κs.0 T.the_row, (uint_Tells w64, (mut_slice_Tells (named 1) κs.1.0 T.the_row, tt)))))
       (λ κs qs bounds a g are. via 𝓤 _ (fst∗ 𝓤 _ (emp 𝓤))
-      (walk 𝓛 mem run κs.0 κs.1.0 qs.0 qs.1.0 a.0 (Schema'.lowered a.0) are.0 a.1.0 a.1.1.0 (NameSet'.lowered a.1.1.0) are.1.1.0 a.1.1.1.0 are.1.0.0.1 are.1.1.1.0.0.1 𝓣 known₁ known₂ known₃))
+      (walk 𝓛 mem run κs.0 κs.1.0 qs.0 qs.1.0 a.0 (Schema'.lowered a.0) are.0 a.1.0 a.1.1.0 are.1.1.0.1 a.1.1.1.0 are.1.0.0.1 are.1.1.1.0.0.1 𝓣 known₁ known₂ known₃))
 
   cut-table-rows-meets : Meets 𝓛 f.signature (WpFn 𝓤 H 𝓣.C 𝓣.Λ code.function) (f.spec 𝓛 mem run)
   cut-table-rows-meets =
@@ -318,7 +311,7 @@ module _ {M : Type 1} {𝓤 : Ura M} (𝓛 : Logic 𝓤) (mem : Memory → SProp
         Goes-dropped 𝓛 2 (plain (λ _. Schema.the_row)) yes (λ κs x e. refl),
         (
           Goes-dropped 𝓛 2 (shr_slice_of (0 ∷ []) tt (plain (λ _. T.the_row))) yes (λ κs x e. refl),
-          (Goes-dropped 𝓛 2 (plain (λ _. NameSet.the_row)) yes (λ κs x e. refl), (Goes-gave_slice 𝓛 2 1 tt (plain (λ _. T.the_row)), tt)),
+          (Goes-dropped 𝓛 2 (plain (λ _. u64)) yes (λ κs x e. refl), (Goes-gave_slice 𝓛 2 1 tt (plain (λ _. T.the_row)), tt)),
         ),
       )
       (f.clauses 𝓛 mem run) (WpFn 𝓤 H 𝓣.C 𝓣.Λ code.function) (WpFn-mono 𝓤 H 𝓛.laws 𝓣 code.function) cut-table-rows-walks

@@ -4,17 +4,17 @@ use borrow.Author.Rules.{rules, scaled_Fits}
 use Rattle.tables.proofs.rows.row_fits.Statement.{statement}
 use Rattle.tables.proofs.rows.row_fits.Tie as tie
 
--- The start; and from where it is known whether the parent holds the name, back to where the row's kind is.
+-- The start; and from where the parent's names are read, back to where the row's kind is.
 abbrev start-before : tie.After-shared-slice-known5 → tie.Start
 start-before c = c.before.before.before.before.before
 
-abbrev kind-before : tie.After-holds-code → tie.After-shared-slice-known5
-kind-before c = c.before.before.before.before.before
+abbrev kind-before : tie.After-word → tie.After-shared-slice-known5
+kind-before c = c.before.before.before.before
 
 returns : tie.Need-returns
 returns c =
-    let b = c.before.before.before.before.before.before.before in
-    rw (c.later-fits.ensures, b.holds-code.ensures, b.before.before.before.is-text.ensures)
+    let b = c.before.before.before.before.before.before.before.before.before in
+    rw (c.later-fits.ensures, b.is-text.ensures)
 
 pub row-fits-spec : {M : Type 1} → statement M
 row-fits-spec =
@@ -25,9 +25,8 @@ row-fits-spec =
     (λ c κs. tt)
     (λ c. (start-before c.before.before.before).requires.0.parented)
     (λ c. search rules)
-    (λ c. (start-before c.before.before.before.before).requires.0.named)
-    (λ c. omega (arith, c.shared-slice-known8.given (start-before c.before.before.before.before).args.row))
-    (λ c κs. (start-before c.before.before.before.before).requires.0.is_element)
+    (λ c. search rules)
+    (λ c. (start-before c.before.before.before).requires.0.is_element)
     (λ c. (start-before (kind-before c)).requires.0.later)
     (λ c. search rules)
     (λ c. omega arith)
