@@ -112,6 +112,7 @@ module _ (ns : Names) (f : Name → Name → Bool) where
       let q = table-in ns (through r k) m b ns t in
       in_table ns (through r k) a b p.0 q.1
       (through-join r k a m b (λ x y. by-join ks x m y h) p.2 q.2)
+  by-join [] a m b x3 s t = elim x3 [ ]
 
   by_chain : (ks : Names) (a b : Name) → T (related (by_way_of ns f ks) a b) → Chain ns f a b
   unfolding by_way_of

@@ -57,7 +57,7 @@ module _ {A B : Type 0} where
   map-empty f [] e = refl
   map-empty f (x ∷ xs) e = absurd (in-nothing e (here refl))
 
-  pub gather-empty : (f : A → List B) {xs : List A} {x : A} → gather f xs ≡ [] → In x xs → f x ≡ []
+  pub gather-empty : (f : A → List B) {x : A} {xs : List A} → gather f xs ≡ [] → In x xs → f x ≡ []
   gather-empty f e (here {x = y} {xs = xs} q) = ap f q ∙ (append-empty (f y) (gather f xs) e).0
   gather-empty f e (there {x = y} {xs = xs} i) = gather-empty f (append-empty (f y) (gather f xs) e).1 i
 
@@ -70,7 +70,7 @@ module _ {A B : Type 0} where
 
 module _ {A : Type 0} where
   -- no places are found exactly if no element passes the test
-  pub places-none : (f : A → Bool) (k : ℕ) {xs : List A} {x : A} → places_from k f xs ≡ [] → In x xs → T (f x) → ⊥
+  pub places-none : (f : A → Bool) {x : A} (k : ℕ) {xs : List A} → places_from k f xs ≡ [] → In x xs → T (f x) → ⊥
   places-none f k e (here {x = y} {xs = xs} q) t =
       in-nothing (sym (cond-true (f y) (k ∷ places_from (suc k) f xs) (places_from (suc k) f xs) (subst (λ (z : A). T (f z)) q t)) ∙ e) (here refl)
   places-none f k e (there {x = y} {xs = xs} i) t = pick (f y) e (λ h. places-none f (suc k) h i t)

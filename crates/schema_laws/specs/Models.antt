@@ -100,13 +100,17 @@ goes_with {r} e g = subst (λ (x : List ℕ). Goes r x) e g
 
 begin-repeated : {m n : Bool} (p : Particle Position) (a : ℕ) (w : List ℕ) → ((x : List ℕ) → Fits (plain p) x → (v : List ℕ) → x ≡ a ∷ v → Goes (shift true p a) v)
     → {x : List ℕ} → Fits (repeated m n (plain p)) x → x ≡ a ∷ w → Goes (repeated m n (shift true p a)) w
-begin-repeated p a w h absent e = filled (sym e)
-begin-repeated p a w h (once {w = x} f) e = last (h x f w e)
-begin-repeated p a w h (again {u = []} f g) e = begin-repeated p a w h g e
-begin-repeated p a w h (again {n = n} {u = c ∷ u} {v = v} f g) e =
-    let z : c ∷ u ≡ a ∷ u = cc in
-    let k : u ++ v ≡ w = cc in
-    goes_with k (more (h (c ∷ u) f u z) (subst (λ (y : Particle ℕ). Fits (repeated true n y) v) (sym (plain-shift true p a)) g))
+begin-repeated {m} {n} p a w h f e = at m n f e refl
+  where
+    at : (m n : Bool) {q : Particle ℕ} {x : List ℕ} → Fits (repeated m n q) x → x ≡ a ∷ w → q ≡ plain p → Goes (repeated m n (shift true p a)) w
+    at m n absent e s = filled (sym e)
+    at m n (once {w = x} f) e s = last (h x (subst (λ (z : Particle ℕ). Fits z x) s f) w e)
+    at m n (again {u = []} f g) e s = at true n g e s
+    at m n (again {u = c ∷ u} {v = v} f g) e s =
+        let z : c ∷ u ≡ a ∷ u = cc in
+        let k : u ++ v ≡ w = cc in
+        goes_with k (more (h (c ∷ u) (subst (λ (y : Particle ℕ). Fits y (c ∷ u)) s f) u z)
+        (subst (λ (y : Particle ℕ). Fits (repeated true n y) v) (s ∙ sym (plain-shift true p a)) g))
 
 begin : (r : Particle Position) {x : List ℕ} → Fits (plain r) x → (a : ℕ) (w : List ℕ) → x ≡ a ∷ w → Goes (shift true r a) w
 begin (named x) one a w e =

@@ -355,7 +355,7 @@ follows-end (after_last {p = p} {h = h}) e = astray (after_content (children p) 
 
 follows-goes : {d : ℕ} {r : Bool} {q q' : State} {ds : List Declaration} → Follows d r q q' → (bs : List ℕ) → goes q bs ≡ between ds → goes q' (normal_from d r bs) ≡ between ds
 follows-goes f [] e = follows-end f e
-follows-goes {ds = ds} f (b ∷ bs) e = elim (next f b) [ onward c s p g h ↦ h bs ∙ follows-goes g bs e ]
+follows-goes {d = d} {ds = ds} f (b ∷ bs) e = elim (next f b) [ onward c s p g h ↦ h bs ∙ follows-goes {d = c} g bs e ]
 
 -- the normal form leads where the text does
 pub normal-goes : (text : List ℕ) {ds : List Declaration} → goes (between []) text ≡ between ds → goes (between []) (normal text) ≡ between ds

@@ -13,7 +13,7 @@ use Rattle.text_laws.specs.Tests.{or_left, or_right, or_cases, and_intro, and_ca
 use Rattle.text_spec.specs.Lists.{any_of, all_of, filter_by, gather, same_by, same_bytes, is_empty, is_none}
 
 module _ {A : Type 0} where
-  pub any-in : (f : A → Bool) {xs : List A} {y : A} → In y xs → T (f y) → T (any_of f xs)
+  pub any-in : (f : A → Bool) {y : A} {xs : List A} → In y xs → T (f y) → T (any_of f xs)
   any-in f (here {x = x} {xs = xs} e) t = or_left (f x) (any_of f xs) (subst (λ (z : A). T (f z)) e t)
   any-in f (there {x = x} {xs = xs} i) t = or_right (f x) (any_of f xs) (any-in f i t)
 
@@ -41,7 +41,7 @@ module _ {A : Type 0} where
   filled-any [] = refl
   filled-any (x ∷ xs) = refl
 
-  pub all_in : (f : A → Bool) {xs : List A} {y : A} → T (all_of f xs) → In y xs → T (f y)
+  pub all_in : (f : A → Bool) {y : A} {xs : List A} → T (all_of f xs) → In y xs → T (f y)
   all_in f t (here {x = x} {xs = xs} e) = subst (λ (z : A). T (f z)) (sym e) (and_cases (f x) (all_of f xs) t).0
   all_in f t (there {x = x} {xs = xs} i) = all_in f (and_cases (f x) (all_of f xs) t).1 i
 
@@ -71,7 +71,7 @@ module _ {A : Type 0} where
   chosen-or-later true x y r (there i) = inr i
   chosen-or-later false x y r i = inr i
 
-  pub in-filter : (f : A → Bool) {xs : List A} {y : A} → In y xs → T (f y) → In y (filter_by f xs)
+  pub in-filter : (f : A → Bool) {y : A} {xs : List A} → In y xs → T (f y) → In y (filter_by f xs)
   in-filter f {y} (here {x = x} {xs = xs} e) t = chosen (f x) x y (filter_by f xs) (subst (λ (z : A). T (f z)) e t) e
   in-filter f {y} (there {x = x} {xs = xs} i) t = passed_over (f x) x y (filter_by f xs) (in-filter f i t)
 
@@ -201,7 +201,7 @@ module _ {A B : Type 0} where
           let c = and_cases (h x.0 y.0) (g y.0) y.2 in
           any-in (λ y. any_of (λ x. h x y) xs && g y) y.1 (and_intro (any_of (λ x. h x y.0) xs) (g y.0) (any-in (λ x. h x y.0) x.1 c.0) c.1)
 
-  pub in-gather : (f : A → List B) {xs : List A} {x : A} {y : B} → In x xs → In y (f x) → In y (gather f xs)
+  pub in-gather : (f : A → List B) {x : A} {xs : List A} {y : B} → In x xs → In y (f x) → In y (gather f xs)
   in-gather f {y} (here {xs = xs} e) j = append_left (gather f xs) (subst (λ (z : A). In y (f z)) e j)
   in-gather f (there {x = x} i) j = append_right (f x) (in-gather f i j)
 
@@ -213,7 +213,7 @@ module _ {A B : Type 0} where
       let r = gather-in f xs j in
       (r.0, there r.1, r.2)) (append_cases (f x) i)
 
-  pub in_map : (f : A → B) {xs : List A} {x : A} → In x xs → In (f x) (map f xs)
+  pub in_map : (f : A → B) {x : A} {xs : List A} → In x xs → In (f x) (map f xs)
   in_map f (here e) = here (ap f e)
   in_map f (there i) = there (in_map f i)
 

@@ -91,6 +91,7 @@ first-no-later f (g ∷ gs) h i = from (earlier f g) (first-no-later (cond (befo
     from (first x) later (there (there j)) = later h (there j)
     from (second x) later (here e) = no-later-chain (later g (here refl)) (subst (λ (k : Refusal). NoLater g k) (sym e) x)
     from (second x) later (there j) = later h j
+first-no-later f [] h (there x5) = elim x5 [ ]
 
 -- each refusal of the list applies
 abbrev pub Found : (Reason → ℕ → Type 0) → List Refusal → Type 0
@@ -217,6 +218,7 @@ module _ (Applies : Reason → ℕ → Type 0) where
   pub found-given : (b : Bool) (g : Refusal) → (T b → Applies g.reason g.place) → Found Applies (given b g)
   found-given true g x f (here e) = subst (λ (h : Refusal). Applies h.reason h.place) (sym e) (x tt)
   found-given false g x f i = elim i [ ]
+  found-given true g x f (there x6) = elim x6 [ ]
 
 pub listed-left : (fs gs : List Refusal) {r : Reason} {k : ℕ} → Listed fs r k → Listed (fs ++ gs) r k
 listed-left fs gs (j, i, l) = (j, append_left gs i, l)

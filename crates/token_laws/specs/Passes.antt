@@ -185,6 +185,7 @@ pub tag-spelling : (t : Token) → TagNext (t ∷ []) → spell_token t ≡ 0x3C
 tag-spelling (start_tag n a) start-next = refl
 tag-spelling (empty_tag n a) empty-next = refl
 tag-spelling (end_tag n a) end-next = refl
+tag-spelling (characters _) x'' = elim x'' [ ]
 
 start-closes : (at : ℕ) (n : List ℕ) (m : Mode) (k : ℕ) → AsByte (tag_byte at n) m → Passes m k (0x3E ∷ []) between (starts n at ∷ [])
 unfolding AsByte

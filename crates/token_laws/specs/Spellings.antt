@@ -588,7 +588,7 @@ one-mode m k b = refl
 stretch-through : {m : Mode} {u : List ℕ} (k : ℕ) → OpenMode m → Stretch u → Through m k u
 unfolding mode_after
 stretch-through k o nothing_yet = comes-through o refl
-stretch-through k o (a-tag {t = t} {w = w} n s h) = through-append k (spell_token t) w (tag-mode k o n s) (stretch-through (k + length (spell_token t)) open-between h)
+stretch-through {m = m} k o (a-tag {t = t} {w = w} n s h) = through-append k (spell_token t) w (tag-mode k o n s) (stretch-through {m = between} (k + length (spell_token t)) open-between h)
 stretch-through k o (an-entity {e = e} {w = w} i h) =
     let g = entity-mode k o i in
     through-append k e w g.2 (stretch-through (k + length e) g.1 h)

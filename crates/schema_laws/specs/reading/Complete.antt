@@ -60,9 +60,9 @@ spelling-on in-pcdata = (_, in-pcdata)
 
 pub keyword-path : {q z : State} {c : ℕ} (w : List ℕ) (k : ℕ) → Spelling q (c ∷ w) z → Transitions q k (c ∷ w) z
 keyword-path [] k s = go (spelt s) stay
-keyword-path (d ∷ w) k s =
+keyword-path {q = q} (d ∷ w) k s =
     let r = spelling-on s in
-    go (spell s r.1) (keyword-path w (suc k) r.1)
+    go (spell s r.1) (keyword-path {q = (spelling-on s).0} w (suc k) r.1)
 
 -- names: a state holds the bytes so far, and each further one lengthens them
 module _ (holding_name : List ℕ → State) (grow : (n : List ℕ) (k b : ℕ) → T (continues_name b) → length n < max_name_bytes → Goes (holding_name n) k b (holding_name (n ++ (b ∷ [])))) where

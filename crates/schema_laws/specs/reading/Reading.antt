@@ -1,6 +1,7 @@
 -- Reading a schema text means what the grammar and the conditions say: the first refusal that applies, or the schema that the
 -- text's derivation gives.
 use mathlib.Core.List.Memᴰ.{head as here}
+use mathlib.Core.List.Memᴰ.{tail as there}
 use mathlib.Core.List.{List, [], ◌∷◌, ◌++◌, Memᴰ as In}
 use Rattle.std.specs.Prelude.{◌≡◌, ℕ}
 use Rattle.std.proofs.Math.Path.{refl}
@@ -39,6 +40,7 @@ module _ (text : List ℕ) where
     where
       only : (j : ℕ) → In j (k ∷ []) → SchemaApplies text bad_schema j
       only j (here i) = subst (SchemaApplies text bad_schema) (sym i) (grammar-4 (schema-departs text k e))
+      only j (there i) = elim i [ ]
   parsed-found (spells ds) e =
       let m : SchemaText text ds = schema-sound text ds e in
       found-append (SchemaApplies text) (limits ds) (repeated ds ++ missing ds)
