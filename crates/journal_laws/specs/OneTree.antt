@@ -106,6 +106,7 @@ tag-first [] no-token = ([], refl)
 tag-first (start_tag n a ∷ ts) start-next = (_, refl)
 tag-first (empty_tag n a ∷ ts) empty-next = (_, refl)
 tag-first (end_tag n a ∷ ts) end-next = (_, refl)
+tag-first (characters _ ∷ ts) x4 = elim x4 [ ]
 
 data-once : (w v : List ℕ) (ts us : List Token) → T (all_of is_data w) → T (all_of is_data v) → TagNext ts → TagNext us → w ++ spell ts ≡ v ++ spell us → (w ≡ v) × (spell ts ≡ spell us)
 data-once w v ts us p q n m e =

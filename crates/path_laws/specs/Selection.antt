@@ -140,7 +140,7 @@ module _ {C : Type 0} (doc : List Node) (Meets : C → NodeSet) (meets : List No
 
   pub path-members : {xs : List Node} {S : NodeSet} (ps : List (WrittenStep ℕ C)) → Members xs S → Members (path_from meets doc ps xs) (PathSet doc Meets ps S)
   path-members [] l = l
-  path-members (p ∷ ps) l = path-members ps (step-members p l)
+  path-members {xs = xs} (p ∷ ps) l = path-members {xs = step_from meets doc p xs} ps (step-members p l)
 
 -- ---- conditions
 pub plain-members : (doc : List Node) (q : List (PlainStep ℕ)) (y : Node) → Members (path_from always doc q (y ∷ [])) (PathSet doc Always q (Only y))

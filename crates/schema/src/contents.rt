@@ -104,7 +104,7 @@ fn content(
     if s[at] == b'(' {
         return model(s, at + 1, out, n, predecessors);
     }
-    if s[at] == b'_e' {
+    if s[at] == b'E' {
         return nameless(scanning::spell(s, at + 1, b"MPTY"), n, Content::Empty);
     }
     ContentOutcome::Fail(at)

@@ -136,7 +136,9 @@ later-held s before previous (q ∷ rs) t i =
     pick : {r : Row} → In r (q ∷ rs) → RootOrHeld s q.name → (In r rs → RootOrHeld s r.name) → RootOrHeld s r.name
     pick (here e) h later = subst (λ (x : Row). RootOrHeld s x.name) (sym e) h
     pick (there j) h later = later j
+later-held s before previous [] {r = r} t i = elim i [ ]
 
 pub row-held : (s : Types) (rows : List Row) {r : Row} → T (well_formed s rows) → In r rows → RootOrHeld s r.name
 row-held s (q ∷ rs) t (here e) = subst (λ (x : Row). RootOrHeld s x.name) (sym e) (inl (rooted s q rs t).name)
 row-held s (q ∷ rs) t (there i) = later-held s (top q.number q.name ∷ []) (top q.number q.name) rs (rooted s q rs t).later i
+row-held s [] {r = r} t x'' = elim x'' [ ]

@@ -40,7 +40,7 @@ module _ {A : Type 0} where
   at_some (a ∷ xs) zero h = (a, refl)
   at_some (a ∷ xs) (suc i) h = at_some xs i (omega arith)
 
-  pub in-at : {xs : List A} {x : A} → In x xs → (i : ℕ) × (get_elem? xs i ≡ some x)
+  pub in-at : {x : A} {xs : List A} → In x xs → (i : ℕ) × (get_elem? xs i ≡ some x)
   in-at (here e) = (0, ap {B = Option A} some (sym e))
   in-at (there m) = let r = in-at m in (suc r.0, r.1)
 

@@ -19,7 +19,7 @@ pub fn class_of(b: u8) -> Class
 {
     match b {
         b'\t' | b'\n' | b' ' => Class::Blank,
-        b'_a'..=b'_z' | b'a'..=b'z' => Class::Letter,
+        b'A'..=b'Z' | b'a'..=b'z' => Class::Letter,
         b'0'..=b'9' => Class::Digit,
         b'!' | b'#' | b'&' | b'('..=b',' | b'/' | b':'..=b'<' | b'>'..=b'?' | b'[' | b']' | b'|' =>
             Class::Markup,
