@@ -194,9 +194,9 @@ read_byte b (after-call {a = a} i f) = tested-byte b i (plain a (f _))
 read_byte b (in-or {w = w} u v i) = or_byte u v w b i
 read_byte b (after-brackets d) = done-byte b d no_way
 
-read-text : {q : State} {u : List ℕ} (v : List ℕ) → Read q u → Read (final bundle_machine q v (length u)) (u ++ v)
-read-text {q} {u} [] r = rw append-nil r
-read-text {q} {u} (b ∷ v) r =
+read-text : (v : List ℕ) {q : State} {u : List ℕ} → Read q u → Read (final bundle_machine q v (length u)) (u ++ v)
+read-text [] {q} {u} r = rw append-nil r
+read-text (b ∷ v) {q} {u} r =
     let e : length (u ++ (b ∷ [])) ≡ suc (length u) = omega (arith, length-append u (b ∷ [])) in
     subst (λ (k : ℕ). Read (final bundle_machine (step q (length u) b) v k) (u ++ (b ∷ v))) e
     (subst (Read (final bundle_machine (step q (length u) b) v (length (u ++ (b ∷ []))))) (append_assoc u (b ∷ []) v) (read-text v (read_byte b r)))
