@@ -260,17 +260,17 @@ module _ (limit : ℕ) (s : Schema) (lent : List ℕ) where
 
   fault-applies : (r : Reason) (k : ℕ) → Late r → In (at r k) built.faults → First (at r k) → JournalApplies limit s lent r k
   unfolding First
-  fault-applies undeclared_element k late-14 i h =
+  fault-applies r k late-14 i h =
       let t = first-tokens (at undeclared_element k) (omega arith) h in
       undeclared-14 (found-14 s k t.1 (subst (λ (b : Building). In (at undeclared_element k) b.faults) (as-tokens t.1) i))
-  fault-applies bad_content k late-15 i h =
+  fault-applies r k late-15 i h =
       let t = faulted-tree (at bad_content k) (omega arith) h in
       content-15 (by t (tree-15 s t.place t.name t.content (subst (λ (b : Building). In (at bad_content k) b.faults) t.as-tree i)))
     where
       by : (t : Treed) → Misplaced s t.place t.name t.content k → Misfit s lent k
       by t (wrong-root e x) = subst (λ (j : ℕ). Misfit s lent j) (sym e) (bad-root t.text-tree (not_root (element_named s t.name) x))
       by t (wrong-content x m) = bad-content t.text-tree x m.1 m.2
-  fault-applies over_node_limit k late-16 i h =
+  fault-applies r k late-16 i h =
       let t = faulted-tree (at over_node_limit k) (omega arith) h in
       nodes-16 (by t)
     where

@@ -147,7 +147,10 @@ module _ (s : Schema) (k : ℕ) (fs : List Refusal) (rs : List Row) (m : ℕ) wh
       by false e = goes_on_lem refl starts-in (λ x b. nleb→lt max_depth (length (o ∷ os)) (rw e tt))
 
   end-acts : (n a : List ℕ) (os : List Open) (rt : Bool) → Acts k os rt (end_tag n a) (end_of os n k (building os rt fs rs m))
-  end-acts n a [] rt = misnests 0 end-tag (here-broken k) (λ ms q x. elim x [ ])
+  end-acts n a [] rt = misnests 0 end-tag (here-broken k) (λ ms q x. no-end x)
+    where
+      no-end : {i q : Bool} {ms : List (List ℕ)} → Moves [] i (end_tag n a) ms q → ⊥
+      no-end x = elim x [ ]
   end-acts n a (o ∷ os) rt = by (same_bytes n o.name) refl
     where
       same-name : {ms : List (List ℕ)} {q : Bool} {x : List ℕ} {ns : List (List ℕ)} → Moves (x ∷ ns) rt (end_tag n a) ms q → n ≡ x
@@ -165,7 +168,7 @@ module _ (s : Schema) (k : ℕ) (fs : List Refusal) (rs : List Row) (m : ℕ) wh
   run-acts : (w : List ℕ) (os : List Open) (rt : Bool) → Acts k os rt (characters w) (inside os (run k (solid_from k w) (saved_in w)) (length w) (building os rt fs rs m))
   run-acts w [] rt = by (solid-of k w)
     where
-      blank-move : {ms : List (List ℕ)} {q : Bool} → Moves [] rt (characters w) ms q → T (all_blank w)
+      blank-move : {i : Bool} {ms : List (List ℕ)} {q : Bool} → Moves [] i (characters w) ms q → T (all_blank w)
       blank-move (blanks-out h) = h
 
       by : Solid k w → Acts k [] rt (characters w) (outside (solid_from k w) (building [] rt fs rs m))

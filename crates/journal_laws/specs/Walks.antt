@@ -27,7 +27,12 @@ moves-once root-starts root-starts = (refl, refl)
 moves-once starts-in starts-in = (refl, refl)
 moves-once root-empty root-empty = (refl, refl)
 moves-once empty-in empty-in = (refl, refl)
-moves-once ends-in ends-in = (refl, refl)
+moves-once (ends-in {ns = ns}) m = at m refl
+  where
+    at : {us ks : List (List ℕ)} {x y : List ℕ} {i j : Bool} → Moves us i (end_tag x y) ks j → us ≡ x ∷ ns → (ns ≡ ks) × (i ≡ j)
+    at (ends-in {ns = ks}) e =
+        let z : ns ≡ ks = cc in
+        (z, refl)
 moves-once (blanks-out h) (blanks-out k) = (refl, refl)
 moves-once data-in data-in = (refl, refl)
 
@@ -194,6 +199,8 @@ closes k (data-part t p) (move (blanks-out {w = v} b) w) e = by t (closes (k + l
     by : {ts : List Token} → TagNext ts → Closes (k + length v) [] ts → Closes k [] (characters v ∷ ts)
     by t (closed-out no-blanks no-tokens) = closed-out (blanks b) (data-next no-tokens)
     by t (closed-out (blanks c) (data-next no-tokens)) = elim t [ ]
+closes k (tag-part t p) (move (blanks-out b) w) e = elim t [ ]
+closes k (tag-part t p) (move data-in w) e = elim t [ ]
 
 record Rooted (j : ℕ) (ts : List Token) : Type 0 where
   forest : Forest
@@ -230,6 +237,7 @@ root-of j (data-part t p) (move (blanks-out {w = v} b) w) e f = by t (root-of (j
 
     by : {ts : List Token} → TagNext ts → Rooted (j + length v) ts → Rooted j (characters v ∷ ts)
     by t r = put t r.spelt r.root
+root-of j (tag-part t p) (move (blanks-out b) w) e f = elim t [ ]
 
 pub walk-nested : {ts : List Token} → Parted ts → Walks [] false ts [] true → (k : ℕ) × (n : List ℕ) × (c : Forest) × Nested ts k n c
 walk-nested p w =

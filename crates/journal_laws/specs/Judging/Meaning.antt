@@ -135,11 +135,11 @@ module _ (limit : ℕ) (s : Schema) (lent : List ℕ) where
         never (cc)
 
     late_free : (r : Reason) (k : ℕ) → Late r → In (at r k) (tree_held s v.place v.name v.content).faults → ⊥
-    late_free undeclared_element k late-14 i =
+    late_free r k late-14 i =
         let t = tree-14 s v.place v.name v.content i in
         let d = v.valid.each k t.0 t.1 t.2 in
         subst (λ (o : Option ℕ). T (is_none o)) d.1 t.3
-    late_free bad_content k late-15 i = misplaced (tree-15 s v.place v.name v.content i)
+    late_free r k late-15 i = misplaced (tree-15 s v.place v.name v.content i)
       where
         misplaced : Misplaced s v.place v.name v.content k → ⊥
         misplaced (wrong-root e t) = subst (λ (o : Option ℕ). T (wrong_root [] o)) v.valid.root_element t
@@ -150,7 +150,7 @@ module _ (limit : ℕ) (s : Schema) (lent : List ℕ) where
           where
             same-element : (o : Option ℕ) {a b : ℕ} → o ≡ some a → o ≡ some b → a ≡ b
             same-element o {a} {b} p r = cc
-    late_free over_node_limit k late-16 i = over (over-split (over-tree s v.place v.name v.content v.valid.each k i))
+    late_free r k late-16 i = over (over-split (over-tree s v.place v.name v.content v.valid.each k i))
       where
         over : (i : ℕ) × (p : SplitAt (tree_starts s v.place v.name v.content) i) × ((max_nodes ≤ 0 + i) ⊎ (max_text_bytes < p.here.bytes)) × (p.here.place ≡ k) → ⊥
         over (i, p, inl l, e) = omega (arith, split-bound p, v.few_nodes)
