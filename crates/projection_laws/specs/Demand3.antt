@@ -3,7 +3,7 @@
 -- 8 to 10 applies" (`BundleTaken`), "and a journal is valid under the schema when none of 2, 3 and 11 to 16 applies to it, at the library's length
 -- limits" (`JournalTaken`). Nothing else is assumed.
 use Rattle.std.specs.Prelude.{◌&&◌, ◌≡◌, refl, ℕ, ◌≤◌, ◌<◌, T, length}
-use mathlib.Core.List.{List, Memᴰ as In}
+use mathlib.Core.List.{List, [], Memᴰ as In}
 use Rattle.std.proofs.Common.{inl, inr, subst, ◌∙◌, arith}
 use Rattle.std.proofs.Math.Path.{sym, ap}
 use Rattle.std.proofs.Math.Dec.{leb}
@@ -15,7 +15,7 @@ use Rattle.extract_spec.specs.Reading.{read_extract}
 use Rattle.inference_spec.specs.Needed.{needed_by_path, needed}
 use Rattle.journal_laws.specs.TreeNodes.{accepted-well-formed}
 use Rattle.journal_laws.specs.Judging.Meaning.{journal-judged-once}
-use Rattle.library_spec.specs.Conditions.{SchemaTaken, BundleTaken, JournalTaken, Makes}
+use Rattle.library_spec.specs.Conditions.{SchemaTaken, BundleTaken, JournalTaken, InLent, Makes}
 use Rattle.library_spec.specs.Hosts.{HostAnswer, host_answer, Lent, in_lent, extract_of, make_extract, bundle_paths, select_from, result_of}
 use Rattle.library_spec.specs.Selections.{asked_paths, Selections, selections}
 use Rattle.path_laws.specs.Reading.{bundle-read-once}
@@ -124,11 +124,13 @@ pub record Made (schema bundle journal : List ℕ) (l : Lent) (a : HostAnswer) :
   pub room : length a.items ≤ l.items
 
 made_of : (schema bundle journal : List ℕ) (l : Lent) {a : HostAnswer} → Makes schema bundle journal l (accepted a) → Made schema bundle journal l a
-made_of schema bundle journal l (passes-1 z (goes_on_lem {a = s} st (goes_on_lem {a = ps} bt (goes_on_lem {a = rows} jt (answered n))))) =
-    record { s = s; ps = ps; rows = rows; dtd = st; paths = bt; valid = jt; table = refl; bytes = refl; room = enough (λ h. n (inr (inl h))) }
+made_of schema bundle journal l (passes-1 z (goes_on_lem {a = s} st (goes_on_lem {a = ps} bt (goes_on_lem {a = rows} jt r)))) = by r
   where
     enough : (l.items < length (extract_of s ps journal rows) → ⊥) → length (extract_of s ps journal rows) ≤ l.items
     enough h = omega arith
+
+    by : {a : HostAnswer} → InLent l (host_answer rows (extract_of s ps journal rows) []) (accepted a) → Made schema bundle journal l a
+    by (answered n) = record { s = s; ps = ps; rows = rows; dtd = st; paths = bt; valid = jt; table = refl; bytes = refl; room = enough (λ h. n (inr (inl h))) }
 
 module _ (schema bundle journal : List ℕ) (l : Lent) (a : HostAnswer) (answer : make_extract schema bundle journal l ≡ accepted a) where
   -- the bytes that are sent: the first ones of the lent items, as many as the result says

@@ -24,6 +24,7 @@ rising-above (next-node {y = y} h r) (here e) =
 rising-above (next-node {y = y} h r) (there i) =
     let g = rising-above r i in
     omega arith
+rising-above no-nodes i = elim i [ ]
 
 pub rising-known : {k : ℕ} {ys : List Node} {y z : Node} → Rising k ys → In y ys → In z ys → node_number y ≡ node_number z → y ≡ z
 rising-known (next-node h r) (here e) (here f) q = e ∙ sym f
@@ -36,6 +37,7 @@ rising-known (next-node h r) (there i) (here f) q =
     let n = ap node_number f in
     absurd (omega arith)
 rising-known (next-node h r) (there i) (there j) q = rising-known r i j q
+rising-known no-nodes i j q = elim i [ ]
 
 row_number : (lent : List ℕ) (before : List Node) (r : Row) → node_number (node_at lent before r) ≡ r.number
 row_number lent before r = attached-number r.number r.name (characters_of lent r) (get_elem? before r.parent)

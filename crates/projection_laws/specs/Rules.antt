@@ -331,7 +331,7 @@ module _ (s : Schema) (closed : Closed s) where
 
     pub steps-members : {g : Point} {e : Env} → MembersAt s e g → (ps : List (Step ℕ C)) → MembersAt s (infer_all schema_types keeps ps e) (after_steps g (map (as_step as_condition) ps))
     steps-members m [] = m
-    steps-members m (p ∷ ps) = steps-members (step-members m p) ps
+    steps-members {g} m (p ∷ ps) = steps-members {g = after_step g (as_step as_condition p)} (step-members m p) ps
 
   pub all-decided : Decides s no_condition keeps_all
   all-decided g w e m c = all-kept (λ a. keeps_all (cut_to schema_types (a ∷ []) e.context) c a) (λ n. tt) m

@@ -180,18 +180,18 @@ module _ (s : Schema) (full : 0 < length s) (closed : Closed s) where
 
     walk_from : {g : Point} {e : Env} → MembersAt s e g → (ps : List (Step ℕ C)) (a : Name) → In a (complete types keeps wants ps e) → (w : Names) × Walk s g (steps_of ps) (a ∷ w)
     walk_from m [] a i = ([], at_last (m.types.sound a i))
-    walk_from {e = e} m (p ∷ ps) a i =
+    walk_from {g} {e = e} m (p ∷ ps) a i =
         let rest = complete types keeps wants ps (infer types keeps p e) in
         let f = filter-in (λ c. any_of (λ b. linked types p.axis c b) rest) e.type i in
         let b = in-any (λ b. linked types p.axis a b) rest f.1 in
-        let r = walk_from (after m p) ps b.0 b.1 in
+        let r = walk_from {g = after_step g (step_of p)} (after m p) ps b.0 b.1 in
         (b.0 ∷ r.0, onward (m.types.sound a f.0) (linked_of p.axis a b.0 b.2) r.1)
 
     from-walk : {g : Point} {e : Env} → MembersAt s e g → (ps : List (Step ℕ C)) {a : Name} {w : Names} → Walk s g (steps_of ps) (a ∷ w) → In a (complete types keeps wants ps e)
     from-walk m [] {a} (at_last i) = m.types.complete a i
-    from-walk {e = e} m (p ∷ ps) {a} (onward i l r) =
+    from-walk {g} {e = e} m (p ∷ ps) {a} (onward i l r) =
         in-filter (λ c. any_of (λ b. linked types p.axis c b) (complete types keeps wants ps (infer types keeps p e))) (m.types.complete a i)
-        (any-in (λ b. linked types p.axis a b) (from-walk (after m p) ps r) (of-linked l))
+        (any-in (λ b. linked types p.axis a b) (from-walk {g = after_step g (step_of p)} (after m p) ps r) (of-linked l))
 
     complete-typed : (ps : List (Step ℕ C)) (e : Env) {a : Name} → In a (complete types keeps wants ps e) → In a e.type
     complete-typed [] e i = i
@@ -200,7 +200,7 @@ module _ (s : Schema) (full : 0 < length s) (closed : Closed s) where
     pub need-sound : {g : Point} {e : Env} → MembersAt s e g → (ps : List (Step ℕ C)) {n : Name} → In n (need types keeps wants ps e) → Needs s g (steps_of ps) n
     need-sound m [] {n} i = record { walk = n ∷ []; complete = at_last (m.types.sound n i); on_walk = own }
     need-sound {g} {e} m (p ∷ ps) {n} i =
-        ⊎_elim by-own (λ j. ⊎_elim by-between (λ k. ⊎_elim by_condition (λ l. let z = need-sound (after m p) ps l in later-needs (step_of p) z.complete z.on_walk) (append_cases c k)) (append_cases b j))
+        ⊎_elim by-own (λ j. ⊎_elim by-between (λ k. ⊎_elim by_condition (λ l. let z = need-sound {g = after_step g (step_of p)} (after m p) ps l in later-needs (step_of p) z.complete z.on_walk) (append_cases c k)) (append_cases b j))
         (append_cases d i)
       where
         f : Env
@@ -261,12 +261,12 @@ module _ (s : Schema) (full : 0 < length s) (closed : Closed s) where
         (append_left _
         (in-gather (λ a. wants (near_context p e a) p.condition a) k
         ((lists (tested g (step_of p)) b (near_context p e b) (near-members m p b (complete-typed ps f k)) p.condition n).1 (by-alternative q j (record { walk = _; complete = y; on_walk = z }))))))
-    on-walk-needed {e = e} m (p ∷ ps) (onward i l r) (later q) =
+    on-walk-needed {g} {e} m (p ∷ ps) (onward i l r) (later q) =
         let f = infer types keeps p e in
         let d = complete types keeps wants (p ∷ ps) e in
         let h = complete types keeps wants ps f in
         append_right d
-        (append_right (between types p.axis d h) (append_right (gather (λ a. wants (near_context p e a) p.condition a) h) (on-walk-needed (after m p) ps r q)))
+        (append_right (between types p.axis d h) (append_right (gather (λ a. wants (near_context p e a) p.condition a) h) (on-walk-needed {g = after_step g (step_of p)} (after m p) ps r q)))
 
     pub need-complete : {g : Point} {e : Env} → MembersAt s e g → (ps : List (Step ℕ C)) {n : Name} → Needs s g (steps_of ps) n → In n (need types keeps wants ps e)
     need-complete m ps z = on-walk-needed m ps z.complete z.on_walk

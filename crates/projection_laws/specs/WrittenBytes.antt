@@ -13,8 +13,8 @@ use Rattle.extract_spec.specs.Fields.{element_tag, text_tag, count_tag, two_byte
 use Rattle.inference_spec.specs.Needed.{needed}
 use Rattle.journal_laws.specs.TreeNodes.{accepted-well-formed}
 use Rattle.journal_laws.specs.Judging.Meaning.{journal-judged-once}
-use Rattle.library_spec.specs.Conditions.{SchemaTaken, JournalTaken, of-schema, WritesExtract, Makes}
-use Rattle.library_spec.specs.Hosts.{HostAnswer, Lent, extract_of}
+use Rattle.library_spec.specs.Conditions.{SchemaTaken, JournalTaken, of-schema, WritesExtract, InLent, Makes}
+use Rattle.library_spec.specs.Hosts.{HostAnswer, host_answer, Lent, extract_of}
 use Rattle.library_spec.specs.Records.{LentTable}
 use Rattle.path_spec.specs.Paths.{LocationPath}
 use Rattle.projection_laws.specs.Cutting.{cut-well-formed-with}
@@ -32,7 +32,7 @@ use Rattle.table_spec.specs.Rows.{Row, characters_of}
 use Rattle.text_laws.specs.Lists.{gather-in}
 use Rattle.text_laws.specs.Tests.{or_cases, and_cases, not-intro, decided}
 use Rattle.text_spec.specs.Bytes.{is_foreign, is_between}
-use Rattle.text_spec.specs.Calls.{passes-1, holds, goes_on_lem, answered}
+use Rattle.text_spec.specs.Calls.{InRoom, passes-1, holds, goes_on_lem, answered}
 use Rattle.text_spec.specs.Limits.{max_declarations}
 use Rattle.text_spec.specs.Lists.{gather}
 use Rattle.text_spec.specs.Records.{TextRecord}
@@ -113,7 +113,13 @@ module _ (schema : List ℕ) (s : Schema) (st : SchemaTaken schema s) where
 
 -- ---- what the library hands out
 pub write-extract-bytes : {schema : TextRecord} {table : LentTable} {lent bs : List ℕ} {size : ℕ} → WritesExtract schema table lent size (accepted bs) → AreBytes bs
-write-extract-bytes {lent = lent} (holds {a = s} (of-schema dtd st) (holds {a = rows} t (answered n))) = written-bytes dtd s st lent rows t.well_formed
+write-extract-bytes {lent = lent} {size = size} (holds {a = s} (of-schema dtd st) (holds {a = rows} t r)) = by r
+  where
+    by : {bs : List ℕ} → InRoom (size < length (write_extract lent rows)) (write_extract lent rows) (accepted bs) → AreBytes bs
+    by (answered n) = written-bytes dtd s st lent rows t.well_formed
 
 pub make-extract-bytes : {schema bundle journal : List ℕ} {l : Lent} {a : HostAnswer} → Makes schema bundle journal l (accepted a) → AreBytes a.items
-make-extract-bytes {schema} {journal = journal} (passes-1 z (goes_on_lem {a = s} st (goes_on_lem {a = ps} bt (goes_on_lem {a = rows} jt (answered n))))) = extract-bytes schema s st ps journal rows jt
+make-extract-bytes {schema} {journal = journal} {l = l} (passes-1 z (goes_on_lem {a = s} st (goes_on_lem {a = ps} bt (goes_on_lem {a = rows} jt r)))) = by r
+  where
+    by : {a : HostAnswer} → InLent l (host_answer rows (extract_of s ps journal rows) []) (accepted a) → AreBytes a.items
+    by (answered n) = extract-bytes schema s st ps journal rows jt
