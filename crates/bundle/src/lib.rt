@@ -21,7 +21,7 @@ use text::limits;
 pub const MAX_BYTES: usize = limits::MAX_BUNDLE_BYTES;
 
 // Why a bundle text is turned back: refusals 2, 3, 8, 9 and 10.
-#[derive(Drop)]
+#[derive(Clone, Copy)]
 pub enum Kind {
     BadLength,
     BadByte,
@@ -46,7 +46,7 @@ impl Kind {
 }
 
 // The number of paths, or the refusal and its place.
-#[derive(Drop)]
+#[derive(Clone, Copy)]
 pub enum Judgement {
     Accepted(usize),
     Refused(Kind, usize),

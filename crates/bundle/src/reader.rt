@@ -12,7 +12,7 @@ use schema::places::MAX_USES;
 use schema_reader::text_judging;
 
 // A bundle: an accepted text in the first `len` bytes; the others are 0.
-#[derive(Drop)]
+#[derive(Clone, Copy)]
 pub struct Bundle {
     pub bytes: [u8; crate::MAX_BYTES],
     pub len: usize,

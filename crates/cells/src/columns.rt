@@ -9,7 +9,7 @@ use text::limits::MAX_NODES;
 
 // A row, but for its number, as the columns' cells hold it: the code of its name, its parent's row, the start of its text and
 // its lengths, raw and decoded.
-#[derive(Drop)]
+#[derive(Clone, Copy)]
 pub struct RowCells {
     pub name: u8,
     pub parent: u16,

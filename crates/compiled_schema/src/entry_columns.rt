@@ -14,7 +14,7 @@ pub const MAX_CELLS: usize = MAX_ELEMENTS * MAX_POSITIONS;
 
 // What is known of each element. Elements are numbered in the order of their declarations. The columns have a cell for each, `elements` and
 // `predecessors` as many as a model may have positions.
-#[derive(Drop)]
+#[derive(Clone, Copy)]
 pub struct Entries {
     // schema_elements::EMPTY, PCDATA or CHILDREN
     pub kinds: [u8; MAX_ELEMENTS],

@@ -15,7 +15,7 @@ use schema::Judgement;
 use schema::places::MAX_USES;
 use schema_reader::text_judging;
 
-#[derive(Drop)]
+#[derive(Clone, Copy)]
 pub struct CompiledSchema {
     // how many elements there are
     pub count: usize,

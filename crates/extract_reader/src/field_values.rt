@@ -9,7 +9,7 @@ use text::limits::{MAX_DEPTH, MAX_TEXT_BYTES};
 
 // What is carried from field to field: the place of the next one, how many rows stand before, the number of the row before, whether it is a text,
 // how many elements are open.
-#[derive(Drop)]
+#[derive(Clone, Copy)]
 pub struct Carried {
     pub at: usize,
     pub rows: usize,

@@ -17,7 +17,7 @@ use compiled_paths::{
 use names::{MAX_ELEMENTS, NameSet, related};
 
 // A type and a context.
-#[derive(Drop)]
+#[derive(Clone, Copy)]
 pub struct Inferred {
     pub types: NameSet,
     pub context: NameSet,

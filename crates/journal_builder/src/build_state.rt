@@ -17,7 +17,7 @@ const ELEMENTS: u64 = MAX_ELEMENTS as u64;
 const ROWS: u64 = ROW_LIMIT as u64;
 
 // How many elements are open, how many nodes have begun, and the first refusal that applies so far.
-#[derive(Drop)]
+#[derive(Clone, Copy)]
 pub struct Build {
     pub depth: usize,
     pub count: usize,
@@ -25,7 +25,7 @@ pub struct Build {
 }
 
 // What an event leaves, and the row of the node that it begins, if it begins one.
-#[derive(Drop)]
+#[derive(Clone, Copy)]
 pub struct BuildStep {
     pub build: Build,
     pub row: RowCells,

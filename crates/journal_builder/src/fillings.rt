@@ -23,7 +23,7 @@ pub const UNJUDGED: u64 = 4;
 // content that does not fit
 pub const MISFIT: u64 = 5;
 
-#[derive(Drop)]
+#[derive(Clone, Copy)]
 pub struct FillingState {
     pub kind: u64,
     // the element whose content it is, unless that is undeclared or does not fit

@@ -66,7 +66,7 @@ pub const FOREIGN_AT: usize = 3;
 
 pub const SAVED: usize = 4;
 
-#[derive(Drop)]
+#[derive(Clone, Copy)]
 pub struct Lex {
     // how many bytes are read
     pub place: usize,

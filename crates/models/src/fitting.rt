@@ -10,7 +10,7 @@ use crate::{Ends, MAX_POSITIONS};
 use names::bits;
 
 // How far the children read so far have come.
-#[derive(Drop)]
+#[derive(Clone, Copy)]
 pub enum State {
     Start,
     // the positions that the last child may have

@@ -9,7 +9,7 @@ use text::limits;
 pub const MAX_POSITIONS: usize = limits::MAX_MODEL_NAMES;
 
 // Where a model may begin and end: first and last positions, and whether it may have no child.
-#[derive(Drop)]
+#[derive(Clone, Copy)]
 pub struct Ends {
     pub first: u64,
     pub last: u64,
@@ -17,7 +17,7 @@ pub struct Ends {
 }
 
 // The content of an element: nothing, character data, or a children model.
-#[derive(Drop)]
+#[derive(Clone, Copy)]
 pub enum Content {
     Empty,
     Pcdata,

@@ -14,7 +14,7 @@ use text::limits;
 // How many elements a schema may have.
 pub const MAX_ELEMENTS: usize = limits::MAX_DECLARATIONS;
 
-#[derive(Drop)]
+#[derive(Clone, Copy)]
 pub struct NameSet {
     pub elements: u64,
     pub texts: u64,

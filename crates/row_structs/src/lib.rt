@@ -14,7 +14,7 @@ pub const CELLS: usize = MAX_ROWS + 1;
 
 // One row, its name by its code.
 #[repr(C)]
-#[derive(Drop)]
+#[derive(Clone, Copy)]
 pub struct Row {
     pub number: u16,
     pub name: u8,

@@ -16,7 +16,7 @@ ghost use Rattle.text_spec.specs.Refusals.{number_of};
 use text::limits;
 
 // A schema: an accepted text in its normal form, in the first `len` bytes; the others are 0.
-#[derive(Drop)]
+#[derive(Clone, Copy)]
 pub struct Schema {
     pub bytes: [u8; Schema::MAX_BYTES],
     pub len: usize,
@@ -43,7 +43,7 @@ impl Schema {
 }
 
 // Why a schema text is turned back: refusals 2 to 7.
-#[derive(Drop)]
+#[derive(Clone, Copy)]
 pub enum Kind {
     BadLength,
     BadByte,
@@ -70,7 +70,7 @@ impl Kind {
 }
 
 // The number of elements, or the refusal and its place.
-#[derive(Drop)]
+#[derive(Clone, Copy)]
 pub enum Judgement {
     Accepted(usize),
     Refused(Kind, usize),

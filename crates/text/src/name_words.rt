@@ -4,7 +4,7 @@ ghost use Rattle.text_spec.specs.Lists.{same_bytes};
 ghost use Rattle.text.specs.name_words.Words.{words_of, name_at, Spells};
 
 // The bytes in groups of eight, the last group in `a` as a number to the base 256, the group before it in `b`, and so on.
-#[derive(Drop)]
+#[derive(Clone, Copy)]
 pub struct Name {
     pub a: u64,
     pub b: u64,
