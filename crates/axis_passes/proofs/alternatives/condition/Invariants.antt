@@ -1,0 +1,11 @@
+use Prim.Native.Nat.{◌+◌, ◌-◌}
+use native.Mathlib.Omega.{arith}
+use borrow.Author.Rules.{rules}
+use Rattle.axis_passes.specs.alternatives.Alternatives.{AlternativesSoFar, alternatives-begun, size_fits, size-some, alternatives-pass, alternatives-next, alternatives-all}
+use Rattle.axis_passes.proofs.alternatives.condition.Given as goal
+
+abbrev pub invariant-loop-k : goal.invariant-loop-k
+invariant-loop-k l = AlternativesSoFar l.parents l.codes l.axes l.tests l.first l.count l.k l.held l.steps l.next
+
+abbrev pub decreases-loop-k : goal.decreases-loop-k
+decreases-loop-k l = l.first + l.count - l.k

@@ -1,0 +1,21 @@
+use Prim.Native.Nat.{◌-◌}
+use native.Mathlib.Omega.{arith}
+use borrow.Author.Rules.{rules}
+use lib.ListN.{length}
+use Rattle.cells.specs.row_sets.Columns.{intersection}
+use Rattle.cells.specs.row_sets.Loops.{Forward, forward-none, forward-all}
+use Rattle.selection_laws.specs.marks.Passes.{range_marks, filter-next, filter-length}
+use Rattle.axis_passes.proofs.mark_sets.filter.Goals as goal
+
+pub loop-r-init : goal.loop-r-init
+loop-r-init c = forward-none _ _
+
+pub loop-r-preserved : goal.loop-r-preserved
+loop-r-preserved c =
+    let at = c.loop-r in
+    filter-next _ _ _ _ _ c.requires at.r at.out _ (omega arith) c.in_range.ensures at.invariant
+
+pub returns : goal.returns
+returns c =
+    let at = c.loop-r in
+    forward-all _ _ at.r at.out (filter-length _ _ _ _ _ c.requires) at.invariant (omega arith)

@@ -1,0 +1,14 @@
+use Prim.Native.Nat.{◌-◌}
+use native.Mathlib.Omega.{arith}
+use borrow.Author.Rules.{rules}
+use lib.ListN.{length}
+use Rattle.cells.specs.row_sets.Columns.{intersection}
+use Rattle.cells.specs.row_sets.Loops.{Forward, forward-none, forward-all}
+use Rattle.selection_laws.specs.marks.Passes.{range_marks, filter-next, filter-length}
+use Rattle.axis_passes.proofs.mark_sets.filter.Given as goal
+
+abbrev pub invariant-loop-r : goal.invariant-loop-r
+invariant-loop-r l = Forward (intersection l.from (range_marks l.low l.high l.codes)) l.initial.out l.r l.out
+
+abbrev pub decreases-loop-r : goal.decreases-loop-r
+decreases-loop-r l = length l.initial.out - l.r

@@ -1,0 +1,12 @@
+use Prim.Native.Nat.{◌-◌}
+use native.Mathlib.Omega.{arith}
+use borrow.Author.Rules.{rules}
+use lib.ListN.{length}
+use Rattle.axis_passes.specs.siblings.Following.{Following, following-begun, following-all, parent-inside, own-inside, following-next}
+use Rattle.axis_passes.proofs.siblings.following_siblings.Given as goal
+
+abbrev pub invariant-loop-r : goal.invariant-loop-r
+invariant-loop-r l = Following l.parents l.initial.from l.initial.out l.r l.from l.out
+
+abbrev pub decreases-loop-r : goal.decreases-loop-r
+decreases-loop-r l = length l.initial.out - l.r

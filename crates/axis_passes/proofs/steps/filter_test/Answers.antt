@@ -1,0 +1,10 @@
+use borrow.Author.Rules.{rules}
+use Rattle.axis_passes.specs.steps.Steps.{tested}
+use Rattle.axis_passes.proofs.steps.filter_test.Goals as goal
+
+pub filter-requires : goal.filter-requires
+filter-requires c = c.pre.columns
+
+pub returns : goal.returns
+returns c =
+    tested _ _ _ _ _ _ c.pre.coded c.code_range-range.ensures c.filter.ensures

@@ -1,0 +1,24 @@
+-- `after_alternative` meets its contract: the byte decides, and then the rest of ` or `.
+use borrow.Author.Rules.{rules}
+use Rattle.bundle_text.proofs.alternative_ends.Reading.{follow-end, follow-close, follow-not, follow-more, follow-stops}
+use Rattle.bundle_text.proofs.alternative_ends.after_alternative.Goals as goal
+
+pub returns-then-s-at : goal.returns-then-s-at
+returns-then-s-at c =
+    record { says = follow-end _ _ c.if-s-at.true }
+
+pub returns-then-s-at-eq93 : goal.returns-then-s-at-eq93
+returns-then-s-at-eq93 c =
+    record { says = follow-close _ _ c.if-s-at.false c.if-s-at-eq93.true }
+
+pub returns-then-s-at-ne32 : goal.returns-then-s-at-ne32
+returns-then-s-at-ne32 c =
+    record { says = follow-not _ _ c.if-s-at.false c.requires.1 c.if-s-at-eq93.false c.if-s-at-ne32.true }
+
+pub returns-in-Past : goal.returns-in-Past
+returns-in-Past c =
+    record { says = follow-more _ _ c.if-s-at.left c.if-s-at-ne32.left c.spell.ensures c.in-Past.j.1 }
+
+pub returns-in-Fail : goal.returns-in-Fail
+returns-in-Fail c =
+    record { says = follow-stops _ _ c.if-s-at.left c.if-s-at-ne32.left c.spell.ensures c.in-Fail.j.1 }

@@ -1,0 +1,20 @@
+-- `brackets` meets its contract: a condition, or none.
+use native.Mathlib.Omega.{arith}
+use borrow.Author.Rules.{rules}
+use Rattle.bundle_text.proofs.written_steps.Steps.{brackets-none, brackets-some}
+use Rattle.bundle_text.proofs.written_steps.brackets.Goals as goal
+
+pub condition-requires : goal.condition-requires
+condition-requires c =
+    let h = (c.stands.ensures.here c.if-stands.taken).0 in
+    let l = c.pre.2 in
+    let g = c.pre.3 in
+    (omega arith, c.pre.1, omega arith, omega arith)
+
+pub returns-then-stands : goal.returns-then-stands
+returns-then-stands c =
+    brackets-some c.stands.ensures c.if-stands.taken c.condition.ensures
+
+pub returns : goal.returns
+returns c =
+    brackets-none c.stands.ensures c.pre.0 c.pre.2 c.pre.3 c.if-stands.false

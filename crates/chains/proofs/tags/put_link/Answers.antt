@@ -1,0 +1,30 @@
+-- `put_link` meets its contract: `/`, then the element's name or `text()`.
+use mathlib.Core.Path.{◌∙◌}
+use native.Mathlib.Omega.{arith}
+use borrow.Author.Rules.{rules}
+use lib.ListN.{length-set}
+use Rattle.chains.proofs.tags.Links.{element-fits, element-room, element-written, text-room, text-written, slash-room}
+use Rattle.chains.proofs.tags.put_link.Goals as goal
+
+pub overflow_add-to : goal.overflow_add-to
+overflow_add-to c =
+    let fits = element-fits _ _ _ _ _ _ c.requires (omega arith) in
+    let small = c.well-formed in
+    omega arith
+
+pub slice_bounds-put_text-end : goal.slice_bounds-put_text-end
+slice_bounds-put_text-end c = omega (arith, element-fits _ _ _ _ _ _ c.requires (omega arith))
+
+pub put_text-requires : goal.put_text-requires
+put_text-requires c = element-room _ _ _ _ _ _ c.requires (omega arith)
+
+pub returns-then-e-lt-MAX_ELEMENTS : goal.returns-then-e-lt-MAX_ELEMENTS
+returns-then-e-lt-MAX_ELEMENTS c =
+    element-written _ _ _ _ _ _ c.requires (omega arith) c.put_text.ensures
+
+pub put_text-requires-2 : goal.put_text-requires-2
+put_text-requires-2 c = text-room _ _ _ _ _ _ c.requires (omega arith)
+
+pub returns : goal.returns
+returns c =
+    text-written _ _ _ _ _ _ c.requires (omega arith) c.put_text-2.ensures

@@ -1,0 +1,59 @@
+-- `read_rows` meets its contract: after each turn one field more is read, so that fewer bytes are left.
+use mathlib.Core.Path.{◌≡◌, refl}
+use native.Mathlib.Omega.{arith}
+use borrow.Author.Rules.{rules}
+use lib.ListN.{length}
+use Rattle.extract_reader.specs.Whole.{stands-begun, bytes_left, going-reads, fewer-left, rows-read, same-sizes}
+use Rattle.extract_reader.specs.steps.Reads.{Stands}
+use Rattle.table_spec.specs.Columns.{columns}
+use Rattle.extract_reader.proofs.read_rows.Goals as goal
+
+pub loop-x-init : goal.loop-x-init
+loop-x-init c =
+    (stands-begun _ _ _ _ c.pre.0 c.pre.1 refl (search rules) _ c.begin-x.ensures, refl, refl, refl, refl, refl, refl)
+
+pub read_row-next-requires : goal.read_row-next-requires
+read_row-next-requires c =
+    going-reads _ _ _ _ _ c.loop-x.invariant.0 c.loop-x-test.taken
+
+pub loop-x-smaller : goal.loop-x-smaller
+loop-x-smaller c = fewer-left _ _ _ _ _ c.loop-x.invariant.0 c.loop-x-test.taken _ refl _ _ _ c.read_row-next.ensures
+
+pub loop-x-preserved : goal.loop-x-preserved
+loop-x-preserved c =
+    let at = c.loop-x in
+    (
+      c.read_row-next.ensures.stands,
+      omega (arith, c.numbers-1.given, at.invariant.1),
+      omega (arith, c.names-1.given, at.invariant.2),
+      omega (arith, c.parents-1.given, at.invariant.3),
+      omega (arith, c.starts-1.given, at.invariant.4),
+      omega (arith, c.lengths-1.given, at.invariant.5),
+      omega (arith, c.decoded-1.given, at.invariant.6),
+    )
+
+pub shape_of-numbers : goal.shape_of-numbers
+shape_of-numbers c = c.loop-x.invariant.1
+
+pub shape_of-names : goal.shape_of-names
+shape_of-names c = c.loop-x.invariant.2
+
+pub shape_of-parents : goal.shape_of-parents
+shape_of-parents c = c.loop-x.invariant.3
+
+pub shape_of-starts : goal.shape_of-starts
+shape_of-starts c = c.loop-x.invariant.4
+
+pub shape_of-lengths : goal.shape_of-lengths
+shape_of-lengths c = c.loop-x.invariant.5
+
+pub shape_of-decoded : goal.shape_of-decoded
+shape_of-decoded c = c.loop-x.invariant.6
+
+pub returns : goal.returns
+returns c =
+    let at = c.loop-x in
+    let g = c.args in
+    let sizes = same-sizes (columns g.numbers.now g.names.now g.parents.now g.starts.now g.lengths.now g.decoded.now) (columns at.numbers at.names at.parents at.starts at.lengths at.decoded)
+    at.invariant.1 at.invariant.2 at.invariant.3 at.invariant.4 at.invariant.5 at.invariant.6 in
+    rows-read _ _ _ _ _ at.invariant.0 c.loop-x-test.false _ sizes _ refl

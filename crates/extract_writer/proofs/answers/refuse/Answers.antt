@@ -1,0 +1,7 @@
+-- `refuse` meets its contract: the bytes cleared.
+use borrow.Author.Rules.{rules}
+use Rattle.extract_writer.specs.answers.Answers.{refused-by-1}
+use Rattle.extract_writer.proofs.answers.refuse.Goals as goal
+
+pub returns : goal.returns
+returns c = refused-by-1 _ _ _ c.clear_bytes.ensures c.refused.ensures

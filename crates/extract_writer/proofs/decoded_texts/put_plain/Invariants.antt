@@ -1,0 +1,13 @@
+use Prim.Native.Nat.{◌-◌}
+use native.Mathlib.Omega.{arith}
+use borrow.Author.Rules.{rules}
+use borrow.Author.Tests.{not-true, eqb-false}
+use lib.ListN.{length}
+use Rattle.extract_writer.specs.decoded_texts.Decoded.{PlainPut, decoding-room, plain-none, plain_more}
+use Rattle.extract_writer.proofs.decoded_texts.put_plain.Given as goal
+
+abbrev pub invariant-loop-i : goal.invariant-loop-i
+invariant-loop-i l = PlainPut l.text l.from l.initial.out l.at l.i l.out l.end
+
+abbrev pub decreases-loop-i : goal.decreases-loop-i
+decreases-loop-i l = length l.text - l.i

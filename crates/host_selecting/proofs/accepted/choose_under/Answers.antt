@@ -1,0 +1,92 @@
+-- `choose_under` meets its contract: the extract's refusal, or its rows and what is selected on them.
+use mathlib.Core.Path.{◌∙◌}
+use borrow.Author.Rules.{rules}
+use Rattle.compiled_paths.specs.Paths.{lent_paths}
+use Rattle.compiled_paths.specs.declared.CompiledPaths.{CompiledPaths}
+use Rattle.host_selecting.specs.accepted.Choosing.{words-read, refused-chosen, rows-asked, chosen-exit}
+use Rattle.hosts.specs.columns.Rows.{rows-read}
+use Rattle.table_spec.specs.Columns.{Columns, columns}
+use Rattle.host_selecting.proofs.accepted.choose_under.Goals.{After-struct_known-1}
+use Rattle.host_selecting.proofs.accepted.choose_under.Goals as goal
+
+abbrev lent : After-struct_known-1 → Columns
+lent c = columns c.args.numbers.now c.args.names.now c.args.parents.now c.args.starts.now c.args.lengths.now c.args.decoded.now
+
+abbrev paths-at : After-struct_known-1 → CompiledPaths
+paths-at c = lent_paths c.args.axes.now c.args.tests.now c.args.conditions.now c.args.paths.now c.args.total
+
+pub read_extract_table-verdict-requires : goal.read_extract_table-verdict-requires
+read_extract_table-verdict-requires c = c.requires.equal
+
+pub shape_of-numbers-then-verdict-ne0 : goal.shape_of-numbers-then-verdict-ne0
+shape_of-numbers-then-verdict-ne0 c = c.read_extract_table-verdict.auto.1.1.0
+
+pub shape_of-names-then-verdict-ne0 : goal.shape_of-names-then-verdict-ne0
+shape_of-names-then-verdict-ne0 c = c.read_extract_table-verdict.auto.1.1.1.0
+
+pub shape_of-parents-then-verdict-ne0 : goal.shape_of-parents-then-verdict-ne0
+shape_of-parents-then-verdict-ne0 c = c.read_extract_table-verdict.auto.1.1.1.1.0
+
+pub shape_of-starts-then-verdict-ne0 : goal.shape_of-starts-then-verdict-ne0
+shape_of-starts-then-verdict-ne0 c = c.read_extract_table-verdict.auto.1.1.1.1.1.0
+
+pub shape_of-lengths-then-verdict-ne0 : goal.shape_of-lengths-then-verdict-ne0
+shape_of-lengths-then-verdict-ne0 c = c.read_extract_table-verdict.auto.1.1.1.1.1.1.0
+
+pub shape_of-decoded-then-verdict-ne0 : goal.shape_of-decoded-then-verdict-ne0
+shape_of-decoded-then-verdict-ne0 c = c.read_extract_table-verdict.auto.1.1.1.1.1.1.1.0
+
+pub shape_of-items-then-verdict-ne0 : goal.shape_of-items-then-verdict-ne0
+shape_of-items-then-verdict-ne0 c = c.clear_numbers.auto.0
+
+pub shape_of-counts-then-verdict-ne0 : goal.shape_of-counts-then-verdict-ne0
+shape_of-counts-then-verdict-ne0 c = c.clear_places.auto.0
+
+pub returns-then-verdict-ne0 : goal.returns-then-verdict-ne0
+returns-then-verdict-ne0 c =
+    let at = c.args in
+    let was = c.read_extract_table-verdict.ensures in
+    λ schema taken made.
+    let held = words-read schema _ made _ c.words_of-words.ensures in
+    refused-chosen _ _ (lent (goal.at.returns-then-verdict-ne0 c).After-struct_known-1) _ _ (was.answer _ held) (was.cells _ held) (paths-at (goal.at.returns-then-verdict-ne0 c).After-struct_known-1) at.place c.if-verdict-ne0.true _ c.refused.ensures _ _ _ _ c.clear_numbers.ensures c.clear_places.ensures
+
+pub select_under-requires : goal.select_under-requires
+select_under-requires c =
+    let pre = c.pre in
+    let was = c.read_extract_table-verdict.ensures in
+    let held = words-read _ _ pre.made _ c.words_of-words.ensures in
+    let rows = rows-read _ _ _ _ (was.answer _ held) (was.cells _ held) c.if-verdict-ne0.left in
+    (pre.shaped, pre.inside, rows-asked _ _ pre.read _ (lent (goal.at.select_under-requires c).After-struct_known-1) pre.equal _ _ rows)
+
+pub shape_of-numbers : goal.shape_of-numbers
+shape_of-numbers c = c.select_under.auto.1.1.1.1.1.1.1.1.0 ∙ c.read_extract_table-verdict.auto.1.1.0
+
+pub shape_of-names : goal.shape_of-names
+shape_of-names c = c.select_under.auto.1.1.1.1.1.1.1.1.1.0 ∙ c.read_extract_table-verdict.auto.1.1.1.0
+
+pub shape_of-parents : goal.shape_of-parents
+shape_of-parents c = c.select_under.auto.1.1.1.1.1.1.1.1.1.1.0 ∙ c.read_extract_table-verdict.auto.1.1.1.1.0
+
+pub shape_of-starts : goal.shape_of-starts
+shape_of-starts c = c.select_under.auto.1.1.1.1.1.1.1.1.1.1.1.0 ∙ c.read_extract_table-verdict.auto.1.1.1.1.1.0
+
+pub shape_of-lengths : goal.shape_of-lengths
+shape_of-lengths c = c.select_under.auto.1.1.1.1.1.1.1.1.1.1.1.1.0 ∙ c.read_extract_table-verdict.auto.1.1.1.1.1.1.0
+
+pub shape_of-decoded : goal.shape_of-decoded
+shape_of-decoded c = c.select_under.auto.1.1.1.1.1.1.1.1.1.1.1.1.1.0 ∙ c.read_extract_table-verdict.auto.1.1.1.1.1.1.1.0
+
+pub shape_of-items : goal.shape_of-items
+shape_of-items c = c.select_under.auto.1.1.1.1.1.1.1.1.1.1.1.1.1.1.0
+
+pub shape_of-counts : goal.shape_of-counts
+shape_of-counts c = c.select_under.auto.1.1.1.1.1.1.1.1.1.1.1.1.1.1.1.0
+
+pub returns : goal.returns
+returns c =
+    let at = c.args in
+    let was = c.read_extract_table-verdict.ensures in
+    λ schema taken made.
+    let held = words-read schema _ made _ c.words_of-words.ensures in
+    let rows = rows-read _ _ _ _ (was.answer _ held) (was.cells _ held) c.if-verdict-ne0.false in
+    chosen-exit _ _ taken _ (lent (goal.at.returns c).After-struct_known-1) c.pre.equal _ _ rows (paths-at (goal.at.returns c).After-struct_known-1) at.place _ _ _ _ _ _ c.select_under.ensures

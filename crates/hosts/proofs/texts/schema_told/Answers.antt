@@ -1,0 +1,17 @@
+-- `schema_told` meets its contract: by the cases of a judgement.
+use mathlib.Core.Path.{sym, ap, ◌∙◌}
+use Prim.Native.Nat.{ℕ}
+use borrow.Author.Rules.{rules}
+use Rattle.hosts.specs.declared.texts.Told.{Told}
+use Rattle.hosts.specs.texts.Texts.{told_of}
+use Rattle.schema.specs.Judging.{outcome_of}
+use Rattle.schema.specs.declared.Judgement.{Judgement}
+use Rattle.hosts.proofs.texts.schema_told.Goals as goal
+
+pub returns-in-Accepted : goal.returns-in-Accepted
+returns-in-Accepted c = sym (ap (λ (j : Judgement). told_of (outcome_of j)) c.in-Accepted.field-0.1)
+
+pub returns-in-Refused : goal.returns-in-Refused
+returns-in-Refused c =
+    ap (λ (n : ℕ). record { number = n; place = c.in-Refused.kind.0.1.0 }) c.number.ensures
+    ∙ sym (ap (λ (j : Judgement). told_of (outcome_of j)) c.in-Refused.kind.1)

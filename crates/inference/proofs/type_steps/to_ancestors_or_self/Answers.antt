@@ -1,0 +1,13 @@
+-- `inference::type_steps::to_ancestors_or_self` meets its contract.
+use borrow.Author.Rules.{rules}
+use Rattle.inference.specs.type_steps.Laws.{move-ancestor_or_self}
+use Rattle.names.specs.Sets.{set_in}
+use Rattle.inference.proofs.type_steps.to_ancestors_or_self.Goals as goal
+
+pub returns : goal.returns
+returns c = λ s k w.
+    let start = c.args in
+    let u = c.all_above-up in
+    let v = c.common_of-near in
+    let t = c.union_of-types in
+    move-ancestor_or_self s w (set_in s start.e.types) (set_in s start.e.context) (set_in s u.result) (set_in s v.result) (set_in s t.result) (set_in s c.cut_to-context.result) (u.ensures s k) (v.ensures s) (t.ensures s) (c.cut_to-context.ensures s k)

@@ -1,0 +1,6 @@
+-- `initial` meets its contract.
+use borrow.Author.Rules.{rules}
+use Rattle.journal_lexer.proofs.state.initial.Goals as goal
+
+pub returns : goal.returns
+returns c = rw c.empty-name.ensures

@@ -1,0 +1,6 @@
+-- `begun` meets its contract.
+use borrow.Author.Rules.{rules}
+use Rattle.journal_lexer.proofs.tags.begun.Goals as goal
+
+pub returns : goal.returns
+returns c = rw c.first-name.ensures

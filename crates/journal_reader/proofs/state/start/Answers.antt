@@ -1,0 +1,6 @@
+-- `start` meets its contract.
+use borrow.Author.Rules.{rules}
+use Rattle.journal_reader.proofs.state.start.Goals as goal
+
+pub returns : goal.returns
+returns c = rw (c.initial-lex.ensures, c.initial-build.ensures)

@@ -1,0 +1,22 @@
+use mathlib.Core.Path.{refl, sym}
+use Prim.Native.Nat.{◌-◌}
+use native.Mathlib.Omega.{arith}
+use borrow.Author.Rules.{rules}
+use lib.ListN.{length}
+use Rattle.cells.specs.row_sets.Columns.{marks, marks-length}
+use Rattle.cells.specs.row_sets.Loops.{Forward, forward-none, forward-all}
+use Rattle.kept_rows.specs.Kept.{in_set, code_count, codes-next}
+use Rattle.kept_rows.proofs.code_marks.Goals as goal
+
+pub loop-c-init : goal.loop-c-init
+loop-c-init c = forward-none _ _
+
+pub loop-c-preserved : goal.loop-c-preserved
+loop-c-preserved c =
+    let at = c.loop-c in
+    codes-next _ _ at.c at.table _ _ (omega arith) at.invariant c.mark_of.ensures c.has.ensures refl
+
+pub returns : goal.returns
+returns c =
+    let at = c.loop-c in
+    forward-all _ _ at.c at.table (sym (marks-length code_count _)) at.invariant (omega (arith, at.invariant.size))

@@ -1,0 +1,34 @@
+use mathlib.Core.Path.{◌≡◌}
+use Prim.Native.Nat.{◌-◌}
+use native.Mathlib.Omega.{arith}
+use borrow.Author.Rules.{rules}
+use lib.ListN.{length}
+use Rattle.listing.specs.Prints.{header-fits, new-long, same-long, row-pass, row_fits_lem, taken}
+use Rattle.listing.proofs.print_rows.Goals as goal
+
+pub slice_bounds-line-end : goal.slice_bounds-line-end
+slice_bounds-line-end c =
+    header-fits c.args.listed.selected c.args.listed.kept c.args.listed.rows _ _ c.put_header-size.ensures
+
+pub slice_bounds-write_all-end : goal.slice_bounds-write_all-end
+slice_bounds-write_all-end c =
+    taken _ _ (header-fits c.args.listed.selected c.args.listed.kept c.args.listed.rows _ _ c.put_header-size.ensures)
+
+pub loop-r-init : goal.loop-r-init
+loop-r-init c = new-long _ _ _ c.put_header-size.ensures
+
+pub put_row-n-requires : goal.put_row-n-requires
+put_row-n-requires c =
+    row-pass _ _ _ _ _ c.args.listed c.pre _ (omega arith) _ c.loop-r.invariant
+
+pub slice_bounds-line-end-in-loop-r : goal.slice_bounds-line-end-in-loop-r
+slice_bounds-line-end-in-loop-r c =
+    row_fits_lem _ _ _ _ _ c.args.listed c.pre _ (omega arith) _ _ _ c.loop-r.invariant c.put_row-n.ensures
+
+pub slice_bounds-write_all-end-in-loop-r : goal.slice_bounds-write_all-end-in-loop-r
+slice_bounds-write_all-end-in-loop-r c =
+    taken _ _ (row_fits_lem _ _ _ _ _ c.args.listed c.pre _ (omega arith) _ _ _ c.loop-r.invariant c.put_row-n.ensures)
+
+pub loop-r-preserved : goal.loop-r-preserved
+loop-r-preserved c =
+    same-long _ _ _ _ c.loop-r.invariant c.put_row-n.ensures

@@ -1,0 +1,40 @@
+-- `list_rows` meets its contract: the needed names, the rows kept, the first paths, the names.
+use mathlib.Core.Path.{refl, sym, ◌∙◌}
+use borrow.Author.Rules.{rules}
+use Rattle.compiled_schema.specs.Places.{compiled-few}
+use Rattle.listing_files.specs.contents.Files.{names-all}
+use Rattle.listing_files.proofs.list_rows.Goals.{After-note_paths-arg-1}
+use Rattle.listing_files.proofs.list_rows.Goals as goal
+
+pub needed_under-set-requires : goal.needed_under-set-requires
+needed_under-set-requires c =
+    (c.pre.0.shaped, compiled-few _ _ c.pre.0.compiled)
+
+pub kept_count-kept-requires : goal.kept_count-kept-requires
+kept_count-kept-requires c =
+    record { columns = c.pre.0.kept; listed = c.pre.0.listed }
+
+pub note_paths-requires : goal.note_paths-requires
+note_paths-requires c =
+    let pre = c.pre.0 in
+    (record { shaped = pre.shaped; columns = pre.columns; cells = pre.cells; listed = pre.listed }, c.pre.1)
+
+pub slice_bounds-name_sizes-end : goal.slice_bounds-name_sizes-end
+slice_bounds-name_sizes-end c = sym (names-all _ _ c.requires.0.compiled)
+
+pub name_sizes-requires : goal.name_sizes-requires
+name_sizes-requires c = names-all _ _ c.requires.0.compiled
+
+pub returns : goal.returns
+returns c =
+    record {
+      accepted = refl;
+      rows_are = refl;
+      selected-is = c.selected_count-selected.ensures;
+      set = c.needed_under-set.result;
+      set-needed = c.needed_under-set.ensures;
+      kept-is = c.kept_count-kept.ensures;
+      (goal.at.returns c).After-note_paths-arg-1 = c.note_paths.ensures;
+      names-are = refl;
+      sizes-are = c.name_sizes.ensures;
+    }

@@ -1,0 +1,27 @@
+use mathlib.Core.List.{List}
+use mathlib.Core.Path.{subst}
+use Prim.Native.Nat.{ℕ}
+use native.Mathlib.Omega.{arith}
+use borrow.Author.Rules.{rules}
+use Rattle.cells.specs.written_text.Written.{WrittenAt, written_then}
+use Rattle.listing_text.specs.headers.Headers.{header-written}
+use Rattle.listing_text.proofs.headers.put_header.Goals as goal
+
+pub put_number-second-requires : goal.put_number-second-requires
+put_number-second-requires c =
+    let first = c.put_number-first.ensures in
+    omega (arith, first.low, first.long)
+
+pub put_number-third-requires : goal.put_number-third-requires
+put_number-third-requires c =
+    let first = c.put_number-first.ensures in
+    omega (arith, c.put_number-second.ensures.low, c.put_number-second.ensures.long, first.low, first.long)
+
+pub put_text-requires : goal.put_text-requires
+put_text-requires c =
+    let first = c.put_number-first.ensures in
+    omega (arith, c.put_number-third.ensures.low, c.put_number-third.ensures.long, c.put_number-second.ensures.low, c.put_number-second.ensures.long, first.low, first.long)
+
+pub returns : goal.returns
+returns c =
+    header-written c.put_number-first.ensures c.put_number-second.ensures c.put_number-third.ensures c.put_text.ensures

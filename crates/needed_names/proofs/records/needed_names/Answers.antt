@@ -1,0 +1,48 @@
+-- `needed_names` meets its contract: the records, and then what their texts need.
+use mathlib.Core.Path.{◌≡◌, sym, ◌∙◌}
+use Prim.Native.Nat.{◌≤◌}
+use native.Mathlib.Omega.{arith}
+use borrow.Author.Rules.{rules}
+use borrow.Author.Tests.{not-true, not-false}
+use lib.ListN.{length}
+use lib.Seq.{length-take-le}
+use Rattle.bundle.specs.records.Records.{schema-size, bundle-size}
+use Rattle.needed_names.specs.records.Records.{not-records, both-records}
+use Rattle.text_spec.specs.Limits.{max_schema_bytes, max_bundle_bytes}
+use Rattle.needed_names.proofs.records.needed_names.Goals.{Else-not-is_bundle_record}
+use Rattle.needed_names.proofs.records.needed_names.Goals as goal
+
+-- both records pass their test, so that their texts are not too long
+schema-inside : (c : Else-not-is_bundle_record) → c.args.schema.len ≤ length c.args.schema.bytes
+schema-inside c = 
+    let at = c.args in
+    let room : length at.schema.bytes ≡ max_schema_bytes = search rules in
+    omega (arith, schema-size at.schema.bytes at.schema.len at.bundle.bytes at.bundle.len (sym c.is_bundle_record.ensures ∙ not-false _ c.if-not-is_bundle_record.false-raw))
+
+bundle-inside : (c : Else-not-is_bundle_record) → c.args.bundle.len ≤ length c.args.bundle.bytes
+bundle-inside c = 
+    let at = c.args in
+    let room : length at.bundle.bytes ≡ max_bundle_bytes = search rules in
+    omega (arith, bundle-size at.schema.bytes at.schema.len at.bundle.bytes at.bundle.len (sym c.is_bundle_record.ensures ∙ not-false _ c.if-not-is_bundle_record.false-raw))
+
+pub returns-then-not-is_bundle_record : goal.returns-then-not-is_bundle_record
+returns-then-not-is_bundle_record c =
+    let at = c.args in
+    not-records at.schema.bytes at.schema.len at.bundle.bytes at.bundle.len (sym c.is_bundle_record.ensures ∙ not-true _ c.if-not-is_bundle_record.true-raw)
+
+pub slice_bounds-bytes-end : goal.slice_bounds-bytes-end
+slice_bounds-bytes-end c = schema-inside (goal.at.slice_bounds-bytes-end c).Else-not-is_bundle_record
+
+pub slice_bounds-needed_by_texts-end : goal.slice_bounds-needed_by_texts-end
+slice_bounds-needed_by_texts-end c = sym (length-take-le _ _ (schema-inside (goal.at.slice_bounds-needed_by_texts-end c).Else-not-is_bundle_record))
+
+pub slice_bounds-cells-end : goal.slice_bounds-cells-end
+slice_bounds-cells-end c = bundle-inside (goal.at.slice_bounds-cells-end c).Else-not-is_bundle_record
+
+pub slice_bounds-needed_by_texts-end-2 : goal.slice_bounds-needed_by_texts-end-2
+slice_bounds-needed_by_texts-end-2 c = sym (length-take-le _ _ (bundle-inside (goal.at.slice_bounds-needed_by_texts-end-2 c).Else-not-is_bundle_record))
+
+pub returns : goal.returns
+returns c =
+    let at = c.args in
+    both-records at.schema.bytes at.schema.len at.bundle.bytes at.bundle.len (sym c.is_bundle_record.ensures ∙ not-false _ c.if-not-is_bundle_record.false-raw) _ c.needed_by_texts.ensures

@@ -1,0 +1,7 @@
+-- `read_schema` meets its contract: the answer, and the record that it hands back.
+use borrow.Author.Rules.{rules}
+use Rattle.schema_reader.proofs.Records.{read_as}
+use Rattle.schema_reader.proofs.read_schema.Goals as goal
+
+pub returns : goal.returns
+returns c = rw c.handed_back-schema.ensures (read_as c.args.text.now _ _ c.judge_schema-judgement.ensures c.recorded.ensures)

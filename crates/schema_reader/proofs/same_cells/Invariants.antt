@@ -1,0 +1,15 @@
+-- `same_cells` meets its contract: the first i bytes are the same.
+use mathlib.Core.Path.{◌≡◌, refl, sym, ◌∙◌}
+use Prim.Native.Nat.{◌-◌, ◌≤◌}
+use native.Mathlib.Omega.{arith}
+use borrow.Author.Rules.{rules}
+use lib.ListN.{length, drop}
+use Rattle.schema_reader.proofs.Rereading.{cells-sizes, cells-ended, cells-differ, cells-next}
+use Rattle.text_spec.specs.Lists.{same_bytes}
+use Rattle.schema_reader.proofs.same_cells.Given as goal
+
+abbrev pub invariant-loop-i : goal.invariant-loop-i
+invariant-loop-i l = (l.i ≤ length l.a) × (same_bytes l.a l.b ≡ same_bytes (drop l.i l.a) (drop l.i l.b))
+
+abbrev pub decreases-loop-i : goal.decreases-loop-i
+decreases-loop-i l = length l.a - l.i

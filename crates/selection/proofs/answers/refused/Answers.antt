@@ -1,0 +1,13 @@
+-- `refused` meets its contract: both outputs are cleared.
+use mathlib.Core.Path.{refl}
+use borrow.Author.Rules.{rules}
+use Rattle.cells.specs.lent.Cells.{all-cleared}
+use Rattle.selection.proofs.answers.refused.Goals as goal
+
+pub returns : goal.returns
+returns c =
+    record {
+      answer = refl;
+      items-are = all-cleared _ _ c.clear_numbers.ensures;
+      counts-are = all-cleared _ _ c.clear_places.ensures;
+    }

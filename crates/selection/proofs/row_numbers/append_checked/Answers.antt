@@ -1,0 +1,31 @@
+use Prim.Native.Nat.{◌-◌}
+use native.Mathlib.Omega.{arith}
+use borrow.Author.Rules.{rules}
+use lib.ListN.{length}
+use Rattle.selection.specs.row_numbers.Cells.{Appending, appending-none, appending-next, appending-all, mark-small}
+use Rattle.selection.proofs.row_numbers.append_checked.Goals as goal
+
+pub loop-r-init : goal.loop-r-init
+loop-r-init c = appending-none _ _ _ _
+
+pub offset_bounds-numbers-r : goal.offset_bounds-numbers-r
+offset_bounds-numbers-r c = omega (arith, c.pre.size)
+
+pub bounds-numbers-r : goal.bounds-numbers-r
+bounds-numbers-r c = omega (arith, c.pre.size)
+
+pub overflow_cast-n : goal.overflow_cast-n
+overflow_cast-n c = omega (arith, mark-small _ c.pre.marked c.loop-r.r (omega arith))
+
+pub overflow_add-n : goal.overflow_add-n
+overflow_add-n c = omega (arith, mark-small _ c.pre.marked c.loop-r.r (omega arith), c.loop-r.invariant.few, c.pre.few, c.pre.low)
+
+pub loop-r-preserved : goal.loop-r-preserved
+loop-r-preserved c =
+    let at = c.loop-r in
+    appending-next _ _ _ _ c.pre at.r at.n at.out at.invariant (omega arith) _ c.put.ensures
+
+pub returns : goal.returns
+returns c =
+    let at = c.loop-r in
+    appending-all _ _ _ _ at.r at.n at.out at.invariant (omega arith)

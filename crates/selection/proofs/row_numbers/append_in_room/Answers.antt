@@ -1,0 +1,42 @@
+use Prim.Native.Nat.{◌-◌}
+use native.Mathlib.Omega.{arith}
+use borrow.Author.Rules.{rules}
+use lib.ListN.{length}
+use Rattle.cells.specs.lent.Appended.{written_in}
+use Rattle.selection.specs.row_numbers.Cells.{Appending, appending-none, appending-next, appending-all, mark-small}
+use Rattle.selection.proofs.row_numbers.append_in_room.Goals as goal
+
+pub loop-r-init : goal.loop-r-init
+loop-r-init c = appending-none _ _ _ _
+
+pub offset_bounds-numbers-r : goal.offset_bounds-numbers-r
+offset_bounds-numbers-r c = omega (arith, c.pre.pass.size)
+
+pub bounds-numbers-r : goal.bounds-numbers-r
+bounds-numbers-r c = omega (arith, c.pre.pass.size)
+
+pub offset_bounds-out-n : goal.offset_bounds-out-n
+offset_bounds-out-n c =
+    omega (arith, c.loop-r.invariant.few, c.loop-r.invariant.so_far.long, c.requires.room)
+
+pub bounds-out-n : goal.bounds-out-n
+bounds-out-n c =
+    omega (arith, c.loop-r.invariant.few, c.loop-r.invariant.so_far.long, c.requires.room)
+
+pub overflow_cast-n : goal.overflow_cast-n
+overflow_cast-n c = omega (arith, mark-small _ c.pre.pass.marked c.loop-r.r (omega arith))
+
+pub overflow_add-n : goal.overflow_add-n
+overflow_add-n c =
+    omega (arith, mark-small _ c.pre.pass.marked c.loop-r.r (omega arith), c.loop-r.invariant.few, c.pre.pass.few, c.pre.pass.low)
+
+pub loop-r-preserved : goal.loop-r-preserved
+loop-r-preserved c =
+    let at = c.loop-r in
+    appending-next _ _ _ _ c.pre.pass at.r at.n at.out at.invariant (omega arith) _
+    (written_in at.out at.n _ (omega (arith, at.invariant.few, at.invariant.so_far.long, c.pre.room)))
+
+pub returns : goal.returns
+returns c =
+    let at = c.loop-r in
+    appending-all _ _ _ _ at.r at.n at.out at.invariant (omega arith)

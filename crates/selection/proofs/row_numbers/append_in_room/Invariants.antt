@@ -1,0 +1,13 @@
+use Prim.Native.Nat.{◌-◌}
+use native.Mathlib.Omega.{arith}
+use borrow.Author.Rules.{rules}
+use lib.ListN.{length}
+use Rattle.cells.specs.lent.Appended.{written_in}
+use Rattle.selection.specs.row_numbers.Cells.{Appending, appending-none, appending-next, appending-all, mark-small}
+use Rattle.selection.proofs.row_numbers.append_in_room.Given as goal
+
+abbrev pub invariant-loop-r : goal.invariant-loop-r
+invariant-loop-r l = Appending l.marks l.numbers l.initial.out l.at l.r l.n l.out
+
+abbrev pub decreases-loop-r : goal.decreases-loop-r
+decreases-loop-r l = length l.marks - l.r

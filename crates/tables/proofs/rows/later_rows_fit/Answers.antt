@@ -1,0 +1,64 @@
+-- `later_rows_fit` meets its contract. The outer invariant: the pass from this row on is the whole pass; the inner one: the climb from this row on is the whole climb.
+use mathlib.Core.Logic.{⊎_elim}
+use mathlib.Core.Path.{refl, sym, ◌∙◌}
+use Prim.Native.Nat.{◌-◌}
+use native.Mathlib.Omega.{arith}
+use borrow.Author.Rules.{rules}
+use borrow.Author.Tests.{not-true, not-false}
+use Rattle.table_spec.specs.Columns.{Columns, columns}
+use Rattle.tables.proofs.rows.Turns.{Rows, Climbing, row-lent, rows-first, climb-first, climb-next, rows-past, rows-fail, rows-text, rows-element, rows-done}
+use Rattle.tables.proofs.rows.later_rows_fit.Goals.{Start}
+use Rattle.tables.proofs.rows.later_rows_fit.Goals as goal
+
+abbrev lent : Start → Columns
+lent c = columns c.args.numbers.now c.args.codes.now c.args.parents.now c.args.starts.now c.args.lengths.now c.args.decoded.now
+
+pub rows-init : goal.rows-init
+rows-init c =
+    rows-first c.args.words.now (lent (goal.at.rows-init c).Start) c.args.count c.pre.1
+
+pub overflow_cast-parent : goal.overflow_cast-parent
+overflow_cast-parent c = omega (arith, c.type_inv.parents c.rows.row)
+
+pub loop-element-init : goal.loop-element-init
+loop-element-init c =
+    climb-first c.args.words.now (lent (goal.at.loop-element-init c).Start) c.args.count c.rows.element c.rows.depth c.rows.row _ c.rows.invariant
+
+pub overflow_cast-element : goal.overflow_cast-element
+overflow_cast-element c = omega (arith, c.type_inv.parents c.loop-element.element)
+
+pub loop-element-preserved : goal.loop-element-preserved
+loop-element-preserved c =
+    climb-next c.args.words.now (lent (goal.at.loop-element-preserved c).Start) c.args.count c.rows.element c.rows.depth c.rows.row _ c.loop-element.element c.loop-element.depth c.rows.invariant c.loop-element.invariant
+    c.loop-element-test.true c.if-depth-eq1.false
+
+pub row_fits-requires : goal.row_fits-requires
+row_fits-requires c =
+    let more = c.rows-test.true in (
+      row-lent (lent (goal.at.row_fits-requires c).Start) c.args.count c.rows.row _ _ _ c.loop-element.element c.loop-element.depth c.pre.0 c.rows.invariant.later more c.loop-element.invariant,
+      c.loop-element.invariant.shallow,
+    )
+
+pub rows-preserved : goal.rows-preserved
+rows-preserved c =
+    let r = c.rows.invariant in
+    let k = c.loop-element.invariant in
+    let here = c.loop-element-test.false in
+    let fits = sym c.row_fits.ensures ∙ not-false _ c.if-not-row_fits.false-raw in
+    let more = c.rows-test.true in
+    let text = sym c.is_text.ensures in
+    ⊎_elim
+    (λ w.
+    rw (w.1, w.2) (rows-element c.args.words.now (lent (goal.at.rows-preserved c).Start) c.args.count c.rows.element c.rows.depth c.rows.row _ c.loop-element.element c.loop-element.depth refl more r k here fits (text ∙ not-true _ w.0.taken)))
+    (λ w.
+    rw (w.1, w.2) (rows-text c.args.words.now (lent (goal.at.rows-preserved c).Start) c.args.count c.rows.element c.rows.depth c.rows.row _ c.loop-element.element c.loop-element.depth refl more r k here fits (text ∙ not-false _ w.0.left)))
+    c.if-not-is_text.branch
+
+pub returns : goal.returns
+returns c =
+    let r = c.rows.invariant in
+    ⊎_elim (λ w. rows-done c.args.words.now (lent (goal.at.returns c).Start) c.args.count _ _ _ r w.0.left)
+    (λ w.
+    ⊎_elim (λ v. rows-past c.args.words.now (lent (goal.at.returns c).Start) c.args.count _ _ _ _ _ _ refl v.0.taken r v.2.invariant v.3.taken v.4.taken)
+    (λ v. rows-fail c.args.words.now (lent (goal.at.returns c).Start) c.args.count _ _ _ _ _ _ refl v.0.taken r v.2.invariant v.3.left (sym v.4.ensures ∙ not-true _ v.5.taken))
+    w) c.rows-test.branch

@@ -1,0 +1,22 @@
+-- `later_rows_fit` meets its contract. The outer invariant: the pass from this row on is the whole pass; the inner one: the climb from this row on is the whole climb.
+use mathlib.Core.Logic.{⊎_elim}
+use mathlib.Core.Path.{refl, sym, ◌∙◌}
+use Prim.Native.Nat.{◌-◌}
+use native.Mathlib.Omega.{arith}
+use borrow.Author.Rules.{rules}
+use borrow.Author.Tests.{not-true, not-false}
+use Rattle.table_spec.specs.Columns.{Columns, columns}
+use Rattle.tables.proofs.rows.Turns.{Rows, Climbing, row-lent, rows-first, climb-first, climb-next, rows-past, rows-fail, rows-text, rows-element, rows-done}
+use Rattle.tables.proofs.rows.later_rows_fit.Given as goal
+
+abbrev pub invariant-loop-element : goal.invariant-loop-element
+invariant-loop-element l = Climbing (columns l.numbers l.codes l.parents l.starts l.lengths l.decoded) l.row l.parent l.initial.element l.initial.depth l.element l.depth
+
+abbrev pub decreases-loop-element : goal.decreases-loop-element
+decreases-loop-element l = l.depth
+
+abbrev pub invariant-rows : goal.invariant-rows
+invariant-rows l = Rows l.words (columns l.numbers l.codes l.parents l.starts l.lengths l.decoded) l.count l.element l.depth l.row
+
+abbrev pub decreases-rows : goal.decreases-rows
+decreases-rows l = l.count - l.row

@@ -1,0 +1,8 @@
+-- `Name::empty` meets its contract.
+use borrow.Author.Rules.{rules}
+use Rattle.text.specs.name_words.Words.{words_of, with_bytes}
+use Rattle.text.proofs.name_words.Name.empty.Goals as goal
+
+pub returns : goal.returns
+unfolding words_of with_bytes
+returns c = search rules
