@@ -11,8 +11,8 @@ fill-filled-requires c =
 
 pub returns-then-lost-ne0 : goal.returns-then-lost-ne0
 returns-then-lost-ne0 c =
-    judge-lost c.pre.1 (map (name_at c.args.schema.now) c.args.names.now) c.fill-filled.ensures c.refused.ensures c.if-lost-ne0.true
+    judge-lost c.requires.1 (map (name_at c.args.schema.now) c.args.names.now) c.fill-filled.ensures c.refused.ensures c.if-lost-ne0.true
 
 pub returns : goal.returns
 returns c =
-    judge-known c.pre.1 (map (name_at c.args.schema.now) c.args.names.now) c.fill-filled.ensures (few-names c.args.schema.now c.args.names.now c.pre.0) c.if-lost-ne0.false
+    judge-known c.requires.1 (map (name_at c.args.schema.now) c.args.names.now) c.fill-filled.ensures (few-names c.args.schema.now c.args.names.now c.requires.0) c.if-lost-ne0.false

@@ -1,6 +1,6 @@
 -- Lent slices at both ends of a call, as a contract names them: what they hold at entry, and what they are left with at exit.
 use Rattle.std.specs.Prelude.{List, ◌≡◌, ℕ}
-use Rattle.std.specs.Borrow.{Bor}
+use Rattle.std.specs.Borrow.{MutBor}
 use denote.Triple.Both.{Both}
 use Rattle.library_spec.specs.Calls.{columns_after}
 use Rattle.table_spec.specs.Columns.{Columns, columns, Sizes, sizes_of}
@@ -9,7 +9,7 @@ use Rattle.text_spec.specs.Refusals.{Outcome}
 
 -- a slice of elements that a contract knows as values of A
 abbrev pub SliceOf : Type 0 → Type 0
-SliceOf A = Both (Bor (List A)) (Bor (List A))
+SliceOf A = Both (MutBor (List A)) (MutBor (List A))
 
 abbrev pub Slice : Type 0
 Slice = SliceOf ℕ
@@ -22,7 +22,7 @@ abbrev pub exit_columns : Slice → Slice → Slice → Slice → Slice → Slic
 exit_columns numbers names parents starts lengths decoded = columns numbers.exit.now names.exit.now parents.exit.now starts.exit.now lengths.exit.now decoded.exit.now
 
 -- the same, as a `requires` names them
-abbrev pub held_columns : Bor (List ℕ) → Bor (List ℕ) → Bor (List ℕ) → Bor (List ℕ) → Bor (List ℕ) → Bor (List ℕ) → Columns
+abbrev pub held_columns : MutBor (List ℕ) → MutBor (List ℕ) → MutBor (List ℕ) → MutBor (List ℕ) → MutBor (List ℕ) → MutBor (List ℕ) → Columns
 held_columns numbers names parents starts lengths decoded = columns numbers.now names.now parents.now starts.now lengths.now decoded.now
 
 -- how many cells each has

@@ -10,7 +10,7 @@ use Rattle.extract_reader.proofs.read_rows.Goals as goal
 
 pub loop-x-init : goal.loop-x-init
 loop-x-init c =
-    (stands-begun _ _ _ _ c.pre.0 c.pre.1 refl (search rules) _ c.begin-x.ensures, refl, refl, refl, refl, refl, refl)
+    (stands-begun _ _ _ _ c.requires.0 c.requires.1 refl (search rules) _ c.begin-x.ensures, refl, refl, refl, refl, refl, refl)
 
 pub read_row-next-requires : goal.read_row-next-requires
 read_row-next-requires c =

@@ -9,20 +9,20 @@ use Rattle.kept_rows.specs.Positions.{Numbering, numbered-none, numbering-begun,
 use Rattle.kept_rows.proofs.number_kept.Goals as goal
 
 pub returns-then-positions-eq0 : goal.returns-then-positions-eq0
-returns-then-positions-eq0 c = numbered-none _ _ _ _ c.pre c.if-positions-eq0.true
+returns-then-positions-eq0 c = numbered-none _ _ _ _ c.requires c.if-positions-eq0.true
 
 pub overflow_cast-n : goal.overflow_cast-n
 overflow_cast-n c = omega (arith, c.type_inv.names 0)
 
 pub bounds-table-names : goal.bounds-table-names
-bounds-table-names c = omega (arith, c.pre.columns.coded 0)
+bounds-table-names c = omega (arith, c.requires.columns.coded 0)
 
 pub overflow_cast-n-2 : goal.overflow_cast-n-2
-overflow_cast-n-2 c = omega (arith, code-mark-small _ _ _ c.code_marks-table.ensures (c.pre.columns.coded 0))
+overflow_cast-n-2 c = omega (arith, code-mark-small _ _ _ c.code_marks-table.ensures (c.requires.columns.coded 0))
 
 pub loop-r-init : goal.loop-r-init
 loop-r-init c =
-    let h = c.pre in
+    let h = c.requires in
     let e = table-marks _ _ c.code_marks-table.ensures in
     (omega arith, pass-first _ _ _ _ h, e, numbering-begun _ _ _ _ h _ e (omega arith))
 

@@ -19,15 +19,15 @@ loop-r-init c = new-long _ _ _ c.put_header-size.ensures
 
 pub put_row-n-requires : goal.put_row-n-requires
 put_row-n-requires c =
-    row-pass _ _ _ _ _ c.args.listed c.pre _ (omega arith) _ c.loop-r.invariant
+    row-pass _ _ _ _ _ c.args.listed c.requires _ (omega arith) _ c.loop-r.invariant
 
 pub slice_bounds-line-end-in-loop-r : goal.slice_bounds-line-end-in-loop-r
 slice_bounds-line-end-in-loop-r c =
-    row_fits_lem _ _ _ _ _ c.args.listed c.pre _ (omega arith) _ _ _ c.loop-r.invariant c.put_row-n.ensures
+    row_fits_lem _ _ _ _ _ c.args.listed c.requires _ (omega arith) _ _ _ c.loop-r.invariant c.put_row-n.ensures
 
 pub slice_bounds-write_all-end-in-loop-r : goal.slice_bounds-write_all-end-in-loop-r
 slice_bounds-write_all-end-in-loop-r c =
-    taken _ _ (row_fits_lem _ _ _ _ _ c.args.listed c.pre _ (omega arith) _ _ _ c.loop-r.invariant c.put_row-n.ensures)
+    taken _ _ (row_fits_lem _ _ _ _ _ c.args.listed c.requires _ (omega arith) _ _ _ c.loop-r.invariant c.put_row-n.ensures)
 
 pub loop-r-preserved : goal.loop-r-preserved
 loop-r-preserved c =

@@ -8,16 +8,16 @@ use Rattle.listing_files.proofs.list_rows.Goals as goal
 
 pub needed_under-set-requires : goal.needed_under-set-requires
 needed_under-set-requires c =
-    (c.pre.0.shaped, compiled-few _ _ c.pre.0.compiled)
+    (c.requires.0.shaped, compiled-few _ _ c.requires.0.compiled)
 
 pub kept_count-kept-requires : goal.kept_count-kept-requires
 kept_count-kept-requires c =
-    record { columns = c.pre.0.kept; listed = c.pre.0.listed }
+    record { columns = c.requires.0.kept; listed = c.requires.0.listed }
 
 pub note_paths-requires : goal.note_paths-requires
 note_paths-requires c =
-    let pre = c.pre.0 in
-    (record { shaped = pre.shaped; columns = pre.columns; cells = pre.cells; listed = pre.listed }, c.pre.1)
+    let pre = c.requires.0 in
+    (record { shaped = pre.shaped; columns = pre.columns; cells = pre.cells; listed = pre.listed }, c.requires.1)
 
 pub slice_bounds-name_sizes-end : goal.slice_bounds-name_sizes-end
 slice_bounds-name_sizes-end c = sym (names-all _ _ c.requires.0.compiled)

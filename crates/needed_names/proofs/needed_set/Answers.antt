@@ -16,7 +16,7 @@ paths_needed-whole-requires c =
     let tests : length c.args.tests.now ≡ all_steps = search rules in
     let conditions : length c.args.conditions.now ≡ written_steps + 1 = search rules in
     let paths : length c.args.paths.now ≡ max_paths + 1 = search rules in
-    shaped-paths _ c.pre.0 (record { axes-size = axes; tests-size = tests; conditions-size = conditions; paths-size = paths })
+    shaped-paths _ c.requires.0 (record { axes-size = axes; tests-size = tests; conditions-size = conditions; paths-size = paths })
 
 pub returns : goal.returns
 unfolding paths_in

@@ -7,10 +7,10 @@ use Rattle.selection.specs.Steps.{StepsSoFar, steps-begun, steps-pass, steps_nex
 use Rattle.selection.proofs.steps_from.Goals as goal
 
 pub overflow_add-end : goal.overflow_add-end
-overflow_add-end c = omega (arith, c.pre.0.inside)
+overflow_add-end c = omega (arith, c.requires.0.inside)
 
 pub loop-k-init : goal.loop-k-init
-loop-k-init c = steps-begun _ _ _ _ _ _ _ _ _ _ _ c.pre.0
+loop-k-init c = steps-begun _ _ _ _ _ _ _ _ _ _ _ c.requires.0
 
 pub returns-then-not-any_marked : goal.returns-then-not-any_marked
 returns-then-not-any_marked c =
@@ -21,7 +21,7 @@ returns-then-not-any_marked c =
 pub step-requires : goal.step-requires
 step-requires c =
     let at = c.loop-k in
-    (steps-pass _ _ _ _ _ _ _ _ at.k at.marks at.held at.steps at.next at.invariant _ _ _ c.pre.0 (omega arith), c.pre.1)
+    (steps-pass _ _ _ _ _ _ _ _ at.k at.marks at.held at.steps at.next at.invariant _ _ _ c.requires.0 (omega arith), c.requires.1)
 
 pub loop-k-preserved : goal.loop-k-preserved
 loop-k-preserved c =

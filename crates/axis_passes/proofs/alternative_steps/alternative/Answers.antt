@@ -5,22 +5,22 @@ use Rattle.axis_passes.specs.steps.Steps.{columns-same-length}
 use Rattle.axis_passes.proofs.alternative_steps.alternative.Goals as goal
 
 pub overflow_add-k : goal.overflow_add-k
-overflow_add-k c = omega (arith, c.pre.0.inside)
+overflow_add-k c = omega (arith, c.requires.0.inside)
 
 pub loop-k-init : goal.loop-k-init
 loop-k-init c =
-    steps-begun _ _ _ _ _ _ _ c.args.steps.now _ _ c.pre.0 c.fill.ensures
+    steps-begun _ _ _ _ _ _ _ c.args.steps.now _ _ c.requires.0 c.fill.ensures
 
 pub bounds-axes-k : goal.bounds-axes-k
-bounds-axes-k c = omega (arith, c.pre.0.inside, c.loop-k.invariant.high)
+bounds-axes-k c = omega (arith, c.requires.0.inside, c.loop-k.invariant.high)
 
 pub bounds-tests-k : goal.bounds-tests-k
 bounds-tests-k c =
-    omega (arith, c.pre.0.inside, c.loop-k.invariant.high)
+    omega (arith, c.requires.0.inside, c.loop-k.invariant.high)
 
 pub step_back-requires : goal.step_back-requires
 step_back-requires c =
-    steps-pass _ _ _ _ _ _ _ _ _ c.loop-k.invariant c.pre.0.table
+    steps-pass _ _ _ _ _ _ _ _ _ c.loop-k.invariant c.requires.0.table
 
 pub loop-k-preserved : goal.loop-k-preserved
 loop-k-preserved c =
@@ -31,7 +31,7 @@ loop-k-preserved c =
 pub unite-requires : goal.unite-requires
 unite-requires c =
     let at = c.loop-k in
-    columns-same-length (steps-column _ _ _ _ _ _ at.k at.steps at.next at.invariant) c.pre.0.column
+    columns-same-length (steps-column _ _ _ _ _ _ at.k at.steps at.next at.invariant) c.requires.0.column
 
 pub returns : goal.returns
 returns c =

@@ -5,21 +5,21 @@ use Rattle.axis_passes.specs.alternatives.Alternatives.{AlternativesSoFar, alter
 use Rattle.axis_passes.proofs.alternatives.condition.Goals as goal
 
 pub overflow_add-end : goal.overflow_add-end
-overflow_add-end c = omega (arith, c.pre.0.inside)
+overflow_add-end c = omega (arith, c.requires.0.inside)
 
 pub loop-k-init : goal.loop-k-init
 loop-k-init c =
-    alternatives-begun _ _ _ _ _ _ c.args.held.now _ _ _ c.pre.0 c.fill.ensures
+    alternatives-begun _ _ _ _ _ _ c.args.held.now _ _ _ c.requires.0 c.fill.ensures
 
 pub first_size-size-requires : goal.first_size-size-requires
-first_size-size-requires c = omega (arith, c.pre.0.inside)
+first_size-size-requires c = omega (arith, c.requires.0.inside)
 
 pub alternative-requires : goal.alternative-requires
 alternative-requires c =
     let at = c.loop-k in
     (
-      alternatives-pass _ _ _ _ _ _ at.k at.held at.steps at.next at.invariant _ c.first_size-size.ensures _ _ _ c.pre.0,
-      c.pre.1,
+      alternatives-pass _ _ _ _ _ _ at.k at.held at.steps at.next at.invariant _ c.first_size-size.ensures _ _ _ c.requires.0,
+      c.requires.1,
     )
 
 pub overflow_add-k : goal.overflow_add-k
@@ -27,7 +27,7 @@ overflow_add-k c =
     let at = c.loop-k in
     omega (
       arith,
-      c.pre.0.inside,
+      c.requires.0.inside,
       size_fits _ _ _ _ _ _ at.k at.held at.steps at.next at.invariant _ c.first_size-size.ensures,
     )
 

@@ -17,7 +17,7 @@ pub loop-r-preserved : goal.loop-r-preserved
 loop-r-preserved c =
     let at = c.loop-r in
     forward-next _ _ at.r at.out _ at.invariant (omega arith)
-    (at-root-row c.args.parents.now at.r _ (omega (arith, c.pre.room, at.invariant.size)) c.root_is.ensures)
+    (at-root-row c.args.parents.now at.r _ (omega (arith, c.requires.room, at.invariant.size)) c.root_is.ensures)
 
 pub bounds-out-0 : goal.bounds-out-0
 bounds-out-0 c =

@@ -8,12 +8,12 @@ use Rattle.axis_passes.proofs.siblings.following.Goals as goal
 
 pub following_siblings-requires : goal.following_siblings-requires
 following_siblings-requires c =
-    let h = c.pre in
+    let h = c.requires in
     next-pass _ _ h (image-column ancestor_or_self _ _) c.ancestors_or_self.ensures h.size
 
 pub descendants_or_self-requires : goal.descendants_or_self-requires
 descendants_or_self-requires c =
-    let h = c.pre in
+    let h = c.requires in
     next-pass _ _ h (following-column _ _) c.following_siblings.ensures (omega (arith, h.room))
 
 pub returns : goal.returns

@@ -8,12 +8,12 @@ use Rattle.axis_passes.proofs.siblings.preceding.Goals as goal
 
 pub preceding_siblings-requires : goal.preceding_siblings-requires
 preceding_siblings-requires c =
-    let h = c.pre in
+    let h = c.requires in
     next-pass _ _ h (image-column ancestor_or_self _ _) c.ancestors_or_self.ensures h.size
 
 pub descendants_or_self-requires : goal.descendants_or_self-requires
 descendants_or_self-requires c =
-    let h = c.pre in
+    let h = c.requires in
     next-pass _ _ h (preceding-column _ _) c.preceding_siblings.ensures (omega (arith, h.room))
 
 pub returns : goal.returns

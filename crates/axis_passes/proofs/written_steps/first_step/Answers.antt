@@ -5,13 +5,13 @@ use Rattle.axis_passes.proofs.written_steps.first_step.Goals as goal
 
 pub step_from_root-requires : goal.step_from_root-requires
 step_from_root-requires c =
-    first-pass _ _ c.args.axes.now c.args.tests.now _ _ _ _ _ _ c.pre.0
+    first-pass _ _ c.args.axes.now c.args.tests.now _ _ _ _ _ _ c.requires.0
 
 pub keep_at-requires : goal.keep_at-requires
 keep_at-requires c =
     (
-      first-kept _ _ c.args.axes.now c.args.tests.now _ _ _ _ _ _ c.pre.0 _ _ _ c.step_from_root.ensures (omega arith),
-      c.pre.1,
+      first-kept _ _ c.args.axes.now c.args.tests.now _ _ _ _ _ _ c.requires.0 _ _ _ c.step_from_root.ensures (omega arith),
+      c.requires.1,
     )
 
 pub returns : goal.returns

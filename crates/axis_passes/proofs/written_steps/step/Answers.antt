@@ -5,13 +5,13 @@ use Rattle.axis_passes.proofs.written_steps.step.Goals as goal
 
 pub step_forward-requires : goal.step_forward-requires
 step_forward-requires c =
-    step-pass _ _ c.args.axes.now c.args.tests.now _ _ _ _ _ _ c.pre.0
+    step-pass _ _ c.args.axes.now c.args.tests.now _ _ _ _ _ _ c.requires.0
 
 pub keep_at-requires : goal.keep_at-requires
 keep_at-requires c =
     (
-      step_kept _ _ c.args.axes.now c.args.tests.now _ _ _ _ _ _ c.pre.0 _ _ _ c.step_forward.ensures (omega arith),
-      c.pre.1,
+      step_kept _ _ c.args.axes.now c.args.tests.now _ _ _ _ _ _ c.requires.0 _ _ _ c.step_forward.ensures (omega arith),
+      c.requires.1,
     )
 
 pub returns : goal.returns

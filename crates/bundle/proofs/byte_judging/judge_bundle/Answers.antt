@@ -19,4 +19,4 @@ returns-then-foreign-text c =
 
 pub judge_paths-requires : goal.judge_paths-requires
 judge_paths-requires c =
-    (c.pre, readable (map (name_at c.args.schema.now) c.args.names.now) c.args.text.now c.if-text-eq0.false c.if-text-gt-MAX_BYTES.false c.first_foreign-foreign.ensures c.if-foreign-text.false)
+    (c.requires, readable (map (name_at c.args.schema.now) c.args.names.now) c.args.text.now c.if-text-eq0.false c.if-text-gt-MAX_BYTES.false c.first_foreign-foreign.ensures c.if-foreign-text.false)

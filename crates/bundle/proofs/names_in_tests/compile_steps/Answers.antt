@@ -17,19 +17,19 @@ loop-i-init c =
 
 pub overflow_add-k : goal.overflow_add-k
 overflow_add-k c =
-    let room = c.pre.1 in
+    let room = c.requires.1 in
     omega arith
 
 pub bounds-axes-k : goal.bounds-axes-k
 bounds-axes-k c =
-    let room = c.pre.1 in
+    let room = c.requires.1 in
     let z = (compiled-sizes c.loop-i.invariant.1).0 in
     omega arith
 
 pub bounds-tests-k : goal.bounds-tests-k
 bounds-tests-k c =
-    let room = c.pre.1 in
-    let same = c.pre.2 in
+    let room = c.requires.1 in
+    let same = c.requires.2 in
     let z = (compiled-sizes c.loop-i.invariant.1).1 in
     omega arith
 

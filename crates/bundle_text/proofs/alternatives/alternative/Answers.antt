@@ -27,7 +27,7 @@ pub overflow_add-count : goal.overflow_add-count
 overflow_add-count c =
     let f = c.loop-j.invariant.few in
     let h = c.loop-j.invariant.high in
-    let l = c.pre.1 in
+    let l = c.requires.1 in
     search rules
 
 pub shape_of-cells-then-not-stands : goal.shape_of-cells-then-not-stands
@@ -42,7 +42,7 @@ returns-then-not-stands c =
 pub overflow_add-i : goal.overflow_add-i
 overflow_add-i c =
     let h = (up-to-place c.loop-j.invariant c.plain_step.ensures c.in-Past.c.1).1 in
-    let l = c.pre.1 in
+    let l = c.requires.1 in
     search rules
 
 pub loop-j-smaller : goal.loop-j-smaller

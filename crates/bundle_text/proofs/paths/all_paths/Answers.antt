@@ -60,14 +60,14 @@ overflow_sub-end-in-Past c =
 pub over_limit-over-requires : goal.over_limit-over-requires
 over_limit-over-requires c =
     let h = c.loop-i.invariant.high in
-    let l = c.pre.1 in
+    let l = c.requires.1 in
     omega arith
 
 pub overflow_add-d : goal.overflow_add-d
 overflow_add-d c =
     let f = c.loop-i.invariant.few in
     let h = c.loop-i.invariant.high in
-    let l = c.pre.1 in
+    let l = c.requires.1 in
     search rules
 
 pub loop-i-smaller : goal.loop-i-smaller
@@ -99,4 +99,4 @@ pub shape_of-ways : goal.shape_of-ways
 shape_of-ways c = let l = (sizes (goal.at.shape_of-ways c).At-loop-i).4 in search rules
 
 pub returns : goal.returns
-returns c = upto-whole c.loop-i.invariant c.loop-i-test.false c.pre.0
+returns c = upto-whole c.loop-i.invariant c.loop-i-test.false c.requires.0

@@ -7,14 +7,14 @@ use Rattle.bundle_text.proofs.steps.call.Goals as goal
 
 pub returns-then-find-eq0 : goal.returns-then-find-eq0
 returns-then-find-eq0 c =
-    call-node _ _ _ c.pre.0 c.pre.1 (sought-found (bytes "node") c.args.s.now c.args.p refl c.find.ensures c.if-find-eq0.true) c.close.ensures
+    call-node _ _ _ c.requires.0 c.requires.1 (sought-found (bytes "node") c.args.s.now c.args.p refl c.find.ensures c.if-find-eq0.true) c.close.ensures
 
 pub returns-then-find-eq0-2 : goal.returns-then-find-eq0-2
 returns-then-find-eq0-2 c =
-    call-text _ _ _ c.pre.0 c.pre.1 (sought-found (bytes "text") c.args.s.now c.args.p refl c.find-2.ensures c.if-find-eq0-2.true) c.close-then-find-eq0-2.ensures
+    call-text _ _ _ c.requires.0 c.requires.1 (sought-found (bytes "text") c.args.s.now c.args.p refl c.find-2.ensures c.if-find-eq0-2.true) c.close-then-find-eq0-2.ensures
 
 pub returns : goal.returns
 returns c =
-    call-not _ _ _ c.pre.0 c.pre.1
+    call-not _ _ _ c.requires.0 c.requires.1
     (sought-none (bytes "node") c.args.s.now c.args.p refl c.find.ensures c.if-find-eq0.left)
     (sought-none (bytes "text") c.args.s.now c.args.p refl c.find-2.ensures c.if-find-eq0-2.false)

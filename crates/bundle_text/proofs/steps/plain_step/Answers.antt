@@ -7,7 +7,7 @@ use Rattle.bundle_text.proofs.steps.plain_step.Goals as goal
 pub pack-requires : goal.pack-requires
 pack-requires c =
     let h = plain-test c.axis.ensures c.in-Past.axis.1 c.node_test.ensures c.in-Past-node_test.test.1 in
-    let l = c.pre.1 in
+    let l = c.requires.1 in
     (h.0, omega arith)
 
 pub returns-in-Fail : goal.returns-in-Fail

@@ -7,9 +7,9 @@ use Rattle.bundle_text.proofs.written_steps.brackets.Goals as goal
 pub condition-requires : goal.condition-requires
 condition-requires c =
     let h = (c.stands.ensures.here c.if-stands.taken).0 in
-    let l = c.pre.2 in
-    let g = c.pre.3 in
-    (omega arith, c.pre.1, omega arith, omega arith)
+    let l = c.requires.2 in
+    let g = c.requires.3 in
+    (omega arith, c.requires.1, omega arith, omega arith)
 
 pub returns-then-stands : goal.returns-then-stands
 returns-then-stands c =
@@ -17,4 +17,4 @@ returns-then-stands c =
 
 pub returns : goal.returns
 returns c =
-    brackets-none c.stands.ensures c.pre.0 c.pre.2 c.pre.3 c.if-stands.false
+    brackets-none c.stands.ensures c.requires.0 c.requires.2 c.requires.3 c.if-stands.false

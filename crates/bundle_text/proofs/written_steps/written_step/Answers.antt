@@ -12,9 +12,9 @@ pub brackets-requires : goal.brackets-requires
 brackets-requires c =
     let h = written-place c.plain_step.ensures c.in-Past.c.1 in
     let g = h.0 in
-    let l = c.pre.2 in
-    let m = c.pre.3 in
-    (h.1, c.pre.1, omega arith, omega arith)
+    let l = c.requires.2 in
+    let m = c.requires.3 in
+    (h.1, c.requires.1, omega arith, omega arith)
 
 pub returns-in-Fail : goal.returns-in-Fail
 returns-in-Fail c = written-fails c.plain_step.ensures c.in-Fail.j.1

@@ -13,7 +13,7 @@ slice_bounds-put_chain-end-4 c = sym (length-take-le _ _ c.requires.parented)
 
 pub put_chain-requires : goal.put_chain-requires
 put_chain-requires c =
-    sized-pass _ _ _ _ _ _ _ c.name_sizes.ensures c.pre
+    sized-pass _ _ _ _ _ _ _ c.name_sizes.ensures c.requires
 
 pub returns-in-Written : goal.returns-in-Written
 returns-in-Written c =

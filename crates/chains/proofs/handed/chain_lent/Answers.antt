@@ -32,11 +32,11 @@ returns-then-not-has_row c =
 
 pub chain_first-requires : goal.chain_first-requires
 chain_first-requires c =
-    may-be-chained (schema (goal.at.chain_first-requires c).After-is_table-held) (given (goal.at.chain_first-requires c).After-is_table-held) c.args.position 0 _ c.has_row.result (told (goal.at.chain_first-requires c).After-is_table-held) c.has_row.ensures c.if-not-has_row.false-raw c.args.text.now c.pre _ c.compile-compiled.ensures
+    may-be-chained (schema (goal.at.chain_first-requires c).After-is_table-held) (given (goal.at.chain_first-requires c).After-is_table-held) c.args.position 0 _ c.has_row.result (told (goal.at.chain_first-requires c).After-is_table-held) c.has_row.ensures c.if-not-has_row.false-raw c.args.text.now c.requires _ c.compile-compiled.ensures
 
 pub shape_of-out : goal.shape_of-out
 shape_of-out c = c.out-2-1.given
 
 pub returns : goal.returns
 returns c =
-    chain-answered (schema (goal.at.returns c).After-is_table-held) (given (goal.at.returns c).After-is_table-held) c.args.position (length c.args.out.now) _ c.has_row.result (told (goal.at.returns c).After-is_table-held) c.has_row.ensures c.if-not-has_row.false-raw c.args.text.now c.pre _ c.compile-compiled.ensures _ _ c.chain_first.ensures
+    chain-answered (schema (goal.at.returns c).After-is_table-held) (given (goal.at.returns c).After-is_table-held) c.args.position (length c.args.out.now) _ c.has_row.result (told (goal.at.returns c).After-is_table-held) c.has_row.ensures c.if-not-has_row.false-raw c.args.text.now c.requires _ c.compile-compiled.ensures _ _ c.chain_first.ensures

@@ -10,7 +10,7 @@ use Rattle.text_spec.specs.Limits.{max_declarations}
 use Rattle.compiled_schema.proofs.held_words.held_words.Goals as goal
 
 pub loop-i-init : goal.loop-i-init
-loop-i-init c = (omega arith, (search rules, passed_first (WordAt c.args.t1) 0 _))
+loop-i-init c = (omega arith, (search rules, passed_first (WordAt c.args.sets) 0 _))
 
 pub loop-i-preserved : goal.loop-i-preserved
 loop-i-preserved c =
@@ -18,7 +18,7 @@ loop-i-preserved c =
       omega arith,
       (
         length-set at.out at.i c.to_word.result ∙ at.invariant.1.0,
-        passed-next (WordAt c.args.t1) 0 _ at.i at.out c.to_word.result (omega arith) at.invariant.1.1 c.to_word.ensures,
+        passed-next (WordAt c.args.sets) 0 _ at.i at.out c.to_word.result (omega arith) at.invariant.1.1 c.to_word.ensures,
       ),
     )
 

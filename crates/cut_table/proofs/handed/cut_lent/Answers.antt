@@ -37,7 +37,7 @@ returns-then-not-may_cut c = λ s h.
 
 pub cut_first-requires : goal.cut_first-requires
 cut_first-requires c =
-    let some = c.pre in
+    let some = c.requires in
     may-be-cut some.schema (given (goal.at.cut_first-requires c).After-may_cut) (lent (goal.at.cut_first-requires c).After-may_cut) c.is_table-held.result c.may_cut.result (c.is_table-held.ensures some.schema some.sets.words) c.may_cut.ensures c.if-not-may_cut.left
 
 pub shape_of-out_numbers : goal.shape_of-out_numbers

@@ -38,4 +38,4 @@ shape_of-decoded c = c.put_row.auto.1.1.1.1.1.0
 
 pub returns-in-Row : goal.returns-in-Row
 returns-in-Row c =
-    row_on _ _ _ _ _ c.pre _ _ c.step.ensures _ _ c.in-Row.row.1 _ c.put_row.ensures _ refl
+    row_on _ _ _ _ _ c.requires _ _ c.step.ensures _ _ c.in-Row.row.1 _ c.put_row.ensures _ refl

@@ -17,7 +17,7 @@ lent c = columns c.args.numbers.now c.args.names.now c.args.parents.now c.args.s
 
 pub loop-r-init : goal.loop-r-init
 loop-r-init c =
-    (omega arith, c.pre, fields-none c.args.text.now (lent (goal.at.loop-r-init c).Start) c.args.marks.now c.args.out.now c.pre)
+    (omega arith, c.requires, fields-none c.args.text.now (lent (goal.at.loop-r-init c).Start) c.args.marks.now c.args.out.now c.requires)
 
 pub put_row-at-requires : goal.put_row-at-requires
 put_row-at-requires c =

@@ -40,7 +40,7 @@ shape_of-out-then-verdict-ne0 c = c.clear_bytes.auto.0
 
 pub returns-then-verdict-ne0 : goal.returns-then-verdict-ne0
 returns-then-verdict-ne0 c =
-    let taken = c.pre.read in
+    let taken = c.requires.read in
     let was = c.read_compiled-verdict.ensures in
     refused-made _ _ (lent (goal.at.returns-then-verdict-ne0 c).After-struct_known-1) _ _ (was.answer taken) (was.cells taken) _ c.if-verdict-ne0.true _ c.refused.ensures _ _ c.clear_bytes.ensures
 
@@ -74,7 +74,7 @@ shape_of-out c = c.write_under.auto.1.1.1.1.1.1.1.1.1.1.1.1.1.1.0
 
 pub returns : goal.returns
 returns c =
-    let pre = c.pre in
+    let pre = c.requires in
     let was = c.read_compiled-verdict.ensures in
     let rows = rows-read _ _ _ _ (was.answer pre.read) (was.cells pre.read) c.if-verdict-ne0.false in
     made-exit _ _ pre.read _ (lent (goal.at.returns c).After-struct_known-1) pre.equal _ _ rows _ pre.made _ _ _ _ _ c.write_under.ensures

@@ -52,7 +52,7 @@ returns-then-verdict-ne0 c =
 
 pub select_under-requires : goal.select_under-requires
 select_under-requires c =
-    let pre = c.pre in
+    let pre = c.requires in
     let was = c.read_extract_table-verdict.ensures in
     let held = words-read _ _ pre.made _ c.words_of-words.ensures in
     let rows = rows-read _ _ _ _ (was.answer _ held) (was.cells _ held) c.if-verdict-ne0.left in
@@ -89,4 +89,4 @@ returns c =
     λ schema taken made.
     let held = words-read schema _ made _ c.words_of-words.ensures in
     let rows = rows-read _ _ _ _ (was.answer _ held) (was.cells _ held) c.if-verdict-ne0.false in
-    chosen-exit _ _ taken _ (lent (goal.at.returns c).After-struct_known-1) c.pre.equal _ _ rows (paths-at (goal.at.returns c).After-struct_known-1) at.place _ _ _ _ _ _ c.select_under.ensures
+    chosen-exit _ _ taken _ (lent (goal.at.returns c).After-struct_known-1) c.requires.equal _ _ rows (paths-at (goal.at.returns c).After-struct_known-1) at.place _ _ _ _ _ _ c.select_under.ensures

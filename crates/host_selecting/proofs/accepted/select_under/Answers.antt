@@ -44,7 +44,7 @@ slice_bounds-select_table-end-12 c = sym (length-take-le _ _ c.requires.2.rooms.
 pub select_table-selected-requires : goal.select_table-selected-requires
 select_table-selected-requires c =
     let at = c.args in
-    let pre = c.pre in
+    let pre = c.requires in
     let rooms = pre.2.rooms in
     let held = columns at.numbers.now at.names.now at.parents.now at.starts.now at.lengths.now at.decoded.now in
     (pre.0, pre.1, pre.2.columns, taken-texts _ held _ rooms.parents rooms.starts rooms.lengths rooms.decoded)

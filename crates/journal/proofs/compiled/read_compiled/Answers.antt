@@ -6,17 +6,17 @@ pub all_words-words-requires : goal.all_words-words-requires
 all_words-words-requires c =
     let schema = c.args.schema.now in
     let compiled = c.args.compiled in
-    (compiled-short schema compiled c.pre.0, compiled-few schema compiled c.pre.0)
+    (compiled-short schema compiled c.requires.0, compiled-few schema compiled c.requires.0)
 
 pub all_hints-hints-requires : goal.all_hints-hints-requires
 all_hints-hints-requires c =
-    compiled-few c.args.schema.now c.args.compiled c.pre.0
+    compiled-few c.args.schema.now c.args.compiled c.requires.0
 
 pub read_table-requires : goal.read_table-requires
 read_table-requires c =
     let schema = c.args.schema.now in
     let compiled = c.args.compiled in
-    (compiled-sized schema compiled c.pre.0, compiled-few schema compiled c.pre.0, c.pre.1, c.pre.2)
+    (compiled-sized schema compiled c.requires.0, compiled-few schema compiled c.requires.0, c.requires.1, c.requires.2)
 
 pub shape_of-numbers : goal.shape_of-numbers
 shape_of-numbers c = c.numbers-1.given
@@ -38,4 +38,4 @@ shape_of-decoded c = c.decoded-1.given
 
 pub returns : goal.returns
 returns c =
-    compiled-read c.args.schema.now c.args.compiled c.pre.0 _ c.All-words.ensures c.read_table.ensures
+    compiled-read c.args.schema.now c.args.compiled c.requires.0 _ c.All-words.ensures c.read_table.ensures

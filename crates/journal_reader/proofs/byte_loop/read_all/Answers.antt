@@ -40,19 +40,19 @@ read_byte-next-requires c =
     let at = c.loop-at in
     let byte = (c.type_inv.text at.at).fits in (
       at.invariant.0.usable,
-      c.pre.3,
-      c.pre.4,
+      c.requires.3,
+      c.requires.4,
       record {
-        room = subst (λ (k : ℕ). k < no_place) (sym at.invariant.0.place) (lt_trans c.loop-at-test.taken c.pre.2);
+        room = subst (λ (k : ℕ). k < no_place) (sym at.invariant.0.place) (lt_trans c.loop-at-test.taken c.requires.2);
         lent = at.invariant.0.usable.lent;
         byte = byte;
-        kind = c.pre.1.kind (get_or c.args.text.now at.at 0) byte;
+        kind = c.requires.1.kind (get_or c.args.text.now at.at 0) byte;
       },
     )
 
 pub overflow_add-at : goal.overflow_add-at
 overflow_add-at c =
-    next_fits _ _ c.loop-at-test.taken c.pre.2
+    next_fits _ _ c.loop-at-test.taken c.requires.2
 
 pub loop-at-smaller : goal.loop-at-smaller
 loop-at-smaller c = falls _ _ c.loop-at-test.taken

@@ -10,8 +10,8 @@ ending-last-requires c =
 
 pub on_data_event-y-requires : goal.on_data_event-y-requires
 on_data_event-y-requires c =
-    let usable = c.pre.0 in
-    (usable.safe, few-nodes usable c.pre.1, c.ending-last.ensures.five, c.ending-last.ensures.event)
+    let usable = c.requires.0 in
+    (usable.safe, few-nodes usable c.requires.1, c.ending-last.ensures.five, c.ending-last.ensures.event)
 
 pub add_row-requires : goal.add_row-requires
 add_row-requires c = c.requires.0.equal
@@ -40,4 +40,4 @@ shape_of-decoded c = c.decoded-1.given
 pub returns : goal.returns
 returns c t =
     let found = c.found_key-key.ensures in
-    finished c.pre.1 c.ending-last.ensures (event-read (c.on_data_event-y.ensures t) c.add_row.ensures) found.0 found.1 found.2
+    finished c.requires.1 c.ending-last.ensures (event-read (c.on_data_event-y.ensures t) c.add_row.ensures) found.0 found.1 found.2

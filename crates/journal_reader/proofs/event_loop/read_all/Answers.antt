@@ -16,7 +16,7 @@ loop-x-init c = (no-event-read c.start-x.ensures c.requires.0, refl, refl, refl,
 
 pub read_on-next-requires : goal.read_on-next-requires
 read_on-next-requires c =
-    (c.loop-x.invariant.0.usable, c.pre.1, c.pre.2, c.loop-x-test.taken, c.pre.3, c.pre.4)
+    (c.loop-x.invariant.0.usable, c.requires.1, c.requires.2, c.loop-x-test.taken, c.requires.3, c.requires.4)
 
 pub loop-x-smaller : goal.loop-x-smaller
 loop-x-smaller c = fewer-left c.read_on-next.ensures
@@ -54,4 +54,4 @@ shape_of-decoded c = c.loop-x.invariant.6
 
 pub returns : goal.returns
 returns c =
-    events-all c.pre.2 c.loop-x.invariant.0 c.loop-x-test.false
+    events-all c.requires.2 c.loop-x.invariant.0 c.loop-x-test.false

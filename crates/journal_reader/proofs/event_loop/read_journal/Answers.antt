@@ -11,7 +11,7 @@ all_kinds-table-requires c = tt
 
 pub read_all-x-requires : goal.read_all-x-requires
 read_all-x-requires c =
-    (usable-first _ (search rules) c.pre.3, c.all_kinds-table.ensures, c.pre.0, c.pre.1, c.pre.2)
+    (usable-first _ (search rules) c.requires.3, c.all_kinds-table.ensures, c.requires.0, c.requires.1, c.requires.2)
 
 pub finish-requires : goal.finish-requires
 finish-requires c =

@@ -13,11 +13,11 @@ to_event-lex-requires c =
 
 pub read_event-build-requires : goal.read_event-build-requires
 read_event-build-requires c =
-    let usable = c.pre.0 in (
+    let usable = c.requires.0 in (
       usable.safe,
-      c.pre.4,
-      few-nodes usable (lt_trans c.pre.3 c.pre.2),
-      c.pre.5,
+      c.requires.4,
+      few-nodes usable (lt_trans c.requires.3 c.requires.2),
+      c.requires.5,
       c.to_event-lex.ensures.lent.five,
       usable.equal,
     )
@@ -42,4 +42,4 @@ shape_of-decoded c = c.decoded-1.given
 
 pub returns : goal.returns
 returns c =
-    read-on c.pre.0 c.to_event-lex.ensures c.read_event-build.ensures
+    read-on c.requires.0 c.to_event-lex.ensures c.read_event-build.ensures

@@ -8,11 +8,11 @@ step-lex-requires c = c.requires.3
 
 pub read_event-build-requires : goal.read_event-build-requires
 read_event-build-requires c =
-    let usable = c.pre.0 in (
+    let usable = c.requires.0 in (
       usable.safe,
-      c.pre.1,
-      few-nodes usable c.pre.3.room,
-      c.pre.2,
+      c.requires.1,
+      few-nodes usable c.requires.3.room,
+      c.requires.2,
       (c.step-lex.ensures.meant usable.valid.mode usable.valid.means).lent.five,
       usable.equal,
     )
@@ -37,4 +37,4 @@ shape_of-decoded c = c.decoded-1.given
 
 pub returns : goal.returns
 returns c =
-    byte-read c.pre.0 c.pre.3.room c.step-lex.ensures c.read_event-build.ensures
+    byte-read c.requires.0 c.requires.3.room c.step-lex.ensures c.read_event-build.ensures

@@ -11,7 +11,7 @@ slice_bounds-cut_into-end c = sym (scratch-room _ _ c.requires.0.kept.few)
 
 pub cut_into-requires : goal.cut_into-requires
 cut_into-requires c =
-    record { rows = c.pre.0; scratch = scratch-room _ _ c.pre.0.kept.few; lent = c.pre.1 }
+    record { rows = c.requires.0; scratch = scratch-room _ _ c.requires.0.kept.few; lent = c.requires.1 }
 
 pub shape_of-out_numbers : goal.shape_of-out_numbers
 shape_of-out_numbers c = c.cut_into.auto.1.1.1.1.1.1.1.1.0

@@ -6,7 +6,7 @@ use Rattle.kept_rows.proofs.columns.cut_into.Goals as goal
 
 pub number_kept-n-requires : goal.number_kept-n-requires
 number_kept-n-requires c =
-    record { columns = c.pre.rows.kept; room = c.pre.scratch }
+    record { columns = c.requires.rows.kept; room = c.requires.scratch }
 
 pub overflow_cast-n : goal.overflow_cast-n
 overflow_cast-n c = omega arith
@@ -41,7 +41,7 @@ returns-then-out_numbers-n c =
 
 pub write_rows-requires : goal.write_rows-requires
 write_rows-requires c =
-    cut-pass _ _ _ c.pre.rows _ _ c.number_kept-n.ensures c.pre.lent c.if-out_numbers-n.false
+    cut-pass _ _ _ c.requires.rows _ _ c.number_kept-n.ensures c.requires.lent c.if-out_numbers-n.false
 
 pub clear_columns-requires-2 : goal.clear_columns-requires-2
 clear_columns-requires-2 c = tt
@@ -69,4 +69,4 @@ shape_of-out_decoded c = c.clear_columns-2.auto.1.1.1.1.1.0 ∙ c.write_rows.aut
 
 pub returns : goal.returns
 returns c =
-    cut-done _ _ _ c.pre.rows _ _ c.number_kept-n.ensures _ _ c.pre.lent c.if-out_numbers-n.left c.write_rows.ensures c.clear_columns-2.ensures
+    cut-done _ _ _ c.requires.rows _ _ c.number_kept-n.ensures _ _ c.requires.lent c.if-out_numbers-n.left c.write_rows.ensures c.clear_columns-2.ensures

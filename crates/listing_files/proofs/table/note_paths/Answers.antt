@@ -20,8 +20,8 @@ slice_bounds-first_paths-end-4 c = sym (scratch-size _ c.requires.0.listed)
 
 pub first_paths-requires : goal.first_paths-requires
 first_paths-requires c =
-    let size = scratch-size _ c.pre.0.listed in
-    (paths-asked _ _ _ _ c.pre.0 c.if-count-eq0.false _ _ _ _ size size size size, c.pre.1)
+    let size = scratch-size _ c.requires.0.listed in
+    (paths-asked _ _ _ _ c.requires.0 c.if-count-eq0.false _ _ _ _ size size size size, c.requires.1)
 
 pub returns : goal.returns
 returns c = c.first_paths.ensures

@@ -9,20 +9,20 @@ put_decimal-first-requires c =
 
 pub put_number-second-requires : goal.put_number-second-requires
 put_number-second-requires c =
-    second-room _ _ _ _ _ _ _ c.pre c.args.number 0 _ _ c.put_decimal-first.ensures
+    second-room _ _ _ _ _ _ _ c.requires c.args.number 0 _ _ c.put_decimal-first.ensures
 
 pub put_text-third-requires : goal.put_text-third-requires
 put_text-third-requires c =
-    third-room _ _ _ _ _ _ _ c.pre c.args.number c.args.place _ _ c.put_decimal-first.ensures _ _ c.put_number-second.ensures
+    third-room _ _ _ _ _ _ _ c.requires c.args.number c.args.place _ _ c.put_decimal-first.ensures _ _ c.put_number-second.ensures
 
 pub put_tags-fourth-requires : goal.put_tags-fourth-requires
 put_tags-fourth-requires c =
-    fourth-pass _ _ _ _ _ _ _ c.pre c.args.number c.args.place _ _ c.put_decimal-first.ensures _ _ c.put_number-second.ensures _ _ c.put_text-third.ensures
+    fourth-pass _ _ _ _ _ _ _ c.requires c.args.number c.args.place _ _ c.put_decimal-first.ensures _ _ c.put_number-second.ensures _ _ c.put_text-third.ensures
 
 pub put_text-requires : goal.put_text-requires
 put_text-requires c =
-    fifth-room _ _ _ _ _ _ _ c.pre c.args.number c.args.place _ _ c.put_decimal-first.ensures _ _ c.put_number-second.ensures _ _ c.put_text-third.ensures _ _ c.put_tags-fourth.ensures
+    fifth-room _ _ _ _ _ _ _ c.requires c.args.number c.args.place _ _ c.put_decimal-first.ensures _ _ c.put_number-second.ensures _ _ c.put_text-third.ensures _ _ c.put_tags-fourth.ensures
 
 pub returns : goal.returns
 returns c =
-    line-written _ _ _ _ _ _ _ c.pre c.args.number c.args.place _ _ c.put_decimal-first.ensures _ _ c.put_number-second.ensures _ _ c.put_text-third.ensures _ _ c.put_tags-fourth.ensures _ _ c.put_text.ensures
+    line-written _ _ _ _ _ _ _ c.requires c.args.number c.args.place _ _ c.put_decimal-first.ensures _ _ c.put_number-second.ensures _ _ c.put_text-third.ensures _ _ c.put_tags-fourth.ensures _ _ c.put_text.ensures

@@ -13,7 +13,7 @@ use Rattle.names.proofs.closures.round.Goals as goal
 pub loop-i-init : goal.loop-i-init
 loop-i-init c =
     let args = c.args in
-    (omega arith, (search rules, passed_first (AfterRound args.t1 args.k) nothing args.t1))
+    (omega arith, (search rules, passed_first (AfterRound args.images args.k) nothing args.images))
 
 pub loop-i-preserved : goal.loop-i-preserved
 loop-i-preserved c =
@@ -22,8 +22,8 @@ loop-i-preserved c =
       omega arith,
       (
         length-set at.out at.i c.grown-t.result ∙ at.invariant.1.0,
-        passed-next (AfterRound args.t1 args.k) nothing args.t1 at.i at.out c.grown-t.result (omega arith) at.invariant.1.1
-            (round-at args.t1 args.k at.i at.out c.grown-t.result at.invariant.1.1 c.grown-t.ensures),
+        passed-next (AfterRound args.images args.k) nothing args.images at.i at.out c.grown-t.result (omega arith) at.invariant.1.1
+            (round-at args.images args.k at.i at.out c.grown-t.result at.invariant.1.1 c.grown-t.ensures),
       ),
     )
 
@@ -31,4 +31,4 @@ pub returns : goal.returns
 returns c past =
     let at = c.loop-i in
     let args = c.args in
-    round-all args.t1 args.k at.i at.out (λ a b l. past a b (omega arith)) at.invariant.1.1
+    round-all args.images args.k at.i at.out (λ a b l. past a b (omega arith)) at.invariant.1.1

@@ -11,17 +11,17 @@ use Rattle.names.proofs.known.names_of.Goals as goal
 pub loop-i-init : goal.loop-i-init
 loop-i-init c =
     let args = c.args in
-    (omega arith, λ n. c.empty-out.ensures n ∙ before-none args.t1 n)
+    (omega arith, λ n. c.empty-out.ensures n ∙ before-none args.images n)
 
 pub loop-i-preserved : goal.loop-i-preserved
 loop-i-preserved c =
     let at = c.loop-i in
     let args = c.args in
-    (omega arith, before-next args.t1 _ at.out c.with_names-next.result at.i (λ n. refl) at.invariant.1 c.with_names-next.ensures)
+    (omega arith, before-next args.images _ at.out c.with_names-next.result at.i (λ n. refl) at.invariant.1 c.with_names-next.ensures)
 
 pub returns : goal.returns
 returns c =
     λ s relation e n.
     let at = c.loop-i in
     let args = c.args in
-    at.invariant.1 n ∙ before-all s args.t1 relation at.i (omega (arith, e)) n
+    at.invariant.1 n ∙ before-all s args.images relation at.i (omega (arith, e)) n

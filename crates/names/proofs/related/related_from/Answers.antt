@@ -22,7 +22,7 @@ loop-i-preserved c =
     let at = c.loop-i in
     let args = c.args in (
       omega arith,
-      λ b. c.grown-next.ensures b ∙ rw add-one (ap (λ (t : Bool). t || (member args.s (element at.i) && relates args.t1 at.i b)) (at.invariant.1 b)),
+      λ b. c.grown-next.ensures b ∙ rw add-one (ap (λ (t : Bool). t || (member args.s (element at.i) && relates args.images at.i b)) (at.invariant.1 b)),
     )
 
 pub returns : goal.returns
@@ -30,4 +30,4 @@ returns c few b =
     let at = c.loop-i in
     let args = c.args in
     let last : at.i ≡ args.count = omega (arith, counted-all c.at_most-end.ensures.1 few) in
-    at.invariant.1 b ∙ ap (λ (i : ℕ). any_below i (λ a. member args.s (element a) && relates args.t1 a b)) last
+    at.invariant.1 b ∙ ap (λ (i : ℕ). any_below i (λ a. member args.s (element a) && relates args.images a b)) last

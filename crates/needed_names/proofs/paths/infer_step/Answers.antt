@@ -14,14 +14,14 @@ start-first-requires c =
 
 pub size-size-requires : goal.size-size-requires
 size-size-requires c =
-    let l = c.pre.counted in
+    let l = c.requires.counted in
     omega arith
 
 pub conditioned-requires : goal.conditioned-requires
 conditioned-requires c =
     let first = c.start-first in
     let size = c.size-size in
-    condition-steps c.args.axes.now c.args.tests.now c.args.conditions.now c.args.k 1 first.result size.result c.pre first.ensures size.ensures
+    condition-steps c.args.axes.now c.args.tests.now c.args.conditions.now c.args.k 1 first.result size.result c.requires first.ensures size.ensures
 
 pub returns : goal.returns
 returns c =

@@ -17,12 +17,12 @@ start-first-requires c =
 
 pub size-size-requires : goal.size-size-requires
 size-size-requires c =
-    let l = c.pre.counted in
+    let l = c.requires.counted in
     omega arith
 
 pub wanted-requires : goal.wanted-requires
 wanted-requires c =
-    condition-steps c.args.axes.now c.args.tests.now c.args.conditions.now c.args.k 1 c.start-first.result c.size-size.result c.pre c.start-first.ensures c.size-size.ensures
+    condition-steps c.args.axes.now c.args.tests.now c.args.conditions.now c.args.k 1 c.start-first.result c.size-size.result c.requires c.start-first.ensures c.size-size.ensures
 
 pub returns : goal.returns
 returns c = λ s k named.

@@ -6,7 +6,7 @@ use Rattle.schema_reader.proofs.declaration_judging.judge.Goals as goal
 
 pub returns-then-over-s : goal.returns-then-over-s
 returns-then-over-s c =
-    refused-into (judge-over c.all_declarations.ensures c.in-Past.c.1 c.pre.0 c.if-over-s.true)
+    refused-into (judge-over c.all_declarations.ensures c.in-Past.c.1 c.requires.0 c.if-over-s.true)
 
 pub slice_bounds-judge_names-end : goal.slice_bounds-judge_names-end
 slice_bounds-judge_names-end c =
@@ -26,7 +26,7 @@ slice_bounds-judge_names-end-in-Past-3 c =
 
 pub judge_names-requires : goal.judge_names-requires
 judge_names-requires c =
-    judge-spelling c.all_declarations.ensures c.in-Past.c.1 c.if-over-s.false c.pre.0
+    judge-spelling c.all_declarations.ensures c.in-Past.c.1 c.if-over-s.false c.requires.0
 
 pub returns-in-Fail : goal.returns-in-Fail
 returns-in-Fail c =
@@ -34,4 +34,4 @@ returns-in-Fail c =
 
 pub returns-else-over-s : goal.returns-else-over-s
 returns-else-over-s c =
-    judge-into c.all_declarations.ensures c.in-Past.c.1 c.if-over-s.false c.pre.1 c.judge_names.ensures
+    judge-into c.all_declarations.ensures c.in-Past.c.1 c.if-over-s.false c.requires.1 c.judge_names.ensures

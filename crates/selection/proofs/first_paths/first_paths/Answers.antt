@@ -8,20 +8,20 @@ use Rattle.selection.specs.first_paths.Firsts.{FirstsSoFar, firsts-begun, firsts
 use Rattle.selection.proofs.first_paths.first_paths.Goals as goal
 
 pub loop-i-init : goal.loop-i-init
-loop-i-init c = firsts-begun _ _ _ _ _ _ _ _ _ c.pre.0 c.fill.ensures
+loop-i-init c = firsts-begun _ _ _ _ _ _ _ _ _ c.requires.0 c.fill.ensures
 
 pub select_path-requires : goal.select_path-requires
 select_path-requires c =
     let at = c.loop-i in
-    (firsts-path _ _ _ at.i at.firsts at.marks at.held at.steps at.next at.invariant _ _ _ _ _ c.pre.0 (omega arith), c.pre.1)
+    (firsts-path _ _ _ at.i at.firsts at.marks at.held at.steps at.next at.invariant _ _ _ _ _ c.requires.0 (omega arith), c.requires.1)
 
 pub overflow_add-i : goal.overflow_add-i
 overflow_add-i c =
-    omega (arith, c.pre.0.shaped.few, c.loop-i.invariant.within)
+    omega (arith, c.requires.0.shaped.few, c.loop-i.invariant.within)
 
 pub overflow_cast-i : goal.overflow_cast-i
 overflow_cast-i c =
-    omega (arith, c.pre.0.shaped.few, c.loop-i.invariant.within)
+    omega (arith, c.requires.0.shaped.few, c.loop-i.invariant.within)
 
 pub note-requires : goal.note-requires
 note-requires c =

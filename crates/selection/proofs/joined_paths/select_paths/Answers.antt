@@ -6,14 +6,14 @@ use Rattle.selection.specs.joined_paths.Joined.{PathsSoFar, paths-begun, paths-o
 use Rattle.selection.proofs.joined_paths.select_paths.Goals as goal
 
 pub loop-i-init : goal.loop-i-init
-loop-i-init c = paths-begun _ _ _ _ _ _ _ _ _ _ _ _ c.pre.0
+loop-i-init c = paths-begun _ _ _ _ _ _ _ _ _ _ _ _ c.requires.0
 
 pub select_one-m-requires : goal.select_one-m-requires
 select_one-m-requires c =
     let at = c.loop-i in
     (
-      paths-one _ _ _ _ _ _ _ _ at.i at.n at.items at.counts at.marks at.held at.steps at.next at.invariant _ _ _ _ c.pre.0 (omega arith),
-      c.pre.1,
+      paths-one _ _ _ _ _ _ _ _ at.i at.n at.items at.counts at.marks at.held at.steps at.next at.invariant _ _ _ _ c.requires.0 (omega arith),
+      c.requires.1,
     )
 
 pub overflow_sub-i : goal.overflow_sub-i
@@ -28,22 +28,22 @@ overflow_cast-m c =
     omega (
       arith,
       one-fits _ _ _ _ _ _ _ _ at.i at.n at.items at.counts at.marks at.held at.steps at.next at.invariant _ _
-          c.select_one-m.ensures c.pre.0.columns,
+          c.select_one-m.ensures c.requires.0.columns,
     )
 
 pub overflow_add-i : goal.overflow_add-i
 overflow_add-i c =
-    omega (arith, c.pre.0.inside, c.pre.0.shaped.few, c.loop-i-test.taken)
+    omega (arith, c.requires.0.inside, c.requires.0.shaped.few, c.loop-i-test.taken)
 
 pub loop-i-preserved : goal.loop-i-preserved
 loop-i-preserved c =
     let at = c.loop-i in
     paths-next _ _ _ _ _ _ _ _ at.i at.n at.items at.counts at.marks at.held at.steps at.next at.invariant _ _
-    c.select_one-m.ensures c.pre.0.columns _ _ _ _ _ c.loop-i-test.taken c.put_count.ensures
+    c.select_one-m.ensures c.requires.0.columns _ _ _ _ _ c.loop-i-test.taken c.put_count.ensures
     c.marks-1.given c.held-1.given c.steps-1.given c.next-1.given
 
 pub overflow_sub-end : goal.overflow_sub-end
-overflow_sub-end c = omega (arith, c.pre.0.order)
+overflow_sub-end c = omega (arith, c.requires.0.order)
 
 pub returns : goal.returns
 returns c =

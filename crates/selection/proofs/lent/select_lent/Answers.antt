@@ -42,7 +42,7 @@ pub select_table-requires : goal.select_table-requires
 select_table-requires c =
     let tests = c.is_table_beside.ensures in
     let passes = not-false _ c.if-not-is_table_beside.false-raw in
-    (c.pre.0, c.if-total-place.false, beside-columns _ _ _ _ tests c.pre.1 passes, beside-texts _ _ _ _ tests c.pre.1 passes)
+    (c.requires.0, c.if-total-place.false, beside-columns _ _ _ _ tests c.requires.1 passes, beside-texts _ _ _ _ tests c.requires.1 passes)
 
 pub returns : goal.returns
 returns c s held =

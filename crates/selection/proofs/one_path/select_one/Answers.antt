@@ -4,17 +4,17 @@ use Rattle.selection.proofs.one_path.select_one.Goals as goal
 
 pub returns-then-parents-eq0 : goal.returns-then-parents-eq0
 returns-then-parents-eq0 c =
-    none-selected c.args.axes.now c.args.tests.now _ _ _ _ _ _ _ _ _ _ _ c.pre.0 _ c.if-parents-eq0.true
+    none-selected c.args.axes.now c.args.tests.now _ _ _ _ _ _ _ _ _ _ _ c.requires.0 _ c.if-parents-eq0.true
 
 pub select_path-requires : goal.select_path-requires
 select_path-requires c =
-    (one-path c.args.axes.now c.args.tests.now _ _ _ _ _ _ _ _ _ _ _ c.pre.0 c.if-parents-eq0.false, c.pre.1)
+    (one-path c.args.axes.now c.args.tests.now _ _ _ _ _ _ _ _ _ _ _ c.requires.0 c.if-parents-eq0.false, c.requires.1)
 
 pub append-requires : goal.append-requires
 append-requires c =
-    one-append c.args.axes.now c.args.tests.now _ _ _ _ _ _ _ _ _ _ _ c.pre.0 _ c.select_path.ensures
+    one-append c.args.axes.now c.args.tests.now _ _ _ _ _ _ _ _ _ _ _ c.requires.0 _ c.select_path.ensures
 
 pub returns : goal.returns
 returns c =
-    one_selected c.args.axes.now c.args.tests.now _ _ _ _ _ _ _ _ _ _ _ c.pre.0 _ _ _ _ c.select_path.ensures
+    one_selected c.args.axes.now c.args.tests.now _ _ _ _ _ _ _ _ _ _ _ c.requires.0 _ _ _ _ c.select_path.ensures
     c.append.ensures

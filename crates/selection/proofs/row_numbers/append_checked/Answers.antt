@@ -9,21 +9,21 @@ pub loop-r-init : goal.loop-r-init
 loop-r-init c = appending-none _ _ _ _
 
 pub offset_bounds-numbers-r : goal.offset_bounds-numbers-r
-offset_bounds-numbers-r c = omega (arith, c.pre.size)
+offset_bounds-numbers-r c = omega (arith, c.requires.size)
 
 pub bounds-numbers-r : goal.bounds-numbers-r
-bounds-numbers-r c = omega (arith, c.pre.size)
+bounds-numbers-r c = omega (arith, c.requires.size)
 
 pub overflow_cast-n : goal.overflow_cast-n
-overflow_cast-n c = omega (arith, mark-small _ c.pre.marked c.loop-r.r (omega arith))
+overflow_cast-n c = omega (arith, mark-small _ c.requires.marked c.loop-r.r (omega arith))
 
 pub overflow_add-n : goal.overflow_add-n
-overflow_add-n c = omega (arith, mark-small _ c.pre.marked c.loop-r.r (omega arith), c.loop-r.invariant.few, c.pre.few, c.pre.low)
+overflow_add-n c = omega (arith, mark-small _ c.requires.marked c.loop-r.r (omega arith), c.loop-r.invariant.few, c.requires.few, c.requires.low)
 
 pub loop-r-preserved : goal.loop-r-preserved
 loop-r-preserved c =
     let at = c.loop-r in
-    appending-next _ _ _ _ c.pre at.r at.n at.out at.invariant (omega arith) _ c.put.ensures
+    appending-next _ _ _ _ c.requires at.r at.n at.out at.invariant (omega arith) _ c.put.ensures
 
 pub returns : goal.returns
 returns c =

@@ -10,10 +10,10 @@ pub loop-r-init : goal.loop-r-init
 loop-r-init c = appending-none _ _ _ _
 
 pub offset_bounds-numbers-r : goal.offset_bounds-numbers-r
-offset_bounds-numbers-r c = omega (arith, c.pre.pass.size)
+offset_bounds-numbers-r c = omega (arith, c.requires.pass.size)
 
 pub bounds-numbers-r : goal.bounds-numbers-r
-bounds-numbers-r c = omega (arith, c.pre.pass.size)
+bounds-numbers-r c = omega (arith, c.requires.pass.size)
 
 pub offset_bounds-out-n : goal.offset_bounds-out-n
 offset_bounds-out-n c =
@@ -24,17 +24,17 @@ bounds-out-n c =
     omega (arith, c.loop-r.invariant.few, c.loop-r.invariant.so_far.long, c.requires.room)
 
 pub overflow_cast-n : goal.overflow_cast-n
-overflow_cast-n c = omega (arith, mark-small _ c.pre.pass.marked c.loop-r.r (omega arith))
+overflow_cast-n c = omega (arith, mark-small _ c.requires.pass.marked c.loop-r.r (omega arith))
 
 pub overflow_add-n : goal.overflow_add-n
 overflow_add-n c =
-    omega (arith, mark-small _ c.pre.pass.marked c.loop-r.r (omega arith), c.loop-r.invariant.few, c.pre.pass.few, c.pre.pass.low)
+    omega (arith, mark-small _ c.requires.pass.marked c.loop-r.r (omega arith), c.loop-r.invariant.few, c.requires.pass.few, c.requires.pass.low)
 
 pub loop-r-preserved : goal.loop-r-preserved
 loop-r-preserved c =
     let at = c.loop-r in
-    appending-next _ _ _ _ c.pre.pass at.r at.n at.out at.invariant (omega arith) _
-    (written_in at.out at.n _ (omega (arith, at.invariant.few, at.invariant.so_far.long, c.pre.room)))
+    appending-next _ _ _ _ c.requires.pass at.r at.n at.out at.invariant (omega arith) _
+    (written_in at.out at.n _ (omega (arith, at.invariant.few, at.invariant.so_far.long, c.requires.room)))
 
 pub returns : goal.returns
 returns c =

@@ -7,11 +7,11 @@ use Rattle.selection.proofs.table.select_into.Goals as goal
 
 pub select_paths-n-requires : goal.select_paths-n-requires
 select_paths-n-requires c =
-    (asked-pass _ _ _ _ _ _ _ _ _ c.pre.0 _ _ c.first_asked-first.ensures c.past_asked-end.ensures, c.pre.1)
+    (asked-pass _ _ _ _ _ _ _ _ _ c.requires.0 _ _ c.first_asked-first.ensures c.past_asked-end.ensures, c.requires.1)
 
 pub overflow_sub-end : goal.overflow_sub-end
 overflow_sub-end c =
-    (asked-order _ _ _ _ c.pre.0.inside c.first_asked-first.ensures c.past_asked-end.ensures).0
+    (asked-order _ _ _ _ c.requires.0.inside c.first_asked-first.ensures c.past_asked-end.ensures).0
 
 pub shape_of-items : goal.shape_of-items
 shape_of-items c = c.items-2-1.given ∙ c.items-1.given
@@ -33,5 +33,5 @@ shape_of-next c = c.next-1.given
 
 pub returns : goal.returns
 returns c s text rows w =
-    asked-answered _ _ _ _ _ c.pre.0.inside _ _ c.first_asked-first.ensures c.past_asked-end.ensures s text rows w _ _ _ _ _
+    asked-answered _ _ _ _ _ c.requires.0.inside _ _ c.first_asked-first.ensures c.past_asked-end.ensures s text rows w _ _ _ _ _
     c.select_paths-n.ensures _ _ _ c.in_room.ensures

@@ -15,7 +15,7 @@ lent c = columns c.args.numbers.now c.args.codes.now c.args.parents.now c.args.s
 
 pub rows-init : goal.rows-init
 rows-init c =
-    rows-first c.args.words.now (lent (goal.at.rows-init c).Start) c.args.count c.pre.1
+    rows-first c.args.words.now (lent (goal.at.rows-init c).Start) c.args.count c.requires.1
 
 pub overflow_cast-parent : goal.overflow_cast-parent
 overflow_cast-parent c = omega (arith, c.type_inv.parents c.rows.row)
@@ -35,7 +35,7 @@ loop-element-preserved c =
 pub row_fits-requires : goal.row_fits-requires
 row_fits-requires c =
     let more = c.rows-test.true in (
-      row-lent (lent (goal.at.row_fits-requires c).Start) c.args.count c.rows.row _ _ _ c.loop-element.element c.loop-element.depth c.pre.0 c.rows.invariant.later more c.loop-element.invariant,
+      row-lent (lent (goal.at.row_fits-requires c).Start) c.args.count c.rows.row _ _ _ c.loop-element.element c.loop-element.depth c.requires.0 c.rows.invariant.later more c.loop-element.invariant,
       c.loop-element.invariant.shallow,
     )
 

@@ -42,7 +42,7 @@ returns-then-not-root_fits c =
 
 pub later_rows_fit-requires : goal.later_rows_fit-requires
 later_rows_fit-requires c =
-    (c.pre, root-at (lent (goal.at.later_rows_fit-requires c).Start) c.args.count c.if-count-eq0.left (sym c.root_fits.ensures ∙ not-false _ c.if-not-root_fits.false-raw))
+    (c.requires, root-at (lent (goal.at.later_rows_fit-requires c).Start) c.args.count c.if-count-eq0.left (sym c.root_fits.ensures ∙ not-false _ c.if-not-root_fits.false-raw))
 
 pub returns : goal.returns
 returns c =
