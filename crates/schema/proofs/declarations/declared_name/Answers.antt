@@ -17,12 +17,12 @@ pub name_end-requires : goal.name_end-requires
 name_end-requires c = (c.if-s-i.false, sym c.starts_name.ensures ∙ not-false _ c.if-not-starts_name.false-raw)
 
 pub space-requires : goal.space-requires
-space-requires c = (named_end c.name_end.ensures c.in-Past.e.1).1
+space-requires c = (named_end c.name_end.ensures c.in-Past.is).1
 
 pub returns-in-Past : goal.returns-in-Past
 returns-in-Past c =
-    name-reads c.args.s.now c.args.i c.if-s-i.false (c.requires.1 c.if-s-i.false) (sym c.starts_name.ensures ∙ not-false _ c.if-not-starts_name.false-raw) c.name_end.ensures c.in-Past.e.1 c.space.ensures
+    name-reads c.args.s.now c.args.i c.if-s-i.false (c.requires.1 c.if-s-i.false) (sym c.starts_name.ensures ∙ not-false _ c.if-not-starts_name.false-raw) c.name_end.ensures c.in-Past.is c.space.ensures
 
 pub returns-in-Fail : goal.returns-in-Fail
 returns-in-Fail c =
-    record { says = name-fails c.args.s.now c.args.i c.if-s-i.false (c.requires.1 c.if-s-i.false) (sym c.starts_name.ensures ∙ not-false _ c.if-not-starts_name.false-raw) c.name_end.ensures c.in-Fail.j.1 }
+    record { says = name-fails c.args.s.now c.args.i c.if-s-i.false (c.requires.1 c.if-s-i.false) (sym c.starts_name.ensures ∙ not-false _ c.if-not-starts_name.false-raw) c.name_end.ensures c.in-Fail.is }

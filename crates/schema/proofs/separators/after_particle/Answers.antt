@@ -14,8 +14,8 @@ returns-then-b-eq41 c =
 
 pub returns-then-may_part : goal.returns-then-may_part
 returns-then-may_part c =
-    record { says = follow-more c.args.sep c.skip-i.ensures c.if-s-i.false (sym c.May-part.ensures ∙ c.if-may_part.true) }
+    record { says = follow-more c.args.sep c.skip-i.ensures c.if-s-i.false (sym c.may_part.ensures ∙ c.if-may_part.true) }
 
 pub returns : goal.returns
 returns c =
-    record { says = follow-not c.args.sep c.skip-i.ensures c.if-s-i.false c.if-b-eq41.false (sym c.May-part.ensures ∙ c.if-may_part.false) }
+    record { says = follow-not c.args.sep c.skip-i.ensures c.if-s-i.false c.if-b-eq41.false (sym c.may_part.ensures ∙ c.if-may_part.false) }
