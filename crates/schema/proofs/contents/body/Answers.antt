@@ -1,5 +1,4 @@
 -- `body` meets its contract: a content and `>`.
-use borrow.Author.Rules.{rules}
 use Rattle.schema.proofs.contents.Contents.{content-high, body-fails, body_end, body-close, body-not}
 use Rattle.schema.proofs.contents.body.Goals as goal
 

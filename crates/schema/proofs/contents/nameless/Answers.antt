@@ -1,6 +1,5 @@
 -- `nameless` meets its contract.
 use mathlib.Core.Path.{sym, ap}
-use borrow.Author.Rules.{rules}
 use Rattle.schema.specs.contents.Contents.{nameless_of}
 use Rattle.text.specs.declared.scanning.Read.{Read}
 use Rattle.schema.proofs.contents.nameless.Goals as goal

@@ -1,5 +1,4 @@
 -- `pcdata` meets its contract: the keyword, blanks, and the byte after them.
-use borrow.Author.Rules.{rules}
 use Rattle.schema.proofs.contents.Contents.{pcdata-fails, pcdata-end, pcdata-close, pcdata-not}
 use Rattle.text.specs.scanning.OutcomeLaws.{spelt-end}
 use Rattle.schema.proofs.contents.pcdata.Goals as goal

@@ -1,6 +1,5 @@
 -- `declaration` meets its contract: keyword, name, content and end.
 use native.Mathlib.Omega.{arith}
-use borrow.Author.Rules.{rules}
 use Rattle.schema.proofs.declarations.Declarations.{declaration-fails, name-known, declaration-name-fails, content-known, declaration-reads}
 use Rattle.schema.proofs.declarations.declaration.Goals as goal
 

@@ -1,5 +1,4 @@
 -- `declared` meets its contract.
-use borrow.Author.Rules.{rules}
 use Rattle.schema.proofs.declarations.Declarations.{rest-reads, rest-fails}
 use Rattle.schema.proofs.declarations.declared.Goals as goal
 

@@ -1,5 +1,4 @@
 -- `keyword` meets its contract.
-use borrow.Author.Rules.{rules}
 use Rattle.schema.proofs.declarations.Declarations.{keyword-not, keyword-fails, keyword-reads}
 use Rattle.text.specs.scanning.OutcomeLaws.{spelt-end}
 use Rattle.schema.proofs.declarations.keyword.Goals as goal

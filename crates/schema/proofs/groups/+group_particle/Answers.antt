@@ -1,10 +1,9 @@
 -- `particle` and `group` meet their contracts.
-use mathlib.Core.Path.{◌≡◌, sym, ◌∙◌}
-use Prim.Native.Nat.{ℕ, ◌+◌, ◌*◌, ◌-◌, ◌<◌}
+use mathlib.Core.Path.{sym, ◌∙◌}
+use Prim.Native.Nat.{◌+◌, ◌<◌}
 use native.Mathlib.Omega.{arith}
 use borrow.Author.Rules.{rules}
-use lib.ListN.{length}
-use Rattle.schema.proofs.groups.Groups.{particle-end, particle-name, particle-not, particle-deep, open-fails, open-high, open-reads, GroupUpTo, group-start, group-length, group-links, group-many, group-fails, particle-high, group-stops, group-closes, group-next}
+use Rattle.schema.proofs.groups.Groups.{particle-end, particle-name, particle-not, particle-deep, open-fails, open-high, open-reads, group-start, group-length, group-links, group-many, group-fails, particle-high, group-stops, group-closes, group-next}
 use Rattle.schema.proofs.groups.+group_particle.Goals as goal
 use Rattle.text_spec.specs.Limits.{max_groups}
 

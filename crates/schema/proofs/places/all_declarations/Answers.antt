@@ -1,11 +1,9 @@
 -- `all_declarations` meets its contract: what was read up to i.
 use mathlib.Core.Path.{◌≡◌, refl, sym, ◌∙◌}
-use Prim.Native.Nat.{◌-◌}
 use native.Mathlib.Omega.{arith}
 use borrow.Author.Rules.{rules}
 use lib.ListN.{length}
 use Rattle.schema.proofs.places.Limits.{all_start, all_none, all-spelt, all-fail, all_known, all-next}
-use Rattle.schema.specs.places.Whole.{UpTo}
 use Rattle.schema.proofs.places.all_declarations.Goals.{At-loop-i}
 use Rattle.schema.proofs.places.all_declarations.Goals as goal
 
@@ -56,12 +54,11 @@ loop-i-smaller c =
     omega arith
 
 pub loop-i-preserved : goal.loop-i-preserved
-loop-i-preserved c =
-    (
-      (all-next c.loop-i.invariant.0 c.loop-i-test.true c.declaration.ensures c.in-Past.is
-          c.note.ensures c.over_limit-over.ensures c.skip-i-in-Past.ensures).1,
-      search rules,
-    )
+loop-i-preserved c = (
+  (all-next c.loop-i.invariant.0 c.loop-i-test.true c.declaration.ensures c.in-Past.is
+      c.note.ensures c.over_limit-over.ensures c.skip-i-in-Past.ensures).1,
+  search rules,
+)
 
 pub shape_of-names-then-d-eq0 : goal.shape_of-names-then-d-eq0
 shape_of-names-then-d-eq0 c = let l = (sizes (goal.at.shape_of-names-then-d-eq0 c).At-loop-i).0 in search rules

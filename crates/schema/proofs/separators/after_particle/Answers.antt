@@ -1,6 +1,5 @@
 -- `after_particle` meets its contract: the byte after the blanks decides.
 use mathlib.Core.Path.{sym, ◌∙◌}
-use borrow.Author.Rules.{rules}
 use Rattle.schema.specs.particles.ParticleLaws.{follow-end, follow-close, follow-more, follow-not}
 use Rattle.schema.proofs.separators.after_particle.Goals as goal
 

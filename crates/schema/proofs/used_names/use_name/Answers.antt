@@ -1,5 +1,4 @@
 -- `use_name` meets its contract: the name, then its indicator.
-use borrow.Author.Rules.{rules}
 use Rattle.schema.specs.particles.ParticleLaws.{name-fails, name-reads}
 use Rattle.text.specs.scanning.OutcomeLaws.{named_end}
 use Rattle.schema.proofs.used_names.use_name.Goals as goal
