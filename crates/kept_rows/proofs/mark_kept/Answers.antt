@@ -42,10 +42,10 @@ bounds-kept-p c =
 pub loop-r-preserved : goal.loop-r-preserved
 loop-r-preserved c =
     let at = c.loop-r in
-    (omega arith, at.invariant.1, at.invariant.2, kept_next _ _ _ _ at.invariant.1 _ at.invariant.2 at.r at.auto at.invariant.0 (omega arith) at.invariant.3)
+    (omega arith, at.invariant.1, at.invariant.2, kept_next _ _ _ _ at.invariant.1 _ at.invariant.2 at.r at.kept at.invariant.0 (omega arith) at.invariant.3)
 
 pub returns : goal.returns
 returns c =
     let at = c.loop-r in
     let made = c.code_marks-table.ensures in
-    kept-all _ _ _ _ at.invariant.1 _ at.invariant.2 at.r at.auto at.invariant.3 (omega arith) ∙ kept_table _ _ _ _ made at.invariant.1.columns
+    kept-all _ _ _ _ at.invariant.1 _ at.invariant.2 at.r at.kept at.invariant.3 (omega arith) ∙ kept_table _ _ _ _ made at.invariant.1.columns

@@ -9,7 +9,7 @@ use Rattle.chains.proofs.tags.put_link.Goals as goal
 pub overflow_add-to : goal.overflow_add-to
 overflow_add-to c =
     let fits = element-fits _ _ _ _ _ _ c.requires (omega arith) in
-    let small = c.well-formed in
+    let small = c.well_formed in
     omega arith
 
 pub slice_bounds-put_text-end : goal.slice_bounds-put_text-end

@@ -25,4 +25,4 @@ overflow_sub-out_parents c =
 pub returns : goal.returns
 returns c =
     let start = c.args in
-    row_kept _ _ _ start.r c.if-x-eq-NOT_KEPT.left
+    row_kept _ _ _ start.r c.if-x-eq-NOT_KEPT.false

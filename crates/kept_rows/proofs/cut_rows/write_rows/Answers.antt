@@ -17,7 +17,7 @@ cut_row-requires c =
 
 pub overflow_add-r : goal.overflow_add-r
 overflow_add-r c =
-    omega (arith, c.loop-r-test.true, c.well-formed.1.1.1.1.1.1.0)
+    omega (arith, c.loop-r-test.true, c.well_formed.1.1.1.1.1.1.0)
 
 pub loop-r-preserved : goal.loop-r-preserved
 loop-r-preserved c =
