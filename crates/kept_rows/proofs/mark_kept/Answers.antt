@@ -1,11 +1,6 @@
-use mathlib.Core.Path.{◌≡◌, ◌∙◌}
-use Prim.Native.Nat.{◌-◌, ◌<◌}
+use mathlib.Core.Path.{◌∙◌}
 use native.Mathlib.Omega.{arith}
-use borrow.Author.Rules.{rules}
-use lib.ListN.{length}
-use Rattle.cells.specs.row_sets.Columns.{marks, is_marked}
-use Rattle.cells.specs.row_sets.Loops.{Forward}
-use Rattle.kept_rows.specs.Kept.{code_count, kept_marks, KeptPass, table-marks, kept_table, kept-none, pass-first, kept-begun, kept_next, kept-all}
+use Rattle.kept_rows.specs.Kept.{table-marks, kept_table, kept-none, pass-first, kept-begun, kept_next, kept-all}
 use Rattle.kept_rows.proofs.mark_kept.Goals as goal
 
 pub returns-then-kept-eq0 : goal.returns-then-kept-eq0

@@ -1,5 +1,4 @@
 -- `cut_into` meets its contract: rows numbered, too little room or the rows written, the rest cleared.
-use mathlib.Core.Path.{◌∙◌}
 use native.Mathlib.Omega.{arith}
 use Rattle.kept_rows.specs.columns.Cut.{cut-pass, cut_short, cut-done}
 use Rattle.kept_rows.proofs.columns.cut_into.Goals as goal

@@ -1,5 +1,4 @@
 use native.Mathlib.Omega.{arith}
-use borrow.Author.Rules.{rules}
 use Rattle.kept_rows.specs.cut_rows.Rows.{row_cut, row_kept}
 use Rattle.kept_rows.proofs.cut_rows.cut_row.Goals as goal
 

@@ -1,10 +1,6 @@
-use Prim.Native.Nat.{◌-◌, ◌≤◌}
 use native.Mathlib.Omega.{arith}
-use borrow.Author.Rules.{rules}
-use lib.ListN.{length}
 use Rattle.kept_rows.specs.cut_rows.Cells.{noted-length}
-use Rattle.kept_rows.specs.cut_rows.Rows.{marked_by, CutPass, RowsNoted, rows_none, row-pass, row_next, rows_all}
-use Rattle.table_spec.specs.Columns.{columns}
+use Rattle.kept_rows.specs.cut_rows.Rows.{rows_none, row-pass, row_next, rows_all}
 use Rattle.kept_rows.proofs.cut_rows.write_rows.Goals as goal
 
 pub loop-r-init : goal.loop-r-init
