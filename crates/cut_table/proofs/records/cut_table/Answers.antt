@@ -9,7 +9,7 @@ use Rattle.cut_table.proofs.records.cut_table.Goals as goal
 
 pub returns-then-not-is_schema_record : goal.returns-then-not-is_schema_record
 returns-then-not-is_schema_record c =
-    refused-1 (no_record _ _ _ _ (sym (passes-schema _ _) ∙ sym c.is_schema_record.ensures ∙ not-true _ c.if-not-is_schema_record.true)) c.refuse.ensures.0 c.refuse.ensures.1
+    refused-1 (no_record _ _ _ _ (sym (passes-schema _ _) ∙ sym c.is_schema_record.ensures ∙ not-true _ c.if-not-is_schema_record.true-raw)) c.refuse.ensures.0 c.refuse.ensures.1
 
 pub schema_sets-sets-requires : goal.schema_sets-sets-requires
 schema_sets-sets-requires c =
@@ -21,4 +21,4 @@ cut_lent-requires c = record { schema = _; sets = c.schema_sets-sets.ensures }
 
 pub returns : goal.returns
 returns c =
-    by-record _ _ _ _ (sym (passes-schema _ _) ∙ sym c.is_schema_record.ensures ∙ not-false _ c.if-not-is_schema_record.false) _ _ (c.cut_lent.ensures _ c.schema_sets-sets.ensures)
+    by-record _ _ _ _ (sym (passes-schema _ _) ∙ sym c.is_schema_record.ensures ∙ not-false _ c.if-not-is_schema_record.false-raw) _ _ (c.cut_lent.ensures _ c.schema_sets-sets.ensures)
