@@ -1,7 +1,6 @@
 use mathlib.Core.List.{[], ◌∷◌}
 use mathlib.Core.Path.{sym, ◌∙◌}
 use native.Mathlib.Omega.{arith}
-use borrow.Author.Rules.{rules}
 use borrow.Author.Tests.{not-true, not-false}
 use Rattle.journal_lexer.specs.whole_entities.Entities.{begins-not, begins-then, begins-inside}
 use Rattle.journal_lexer.proofs.whole_entities.four_at.Goals as goal
