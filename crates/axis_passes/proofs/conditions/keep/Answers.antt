@@ -1,6 +1,5 @@
 use mathlib.Core.Path.{sym, ◌∙◌}
 use native.Mathlib.Omega.{arith}
-use borrow.Author.Rules.{rules}
 use Rattle.axis_passes.specs.conditions.Conditions.{condition-columns, condition-kept, all-kept, none_kept}
 use Rattle.axis_passes.proofs.conditions.keep.Goals as goal
 

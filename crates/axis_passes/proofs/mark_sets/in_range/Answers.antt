@@ -13,6 +13,6 @@ returns-else-high-code c =
     let x = c.args in
     let h : x.code ≤ x.high = omega arith in
     elim c.if-low-code.branch [
-      then-low-code w ↦ w.x-is ∙ code-between x.low x.high x.code w.if-low-code.true h
-    | else-low-code w ↦ w.x-is ∙ code_below x.low x.high x.code w.if-low-code.false
+      | then-low-code w ↦ w.x-is ∙ code-between x.low x.high x.code w.if-low-code.true h
+      | else-low-code w ↦ w.x-is ∙ code_below x.low x.high x.code w.if-low-code.false
     ]

@@ -1,7 +1,6 @@
 use mathlib.Core.Bool.{true, false}
 use mathlib.Core.Path.{refl}
 use native.Mathlib.Omega.{arith}
-use borrow.Author.Rules.{rules}
 use Rattle.axis_passes.specs.root.Roots.{root-axis, filled-axis, later-axis, root_kept}
 use Rattle.compiled_paths.specs.Columns.{axis_of, written_of}
 use Rattle.selection_laws.specs.marks.Roots.{root_image, root_written}

@@ -1,4 +1,3 @@
-use borrow.Author.Rules.{rules}
 use Rattle.axis_passes.specs.inverse_axes.Axes.{axis-other}
 use Rattle.axis_passes.specs.steps.Steps.{axis-number, image-kept}
 use Rattle.compiled_paths.specs.Columns.{axis_of, written_of}
