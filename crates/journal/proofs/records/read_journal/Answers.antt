@@ -23,7 +23,7 @@ abbrev columns-test : Else-not-is_lent → Bool
 columns-test c = equal_sizes (sizes_of (lent c))
 
 passes : (c : Else-not-is_lent) → (passes_record (held c).bytes (held c).len && columns-test c) ≡ true
-passes c = sym c.is_lent.ensures ∙ not-false _ c.if-not-is_lent.false-raw
+passes c = sym c.is_lent.ensures ∙ c.if-not-is_lent.false
 
 pub is_lent-requires : goal.is_lent-requires
 is_lent-requires c = tt
@@ -55,7 +55,7 @@ shape_of-decoded-then-not-is_lent c = c.clear.auto.decoded
 pub returns-then-not-is_lent : goal.returns-then-not-is_lent
 returns-then-not-is_lent c =
     let schema = c.args.schema in
-    let lent = sym c.is_lent.ensures ∙ not-true _ c.if-not-is_lent.true-raw in
+    let lent = sym c.is_lent.ensures ∙ c.if-not-is_lent.true in
     record {
       value = refused-1 schema.bytes schema.len _ _ lent _ c.refused.ensures;
       left_rows = c.clear.ensures ∙ cleared-1 schema.bytes schema.len c.args.text.now _ lent;

@@ -1,5 +1,4 @@
 use mathlib.Core.Path.{refl}
-use borrow.Author.Rules.{rules}
 use Rattle.journal_builder.proofs.children.reached.Goals as goal
 
 pub returns-in-Start : goal.returns-in-Start
