@@ -42,12 +42,6 @@ accepted c = sym (passes-schema (held c.before).cells (held c.before).size) ∙ 
 beside : (c : Else-not-is_table_beside) → is_beside (schema c.before.before.before.before.before) (text c.before.before.before.before.before) (table c.before.before.before.before.before) ≡ true
 beside c = sym (c.is_table_beside.ensures (schema c.before.before.before.before.before) c.schema_words-words.ensures) ∙ not-false _ c.if-not-is_table_beside.false-raw
 
-pub is_schema_record-requires : goal.is_schema_record-requires
-is_schema_record-requires c = tt
-
-pub refuse-requires : goal.refuse-requires
-refuse-requires c = tt
-
 pub shape_of-out-then-not-is_schema_record : goal.shape_of-out-then-not-is_schema_record
 shape_of-out-then-not-is_schema_record c = c.out-1.given
 
@@ -60,12 +54,6 @@ pub schema_words-words-requires : goal.schema_words-words-requires
 schema_words-words-requires c =
     let schema = c.args.schema in
     record-low schema.bytes schema.len (sym c.is_schema_record.ensures ∙ not-false _ c.if-not-is_schema_record.false-raw)
-
-pub is_table_beside-requires : goal.is_table_beside-requires
-is_table_beside-requires c = tt
-
-pub refuse-requires-then-not-is_table_beside : goal.refuse-requires-then-not-is_table_beside
-refuse-requires-then-not-is_table_beside c = tt
 
 pub shape_of-out-then-not-is_table_beside : goal.shape_of-out-then-not-is_table_beside
 shape_of-out-then-not-is_table_beside c = c.out-then-not-is_table_beside-1.given
