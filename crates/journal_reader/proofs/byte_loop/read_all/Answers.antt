@@ -43,7 +43,7 @@ read_byte-next-requires c =
       c.requires.3,
       c.requires.4,
       record {
-        room = subst (λ (k : ℕ). k < no_place) (sym at.invariant.0.place) (lt_trans c.loop-at-test.taken c.requires.2);
+        room = subst (λ (k : ℕ). k < no_place) (sym at.invariant.0.place) (lt_trans c.loop-at-test.true c.requires.2);
         lent = at.invariant.0.usable.lent;
         byte = byte;
         kind = c.requires.1.kind (get_or c.args.text.now at.at 0) byte;
@@ -52,17 +52,17 @@ read_byte-next-requires c =
 
 pub overflow_add-at : goal.overflow_add-at
 overflow_add-at c =
-    next_fits _ _ c.loop-at-test.taken c.requires.2
+    next_fits _ _ c.loop-at-test.true c.requires.2
 
 pub loop-at-smaller : goal.loop-at-smaller
-loop-at-smaller c = falls _ _ c.loop-at-test.taken
+loop-at-smaller c = falls _ _ c.loop-at-test.true
 
 pub loop-at-preserved : goal.loop-at-preserved
 loop-at-preserved c =
     let at = c.loop-at in
     (
-      more-read c.loop-at-test.taken at.invariant.0 c.read_byte-next.ensures,
-      next-inside _ _ c.loop-at-test.taken,
+      more-read c.loop-at-test.true at.invariant.0 c.read_byte-next.ensures,
+      next-inside _ _ c.loop-at-test.true,
       c.numbers-1.given ∙ at.invariant.2,
       c.names-1.given ∙ at.invariant.3,
       c.parents-1.given ∙ at.invariant.4,

@@ -16,7 +16,7 @@ loop-x-init c = (no-event-read c.start-x.ensures c.requires.0, refl, refl, refl,
 
 pub read_on-next-requires : goal.read_on-next-requires
 read_on-next-requires c =
-    (c.loop-x.invariant.0.usable, c.requires.1, c.requires.2, c.loop-x-test.taken, c.requires.3, c.requires.4)
+    (c.loop-x.invariant.0.usable, c.requires.1, c.requires.2, c.loop-x-test.true, c.requires.3, c.requires.4)
 
 pub loop-x-smaller : goal.loop-x-smaller
 loop-x-smaller c = fewer-left c.read_on-next.ensures
