@@ -4,7 +4,7 @@ use borrow.Author.Rules.{rules}
 use Rattle.models.proofs.fitting.may_end.Goals as goal
 
 pub returns-in-Start : goal.returns-in-Start
-returns-in-Start c = rw c.in-Start.is.1 refl
+returns-in-Start c = rw c.in-Start.is refl
 
 pub returns-in-Amid : goal.returns-in-Amid
-returns-in-Amid c = rw c.in-Amid.set.1 c.meets.ensures
+returns-in-Amid c = rw c.in-Amid.is c.meets.ensures
