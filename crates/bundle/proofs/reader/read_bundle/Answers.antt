@@ -16,7 +16,7 @@ use Rattle.bundle.proofs.reader.read_bundle.Goals as goal
 
 -- the record passes its test, so that its text is not too long
 passes : (c : Else-not-is_schema_record) → passes_record c.args.schema.bytes c.args.schema.len ≡ true
-passes c = sym c.is_schema_record.ensures ∙ not-false _ c.if-not-is_schema_record.false-raw
+passes c = sym c.is_schema_record.ensures ∙ c.if-not-is_schema_record.false
 
 inside : (c : Else-not-is_schema_record) → c.args.schema.len ≤ length c.args.schema.bytes
 inside c = 
@@ -27,7 +27,7 @@ inside c =
 pub returns-then-not-is_schema_record : goal.returns-then-not-is_schema_record
 returns-then-not-is_schema_record c =
     let at = c.args in
-    read-no-schema at.schema.bytes at.schema.len at.text.now (sym c.is_schema_record.ensures ∙ not-true _ c.if-not-is_schema_record.true-raw) c.empty.ensures
+    read-no-schema at.schema.bytes at.schema.len at.text.now (sym c.is_schema_record.ensures ∙ c.if-not-is_schema_record.true) c.empty.ensures
 
 pub slice_bounds-bytes-end : goal.slice_bounds-bytes-end
 slice_bounds-bytes-end c = inside (goal.at.slice_bounds-bytes-end c).Else-not-is_schema_record

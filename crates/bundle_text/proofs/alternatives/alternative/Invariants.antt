@@ -8,7 +8,7 @@ use Rattle.bundle_text.proofs.alternatives.Reading.{UpTo, up-to-start, up-to-siz
 use Rattle.bundle_text.proofs.alternatives.alternative.Given as goal
 
 abbrev pub invariant-loop-j : goal.invariant-loop-j
-invariant-loop-j l =     UpTo l.s l.at l.n l.initial.cells l.cells l.i l.count
+invariant-loop-j l = UpTo l.s l.at l.n l.initial.cells l.cells l.i l.count
 
 abbrev pub decreases-loop-j : goal.decreases-loop-j
-decreases-loop-j l =     length l.s - l.i
+decreases-loop-j l = length l.s - l.i

@@ -16,8 +16,8 @@ returns-then-s-at-eq58 c =
 
 pub returns-then-s-at-eq45 : goal.returns-then-s-at-eq45
 returns-then-s-at-eq45 c =
-    ending-hyphen _ _ c.if-s-at.left c.args.axis c.args.e.now c.if-s-at-eq45.true c.requires.2 c.rest-then-s-at-eq45.ensures
+    ending-hyphen _ _ c.if-s-at.false c.args.axis c.args.e.now c.if-s-at-eq45.true c.requires.2 c.rest-then-s-at-eq45.ensures
 
 pub returns : goal.returns
 returns c =
-    ending-not _ _ c.if-s-at.left c.args.axis c.args.e.now c.if-s-at-eq58.false c.if-s-at-eq45.false
+    ending-not _ _ c.if-s-at.false c.args.axis c.args.e.now c.if-s-at-eq58.false c.if-s-at-eq45.false

@@ -16,5 +16,5 @@ returns-then-find-eq0-2 c =
 pub returns : goal.returns
 returns c =
     call-not _ _ _ c.requires.0 c.requires.1
-    (sought-none (bytes "node") c.args.s.now c.args.p refl c.find.ensures c.if-find-eq0.left)
+    (sought-none (bytes "node") c.args.s.now c.args.p refl c.find.ensures c.if-find-eq0.false)
     (sought-none (bytes "text") c.args.s.now c.args.p refl c.find-2.ensures c.if-find-eq0-2.false)
