@@ -14,15 +14,15 @@ ends_some-requires t c =
     let size = c.first_size-size in
     first-steps c.args.axes.now c.args.tests.now c.args.n c.args.k size.result size.ensures c.requires
 
-pub overflow_add-any_ends_some : goal.overflow_add-any_ends_some
-overflow_add-any_ends_some t c =
+pub overflow_add-k : goal.overflow_add-k
+overflow_add-k t c =
     let size = c.first_size-size.ensures in
     let room = c.requires.room in
     let fits = first-size-fits c.args.axes.now c.args.n c.args.k in
     omega arith
 
-pub overflow_sub-any_ends_some : goal.overflow_sub-any_ends_some
-overflow_sub-any_ends_some t c =
+pub overflow_sub-n : goal.overflow_sub-n
+overflow_sub-n t c =
     let size = c.first_size-size.ensures in
     let fits = first-size-fits c.args.axes.now c.args.n c.args.k in
     omega arith

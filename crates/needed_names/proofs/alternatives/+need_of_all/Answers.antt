@@ -20,15 +20,15 @@ need_plain-one-requires t c =
     let size = c.first_size-size in
     first-steps c.args.axes.now c.args.tests.now c.args.n c.args.k size.result size.ensures c.requires
 
-pub overflow_add-rest : goal.overflow_add-rest
-overflow_add-rest t c =
+pub overflow_add-k : goal.overflow_add-k
+overflow_add-k t c =
     let size = c.first_size-size.ensures in
     let room = c.requires.room in
     let fits = first-size-fits c.args.axes.now c.args.n c.args.k in
     omega arith
 
-pub overflow_sub-rest : goal.overflow_sub-rest
-overflow_sub-rest t c =
+pub overflow_sub-n : goal.overflow_sub-n
+overflow_sub-n t c =
     let size = c.first_size-size.ensures in
     let fits = first-size-fits c.args.axes.now c.args.n c.args.k in
     omega arith
