@@ -1,7 +1,5 @@
 -- `judge_and_compile` meets its contract: judged, then entry by entry, and what lies below by what each holds.
 use mathlib.Core.Path.{sym, ap, subst, ◌∙◌}
-use native.Mathlib.Omega.{arith}
-use borrow.Author.Rules.{rules}
 use Rattle.compiled_schema.proofs.Whole.{schema-refused, schema-count, schema-with, schema-compiled}
 use Rattle.compiled_schema.specs.Compiled.{CompiledOf}
 use Rattle.schema.specs.Judging.{outcome_of}

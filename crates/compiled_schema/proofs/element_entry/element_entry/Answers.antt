@@ -50,4 +50,4 @@ returns-in-Past c =
 
 pub returns-in-Fail : goal.returns-in-Fail
 returns-in-Fail c =
-    absurd (entry-fails c.requires.0 c.declaration.ensures c.in-Fail.field-0.1)
+    absurd (entry-fails c.requires.0 c.declaration.ensures c.in-Fail.is)

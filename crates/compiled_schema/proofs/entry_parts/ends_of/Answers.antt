@@ -1,6 +1,5 @@
 -- `ends_of` meets its contract.
 use mathlib.Core.Path.{sym, ap}
-use borrow.Author.Rules.{rules}
 use Rattle.compiled_schema.specs.entry_parts.Entries.{ends_in}
 use Rattle.compiled_schema.proofs.entry_parts.ends_of.Goals as goal
 

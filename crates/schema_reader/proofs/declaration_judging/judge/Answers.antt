@@ -1,6 +1,4 @@
 -- `judge` meets its contract: 4, then 5, then the names.
-use native.Mathlib.Omega.{arith}
-use borrow.Author.Rules.{rules}
 use Rattle.schema_reader.specs.judging_laws.Outcomes.{refused-into, judge-departs, judge-over, judge-room, judge-spelling, judge-into}
 use Rattle.schema_reader.proofs.declaration_judging.judge.Goals as goal
 
