@@ -25,4 +25,4 @@ returns-in-Accepted c =
 
 pub returns-in-Refused : goal.returns-in-Refused
 returns-in-Refused c =
-    c.judge_bundle-in-Refused.ensures.under _ (under_none c.judge_into.ensures c.in-Refused.field-0.1)
+    c.judge_bundle-in-Refused.ensures.under _ (under_none c.judge_into.ensures c.in-Refused.is)

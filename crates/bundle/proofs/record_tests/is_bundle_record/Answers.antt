@@ -9,16 +9,10 @@ use Rattle.schema_reader.specs.Sizes.{record-low}
 use Rattle.schema_spec.specs.Records.{schema_in}
 use Rattle.bundle.proofs.record_tests.is_bundle_record.Goals as goal
 
-pub is_schema_record-requires : goal.is_schema_record-requires
-is_schema_record-requires c = tt
-
 pub returns-then-not-is_schema_record : goal.returns-then-not-is_schema_record
 returns-then-not-is_schema_record c =
     let start = c.args in
     test-no-schema (passes_record start.schema.bytes start.schema.len) (schema_in (take start.schema.len start.schema.bytes)) start.bundle.bytes start.bundle.len (sym c.is_schema_record.ensures ∙ c.if-not-is_schema_record.true)
-
-pub holds_text-requires : goal.holds_text-requires
-holds_text-requires c = tt
 
 pub returns-then-not-holds_text : goal.returns-then-not-holds_text
 returns-then-not-holds_text c =

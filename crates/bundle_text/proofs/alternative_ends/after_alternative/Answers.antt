@@ -1,5 +1,4 @@
 -- `after_alternative` meets its contract: the byte decides, and then the rest of ` or `.
-use borrow.Author.Rules.{rules}
 use Rattle.bundle_text.proofs.alternative_ends.Reading.{follow-end, follow-close, follow-not, follow-more, follow-stops}
 use Rattle.bundle_text.proofs.alternative_ends.after_alternative.Goals as goal
 

@@ -1,5 +1,4 @@
 -- `either` meets its contract: the keyword, and then where the two axes part.
-use borrow.Author.Rules.{rules}
 use Rattle.bundle_text.proofs.axes.Axes.{both-past, both-fail}
 use Rattle.text.specs.scanning.OutcomeLaws.{spelt-end}
 use Rattle.bundle_text.proofs.axes.either.Goals as goal

@@ -1,7 +1,6 @@
 -- `ending` meets its contract: the byte decides between two axes.
 use mathlib.Core.List.{[]}
 use mathlib.Core.Path.{refl}
-use borrow.Author.Rules.{rules}
 use Rattle.bundle_text.proofs.axes.Axes.{axis-end, ending-not, ending-colon, ending-hyphen}
 use Rattle.bundle_text.specs.axes.Readings.{double}
 use Rattle.bundle_text.proofs.axes.ending.Goals as goal

@@ -1,5 +1,4 @@
 -- `rest` meets its contract: the keyword.
-use borrow.Author.Rules.{rules}
 use Rattle.bundle_text.proofs.axes.Axes.{rest-past, rest-fail}
 use Rattle.bundle_text.proofs.axes.rest.Goals as goal
 

@@ -1,10 +1,7 @@
 -- `all_paths` meets its contract: path by path.
-use mathlib.Core.Path.{◌≡◌}
 use Prim.Native.Nat.{◌-◌}
-use native.Mathlib.Omega.{arith}
-use borrow.Author.Rules.{rules}
 use lib.ListN.{length}
-use Rattle.bundle_text.proofs.paths.Bundles.{Upto, upto-start, upto-size, upto-whole, upto-fails, upto-places, upto_next}
+use Rattle.bundle_text.proofs.paths.Bundles.{Upto}
 use Rattle.bundle_text.proofs.paths.all_paths.Given as goal
 
 abbrev pub invariant-loop-i : goal.invariant-loop-i

@@ -1,6 +1,5 @@
 -- `call` meets its contract: the name is sought twice.
 use mathlib.Core.Path.{refl}
-use borrow.Author.Rules.{rules}
 use Rattle.bundle_text.proofs.steps.Steps.{sought-found, sought-none, call-node, call-text, call-not}
 use Rattle.text_spec.specs.Lists.{bytes}
 use Rattle.bundle_text.proofs.steps.call.Goals as goal

@@ -1,7 +1,5 @@
 -- `node_test` meets its contract: a name, and then whether it is called.
 use mathlib.Core.Path.{sym, ◌∙◌}
-use borrow.Author.Rules.{rules}
-use borrow.Author.Tests.{not-true, not-false}
 use Rattle.bundle_text.proofs.steps.Steps.{due-end, due-not, due-long, due-last, due-named, due-called}
 use Rattle.bundle_text.proofs.steps.node_test.Goals as goal
 

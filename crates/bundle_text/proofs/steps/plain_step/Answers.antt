@@ -1,6 +1,5 @@
 -- `plain_step` meets its contract: the axis, and then the test.
 use native.Mathlib.Omega.{arith}
-use borrow.Author.Rules.{rules}
 use Rattle.bundle_text.proofs.steps.Steps.{plain-no-axis, plain-no-test, plain-test, plain-past}
 use Rattle.bundle_text.proofs.steps.plain_step.Goals as goal
 

@@ -1,6 +1,5 @@
 -- `brackets` meets its contract: a condition, or none.
 use native.Mathlib.Omega.{arith}
-use borrow.Author.Rules.{rules}
 use Rattle.bundle_text.proofs.written_steps.Steps.{brackets-none, brackets-some}
 use Rattle.bundle_text.proofs.written_steps.brackets.Goals as goal
 

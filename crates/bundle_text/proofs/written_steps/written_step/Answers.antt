@@ -1,6 +1,5 @@
 -- `written_step` meets its contract: a step without brackets, and then its brackets.
 use native.Mathlib.Omega.{arith}
-use borrow.Author.Rules.{rules}
 use Rattle.bundle_text.proofs.written_steps.Steps.{written-fails, written-place, written-reads}
 use Rattle.bundle_text.proofs.written_steps.written_step.Goals as goal
 
