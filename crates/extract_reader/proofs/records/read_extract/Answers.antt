@@ -21,14 +21,8 @@ lent c =
     let at = c.args in
     columns at.numbers.now at.names.now at.parents.now at.starts.now at.lengths.now at.decoded.now
 
-accepted : (c : Then-is_schema_record) → passes_schema (held c.before) ≡ true
-accepted c = sym (passes-schema (held c.before).cells (held c.before).size) ∙ sym c.is_schema_record.ensures ∙ c.if-is_schema_record.true
-
-pub is_schema_record-requires : goal.is_schema_record-requires
-is_schema_record-requires c = tt
-
-pub equal_sizes-requires : goal.equal_sizes-requires
-equal_sizes-requires c = tt
+accepted : (r : TextRecord) (b : Bool) → b ≡ is_record r → b ≡ true → passes_schema r ≡ true
+accepted r b e t = sym (passes-schema r.cells r.size) ∙ sym e ∙ t
 
 pub schema_words-words-requires : goal.schema_words-words-requires
 schema_words-words-requires c =
@@ -37,54 +31,12 @@ schema_words-words-requires c =
 
 pub read_extract_table-requires : goal.read_extract_table-requires
 read_extract_table-requires c =
-    equal-columns _ (passed (sym c.equal_sizes.ensures ∙ c.if-equal_sizes.taken))
-
-pub shape_of-numbers-then-equal_sizes : goal.shape_of-numbers-then-equal_sizes
-shape_of-numbers-then-equal_sizes c = c.read_extract_table.auto.1.1.0
-
-pub shape_of-names-then-equal_sizes : goal.shape_of-names-then-equal_sizes
-shape_of-names-then-equal_sizes c = c.read_extract_table.auto.1.1.1.0
-
-pub shape_of-parents-then-equal_sizes : goal.shape_of-parents-then-equal_sizes
-shape_of-parents-then-equal_sizes c = c.read_extract_table.auto.1.1.1.1.0
-
-pub shape_of-starts-then-equal_sizes : goal.shape_of-starts-then-equal_sizes
-shape_of-starts-then-equal_sizes c = c.read_extract_table.auto.1.1.1.1.1.0
-
-pub shape_of-lengths-then-equal_sizes : goal.shape_of-lengths-then-equal_sizes
-shape_of-lengths-then-equal_sizes c = c.read_extract_table.auto.1.1.1.1.1.1.0
-
-pub shape_of-decoded-then-equal_sizes : goal.shape_of-decoded-then-equal_sizes
-shape_of-decoded-then-equal_sizes c = c.read_extract_table.auto.1.1.1.1.1.1.1.0
+    equal-columns _ (passed (sym c.equal_sizes.ensures ∙ c.if-equal_sizes.true))
 
 pub returns-then-equal_sizes : goal.returns-then-equal_sizes
 returns-then-equal_sizes c =
     let extract = c.args.extract.now in
-    stated (call-read (held (goal.at.returns-then-equal_sizes c).After-is_schema_record) extract (lent (goal.at.returns-then-equal_sizes c).After-is_schema_record) _ _ (accepted (goal.at.returns-then-equal_sizes c).Then-is_schema_record) (sym c.equal_sizes.ensures ∙ c.if-equal_sizes.taken) _ c.schema_words-words.ensures c.read_extract_table.ensures)
-
-pub clear-requires : goal.clear-requires
-clear-requires c = tt
-
-pub refused-requires : goal.refused-requires
-refused-requires c = tt
-
-pub shape_of-numbers : goal.shape_of-numbers
-shape_of-numbers c = c.clear.auto.0
-
-pub shape_of-names : goal.shape_of-names
-shape_of-names c = c.clear.auto.1.0
-
-pub shape_of-parents : goal.shape_of-parents
-shape_of-parents c = c.clear.auto.1.1.0
-
-pub shape_of-starts : goal.shape_of-starts
-shape_of-starts c = c.clear.auto.1.1.1.0
-
-pub shape_of-lengths : goal.shape_of-lengths
-shape_of-lengths c = c.clear.auto.1.1.1.1.0
-
-pub shape_of-decoded : goal.shape_of-decoded
-shape_of-decoded c = c.clear.auto.1.1.1.1.1.0
+    stated (call-read (held (goal.at.returns-then-equal_sizes c).After-is_schema_record) extract (lent (goal.at.returns-then-equal_sizes c).After-is_schema_record) _ _ (accepted (goal.at.returns-then-equal_sizes c).Then-is_schema_record) (sym c.equal_sizes.ensures ∙ c.if-equal_sizes.true) _ c.schema_words-words.ensures c.read_extract_table.ensures)
 
 pub returns : goal.returns
 returns c =
@@ -92,4 +44,4 @@ returns c =
     let extract = c.args.extract.now in
     ⊎_elim (λ w. stated (call-no-columns (held (goal.at.returns c).After-is_schema_record) extract (lent (goal.at.returns c).After-is_schema_record) _ _ (accepted (record { before = (goal.at.returns c).After-is_schema_record; if1 = w.0 })) (sym w.1.ensures ∙ w.2.left) c.refused.ensures cleared))
     (λ w. stated (call-no-record (held (goal.at.returns c).After-is_schema_record) extract (lent (goal.at.returns c).After-is_schema_record) _ _ (sym (passes-schema (held (goal.at.returns c).After-is_schema_record).cells (held (goal.at.returns c).After-is_schema_record).size) ∙ sym c.is_schema_record.ensures ∙ w.left) c.refused.ensures cleared))
-    c.if-is_schema_record.came
+    c.if-is_schema_record.branch

@@ -16,7 +16,7 @@ use Rattle.schema_spec.specs.Schemas.{Schema}
 use Rattle.needed_names.proofs.conditions.wanted_by_some.Given as goal
 
 abbrev pub invariant-loop-c : goal.invariant-loop-c
-invariant-loop-c l =     (l.c ≤ 64) × ((s : Schema) (l : RelationsOf s l.holds l.below l.count) → Known s l.g → (m : Name) → Memᴰ m (names_of s) → member l.out m ≡ wanted_below s l.small (wants_in s l.k (alternatives (alternatives_in l.axes l.tests l.n l.i))) l.g l.c m)
+invariant-loop-c l = (l.c ≤ 64) × ((s : Schema) (r : RelationsOf s l.holds l.below l.count) → Known s l.g → (m : Name) → Memᴰ m (names_of s) → member l.out m ≡ wanted_below s r.small (wants_in s l.k (alternatives (alternatives_in l.axes l.tests l.n l.i))) l.g l.c m)
 
 abbrev pub decreases-loop-c : goal.decreases-loop-c
 decreases-loop-c l = 64 - l.c
