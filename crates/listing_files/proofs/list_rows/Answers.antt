@@ -1,9 +1,8 @@
 -- `list_rows` meets its contract: the needed names, the rows kept, the first paths, the names.
-use mathlib.Core.Path.{refl, sym, ◌∙◌}
+use mathlib.Core.Path.{refl, sym}
 use borrow.Author.Rules.{rules}
 use Rattle.compiled_schema.specs.Places.{compiled-few}
 use Rattle.listing_files.specs.contents.Files.{names-all}
-use Rattle.listing_files.proofs.list_rows.Goals.{After-note_paths-arg-1}
 use Rattle.listing_files.proofs.list_rows.Goals as goal
 
 pub needed_under-set-requires : goal.needed_under-set-requires
@@ -34,7 +33,7 @@ returns c =
       set = c.needed_under-set.result;
       set-needed = c.needed_under-set.ensures;
       kept-is = c.kept_count-kept.ensures;
-      (goal.at.returns c).After-note_paths-arg-1 = c.note_paths.ensures;
+      noted = c.note_paths.ensures;
       names-are = refl;
       sizes-are = c.name_sizes.ensures;
     }
