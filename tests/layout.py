@@ -37,7 +37,7 @@ def listed():
     """What crates.txt says: each crate with the libraries after its colon."""
     with open(os.path.join(ROOT, "crates.txt")) as f:
         lines = [line.split("#")[0].strip() for line in f]
-    return {line.split(":")[0]: line.split(":")[1].split() for line in lines if line}
+    return {line.split(":")[0].split()[0]: line.split(":")[1].split() for line in lines if line}
 
 
 def named(crate, libraries):

@@ -138,7 +138,7 @@ def main():
             promised.update((name, f) for f in files)
             if not any(declares(t, name) for t in texts):
                 faults.append("%s is not declared in %s" % (name, file))
-    listed = {line.split(":")[0] for line in read("crates.txt").split("\n") if ":" in line and not line.startswith("#")}
+    listed = {line.split(":")[0].split()[0] for line in read("crates.txt").split("\n") if ":" in line and not line.startswith("#")}
     architecture = read("docs/ARCHITECTURE.md")
     for crate in sorted(os.listdir(os.path.join(ROOT, "crates"))):
         if crate not in listed:
