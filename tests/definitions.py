@@ -27,10 +27,7 @@ NOT_EVALUATED = {
 }
 
 HEAD = """-- Written by tests/definitions.py.
-use mathlib.Core.List.{List, [], _∷_, map}
-use mathlib.Core.Path.{_≡_, refl}
-use Prim.Native.Nat.{ℕ}
-use lib.ListN.{length}
+use Rattle.std.specs.Prelude.{List, [], ◌∷◌, map, ◌≡◌, refl, ℕ, length}
 use Rattle.journal_spec.specs.Reading.{read_journal}
 use Rattle.path_spec.specs.Paths.{LocationPath}
 use Rattle.path_spec.specs.Reading.{read_bundle}
@@ -61,22 +58,22 @@ data Seen : Type 0 where
 
 abbrev seen : {A : Type 0} → (A → List (List ℕ)) → Outcome A → Seen
 seen f (accepted a) = ok (f a)
-seen f (refused r) = no (number_of (r .reason)) (r .place)
+seen f (refused r) = no (number_of r.reason) r.place
 
 abbrev counted : {A : Type 0} → List A → List (List ℕ)
 counted l = (length l ∷ []) ∷ []
 
 abbrev row : Row → List ℕ
-row r = r .number ∷ code_of (r .name) ∷ r .parent ∷ r .start ∷ r .size ∷ r .decoded ∷ []
+row r = r.number ∷ code_of r.name ∷ r.parent ∷ r.start ∷ r.size ∷ r.decoded ∷ []
 
-abbrev rowButStart : Row → List ℕ
-rowButStart r = r .number ∷ code_of (r .name) ∷ r .parent ∷ r .size ∷ r .decoded ∷ []
+abbrev row_but_start : Row → List ℕ
+row_but_start r = r.number ∷ code_of r.name ∷ r.parent ∷ r.size ∷ r.decoded ∷ []
 
 abbrev lent : ℕ → List Row → Outcome (List Row)
 lent n rows = in_room (too_small n rows) rows
 
 abbrev words_of : Types → List (LocationPath ℕ) → List ℕ
-words_of t ps = needed_word t ps ∷ map (λ p. word_of_set (t .names) (needed_by_path t p)) ps
+words_of t ps = needed_word t ps ∷ map (λ p. word_of_set t.names (needed_by_path t p)) ps
 
 abbrev words : List ℕ → List ℕ → Outcome (List (List ℕ))
 words s b =
@@ -88,8 +85,8 @@ abbrev selections : List ℕ → List ℕ → List ℕ → Outcome (List (List �
 selections s b j =
     and_then (read_schema s) (λ e. and_then (read_bundle e b) (λ ps. and_then (read_journal JOURNAL_LIMIT e j) (λ rows. accepted (map (select_rows j rows) ps))))
 
-abbrev selectionsFrom : List ℕ → List ℕ → List ℕ → Outcome (List (List ℕ))
-selectionsFrom s b x =
+abbrev selections_from : List ℕ → List ℕ → List ℕ → Outcome (List (List ℕ))
+selections_from s b x =
     and_then (read_schema s) (λ e. and_then (read_bundle e b) (λ ps. and_then (read_extract (types_of e) x) (λ rows. accepted (map (select_rows x rows) ps))))
 
 abbrev extracts : List ℕ → List ℕ → List ℕ → Outcome (List (List ℕ))
@@ -168,15 +165,15 @@ def asked(case):
     if does == "select":
         return "seen same (selections %s %s %s)" % tuple(t)
     if does == "select-extract":
-        return "seen same (selectionsFrom %s %s %s)" % tuple(t)
+        return "seen same (selections_from %s %s %s)" % tuple(t)
     if does == "extract":
         return "seen same (extracts %s %s %s)" % tuple(t)
     if does == "schema-record":
         return "seen counted (handed (schema_held (record { cells = %s; size = %d })) (λ s. accepted s))" % (t[0], limits[0])
     if does == "read-extract" and limits:
-        return "seen (map rowButStart) (extract_read (record_of max_schema_bytes (normal %s)) %s (%s))" % (t[0], t[1], sizes(limits[1:]))
+        return "seen (map row_but_start) (extract_read (record_of max_schema_bytes (normal %s)) %s (%s))" % (t[0], t[1], sizes(limits[1:]))
     if does == "read-extract":
-        return "seen (map rowButStart) (read_extract (types_of (schema_in %s)) %s)" % (t[0], t[1])
+        return "seen (map row_but_start) (read_extract (types_of (schema_in %s)) %s)" % (t[0], t[1])
     if does == "listing":
         return "ok (listing %s %s %s ∷ [])" % tuple(t)
     rows = decimals(filter(None, texts[1].split("\n")))
@@ -217,14 +214,14 @@ def evaluate(cases):
             os.makedirs(os.path.join(crate, "src"))
             os.makedirs(os.path.join(crate, "specs"))
             body = "\n".join([HEAD] + [theorem(i, case) for i, case in enumerate(cases) if i % parts == part])
-            files = {"src/lib.rt": "// Theorems alone.\n", "specs/Lib.antt": "pub mod Vectors\n", "specs/Vectors.antt": body}
+            files = {"src/lib.rt": "#![tactic(auto)]\n\n// Theorems alone.\n", "specs/Lib.antt": "pub mod Vectors\n", "specs/Vectors.antt": body}
             for path, content in files.items():
                 with open(os.path.join(crate, path), "w") as out:
                     out.write(content)
             lines.append("vectors%d: %s\n" % (part, " ".join(SPECS)))
         with open(os.path.join(scratch, "crates.txt"), "w") as out:
             out.write("".join(lines))
-        return subprocess.run(["rt", "check"], cwd=scratch, capture_output=True, text=True)
+        return subprocess.run(["rt", "all", "check", "--jobs", str(parts)], cwd=scratch, capture_output=True, text=True)
 
 
 def main():
