@@ -1,8 +1,6 @@
 -- `write_extract` meets its contract: the record, the table beside its text, and the bytes of its rows.
 use mathlib.Core.Bool.{true}
-use mathlib.Core.List.{List}
 use mathlib.Core.Path.{◌≡◌, sym, ◌∙◌}
-use Prim.Native.Nat.{ℕ}
 use borrow.Author.Tests.{not-true, not-false}
 use lib.ListN.{length}
 use lib.Seq.{length-take-le}
@@ -35,7 +33,7 @@ accepted c = sym (passes-schema c.args.schema.bytes c.args.schema.len) ∙ sym c
 
 beside : (c : Else-not-is_table_beside)
     → is_beside (schema_in (text_in (record_with c.args.schema.bytes c.args.schema.len))) c.args.lent.now
-        (lent_table c.args.numbers.now c.args.codes.now c.args.parents.now c.args.starts.now c.args.lengths.now c.args.decoded.now c.args.count) ≡ true
+    (lent_table c.args.numbers.now c.args.codes.now c.args.parents.now c.args.starts.now c.args.lengths.now c.args.decoded.now c.args.count) ≡ true
 beside c = sym (c.is_table_beside.ensures _ c.schema_words-words.ensures) ∙ not-false _ c.if-not-is_table_beside.false-raw
 
 pub returns-then-not-is_schema_record : goal.returns-then-not-is_schema_record

@@ -1,8 +1,5 @@
-use Prim.Native.Nat.{◌-◌}
 use native.Mathlib.Omega.{arith}
-use borrow.Author.Rules.{rules}
-use lib.ListN.{length}
-use Rattle.extract_writer.specs.rows.Measure.{MeasurePass, Measuring, measuring-none, rows_few, mark-low, measuring-next, measured, marked-bound}
+use Rattle.extract_writer.specs.rows.Measure.{measuring-none, rows_few, mark-low, measuring-next, measured, marked-bound}
 use Rattle.extract_writer.proofs.rows.measure.Goals as goal
 
 pub loop-r-init : goal.loop-r-init
