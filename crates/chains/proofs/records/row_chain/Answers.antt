@@ -21,13 +21,10 @@ passes : (c : Else-not-is_schema_record) → passes_record c.args.schema.bytes c
 passes c = sym c.is_schema_record.ensures ∙ not-false _ c.if-not-is_schema_record.false-raw
 
 inside : (c : Else-not-is_schema_record) → c.args.schema.len ≤ length c.args.schema.bytes
-inside c = 
+inside c =
     let schema = c.args.schema in
     let room : length schema.bytes ≡ max_schema_bytes = search rules in
     omega (arith, record-low schema.bytes schema.len (passes c))
-
-pub shape_of-out-then-not-is_schema_record : goal.shape_of-out-then-not-is_schema_record
-shape_of-out-then-not-is_schema_record c = c.out-1.given
 
 pub returns-then-not-is_schema_record : goal.returns-then-not-is_schema_record
 returns-then-not-is_schema_record c =
@@ -43,9 +40,6 @@ pub chain_lent-requires : goal.chain_lent-requires
 chain_lent-requires c =
     let schema = c.args.schema in
     record-read schema.bytes schema.len (passes (goal.at.chain_lent-requires c).Else-not-is_schema_record)
-
-pub shape_of-out : goal.shape_of-out
-shape_of-out c = c.out-2-1.given
 
 pub returns : goal.returns
 returns c = by-record _ _ _ _ (sym (passes-schema _ _) ∙ passes (goal.at.returns c).Else-not-is_schema_record) _ _ c.chain_lent.ensures
