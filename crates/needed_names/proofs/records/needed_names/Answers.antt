@@ -13,13 +13,13 @@ use Rattle.needed_names.proofs.records.needed_names.Goals as goal
 
 -- both records pass their test, so that their texts are not too long
 schema-inside : (c : Else-not-is_bundle_record) → c.args.schema.len ≤ length c.args.schema.bytes
-schema-inside c = 
+schema-inside c =
     let at = c.args in
     let room : length at.schema.bytes ≡ max_schema_bytes = search rules in
     omega (arith, schema-size at.schema.bytes at.schema.len at.bundle.bytes at.bundle.len (sym c.is_bundle_record.ensures ∙ c.if-not-is_bundle_record.false))
 
 bundle-inside : (c : Else-not-is_bundle_record) → c.args.bundle.len ≤ length c.args.bundle.bytes
-bundle-inside c = 
+bundle-inside c =
     let at = c.args in
     let room : length at.bundle.bytes ≡ max_bundle_bytes = search rules in
     omega (arith, bundle-size at.schema.bytes at.schema.len at.bundle.bytes at.bundle.len (sym c.is_bundle_record.ensures ∙ c.if-not-is_bundle_record.false))
