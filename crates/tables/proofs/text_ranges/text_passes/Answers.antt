@@ -1,7 +1,6 @@
 -- `text_passes` meets its contract: by the code, the range and the lengths.
 use mathlib.Core.Path.{sym, ◌∙◌}
 use native.Mathlib.Omega.{arith}
-use borrow.Author.Rules.{rules}
 use borrow.Author.Tests.{not-true, not-false}
 use Rattle.tables.proofs.text_ranges.Decoding.{range_inside}
 use Rattle.tables.proofs.text_ranges.text_passes.Goals as goal
@@ -11,7 +10,7 @@ returns-then-not-range_passes c = simp (sym c.is_text.ensures ∙ c.if-is_text.t
 
 pub range_decodes-requires : goal.range_decodes-requires
 range_decodes-requires c =
-    (c.requires, range_inside _ _ _ (sym c.range_passes.ensures ∙ not-false _ c.if-not-range_passes.false-raw), omega (arith, c.well-formed.1.1.1.0))
+    (c.requires, range_inside _ _ _ (sym c.range_passes.ensures ∙ not-false _ c.if-not-range_passes.false-raw), omega (arith, c.well_formed.1.1.1.0))
 
 pub returns-then-is_text : goal.returns-then-is_text
 returns-then-is_text c =
