@@ -1,4 +1,6 @@
 // Passes over columns of marks: one for each axis, tests, steps, alternatives and conditions for all rows at once.
+#![tactic(auto)]
+
 pub mod alternative_steps;
 pub mod alternatives;
 pub mod code_ranges;

@@ -13,6 +13,7 @@ use Rattle.cells.specs.lent.Cells.{Cleared}
 use Rattle.cells.specs.lent.Columns.{first_cells}
 use Rattle.cells.specs.lent.Ends.{Slice, entry_columns, exit_columns}
 use Rattle.cells.specs.verdicts.Verdicts.{verdict}
+use Rattle.compiled_paths.specs.Paths as paths
 use Rattle.compiled_paths.specs.Paths.{paths_in, Shaped}
 use Rattle.compiled_paths.specs.declared.CompiledPaths.{CompiledPaths}
 use Rattle.compiled_schema.specs.Compiled.{CompiledOf}
@@ -85,7 +86,7 @@ pub record WrittenUnder (t : CompiledSchema) (paths : CompiledPaths) (journal : 
   pub last : AnswerAs n size (length out) c d r
 
 -- the same of lent slices
-abbrev pub WrittenUnderIn : CompiledSchema → CompiledPaths → Slice → ℕ → Slice → Slice → Slice → Slice → Slice → Slice → Slice → HostResult → Type 0
+abbrev pub WrittenUnderIn : CompiledSchema → CompiledPaths → paths.Lent → ℕ → Slice → Slice → Slice → Slice → Slice → Slice → Slice → HostResult → Type 0
 WrittenUnderIn t paths journal n numbers names parents starts lengths decoded out r =
     WrittenUnder t paths journal.entry.now n (entry_columns numbers names parents starts lengths decoded) (exit_columns numbers names parents starts lengths decoded) out.entry.now out.exit.now r
 

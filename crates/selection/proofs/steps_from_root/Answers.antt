@@ -20,13 +20,13 @@ pub overflow_add-first : goal.overflow_add-first
 overflow_add-first c = omega (arith, c.requires.0.inside)
 
 pub overflow_sub-size : goal.overflow_sub-size
-overflow_sub-size c = let some = c.if-size-eq0.left in omega arith
+overflow_sub-size c = let some = c.if-size-eq0.false in omega arith
 
 pub steps_from-requires : goal.steps_from-requires
 steps_from-requires c =
     (
       later-pass _ _ c.args.axes.now c.args.tests.now _ _ _ _ _ _ _ c.requires.0 _
-          c.first_step.ensures c.if-size-eq0.left _ _ _
+          c.first_step.ensures c.if-size-eq0.false _ _ _
           (omega (arith, c.held-1.given)) (omega (arith, c.steps-1.given)) (omega (arith, c.next-1.given)),
       c.requires.1,
     )
@@ -34,4 +34,4 @@ steps_from-requires c =
 pub returns : goal.returns
 returns c =
     later-marked _ _ c.args.axes.now c.args.tests.now _ _ _ _ _ _ _ c.requires.0 _
-    c.first_step.ensures c.if-size-eq0.left _ c.steps_from.ensures
+    c.first_step.ensures c.if-size-eq0.false _ c.steps_from.ensures

@@ -10,7 +10,7 @@ use Rattle.cells.specs.lent.Appended.{written, Appended, appended-appended, appe
 use Rattle.cells.specs.lent.Cells.{Cleared}
 use Rattle.cells.specs.lent.Ends.{Slice}
 use Rattle.compiled_paths.specs.Columns.{bundle_in}
-use Rattle.compiled_paths.specs.Paths.{Shaped}
+use Rattle.compiled_paths.specs.Paths.{Lent, Shaped}
 use Rattle.compiled_paths.specs.declared.CompiledPaths.{CompiledPaths}
 use Rattle.path_spec.specs.Paths.{LocationPath}
 use Rattle.selection_laws.specs.marks.Selection.{select_columns}
@@ -44,7 +44,7 @@ pub record JoinedAs (c : CompiledPaths) (first end : ℕ) (numbers codes ps item
   pub total : n ≡ length (items_of c numbers codes ps (end - first) first)
 
 -- the same of lent slices
-abbrev pub JoinedIn : CompiledPaths → ℕ → ℕ → Slice → Slice → Slice → Slice → Slice → ℕ → Type 0
+abbrev pub JoinedIn : CompiledPaths → ℕ → ℕ → Lent → Lent → Lent → Slice → Slice → ℕ → Type 0
 JoinedIn c first end numbers codes parents items counts n =
     JoinedAs c first end numbers.entry.now codes.entry.now parents.entry.now items.entry.now counts.entry.now n items.exit.now counts.exit.now
 

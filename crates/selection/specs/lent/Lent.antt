@@ -7,6 +7,7 @@ use Rattle.std.proofs.Common.{ap, ◌∙◌, arith, le-leb}
 use Rattle.std.proofs.lemmas.Bool.{lt-leb}
 use Rattle.axis_passes.specs.alternative_steps.Texts.{TextColumns}
 use Rattle.cells.specs.lent.Ends.{Slice}
+use Rattle.compiled_paths.specs.Paths as paths
 use Rattle.compiled_paths.specs.Paths.{paths_in}
 use Rattle.compiled_paths.specs.declared.CompiledPaths.{CompiledPaths}
 use Rattle.handed_tables.specs.columns.Rows.{lent-cells, lent-coded, lent-numbers, lent-codes, lent-parents, lent-columns}
@@ -38,15 +39,15 @@ lent_selected s ps place table lent items counts =
     tested (leb place (length ps)) (handed (table_beside s lent table) (λ rows. rows_selected lent rows place ps items counts))
 
 -- a call that selects so on a lent table beside a lent text
-abbrev pub SelectsLent : Schema → List (LocationPath ℕ) → ℕ → LentTable → Slice → Slice → Slice → Selected → Type 0
+abbrev pub SelectsLent : Schema → List (LocationPath ℕ) → ℕ → LentTable → paths.Lent → Slice → Slice → Selected → Type 0
 SelectsLent s ps place table lent items counts r = AnsweredCells (lent_selected s ps place table lent.entry.now) r items counts
 
 -- the same under each schema that the words belong to
-abbrev pub SelectsUnder : List ℕ → List (LocationPath ℕ) → ℕ → LentTable → Slice → Slice → Slice → Selected → Type 0
+abbrev pub SelectsUnder : List ℕ → List (LocationPath ℕ) → ℕ → LentTable → paths.Lent → Slice → Slice → Selected → Type 0
 SelectsUnder words ps place table lent items counts r = (s : Schema) → HeldWords (types_of s) words → SelectsLent s ps place table lent items counts r
 
 -- the paths of a bundle's text under a schema's, both lent
-abbrev pub entry_bundle : Slice → Slice → List (LocationPath ℕ)
+abbrev pub entry_bundle : paths.Lent → paths.Lent → List (LocationPath ℕ)
 entry_bundle schema text = result_or [] (read_bundle (schema_in schema.entry.now) text.entry.now)
 
 -- the words are those of a schema

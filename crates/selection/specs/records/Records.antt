@@ -8,7 +8,7 @@ use Rattle.bundle.specs.Judging.{JudgedUnder}
 use Rattle.bundle.specs.declared.Judged.{Judged}
 use Rattle.bundle.specs.reader.Records.{passes_bundle_record}
 use Rattle.cells.specs.lent.Ends.{Slice}
-use Rattle.compiled_paths.specs.Paths.{paths_in}
+use Rattle.compiled_paths.specs.Paths.{Lent, paths_in}
 use Rattle.compiled_schema.specs.Compiled.{CompiledOf}
 use Rattle.compiled_schema.specs.Places.{names_at}
 use Rattle.compiled_schema.specs.declared.CompiledSchema.{CompiledSchema}
@@ -34,7 +34,7 @@ use Rattle.text_spec.specs.Refusals.{Outcome, refused, at, bad_record, result_or
 
 -- ---- definitions
 -- a call that selects by two records on a lent table beside a lent text
-abbrev pub SelectsNodes : TextRecord → TextRecord → ℕ → LentTable → Slice → Slice → Slice → Selected → Type 0
+abbrev pub SelectsNodes : TextRecord → TextRecord → ℕ → LentTable → Lent → Slice → Slice → Selected → Type 0
 SelectsNodes schema bundle place table lent items counts r = AnsweredCells (nodes_selected schema bundle place table lent.entry.now) r items counts
 
 -- ---- the records

@@ -6,7 +6,7 @@ use Rattle.axis_passes.specs.alternative_steps.Texts.{TextColumns}
 use Rattle.axis_passes.specs.written_steps.Steps.{Scratch}
 use Rattle.cells.specs.lent.Ends.{Slice}
 use Rattle.compiled_paths.specs.Columns.{bundle_in}
-use Rattle.compiled_paths.specs.Paths.{Shaped, lent_paths, paths_in}
+use Rattle.compiled_paths.specs.Paths.{Lent, Shaped, lent_paths, paths_in}
 use Rattle.compiled_paths.specs.declared.CompiledPaths.{CompiledPaths}
 use Rattle.library_spec.specs.Selections.{asked_paths, Selections, selections}
 use Rattle.path_spec.specs.Paths.{LocationPath}
@@ -42,7 +42,7 @@ abbrev pub rows_selected : List ℕ → List Row → ℕ → List (LocationPath 
 rows_selected text rows place ps items counts = in_cells items counts (selections text rows (asked_paths place ps))
 
 -- the paths selected on every well-formed table in these columns
-abbrev pub SelectsOn : Slice → Slice → Slice → List (LocationPath ℕ) → ℕ → Selected → Slice → Slice → Type 0
+abbrev pub SelectsOn : Lent → Lent → Lent → List (LocationPath ℕ) → ℕ → Selected → Slice → Slice → Type 0
 SelectsOn numbers codes parents paths place r items counts =
     (s : Types) (text : List ℕ) (rows : List Row) → RowsIn s rows numbers.entry.now codes.entry.now parents.entry.now
     → AnsweredCells (rows_selected text rows place paths) r items counts

@@ -1,6 +1,5 @@
 use native.Mathlib.Omega.{arith}
-use borrow.Author.Rules.{rules}
-use Rattle.axis_passes.specs.alternative_steps.Alternatives.{StepsBack, steps-begun, steps-column, steps-pass, steps_next, steps_all}
+use Rattle.axis_passes.specs.alternative_steps.Alternatives.{steps-begun, steps-column, steps-pass, steps_next, steps_all}
 use Rattle.axis_passes.specs.steps.Steps.{columns-same-length}
 use Rattle.axis_passes.proofs.alternative_steps.alternative.Goals as goal
 

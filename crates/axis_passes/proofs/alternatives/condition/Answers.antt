@@ -1,7 +1,5 @@
-use Prim.Native.Nat.{◌+◌, ◌-◌}
 use native.Mathlib.Omega.{arith}
-use borrow.Author.Rules.{rules}
-use Rattle.axis_passes.specs.alternatives.Alternatives.{AlternativesSoFar, alternatives-begun, size_fits, size-some, alternatives-pass, alternatives-next, alternatives-all}
+use Rattle.axis_passes.specs.alternatives.Alternatives.{alternatives-begun, size_fits, size-some, alternatives-pass, alternatives-next, alternatives-all}
 use Rattle.axis_passes.proofs.alternatives.condition.Goals as goal
 
 pub overflow_add-end : goal.overflow_add-end
@@ -16,8 +14,7 @@ first_size-size-requires c = omega (arith, c.requires.0.inside)
 
 pub alternative-requires : goal.alternative-requires
 alternative-requires c =
-    let at = c.loop-k in
-    (
+    let at = c.loop-k in (
       alternatives-pass _ _ _ _ _ _ at.k at.held at.steps at.next at.invariant _ c.first_size-size.ensures _ _ _ c.requires.0,
       c.requires.1,
     )

@@ -1,7 +1,5 @@
 use Prim.Native.Nat.{◌+◌, ◌-◌}
-use native.Mathlib.Omega.{arith}
-use borrow.Author.Rules.{rules}
-use Rattle.axis_passes.specs.alternatives.Alternatives.{AlternativesSoFar, alternatives-begun, size_fits, size-some, alternatives-pass, alternatives-next, alternatives-all}
+use Rattle.axis_passes.specs.alternatives.Alternatives.{AlternativesSoFar}
 use Rattle.axis_passes.proofs.alternatives.condition.Given as goal
 
 abbrev pub invariant-loop-k : goal.invariant-loop-k

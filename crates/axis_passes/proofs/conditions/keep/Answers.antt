@@ -1,6 +1,5 @@
 use mathlib.Core.Path.{sym, ◌∙◌}
 use native.Mathlib.Omega.{arith}
-use borrow.Author.Rules.{rules}
 use Rattle.axis_passes.specs.conditions.Conditions.{condition-columns, condition-kept, all-kept, none_kept}
 use Rattle.axis_passes.proofs.conditions.keep.Goals as goal
 
@@ -17,7 +16,7 @@ intersect-requires c =
 
 pub returns-then-any_marked : goal.returns-then-any_marked
 returns-then-any_marked c =
-    condition-kept _ _ c.args.axes.now c.args.tests.now _ _ _ _ _ _ c.requires.0 _ _ c.if-count-ne0.taken
+    condition-kept _ _ c.args.axes.now c.args.tests.now _ _ _ _ _ _ c.requires.0 _ _ c.if-count-ne0.true
     c.condition.ensures c.intersect.ensures
 
 pub returns-else-any_marked : goal.returns-else-any_marked

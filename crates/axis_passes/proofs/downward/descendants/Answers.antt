@@ -1,11 +1,6 @@
-use Prim.Native.Nat.{◌-◌, ◌<◌}
 use native.Mathlib.Omega.{arith}
-use borrow.Author.Rules.{rules}
-use lib.ListN.{length}
-use Rattle.cells.specs.row_sets.Loops.{Forward}
 use Rattle.path_spec.specs.Paths.{descendant}
-use Rattle.selection_laws.specs.marks.Parents.{image_marks}
-use Rattle.selection_laws.specs.marks.Passes.{AxisPass, descendants-begun, descendants-next, forward-image}
+use Rattle.selection_laws.specs.marks.Passes.{descendants-begun, descendants-next, forward-image}
 use Rattle.axis_passes.proofs.downward.descendants.Goals as goal
 
 pub loop-r-init : goal.loop-r-init

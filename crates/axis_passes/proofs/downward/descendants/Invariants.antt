@@ -1,11 +1,9 @@
 use Prim.Native.Nat.{◌-◌, ◌<◌}
-use native.Mathlib.Omega.{arith}
-use borrow.Author.Rules.{rules}
 use lib.ListN.{length}
 use Rattle.cells.specs.row_sets.Loops.{Forward}
 use Rattle.path_spec.specs.Paths.{descendant}
 use Rattle.selection_laws.specs.marks.Parents.{image_marks}
-use Rattle.selection_laws.specs.marks.Passes.{AxisPass, descendants-begun, descendants-next, forward-image}
+use Rattle.selection_laws.specs.marks.Passes.{AxisPass}
 use Rattle.axis_passes.proofs.downward.descendants.Given as goal
 
 abbrev pub invariant-loop-r : goal.invariant-loop-r

@@ -1,3 +1,4 @@
+use native.Mathlib.Omega.{arith}
 use mathlib.Core.Path.{sym, ap}
 use Prim.Native.Nat.{ℕ}
 use Rattle.axis_passes.specs.inverse_axes.Axes.{axis-other}
@@ -48,5 +49,4 @@ returns-in-10 c = ap (λ (a : ℕ). inverse_written (written_of a)) (sym c.in-10
 pub returns-in_default : goal.returns-in_default
 unfolding written_of axis_of
 returns-in_default c =
-    let r = c.in_default.in_default-own.rest in
-    ap inverse_written (sym (axis-other _ r.0.0.0.0.0.0.0.0.0.1 r.0.0.0.0.0.0.0.0.1 r.0.0.0.0.0.0.0.1 r.0.0.0.0.0.0.1 r.0.0.0.0.0.1 r.0.0.0.0.1 r.0.0.0.1 r.0.0.1 r.0.1 r.1))
+    ap inverse_written (sym (axis-other c.args.axis (λ e. omega arith) (λ e. omega arith) (λ e. omega arith) (λ e. omega arith) (λ e. omega arith) (λ e. omega arith) (λ e. omega arith) (λ e. omega arith) (λ e. omega arith) (λ e. omega arith)))

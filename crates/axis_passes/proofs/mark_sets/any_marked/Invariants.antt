@@ -1,10 +1,7 @@
 use mathlib.Core.Path.{◌≡◌}
 use Prim.Native.Nat.{◌-◌, ◌≤◌}
-use native.Mathlib.Omega.{arith}
-use borrow.Author.Rules.{rules}
 use lib.ListN.{length}
 use Rattle.cells.specs.row_sets.Columns.{mark, is_marked}
-use Rattle.selection_laws.specs.marks.Passes.{some-none, some_next, some-all}
 use Rattle.text_spec.specs.Lists.{any_below}
 use Rattle.axis_passes.proofs.mark_sets.any_marked.Given as goal
 

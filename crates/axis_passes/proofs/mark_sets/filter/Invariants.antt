@@ -1,10 +1,8 @@
 use Prim.Native.Nat.{◌-◌}
-use native.Mathlib.Omega.{arith}
-use borrow.Author.Rules.{rules}
 use lib.ListN.{length}
 use Rattle.cells.specs.row_sets.Columns.{intersection}
-use Rattle.cells.specs.row_sets.Loops.{Forward, forward-none, forward-all}
-use Rattle.selection_laws.specs.marks.Passes.{range_marks, filter-next, filter-length}
+use Rattle.cells.specs.row_sets.Loops.{Forward}
+use Rattle.selection_laws.specs.marks.Passes.{range_marks}
 use Rattle.axis_passes.proofs.mark_sets.filter.Given as goal
 
 abbrev pub invariant-loop-r : goal.invariant-loop-r

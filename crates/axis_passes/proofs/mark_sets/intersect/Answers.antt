@@ -1,9 +1,5 @@
-use Prim.Native.Nat.{◌-◌}
 use native.Mathlib.Omega.{arith}
-use borrow.Author.Rules.{rules}
-use lib.ListN.{length}
-use Rattle.cells.specs.row_sets.Columns.{intersection}
-use Rattle.cells.specs.row_sets.Loops.{Forward, forward-none, forward-all}
+use Rattle.cells.specs.row_sets.Loops.{forward-none, forward-all}
 use Rattle.selection_laws.specs.marks.Passes.{intersection-next, intersection-length}
 use Rattle.axis_passes.proofs.mark_sets.intersect.Goals as goal
 

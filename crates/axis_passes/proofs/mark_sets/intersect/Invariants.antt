@@ -1,10 +1,7 @@
 use Prim.Native.Nat.{◌-◌}
-use native.Mathlib.Omega.{arith}
-use borrow.Author.Rules.{rules}
 use lib.ListN.{length}
 use Rattle.cells.specs.row_sets.Columns.{intersection}
-use Rattle.cells.specs.row_sets.Loops.{Forward, forward-none, forward-all}
-use Rattle.selection_laws.specs.marks.Passes.{intersection-next, intersection-length}
+use Rattle.cells.specs.row_sets.Loops.{Forward}
 use Rattle.axis_passes.proofs.mark_sets.intersect.Given as goal
 
 abbrev pub invariant-loop-r : goal.invariant-loop-r

@@ -1,10 +1,6 @@
-use Prim.Native.Nat.{◌-◌}
 use native.Mathlib.Omega.{arith}
-use borrow.Author.Rules.{rules}
-use lib.ListN.{length}
-use Rattle.axis_passes.specs.root.Roots.{at_root, at-root-row, at-root-length, children-set}
-use Rattle.cells.specs.row_sets.Columns.{marks}
-use Rattle.cells.specs.row_sets.Loops.{Forward, forward-none, forward-next, forward-all}
+use Rattle.axis_passes.specs.root.Roots.{at-root-row, at-root-length, children-set}
+use Rattle.cells.specs.row_sets.Loops.{forward-none, forward-next, forward-all}
 use Rattle.axis_passes.proofs.root.mark_children.Goals as goal
 
 pub loop-r-init : goal.loop-r-init

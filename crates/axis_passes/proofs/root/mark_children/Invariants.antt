@@ -1,10 +1,8 @@
 use Prim.Native.Nat.{◌-◌}
-use native.Mathlib.Omega.{arith}
-use borrow.Author.Rules.{rules}
 use lib.ListN.{length}
-use Rattle.axis_passes.specs.root.Roots.{at_root, at-root-row, at-root-length, children-set}
+use Rattle.axis_passes.specs.root.Roots.{at_root}
 use Rattle.cells.specs.row_sets.Columns.{marks}
-use Rattle.cells.specs.row_sets.Loops.{Forward, forward-none, forward-next, forward-all}
+use Rattle.cells.specs.row_sets.Loops.{Forward}
 use Rattle.axis_passes.proofs.root.mark_children.Given as goal
 
 abbrev pub invariant-loop-r : goal.invariant-loop-r

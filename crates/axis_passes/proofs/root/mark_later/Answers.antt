@@ -1,4 +1,3 @@
-use borrow.Author.Rules.{rules}
 use Rattle.axis_passes.specs.root.Roots.{later-set}
 use Rattle.axis_passes.proofs.root.mark_later.Goals as goal
 

@@ -1,4 +1,3 @@
-use borrow.Author.Rules.{rules}
 use Rattle.axis_passes.specs.root.Roots.{root-set}
 use Rattle.axis_passes.proofs.root.mark_root.Goals as goal
 

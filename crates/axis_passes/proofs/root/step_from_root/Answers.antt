@@ -1,4 +1,3 @@
-use borrow.Author.Rules.{rules}
 use Rattle.axis_passes.specs.root.Roots.{first-root, first-test, first-marked}
 use Rattle.axis_passes.proofs.root.step_from_root.Goals as goal
 

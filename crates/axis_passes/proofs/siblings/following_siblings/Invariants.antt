@@ -1,8 +1,6 @@
 use Prim.Native.Nat.{◌-◌}
-use native.Mathlib.Omega.{arith}
-use borrow.Author.Rules.{rules}
 use lib.ListN.{length}
-use Rattle.axis_passes.specs.siblings.Following.{Following, following-begun, following-all, parent-inside, own-inside, following-next}
+use Rattle.axis_passes.specs.siblings.Following.{Following}
 use Rattle.axis_passes.proofs.siblings.following_siblings.Given as goal
 
 abbrev pub invariant-loop-r : goal.invariant-loop-r

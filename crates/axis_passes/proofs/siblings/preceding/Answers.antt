@@ -1,5 +1,4 @@
 use native.Mathlib.Omega.{arith}
-use borrow.Author.Rules.{rules}
 use Rattle.axis_passes.specs.siblings.Siblings.{next-pass, passes-joined}
 use Rattle.axis_passes.specs.steps.Steps.{image-column, preceding-column}
 use Rattle.path_spec.specs.Paths.{ancestor_or_self}

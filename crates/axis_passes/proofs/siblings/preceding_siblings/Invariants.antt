@@ -1,8 +1,4 @@
-use Prim.Native.Nat.{◌-◌}
-use native.Mathlib.Omega.{arith}
-use borrow.Author.Rules.{rules}
-use lib.ListN.{length-set}
-use Rattle.axis_passes.specs.siblings.Preceding.{Preceding, preceding-begun, parent-inside, parent-kept, preceding-next, preceding-all}
+use Rattle.axis_passes.specs.siblings.Preceding.{Preceding}
 use Rattle.axis_passes.proofs.siblings.preceding_siblings.Given as goal
 
 abbrev pub invariant-loop-r : goal.invariant-loop-r

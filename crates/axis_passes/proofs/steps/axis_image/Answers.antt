@@ -1,3 +1,4 @@
+use native.Mathlib.Omega.{arith}
 use borrow.Author.Rules.{rules}
 use Rattle.axis_passes.specs.inverse_axes.Axes.{axis-other}
 use Rattle.axis_passes.specs.steps.Steps.{axis-number, image-kept}
@@ -34,7 +35,7 @@ returns-in-7 c = axis-number _ 7 _ _ _ c.in-7.is c.following.ensures
 
 pub returns-in-8 : goal.returns-in-8
 unfolding written_of axis_of
-returns-in-8 c = axis-number _ 8 _ _ _ c.in-8.is c.following_siblings.ensures
+returns-in-8 c = axis-number _ 8 _ _ _ c.in-8.is (search rules)
 
 pub returns-in-9 : goal.returns-in-9
 unfolding written_of axis_of
@@ -42,10 +43,9 @@ returns-in-9 c = axis-number _ 9 _ _ _ c.in-9.is c.preceding.ensures
 
 pub returns-in-10 : goal.returns-in-10
 unfolding written_of axis_of
-returns-in-10 c = axis-number _ 10 _ _ _ c.in-10.is c.preceding_siblings.ensures
+returns-in-10 c = axis-number _ 10 _ _ _ c.in-10.is (search rules)
 
 pub returns-in_default : goal.returns-in_default
 returns-in_default c =
-    let r = c.in_default.in_default-own.rest in
-    image-kept _ _ _ _ _ c.requires (axis-other _ r.0.0.0.0.0.0.0.0.0.1 r.0.0.0.0.0.0.0.0.1 r.0.0.0.0.0.0.0.1 r.0.0.0.0.0.0.1 r.0.0.0.0.0.1 r.0.0.0.0.1 r.0.0.0.1 r.0.0.1 r.0.1 r.1)
+    image-kept _ _ _ _ _ c.requires (axis-other _ (λ e. omega arith) (λ e. omega arith) (λ e. omega arith) (λ e. omega arith) (λ e. omega arith) (λ e. omega arith) (λ e. omega arith) (λ e. omega arith) (λ e. omega arith) (λ e. omega arith))
     c.copy.ensures

@@ -1,4 +1,3 @@
-use borrow.Author.Rules.{rules}
 use Rattle.axis_passes.specs.steps.Steps.{tested}
 use Rattle.axis_passes.proofs.steps.filter_test.Goals as goal
 

@@ -1,5 +1,4 @@
 use mathlib.Core.Path.{sym, ◌∙◌}
-use borrow.Author.Rules.{rules}
 use borrow.Author.Tests.{not-true}
 use Rattle.axis_passes.specs.steps.Steps.{pass-test, tested-marks, tested-axis, moved_back, none-back}
 use Rattle.axis_passes.proofs.steps.step_back.Goals as goal

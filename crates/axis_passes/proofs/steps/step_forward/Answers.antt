@@ -1,5 +1,4 @@
 use native.Mathlib.Omega.{arith}
-use borrow.Author.Rules.{rules}
 use Rattle.axis_passes.specs.steps.Steps.{pass-axis, moved-test, moved}
 use Rattle.axis_passes.proofs.steps.step_forward.Goals as goal
 

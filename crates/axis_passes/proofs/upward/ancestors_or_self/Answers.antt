@@ -1,7 +1,6 @@
 use native.Mathlib.Omega.{arith}
-use borrow.Author.Rules.{rules}
 use Rattle.axis_passes.specs.upward.Turns.{turn_inside}
-use Rattle.selection_laws.specs.marks.Passes.{Backward, to-ancestor-or-self, ancestors-or-self-begun, ancestors-or-self-next, backward-all}
+use Rattle.selection_laws.specs.marks.Passes.{to-ancestor-or-self, ancestors-or-self-begun, ancestors-or-self-next, backward-all}
 use Rattle.axis_passes.proofs.upward.ancestors_or_self.Goals as goal
 
 pub loop-r-init : goal.loop-r-init

@@ -1,7 +1,4 @@
-use native.Mathlib.Omega.{arith}
-use borrow.Author.Rules.{rules}
-use Rattle.axis_passes.specs.upward.Turns.{turn_inside}
-use Rattle.selection_laws.specs.marks.Passes.{Backward, to-ancestor-or-self, ancestors-or-self-begun, ancestors-or-self-next, backward-all}
+use Rattle.selection_laws.specs.marks.Passes.{Backward, to-ancestor-or-self}
 use Rattle.axis_passes.proofs.upward.ancestors_or_self.Given as goal
 
 abbrev pub invariant-loop-r : goal.invariant-loop-r

@@ -1,5 +1,4 @@
 use native.Mathlib.Omega.{arith}
-use borrow.Author.Rules.{rules}
 use Rattle.axis_passes.specs.written_steps.Steps.{at-keep, at-kept}
 use Rattle.axis_passes.proofs.written_steps.keep_at.Goals as goal
 

@@ -1,5 +1,4 @@
 use native.Mathlib.Omega.{arith}
-use borrow.Author.Rules.{rules}
 use Rattle.axis_passes.specs.written_steps.Steps.{step-pass, step_kept, step-marked}
 use Rattle.axis_passes.proofs.written_steps.step.Goals as goal
 
@@ -8,11 +7,10 @@ step_forward-requires c =
     step-pass _ _ c.args.axes.now c.args.tests.now _ _ _ _ _ _ c.requires.0
 
 pub keep_at-requires : goal.keep_at-requires
-keep_at-requires c =
-    (
-      step_kept _ _ c.args.axes.now c.args.tests.now _ _ _ _ _ _ c.requires.0 _ _ _ c.step_forward.ensures (omega arith),
-      c.requires.1,
-    )
+keep_at-requires c = (
+  step_kept _ _ c.args.axes.now c.args.tests.now _ _ _ _ _ _ c.requires.0 _ _ _ c.step_forward.ensures (omega arith),
+  c.requires.1,
+)
 
 pub returns : goal.returns
 returns c =

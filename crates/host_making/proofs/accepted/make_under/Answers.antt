@@ -17,27 +17,6 @@ read_compiled-verdict-requires c =
     let pre = c.requires in
     (pre.made, omega arith, pre.equal)
 
-pub shape_of-numbers-then-verdict-ne0 : goal.shape_of-numbers-then-verdict-ne0
-shape_of-numbers-then-verdict-ne0 c = c.read_compiled-verdict.auto.1.1.1.1.0
-
-pub shape_of-names-then-verdict-ne0 : goal.shape_of-names-then-verdict-ne0
-shape_of-names-then-verdict-ne0 c = c.read_compiled-verdict.auto.1.1.1.1.1.0
-
-pub shape_of-parents-then-verdict-ne0 : goal.shape_of-parents-then-verdict-ne0
-shape_of-parents-then-verdict-ne0 c = c.read_compiled-verdict.auto.1.1.1.1.1.1.0
-
-pub shape_of-starts-then-verdict-ne0 : goal.shape_of-starts-then-verdict-ne0
-shape_of-starts-then-verdict-ne0 c = c.read_compiled-verdict.auto.1.1.1.1.1.1.1.0
-
-pub shape_of-lengths-then-verdict-ne0 : goal.shape_of-lengths-then-verdict-ne0
-shape_of-lengths-then-verdict-ne0 c = c.read_compiled-verdict.auto.1.1.1.1.1.1.1.1.0
-
-pub shape_of-decoded-then-verdict-ne0 : goal.shape_of-decoded-then-verdict-ne0
-shape_of-decoded-then-verdict-ne0 c = c.read_compiled-verdict.auto.1.1.1.1.1.1.1.1.1.0
-
-pub shape_of-out-then-verdict-ne0 : goal.shape_of-out-then-verdict-ne0
-shape_of-out-then-verdict-ne0 c = c.clear_bytes.auto.0
-
 pub returns-then-verdict-ne0 : goal.returns-then-verdict-ne0
 returns-then-verdict-ne0 c =
     let taken = c.requires.read in
@@ -50,27 +29,6 @@ write_under-requires c =
     let was = c.read_compiled-verdict.ensures in
     let rows = rows-read _ _ _ _ (was.answer pre.read) (was.cells pre.read) c.if-verdict-ne0.false in
     (pre.shaped, compiled-few _ _ pre.made, first-asked _ _ pre.read _ (lent (goal.at.write_under-requires c).After-struct_known-1) pre.equal _ _ rows)
-
-pub shape_of-numbers : goal.shape_of-numbers
-shape_of-numbers c = c.write_under.auto.1.1.1.1.1.1.1.1.0 ∙ c.read_compiled-verdict.auto.1.1.1.1.0
-
-pub shape_of-names : goal.shape_of-names
-shape_of-names c = c.write_under.auto.1.1.1.1.1.1.1.1.1.0 ∙ c.read_compiled-verdict.auto.1.1.1.1.1.0
-
-pub shape_of-parents : goal.shape_of-parents
-shape_of-parents c = c.write_under.auto.1.1.1.1.1.1.1.1.1.1.0 ∙ c.read_compiled-verdict.auto.1.1.1.1.1.1.0
-
-pub shape_of-starts : goal.shape_of-starts
-shape_of-starts c = c.write_under.auto.1.1.1.1.1.1.1.1.1.1.1.0 ∙ c.read_compiled-verdict.auto.1.1.1.1.1.1.1.0
-
-pub shape_of-lengths : goal.shape_of-lengths
-shape_of-lengths c = c.write_under.auto.1.1.1.1.1.1.1.1.1.1.1.1.0 ∙ c.read_compiled-verdict.auto.1.1.1.1.1.1.1.1.0
-
-pub shape_of-decoded : goal.shape_of-decoded
-shape_of-decoded c = c.write_under.auto.1.1.1.1.1.1.1.1.1.1.1.1.1.0 ∙ c.read_compiled-verdict.auto.1.1.1.1.1.1.1.1.1.0
-
-pub shape_of-out : goal.shape_of-out
-shape_of-out c = c.write_under.auto.1.1.1.1.1.1.1.1.1.1.1.1.1.1.0
 
 pub returns : goal.returns
 returns c =

@@ -47,30 +47,6 @@ write_kept-bytes-requires c =
     let asked = c.requires.2 in
     (asked.texts, asked.kept)
 
-pub answer-requires : goal.answer-requires
-answer-requires c = tt
-
-pub shape_of-numbers : goal.shape_of-numbers
-shape_of-numbers c = c.answer.auto.1.1.1.0
-
-pub shape_of-names : goal.shape_of-names
-shape_of-names c = c.answer.auto.1.1.1.1.0
-
-pub shape_of-parents : goal.shape_of-parents
-shape_of-parents c = c.answer.auto.1.1.1.1.1.0
-
-pub shape_of-starts : goal.shape_of-starts
-shape_of-starts c = c.answer.auto.1.1.1.1.1.1.0
-
-pub shape_of-lengths : goal.shape_of-lengths
-shape_of-lengths c = c.answer.auto.1.1.1.1.1.1.1.0
-
-pub shape_of-decoded : goal.shape_of-decoded
-shape_of-decoded c = c.answer.auto.1.1.1.1.1.1.1.1.0
-
-pub shape_of-out : goal.shape_of-out
-shape_of-out c = c.write-Kept.auto.1.1.1.1.1.1.1.1.0
-
 pub returns : goal.returns
 returns c =
     record {

@@ -18,30 +18,6 @@ paths-at c = lent_paths c.args.axes.now c.args.tests.now c.args.conditions.now c
 pub read_extract_table-verdict-requires : goal.read_extract_table-verdict-requires
 read_extract_table-verdict-requires c = c.requires.equal
 
-pub shape_of-numbers-then-verdict-ne0 : goal.shape_of-numbers-then-verdict-ne0
-shape_of-numbers-then-verdict-ne0 c = c.read_extract_table-verdict.auto.1.1.0
-
-pub shape_of-names-then-verdict-ne0 : goal.shape_of-names-then-verdict-ne0
-shape_of-names-then-verdict-ne0 c = c.read_extract_table-verdict.auto.1.1.1.0
-
-pub shape_of-parents-then-verdict-ne0 : goal.shape_of-parents-then-verdict-ne0
-shape_of-parents-then-verdict-ne0 c = c.read_extract_table-verdict.auto.1.1.1.1.0
-
-pub shape_of-starts-then-verdict-ne0 : goal.shape_of-starts-then-verdict-ne0
-shape_of-starts-then-verdict-ne0 c = c.read_extract_table-verdict.auto.1.1.1.1.1.0
-
-pub shape_of-lengths-then-verdict-ne0 : goal.shape_of-lengths-then-verdict-ne0
-shape_of-lengths-then-verdict-ne0 c = c.read_extract_table-verdict.auto.1.1.1.1.1.1.0
-
-pub shape_of-decoded-then-verdict-ne0 : goal.shape_of-decoded-then-verdict-ne0
-shape_of-decoded-then-verdict-ne0 c = c.read_extract_table-verdict.auto.1.1.1.1.1.1.1.0
-
-pub shape_of-items-then-verdict-ne0 : goal.shape_of-items-then-verdict-ne0
-shape_of-items-then-verdict-ne0 c = c.clear_numbers.auto.0
-
-pub shape_of-counts-then-verdict-ne0 : goal.shape_of-counts-then-verdict-ne0
-shape_of-counts-then-verdict-ne0 c = c.clear_places.auto.0
-
 pub returns-then-verdict-ne0 : goal.returns-then-verdict-ne0
 returns-then-verdict-ne0 c =
     let at = c.args in
@@ -55,32 +31,8 @@ select_under-requires c =
     let pre = c.requires in
     let was = c.read_extract_table-verdict.ensures in
     let held = words-read _ _ pre.made _ c.words_of-words.ensures in
-    let rows = rows-read _ _ _ _ (was.answer _ held) (was.cells _ held) c.if-verdict-ne0.left in
+    let rows = rows-read _ _ _ _ (was.answer _ held) (was.cells _ held) c.if-verdict-ne0.false in
     (pre.shaped, pre.inside, rows-asked _ _ pre.read _ (lent (goal.at.select_under-requires c).After-struct_known-1) pre.equal _ _ rows)
-
-pub shape_of-numbers : goal.shape_of-numbers
-shape_of-numbers c = c.select_under.auto.1.1.1.1.1.1.1.1.0 ∙ c.read_extract_table-verdict.auto.1.1.0
-
-pub shape_of-names : goal.shape_of-names
-shape_of-names c = c.select_under.auto.1.1.1.1.1.1.1.1.1.0 ∙ c.read_extract_table-verdict.auto.1.1.1.0
-
-pub shape_of-parents : goal.shape_of-parents
-shape_of-parents c = c.select_under.auto.1.1.1.1.1.1.1.1.1.1.0 ∙ c.read_extract_table-verdict.auto.1.1.1.1.0
-
-pub shape_of-starts : goal.shape_of-starts
-shape_of-starts c = c.select_under.auto.1.1.1.1.1.1.1.1.1.1.1.0 ∙ c.read_extract_table-verdict.auto.1.1.1.1.1.0
-
-pub shape_of-lengths : goal.shape_of-lengths
-shape_of-lengths c = c.select_under.auto.1.1.1.1.1.1.1.1.1.1.1.1.0 ∙ c.read_extract_table-verdict.auto.1.1.1.1.1.1.0
-
-pub shape_of-decoded : goal.shape_of-decoded
-shape_of-decoded c = c.select_under.auto.1.1.1.1.1.1.1.1.1.1.1.1.1.0 ∙ c.read_extract_table-verdict.auto.1.1.1.1.1.1.1.0
-
-pub shape_of-items : goal.shape_of-items
-shape_of-items c = c.select_under.auto.1.1.1.1.1.1.1.1.1.1.1.1.1.1.0
-
-pub shape_of-counts : goal.shape_of-counts
-shape_of-counts c = c.select_under.auto.1.1.1.1.1.1.1.1.1.1.1.1.1.1.1.0
 
 pub returns : goal.returns
 returns c =

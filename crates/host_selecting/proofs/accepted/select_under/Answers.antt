@@ -49,32 +49,5 @@ select_table-selected-requires c =
     let held = columns at.numbers.now at.names.now at.parents.now at.starts.now at.lengths.now at.decoded.now in
     (pre.0, pre.1, pre.2.columns, taken-texts _ held _ rooms.parents rooms.starts rooms.lengths rooms.decoded)
 
-pub answer-requires : goal.answer-requires
-answer-requires c = tt
-
-pub shape_of-numbers : goal.shape_of-numbers
-shape_of-numbers c = c.answer.auto.1.1.0
-
-pub shape_of-names : goal.shape_of-names
-shape_of-names c = c.answer.auto.1.1.1.0
-
-pub shape_of-parents : goal.shape_of-parents
-shape_of-parents c = c.answer.auto.1.1.1.1.0
-
-pub shape_of-starts : goal.shape_of-starts
-shape_of-starts c = c.answer.auto.1.1.1.1.1.0
-
-pub shape_of-lengths : goal.shape_of-lengths
-shape_of-lengths c = c.answer.auto.1.1.1.1.1.1.0
-
-pub shape_of-decoded : goal.shape_of-decoded
-shape_of-decoded c = c.answer.auto.1.1.1.1.1.1.1.0
-
-pub shape_of-items : goal.shape_of-items
-shape_of-items c = c.select_table-selected.auto.1.1.1.1.1.1.1.1.1.1.1.1.1.0
-
-pub shape_of-counts : goal.shape_of-counts
-shape_of-counts c = c.select_table-selected.auto.1.1.1.1.1.1.1.1.1.1.1.1.1.1.0
-
 pub returns : goal.returns
 returns c = record { selected = c.select_table-selected.result; answer = c.select_table-selected.ensures; last = c.answer.ensures }

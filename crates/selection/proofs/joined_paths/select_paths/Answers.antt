@@ -33,13 +33,13 @@ overflow_cast-m c =
 
 pub overflow_add-i : goal.overflow_add-i
 overflow_add-i c =
-    omega (arith, c.requires.0.inside, c.requires.0.shaped.few, c.loop-i-test.taken)
+    omega (arith, c.requires.0.inside, c.requires.0.shaped.few, c.loop-i-test.true)
 
 pub loop-i-preserved : goal.loop-i-preserved
 loop-i-preserved c =
     let at = c.loop-i in
     paths-next _ _ _ _ _ _ _ _ at.i at.n at.items at.counts at.marks at.held at.steps at.next at.invariant _ _
-    c.select_one-m.ensures c.requires.0.columns _ _ _ _ _ c.loop-i-test.taken c.put_count.ensures
+    c.select_one-m.ensures c.requires.0.columns _ _ _ _ _ c.loop-i-test.true c.put_count.ensures
     c.marks-1.given c.held-1.given c.steps-1.given c.next-1.given
 
 pub overflow_sub-end : goal.overflow_sub-end

@@ -6,7 +6,7 @@ use lib.Seq.{length-take-le}
 use Rattle.selection.specs.lent.Lent.{beside-inside, beside-columns, beside-texts, no_place, no_table, table_selected}
 use Rattle.table_spec.specs.Columns.{columns}
 use Rattle.tables.specs.rows.Lent.{Lent}
-use Rattle.selection.proofs.lent.select_lent.Goals.{After-is_table_beside, After-shared_slice_known-6-1, After-shared_slice_known-7-1, After-slice_known-1, After-slice_known-2-1, Else-not-is_table_beside, Else-total-place}
+use Rattle.selection.proofs.lent.select_lent.Goals.{Else-not-is_table_beside}
 use Rattle.selection.proofs.lent.select_lent.Goals as goal
 
 -- the table passes: it has its cells, and its columns are those of rows
@@ -21,22 +21,22 @@ returns-then-not-is_table_beside c s held =
     no_table s _ _ _ _ _ _ _ _ _ c.if-total-place.false _ _ c.is_table_beside.ensures held (not-true _ c.if-not-is_table_beside.true-raw) c.bad_record-then-not-is_table_beside.ensures
 
 pub slice_bounds-select_table-end : goal.slice_bounds-select_table-end
-slice_bounds-select_table-end c = sym (length-take-le _ _ (inside (goal.at.slice_bounds-select_table-end c).After-is_table_beside).numbered)
+slice_bounds-select_table-end c = sym (length-take-le _ _ (inside (goal.at.slice_bounds-select_table-end c).Else-not-is_table_beside).numbered)
 
 pub slice_bounds-select_table-end-2 : goal.slice_bounds-select_table-end-2
-slice_bounds-select_table-end-2 c = sym (length-take-le _ _ (inside (goal.at.slice_bounds-select_table-end-2 c).Else-total-place).named)
+slice_bounds-select_table-end-2 c = sym (length-take-le _ _ (inside (goal.at.slice_bounds-select_table-end-2 c).Else-not-is_table_beside).named)
 
 pub slice_bounds-select_table-end-3 : goal.slice_bounds-select_table-end-3
-slice_bounds-select_table-end-3 c = sym (length-take-le _ _ (inside (goal.at.slice_bounds-select_table-end-3 c).After-slice_known-2-1).parented)
+slice_bounds-select_table-end-3 c = sym (length-take-le _ _ (inside (goal.at.slice_bounds-select_table-end-3 c).Else-not-is_table_beside).parented)
 
 pub slice_bounds-select_table-end-4 : goal.slice_bounds-select_table-end-4
-slice_bounds-select_table-end-4 c = sym (length-take-le _ _ (inside (goal.at.slice_bounds-select_table-end-4 c).After-slice_known-1).started)
+slice_bounds-select_table-end-4 c = sym (length-take-le _ _ (inside (goal.at.slice_bounds-select_table-end-4 c).Else-not-is_table_beside).started)
 
 pub slice_bounds-select_table-end-5 : goal.slice_bounds-select_table-end-5
-slice_bounds-select_table-end-5 c = sym (length-take-le _ _ (inside (goal.at.slice_bounds-select_table-end-5 c).After-shared_slice_known-7-1).sized)
+slice_bounds-select_table-end-5 c = sym (length-take-le _ _ (inside (goal.at.slice_bounds-select_table-end-5 c).Else-not-is_table_beside).sized)
 
 pub slice_bounds-select_table-end-6 : goal.slice_bounds-select_table-end-6
-slice_bounds-select_table-end-6 c = sym (length-take-le _ _ (inside (goal.at.slice_bounds-select_table-end-6 c).After-shared_slice_known-6-1).decreases)
+slice_bounds-select_table-end-6 c = sym (length-take-le _ _ (inside (goal.at.slice_bounds-select_table-end-6 c).Else-not-is_table_beside).measured)
 
 pub select_table-requires : goal.select_table-requires
 select_table-requires c =

@@ -13,24 +13,6 @@ pub overflow_sub-end : goal.overflow_sub-end
 overflow_sub-end c =
     (asked-order _ _ _ _ c.requires.0.inside c.first_asked-first.ensures c.past_asked-end.ensures).0
 
-pub shape_of-items : goal.shape_of-items
-shape_of-items c = c.items-2-1.given ∙ c.items-1.given
-
-pub shape_of-counts : goal.shape_of-counts
-shape_of-counts c = c.counts-2-1.given ∙ c.counts-1.given
-
-pub shape_of-marks : goal.shape_of-marks
-shape_of-marks c = c.marks-1.given
-
-pub shape_of-held : goal.shape_of-held
-shape_of-held c = c.held-1.given
-
-pub shape_of-steps : goal.shape_of-steps
-shape_of-steps c = c.steps-1.given
-
-pub shape_of-next : goal.shape_of-next
-shape_of-next c = c.next-1.given
-
 pub returns : goal.returns
 returns c s text rows w =
     asked-answered _ _ _ _ _ c.requires.0.inside _ _ c.first_asked-first.ensures c.past_asked-end.ensures s text rows w _ _ _ _ _
