@@ -54,7 +54,8 @@ slice_bounds-read_journal-end-6 c = sized (goal.at.slice_bounds-read_journal-end
 
 pub returns : goal.returns
 returns c =
-    let cells = c.read_journal-verdict.new.1.1 in
+    let cells = c.read_journal-verdict.new in
+    let said = c.read_journal-verdict.ensures in
     let schema = c.args.schema in
     read-for (record_with schema.bytes schema.len) c.args.text.now c.args.room c.cell_of-size.result c.cell_of-size.ensures c.read_journal-verdict.result
-    cells.0 cells.1.0 cells.1.1.0 cells.1.1.1.0 cells.1.1.1.1.0 cells.1.1.1.1.1.0 c.read_journal-verdict.ensures
+    cells.numbers cells.names cells.parents cells.starts cells.lengths cells.decoded (said.value, said.left_rows)
