@@ -1,5 +1,5 @@
 -- Laws of the judgement: each refusal in its order, and acceptance.
-use mathlib.Core.List.Memᴰ.{head as here}
+use mathlib.Core.List.Memᴰ.{head as here, tail as there}
 use mathlib.Core.List.{List, [], ◌∷◌, ◌++◌, map, append-nil, Memᴰ as In}
 use Rattle.std.specs.Prelude.{◌≡◌, refl, ℕ, ◌+◌, ◌-◌, ◌≤◌, ◌<◌, length, take, replicate}
 use Rattle.std.proofs.Math.Path.{sym, ap, ap₂, subst}
@@ -101,6 +101,7 @@ module _ {text : List ℕ} (R : Readable text) where
     where
       only : (x : ℕ) → In x (j ∷ []) → j ≤ x
       only x (here q) = omega arith
+      only x (there i) = elim i [ ]
 
   limit-first : (s : Schema) (ps : List PathRead) (m : ℕ) → parse text ≡ spells ps → first_over 0 ps ≡ m + 1 → read_bundle s text ≡ refused (at over_path_limit m)
   limit-first s ps m e f =

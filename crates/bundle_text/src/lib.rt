@@ -1,4 +1,6 @@
 // A bundle text read: axes, steps, conditions and lines, where it departs from the grammar, and the first path that passes a limit.
+#![tactic(auto)]
+
 pub mod alternative_ends;
 pub mod alternatives;
 pub mod axes;

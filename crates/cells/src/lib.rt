@@ -1,3 +1,5 @@
+#![tactic(auto)]
+
 // What is lent and answered: cells and columns cleared and written, sets of rows as columns of marks, text and numbers written, the outcome as
 // three numbers.
 pub mod columns;

@@ -1,4 +1,6 @@
 // The paths of a bundle in columns of numbers, derived from its text and never judged.
+#![tactic(auto)]
+
 pub mod ranges;
 
 ghost use Rattle.std.specs.Prelude.{[], ◌≡◌, ◌+◌, ◌≤◌, length};

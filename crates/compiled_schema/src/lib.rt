@@ -1,4 +1,6 @@
 // The compiled schema: the data that is derived from a schema's text. Its names, what is known of each element and what lies below it.
+#![tactic(auto)]
+
 pub mod element_entry;
 pub mod entry_columns;
 pub mod entry_parts;

@@ -2,7 +2,6 @@
 use Rattle.std.specs.Prelude.{Bool, false, cond, not, List, [], ◌∷◌, ◌++◌, ℕ, zero, suc, ◌+◌, ◌*◌, eqb, leb, length, take, drop}
 use Rattle.std.proofs.Math.Option.{Option, none, some}
 use Rattle.extract_spec.specs.Fields.{element_tag, text_tag, count_tag}
-use Rattle.schema_spec.specs.Names.{element}
 use Rattle.schema_spec.specs.Types.{Types}
 use Rattle.table_spec.specs.Rows.{Row, element_row, text_row}
 use Rattle.table_spec.specs.Tables.{well_formed_with}

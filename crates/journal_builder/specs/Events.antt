@@ -1,12 +1,12 @@
 -- Events by their numbers, and the laws of an event: nothing is judged once nesting is broken, and an empty tag is a start tag and its end.
 use Rattle.std.specs.Prelude.{Bool, true, false, cond, List, ◌≡◌, refl, ℕ, ◌≤◌, eqb, leb, length}
 use Rattle.std.proofs.Common.{sym, ap, subst, ◌∙◌, arith}
-use Rattle.cells.specs.lent.Ends.{SliceOf, Slice}
+use Rattle.cells.specs.lent.Ends.{Slice}
 use Rattle.journal_builder.specs.build_state.State.{judged_from, Safe, Built, Rows, Leaves, SafeStep, no_row, step}
 use Rattle.journal_builder.specs.declared.build_state.Build.{Build}
 use Rattle.journal_builder.specs.declared.build_state.BuildStep.{BuildStep}
 use Rattle.journal_builder.specs.element_names.Names.{NamesOf}
-use Rattle.journal_builder.specs.fillings.Fillings.{KindsOf, ModelsOf, EntryModels}
+use Rattle.journal_builder.specs.fillings.Fillings.{KindsOf, ModelsOf, SharedOf, Shared, EntryModels}
 use Rattle.journal_builder.specs.laws.Ends.{end_none, end-keeps-rows}
 use Rattle.journal_builder.specs.laws.Starts.{is_innermost}
 use Rattle.journal_builder.specs.laws.StateLaws.{leaves_kept, leaves-as, rows_as}
@@ -76,20 +76,20 @@ ends-leaves {s} {levels} {m} {r} {b} {e} n k x u q c f w v =
 
 -- ---- tags, as contracts say it
 -- the element that an empty tag has begun is closed at once
-abbrev pub ClosesBegun : Slice → Slice → SliceOf Bool → Slice → BuildStep → BuildStep → Type 0
+abbrev pub ClosesBegun : Shared → Shared → SharedOf Bool → Shared → BuildStep → BuildStep → Type 0
 ClosesBegun firsts lasts nullables levels begun r =
     (s : Schema) (m : Build) (b c : Building) (n : List ℕ) (k : ℕ) (elements predecessors sizes : List ℕ)
     → ModelsOf s firsts.entry.now lasts.entry.now nullables.entry.now elements predecessors sizes → (is_none c.broken ≡ true → is_innermost c.opens n ≡ true)
     → Leaves s levels.entry.now m b begun c → Leaves s levels.entry.now m b r (closed_after n k c)
 
 -- a tag after the columns of a schema that it asks for: a start tag where nesting is not broken, and any tag
-abbrev pub StartBy : (List ℕ → Event) → Slice → ℕ → Slice → Slice → Slice → SliceOf Bool → Slice → Slice → Slice → Slice → Build → Name → BuildStep → Type 0
+abbrev pub StartBy : (List ℕ → Event) → Shared → ℕ → Shared → Shared → Shared → SharedOf Bool → Shared → Shared → Shared → Slice → Build → Name → BuildStep → Type 0
 StartBy event words count kinds firsts lasts nullables elements predecessors sizes levels m name r =
     (s : Schema) (b : Building) (n : List ℕ) → NamesOf s words.entry.now → count ≡ length s → KindsOf s kinds.entry.now
     → EntryModels s firsts lasts nullables elements predecessors sizes → Spells name n → is_none b.broken ≡ true → Built s levels.entry.now m b
     → Leaves s levels.exit.now m b r (on_unbroken s (event n) b)
 
-abbrev pub TagBy : (List ℕ → Event) → Slice → ℕ → Slice → Slice → Slice → SliceOf Bool → Slice → Slice → Slice → Slice → Build → Name → BuildStep → Type 0
+abbrev pub TagBy : (List ℕ → Event) → Shared → ℕ → Shared → Shared → Shared → SharedOf Bool → Shared → Shared → Shared → Slice → Build → Name → BuildStep → Type 0
 TagBy event words count kinds firsts lasts nullables elements predecessors sizes levels m name r =
     (s : Schema) (b : Building) (n : List ℕ) → NamesOf s words.entry.now → count ≡ length s → KindsOf s kinds.entry.now
     → EntryModels s firsts lasts nullables elements predecessors sizes → Spells name n → Built s levels.entry.now m b

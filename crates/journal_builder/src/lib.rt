@@ -1,4 +1,6 @@
 // Events of a journal turned into open elements, content and rows: refusals 12 to 16.
+#![tactic(auto)]
+
 pub mod begun_nodes;
 pub mod build_state;
 pub mod children;

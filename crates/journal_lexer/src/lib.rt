@@ -1,4 +1,6 @@
 // A journal's bytes turned into events: one byte in each mode, a loop for each mode that lasts, and entities recognised at once.
+#![tactic(auto)]
+
 pub mod character_data;
 pub mod data_loops;
 pub mod data_runs;

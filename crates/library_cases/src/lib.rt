@@ -1,1 +1,3 @@
+#![tactic(auto)]
+
 // Cases alone: they stand in specs/.

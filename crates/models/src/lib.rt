@@ -1,3 +1,5 @@
+#![tactic(auto)]
+
 // Content models as position automata: the names of a model are its positions, numbered from 0, and a set of positions is a word. The functions
 // that build one stand in `position_automata`.
 pub mod automata;

@@ -1,3 +1,5 @@
+#![tactic(auto)]
+
 // Sets of names: elements and text names, each as the bits of a word, by value.
 pub mod bits;
 pub mod closures;

@@ -1,4 +1,6 @@
 // Schemas: the type with its limits, and what judging a schema text can answer.
+#![tactic(auto)]
+
 pub mod contents;
 pub mod declaration_limits;
 pub mod declarations;

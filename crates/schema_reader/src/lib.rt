@@ -1,4 +1,6 @@
 // Reading schema texts: the judgement, and the schema in its record, which is the text's normal form.
+#![tactic(auto)]
+
 pub mod declaration_judging;
 pub mod declared_names;
 pub mod name_judging;

@@ -1,1 +1,3 @@
+#![tactic(auto)]
+
 // Definitions alone: they stand in specs/.

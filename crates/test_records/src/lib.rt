@@ -1,4 +1,6 @@
 // For tests alone: what the functions for C of the other crates test_.. answer, and records of any bytes that tests hand in.
+#![tactic(auto)]
+
 use bundle::reader::{Answer, Bundle};
 use cells::verdicts::Verdict;
 use compiled_paths::CompiledPaths;

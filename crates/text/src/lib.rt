@@ -1,3 +1,5 @@
+#![tactic(auto)]
+
 // Bytes of a text: blanks, names, and the first byte that may stand in no text.
 pub mod classes;
 pub mod fault_keys;

@@ -1,6 +1,6 @@
 -- Tables of cases: a question with its answer in each row, and one theorem that all rows of a table hold. What a reader says of a text is answered in
 -- document 01's numbers.
-use Rattle.std.specs.Prelude.{List, [], ◌∷◌, ◌++◌, map, ◌≡◌, refl, ℕ, zero, suc}
+use Rattle.std.specs.Prelude.{List, [], ◌++◌, map, ◌≡◌, refl, ℕ, zero, suc}
 use Rattle.text_spec.specs.Refusals.{Outcome, accepted, refused, number_of}
 
 pub record Case (Q A : Type 0) : Type 0 where

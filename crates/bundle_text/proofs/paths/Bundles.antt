@@ -28,7 +28,7 @@ use Rattle.text_laws.specs.Scans.{at-end}
 use Rattle.text_laws.specs.Tests.{cond_no}
 use Rattle.text_spec.specs.Limits.{max_alternatives, max_alternative_steps}
 use Rattle.text_spec.specs.Lists.{any_of}
-use Rattle.text_spec.specs.Machines.{spells, spelt, from}
+use Rattle.text_spec.specs.Machines.{spells, from}
 
 -- ---- limits
 long_as : (s : List ℕ) (qs : List (List ℕ)) → any_of (λ q. ltb max_alternative_steps (length q)) qs ≡ any_of (λ q. ltb max_alternative_steps (length q)) (map (map (plain_noted s)) qs)

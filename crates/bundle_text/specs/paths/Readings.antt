@@ -6,6 +6,7 @@ use Rattle.bundle_text.specs.declared.paths.BundleOutcome.{BundleOutcome}
 use Rattle.bundle_text.specs.declared.paths.Bundled.{Bundled}
 use Rattle.bundle_text.specs.written_steps.Readings.{Written, step_noted, over_condition, Steps}
 use Rattle.cells.specs.lent.Ends.{Slice}
+use Rattle.compiled_paths.specs.Paths.{Lent}
 use Rattle.path_spec.specs.Grammar.{PathRead, path_read}
 use Rattle.path_spec.specs.Machine.{parse}
 use Rattle.path_spec.specs.Reading.{passes_limit}
@@ -51,7 +52,7 @@ pub record ReadsBundle (s outers outers' conditions conditions' paths paths' cel
   pub says : BundleAs s outers outers' conditions conditions' paths paths' cells cells' ways ways' r
 
 -- the same of lent slices
-abbrev pub ReadsBundleIn : Slice → Slice → Slice → Slice → Slice → Slice → BundleOutcome → Type 0
+abbrev pub ReadsBundleIn : Lent → Slice → Slice → Slice → Slice → Slice → BundleOutcome → Type 0
 ReadsBundleIn s outers conditions paths cells ways r =
     ReadsBundle s.entry.now outers.entry.now outers.exit.now conditions.entry.now conditions.exit.now paths.entry.now paths.exit.now
     cells.entry.now cells.exit.now ways.entry.now ways.exit.now r

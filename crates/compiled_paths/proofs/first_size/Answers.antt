@@ -1,8 +1,7 @@
 -- `compiled_paths::first_size` meets its contract: what is counted and the steps after it are the alternative.
 use mathlib.Core.Path.{◌≡◌, ap₂}
-use Prim.Native.Nat.{◌+◌, ◌-◌, ◌≤◌}
+use Prim.Native.Nat.{◌+◌, ◌-◌}
 use native.Mathlib.Omega.{arith}
-use borrow.Author.Rules.{rules}
 use Rattle.compiled_paths.specs.Columns.{first_size, first-size-none, first-size-last, first-size-next}
 use Rattle.compiled_paths.proofs.first_size.Goals as goal
 

@@ -1,9 +1,7 @@
 -- `compiled_paths::first_size` meets its contract: what is counted and the steps after it are the alternative.
-use mathlib.Core.Path.{◌≡◌, ap₂}
+use mathlib.Core.Path.{◌≡◌}
 use Prim.Native.Nat.{◌+◌, ◌-◌, ◌≤◌}
-use native.Mathlib.Omega.{arith}
-use borrow.Author.Rules.{rules}
-use Rattle.compiled_paths.specs.Columns.{first_size, first-size-none, first-size-last, first-size-next}
+use Rattle.compiled_paths.specs.Columns.{first_size}
 use Rattle.compiled_paths.proofs.first_size.Given as goal
 
 abbrev pub invariant-loop-i : goal.invariant-loop-i

@@ -1,9 +1,8 @@
 -- The entry of an element, from the declaration that was read.
-use mathlib.Core.Bool.{Bool, false}
-use mathlib.Core.List.{List, ◌++◌, map}
+use mathlib.Core.List.{List, ◌++◌}
 use mathlib.Core.Logic.{⊎_elim}
-use mathlib.Core.Path.{◌≡◌, refl, sym, ap, ap₂, subst, ◌∙◌}
-use Prim.Native.Nat.{ℕ, zero, suc, ◌+◌, ◌-◌, ◌≤◌, ◌<◌}
+use mathlib.Core.Path.{◌≡◌, refl, sym, ap, subst, ◌∙◌}
+use Prim.Native.Nat.{ℕ, ◌+◌, ◌-◌, ◌≤◌, ◌<◌}
 use native.Mathlib.Omega.{arith}
 use lib.ListN.{length, take, drop, get_or, replicate, length-map, length-replicate}
 use lib.Seq.{sets, sets-eq}
@@ -12,9 +11,8 @@ use Rattle.compiled_schema.specs.declared.entry_parts.ElementEntry.{ElementEntry
 use Rattle.compiled_schema.specs.element_entry.Reading.{AtDeclaration, EntryMade}
 use Rattle.compiled_schema.specs.entry_parts.Entries.{kind_of, EntryOf, kind_in, is_held, entry_with, with_cells}
 use Rattle.compiled_schema.specs.entry_parts.EntryLaws.{clear-bit, is_held-holds}
-use Rattle.models.specs.Placing.{Clear}
-use Rattle.models.specs.PositionLaws.{size-uses, not-next}
-use Rattle.models.specs.Positions.{size, is_next}
+use Rattle.models.specs.PositionLaws.{not-next}
+use Rattle.models.specs.Positions.{size}
 use Rattle.models.specs.declared.Content.{Content as ContentRead}
 use Rattle.names.specs.Sets.{member}
 use Rattle.names.specs.bits.Bits.{bit-none}
@@ -27,8 +25,8 @@ use Rattle.schema.specs.declared.declarations.DeclarationOutcome.TheVariants.{Pa
 use Rattle.schema.specs.particles.Readings.{use_at}
 use Rattle.schema_laws.specs.Accepted.{uses_in-rename}
 use Rattle.schema_spec.specs.Declarations.{Use, Declaration}
-use Rattle.schema_spec.specs.Models.{Particle, Content, children, uses, uses_in, rename_in, rename_content}
-use Rattle.schema_spec.specs.Names.{Name, has_bit}
+use Rattle.schema_spec.specs.Models.{Content, children, uses, uses_in, rename_in, rename_content}
+use Rattle.schema_spec.specs.Names.{Name}
 use Rattle.schema_spec.specs.Records.{schema_in}
 use Rattle.schema_spec.specs.Schemas.{content_at, model_at}
 use Rattle.text.specs.scanning.Outcomes.{Skipped}

@@ -12,7 +12,7 @@ use Rattle.compiled_schema.proofs.entry_columns.LentCells.{put_back, back-here, 
 use Rattle.compiled_schema.specs.declared.entry_columns.Entries.{Entries}
 use Rattle.compiled_schema.specs.declared.entry_parts.ElementEntry.{ElementEntry}
 use Rattle.compiled_schema.specs.element_entry.Reading.{EntryMade}
-use Rattle.compiled_schema.specs.entry_columns.Columns.{cells_at, entry_at, EntriesOf}
+use Rattle.compiled_schema.specs.entry_columns.Columns.{entry_at, EntriesOf}
 use Rattle.compiled_schema.specs.entry_parts.Entries.{Entry, EntryOf, with_cells}
 use Rattle.compiled_schema.specs.entry_parts.EntryLaws.{empty_entry, empty-entry}
 use Rattle.names.specs.SetLaws.{nothing-in}

@@ -1,5 +1,5 @@
 -- Laws of reading an accepted text declaration by declaration: its limits, and where it starts.
-use Rattle.std.specs.Prelude.{List, [], ◌∷◌, ◌≡◌, refl, ℕ, zero, suc, ◌≤◌, length, take}
+use Rattle.std.specs.Prelude.{List, [], ◌∷◌, refl, ℕ, zero, suc, ◌≤◌, length, take}
 use Rattle.std.proofs.Common.{ap, arith, length-append, length-take}
 use Rattle.compiled_schema.specs.element_entry.Reading.{AcceptedWith, AtDeclaration}
 use Rattle.schema.specs.Judging.{used_in}

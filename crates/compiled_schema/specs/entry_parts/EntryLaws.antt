@@ -9,15 +9,13 @@ use Rattle.std.proofs.lemmas.List.{length-replicate}
 use Rattle.compiled_schema.specs.entry_parts.Entries.{kind_of, Entry, EntryOf, is_held}
 use Rattle.models.specs.Automaton.{AutomatonOf}
 use Rattle.models.specs.PositionLaws.{size-uses}
-use Rattle.models.specs.Positions.{size}
 use Rattle.names.specs.bits.Bits.{bit-none}
-use Rattle.schema_spec.specs.Models.{Particle, Content, empty, pcdata, children, uses, uses_in}
+use Rattle.schema_spec.specs.Models.{Particle, Content, empty, pcdata, children, uses}
 use Rattle.schema_spec.specs.Names.{Name, element, text, has_bit}
 use Rattle.schema_spec.specs.Schemas.{Schema, content_at, model_at, is_pcdata}
 use Rattle.schema_spec.specs.Types.{holds}
 use Rattle.text_laws.specs.Cells.{padded-length, padded-take, padded-zeros}
 use Rattle.text_laws.specs.Tests.{eqb-sym}
-use Rattle.text_spec.specs.Cells.{padded}
 use Rattle.text_spec.specs.Limits.{max_model_names}
 use Rattle.text_spec.specs.Lists.{any_of}
 

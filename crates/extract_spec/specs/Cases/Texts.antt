@@ -7,7 +7,7 @@ use Rattle.extract_spec.specs.Fields.{write_extract, extract_rows}
 use Rattle.extract_spec.specs.Reading.{read_extract}
 use Rattle.table_spec.specs.Rows.{Row, element_row, text_row}
 use Rattle.text_spec.specs.Lists.{bytes}
-use Rattle.text_spec.specs.Refusals.{Outcome, accepted}
+use Rattle.text_spec.specs.Refusals.{accepted}
 
 -- scan 0, plate 1, and under it two tiles, each with a focus and its text: the rows 2 to 4 and 5 to 7, the texts with these starts and lengths
 abbrev rows_t : ℕ → ℕ → ℕ → ℕ → List Row

@@ -7,6 +7,7 @@ use Rattle.cells.specs.declared.verdicts.Verdict.{Verdict}
 use Rattle.cells.specs.lent.Ends.{Slice, entry_columns, exit_columns}
 use Rattle.cells.specs.verdicts.Verdicts.{verdict}
 use Rattle.journal_builder.specs.event_handling.Events.{SchemaCells, CellsOf}
+use Rattle.journal_builder.specs.fillings.Fillings.{Shared}
 use Rattle.journal_reader.specs.event_loop.Judging.{outcome, Judged}
 use Rattle.library_spec.specs.Calls.{columns_after}
 use Rattle.schema_spec.specs.Schemas.{Schema}
@@ -21,7 +22,7 @@ pub record TableRead (t : SchemaCells) (text : List ℕ) (limit : ℕ) (c d : Co
   pub cells : (s : Schema) → CellsOf s t → d ≡ columns_after (sizes_of c) (λ rows. rows) (outcome s text limit (sizes_of c))
 
 -- the same of lent slices
-abbrev pub TableReadIn : SchemaCells → Slice → ℕ → Slice → Slice → Slice → Slice → Slice → Slice → Verdict → Type 0
+abbrev pub TableReadIn : SchemaCells → Shared → ℕ → Slice → Slice → Slice → Slice → Slice → Slice → Verdict → Type 0
 TableReadIn t text limit numbers names parents starts lengths decoded r = TableRead t text.entry.now limit (entry_columns numbers names parents starts lengths decoded) (exit_columns numbers names parents starts lengths decoded) r
 
 -- ---- the columns at exit

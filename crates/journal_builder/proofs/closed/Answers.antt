@@ -1,7 +1,5 @@
 use mathlib.Core.Path.{◌≡◌, refl, sym, ◌∙◌}
-use Prim.Native.Nat.{◌≤◌}
 use native.Mathlib.Omega.{arith}
-use borrow.Author.Rules.{rules}
 use borrow.Author.Tests.{leb-true}
 use Rattle.journal_builder.specs.Events.{judged-unbroken, empty-closed, empty-broken}
 use Rattle.journal_builder.specs.build_state.State.{judged_from}

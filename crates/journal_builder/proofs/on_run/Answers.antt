@@ -1,5 +1,4 @@
-use mathlib.Core.Path.{◌≡◌, refl, sym, ◌∙◌}
-use borrow.Author.Rules.{rules}
+use mathlib.Core.Path.{refl}
 use Rattle.journal_builder.specs.Events.{judged-unbroken, event-judged, event-broken, kept-safe}
 use Rattle.journal_builder.specs.laws.StateLaws.{leaves-as}
 use Rattle.journal_lexer.specs.state.Places.{place_or}

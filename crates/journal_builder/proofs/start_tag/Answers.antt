@@ -1,12 +1,10 @@
 use mathlib.Core.Bool.{Bool}
-use mathlib.Core.Path.{◌≡◌, refl, sym, ap, subst, ◌∙◌}
+use mathlib.Core.Path.{refl, ap}
 use native.Mathlib.Omega.{arith}
-use borrow.Author.Rules.{rules}
 use Rattle.journal_builder.specs.Events.{start_event}
 use Rattle.journal_builder.specs.laws.Starts.{start-innermost}
 use Rattle.journal_builder.specs.laws.StateLaws.{leaves-as}
 use Rattle.journal_spec.specs.Builder.{on_start, on_unbroken}
-use Rattle.schema_spec.specs.Schemas.{element_named}
 use Rattle.journal_builder.proofs.start_tag.Goals as goal
 
 pub on_start-begun-requires : goal.on_start-begun-requires

@@ -1,7 +1,7 @@
 -- The elements' names as words, and the element of a name by them.
 use Rattle.std.specs.Prelude.{true, false, List, ◌≡◌, refl, ℕ, ◌+◌, ◌≤◌, ◌<◌, T, length}
 use Rattle.std.proofs.Math.Option.{Option, none, some}
-use Rattle.std.proofs.Common.{sym, subst, ◌∙◌, arith, below_more}
+use Rattle.std.proofs.Common.{sym, subst, arith, below_more}
 use Rattle.journal_builder.specs.fillings.Fillings.{Found, declared, undeclared}
 use Rattle.schema_laws.specs.Accepted.{element_names}
 use Rattle.schema_laws.specs.Elements.{named-exactly}

@@ -1,13 +1,12 @@
 -- What an event leaves, whatever it is: the builder's state and levels are those of the definition's `on_event`.
 use Rattle.std.specs.Prelude.{Bool, true, false, cond, List, ◌⊎◌, ◌≡◌, refl, ℕ, zero, suc, ◌-◌, ◌≤◌, eqb, length}
 use Rattle.std.proofs.Common.{true≢false, inl, inr, sym, ap, subst, ◌∙◌, eqb-true}
-use Rattle.cells.specs.lent.Ends.{SliceOf, Slice}
 use Rattle.journal_builder.specs.Events.{tag_event, kept-safe}
 use Rattle.journal_builder.specs.build_state.State.{Safe, Built, Leaves, SafeStep, no_row, step}
 use Rattle.journal_builder.specs.declared.build_state.Build.{Build}
 use Rattle.journal_builder.specs.declared.build_state.BuildStep.{BuildStep}
 use Rattle.journal_builder.specs.element_names.Names.{NamesOf}
-use Rattle.journal_builder.specs.fillings.Fillings.{KindsOf, ModelsOf}
+use Rattle.journal_builder.specs.fillings.Fillings.{KindsOf, ModelsOf, SharedOf, Shared}
 use Rattle.journal_builder.specs.laws.StateLaws.{leaves-as, leaves_kept}
 use Rattle.journal_lexer.specs.declared.state.Lex.{Lex}
 use Rattle.journal_lexer.specs.run_laws.Passes.{quiet-builds}
@@ -46,7 +45,7 @@ schema_cells words count kinds firsts lasts nullables elements predecessors size
       sizes = sizes;
     }
 
-abbrev pub entry_schema : Slice → ℕ → Slice → Slice → Slice → SliceOf Bool → Slice → Slice → Slice → SchemaCells
+abbrev pub entry_schema : Shared → ℕ → Shared → Shared → Shared → SharedOf Bool → Shared → Shared → Shared → SchemaCells
 entry_schema words count kinds firsts lasts nullables elements predecessors sizes =
     schema_cells words.entry.now count kinds.entry.now firsts.entry.now lasts.entry.now nullables.entry.now elements.entry.now
     predecessors.entry.now sizes.entry.now

@@ -1,17 +1,17 @@
 -- What one child more, one run of character data more and the end make of a filling by value.
-use Rattle.std.specs.Prelude.{Bool, true, false, not, ◌&&◌, List, ◌≡◌, refl, ℕ, zero, suc, ◌+◌, ◌*◌, ◌%◌, ◌≤◌, ◌<◌, eqb, ltb, length, get_or}
+use Rattle.std.specs.Prelude.{Bool, true, false, not, ◌&&◌, List, ◌≡◌, refl, ℕ, zero, suc, ◌%◌, ◌≤◌, ◌<◌, eqb, ltb, length, get_or}
 use Rattle.std.proofs.Common.{true≢false, sym, ap, ap₂, subst, ◌∙◌, mod-eq_of_lt, arith, ne_eqb, ltb-true, ltb-false}
 use Rattle.std.proofs.Math.Option.{Option, none, some}
 use Rattle.compiled_schema.specs.entry_columns.Columns.{cells_at, ends_at}
 use Rattle.compiled_schema.specs.entry_parts.Entries.{kind_of, empty_kind}
 use Rattle.journal_builder.specs.declared.fillings.FillingState.{FillingState}
-use Rattle.journal_builder.specs.fillings.Fillings.{filling, Kind, kind_at, Modelled, StateAs, StateOf, unjudged_kind, misfit_kind, is_children, state_in, advanced_to, Found, declared, undeclared, KindsOf, ModelsOf}
-use Rattle.journal_spec.specs.Builder.{Filling, unjudged, misfit, unfilled, filled_by_text, filled_by_children, filling_of, filling_for, with_child, with_run, fits_at_end}
+use Rattle.journal_builder.specs.fillings.Fillings.{filling, kind_at, Modelled, StateAs, StateOf, unjudged_kind, misfit_kind, is_children, state_in, advanced_to, Found, declared, undeclared, KindsOf, ModelsOf}
+use Rattle.journal_spec.specs.Builder.{Filling, unjudged, misfit, unfilled, filled_by_children, filling_of, filling_for, with_child, with_run, fits_at_end}
 use Rattle.models.specs.declared.fitting.State.{State}
 use Rattle.models.specs.declared.fitting.State.TheVariants.{Start, Amid}
-use Rattle.models.specs.fitting.Fitting.{progress_of, step-advances, may_end-complete}
+use Rattle.models.specs.fitting.Fitting.{step-advances, may_end-complete}
 use Rattle.models.specs.fitting.Steps.{Stepped, may_end}
-use Rattle.schema_spec.specs.Models.{Particle, Content, empty, pcdata, children, advance, complete}
+use Rattle.schema_spec.specs.Models.{Content, empty, pcdata, children}
 use Rattle.schema_spec.specs.Schemas.{Schema, content_at}
 use Rattle.text_spec.specs.Limits.{max_declarations}
 

@@ -1,7 +1,8 @@
 -- What an open element has got of its content, by value, and what it says of the definition's `Filling`.
 use Rattle.std.specs.Prelude.{Bool, cond, ◌||◌, List, [], ◌∷◌, ◌≡◌, ℕ, ◌≤◌, ◌<◌, eqb, length, get_or}
 use Rattle.std.proofs.Math.Option.{Option, none, some}
-use Rattle.cells.specs.lent.Ends.{SliceOf, Slice}
+use Rattle.std.specs.Borrow.{Bor}
+use denote.Triple.Both.{Both}
 use Rattle.compiled_schema.specs.entry_columns.Columns.{cells_at, ends_at}
 use Rattle.compiled_schema.specs.entry_parts.Entries.{kind_of, children_kind}
 use Rattle.journal_builder.specs.declared.fillings.FillingState.{FillingState}
@@ -85,7 +86,14 @@ pub record ModelsOf (s : Schema) (firsts lasts : List ℕ) (nullables : List Boo
   pub automata : (a : ℕ) → a < length s → (p : Particle ℕ) → content_at s a ≡ children p
       → AutomatonOf p (ends_at firsts lasts nullables a) (cells_at a (get_or sizes a 0) elements) (cells_at a (get_or sizes a 0) predecessors)
 
+-- a slice that is only read, at both ends of a call, as a contract names it
+abbrev pub SharedOf : Type 0 → Type 0
+SharedOf A = Both (Bor (List A)) (Bor (List A))
+
+abbrev pub Shared : Type 0
+Shared = SharedOf ℕ
+
 -- the same of columns that are lent
-abbrev pub EntryModels : Schema → Slice → Slice → SliceOf Bool → Slice → Slice → Slice → Type 0
+abbrev pub EntryModels : Schema → Shared → Shared → SharedOf Bool → Shared → Shared → Shared → Type 0
 EntryModels s firsts lasts nullables elements predecessors sizes =
     ModelsOf s firsts.entry.now lasts.entry.now nullables.entry.now elements.entry.now predecessors.entry.now sizes.entry.now

@@ -1,5 +1,5 @@
 -- Laws of end tags.
-use Rattle.std.specs.Prelude.{Bool, false, cond, not, ◌≡◌, ℕ, suc, ◌-◌, ◌%◌, ◌≤◌, ◌<◌}
+use Rattle.std.specs.Prelude.{Bool, false, cond, not, ◌≡◌, ℕ, ◌-◌, ◌%◌, ◌<◌}
 use Rattle.std.proofs.Math.Bool.{true}
 use mathlib.Core.List.{List, [], ◌∷◌, ◌++◌}
 use Rattle.std.proofs.Math.Path.{refl, sym, ap, ap₂, subst}

@@ -1,27 +1,26 @@
 -- Laws of runs of character data.
-use Rattle.std.specs.Prelude.{Bool, true, false, cond, not, ◌||◌, List, [], ◌∷◌, ◌++◌, ◌≡◌, refl, ℕ, zero, suc, ◌+◌, ◌-◌, ◌%◌, ◌≤◌, ◌<◌, eqb, leb, ltb, length}
+use Rattle.std.specs.Prelude.{Bool, true, false, cond, not, ◌||◌, List, [], ◌∷◌, ◌≡◌, refl, ℕ, zero, suc, ◌+◌, ◌-◌, ◌%◌, ◌≤◌, ◌<◌, eqb, leb, ltb, length}
 use Rattle.std.proofs.Common.{true≢false, sym, ap, ap₂, subst, ◌∙◌, mod-eq_of_lt, add-one, arith, le-leb, leb-false, ltb-false, ne_eqb}
 use Rattle.std.proofs.Math.Option.{Option, none, some}
 use Rattle.cells.specs.columns.Columns.{cells}
 use Rattle.cells.specs.declared.columns.RowCells.{RowCells}
 use Rattle.compiled_schema.specs.entry_parts.Entries.{pcdata_kind}
-use Rattle.journal_builder.specs.build_state.State.{judged_from, build, RowsBelow, Safe, Built, Rows, begun-row, Leaves, SafeStep, broken_by, outside_by, texted, text_cells, step}
+use Rattle.journal_builder.specs.build_state.State.{judged_from, RowsBelow, Safe, Built, begun-row, Leaves, SafeStep, broken_by, outside_by, texted, text_cells, step}
 use Rattle.journal_builder.specs.declared.build_state.Build.{Build}
-use Rattle.journal_builder.specs.declared.build_state.BuildStep.{BuildStep}
 use Rattle.journal_builder.specs.declared.fillings.FillingState.{FillingState}
 use Rattle.journal_builder.specs.declared.open_levels.Level.{Level}
 use Rattle.journal_builder.specs.fillings.Fillings.{kind_at, StateAs, StateOf}
-use Rattle.journal_builder.specs.laws.StateLaws.{Innermost, innermost, refilled, length_refill, below_more, below-refill, faults-now, placed-now, judged-now, breaks-built, built-as, leaves_kept}
-use Rattle.journal_builder.specs.open_levels.Levels.{AllLevels, level_at, with_filling, Stored, LevelOf, Opened}
+use Rattle.journal_builder.specs.laws.StateLaws.{Innermost, innermost, refilled, length_refill, below_more, below-refill, faults-now, placed-now, judged-now, breaks-built, leaves_kept}
+use Rattle.journal_builder.specs.open_levels.Levels.{level_at, with_filling, Stored, LevelOf, Opened}
 use Rattle.journal_lexer.specs.state.Places.{no_place, place_or}
-use Rattle.journal_spec.specs.Builder.{Filling, unjudged, misfit, unfilled, filled_by_text, filled_by_children, Open, Building, building, breaks, refill, with_run, outside, text_node, inside, on_run}
+use Rattle.journal_spec.specs.Builder.{Filling, filled_by_text, Open, Building, building, refill, with_run, outside, text_node, inside, on_run}
 use Rattle.schema_spec.specs.Schemas.{Schema}
-use Rattle.table_spec.specs.Rows.{Row, Cells, cells_of, text_row}
+use Rattle.table_spec.specs.Rows.{Cells, cells_of, text_row}
 use Rattle.text.specs.fault_keys.KeyLaws.{least-given, placed-given, noted-none, noted-from}
-use Rattle.text.specs.fault_keys.Keys.{no_key, place_limit, least_key, noted_key}
+use Rattle.text.specs.fault_keys.Keys.{no_key, place_limit, noted_key}
 use Rattle.text_spec.specs.Limits.{max_declarations, max_nodes, max_text_bytes}
 use Rattle.text_spec.specs.Lists.{is_none}
-use Rattle.text_spec.specs.Refusals.{at, given, bad_nesting, over_node_limit}
+use Rattle.text_spec.specs.Refusals.{bad_nesting, over_node_limit}
 use Rattle.token_spec.specs.Lexer.{Run, run}
 
 pub none-test : (x : ℕ) → is_none (place_or x) ≡ eqb x no_place

@@ -1,23 +1,23 @@
 -- Laws of start tags.
-use Rattle.std.specs.Prelude.{Bool, true, false, cond, not, ◌&&◌, List, [], ◌∷◌, ◌++◌, ◌≡◌, refl, T, eqb, leb, ltb, length}
+use Rattle.std.specs.Prelude.{Bool, true, false, cond, not, ◌&&◌, List, [], ◌∷◌, ◌++◌, ◌≡◌, refl, eqb, leb, length}
 use Rattle.std.proofs.Common.{true≢false, ◌∙◌, mod-eq_of_lt, add-one}
 use Rattle.std.proofs.Math.Option.{Option, none, some}
 use Rattle.std.proofs.Math.Path.{sym, ap, ap₂, subst}
-use Prim.Native.Nat.{ℕ, zero, suc, ◌+◌, ◌%◌, ◌≤◌, ◌<◌}
+use Prim.Native.Nat.{ℕ, suc, ◌%◌, ◌≤◌, ◌<◌}
 use native.Mathlib.Omega.{arith}
 use borrow.Author.Tests.{le-leb, lt-leb, lt-ltb, le-ltb, leb-false, eqb-true, eq-eqb, ne_eqb}
 use Rattle.cells.specs.columns.Columns.{cells}
-use Rattle.journal_builder.specs.build_state.State.{judged_from, RowsBelow, Safe, Built, Rows, begun-row, Leaves, SafeStep, is_second_root, is_wrong_root, begun, element_cells, step}
+use Rattle.journal_builder.specs.build_state.State.{judged_from, RowsBelow, Safe, Built, begun-row, Leaves, SafeStep, is_second_root, is_wrong_root, begun, element_cells, step}
 use Rattle.journal_builder.specs.declared.build_state.Build.{Build}
 use Rattle.journal_builder.specs.fillings.Fillings.{Found, declared, undeclared}
 use Rattle.journal_builder.specs.laws.StateLaws.{length_refill, below_more, below-refill, faults-now, placed-now, judged-now}
 use Rattle.journal_builder.specs.open_levels.Levels.{AllLevels, level_at, Opened}
-use Rattle.journal_spec.specs.Builder.{Filling, Open, Building, building, breaks, parent_row, refill, with_child, filling_for, wrong_root, begin, on_start}
+use Rattle.journal_spec.specs.Builder.{Open, Building, breaks, parent_row, refill, with_child, filling_for, wrong_root, begin, on_start}
 use Rattle.schema_spec.specs.Names.{element, code_of}
 use Rattle.schema_spec.specs.Schemas.{Schema, element_named}
 use Rattle.table_spec.specs.Rows.{Cells, cells_of, element_row}
 use Rattle.text.specs.fault_keys.KeyLaws.{least-given, placed-given, noted-none, noted-from}
-use Rattle.text.specs.fault_keys.Keys.{no_key, place_limit, least_key, noted_key}
+use Rattle.text.specs.fault_keys.Keys.{no_key, place_limit, noted_key}
 use Rattle.text_laws.specs.Lists.{bytes_same}
 use Rattle.text_laws.specs.Tests.{true_of}
 use Rattle.text_spec.specs.Limits.{max_declarations, max_depth, max_nodes}

@@ -1,11 +1,11 @@
 -- Laws of the relation between the code's state and what is built, for every event.
-use Rattle.std.specs.Prelude.{Bool, true, false, List, [], ◌∷◌, ◌++◌, ◌≡◌, refl, ℕ, zero, suc, min, ◌+◌, ◌≤◌, ◌<◌, leb, length}
+use Rattle.std.specs.Prelude.{true, List, [], ◌∷◌, ◌++◌, ◌≡◌, refl, ℕ, suc, min, ◌≤◌, ◌<◌, length}
 use Rattle.std.proofs.Common.{true≢false, sym, ap, subst, ◌∙◌, arith, leb-true}
 use Rattle.std.proofs.Math.Option.{Option, none, some}
 use Rattle.std.proofs.lemmas.Bool.{lt-leb}
 use Rattle.cells.specs.columns.Columns.{cells}
 use Rattle.cells.specs.declared.columns.RowCells.{RowCells}
-use Rattle.journal_builder.specs.build_state.State.{judged_from, RowsBelow, Safe, Built, Rows, kept, begun-row, Leaves, SafeStep, broken_by, build, step}
+use Rattle.journal_builder.specs.build_state.State.{judged_from, RowsBelow, Safe, Built, Rows, kept, begun-row, Leaves, SafeStep, broken_by, step}
 use Rattle.journal_builder.specs.declared.build_state.Build.{Build}
 use Rattle.journal_builder.specs.declared.build_state.BuildStep.{BuildStep}
 use Rattle.journal_builder.specs.declared.fillings.FillingState.{FillingState}

@@ -3,8 +3,7 @@ use Rattle.std.specs.Prelude.{◌&&◌, ◌||◌, ◌≡◌, refl, ℕ, zero, su
 use mathlib.Core.List.Memᴰ.{head as here}
 use mathlib.Core.List.Memᴰ.{tail as there}
 use mathlib.Core.List.{List, [], ◌∷◌, map, Memᴰ as In}
-use Rattle.std.proofs.Common.{⊎_elim, sym, ap, subst, ◌∙◌, arith, le-leb, leb-true, eqb→eq, length-take}
-use Rattle.std.proofs.lemmas.List.{length-map}
+use Rattle.std.proofs.Common.{⊎_elim, sym, ap, subst, ◌∙◌, arith, le-leb, leb-true, eqb→eq}
 use Rattle.compiled_schema.specs.Compiled.{CompiledOf}
 use Rattle.compiled_schema.specs.declared.CompiledSchema.{CompiledSchema}
 use Rattle.journal_builder.specs.element_names.Names.{NamesOf}

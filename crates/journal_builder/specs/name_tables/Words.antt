@@ -1,6 +1,6 @@
 -- A name read byte by byte into words, and names stored one after the other.
-use Rattle.std.specs.Prelude.{Bool, true, false, ◌&&◌, List, [], ◌∷◌, ◌++◌, ◌≡◌, refl, ℕ, suc, ◌+◌, ◌*◌, ◌≤◌, ◌<◌, ltb, length, get_or, set}
-use Rattle.std.proofs.Common.{append_assoc, append-nil, sym, ap, subst, ◌∙◌, eq-or-lt_of_le, arith, below_more, ltb-true, lt-ltb, length-set, length-append, get_or-set_same, get_or-set_other}
+use Rattle.std.specs.Prelude.{Bool, true, false, ◌&&◌, List, [], ◌∷◌, ◌++◌, ◌≡◌, refl, ℕ, ◌+◌, ◌*◌, ◌<◌, ltb, length, get_or, set}
+use Rattle.std.proofs.Common.{append_assoc, append-nil, sym, ap, ◌∙◌, arith, below_more, ltb-true, lt-ltb, length-set, length-append, get_or-set_same, get_or-set_other}
 use Rattle.text.specs.declared.name_words.Name.{Name}
 use Rattle.text.specs.name_words.Words.{words, words_of, name_at as words_at}
 use Rattle.text_laws.specs.Scans.{name-cons, name-stops}

@@ -5,11 +5,10 @@ use Rattle.std.proofs.Math.ListN.{get_or, length-set}
 use Rattle.std.proofs.Math.Seq.{get_or-set_same, get_or-set_other}
 use Rattle.journal_builder.specs.declared.fillings.FillingState.{FillingState}
 use Rattle.journal_builder.specs.declared.open_levels.Level.{Level}
-use Rattle.journal_builder.specs.fillings.Fillings.{filling, StateOf}
+use Rattle.journal_builder.specs.fillings.Fillings.{StateOf}
 use Rattle.journal_builder.specs.open_levels.Levels.{level_cells, AllLevels, level_at, with_filling, Stored, LevelOf, Opened}
 use Rattle.journal_spec.specs.Builder.{Open, Filling, refill}
 use Rattle.schema_spec.specs.Schemas.{Schema}
-use Rattle.text.specs.name_words.Words.{words}
 use Rattle.text_spec.specs.Limits.{max_depth}
 
 -- values stored one after the other, at k + j and on

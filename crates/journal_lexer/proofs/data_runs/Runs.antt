@@ -1,5 +1,5 @@
 -- What a byte of a run that has only blanks so far says of the definition's step.
-use mathlib.Core.Bool.{not, and-false}
+use mathlib.Core.Bool.{and-false}
 use mathlib.Core.List.{List}
 use mathlib.Core.Logic.{inl}
 use mathlib.Core.Option.{Option, none, some}

@@ -1,5 +1,5 @@
 -- What each way out of a byte function for character data says of the definition's step.
-use Rattle.std.specs.Prelude.{Bool, true, false, cond, not, ◌&&◌, ◌||◌, List, map, ◌≡◌, refl, ℕ, zero, suc, ◌-◌, ◌<◌, T, eqb, leb, set, drop}
+use Rattle.std.specs.Prelude.{Bool, true, false, cond, ◌&&◌, ◌||◌, List, map, ◌≡◌, refl, ℕ, zero, suc, ◌-◌, ◌<◌, T, eqb, leb, set, drop}
 use Rattle.std.proofs.Math.Bool.{and-false}
 use Rattle.std.proofs.Math.Logic.{inl, inr}
 use Rattle.std.proofs.Math.Option.{none}

@@ -1,5 +1,5 @@
 -- Characters passed in a run that has a byte that is not a blank, plain bytes and whole entities: they move the place and what is saved, and nothing else.
-use Rattle.std.specs.Prelude.{true, not, List, ◌∷◌, ◌++◌, ◌≡◌, refl, ℕ, suc, ◌+◌, ◌-◌, ◌≤◌, ◌<◌, length, get_or, set, drop}
+use Rattle.std.specs.Prelude.{true, List, ◌∷◌, ◌++◌, ◌≡◌, refl, ℕ, suc, ◌+◌, ◌-◌, ◌≤◌, ◌<◌, length, get_or, set, drop}
 use Rattle.std.proofs.Common.{inl, sym, ap, ap₂, subst, ◌∙◌, add-one, arith, length-set, drop-cons, get_or-set_same, get_or-set_other}
 use Rattle.std.proofs.lemmas.List.{set-get_or}
 use Rattle.journal_lexer.specs.character_data.Laws.{plain-less, solid-plain}
@@ -13,10 +13,9 @@ use Rattle.journal_lexer.specs.state.Places.{no_place, solid_at, saved_at, run_o
 use Rattle.journal_lexer.specs.state.Relation.{state_of, report_of, Means, MeansMode, Tells, stepped}
 use Rattle.journal_lexer.specs.whole_entities.Entities.{begins_at, EntityAfter, whole, itself, whole_split, whole-inside}
 use Rattle.token_laws.specs.Characters.{for-entity}
-use Rattle.token_laws.specs.Events.{told}
 use Rattle.token_laws.specs.Passes.{entity-passes}
 use Rattle.token_spec.specs.Characters.{EntityFor}
-use Rattle.token_spec.specs.Lexer.{Run, Mode, in_data, Event, quiet, ends, mode_after, saved_by}
+use Rattle.token_spec.specs.Lexer.{Run, Mode, in_data, Event, quiet, mode_after, saved_by}
 
 -- ---- definitions
 -- the state at another place

@@ -1,5 +1,5 @@
 -- Where the lexer's state stands on the definition's way through a text, and what a loop over the bytes of some modes promises.
-use Rattle.std.specs.Prelude.{Bool, false, cond, ◌||◌, List, ◌⊎◌, ◌≡◌, ℕ, zero, suc, ◌≤◌, ◌<◌, eqb, length, get_or}
+use Rattle.std.specs.Prelude.{Bool, false, ◌||◌, List, ◌⊎◌, ◌≡◌, ℕ, zero, suc, ◌≤◌, ◌<◌, eqb, length, get_or}
 use Rattle.journal_lexer.specs.declared.state.Lex.{Lex}
 use Rattle.journal_lexer.specs.kinds.Kinds.{KindTable}
 use Rattle.journal_lexer.specs.run_laws.Passes.{Passes}

@@ -1,5 +1,5 @@
 -- What is found against a journal, as one key: the outcome is told by the least key of all findings.
-use Rattle.std.specs.Prelude.{Bool, true, false, cond, not, ◌&&◌, ◌||◌, List, [], ◌∷◌, ◌++◌, reverse, ◌≡◌, refl, ℕ, zero, suc, min, ◌/◌, ◌%◌, ◌≤◌, ◌<◌, ltb, length, get_or, take}
+use Rattle.std.specs.Prelude.{Bool, true, false, not, ◌&&◌, ◌||◌, List, [], ◌∷◌, ◌++◌, reverse, ◌≡◌, refl, ℕ, zero, suc, min, ◌/◌, ◌%◌, ◌≤◌, ◌<◌, ltb, length, get_or, take}
 use Rattle.std.proofs.Math.Option.{Option, none, some}
 use Rattle.std.proofs.Common.{sym, ap, ◌∙◌, arith, le-ltb}
 use Rattle.journal_laws.specs.Judging.{journal-judged}
@@ -8,7 +8,6 @@ use Rattle.journal_spec.specs.Conditions as conditions
 use Rattle.journal_spec.specs.Conditions.{JournalApplies, JournalGives}
 use Rattle.journal_spec.specs.Reading.{Machine, initial, step, run, ended, ends_early, machine_refusals, read_journal}
 use Rattle.schema_spec.specs.Schemas.{Schema}
-use Rattle.table_spec.specs.Rows.{Row}
 use Rattle.text.specs.fault_keys.KeyLaws.{least-append, least-bound, placed-append, placed-given, FirstBy, no-refusal, refusal, first-by-key}
 use Rattle.text.specs.fault_keys.Keys.{no_key, place_limit, least_key, noted_key, Placed}
 use Rattle.text_laws.specs.Texts.{over-length}

@@ -1,5 +1,5 @@
 -- The definition's run over a journal, told by places: from one place to another with the event of the last byte alone.
-use Rattle.std.specs.Prelude.{Bool, true, false, cond, List, [], ◌∷◌, ◌++◌, ◌≡◌, length, drop, get_or}
+use Rattle.std.specs.Prelude.{Bool, true, false, cond, List, [], ◌++◌, ◌≡◌, length, drop, get_or}
 use Rattle.std.proofs.Math.Path.{refl, ap}
 use Rattle.std.proofs.Common.{sym, ◌∙◌, le_refl, drop_of_length-le, drop-cons}
 use Prim.Native.Nat.{ℕ, zero, suc, ◌<◌}
@@ -57,7 +57,7 @@ module _ (s : Schema) (text : List ℕ) where
       })
       q
 
-  run-passes : {k j : ℕ} {m n : Mode} {e : Event} → Passes text k m j n e → (b : Building)
+  run-passes : {k : ℕ} {m : Mode} {j : ℕ} {n : Mode} {e : Event} → Passes text k m j n e → (b : Building)
       → run s (machine_at text k m b) (drop k text) ≡ run s (machine_at text j n (on_event s e b)) (drop j text)
   unfolding run
   run-passes {k} {m} stays b = ap (λ (x : Building). run s (machine_at text k m x) (drop k text)) (sym (quiet-builds s b))

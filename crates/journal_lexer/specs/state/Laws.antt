@@ -1,12 +1,12 @@
 -- Laws of the relation between the code's state and the definition's modes: one byte more, by the ways in which a byte function ends.
-use Rattle.std.specs.Prelude.{cond, List, ◌⊎◌, ◌≡◌, refl, ℕ, ◌<◌, eqb, length, get_or}
+use Rattle.std.specs.Prelude.{List, ◌⊎◌, ◌≡◌, refl, ℕ, length}
 use Rattle.std.proofs.Common.{inl, inr, sym, ap, subst, ◌∙◌, arith}
 use Rattle.journal_lexer.specs.declared.state.Lex.{Lex}
-use Rattle.journal_lexer.specs.kinds.Kinds.{kind_of, lex_by}
+use Rattle.journal_lexer.specs.kinds.Kinds.{lex_by}
 use Rattle.journal_lexer.specs.kinds.Laws.{lex-kind, foreign-kind}
-use Rattle.journal_lexer.specs.state.Places.{no_place, tag_at, foreign_at, with_foreign, foreign-other, foreign-first, not-foreign, lent-next, lent-foreign}
+use Rattle.journal_lexer.specs.state.Places.{tag_at, foreign_at, with_foreign, foreign-other, foreign-first, not-foreign, lent-next, lent-foreign}
 use Rattle.journal_lexer.specs.state.Relation.{Means, state_of, TellsEvent, first_foreign, Handed, Meant, Steps, stepped}
-use Rattle.token_spec.specs.Lexer.{Mode, stopped, Lexed, lex, goes}
+use Rattle.token_spec.specs.Lexer.{Mode, stopped, Lexed, goes}
 
 -- a result that is known
 pub meant-as : {l : Lex} {p : List ℕ} {b : ℕ} {r s : Lex} {q t : List ℕ} {x : Lexed} → r ≡ s → q ≡ t → Meant l p b s t x → Meant l p b r q x

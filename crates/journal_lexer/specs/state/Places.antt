@@ -2,7 +2,7 @@
 -- that is not a blank; 3 the first foreign byte; 4 how many bytes fewer the characters of the run are.
 use Rattle.std.specs.Prelude.{Bool, true, false, cond, List, ◌≡◌, refl, ℕ, ◌+◌, ◌-◌, ◌≤◌, ◌<◌, eqb, leb, length, get_or, set}
 use Rattle.std.proofs.Math.Option.{Option, none, some}
-use Rattle.std.proofs.Common.{sym, ap, ◌∙◌, arith, ne_eqb, le-leb, leb-false, length-set, get_or-set_same, get_or-set_other}
+use Rattle.std.proofs.Common.{◌∙◌, arith, ne_eqb, le-leb, leb-false, length-set, get_or-set_same, get_or-set_other}
 use Rattle.token_spec.specs.Lexer.{Run, run, solid_by, saved_by}
 
 -- the number that is no place

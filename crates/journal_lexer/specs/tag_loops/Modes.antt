@@ -1,5 +1,5 @@
 -- The modes that loops over tags read in.
-use Rattle.std.specs.Prelude.{Bool, true, false, cond, ◌≡◌, ℕ, ◌<◌, eqb, ltb}
+use Rattle.std.specs.Prelude.{Bool, true, false, cond, ◌≡◌, ℕ, eqb, ltb}
 use Rattle.std.proofs.Common.{true≢false, sym, ap, ◌∙◌}
 use Rattle.journal_lexer.specs.loop_laws.Advance.{only, either}
 

@@ -1,23 +1,23 @@
 -- What each way out of a byte function for tags says of the definition's step.
 use Rattle.std.specs.Prelude.{List, [], ◌∷◌, ◌++◌, ◌≡◌, ℕ, ◌+◌, ◌≤◌, ◌<◌, T, length}
-use Rattle.std.proofs.Common.{inl, inr, sym, ap, subst, ◌∙◌, arith, length-append}
+use Rattle.std.proofs.Common.{inl, subst, arith, length-append}
 use Rattle.std.proofs.Math.Path.{refl}
 use borrow.Author.Tests.{ne_eqb, lt-ltb, le-ltb}
 use Rattle.journal_lexer.specs.declared.state.Lex.{Lex}
-use Rattle.journal_lexer.specs.kinds.Kinds.{kind_of, lex_by, tag_by, end_tag_by}
+use Rattle.journal_lexer.specs.kinds.Kinds.{lex_by, tag_by, end_tag_by}
 use Rattle.journal_lexer.specs.kinds.Laws.{name-filled}
-use Rattle.journal_lexer.specs.state.Laws.{meant-as, steps-by, leads, foreign-same, goes-plain, tells-plain, stops}
+use Rattle.journal_lexer.specs.state.Laws.{steps-by, leads, foreign-same, goes-plain, tells-plain, stops}
 use Rattle.journal_lexer.specs.state.Places.{tag_at, with_foreign, lent-next}
 use Rattle.journal_lexer.specs.state.Relation.{Holds, Means, state_of, Handed, Meant, Steps, stepped, named}
 use Rattle.journal_lexer.specs.tags.Names.{Longer, fits, over}
 use Rattle.text.specs.declared.name_words.Name.{Name}
-use Rattle.text.specs.name_words.Words.{words_of, Spells}
+use Rattle.text.specs.name_words.Words.{words_of}
 use Rattle.text_laws.specs.Lists.{all_snoc}
 use Rattle.text_laws.specs.Tests.{and_intro}
 use Rattle.text_spec.specs.Bytes.{is_between}
 use Rattle.text_spec.specs.Limits.{max_name_bytes}
 use Rattle.text_spec.specs.Machines.{longer}
-use Rattle.token_spec.specs.Lexer.{Mode, between, opened, in_name, after_name, after_slash, ending, in_end_name, after_end_name, stopped, starts, empties, ends, goes, tells}
+use Rattle.token_spec.specs.Lexer.{Mode, between, in_name, after_name, after_slash, ending, in_end_name, after_end_name, stopped, starts, empties, ends, goes, tells}
 
 module _ {l : Lex} {p : List ℕ} {b c : ℕ} (h : Handed l p b c) where
   -- a byte of a name is not 0

@@ -125,7 +125,7 @@ module _ {f : ℕ → Bool} {text : List ℕ} {l r : Lex} {p q : List ℕ} (a : 
 -- ---- the size
 
 -- where the definition comes to from a place, it comes to on the way from there
-way-mode : {text : List ℕ} {k j : ℕ} {m n : Mode} {e : Event} → Passes text k m j n e → mode_after m k (drop k text) ≡ mode_after n j (drop j text)
+way-mode : {text : List ℕ} {k : ℕ} {m : Mode} {j : ℕ} {n : Mode} {e : Event} → Passes text k m j n e → mode_after m k (drop k text) ≡ mode_after n j (drop j text)
 unfolding mode_after
 way-mode stays = refl
 way-mode {text} (reads {j = j} {n = n} w h q) =

@@ -3,6 +3,7 @@ use Rattle.std.specs.Prelude.{List, ◌≡◌, refl, ℕ, ◌+◌, ◌≤◌, �
 use Rattle.std.proofs.Common.{sym, ap, subst, ◌∙◌, add-one, arith, take_all}
 use Rattle.cells.specs.lent.Ends.{Slice, entry_columns, exit_columns}
 use Rattle.journal_builder.specs.event_handling.Events.{SchemaCells, CellsOf}
+use Rattle.journal_builder.specs.fillings.Fillings.{Shared}
 use Rattle.journal_lexer.specs.run_laws.Findings.{run-next}
 use Rattle.journal_reader.specs.declared.state.ReaderState.{ReaderState}
 use Rattle.journal_reader.specs.state.Reading.{started, Usable, ReadAs}
@@ -45,7 +46,7 @@ pub record AllRead (t : SchemaCells) (text levels places : List ℕ) (c : Column
   pub read : (s : Schema) (z : Sizes) → CellsOf s t → ReadAs s z levels places c started initial → ReadAs s z after q d y (run s initial text)
 
 -- the same of lent slices
-abbrev pub AllReadIn : SchemaCells → Slice → Slice → Slice → Slice → Slice → Slice → Slice → Slice → Slice → ReaderState → Type 0
+abbrev pub AllReadIn : SchemaCells → Shared → Slice → Slice → Slice → Slice → Slice → Slice → Slice → Slice → ReaderState → Type 0
 AllReadIn t text levels places numbers names parents starts lengths decoded y =
     AllRead t text.entry.now levels.entry.now places.entry.now (entry_columns numbers names parents starts lengths decoded) levels.exit.now places.exit.now (exit_columns numbers names parents starts lengths decoded) y
 

@@ -1,10 +1,11 @@
 -- Reading a whole journal: from cleared columns and the state before the first byte to the outcome.
-use Rattle.std.specs.Prelude.{List, [], ◌∷◌, ◌≡◌, refl, ℕ, ◌≤◌, ◌<◌, length}
-use Rattle.std.proofs.Common.{sym, subst, arith}
+use Rattle.std.specs.Prelude.{List, [], ◌∷◌, ◌≡◌, refl, ℕ, ◌≤◌, length}
+use Rattle.std.proofs.Common.{arith}
 use Rattle.cells.specs.columns.Columns.{EqualColumns}
 use Rattle.cells.specs.lent.Ends.{Slice, entry_columns, exit_columns}
-use Rattle.journal_builder.specs.build_state.State.{Built, build, Safe}
+use Rattle.journal_builder.specs.build_state.State.{Built, build}
 use Rattle.journal_builder.specs.event_handling.Events.{SchemaCells, CellsOf}
+use Rattle.journal_builder.specs.fillings.Fillings.{Shared}
 use Rattle.journal_builder.specs.open_levels.Levels.{AllLevels}
 use Rattle.journal_lexer.specs.run_laws.Passes.{nothing_built}
 use Rattle.journal_lexer.specs.state.Places.{no_place}
@@ -29,7 +30,7 @@ pub record JournalRead (t : SchemaCells) (text : List ℕ) (c d : Columns) (r : 
   pub answered : (s : Schema) (z : Sizes) (limit : ℕ) → CellsOf s t → c ≡ columns_of z [] → 1 ≤ length text → length text ≤ limit → Answered z limit s text d r
 
 -- the same of lent slices
-abbrev pub JournalReadIn : SchemaCells → Slice → Slice → Slice → Slice → Slice → Slice → Slice → Found → Type 0
+abbrev pub JournalReadIn : SchemaCells → Shared → Slice → Slice → Slice → Slice → Slice → Slice → Found → Type 0
 JournalReadIn t text numbers names parents starts lengths decoded r = JournalRead t text.entry.now (entry_columns numbers names parents starts lengths decoded) (exit_columns numbers names parents starts lengths decoded) r
 
 module _ (levels : List ℕ) (all : AllLevels levels) where

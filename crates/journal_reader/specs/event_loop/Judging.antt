@@ -8,6 +8,7 @@ use Rattle.cells.specs.lent.Ends.{Slice, entry_columns, exit_columns}
 use Rattle.cells.specs.verdicts.VerdictLaws.{number-some}
 use Rattle.cells.specs.verdicts.Verdicts.{refused_by, verdict}
 use Rattle.journal_builder.specs.event_handling.Events.{SchemaCells, CellsOf}
+use Rattle.journal_builder.specs.fillings.Fillings.{Shared}
 use Rattle.journal_lexer.specs.run_laws.Findings.{KeyTells, accepts, refuses, read-empty, read-over}
 use Rattle.journal_lexer.specs.state.Places.{no_place}
 use Rattle.journal_reader.specs.declared.end.Found.{Found}
@@ -33,7 +34,7 @@ pub record Judged (t : SchemaCells) (text : List ℕ) (limit : ℕ) (c d : Colum
       → d ≡ columns_after (sizes_of c) (λ rows. rows) (outcome s text limit (sizes_of c))
 
 -- the same of lent slices
-abbrev pub JudgedIn : SchemaCells → Slice → ℕ → Slice → Slice → Slice → Slice → Slice → Slice → Verdict → Type 0
+abbrev pub JudgedIn : SchemaCells → Shared → ℕ → Slice → Slice → Slice → Slice → Slice → Slice → Verdict → Type 0
 JudgedIn t text limit numbers names parents starts lengths decoded r = Judged t text.entry.now limit (entry_columns numbers names parents starts lengths decoded) (exit_columns numbers names parents starts lengths decoded) r
 
 -- ---- 2

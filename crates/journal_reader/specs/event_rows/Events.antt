@@ -6,6 +6,7 @@ use Rattle.journal_builder.specs.build_state.State.{Safe, Built}
 use Rattle.journal_builder.specs.declared.build_state.Build.{Build}
 use Rattle.journal_builder.specs.declared.build_state.BuildStep.{BuildStep}
 use Rattle.journal_builder.specs.event_handling.Events.{SchemaCells, CellsOf, EventLeaves}
+use Rattle.journal_builder.specs.fillings.Fillings.{Shared}
 use Rattle.journal_lexer.specs.declared.state.Lex.{Lex}
 use Rattle.journal_lexer.specs.state.Relation.{TellsEvent}
 use Rattle.journal_reader.specs.rows.Rows.{RowAdded}
@@ -26,7 +27,7 @@ pub record EventRead (t : SchemaCells) (levels places : List ℕ) (c : Columns) 
       → (m.fault ≡ no_key → c ≡ columns_of z (reverse b.rows)) → r.fault ≡ no_key → d ≡ columns_of z (reverse (on_event s e b).rows)
 
 -- the same of lent slices
-abbrev pub EventReadIn : SchemaCells → Slice → Slice → Slice → Slice → Slice → Slice → Slice → Slice → Lex → Build → Build → Type 0
+abbrev pub EventReadIn : SchemaCells → Slice → Shared → Slice → Slice → Slice → Slice → Slice → Slice → Lex → Build → Build → Type 0
 EventReadIn t levels places numbers names parents starts lengths decoded l m r =
     EventRead t levels.entry.now places.entry.now (entry_columns numbers names parents starts lengths decoded) l m levels.exit.now (exit_columns numbers names parents starts lengths decoded) r
 

@@ -5,6 +5,7 @@ use Rattle.cells.specs.lent.Ends.{Slice, entry_columns, exit_columns}
 use Rattle.journal_builder.specs.build_state.State.{Built}
 use Rattle.journal_builder.specs.declared.build_state.Build.{Build}
 use Rattle.journal_builder.specs.event_handling.Events.{SchemaCells, CellsOf}
+use Rattle.journal_builder.specs.fillings.Fillings.{Shared}
 use Rattle.journal_lexer.specs.declared.state.Lex.{Lex}
 use Rattle.journal_lexer.specs.loop_laws.Advance.{foreign_below}
 use Rattle.journal_lexer.specs.run_laws.Passes.{Reached, reached-on}
@@ -38,7 +39,7 @@ pub record ReadOn (t : SchemaCells) (text levels places : List ℕ) (c : Columns
   pub read : (s : Schema) (z : Sizes) → CellsOf s t → Point s z text levels places c x → Point s z text after q d y
 
 -- the same of lent slices
-abbrev pub ReadOnIn : SchemaCells → Slice → Slice → Slice → Slice → Slice → Slice → Slice → Slice → Slice → ReaderState → ReaderState → Type 0
+abbrev pub ReadOnIn : SchemaCells → Shared → Slice → Slice → Slice → Slice → Slice → Slice → Slice → Slice → ReaderState → ReaderState → Type 0
 ReadOnIn t text levels places numbers names parents starts lengths decoded x y =
     ReadOn t text.entry.now levels.entry.now places.entry.now (entry_columns numbers names parents starts lengths decoded) x levels.exit.now places.exit.now (exit_columns numbers names parents starts lengths decoded) y
 

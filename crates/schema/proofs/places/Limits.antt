@@ -23,7 +23,7 @@ use Rattle.schema.specs.declarations.Declarations.{DeclarationRead, Declared}
 use Rattle.schema.specs.declared.declarations.DeclarationEnd.{DeclarationEnd}
 use Rattle.schema.specs.declared.declarations.DeclarationOutcome.{DeclarationOutcome}
 use Rattle.schema.specs.declared.declarations.DeclarationOutcome.TheVariants.{Past as DeclPast, Fail as DeclFail}
-use Rattle.schema.specs.particles.ReadingLaws.{between-low, between-from, between-to, between_join}
+use Rattle.schema.specs.particles.ReadingLaws.{between-from, between-to, between_join}
 use Rattle.schema.specs.particles.Readings.{use_at, Between}
 use Rattle.schema.specs.places.PlaceLaws.{places-back, between-least, head-least}
 use Rattle.schema.specs.places.Whole.{WithinLimits, Limits, within, passed, UpTo, AllSpelt}

@@ -14,6 +14,7 @@ places-back s (p ∷ ps) = ap (λ (l : List ℕ). p ∷ l) (places-back s ps)
 
 -- places in rising order lie within their bounds
 pub between-least : (low high : ℕ) (ps : List ℕ) {x : ℕ} → Between low high ps → In x ps → (low ≤ x) × (x < high)
+between-least low high [] b i = elim i [ ]
 between-least low high (p ∷ ps) b (here q) = let y = b.0 in let z = between-low (suc p) high ps b.1 in (omega arith, omega arith)
 between-least low high (p ∷ ps) b (there i) = let z = between-least (suc p) high ps b.1 i in let y = b.0 in (omega (arith, z.0), z.1)
 

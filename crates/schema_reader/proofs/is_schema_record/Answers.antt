@@ -20,12 +20,12 @@ slice_bounds-read_schema-end c =
 
 pub returns-then-again-len : goal.returns-then-again-len
 returns-then-again-len c =
-    sym (record-size c.args.schema.bytes c.args.schema.len c.read_schema-read.ensures c.in-Accepted.field-0.1 c.if-again-len.true)
+    sym (record-size c.args.schema.bytes c.args.schema.len c.read_schema-read.ensures c.in-Accepted.is c.if-again-len.true)
 
 pub returns-in-Refused : goal.returns-in-Refused
 returns-in-Refused c =
-    sym (record-refused c.args.schema.bytes c.args.schema.len c.read_schema-read.ensures c.in-Refused.field-0.1)
+    sym (record-refused c.args.schema.bytes c.args.schema.len c.read_schema-read.ensures c.in-Refused.is)
 
 pub returns-else-again-len : goal.returns-else-again-len
 returns-else-again-len c =
-    record-cells c.args.schema.bytes c.args.schema.len c.read_schema-read.ensures c.in-Accepted.field-0.1 c.if-len-gt-MAX_BYTES.false c.if-again-len.false c.same_cells.ensures
+    record-cells c.args.schema.bytes c.args.schema.len c.read_schema-read.ensures c.in-Accepted.is c.if-len-gt-MAX_BYTES.false c.if-again-len.false c.same_cells.ensures

@@ -1,5 +1,4 @@
 -- `read_schema` meets its contract: the answer, and the record that it hands back.
-use borrow.Author.Rules.{rules}
 use Rattle.schema_reader.proofs.Records.{read_as}
 use Rattle.schema_reader.proofs.read_schema.Goals as goal
 

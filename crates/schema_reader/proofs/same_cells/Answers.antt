@@ -1,11 +1,8 @@
 -- `same_cells` meets its contract: the first i bytes are the same.
-use mathlib.Core.Path.{◌≡◌, refl, sym, ◌∙◌}
-use Prim.Native.Nat.{◌-◌, ◌≤◌}
+use mathlib.Core.Path.{refl, sym, ◌∙◌}
 use native.Mathlib.Omega.{arith}
 use borrow.Author.Rules.{rules}
-use lib.ListN.{length, drop}
 use Rattle.schema_reader.proofs.Rereading.{cells-sizes, cells-ended, cells-differ, cells-next}
-use Rattle.text_spec.specs.Lists.{same_bytes}
 use Rattle.schema_reader.proofs.same_cells.Goals as goal
 
 pub returns-then-a-b : goal.returns-then-a-b

@@ -1,6 +1,7 @@
 -- Laws of the judgement: each refusal in its order, and acceptance.
 use Rattle.std.specs.Prelude.{Bool, true, false, ◌||◌, ◌≡◌, refl, ℕ, ◌+◌, ◌-◌, ◌≤◌, ◌<◌, ltb, length, take, drop, replicate}
 use mathlib.Core.List.Memᴰ.{head as here}
+use mathlib.Core.List.Memᴰ.{tail as there}
 use mathlib.Core.List.{List, [], ◌∷◌, ◌++◌, map, map-map, append-nil, Memᴰ as In}
 use Rattle.std.proofs.Math.Option.{Option, some}
 use Rattle.std.proofs.Math.Path.{sym, ap, ap₂}
@@ -20,7 +21,7 @@ use Rattle.schema.specs.particles.Readings.{use_at, Between}
 use Rattle.schema.specs.places.PlaceLaws.{places-back}
 use Rattle.schema.specs.places.Whole.{WithinLimits, Limits, within, passed, AllSpelt, AllRead}
 use Rattle.schema_laws.specs.Accepted.{names-of-elements}
-use Rattle.schema_reader.specs.declared_names.Names.{first_place, names_before, twice_at, missing_at, element_at, Resolved}
+use Rattle.schema_reader.specs.declared_names.Names.{first_place, names_before, twice_at, missing_at, Resolved}
 use Rattle.schema_reader.specs.declared_names.Naming.{twice-places, undeclared-places}
 use Rattle.schema_reader.specs.declared_names.Resolving.{used-elements}
 use Rattle.schema_reader.specs.judging_laws.Order.{Later, later-none, later-all, later-append, least_first, place_found, place_none, places-rise, filter-rise, twice-rise}
@@ -143,6 +144,7 @@ module _ (text : List ℕ) (R : Readable text) where
     where
       only : {x : ℕ} → In x (j ∷ []) → j ≤ x
       only (here q) = omega arith
+      only (there i) = elim i [ ]
 
   pub read-over : {ds : List Declaration} (k : ℕ) → parse text ≡ spells ds → In k (limit_places ds) → ((x : ℕ) → In x (limit_places ds) → k ≤ x) → JudgedAs text (Refused OverLimit k)
   read-over {ds} k e i l =

@@ -4,7 +4,6 @@ use mathlib.Core.Path.{◌≡◌, sym, ◌∙◌}
 use Prim.Native.Nat.{◌≤◌}
 use native.Mathlib.Omega.{arith}
 use borrow.Author.Rules.{rules}
-use borrow.Author.Tests.{not-true, not-false}
 use lib.ListN.{length}
 use lib.Seq.{length-take-le}
 use Rattle.bundle.proofs.reader.Records.{read-no-schema, read-judged}
@@ -16,10 +15,10 @@ use Rattle.bundle.proofs.reader.read_bundle.Goals as goal
 
 -- the record passes its test, so that its text is not too long
 passes : (c : Else-not-is_schema_record) → passes_record c.args.schema.bytes c.args.schema.len ≡ true
-passes c = sym c.is_schema_record.ensures ∙ not-false _ c.if-not-is_schema_record.false-raw
+passes c = sym c.is_schema_record.ensures ∙ c.if-not-is_schema_record.false
 
 inside : (c : Else-not-is_schema_record) → c.args.schema.len ≤ length c.args.schema.bytes
-inside c = 
+inside c =
     let schema = c.args.schema in
     let room : length schema.bytes ≡ max_schema_bytes = search rules in
     omega (arith, record-low schema.bytes schema.len (passes c))
@@ -27,7 +26,7 @@ inside c =
 pub returns-then-not-is_schema_record : goal.returns-then-not-is_schema_record
 returns-then-not-is_schema_record c =
     let at = c.args in
-    read-no-schema at.schema.bytes at.schema.len at.text.now (sym c.is_schema_record.ensures ∙ not-true _ c.if-not-is_schema_record.true-raw) c.empty.ensures
+    read-no-schema at.schema.bytes at.schema.len at.text.now (sym c.is_schema_record.ensures ∙ c.if-not-is_schema_record.true) c.empty.ensures
 
 pub slice_bounds-bytes-end : goal.slice_bounds-bytes-end
 slice_bounds-bytes-end c = inside (goal.at.slice_bounds-bytes-end c).Else-not-is_schema_record

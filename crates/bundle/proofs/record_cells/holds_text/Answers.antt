@@ -23,12 +23,6 @@ slice_bounds-recorded-end c =
     let room : length c.args.bundle.bytes ≡ max_bundle_bytes = search rules in
     sym (length-take-le c.args.bundle.len c.args.bundle.bytes (omega arith))
 
-pub recorded-again-requires : goal.recorded-again-requires
-recorded-again-requires c = tt
-
-pub same_cells-requires : goal.same_cells-requires
-same_cells-requires c = tt
-
 pub returns : goal.returns
 returns c =
     let room : length c.args.bundle.bytes ≡ max_bundle_bytes = search rules in

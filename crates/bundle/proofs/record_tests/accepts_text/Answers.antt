@@ -33,13 +33,10 @@ slice_bounds-judge_under-end-2 c =
     let low = c.requires.1 in
     sym (length-take-le c.args.bundle.len c.args.bundle.bytes (omega arith))
 
-pub judge_under-judged-requires : goal.judge_under-judged-requires
-judge_under-judged-requires c = tt
-
 pub returns-in-Accepted : goal.returns-in-Accepted
 returns-in-Accepted c =
-    text-accepted (schema_in (take c.args.schema.len c.args.schema.bytes)) (take c.args.bundle.len c.args.bundle.bytes) c.judge_under-judged.ensures c.in-Accepted.field-0.1
+    text-accepted (schema_in (take c.args.schema.len c.args.schema.bytes)) (take c.args.bundle.len c.args.bundle.bytes) c.judge_under-judged.ensures c.in-Accepted.is
 
 pub returns-in-Refused : goal.returns-in-Refused
 returns-in-Refused c =
-    text-refused (schema_in (take c.args.schema.len c.args.schema.bytes)) (take c.args.bundle.len c.args.bundle.bytes) c.judge_under-judged.ensures c.in-Refused.field-0.1
+    text-refused (schema_in (take c.args.schema.len c.args.schema.bytes)) (take c.args.bundle.len c.args.bundle.bytes) c.judge_under-judged.ensures c.in-Refused.is

@@ -1,5 +1,4 @@
 -- `after_alternative` meets its contract: the byte decides, and then the rest of ` or `.
-use borrow.Author.Rules.{rules}
 use Rattle.bundle_text.proofs.alternative_ends.Reading.{follow-end, follow-close, follow-not, follow-more, follow-stops}
 use Rattle.bundle_text.proofs.alternative_ends.after_alternative.Goals as goal
 
@@ -17,8 +16,8 @@ returns-then-s-at-ne32 c =
 
 pub returns-in-Past : goal.returns-in-Past
 returns-in-Past c =
-    record { says = follow-more _ _ c.if-s-at.left c.if-s-at-ne32.left c.spell.ensures c.in-Past.j.1 }
+    record { says = follow-more _ _ c.if-s-at.false c.if-s-at-ne32.false c.spell.ensures c.in-Past.is }
 
 pub returns-in-Fail : goal.returns-in-Fail
 returns-in-Fail c =
-    record { says = follow-stops _ _ c.if-s-at.left c.if-s-at-ne32.left c.spell.ensures c.in-Fail.j.1 }
+    record { says = follow-stops _ _ c.if-s-at.false c.if-s-at-ne32.false c.spell.ensures c.in-Fail.is }

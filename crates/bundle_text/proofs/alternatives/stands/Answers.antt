@@ -1,5 +1,4 @@
 -- `stands` meets its contract: past the end no byte stands.
-use borrow.Author.Rules.{rules}
 use Rattle.bundle_text.proofs.alternatives.Reading.{stands-none, stands-as}
 use Rattle.bundle_text.proofs.alternatives.stands.Goals as goal
 

@@ -1,6 +1,5 @@
 -- `axis` meets its contract: the first byte says which axes may still be meant.
 use mathlib.Core.Path.{refl}
-use borrow.Author.Rules.{rules}
 use Rattle.bundle_text.proofs.axes.Axes.{axis-end, first-child, first-self, first-descendant, first-ancestor, first-following, first-p, first-not}
 use Rattle.path_spec.specs.Machine.{begin_step}
 use Rattle.bundle_text.proofs.axes.axis.Goals as goal

@@ -1,7 +1,6 @@
 -- `ending` meets its contract: the byte decides between two axes.
 use mathlib.Core.List.{[]}
 use mathlib.Core.Path.{refl}
-use borrow.Author.Rules.{rules}
 use Rattle.bundle_text.proofs.axes.Axes.{axis-end, ending-not, ending-colon, ending-hyphen}
 use Rattle.bundle_text.specs.axes.Readings.{double}
 use Rattle.bundle_text.proofs.axes.ending.Goals as goal
@@ -16,8 +15,8 @@ returns-then-s-at-eq58 c =
 
 pub returns-then-s-at-eq45 : goal.returns-then-s-at-eq45
 returns-then-s-at-eq45 c =
-    ending-hyphen _ _ c.if-s-at.left c.args.axis c.args.e.now c.if-s-at-eq45.true c.requires.2 c.rest-then-s-at-eq45.ensures
+    ending-hyphen _ _ c.if-s-at.false c.args.axis c.args.e.now c.if-s-at-eq45.true c.requires.2 c.rest-then-s-at-eq45.ensures
 
 pub returns : goal.returns
 returns c =
-    ending-not _ _ c.if-s-at.left c.args.axis c.args.e.now c.if-s-at-eq58.false c.if-s-at-eq45.false
+    ending-not _ _ c.if-s-at.false c.args.axis c.args.e.now c.if-s-at-eq58.false c.if-s-at-eq45.false

@@ -1,6 +1,5 @@
 -- `parent_or_preceding` meets its contract: the byte after `p` decides.
 use mathlib.Core.Path.{refl}
-use borrow.Author.Rules.{rules}
 use Rattle.bundle_text.proofs.axes.Axes.{axis-end, after-p-parent, after-p-preceding, after-p-not}
 use Rattle.bundle_text.specs.axes.Readings.{parent_or_preceding}
 use Rattle.bundle_text.proofs.axes.parent_or_preceding.Goals as goal

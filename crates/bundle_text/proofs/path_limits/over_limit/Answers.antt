@@ -1,5 +1,4 @@
 -- `over_limit` meets its contract: the tests in their order.
-use borrow.Author.Rules.{rules}
 use Rattle.bundle_text.proofs.path_limits.Limits.{limit-known, limit-paths, limit-steps, limit-bytes, limit-condition, limit-kept}
 use Rattle.bundle_text.proofs.path_limits.over_limit.Goals as goal
 

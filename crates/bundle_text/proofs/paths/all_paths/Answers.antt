@@ -1,10 +1,9 @@
 -- `all_paths` meets its contract: path by path.
 use mathlib.Core.Path.{◌≡◌}
-use Prim.Native.Nat.{◌-◌}
 use native.Mathlib.Omega.{arith}
 use borrow.Author.Rules.{rules}
 use lib.ListN.{length}
-use Rattle.bundle_text.proofs.paths.Bundles.{Upto, upto-start, upto-size, upto-whole, upto-fails, upto-places, upto_next}
+use Rattle.bundle_text.proofs.paths.Bundles.{upto-start, upto-size, upto-whole, upto-fails, upto-places, upto_next}
 use Rattle.bundle_text.proofs.paths.all_paths.Goals.{At-loop-i}
 use Rattle.bundle_text.proofs.paths.all_paths.Goals as goal
 
@@ -40,21 +39,21 @@ shape_of-ways-in-Fail c = let l = (sizes (goal.at.shape_of-ways-in-Fail c).At-lo
 
 pub returns-in-Fail : goal.returns-in-Fail
 returns-in-Fail c =
-    upto-fails c.loop-i.invariant c.path.ensures c.in-Fail.j.1
+    upto-fails c.loop-i.invariant c.path.ensures c.in-Fail.is
 
 pub overflow_sub-steps : goal.overflow_sub-steps
 overflow_sub-steps c =
-    let l = (upto-places c.loop-i.invariant c.path.ensures c.in-Past.p.1).2 in
+    let l = (upto-places c.loop-i.invariant c.path.ensures c.in-Past.is).2 in
     search rules
 
 pub overflow_sub-end : goal.overflow_sub-end
 overflow_sub-end c =
-    let l = (upto-places c.loop-i.invariant c.path.ensures c.in-Past.p.1).0 in
+    let l = (upto-places c.loop-i.invariant c.path.ensures c.in-Past.is).0 in
     search rules
 
 pub overflow_sub-end-in-Past : goal.overflow_sub-end-in-Past
 overflow_sub-end-in-Past c =
-    let l = (upto-places c.loop-i.invariant c.path.ensures c.in-Past.p.1).0 in
+    let l = (upto-places c.loop-i.invariant c.path.ensures c.in-Past.is).0 in
     search rules
 
 pub over_limit-over-requires : goal.over_limit-over-requires
@@ -72,7 +71,7 @@ overflow_add-d c =
 
 pub loop-i-smaller : goal.loop-i-smaller
 loop-i-smaller c =
-    let q = upto-places c.loop-i.invariant c.path.ensures c.in-Past.p.1 in
+    let q = upto-places c.loop-i.invariant c.path.ensures c.in-Past.is in
     let qa = q.0 in
     let qb = q.1 in
     let qc = q.2 in
@@ -80,7 +79,7 @@ loop-i-smaller c =
 
 pub loop-i-preserved : goal.loop-i-preserved
 loop-i-preserved c =
-    upto_next c.loop-i.invariant c.path.ensures c.in-Past.p.1
+    upto_next c.loop-i.invariant c.path.ensures c.in-Past.is
     c.over_limit-over.ensures c.note.ensures
 
 pub shape_of-outers : goal.shape_of-outers

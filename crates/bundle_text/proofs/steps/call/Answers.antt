@@ -1,6 +1,5 @@
 -- `call` meets its contract: the name is sought twice.
 use mathlib.Core.Path.{refl}
-use borrow.Author.Rules.{rules}
 use Rattle.bundle_text.proofs.steps.Steps.{sought-found, sought-none, call-node, call-text, call-not}
 use Rattle.text_spec.specs.Lists.{bytes}
 use Rattle.bundle_text.proofs.steps.call.Goals as goal
@@ -16,5 +15,5 @@ returns-then-find-eq0-2 c =
 pub returns : goal.returns
 returns c =
     call-not _ _ _ c.requires.0 c.requires.1
-    (sought-none (bytes "node") c.args.s.now c.args.p refl c.find.ensures c.if-find-eq0.left)
+    (sought-none (bytes "node") c.args.s.now c.args.p refl c.find.ensures c.if-find-eq0.false)
     (sought-none (bytes "text") c.args.s.now c.args.p refl c.find-2.ensures c.if-find-eq0-2.false)

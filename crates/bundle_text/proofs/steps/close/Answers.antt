@@ -1,5 +1,4 @@
 -- `close` meets its contract: the byte is `)` or not.
-use borrow.Author.Rules.{rules}
 use Rattle.bundle_text.proofs.steps.Steps.{close-end, close-past, close-not}
 use Rattle.bundle_text.proofs.steps.close.Goals as goal
 

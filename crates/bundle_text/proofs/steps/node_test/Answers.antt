@@ -1,7 +1,5 @@
 -- `node_test` meets its contract: a name, and then whether it is called.
 use mathlib.Core.Path.{sym, ◌∙◌}
-use borrow.Author.Rules.{rules}
-use borrow.Author.Tests.{not-true, not-false}
 use Rattle.bundle_text.proofs.steps.Steps.{due-end, due-not, due-long, due-last, due-named, due-called}
 use Rattle.bundle_text.proofs.steps.node_test.Goals as goal
 
@@ -11,24 +9,24 @@ returns-then-s-at c =
 
 pub returns-then-not-starts_name : goal.returns-then-not-starts_name
 returns-then-not-starts_name c =
-    due-not _ _ c.if-s-at.false (sym c.starts_name.ensures ∙ not-true _ c.if-not-starts_name.true-raw)
+    due-not _ _ c.if-s-at.false (sym c.starts_name.ensures ∙ c.if-not-starts_name.true)
 
 pub name_end-requires : goal.name_end-requires
 name_end-requires c =
-    (c.if-s-at.false, sym c.starts_name.ensures ∙ not-false _ c.if-not-starts_name.false-raw)
+    (c.if-s-at.false, sym c.starts_name.ensures ∙ c.if-not-starts_name.false)
 
 pub returns-then-s-j : goal.returns-then-s-j
 returns-then-s-j c =
-    due-last c.if-s-at.left (sym c.starts_name.ensures ∙ not-false _ c.if-not-starts_name.left) c.name_end.ensures c.in-Past.j.1 c.if-s-j.true
+    due-last c.if-s-at.false (sym c.starts_name.ensures ∙ c.if-not-starts_name.false) c.name_end.ensures c.in-Past.is c.if-s-j.true
 
 pub returns-then-s-j-eq40 : goal.returns-then-s-j-eq40
 returns-then-s-j-eq40 c =
-    due-called c.if-s-at.left (sym c.starts_name.ensures ∙ not-false _ c.if-not-starts_name.left) c.name_end.ensures c.in-Past.j.1 c.call.ensures
+    due-called c.if-s-at.false (sym c.starts_name.ensures ∙ c.if-not-starts_name.false) c.name_end.ensures c.in-Past.is c.call.ensures
 
 pub returns-in-Fail : goal.returns-in-Fail
 returns-in-Fail c =
-    due-long c.if-s-at.false (sym c.starts_name.ensures ∙ not-false _ c.if-not-starts_name.false-raw) c.name_end.ensures c.in-Fail.j.1
+    due-long c.if-s-at.false (sym c.starts_name.ensures ∙ c.if-not-starts_name.false) c.name_end.ensures c.in-Fail.is
 
 pub returns-else-s-j-eq40 : goal.returns-else-s-j-eq40
 returns-else-s-j-eq40 c =
-    due-named c.if-s-at.left (sym c.starts_name.ensures ∙ not-false _ c.if-not-starts_name.left) c.name_end.ensures c.in-Past.j.1 c.if-s-j.false c.if-s-j-eq40.false
+    due-named c.if-s-at.false (sym c.starts_name.ensures ∙ c.if-not-starts_name.false) c.name_end.ensures c.in-Past.is c.if-s-j.false c.if-s-j-eq40.false

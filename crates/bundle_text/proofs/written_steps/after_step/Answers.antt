@@ -1,5 +1,4 @@
 -- `after_step` meets its contract: the byte decides.
-use borrow.Author.Rules.{rules}
 use Rattle.bundle_text.proofs.written_steps.Steps.{follow-end, follow-slash, follow-line, follow-not}
 use Rattle.bundle_text.proofs.written_steps.after_step.Goals as goal
 

@@ -1,5 +1,4 @@
 -- `CompiledSchema::empty` meets its contract.
-use borrow.Author.Rules.{rules}
 use Rattle.compiled_schema.proofs.Whole.{empty-compiled}
 use Rattle.compiled_schema.proofs.CompiledSchema.empty.Goals as goal
 

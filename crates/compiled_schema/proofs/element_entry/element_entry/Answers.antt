@@ -14,40 +14,40 @@ declaration-requires c =
 pub overflow_add-m : goal.overflow_add-m
 overflow_add-m c =
     let read = c.declaration.ensures in
-    let within = entry-within c.requires.0 read c.in-Past.p.1 c.requires.1 in
+    let within = entry-within c.requires.0 read c.in-Past.is c.requires.1 in
     search rules
 
 pub offset_bounds-uses-n : goal.offset_bounds-uses-n
 offset_bounds-uses-n c =
     let read = c.declaration.ensures in
-    let within = entry-within c.requires.0 read c.in-Past.p.1 c.requires.1 in
+    let within = entry-within c.requires.0 read c.in-Past.is c.requires.1 in
     search rules
 
 pub slice_bounds-model-end : goal.slice_bounds-model-end
 slice_bounds-model-end c =
     let read = c.declaration.ensures in
-    let within = entry-within c.requires.0 read c.in-Past.p.1 c.requires.1 in
+    let within = entry-within c.requires.0 read c.in-Past.is c.requires.1 in
     search rules
 
 pub copy_elements-requires : goal.copy_elements-requires
 copy_elements-requires c =
     let read = c.declaration.ensures in
-    let few = entry-few c.requires.0 read c.in-Past.p.1 in
-    let size = entry_length c.requires.0 read c.in-Past.p.1 c.requires.1 _ refl in
+    let few = entry-few c.requires.0 read c.in-Past.is in
+    let size = entry_length c.requires.0 read c.in-Past.is c.requires.1 _ refl in
     let long = ap length c.requires.2 in
-    (entry-small c.requires.0 read c.in-Past.p.1 c.requires.1 _ refl, omega arith)
+    (entry-small c.requires.0 read c.in-Past.is c.requires.1 _ refl, omega arith)
 
 pub skip-requires : goal.skip-requires
 skip-requires c =
     let read = c.declaration.ensures in
-    entry-high c.requires.0 read c.in-Past.p.1
+    entry-high c.requires.0 read c.in-Past.is
 
 pub returns-in-Past : goal.returns-in-Past
 returns-in-Past c =
     let read = c.declaration.ensures in
-    entry-made c.requires.0 read c.in-Past.p.1 c.requires.1 _ refl c.requires.3 c.requires.2 c.copy_elements.ensures
+    entry-made c.requires.0 read c.in-Past.is c.requires.1 _ refl c.requires.3 c.requires.2 c.copy_elements.ensures
     c.kind_of.ensures c.held-holds.ensures c.skip.ensures c.entry_of.ensures
 
 pub returns-in-Fail : goal.returns-in-Fail
 returns-in-Fail c =
-    absurd (entry-fails c.requires.0 c.declaration.ensures c.in-Fail.field-0.1)
+    absurd (entry-fails c.requires.0 c.declaration.ensures c.in-Fail.is)

@@ -1,12 +1,8 @@
 -- `copy_elements` meets its contract: what is still to be copied stands from i on.
-use mathlib.Core.List.{List}
-use mathlib.Core.Path.{◌≡◌, refl, sym, ap, ◌∙◌}
-use Prim.Native.Nat.{ℕ, suc, ◌+◌, ◌-◌, ◌≤◌, ◌<◌}
-use native.Mathlib.Numerals.{add-one}
-use native.Mathlib.Omega.{arith}
-use borrow.Author.Rules.{rules}
-use lib.ListN.{length, drop, get_or, set, length-set, drop_of_length-le}
-use lib.Seq.{sets, drop-cons}
+use mathlib.Core.Path.{◌≡◌}
+use Prim.Native.Nat.{◌-◌}
+use lib.ListN.{length, drop}
+use lib.Seq.{sets}
 use Rattle.compiled_schema.proofs.entry_parts.copy_elements.Given as goal
 
 abbrev pub invariant-loop-i : goal.invariant-loop-i

@@ -1,7 +1,6 @@
 -- `entry_of` meets its contract.
 use mathlib.Core.Path.{ap₂}
 use Prim.Native.Nat.{ℕ}
-use borrow.Author.Rules.{rules}
 use Rattle.models.specs.declared.Ends.{Ends}
 use Rattle.compiled_schema.proofs.entry_parts.entry_of.Goals as goal
 

@@ -1,5 +1,4 @@
 -- `held` meets its contract.
-use borrow.Author.Rules.{rules}
 use borrow.Author.Tests.{eq-eqb, ne_eqb}
 use Rattle.compiled_schema.proofs.entry_parts.Holding.{held-text, held_none}
 use Rattle.compiled_schema.proofs.entry_parts.held.Goals as goal

@@ -2,9 +2,7 @@
 use mathlib.Core.Bool.{◌||◌}
 use mathlib.Core.Path.{◌≡◌}
 use Prim.Native.Nat.{◌-◌}
-use borrow.Author.Rules.{rules}
 use lib.ListN.{length, drop}
-use Rattle.compiled_schema.proofs.entry_parts.Holding.{among_first, among_next, among-all}
 use Rattle.compiled_schema.specs.entry_parts.Entries.{is_one_of}
 use Rattle.names.specs.Sets.{member}
 use Rattle.schema_spec.specs.Names.{Name}

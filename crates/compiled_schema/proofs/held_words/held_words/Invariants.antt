@@ -1,11 +1,9 @@
 -- `held_words` meets its contract: the words that the loop has passed are those of their sets.
-use mathlib.Core.Path.{◌≡◌, ◌∙◌}
+use mathlib.Core.Path.{◌≡◌}
 use Prim.Native.Nat.{◌≤◌, ◌-◌}
-use native.Mathlib.Omega.{arith}
-use borrow.Author.Rules.{rules}
-use lib.ListN.{length, length-set, get_or-eq_default}
+use lib.ListN.{length}
 use Rattle.compiled_schema.specs.held_words.Words.{WordAt}
-use Rattle.text_laws.specs.Loops.{Passed, passed_first, passed-next}
+use Rattle.text_laws.specs.Loops.{Passed}
 use Rattle.text_spec.specs.Limits.{max_declarations}
 use Rattle.compiled_schema.proofs.held_words.held_words.Given as goal
 

@@ -38,4 +38,4 @@ shape_of-decoded c = c.decoded-1.given
 
 pub returns : goal.returns
 returns c =
-    compiled-read c.args.schema.now c.args.compiled c.requires.0 _ c.All-words.ensures c.read_table.ensures
+    compiled-read c.args.schema.now c.args.compiled c.requires.0 _ c.all_words-words.ensures c.read_table.ensures

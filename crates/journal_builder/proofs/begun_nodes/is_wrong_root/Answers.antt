@@ -1,5 +1,4 @@
 use mathlib.Core.Path.{refl}
-use borrow.Author.Rules.{rules}
 use borrow.Author.Tests.{eq-eqb, ne_eqb, lt-ltb, le-ltb}
 use Rattle.text_spec.specs.Limits.{max_declarations}
 use Rattle.journal_builder.proofs.begun_nodes.is_wrong_root.Goals as goal

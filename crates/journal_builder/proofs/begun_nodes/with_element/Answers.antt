@@ -1,9 +1,8 @@
 use mathlib.Core.Bool.{Bool}
-use mathlib.Core.Path.{◌≡◌, ap, ap₂, ◌∙◌}
+use mathlib.Core.Path.{ap, ap₂, ◌∙◌}
 use Prim.Native.Nat.{ℕ, ◌+◌}
-use borrow.Author.Rules.{rules}
 use lib.Dec.{leb}
-use Rattle.journal_builder.specs.build_state.State.{build, is_wrong_root}
+use Rattle.journal_builder.specs.build_state.State.{build}
 use Rattle.text.specs.fault_keys.Keys.{noted_key}
 use Rattle.text_spec.specs.Limits.{max_declarations}
 use Rattle.journal_builder.proofs.begun_nodes.with_element.Goals as goal

@@ -1,7 +1,6 @@
 use mathlib.Core.Bool.{Bool}
 use mathlib.Core.Path.{ap, ◌∙◌}
 use Prim.Native.Nat.{◌+◌}
-use borrow.Author.Rules.{rules}
 use Rattle.journal_builder.specs.build_state.State.{build}
 use Rattle.text.specs.fault_keys.Keys.{noted_key}
 use Rattle.journal_builder.proofs.begun_nodes.with_text.Goals as goal

@@ -1,5 +1,4 @@
 use mathlib.Core.Path.{ap}
-use borrow.Author.Rules.{rules}
 use Rattle.journal_builder.specs.build_state.State.{build}
 use Rattle.journal_builder.proofs.build_state.broken.Goals as goal
 

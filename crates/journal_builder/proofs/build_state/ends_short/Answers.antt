@@ -1,5 +1,4 @@
 use mathlib.Core.Path.{refl, sym, ◌∙◌}
-use borrow.Author.Rules.{rules}
 use Rattle.journal_builder.proofs.build_state.ends_short.Goals as goal
 
 pub returns-then-is_judged : goal.returns-then-is_judged

@@ -1,6 +1,5 @@
 use mathlib.Core.Bool.{Bool}
 use mathlib.Core.Path.{ap, ◌∙◌}
-use borrow.Author.Rules.{rules}
 use Rattle.text.specs.fault_keys.Keys.{noted_key}
 use Rattle.journal_builder.proofs.build_state.fault_at_end.Goals as goal
 

@@ -1,6 +1,5 @@
 use mathlib.Core.Path.{ap}
 use Prim.Native.Nat.{◌-◌}
-use borrow.Author.Rules.{rules}
 use Rattle.journal_builder.specs.build_state.State.{build}
 use Rattle.journal_builder.proofs.build_state.without_element.Goals as goal
 

@@ -1,6 +1,5 @@
 use Prim.Native.Nat.{◌%◌}
 use native.Mathlib.Omega.{arith}
-use borrow.Author.Rules.{rules}
 use Rattle.journal_builder.specs.fillings.FillingLaws.{child-taken}
 use Rattle.text_spec.specs.Limits.{max_declarations}
 use Rattle.journal_builder.proofs.children.advanced.Goals as goal

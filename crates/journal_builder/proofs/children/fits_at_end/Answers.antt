@@ -1,5 +1,4 @@
 use mathlib.Core.Path.{sym, ap, ◌∙◌}
-use borrow.Author.Rules.{rules}
 use Rattle.journal_builder.specs.fillings.FillingLaws.{end-judged, other-end}
 use Rattle.models.specs.declared.Ends.{Ends}
 use Rattle.models.specs.fitting.Steps.{may_end}

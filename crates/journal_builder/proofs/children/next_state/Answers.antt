@@ -1,7 +1,6 @@
 use mathlib.Core.Path.{◌≡◌, subst}
 use Prim.Native.Nat.{ℕ, ◌+◌, ◌-◌, ◌*◌}
 use native.Mathlib.Omega.{arith}
-use borrow.Author.Rules.{rules}
 use Rattle.compiled_schema.specs.entry_columns.Columns.{cells_at}
 use Rattle.models.specs.declared.Ends.{Ends}
 use Rattle.models.specs.fitting.Steps.{Stepped}

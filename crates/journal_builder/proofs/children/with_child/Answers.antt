@@ -1,6 +1,5 @@
 use mathlib.Core.List.{[]}
-use mathlib.Core.Path.{◌≡◌, sym, subst, ◌∙◌}
-use borrow.Author.Rules.{rules}
+use mathlib.Core.Path.{sym, subst, ◌∙◌}
 use Rattle.journal_builder.specs.declared.fillings.FillingState.{FillingState}
 use Rattle.journal_builder.specs.fillings.FillingLaws.{unjudged-child, taken, not_taken}
 use Rattle.journal_builder.specs.fillings.Fillings.{StateOf}

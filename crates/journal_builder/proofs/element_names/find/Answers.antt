@@ -1,4 +1,3 @@
-use borrow.Author.Rules.{rules}
 use Rattle.journal_builder.proofs.element_names.find.Goals as goal
 
 pub returns-then-is_named : goal.returns-then-is_named

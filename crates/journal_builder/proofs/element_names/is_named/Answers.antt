@@ -1,7 +1,6 @@
 use mathlib.Core.Bool.{true≢false}
 use mathlib.Core.Path.{sym, ◌∙◌}
 use native.Mathlib.Omega.{arith}
-use borrow.Author.Rules.{rules}
 use Rattle.journal_builder.specs.element_names.Names.{found_at}
 use Rattle.schema_spec.specs.Schemas.{name_at}
 use Rattle.journal_builder.proofs.element_names.is_named.Goals as goal

@@ -1,11 +1,9 @@
 use mathlib.Core.List.{List}
-use mathlib.Core.Path.{◌≡◌, sym, ◌∙◌}
+use mathlib.Core.Path.{◌≡◌}
 use Prim.Native.Nat.{ℕ, ◌≤◌, ◌-◌}
-use native.Mathlib.Omega.{arith}
-use borrow.Author.Rules.{rules}
 use lib.ListN.{length}
-use Rattle.journal_builder.specs.element_names.Names.{NamesOf, NoneNamed, found_at, none_more, none_found}
-use Rattle.schema_spec.specs.Schemas.{Schema, name_at}
+use Rattle.journal_builder.specs.element_names.Names.{NamesOf, NoneNamed}
+use Rattle.schema_spec.specs.Schemas.{Schema}
 use Rattle.text.specs.name_words.Words.{Spells}
 use Rattle.journal_builder.proofs.element_names.scan.Given as goal
 

@@ -1,6 +1,4 @@
-use mathlib.Core.Path.{◌≡◌, sym, ap, subst, ◌∙◌}
-use Prim.Native.Nat.{ℕ}
-use borrow.Author.Rules.{rules}
+use mathlib.Core.Path.{sym, ap, subst, ◌∙◌}
 use Rattle.journal_builder.specs.declared.open_levels.Level.{Level}
 use Rattle.journal_builder.specs.laws.Ends.{own_name}
 use Rattle.journal_builder.specs.laws.StateLaws.{innermost}

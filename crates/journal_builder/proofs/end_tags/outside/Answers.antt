@@ -1,5 +1,4 @@
 use mathlib.Core.Path.{refl}
-use borrow.Author.Rules.{rules}
 use borrow.Author.Tests.{eq-eqb, ne_eqb}
 use Rattle.journal_lexer.specs.state.Places.{no_place}
 use Rattle.journal_builder.proofs.end_tags.outside.Goals as goal

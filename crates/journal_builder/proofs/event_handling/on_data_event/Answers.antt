@@ -1,7 +1,6 @@
 -- `on_data_event` meets its contract: by the number of the event.
-use mathlib.Core.Logic.{◌⊎◌, inl, inr, ⊎_elim}
-use mathlib.Core.Path.{◌≡◌, refl, sym, ◌∙◌}
-use borrow.Author.Rules.{rules}
+use mathlib.Core.Logic.{⊎_elim}
+use mathlib.Core.Path.{◌≡◌}
 use Rattle.journal_builder.specs.event_handling.Events.{event-quiet, event-run}
 use Rattle.journal_builder.proofs.event_handling.on_data_event.Goals as goal
 

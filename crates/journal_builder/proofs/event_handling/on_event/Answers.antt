@@ -1,7 +1,6 @@
 -- `on_event` meets its contract: by the number of the event.
 use mathlib.Core.Bool.{false}
 use mathlib.Core.Path.{◌≡◌, refl, sym, ◌∙◌}
-use borrow.Author.Rules.{rules}
 use Rattle.journal_builder.specs.event_handling.Events.{is_data_event, data-event, tag-event, event-tag}
 use Rattle.journal_builder.proofs.event_handling.on_event.Goals as goal
 

@@ -1,4 +1,3 @@
-use borrow.Author.Rules.{rules}
 use Rattle.journal_builder.specs.fillings.FillingLaws.{new-declared, new-undeclared}
 use Rattle.journal_builder.proofs.fillings.filling_for.Goals as goal
 

@@ -1,6 +1,5 @@
-use mathlib.Core.Bool.{Bool, true, false}
-use mathlib.Core.Path.{◌≡◌, sym, subst, ◌∙◌}
-use borrow.Author.Rules.{rules}
+use mathlib.Core.Bool.{Bool}
+use mathlib.Core.Path.{sym, subst, ◌∙◌}
 use Rattle.journal_builder.specs.declared.fillings.FillingState.{FillingState}
 use Rattle.journal_builder.specs.fillings.FillingLaws.{empty-run, model-run, blank-run, other-run}
 use Rattle.journal_builder.specs.fillings.Fillings.{StateOf, filling, misfit_kind}

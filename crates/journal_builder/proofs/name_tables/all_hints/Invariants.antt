@@ -1,6 +1,4 @@
 use Prim.Native.Nat.{◌-◌, ◌≤◌}
-use native.Mathlib.Omega.{arith}
-use borrow.Author.Rules.{rules}
 use Rattle.journal_builder.proofs.name_tables.all_hints.Given as goal
 
 abbrev pub invariant-loop-e : goal.invariant-loop-e

@@ -1,11 +1,7 @@
-use mathlib.Core.Path.{◌≡◌, ◌∙◌}
-use Prim.Native.Nat.{ℕ, ◌-◌, ◌≤◌, ◌<◌}
+use mathlib.Core.Path.{◌∙◌}
 use native.Mathlib.Omega.{arith}
 use borrow.Author.Rules.{rules}
-use lib.ListN.{length, get_or}
 use Rattle.journal_builder.specs.name_tables.Words.{words_more}
-use Rattle.text.specs.name_words.Words.{words_of, name_at as words_at}
-use Rattle.text_spec.specs.Scans.{name_at}
 use Rattle.journal_builder.proofs.name_tables.all_words.Goals as goal
 
 pub loop-e-init : goal.loop-e-init

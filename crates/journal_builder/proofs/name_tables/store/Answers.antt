@@ -1,4 +1,3 @@
-use borrow.Author.Rules.{rules}
 use Rattle.journal_builder.specs.name_tables.Words.{store-stores}
 use Rattle.journal_builder.proofs.name_tables.store.Goals as goal
 

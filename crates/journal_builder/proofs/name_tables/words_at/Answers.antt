@@ -1,9 +1,6 @@
-use mathlib.Core.Path.{◌≡◌, sym, ◌∙◌}
-use Prim.Native.Nat.{◌-◌}
+use mathlib.Core.Path.{sym, ◌∙◌}
 use native.Mathlib.Omega.{arith}
-use borrow.Author.Rules.{rules}
-use lib.ListN.{length}
-use Rattle.journal_builder.specs.name_tables.Words.{ReadTo, read_none, read_more, read_all, goes-on-inside}
+use Rattle.journal_builder.specs.name_tables.Words.{read_none, read_more, read_all, goes-on-inside}
 use Rattle.journal_builder.proofs.name_tables.words_at.Goals as goal
 
 pub loop-longer-init : goal.loop-longer-init

@@ -1,9 +1,6 @@
-use mathlib.Core.Path.{◌≡◌, sym, ◌∙◌}
 use Prim.Native.Nat.{◌-◌}
-use native.Mathlib.Omega.{arith}
-use borrow.Author.Rules.{rules}
 use lib.ListN.{length}
-use Rattle.journal_builder.specs.name_tables.Words.{ReadTo, read_none, read_more, read_all, goes-on-inside}
+use Rattle.journal_builder.specs.name_tables.Words.{ReadTo}
 use Rattle.journal_builder.proofs.name_tables.words_at.Given as goal
 
 abbrev pub invariant-loop-longer : goal.invariant-loop-longer

@@ -1,4 +1,3 @@
-use borrow.Author.Rules.{rules}
 use Rattle.journal_builder.specs.open_levels.LevelLaws.{refill-stores}
 use Rattle.journal_builder.proofs.open_levels.refill.Goals as goal
 

@@ -1,5 +1,3 @@
-use mathlib.Core.Path.{◌≡◌, refl, sym, ap, subst, ◌∙◌}
-use borrow.Author.Rules.{rules}
 use Rattle.journal_builder.specs.laws.StateLaws.{refilled}
 use Rattle.journal_spec.specs.Builder.{with_child}
 use Rattle.journal_builder.proofs.start_tags.fit_child.Goals as goal

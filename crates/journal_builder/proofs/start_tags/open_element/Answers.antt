@@ -1,6 +1,5 @@
-use mathlib.Core.Path.{◌≡◌, refl, sym, ap, subst, ◌∙◌}
+use mathlib.Core.Path.{refl}
 use native.Mathlib.Omega.{arith}
-use borrow.Author.Rules.{rules}
 use Rattle.journal_builder.specs.open_levels.LevelLaws.{opened-more}
 use Rattle.journal_builder.proofs.start_tags.open_element.Goals as goal
 

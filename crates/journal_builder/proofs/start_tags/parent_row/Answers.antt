@@ -1,7 +1,4 @@
-use mathlib.Core.List.{List, [], ◌∷◌}
-use mathlib.Core.Path.{◌≡◌, refl, sym, ap, subst, ◌∙◌}
-use Prim.Native.Nat.{ℕ}
-use borrow.Author.Rules.{rules}
+use mathlib.Core.Path.{ap, ◌∙◌}
 use Rattle.journal_builder.specs.declared.open_levels.Level.{Level}
 use Rattle.journal_builder.specs.laws.Starts.{no-parent, own_row}
 use Rattle.journal_builder.proofs.start_tags.parent_row.Goals as goal

@@ -1,5 +1,4 @@
 -- `after_bracket_byte` meets its contract: by the kind of the byte.
-use borrow.Author.Rules.{rules}
 use Rattle.journal_lexer.specs.character_data.Laws.{bracket-more, bracket-plain}
 use Rattle.journal_lexer.proofs.character_data.after_bracket_byte.Goals as goal
 

@@ -1,5 +1,4 @@
 -- `between_byte` meets its contract: by the kind of the byte.
-use borrow.Author.Rules.{rules}
 use Rattle.journal_lexer.specs.character_data.Laws.{handed-cleared, less-between, between-data}
 use Rattle.journal_lexer.proofs.character_data.between_byte.Goals as goal
 

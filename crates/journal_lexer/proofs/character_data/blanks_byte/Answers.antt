@@ -1,5 +1,4 @@
 -- `blanks_byte` meets its contract: by the kind of the byte.
-use borrow.Author.Rules.{rules}
 use Rattle.journal_lexer.specs.character_data.Laws.{blanks-less, blanks-data}
 use Rattle.journal_lexer.proofs.character_data.blanks_byte.Goals as goal
 

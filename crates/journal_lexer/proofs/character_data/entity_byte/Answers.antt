@@ -1,5 +1,4 @@
 -- `entity_byte` meets its contract: by the next state.
-use borrow.Author.Rules.{rules}
 use Rattle.journal_lexer.specs.character_data.EntityLaws.{entity-none, entity-past, entity-stop, entity-more}
 use Rattle.journal_lexer.proofs.character_data.entity_byte.Goals as goal
 

@@ -1,5 +1,4 @@
 -- `plain_byte` meets its contract: by the kind of the byte.
-use borrow.Author.Rules.{rules}
 use Rattle.journal_lexer.specs.character_data.Laws.{plain-less, plain-opens, plain-entity, plain-bracket, plain-noted}
 use Rattle.journal_lexer.proofs.character_data.plain_byte.Goals as goal
 

@@ -1,6 +1,5 @@
 -- `entity_end` meets its contract: an entity that stands whole, or none.
 use mathlib.Core.Path.{refl}
-use borrow.Author.Rules.{rules}
 use Rattle.journal_lexer.specs.data_loops.Characters.{EntityEnd, entity-end}
 use Rattle.journal_lexer.proofs.data_loops.entity_end.Goals as goal
 

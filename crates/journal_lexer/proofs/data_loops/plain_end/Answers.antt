@@ -1,9 +1,6 @@
 -- `plain_end` meets its contract: each byte that is passed is plain.
 use mathlib.Core.Path.{refl}
-use Prim.Native.Nat.{◌-◌}
-use borrow.Author.Rules.{rules}
 use borrow.Author.Tests.{ltb-true}
-use lib.ListN.{length}
 use mir.Facts.{Fits-8_64}
 use Rattle.journal_lexer.specs.data_loops.Characters.{PlainBytes, more}
 use Rattle.journal_lexer.proofs.data_loops.plain_end.Goals as goal

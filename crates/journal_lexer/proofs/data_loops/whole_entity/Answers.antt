@@ -1,7 +1,6 @@
 -- `whole_entity` meets its contract: an entity that stands whole is passed, and else nothing changes.
 use mathlib.Core.Path.{refl}
 use native.Mathlib.Omega.{arith}
-use borrow.Author.Rules.{rules}
 use Rattle.journal_lexer.specs.data_loops.Entities.{whole-bounds, whole-advance}
 use Rattle.journal_lexer.specs.loop_laws.Laws.{advance-none}
 use Rattle.journal_lexer.proofs.data_loops.whole_entity.Goals as goal

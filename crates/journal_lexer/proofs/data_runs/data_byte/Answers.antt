@@ -1,5 +1,4 @@
 -- `data_byte` meets its contract: by the kind of the byte.
-use borrow.Author.Rules.{rules}
 use Rattle.journal_lexer.proofs.data_runs.Runs.{data-blank, data-entity, data-bracket, data-solid}
 use Rattle.journal_lexer.proofs.data_runs.data_byte.Goals as goal
 

@@ -1,5 +1,4 @@
 -- `entity_ends` meets its contract: by the two tests.
-use borrow.Author.Rules.{rules}
 use borrow.Author.Tests.{le-leb, lt-leb}
 use Rattle.journal_lexer.proofs.data_runs.entity_ends.Goals as goal
 

@@ -1,5 +1,4 @@
 -- `entity_next` meets its contract: by the state.
-use borrow.Author.Rules.{rules}
 use Rattle.journal_lexer.proofs.entities.States.{last-state}
 use Rattle.journal_lexer.proofs.entities.entity_next.Goals as goal
 

@@ -1,11 +1,8 @@
 -- `all_kinds` meets its contract: the cells below b hold their kinds.
-use mathlib.Core.Path.{◌≡◌}
-use Prim.Native.Nat.{ℕ, ◌≤◌, ◌-◌}
 use native.Mathlib.Omega.{arith}
 use borrow.Author.Rules.{rules}
-use lib.ListN.{length, length-set}
-use Rattle.journal_lexer.specs.kinds.Kinds.{kind_of}
-use Rattle.text_laws.specs.Loops.{Passed, passed_first, passed-next}
+use lib.ListN.{length-set}
+use Rattle.text_laws.specs.Loops.{passed_first, passed-next}
 use Rattle.journal_lexer.proofs.kinds.all_kinds.Invariants.{Right}
 use Rattle.journal_lexer.proofs.kinds.all_kinds.Goals as goal
 

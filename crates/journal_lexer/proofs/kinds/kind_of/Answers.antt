@@ -1,6 +1,5 @@
 -- `kind_of` meets its contract: the tests in their order.
 use mathlib.Core.Path.{sym, ◌∙◌}
-use borrow.Author.Rules.{rules}
 use Rattle.journal_lexer.specs.kinds.Kinds.{kind_of}
 use Rattle.journal_lexer.proofs.kinds.kind_of.Goals as goal
 

@@ -1,10 +1,7 @@
 -- `end_name_run` meets its contract: from the loop's start to each turn the code goes as the definition goes.
-use mathlib.Core.Path.{refl}
 use Prim.Native.Nat.{◌-◌}
 use lib.ListN.{length}
-use mir.Facts.{Fits-8_64}
-use Rattle.journal_lexer.specs.loop_laws.Laws.{advance-end}
-use Rattle.journal_lexer.specs.loop_laws.Turns.{Turn, turn-first, turn-over, turn-handed, mode-falls, mode-next}
+use Rattle.journal_lexer.specs.loop_laws.Turns.{Turn}
 use Rattle.journal_lexer.proofs.name_loops.end_name_run.Given as goal
 
 abbrev pub invariant-loop-s : goal.invariant-loop-s

@@ -1,5 +1,4 @@
 -- `first_foreign` meets its contract.
-use borrow.Author.Rules.{rules}
 use borrow.Author.Tests.{eq-eqb, ne_eqb}
 use Rattle.journal_lexer.proofs.state.first_foreign.Goals as goal
 

@@ -1,5 +1,4 @@
 -- `initial` meets its contract.
-use borrow.Author.Rules.{rules}
 use Rattle.journal_lexer.proofs.state.initial.Goals as goal
 
 pub returns : goal.returns

@@ -1,5 +1,4 @@
 -- `note_foreign` meets its contract.
-use borrow.Author.Rules.{rules}
 use borrow.Author.Tests.{eq-eqb, ne_eqb}
 use Rattle.journal_lexer.proofs.state.note_foreign.Goals as goal
 

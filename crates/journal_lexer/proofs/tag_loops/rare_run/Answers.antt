@@ -1,11 +1,9 @@
 -- `rare_run` meets its contract: from the loop's start to each turn the code goes as the definition goes.
 use mathlib.Core.Bool.{true}
 use mathlib.Core.Path.{◌≡◌, refl, sym, ◌∙◌}
-use Prim.Native.Nat.{◌-◌}
-use lib.ListN.{length}
 use mir.Facts.{Fits-8_64}
 use Rattle.journal_lexer.specs.loop_laws.Laws.{advance-end}
-use Rattle.journal_lexer.specs.loop_laws.Turns.{Turn, turn-first, turn-over, turn-handed, turn-falls, turn-next}
+use Rattle.journal_lexer.specs.loop_laws.Turns.{turn-first, turn-over, turn-handed, turn-falls, turn-next}
 use Rattle.journal_lexer.specs.tag_loops.Modes.{rare_mode, rare-not}
 use Rattle.journal_lexer.proofs.tag_loops.rare_run.Goals as goal
 

@@ -1,5 +1,4 @@
 -- `after_slash_byte` meets its contract: by the kind of the byte.
-use borrow.Author.Rules.{rules}
 use Rattle.journal_lexer.specs.tags.Laws.{slash-closed, slash-stop}
 use Rattle.journal_lexer.proofs.tags.after_slash_byte.Goals as goal
 

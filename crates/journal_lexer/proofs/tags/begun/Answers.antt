@@ -1,5 +1,4 @@
 -- `begun` meets its contract.
-use borrow.Author.Rules.{rules}
 use Rattle.journal_lexer.proofs.tags.begun.Goals as goal
 
 pub returns : goal.returns

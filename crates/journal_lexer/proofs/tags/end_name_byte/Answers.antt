@@ -1,5 +1,4 @@
 -- `end_name_byte` meets its contract: by the kind of the byte.
-use borrow.Author.Rules.{rules}
 use Rattle.journal_lexer.specs.tags.Laws.{in-end-name-longer, in-end-name-past}
 use Rattle.journal_lexer.proofs.tags.end_name_byte.Goals as goal
 

@@ -1,5 +1,4 @@
 -- `ending_byte` meets its contract: by the kind of the byte.
-use borrow.Author.Rules.{rules}
 use Rattle.journal_lexer.specs.tags.Laws.{ending-letter, ending-stop}
 use Rattle.journal_lexer.proofs.tags.ending_byte.Goals as goal
 

@@ -1,7 +1,6 @@
 -- `longer` meets its contract.
 use mathlib.Core.Path.{refl}
 use native.Mathlib.Omega.{arith}
-use borrow.Author.Rules.{rules}
 use Rattle.journal_lexer.specs.tags.Names.{fits, over}
 use Rattle.journal_lexer.proofs.tags.longer.Goals as goal
 

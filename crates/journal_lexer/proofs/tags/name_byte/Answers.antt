@@ -1,5 +1,4 @@
 -- `name_byte` meets its contract: by the kind of the byte.
-use borrow.Author.Rules.{rules}
 use Rattle.journal_lexer.specs.tags.Laws.{in-name-longer, in-name-past}
 use Rattle.journal_lexer.proofs.tags.name_byte.Goals as goal
 

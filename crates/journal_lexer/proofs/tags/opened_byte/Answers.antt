@@ -1,5 +1,4 @@
 -- `opened_byte` meets its contract: by the kind of the byte.
-use borrow.Author.Rules.{rules}
 use Rattle.journal_lexer.specs.tags.Laws.{opened-slash, opened-letter, opened-stop}
 use Rattle.journal_lexer.proofs.tags.opened_byte.Goals as goal
 

@@ -1,5 +1,4 @@
 -- `past_end_name` meets its contract: by the kind of the byte.
-use borrow.Author.Rules.{rules}
 use Rattle.journal_lexer.specs.tags.Laws.{end-blank, end-closed, end-stop}
 use Rattle.journal_lexer.proofs.tags.past_end_name.Goals as goal
 

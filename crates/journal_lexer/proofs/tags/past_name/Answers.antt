@@ -1,5 +1,4 @@
 -- `past_name` meets its contract: by the kind of the byte.
-use borrow.Author.Rules.{rules}
 use Rattle.journal_lexer.specs.tags.Laws.{tag-blank, tag-closed, tag-slash, tag-stop}
 use Rattle.journal_lexer.proofs.tags.past_name.Goals as goal
 

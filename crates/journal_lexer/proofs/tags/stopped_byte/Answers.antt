@@ -1,5 +1,4 @@
 -- `stopped_byte` meets its contract.
-use borrow.Author.Rules.{rules}
 use Rattle.journal_lexer.specs.tags.Laws.{stopped-stop}
 use Rattle.journal_lexer.proofs.tags.stopped_byte.Goals as goal
 

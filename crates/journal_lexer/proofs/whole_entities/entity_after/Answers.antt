@@ -1,5 +1,4 @@
 use mathlib.Core.Path.{refl, sym, ◌∙◌}
-use borrow.Author.Rules.{rules}
 use Rattle.journal_lexer.specs.whole_entities.Entities.{whole}
 use Rattle.text_spec.specs.Lists.{bytes}
 use Rattle.token_spec.specs.Characters.{amp, apos, quot}

@@ -1,5 +1,4 @@
 use mathlib.Core.Path.{sym}
-use borrow.Author.Rules.{rules}
 use Rattle.journal_lexer.specs.whole_entities.Entities.{begins-past, begins-byte}
 use Rattle.journal_lexer.proofs.whole_entities.is_at.Goals as goal
 

@@ -1,9 +1,6 @@
 -- `read_run` meets its contract: each turn reads one byte of the run, the rest of the entity that it begins, and the characters after it.
-use mathlib.Core.Path.{sym, ◌∙◌}
 use Prim.Native.Nat.{◌-◌}
 use lib.ListN.{length}
-use mir.Facts.{Fits-8_64}
-use Rattle.journal_lexer.specs.whole_texts.Laws.{fresh-ready, run-first, run-over, run-ended, run-handed, run-falls, run-next, run_on, run-still-falls}
 use Rattle.journal_lexer.specs.whole_texts.Runs.{Begun}
 use Rattle.journal_lexer.proofs.whole_texts.read_run.Given as goal
 

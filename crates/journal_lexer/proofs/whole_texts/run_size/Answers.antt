@@ -1,6 +1,4 @@
 -- `run_size` meets its contract: by the tests.
-use native.Mathlib.Omega.{arith}
-use borrow.Author.Rules.{rules}
 use Rattle.journal_lexer.specs.whole_texts.Laws.{size-short, size-between, size-outside, size-later, size-whole}
 use Rattle.journal_lexer.proofs.whole_texts.run_size.Goals as goal
 

@@ -1,14 +1,13 @@
 -- `judge` meets its contract: 2, or what reading finds.
 use mathlib.Core.Path.{refl, sym, ◌∙◌}
 use Prim.Native.Nat.{◌≤◌}
-use borrow.Author.Tests.{not-true, not-false}
 use lib.ListN.{length}
 use Rattle.journal_reader.specs.event_loop.Judging.{judged-2, outside-2, judged-within, within, within-places}
 use Rattle.journal_reader.proofs.event_loop.judge.Goals.{Else-not-length_fits}
 use Rattle.journal_reader.proofs.event_loop.judge.Goals as goal
 
 fits : (c : Else-not-length_fits) → (1 ≤ length c.args.text.now) × (length c.args.text.now ≤ c.args.limit)
-fits c = within _ _ (sym c.length_fits.ensures ∙ not-false _ c.if-not-length_fits.false-raw)
+fits c = within _ _ (sym c.length_fits.ensures ∙ c.if-not-length_fits.false)
 
 pub length_fits-requires : goal.length_fits-requires
 length_fits-requires c = tt
@@ -18,7 +17,7 @@ refused-requires c = tt
 
 pub returns-then-not-length_fits : goal.returns-then-not-length_fits
 returns-then-not-length_fits c =
-    judged-2 _ (outside-2 _ _ (sym c.length_fits.ensures ∙ not-true _ c.if-not-length_fits.true-raw)) c.refused.ensures
+    judged-2 _ (outside-2 _ _ (sym c.length_fits.ensures ∙ c.if-not-length_fits.true)) c.refused.ensures
 
 pub read_journal-found-requires : goal.read_journal-found-requires
 read_journal-found-requires c =

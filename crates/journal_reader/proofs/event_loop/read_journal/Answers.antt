@@ -19,22 +19,22 @@ finish-requires c =
     (all.usable, subst (λ (k : ℕ). k < no_place) (sym all.place) c.requires.0)
 
 pub shape_of-numbers : goal.shape_of-numbers
-shape_of-numbers c = c.finish.auto.1.0 ∙ c.read_all-x.auto.1.1.1.1.1.1.1.1.1.1.1.1.1.0
+shape_of-numbers c = c.finish.auto.numbers ∙ c.read_all-x.auto.numbers
 
 pub shape_of-names : goal.shape_of-names
-shape_of-names c = c.finish.auto.1.1.0 ∙ c.read_all-x.auto.1.1.1.1.1.1.1.1.1.1.1.1.1.1.0
+shape_of-names c = c.finish.auto.names ∙ c.read_all-x.auto.names
 
 pub shape_of-parents : goal.shape_of-parents
-shape_of-parents c = c.finish.auto.1.1.1.0 ∙ c.read_all-x.auto.1.1.1.1.1.1.1.1.1.1.1.1.1.1.1.0
+shape_of-parents c = c.finish.auto.parents ∙ c.read_all-x.auto.parents
 
 pub shape_of-starts : goal.shape_of-starts
-shape_of-starts c = c.finish.auto.1.1.1.1.0 ∙ c.read_all-x.auto.1.1.1.1.1.1.1.1.1.1.1.1.1.1.1.1.0
+shape_of-starts c = c.finish.auto.starts ∙ c.read_all-x.auto.starts
 
 pub shape_of-lengths : goal.shape_of-lengths
-shape_of-lengths c = c.finish.auto.1.1.1.1.1.0 ∙ c.read_all-x.auto.1.1.1.1.1.1.1.1.1.1.1.1.1.1.1.1.1.0
+shape_of-lengths c = c.finish.auto.lengths ∙ c.read_all-x.auto.lengths
 
 pub shape_of-decoded : goal.shape_of-decoded
-shape_of-decoded c = c.finish.auto.1.1.1.1.1.1.0 ∙ c.read_all-x.auto.1.1.1.1.1.1.1.1.1.1.1.1.1.1.1.1.1.1.0
+shape_of-decoded c = c.finish.auto.decoded ∙ c.read_all-x.auto.decoded
 
 pub returns : goal.returns
 returns c = journal-read _ (search rules) c.read_all-x.ensures (c.finish.ensures _)

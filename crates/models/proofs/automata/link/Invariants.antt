@@ -9,7 +9,7 @@ use Rattle.text_laws.specs.Loops.{Passed, passed_first, passed-next}
 use Rattle.models.proofs.automata.link.Given as goal
 
 abbrev pub invariant-loop-j : goal.invariant-loop-j
-invariant-loop-j l =     (l.j ≤ length l.predecessors) × ((length l.predecessors ≡ length l.initial.predecessors) × Passed (LinkedAt l.initial.predecessors l.lasts l.firsts) 0 l.initial.predecessors l.j l.predecessors)
+invariant-loop-j l = (l.j ≤ length l.predecessors) × ((length l.predecessors ≡ length l.initial.predecessors) × Passed (LinkedAt l.initial.predecessors l.lasts l.firsts) 0 l.initial.predecessors l.j l.predecessors)
 
 abbrev pub decreases-loop-j : goal.decreases-loop-j
 decreases-loop-j l = length l.initial.predecessors - l.j

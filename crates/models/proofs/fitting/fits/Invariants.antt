@@ -16,7 +16,7 @@ use Rattle.schema_spec.specs.Models.{Fits}
 use Rattle.models.proofs.fitting.fits.Given as goal
 
 abbrev pub invariant-loop-i : goal.invariant-loop-i
-invariant-loop-i l =     (l.i ≤ length l.children) × Run l.ends l.elements l.predecessors Start (take l.i l.children) l.state
+invariant-loop-i l = (l.i ≤ length l.children) × Run l.ends l.elements l.predecessors Start (take l.i l.children) l.state
 
 abbrev pub decreases-loop-i : goal.decreases-loop-i
 decreases-loop-i l = length l.children - l.i

@@ -1,5 +1,4 @@
 -- `content` meets its contract: `(`, `EMPTY` or neither.
-use borrow.Author.Rules.{rules}
 use Rattle.schema.proofs.contents.Contents.{content-end, content-model, content-empty, content-not}
 use Rattle.schema.proofs.contents.content.Goals as goal
 

@@ -12,15 +12,15 @@ returns-then-s-i-eq35 c =
 
 pub indicated-q-requires : goal.indicated-q-requires
 indicated-q-requires c =
-    model-high c.skip-i.ensures c.if-s-i.false c.if-s-i-eq35.false c.group.ensures _ c.in-Past.p.1
+    model-high c.skip-i.ensures c.if-s-i.false c.if-s-i-eq35.false c.group.ensures _ c.in-Past.is
 
 pub shape_of-predecessors-in-Past : goal.shape_of-predecessors-in-Past
 shape_of-predecessors-in-Past c = let l = c.indicated-q.ensures.repeated.long in search rules
 
 pub returns-in-Past : goal.returns-in-Past
 returns-in-Past c =
-    model-reads c.skip-i.ensures c.if-s-i.false c.if-s-i-eq35.false c.group.ensures c.in-Past.p.1 c.indicated-q.ensures
+    model-reads c.skip-i.ensures c.if-s-i.false c.if-s-i-eq35.false c.group.ensures c.in-Past.is c.indicated-q.ensures
 
 pub returns-in-Fail : goal.returns-in-Fail
 returns-in-Fail c =
-    record { says = model-fails c.skip-i.ensures c.if-s-i.false c.if-s-i-eq35.false c.group.ensures c.in-Fail.j.1 }
+    record { says = model-fails c.skip-i.ensures c.if-s-i.false c.if-s-i-eq35.false c.group.ensures c.in-Fail.is }

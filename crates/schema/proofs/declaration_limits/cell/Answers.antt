@@ -1,6 +1,5 @@
 -- `cell` meets its contract.
 use mathlib.Core.Path.{sym}
-use borrow.Author.Rules.{rules}
 use lib.ListN.{get_or-eq_default}
 use Rattle.schema.proofs.declaration_limits.cell.Goals as goal
 

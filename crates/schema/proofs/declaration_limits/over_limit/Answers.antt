@@ -1,7 +1,6 @@
 -- `over_limit` meets its contract: the tests in their order.
 use mathlib.Core.Path.{sym, ◌∙◌}
 use Prim.Native.Nat.{◌-◌}
-use borrow.Author.Rules.{rules}
 use borrow.Author.Tests.{lt-ltb, le-ltb, le-leb, lt-leb}
 use Rattle.text_laws.specs.Tests.{cond_yes as yes, cond_no as no}
 use Rattle.text_spec.specs.Limits.{max_declarations, max_model_names}

@@ -1,7 +1,5 @@
 -- `declared_name` meets its contract.
 use mathlib.Core.Path.{sym, ◌∙◌}
-use borrow.Author.Rules.{rules}
-use borrow.Author.Tests.{not-true, not-false}
 use Rattle.schema.proofs.declarations.Declarations.{name-end, name-not, name-fails, name-reads}
 use Rattle.text.specs.scanning.OutcomeLaws.{named_end}
 use Rattle.schema.proofs.declarations.declared_name.Goals as goal
@@ -11,18 +9,18 @@ returns-then-s-i c = record { says = name-end c.args.s.now c.args.i c.if-s-i.tru
 
 pub returns-then-not-starts_name : goal.returns-then-not-starts_name
 returns-then-not-starts_name c =
-    record { says = name-not c.args.s.now c.args.i c.if-s-i.false (c.requires.1 c.if-s-i.false) (sym c.starts_name.ensures ∙ not-true _ c.if-not-starts_name.true-raw) }
+    record { says = name-not c.args.s.now c.args.i c.if-s-i.false (c.requires.1 c.if-s-i.false) (sym c.starts_name.ensures ∙ c.if-not-starts_name.true) }
 
 pub name_end-requires : goal.name_end-requires
-name_end-requires c = (c.if-s-i.false, sym c.starts_name.ensures ∙ not-false _ c.if-not-starts_name.false-raw)
+name_end-requires c = (c.if-s-i.false, sym c.starts_name.ensures ∙ c.if-not-starts_name.false)
 
 pub space-requires : goal.space-requires
-space-requires c = (named_end c.name_end.ensures c.in-Past.e.1).1
+space-requires c = (named_end c.name_end.ensures c.in-Past.is).1
 
 pub returns-in-Past : goal.returns-in-Past
 returns-in-Past c =
-    name-reads c.args.s.now c.args.i c.if-s-i.false (c.requires.1 c.if-s-i.false) (sym c.starts_name.ensures ∙ not-false _ c.if-not-starts_name.false-raw) c.name_end.ensures c.in-Past.e.1 c.space.ensures
+    name-reads c.args.s.now c.args.i c.if-s-i.false (c.requires.1 c.if-s-i.false) (sym c.starts_name.ensures ∙ c.if-not-starts_name.false) c.name_end.ensures c.in-Past.is c.space.ensures
 
 pub returns-in-Fail : goal.returns-in-Fail
 returns-in-Fail c =
-    record { says = name-fails c.args.s.now c.args.i c.if-s-i.false (c.requires.1 c.if-s-i.false) (sym c.starts_name.ensures ∙ not-false _ c.if-not-starts_name.false-raw) c.name_end.ensures c.in-Fail.j.1 }
+    record { says = name-fails c.args.s.now c.args.i c.if-s-i.false (c.requires.1 c.if-s-i.false) (sym c.starts_name.ensures ∙ c.if-not-starts_name.false) c.name_end.ensures c.in-Fail.is }

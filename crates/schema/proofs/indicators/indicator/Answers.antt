@@ -1,6 +1,5 @@
 -- `indicator` meets its contract: a byte after a particle that is an indicator, or is none.
 use mathlib.Core.Path.{sym, ◌∙◌}
-use Prim.Native.Nat.{◌-◌}
 use borrow.Author.Rules.{rules}
 use Rattle.schema.proofs.indicators.Indicators.{indicator-there, indicator-absent, indicator-end}
 use Rattle.schema.proofs.indicators.indicator.Goals as goal

@@ -1,6 +1,5 @@
 -- `repetition` meets its contract: `?`, `*`, `+` or no indicator.
 use mathlib.Core.Path.{ap}
-use borrow.Author.Rules.{rules}
 use Rattle.schema.proofs.indicators.Indicators.{once-past, once-other}
 use Rattle.schema.specs.particles.AutomataLaws.{repeated-none, repeated-optional, repeated-any, repeated-more}
 use Rattle.schema.specs.particles.Readings.{indicator_of}

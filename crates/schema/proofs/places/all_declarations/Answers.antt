@@ -1,11 +1,9 @@
 -- `all_declarations` meets its contract: what was read up to i.
 use mathlib.Core.Path.{◌≡◌, refl, sym, ◌∙◌}
-use Prim.Native.Nat.{◌-◌}
 use native.Mathlib.Omega.{arith}
 use borrow.Author.Rules.{rules}
 use lib.ListN.{length}
 use Rattle.schema.proofs.places.Limits.{all_start, all_none, all-spelt, all-fail, all_known, all-next}
-use Rattle.schema.specs.places.Whole.{UpTo}
 use Rattle.schema.proofs.places.all_declarations.Goals.{At-loop-i}
 use Rattle.schema.proofs.places.all_declarations.Goals as goal
 
@@ -34,34 +32,33 @@ shape_of-uses-in-Fail c = let l = (sizes (goal.at.shape_of-uses-in-Fail c).At-lo
 
 pub returns-in-Fail : goal.returns-in-Fail
 returns-in-Fail c =
-    record { says = all-fail c.loop-i.invariant.0 c.loop-i-test.taken c.declaration.ensures c.in-Fail.j.1 }
+    record { says = all-fail c.loop-i.invariant.0 c.loop-i-test.true c.declaration.ensures c.in-Fail.is }
 
 pub over_limit-over-requires : goal.over_limit-over-requires
 over_limit-over-requires c =
-    (all_known c.loop-i.invariant.0 c.loop-i-test.taken c.declaration.ensures c.in-Past.p.1).0
+    (all_known c.loop-i.invariant.0 c.loop-i-test.true c.declaration.ensures c.in-Past.is).0
 
 pub overflow_add-d : goal.overflow_add-d
 overflow_add-d c = let f = c.loop-i.invariant.0.few in search rules
 
 pub skip-i-requires-in-Past : goal.skip-i-requires-in-Past
 skip-i-requires-in-Past c =
-    (all_known c.loop-i.invariant.0 c.loop-i-test.taken c.declaration.ensures c.in-Past.p.1).1
+    (all_known c.loop-i.invariant.0 c.loop-i-test.true c.declaration.ensures c.in-Past.is).1
 
 pub loop-i-smaller : goal.loop-i-smaller
 loop-i-smaller c =
-    let x = all-next c.loop-i.invariant.0 c.loop-i-test.taken c.declaration.ensures c.in-Past.p.1
+    let x = all-next c.loop-i.invariant.0 c.loop-i-test.true c.declaration.ensures c.in-Past.is
     c.note.ensures c.over_limit-over.ensures c.skip-i-in-Past.ensures in
     let y = x.0 in
     let z = x.1.high in
     omega arith
 
 pub loop-i-preserved : goal.loop-i-preserved
-loop-i-preserved c =
-    (
-      (all-next c.loop-i.invariant.0 c.loop-i-test.taken c.declaration.ensures c.in-Past.p.1
-          c.note.ensures c.over_limit-over.ensures c.skip-i-in-Past.ensures).1,
-      search rules,
-    )
+loop-i-preserved c = (
+  (all-next c.loop-i.invariant.0 c.loop-i-test.true c.declaration.ensures c.in-Past.is
+      c.note.ensures c.over_limit-over.ensures c.skip-i-in-Past.ensures).1,
+  search rules,
+)
 
 pub shape_of-names-then-d-eq0 : goal.shape_of-names-then-d-eq0
 shape_of-names-then-d-eq0 c = let l = (sizes (goal.at.shape_of-names-then-d-eq0 c).At-loop-i).0 in search rules

@@ -1,10 +1,7 @@
 -- `all_declarations` meets its contract: what was read up to i.
-use mathlib.Core.Path.{◌≡◌, refl, sym, ◌∙◌}
+use mathlib.Core.Path.{◌≡◌}
 use Prim.Native.Nat.{◌-◌}
-use native.Mathlib.Omega.{arith}
-use borrow.Author.Rules.{rules}
 use lib.ListN.{length}
-use Rattle.schema.proofs.places.Limits.{all_start, all_none, all-spelt, all-fail, all_known, all-next}
 use Rattle.schema.specs.places.Whole.{UpTo}
 use Rattle.schema.proofs.places.all_declarations.Given as goal
 

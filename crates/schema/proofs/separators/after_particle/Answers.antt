@@ -1,6 +1,5 @@
 -- `after_particle` meets its contract: the byte after the blanks decides.
 use mathlib.Core.Path.{sym, ◌∙◌}
-use borrow.Author.Rules.{rules}
 use Rattle.schema.specs.particles.ParticleLaws.{follow-end, follow-close, follow-more, follow-not}
 use Rattle.schema.proofs.separators.after_particle.Goals as goal
 
@@ -14,8 +13,8 @@ returns-then-b-eq41 c =
 
 pub returns-then-may_part : goal.returns-then-may_part
 returns-then-may_part c =
-    record { says = follow-more c.args.sep c.skip-i.ensures c.if-s-i.false (sym c.May-part.ensures ∙ c.if-may_part.true) }
+    record { says = follow-more c.args.sep c.skip-i.ensures c.if-s-i.false (sym c.may_part.ensures ∙ c.if-may_part.true) }
 
 pub returns : goal.returns
 returns c =
-    record { says = follow-not c.args.sep c.skip-i.ensures c.if-s-i.false c.if-b-eq41.false (sym c.May-part.ensures ∙ c.if-may_part.false) }
+    record { says = follow-not c.args.sep c.skip-i.ensures c.if-s-i.false c.if-b-eq41.false (sym c.may_part.ensures ∙ c.if-may_part.false) }

@@ -1,5 +1,4 @@
 -- `join` meets its contract: nothing, `,` or `|` parts the group.
-use borrow.Author.Rules.{rules}
 use Rattle.schema.specs.particles.AutomataLaws.{joined-first, joined-comma, joined-bar}
 use Rattle.schema.proofs.separators.join.Goals as goal
 

@@ -1,9 +1,6 @@
 -- `resolve` meets its contract: the first i names are declared and resolved.
-use Prim.Native.Nat.{◌-◌}
-use native.Mathlib.Omega.{arith}
 use borrow.Author.Rules.{rules}
-use lib.ListN.{length}
-use Rattle.schema_reader.specs.declared_names.Resolving.{ResolvedBefore, resolved-first, resolved-stops, resolved-next, resolved-all}
+use Rattle.schema_reader.specs.declared_names.Resolving.{resolved-first, resolved-stops, resolved-next, resolved-all}
 use Rattle.schema_reader.proofs.declared_names.resolve.Goals as goal
 
 pub loop-i-init : goal.loop-i-init

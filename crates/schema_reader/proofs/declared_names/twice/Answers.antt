@@ -1,12 +1,9 @@
 -- `twice` meets its contract: none of the first i names is declared before it.
-use mathlib.Core.List.{[]}
-use mathlib.Core.Path.{◌≡◌, refl, sym, ◌∙◌}
-use Prim.Native.Nat.{◌-◌, ◌≤◌}
+use mathlib.Core.Path.{refl, sym, ◌∙◌}
 use native.Mathlib.Omega.{arith}
 use borrow.Author.Rules.{rules}
-use lib.ListN.{length, drop, get_or}
+use lib.ListN.{get_or}
 use lib.Seq.{length-take-le}
-use Rattle.schema_reader.specs.declared_names.Names.{first_place, names_before, twice_at}
 use Rattle.schema_reader.specs.declared_names.Naming.{among-found, among_none, twice-here, twice-later, twice-never}
 use Rattle.schema_reader.proofs.declared_names.twice.Goals as goal
 

@@ -1,6 +1,5 @@
 -- `normal_step` meets its contract: the tests in their order.
 use mathlib.Core.Path.{sym, ◌∙◌}
-use borrow.Author.Rules.{rules}
 use Rattle.schema_reader.proofs.normal_form.Writing.{blank-free, blank-run, blank-due, byte-due, byte-opens, byte-free}
 use Rattle.schema_reader.proofs.normal_form.normal_step.Goals as goal
 

@@ -1,6 +1,5 @@
 -- `store` meets its contract.
 use mathlib.Core.Path.{sym}
-use borrow.Author.Rules.{rules}
 use Rattle.text_laws.specs.Tests.{cond_yes, cond_no}
 use Rattle.schema_reader.proofs.normal_form.store.Goals as goal
 

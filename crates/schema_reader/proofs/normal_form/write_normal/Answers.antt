@@ -1,9 +1,7 @@
 -- `write_normal` meets its contract: what was written of the text up to i.
-use Prim.Native.Nat.{◌-◌}
 use native.Mathlib.Omega.{arith}
 use borrow.Author.Rules.{rules}
-use lib.ListN.{length}
-use Rattle.schema_reader.proofs.normal_form.Writing.{WrittenTo, written_start, written-end, written_next}
+use Rattle.schema_reader.proofs.normal_form.Writing.{written_start, written-end, written_next}
 use Rattle.schema_reader.proofs.normal_form.write_normal.Goals as goal
 
 pub loop-i-init : goal.loop-i-init

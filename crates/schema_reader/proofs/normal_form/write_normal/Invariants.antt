@@ -1,9 +1,7 @@
 -- `write_normal` meets its contract: what was written of the text up to i.
 use Prim.Native.Nat.{◌-◌}
-use native.Mathlib.Omega.{arith}
-use borrow.Author.Rules.{rules}
 use lib.ListN.{length}
-use Rattle.schema_reader.proofs.normal_form.Writing.{WrittenTo, written_start, written-end, written_next}
+use Rattle.schema_reader.proofs.normal_form.Writing.{WrittenTo}
 use Rattle.schema_reader.proofs.normal_form.write_normal.Given as goal
 
 abbrev pub invariant-loop-i : goal.invariant-loop-i

@@ -1,6 +1,5 @@
 -- `recorded` meets its contract.
 use native.Mathlib.Omega.{arith}
-use borrow.Author.Rules.{rules}
 use Rattle.schema_reader.proofs.record_cells.Cells.{normal-cells}
 use Rattle.text_spec.specs.Limits.{max_schema_bytes}
 use Rattle.schema_reader.proofs.record_cells.recorded.Goals as goal

@@ -1,6 +1,4 @@
 -- `judge_into` meets its contract: 2, then 3, then the others.
-use native.Mathlib.Omega.{arith}
-use borrow.Author.Rules.{rules}
 use Rattle.schema_reader.specs.judging_laws.Outcomes.{refused-into, read-empty, read-long, read-foreign, readable}
 use Rattle.schema_reader.proofs.text_judging.judge_into.Goals as goal
 

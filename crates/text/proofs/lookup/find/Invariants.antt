@@ -11,7 +11,7 @@ use Rattle.text.specs.name_bytes.Naming.{index-here, index-later, index-none}
 use Rattle.text.proofs.lookup.find.Given as goal
 
 abbrev pub invariant-loop-i : goal.invariant-loop-i
-invariant-loop-i l =     (l.i ≤ length l.names)
+invariant-loop-i l = (l.i ≤ length l.names)
     × (index_from 0 (name_at l.t l.p) (map (name_at l.s) l.names) ≡ index_from l.i (name_at l.t l.p) (map (name_at l.s) (drop l.i l.names)))
 
 abbrev pub decreases-loop-i : goal.decreases-loop-i

@@ -10,7 +10,7 @@ use Rattle.text.specs.name_bytes.Naming.{name-goes-on, names-differ, names-agree
 use Rattle.text.proofs.name_bytes.same_name.Given as goal
 
 abbrev pub invariant-loop-i : goal.invariant-loop-i
-invariant-loop-i l =     (l.end ≡ l.i + length (name_at l.t l.i)) × (same_bytes (name_at l.t l.p) (name_at l.s l.q) ≡ same_bytes (name_at l.t l.i) (name_at l.s l.j))
+invariant-loop-i l = (l.end ≡ l.i + length (name_at l.t l.i)) × (same_bytes (name_at l.t l.p) (name_at l.s l.q) ≡ same_bytes (name_at l.t l.i) (name_at l.s l.j))
 
 abbrev pub decreases-loop-i : goal.decreases-loop-i
 decreases-loop-i l = l.end - l.i

@@ -1,7 +1,6 @@
 -- `Entries::empty` meets its contract.
 use mathlib.Core.List.{[]}
 use mathlib.Core.Path.{refl}
-use borrow.Author.Rules.{rules}
 use Rattle.compiled_schema.proofs.entry_columns.Filling.{blank, filled-first, filled-all}
 use Rattle.compiled_schema.proofs.entry_columns.Entries.empty.Goals as goal
 

@@ -1,10 +1,6 @@
 -- `CompiledPaths::empty` meets its contract.
-use mathlib.Core.Path.{◌≡◌, refl}
-use Prim.Native.Nat.{ℕ, zero, suc}
-use native.Mathlib.Omega.{arith}
-use lib.ListN.{get_or, replicate}
-use Rattle.compiled_paths.proofs.CompiledPaths.empty.Statement.{statement}
-use Rattle.compiled_paths.proofs.CompiledPaths.empty.Tie as tie
+use Rattle.std.proofs.Common.{◌≡◌, refl, ℕ, zero, suc, arith, get_or, replicate}
+use Rattle.compiled_paths.proofs.CompiledPaths.empty.Goals as goal
 use Rattle.compiled_paths.specs.Columns.{bundle-none}
 use Rattle.compiled_paths.specs.Paths.{paths_in, AtMost}
 
@@ -17,7 +13,7 @@ all-zero (suc n) (suc k) = all-zero n k
 zeros : (n m : ℕ) → AtMost m (replicate n 0)
 zeros n m k = omega (arith, all-zero n k)
 
-returns : tie.Need-returns
+pub returns : goal.returns
 unfolding paths_in
 returns c = (
   bundle-none _ _ _ _ 0 0 refl,
@@ -27,6 +23,3 @@ returns c = (
     conditions-in = zeros 129 _;
   },
 )
-
-pub empty-spec : {M : Type 1} → statement M
-empty-spec = tie.close (tie.spec returns)
