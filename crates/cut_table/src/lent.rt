@@ -1,9 +1,10 @@
 // Cutting a table that has passed its test into other lent columns.
 ghost use Rattle.cells.specs.lent.Columns.{first_cells};
-ghost use Rattle.cells.specs.lent.Ends.{entry_columns, held_columns};
+ghost use Rattle.cells.specs.lent.Ends.{held_columns};
 ghost use Rattle.cut_table.specs.laws.Answers.{Cuttable, CutFirstIn};
 ghost use Rattle.kept_rows.specs.Kept.{in_set};
 ghost use Rattle.tables.specs.Handed.{lent_table};
+ghost use Rattle.table_spec.specs.Columns.{columns};
 
 use crate::answers::answer_in;
 use cells::verdicts::Verdict;
@@ -28,7 +29,7 @@ pub fn cut_first(
     out_decoded: &mut [u16],
 ) -> Verdict
     requires { Cuttable (lent_table numbers.now codes.now parents.now starts.now lengths.now decoded.now count) (held_columns out_numbers out_names out_parents out_starts out_lengths out_decoded) }
-    ensures { CutFirstIn (in_set set) (first_cells count (entry_columns numbers codes parents starts lengths decoded)) out_numbers out_names out_parents out_starts out_lengths out_decoded result }
+    ensures { CutFirstIn (in_set set) (first_cells count (columns numbers.now codes.now parents.now starts.now lengths.now decoded.now)) out_numbers out_names out_parents out_starts out_lengths out_decoded result }
 {
     let room = out_numbers.len();
     let n = cut(

@@ -1,11 +1,11 @@
 // The extract of a tested table in lent bytes, and the answer where the table has not passed.
 ghost use Rattle.std.specs.Prelude.{true, length};
-ghost use Rattle.cells.specs.lent.Ends.{entry_columns, held_columns};
 ghost use Rattle.cells.specs.row_sets.Columns.{marks};
 ghost use Rattle.cells.specs.verdicts.Verdicts.{in_bytes, AnsweredBytes, AnsweredSlice};
 ghost use Rattle.extract_writer.specs.rows.Rows.{ExtractColumns};
 ghost use Rattle.extract_writer.specs.writing.Extract.{extract_in};
 ghost use Rattle.text_spec.specs.Refusals.{refused, at, bad_record};
+ghost use Rattle.table_spec.specs.Columns.{columns};
 
 use crate::writing::write_table;
 use cells::verdicts;
@@ -31,8 +31,8 @@ pub fn write_in_room(
     decoded: &[u16],
     out: &mut [u8],
 ) -> Verdict
-    requires { ExtractColumns text.now (held_columns numbers codes parents starts lengths decoded) (length numbers.now) }
-    ensures* { λ r. ⌜ AnsweredSlice (λ n. in_bytes n (extract_in text.now (entry_columns numbers codes parents starts lengths decoded) (marks (length numbers.now) (λ r. true)))) r out ⌝ }
+    requires { ExtractColumns text.now (columns numbers.now codes.now parents.now starts.now lengths.now decoded.now) (length numbers.now) }
+    ensures { AnsweredSlice (λ n. in_bytes n (extract_in text.now (columns numbers.now codes.now parents.now starts.now lengths.now decoded.now) (marks (length numbers.now) (λ r. true)))) result out }
 {
     let room = out.len();
     let size = write_table(text, numbers, codes, parents, starts, lengths, decoded, out);

@@ -1,9 +1,9 @@
 // The fields of the marked rows of a table in columns: how many bytes they take, and writing them.
 ghost use Rattle.std.specs.Prelude.{◌≡◌, length};
-ghost use Rattle.cells.specs.lent.Ends.{entry_columns, held_columns};
 ghost use Rattle.extract_writer.specs.rows.Measure.{marked_size, MeasurePass, MeasuredAs};
 ghost use Rattle.extract_writer.specs.rows.Rows.{field_at, marked_field, field_size, RowPass, StoredAt, FieldsPass};
 ghost use Rattle.kept_rows.specs.Joined.{joined};
+ghost use Rattle.table_spec.specs.Columns.{columns};
 
 use crate::fields::{ELEMENT_BYTES, TEXT_HEAD_BYTES, put_element, put_text};
 use cells::row_sets::MARKED;
@@ -67,8 +67,8 @@ fn put_row(
     out: &mut [u8],
     at: usize,
 ) -> usize
-    requires { RowPass text.now (held_columns numbers names parents starts lengths decoded) mark r out.old at }
-    ensures { StoredAt out.old at (marked_field text.now (entry_columns numbers names parents starts lengths decoded) mark r) result out.new }
+    requires { RowPass text.now (columns numbers.now names.now parents.now starts.now lengths.now decoded.now) mark r out.old at }
+    ensures { StoredAt out.old at (marked_field text.now (columns numbers.now names.now parents.now starts.now lengths.now decoded.now) mark r) result out.new }
 {
     if mark != MARKED {
         return at;
@@ -100,8 +100,8 @@ pub fn write_fields(
     marks: &[u8],
     out: &mut [u8],
 ) -> usize
-    requires { FieldsPass text.now (held_columns numbers names parents starts lengths decoded) marks.now out.old }
-    ensures { StoredAt out.old 0 (joined (field_at text.now (entry_columns numbers names parents starts lengths decoded)) marks.now (length marks.now)) result out.new }
+    requires { FieldsPass text.now (columns numbers.now names.now parents.now starts.now lengths.now decoded.now) marks.now out.old }
+    ensures { StoredAt out.old 0 (joined (field_at text.now (columns numbers.now names.now parents.now starts.now lengths.now decoded.now)) marks.now (length marks.now)) result out.new }
 {
     let mut at = 0;
     let mut r = 0;

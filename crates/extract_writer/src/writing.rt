@@ -1,11 +1,11 @@
 // Writing the extract of a table beside its text, and of the rows of a table that a set of names keeps: no second table, no renumbering,
 // since a field has its parent's number and not its row.
 ghost use Rattle.std.specs.Prelude.{true, length};
-ghost use Rattle.cells.specs.lent.Ends.{entry_columns, held_columns};
 ghost use Rattle.cells.specs.row_sets.Columns.{marks};
 ghost use Rattle.extract_writer.specs.rows.Rows.{ExtractColumns};
 ghost use Rattle.extract_writer.specs.writing.Extract.{extract_in, WrittenIn, ExtractPass, KeptExtract};
 ghost use Rattle.kept_rows.specs.Kept.{in_set, kept_marks, KeptColumns};
+ghost use Rattle.table_spec.specs.Columns.{columns};
 
 use crate::fields::{COUNT_BYTES, put_count};
 use crate::rows::{measure, write_fields};
@@ -27,8 +27,8 @@ fn write_marked(
     kept: &[u8],
     out: &mut [u8],
 ) -> usize
-    requires { ExtractPass text.now (held_columns numbers names parents starts lengths decoded) kept.now }
-    ensures { WrittenIn out (extract_in text.now (entry_columns numbers names parents starts lengths decoded) kept.now) result }
+    requires { ExtractPass text.now (columns numbers.now names.now parents.now starts.now lengths.now decoded.now) kept.now }
+    ensures { WrittenIn out (extract_in text.now (columns numbers.now names.now parents.now starts.now lengths.now decoded.now) kept.now) result }
 {
     let measured = measure(names, decoded, kept);
     let size = measured.bytes + COUNT_BYTES;
@@ -55,8 +55,8 @@ pub fn write_table(
     decoded: &[u16],
     out: &mut [u8],
 ) -> usize
-    requires { ExtractColumns text.now (held_columns numbers names parents starts lengths decoded) (length numbers.now) }
-    ensures { WrittenIn out (extract_in text.now (entry_columns numbers names parents starts lengths decoded) (marks (length numbers.now) (λ r. true))) result }
+    requires { ExtractColumns text.now (columns numbers.now names.now parents.now starts.now lengths.now decoded.now) (length numbers.now) }
+    ensures { WrittenIn out (extract_in text.now (columns numbers.now names.now parents.now starts.now lengths.now decoded.now) (marks (length numbers.now) (λ r. true))) result }
 {
     let every = [MARKED; MAX_NODES];
     let count = numbers.len();
@@ -86,8 +86,8 @@ fn write_kept_into(
     kept: &mut [u8],
     out: &mut [u8],
 ) -> usize
-    requires { KeptExtract text.now (held_columns numbers names parents starts lengths decoded) kept.old }
-    ensures { WrittenIn out (extract_in text.now (entry_columns numbers names parents starts lengths decoded) (kept_marks (in_set set) names.now parents.now)) result }
+    requires { KeptExtract text.now (columns numbers.now names.now parents.now starts.now lengths.now decoded.now) kept.old }
+    ensures { WrittenIn out (extract_in text.now (columns numbers.now names.now parents.now starts.now lengths.now decoded.now) (kept_marks (in_set set) names.now parents.now)) result }
 {
     mark_kept(set, names, parents, kept);
     write_marked(
@@ -115,8 +115,8 @@ pub fn write_kept(
     decoded: &[u16],
     out: &mut [u8],
 ) -> usize
-    requires { ExtractColumns text.now (held_columns numbers names parents starts lengths decoded) (length numbers.now) × KeptColumns names.now parents.now }
-    ensures { WrittenIn out (extract_in text.now (entry_columns numbers names parents starts lengths decoded) (kept_marks (in_set set) names.now parents.now)) result }
+    requires { ExtractColumns text.now (columns numbers.now names.now parents.now starts.now lengths.now decoded.now) (length numbers.now) × KeptColumns names.now parents.now }
+    ensures { WrittenIn out (extract_in text.now (columns numbers.now names.now parents.now starts.now lengths.now decoded.now) (kept_marks (in_set set) names.now parents.now)) result }
 {
     let mut kept = [UNMARKED; MAX_NODES];
     let count = numbers.len();

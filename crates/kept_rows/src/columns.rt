@@ -3,6 +3,7 @@ ghost use Rattle.cells.specs.lent.Cells.{Cleared};
 ghost use Rattle.cells.specs.lent.Ends.{held_columns};
 ghost use Rattle.kept_rows.specs.Kept.{in_set};
 ghost use Rattle.kept_rows.specs.columns.Cut.{Cutting, CutColumns, CutInto};
+ghost use Rattle.table_spec.specs.Columns.{columns};
 
 use crate::cut_rows::write_rows;
 use crate::{NOT_KEPT, number_kept};
@@ -36,7 +37,7 @@ fn cut_into(
     out_lengths: &mut [u16],
     out_decoded: &mut [u16],
 ) -> usize
-    requires { Cutting (held_columns numbers names parents starts lengths decoded) positions.old (held_columns out_numbers out_names out_parents out_starts out_lengths out_decoded) }
+    requires { Cutting (columns numbers.now names.now parents.now starts.now lengths.now decoded.now) positions.old (held_columns out_numbers out_names out_parents out_starts out_lengths out_decoded) }
     ensures { CutInto (in_set set) numbers names parents starts lengths decoded result out_numbers out_names out_parents out_starts out_lengths out_decoded }
 {
     let n = number_kept(set, names, parents, positions) as usize;
@@ -95,7 +96,7 @@ pub fn cut(
     out_lengths: &mut [u16],
     out_decoded: &mut [u16],
 ) -> usize
-    requires { CutColumns (held_columns numbers names parents starts lengths decoded) (held_columns out_numbers out_names out_parents out_starts out_lengths out_decoded) }
+    requires { CutColumns (columns numbers.now names.now parents.now starts.now lengths.now decoded.now) (held_columns out_numbers out_names out_parents out_starts out_lengths out_decoded) }
     ensures { CutInto (in_set set) numbers names parents starts lengths decoded result out_numbers out_names out_parents out_starts out_lengths out_decoded }
 {
     let mut positions = [NOT_KEPT; MAX_NODES];

@@ -1,6 +1,7 @@
 // The rows of a table that have a position, written into other columns, parents renumbered.
-ghost use Rattle.cells.specs.lent.Ends.{entry_columns, held_columns};
+ghost use Rattle.cells.specs.lent.Ends.{held_columns};
 ghost use Rattle.kept_rows.specs.cut_rows.Rows.{RowPass, CutPass, RowsNotedIn, RowAddedIn};
+ghost use Rattle.table_spec.specs.Columns.{columns};
 
 use crate::NOT_KEPT;
 
@@ -21,8 +22,8 @@ fn cut_row(
     out_decoded: &mut [u16],
     r: usize,
 )
-    requires { RowPass positions.now (held_columns numbers names parents starts lengths decoded) (held_columns out_numbers out_names out_parents out_starts out_lengths out_decoded) r }
-    ensures { RowAddedIn positions (entry_columns numbers names parents starts lengths decoded) r out_numbers out_names out_parents out_starts out_lengths out_decoded }
+    requires { RowPass positions.now (columns numbers.now names.now parents.now starts.now lengths.now decoded.now) (held_columns out_numbers out_names out_parents out_starts out_lengths out_decoded) r }
+    ensures { RowAddedIn positions (columns numbers.now names.now parents.now starts.now lengths.now decoded.now) r out_numbers out_names out_parents out_starts out_lengths out_decoded }
 {
     let x = positions[r];
     if x == NOT_KEPT {
@@ -54,7 +55,7 @@ pub fn write_rows(
     out_lengths: &mut [u16],
     out_decoded: &mut [u16],
 )
-    requires { CutPass positions.now (held_columns numbers names parents starts lengths decoded) (held_columns out_numbers out_names out_parents out_starts out_lengths out_decoded) }
+    requires { CutPass positions.now (columns numbers.now names.now parents.now starts.now lengths.now decoded.now) (held_columns out_numbers out_names out_parents out_starts out_lengths out_decoded) }
     ensures { RowsNotedIn positions numbers names parents starts lengths decoded out_numbers out_names out_parents out_starts out_lengths out_decoded }
 {
     let mut r = 0;

@@ -1,4 +1,6 @@
 // The rows of a table that a set of names keeps: those whose names and whose ancestors' names are all in the set.
+#![tactic(auto)]
+
 pub mod columns;
 pub mod cut_rows;
 

@@ -1,4 +1,6 @@
 // Rows as structs, and the columns that a table of them has inside the library.
+#![tactic(auto)]
+
 pub mod refused;
 
 ghost use Rattle.std.specs.Prelude.{◌≡◌};

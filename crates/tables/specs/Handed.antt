@@ -1,9 +1,10 @@
 -- A table that is handed in as lent columns holds rows exactly if the passes over its columns say so.
+use Rattle.std.specs.Borrow.{Bor}
 use Rattle.std.specs.Prelude.{Bool, true, false, cond, not, ◌&&◌, List, ◌≡◌, refl, ℕ, eqb, leb, length}
 use Rattle.std.proofs.Math.Option.{Option, none, some}
 use Rattle.std.proofs.Math.Path.{sym}
 use Rattle.std.proofs.Common.{ap, ◌∙◌, arith, eqb→eq, leb→le}
-use Rattle.cells.specs.lent.Ends.{Slice, entry_columns}
+use denote.Triple.Both.{Both}
 use Rattle.library_spec.specs.Records.{LentTable, rows_lent, kept_if, table_held, table_beside}
 use Rattle.schema_spec.specs.Schemas.{Schema}
 use Rattle.schema_spec.specs.Types.{types_of}
@@ -22,9 +23,13 @@ use Rattle.text_spec.specs.Lists.{is_none}
 abbrev pub lent_table : List ℕ → List ℕ → List ℕ → List ℕ → List ℕ → List ℕ → ℕ → LentTable
 lent_table numbers names parents starts lengths decoded count = record { columns = columns numbers names parents starts lengths decoded; count = count }
 
+-- a slice that is lent to be read, at both ends of a call
+abbrev pub ReadSlice : Type 0
+ReadSlice = Both (Bor (List ℕ)) (Bor (List ℕ))
+
 -- the table in six columns that are lent
-abbrev pub entry_table : Slice → Slice → Slice → Slice → Slice → Slice → ℕ → LentTable
-entry_table numbers names parents starts lengths decoded count = record { columns = entry_columns numbers names parents starts lengths decoded; count = count }
+abbrev pub entry_table : ReadSlice → ReadSlice → ReadSlice → ReadSlice → ReadSlice → ReadSlice → ℕ → LentTable
+entry_table numbers names parents starts lengths decoded count = lent_table numbers.entry.now names.entry.now parents.entry.now starts.entry.now lengths.entry.now decoded.entry.now count
 
 -- the table holds rows: alone, and beside a text
 unfoldable pub is_held : Schema → LentTable → Bool

@@ -1,7 +1,7 @@
 // The rows of a table in one pass: whether they are a well-formed table, by its columns.
 ghost use Rattle.std.specs.Prelude.{◌≡◌, ◌≤◌, ◌-◌};
-ghost use Rattle.cells.specs.lent.Ends.{entry_columns, held_columns};
 ghost use Rattle.table_laws.specs.passes.Passes.{later_pass, rows_pass};
+ghost use Rattle.table_spec.specs.Columns.{columns};
 ghost use Rattle.tables.specs.rows.Lent.{Lent, RowLent, RootAt, row_fits};
 ghost use Rattle.text_spec.specs.Limits.{max_depth};
 
@@ -51,8 +51,8 @@ fn later_rows_fit(
     count: usize,
     words: &[u64; MAX_ELEMENTS],
 ) -> bool
-    requires { Lent (held_columns numbers codes parents starts lengths decoded) count × RootAt (held_columns numbers codes parents starts lengths decoded) count }
-    ensures { result ≡ later_pass words.now (entry_columns numbers codes parents starts lengths decoded) (count - 1) 0 0 1 }
+    requires { Lent (columns numbers.now codes.now parents.now starts.now lengths.now decoded.now) count × RootAt (columns numbers.now codes.now parents.now starts.now lengths.now decoded.now) count }
+    ensures { result ≡ later_pass words.now (columns numbers.now codes.now parents.now starts.now lengths.now decoded.now) (count - 1) 0 0 1 }
 {
     let mut element: usize = 0;
     let mut depth: usize = 1;
@@ -91,8 +91,8 @@ pub fn rows_fit(
     count: usize,
     words: &[u64; MAX_ELEMENTS],
 ) -> bool
-    requires { Lent (held_columns numbers codes parents starts lengths decoded) count }
-    ensures { result ≡ rows_pass words.now (entry_columns numbers codes parents starts lengths decoded) count }
+    requires { Lent (columns numbers.now codes.now parents.now starts.now lengths.now decoded.now) count }
+    ensures { result ≡ rows_pass words.now (columns numbers.now codes.now parents.now starts.now lengths.now decoded.now) count }
 {
     if count == 0 {
         return true;

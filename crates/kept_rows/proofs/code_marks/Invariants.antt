@@ -1,11 +1,8 @@
-use mathlib.Core.Path.{refl, sym}
 use Prim.Native.Nat.{◌-◌}
-use native.Mathlib.Omega.{arith}
-use borrow.Author.Rules.{rules}
 use lib.ListN.{length}
-use Rattle.cells.specs.row_sets.Columns.{marks, marks-length}
-use Rattle.cells.specs.row_sets.Loops.{Forward, forward-none, forward-all}
-use Rattle.kept_rows.specs.Kept.{in_set, code_count, codes-next}
+use Rattle.cells.specs.row_sets.Columns.{marks}
+use Rattle.cells.specs.row_sets.Loops.{Forward}
+use Rattle.kept_rows.specs.Kept.{in_set, code_count}
 use Rattle.kept_rows.proofs.code_marks.Given as goal
 
 abbrev pub invariant-loop-c : goal.invariant-loop-c

@@ -1,11 +1,6 @@
-use mathlib.Core.Path.{◌≡◌, ◌∙◌}
-use Prim.Native.Nat.{◌-◌, ◌<◌}
+use mathlib.Core.Path.{◌∙◌}
 use native.Mathlib.Omega.{arith}
-use borrow.Author.Rules.{rules}
-use lib.ListN.{length}
-use Rattle.cells.specs.row_sets.Columns.{marks, is_marked}
-use Rattle.cells.specs.row_sets.Loops.{Forward}
-use Rattle.kept_rows.specs.Kept.{code_count, kept_marks, KeptPass, table-marks, kept_table, kept-none, pass-first, kept-begun, kept_next, kept-all}
+use Rattle.kept_rows.specs.Kept.{table-marks, kept_table, kept-none, pass-first, kept-begun, kept_next, kept-all}
 use Rattle.kept_rows.proofs.mark_kept.Goals as goal
 
 pub returns-then-kept-eq0 : goal.returns-then-kept-eq0
@@ -42,10 +37,10 @@ bounds-kept-p c =
 pub loop-r-preserved : goal.loop-r-preserved
 loop-r-preserved c =
     let at = c.loop-r in
-    (omega arith, at.invariant.1, at.invariant.2, kept_next _ _ _ _ at.invariant.1 _ at.invariant.2 at.r at.auto at.invariant.0 (omega arith) at.invariant.3)
+    (omega arith, at.invariant.1, at.invariant.2, kept_next _ _ _ _ at.invariant.1 _ at.invariant.2 at.r at.kept at.invariant.0 (omega arith) at.invariant.3)
 
 pub returns : goal.returns
 returns c =
     let at = c.loop-r in
     let made = c.code_marks-table.ensures in
-    kept-all _ _ _ _ at.invariant.1 _ at.invariant.2 at.r at.auto at.invariant.3 (omega arith) ∙ kept_table _ _ _ _ made at.invariant.1.columns
+    kept-all _ _ _ _ at.invariant.1 _ at.invariant.2 at.r at.kept at.invariant.3 (omega arith) ∙ kept_table _ _ _ _ made at.invariant.1.columns

@@ -1,11 +1,9 @@
-use mathlib.Core.Path.{◌≡◌, ◌∙◌}
+use mathlib.Core.Path.{◌≡◌}
 use Prim.Native.Nat.{◌-◌, ◌<◌}
-use native.Mathlib.Omega.{arith}
-use borrow.Author.Rules.{rules}
 use lib.ListN.{length}
 use Rattle.cells.specs.row_sets.Columns.{marks, is_marked}
 use Rattle.cells.specs.row_sets.Loops.{Forward}
-use Rattle.kept_rows.specs.Kept.{code_count, kept_marks, KeptPass, table-marks, kept_table, kept-none, pass-first, kept-begun, kept_next, kept-all}
+use Rattle.kept_rows.specs.Kept.{code_count, kept_marks, KeptPass}
 use Rattle.kept_rows.proofs.mark_kept.Given as goal
 
 abbrev pub invariant-loop-r : goal.invariant-loop-r

@@ -1,4 +1,3 @@
-use borrow.Author.Rules.{rules}
 use Rattle.kept_rows.specs.Positions.{position-unnamed, position-cut, position-given}
 use Rattle.kept_rows.proofs.next_position.Goals as goal
 

@@ -1,11 +1,6 @@
-use mathlib.Core.Path.{◌≡◌}
-use Prim.Native.Nat.{◌-◌, ◌<◌}
 use native.Mathlib.Omega.{arith}
-use borrow.Author.Rules.{rules}
-use lib.ListN.{length}
-use Rattle.cells.specs.row_sets.Columns.{marks, is_marked}
-use Rattle.kept_rows.specs.Kept.{code_count, kept_marks, KeptPass, table-marks, kept_table, pass-first, code-mark-small}
-use Rattle.kept_rows.specs.Positions.{Numbering, numbered-none, numbering-begun, numbering-again, numbering-all, kept-size, numbering-few, numbered-same}
+use Rattle.kept_rows.specs.Kept.{table-marks, kept_table, pass-first, code-mark-small}
+use Rattle.kept_rows.specs.Positions.{numbered-none, numbering-begun, numbering-again, numbering-all, kept-size, numbering-few, numbered-same}
 use Rattle.kept_rows.proofs.number_kept.Goals as goal
 
 pub returns-then-positions-eq0 : goal.returns-then-positions-eq0

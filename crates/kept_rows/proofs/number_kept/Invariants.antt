@@ -1,11 +1,9 @@
 use mathlib.Core.Path.{◌≡◌}
 use Prim.Native.Nat.{◌-◌, ◌<◌}
-use native.Mathlib.Omega.{arith}
-use borrow.Author.Rules.{rules}
 use lib.ListN.{length}
 use Rattle.cells.specs.row_sets.Columns.{marks, is_marked}
-use Rattle.kept_rows.specs.Kept.{code_count, kept_marks, KeptPass, table-marks, kept_table, pass-first, code-mark-small}
-use Rattle.kept_rows.specs.Positions.{Numbering, numbered-none, numbering-begun, numbering-again, numbering-all, kept-size, numbering-few, numbered-same}
+use Rattle.kept_rows.specs.Kept.{code_count, kept_marks, KeptPass}
+use Rattle.kept_rows.specs.Positions.{Numbering}
 use Rattle.kept_rows.proofs.number_kept.Given as goal
 
 abbrev pub invariant-loop-r : goal.invariant-loop-r

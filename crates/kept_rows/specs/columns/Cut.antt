@@ -14,7 +14,7 @@ use Rattle.kept_rows.specs.Joined.{rank}
 use Rattle.kept_rows.specs.Kept.{is_kept, kept_marks, KeptColumns, kept-later}
 use Rattle.kept_rows.specs.Positions.{Numbered as Counted, nonzero-position, positions, positions-length, positions-at}
 use Rattle.kept_rows.specs.cut_rows.Cells.{noted-cleared}
-use Rattle.kept_rows.specs.cut_rows.Rows.{kept_columns, marked_by, OfLength, Room, CutPass, RowsNoted}
+use Rattle.kept_rows.specs.cut_rows.Rows.{ReadSlice, kept_columns, marked_by, OfLength, Room, CutPass, RowsNoted}
 use Rattle.table_spec.specs.Columns.{Columns, Sizes, sizes_of, columns}
 use Rattle.text_laws.specs.Tests.{passed, true_of, and_cases}
 use Rattle.text_spec.specs.Cells.{padded}
@@ -80,9 +80,9 @@ pub record CutAs (f : ℕ → Bool) (c o : Columns) (n : ℕ) (x : Columns) : Ty
   pub columns : x ≡ answered (sizes_of o) n (kept_columns (kept_marks f c.names c.parents) c (length c.parents))
 
 -- the same of lent slices
-abbrev pub CutInto : (ℕ → Bool) → Slice → Slice → Slice → Slice → Slice → Slice → ℕ → Slice → Slice → Slice → Slice → Slice → Slice → Type 0
+abbrev pub CutInto : (ℕ → Bool) → ReadSlice → ReadSlice → ReadSlice → ReadSlice → ReadSlice → ReadSlice → ℕ → Slice → Slice → Slice → Slice → Slice → Slice → Type 0
 CutInto f numbers names parents starts lengths decoded n numbers₂ names₂ parents₂ starts₂ lengths₂ decoded₂ =
-    CutAs f (entry_columns numbers names parents starts lengths decoded) (entry_columns numbers₂ names₂ parents₂ starts₂ lengths₂ decoded₂) n (exit_columns numbers₂ names₂ parents₂ starts₂ lengths₂ decoded₂)
+    CutAs f (columns numbers.entry.now names.entry.now parents.entry.now starts.entry.now lengths.entry.now decoded.entry.now) (entry_columns numbers₂ names₂ parents₂ starts₂ lengths₂ decoded₂) n (exit_columns numbers₂ names₂ parents₂ starts₂ lengths₂ decoded₂)
 
 module _ (f : ℕ → Bool) (c o : Columns) (h : TableColumns c) where
   m : List ℕ

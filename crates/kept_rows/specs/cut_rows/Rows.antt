@@ -1,5 +1,7 @@
 -- The rows of a table that have a position, written into other columns: parents' rows become their positions.
+use Rattle.std.specs.Borrow.{Bor}
 use Rattle.std.specs.Prelude.{Bool, true, false, cond, not, List, ◌≡◌, refl, ℕ, ◌+◌, ◌-◌, ◌<◌, ◌≤◌, eqb, length, get_or, set}
+use denote.Triple.Both.{Both}
 use Rattle.std.proofs.Math.Path.{sym}
 use Rattle.std.proofs.Common.{ap, subst, ◌∙◌, arith, eq-eqb, ne_eqb, eqb-true}
 use Rattle.std.proofs.lemmas.Bool.{eqb-false}
@@ -12,6 +14,10 @@ use Rattle.table_spec.specs.Columns.{Columns, columns}
 use Rattle.text_laws.specs.Tests.{cond_yes, cond_no}
 
 -- ---- definitions
+-- a slice that is lent to be read, at both ends of a call
+abbrev pub ReadSlice : Type 0
+ReadSlice = Both (Bor (List ℕ)) (Bor (List ℕ))
+
 -- the marked rows before r in columns: parents' rows become their positions among the marked rows
 unfoldable pub kept_columns : List ℕ → Columns → ℕ → Columns
 kept_columns m c r =
@@ -40,7 +46,7 @@ row_added pos c r x =
     (stored x (get_or pos r 0 - 1) (get_or c.numbers r 0) (get_or c.names r 0) (get_or pos (get_or c.parents r 0) 0 - 1) (get_or c.starts r 0) (get_or c.lengths r 0) (get_or c.decoded r 0))
 
 -- the same of lent slices
-abbrev pub RowAddedIn : Slice → Columns → ℕ → Slice → Slice → Slice → Slice → Slice → Slice → Type 0
+abbrev pub RowAddedIn : ReadSlice → Columns → ℕ → Slice → Slice → Slice → Slice → Slice → Slice → Type 0
 RowAddedIn positions c r numbers names parents starts lengths decoded =
     exit_columns numbers names parents starts lengths decoded ≡ row_added positions.entry.now c r (entry_columns numbers names parents starts lengths decoded)
 
@@ -99,9 +105,9 @@ pub record RowsNoted (m : List ℕ) (c o : Columns) (r : ℕ) (x : Columns) : Ty
   pub decoded : Noted (λ q. get_or c.decoded q 0) m o.decoded r x.decoded
 
 -- the same of lent slices
-abbrev pub RowsNotedIn : Slice → Slice → Slice → Slice → Slice → Slice → Slice → Slice → Slice → Slice → Slice → Slice → Slice → Type 0
+abbrev pub RowsNotedIn : ReadSlice → ReadSlice → ReadSlice → ReadSlice → ReadSlice → ReadSlice → ReadSlice → Slice → Slice → Slice → Slice → Slice → Slice → Type 0
 RowsNotedIn positions numbers names parents starts lengths decoded numbers₂ names₂ parents₂ starts₂ lengths₂ decoded₂ =
-    RowsNoted (marked_by positions.entry.now) (entry_columns numbers names parents starts lengths decoded) (entry_columns numbers₂ names₂ parents₂ starts₂ lengths₂ decoded₂)
+    RowsNoted (marked_by positions.entry.now) (columns numbers.entry.now names.entry.now parents.entry.now starts.entry.now lengths.entry.now decoded.entry.now) (entry_columns numbers₂ names₂ parents₂ starts₂ lengths₂ decoded₂)
     (length positions.entry.now) (exit_columns numbers₂ names₂ parents₂ starts₂ lengths₂ decoded₂)
 
 pub rows_none : (m : List ℕ) (c o : Columns) → RowsNoted m c o 0 o

@@ -1,5 +1,5 @@
 -- `chain_first` meets its contract: the first cells of the columns of names and parents give the chain, and the answer says whether there was room.
-use mathlib.Core.Path.{sym}
+use mathlib.Core.Path.{refl, sym}
 use borrow.Author.Rules.{rules}
 use lib.Seq.{length-take-le}
 use Rattle.chains.specs.handed.Answers.{sized-pass, sized-chain, written, too_few}
@@ -18,9 +18,9 @@ put_chain-requires c =
 pub returns-in-Written : goal.returns-in-Written
 returns-in-Written c =
     let at = c.args in
-    written (sized-chain _ _ at.codes.now at.parents.now at.count at.position _ c.name_sizes.ensures _ _ _ c.put_chain.ensures) _ c.in-Written.n.1 c.answered.ensures
+    written (sized-chain _ _ at.codes.now at.parents.now at.count at.position _ c.name_sizes.ensures _ _ _ c.in-Written.ensures) _ refl c.answered.ensures
 
 pub returns-in-TooFewCells : goal.returns-in-TooFewCells
 returns-in-TooFewCells c =
     let at = c.args in
-    too_few (sized-chain _ _ at.codes.now at.parents.now at.count at.position _ c.name_sizes.ensures _ _ _ c.put_chain.ensures) c.in-TooFewCells.is.1 c.refused.ensures
+    too_few (sized-chain _ _ at.codes.now at.parents.now at.count at.position _ c.name_sizes.ensures _ _ _ c.in-TooFewCells.ensures) refl c.refused.ensures

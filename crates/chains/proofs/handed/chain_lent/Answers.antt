@@ -22,9 +22,6 @@ given c = let at = c.args in lent_table at.numbers.now at.codes.now at.parents.n
 told : (c : After-is_table-held) → c.is_table-held.result ≡ is_held (schema c) (given c)
 told c = c.is_table-held.ensures (schema c) (words-held (schema c) (schema_in-length _) _ c.compile-compiled.ensures.entries.held _ c.held_words-words.ensures)
 
-pub shape_of-out-then-not-has_row : goal.shape_of-out-then-not-has_row
-shape_of-out-then-not-has_row c = c.out-1.given
-
 pub returns-then-not-has_row : goal.returns-then-not-has_row
 returns-then-not-has_row c =
     let at = c.args in
@@ -33,9 +30,6 @@ returns-then-not-has_row c =
 pub chain_first-requires : goal.chain_first-requires
 chain_first-requires c =
     may-be-chained (schema (goal.at.chain_first-requires c).After-is_table-held) (given (goal.at.chain_first-requires c).After-is_table-held) c.args.position 0 _ c.has_row.result (told (goal.at.chain_first-requires c).After-is_table-held) c.has_row.ensures c.if-not-has_row.false-raw c.args.text.now c.requires _ c.compile-compiled.ensures
-
-pub shape_of-out : goal.shape_of-out
-shape_of-out c = c.out-2-1.given
 
 pub returns : goal.returns
 returns c =

@@ -26,9 +26,6 @@ inside c =
     let room : length schema.bytes ≡ max_schema_bytes = search rules in
     omega (arith, record-low schema.bytes schema.len (passes c))
 
-pub shape_of-out-then-not-is_schema_record : goal.shape_of-out-then-not-is_schema_record
-shape_of-out-then-not-is_schema_record c = c.out-1.given
-
 pub returns-then-not-is_schema_record : goal.returns-then-not-is_schema_record
 returns-then-not-is_schema_record c =
     refused-1 (no_record _ _ _ _ (sym (passes-schema _ _) ∙ sym c.is_schema_record.ensures ∙ not-true _ c.if-not-is_schema_record.true-raw)) c.refuse.ensures.0 c.refuse.ensures.1
@@ -43,9 +40,6 @@ pub chain_lent-requires : goal.chain_lent-requires
 chain_lent-requires c =
     let schema = c.args.schema in
     record-read schema.bytes schema.len (passes (goal.at.chain_lent-requires c).Else-not-is_schema_record)
-
-pub shape_of-out : goal.shape_of-out
-shape_of-out c = c.out-2-1.given
 
 pub returns : goal.returns
 returns c = by-record _ _ _ _ (sym (passes-schema _ _) ∙ passes (goal.at.returns c).Else-not-is_schema_record) _ _ c.chain_lent.ensures

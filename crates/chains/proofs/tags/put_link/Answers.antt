@@ -6,11 +6,13 @@ use lib.ListN.{length-set}
 use Rattle.chains.proofs.tags.Links.{element-fits, element-room, element-written, text-room, text-written, slash-room}
 use Rattle.chains.proofs.tags.put_link.Goals as goal
 
+pub bounds-out-at : goal.bounds-out-at
+bounds-out-at c = slash-room _ _ _ _ _ _ c.requires
+
 pub overflow_add-to : goal.overflow_add-to
 overflow_add-to c =
     let fits = element-fits _ _ _ _ _ _ c.requires (omega arith) in
-    let small = c.well-formed in
-    omega arith
+    omega (arith, fits)
 
 pub slice_bounds-put_text-end : goal.slice_bounds-put_text-end
 slice_bounds-put_text-end c = omega (arith, element-fits _ _ _ _ _ _ c.requires (omega arith))

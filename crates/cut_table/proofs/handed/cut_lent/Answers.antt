@@ -4,60 +4,24 @@ use Rattle.cut_table.proofs.handed.Tests.{not-cut, may-be-cut, cut-answered}
 use Rattle.library_spec.specs.Records.{LentTable}
 use Rattle.table_spec.specs.Columns.{Columns, columns}
 use Rattle.tables.specs.Handed.{lent_table}
-use Rattle.cut_table.proofs.handed.cut_lent.Goals.{After-may_cut}
+use Rattle.cut_table.proofs.handed.cut_lent.Goals.{Start}
 use Rattle.cut_table.proofs.handed.cut_lent.Goals as goal
 
-abbrev given : After-may_cut → LentTable
+abbrev given : Start → LentTable
 given c = let at = c.args in lent_table at.numbers.now at.codes.now at.parents.now at.starts.now at.lengths.now at.decoded.now at.count
 
-abbrev lent : After-may_cut → Columns
-lent c = let at = c.args in columns at.out-numbers.now at.out-names.now at.out-parents.now at.out-starts.now at.out-lengths.now at.out-decoded.now
-
-pub shape_of-out_numbers-then-not-may_cut : goal.shape_of-out_numbers-then-not-may_cut
-shape_of-out_numbers-then-not-may_cut c = c.refuse.auto.0
-
-pub shape_of-out_names-then-not-may_cut : goal.shape_of-out_names-then-not-may_cut
-shape_of-out_names-then-not-may_cut c = c.refuse.auto.1.0
-
-pub shape_of-out_parents-then-not-may_cut : goal.shape_of-out_parents-then-not-may_cut
-shape_of-out_parents-then-not-may_cut c = c.refuse.auto.1.1.0
-
-pub shape_of-out_starts-then-not-may_cut : goal.shape_of-out_starts-then-not-may_cut
-shape_of-out_starts-then-not-may_cut c = c.refuse.auto.1.1.1.0
-
-pub shape_of-out_lengths-then-not-may_cut : goal.shape_of-out_lengths-then-not-may_cut
-shape_of-out_lengths-then-not-may_cut c = c.refuse.auto.1.1.1.1.0
-
-pub shape_of-out_decoded-then-not-may_cut : goal.shape_of-out_decoded-then-not-may_cut
-shape_of-out_decoded-then-not-may_cut c = c.refuse.auto.1.1.1.1.1.0
+abbrev lent : Start → Columns
+lent c = let at = c.args in columns at.out_numbers.now at.out_names.now at.out_parents.now at.out_starts.now at.out_lengths.now at.out_decoded.now
 
 pub returns-then-not-may_cut : goal.returns-then-not-may_cut
 returns-then-not-may_cut c = λ s h.
-    not-cut s (given (goal.at.returns-then-not-may_cut c).After-may_cut) (lent (goal.at.returns-then-not-may_cut c).After-may_cut) c.is_table-held.result c.may_cut.result (c.is_table-held.ensures s h.words) c.may_cut.ensures c.if-not-may_cut.taken c.args.word _ _ c.refuse.ensures.0 c.refuse.ensures.1
+    not-cut s (given (goal.at.returns-then-not-may_cut c).Start) (lent (goal.at.returns-then-not-may_cut c).Start) c.is_table-held.result c.may_cut.result (c.is_table-held.ensures s h.words) c.may_cut.ensures c.if-not-may_cut.true-raw c.args.word _ _ c.refuse.ensures.0 c.refuse.ensures.1
 
 pub cut_first-requires : goal.cut_first-requires
 cut_first-requires c =
     let some = c.requires in
-    may-be-cut some.schema (given (goal.at.cut_first-requires c).After-may_cut) (lent (goal.at.cut_first-requires c).After-may_cut) c.is_table-held.result c.may_cut.result (c.is_table-held.ensures some.schema some.sets.words) c.may_cut.ensures c.if-not-may_cut.left
-
-pub shape_of-out_numbers : goal.shape_of-out_numbers
-shape_of-out_numbers c = c.cut_first.auto.1.1.1.1.1.1.1.1.0
-
-pub shape_of-out_names : goal.shape_of-out_names
-shape_of-out_names c = c.cut_first.auto.1.1.1.1.1.1.1.1.1.0
-
-pub shape_of-out_parents : goal.shape_of-out_parents
-shape_of-out_parents c = c.cut_first.auto.1.1.1.1.1.1.1.1.1.1.0
-
-pub shape_of-out_starts : goal.shape_of-out_starts
-shape_of-out_starts c = c.cut_first.auto.1.1.1.1.1.1.1.1.1.1.1.0
-
-pub shape_of-out_lengths : goal.shape_of-out_lengths
-shape_of-out_lengths c = c.cut_first.auto.1.1.1.1.1.1.1.1.1.1.1.1.0
-
-pub shape_of-out_decoded : goal.shape_of-out_decoded
-shape_of-out_decoded c = c.cut_first.auto.1.1.1.1.1.1.1.1.1.1.1.1.1.0
+    may-be-cut some.schema (given (goal.at.cut_first-requires c).Start) (lent (goal.at.cut_first-requires c).Start) c.is_table-held.result c.may_cut.result (c.is_table-held.ensures some.schema some.sets.words) c.may_cut.ensures c.if-not-may_cut.false-raw
 
 pub returns : goal.returns
 returns c = λ s h.
-    cut-answered s (given (goal.at.returns c).After-may_cut) (lent (goal.at.returns c).After-may_cut) c.is_table-held.result c.may_cut.result (c.is_table-held.ensures s h.words) c.may_cut.ensures c.if-not-may_cut.left c.args.word c.handed_in-set.result (c.handed_in-set.ensures s h.few h.names) _ _ c.cut_first.ensures
+    cut-answered s (given (goal.at.returns c).Start) (lent (goal.at.returns c).Start) c.is_table-held.result c.may_cut.result (c.is_table-held.ensures s h.words) c.may_cut.ensures c.if-not-may_cut.false-raw c.args.word c.handed_in-set.result (c.handed_in-set.ensures s h.few h.names) _ _ c.cut_first.ensures

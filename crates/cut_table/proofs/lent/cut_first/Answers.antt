@@ -25,23 +25,5 @@ slice_bounds-cut-end-6 c = sym (length-take-le _ _ c.requires.lent.measured)
 pub cut-n-requires : goal.cut-n-requires
 cut-n-requires c = let asked = c.requires in (asked.rows, asked.room)
 
-pub shape_of-out_numbers : goal.shape_of-out_numbers
-shape_of-out_numbers c = c.cut-n.auto.1.1.1.1.1.1.1.0
-
-pub shape_of-out_names : goal.shape_of-out_names
-shape_of-out_names c = c.cut-n.auto.1.1.1.1.1.1.1.1.0
-
-pub shape_of-out_parents : goal.shape_of-out_parents
-shape_of-out_parents c = c.cut-n.auto.1.1.1.1.1.1.1.1.1.0
-
-pub shape_of-out_starts : goal.shape_of-out_starts
-shape_of-out_starts c = c.cut-n.auto.1.1.1.1.1.1.1.1.1.1.0
-
-pub shape_of-out_lengths : goal.shape_of-out_lengths
-shape_of-out_lengths c = c.cut-n.auto.1.1.1.1.1.1.1.1.1.1.1.0
-
-pub shape_of-out_decoded : goal.shape_of-out_decoded
-shape_of-out_decoded c = c.cut-n.auto.1.1.1.1.1.1.1.1.1.1.1.1.0
-
 pub returns : goal.returns
 returns c = record { count = _; answer = c.answer_in.ensures; cells = c.cut-n.ensures }

@@ -7,27 +7,9 @@ use Rattle.cut_table.specs.laws.Answers.{refused-1, no_record, by-record}
 use Rattle.schema_reader.specs.Sizes.{record-low}
 use Rattle.cut_table.proofs.records.cut_table.Goals as goal
 
-pub shape_of-out_numbers-then-not-is_schema_record : goal.shape_of-out_numbers-then-not-is_schema_record
-shape_of-out_numbers-then-not-is_schema_record c = c.refuse.auto.0
-
-pub shape_of-out_names-then-not-is_schema_record : goal.shape_of-out_names-then-not-is_schema_record
-shape_of-out_names-then-not-is_schema_record c = c.refuse.auto.1.0
-
-pub shape_of-out_parents-then-not-is_schema_record : goal.shape_of-out_parents-then-not-is_schema_record
-shape_of-out_parents-then-not-is_schema_record c = c.refuse.auto.1.1.0
-
-pub shape_of-out_starts-then-not-is_schema_record : goal.shape_of-out_starts-then-not-is_schema_record
-shape_of-out_starts-then-not-is_schema_record c = c.refuse.auto.1.1.1.0
-
-pub shape_of-out_lengths-then-not-is_schema_record : goal.shape_of-out_lengths-then-not-is_schema_record
-shape_of-out_lengths-then-not-is_schema_record c = c.refuse.auto.1.1.1.1.0
-
-pub shape_of-out_decoded-then-not-is_schema_record : goal.shape_of-out_decoded-then-not-is_schema_record
-shape_of-out_decoded-then-not-is_schema_record c = c.refuse.auto.1.1.1.1.1.0
-
 pub returns-then-not-is_schema_record : goal.returns-then-not-is_schema_record
 returns-then-not-is_schema_record c =
-    refused-1 (no_record _ _ _ _ (sym (passes-schema _ _) ∙ sym c.is_schema_record.ensures ∙ not-true _ c.if-not-is_schema_record.taken)) c.refuse.ensures.0 c.refuse.ensures.1
+    refused-1 (no_record _ _ _ _ (sym (passes-schema _ _) ∙ sym c.is_schema_record.ensures ∙ not-true _ c.if-not-is_schema_record.true-raw)) c.refuse.ensures.0 c.refuse.ensures.1
 
 pub schema_sets-sets-requires : goal.schema_sets-sets-requires
 schema_sets-sets-requires c =
@@ -37,24 +19,6 @@ schema_sets-sets-requires c =
 pub cut_lent-requires : goal.cut_lent-requires
 cut_lent-requires c = record { schema = _; sets = c.schema_sets-sets.ensures }
 
-pub shape_of-out_numbers : goal.shape_of-out_numbers
-shape_of-out_numbers c = c.cut_lent.auto.1.1.1.1.1.1.1.1.1.0
-
-pub shape_of-out_names : goal.shape_of-out_names
-shape_of-out_names c = c.cut_lent.auto.1.1.1.1.1.1.1.1.1.1.0
-
-pub shape_of-out_parents : goal.shape_of-out_parents
-shape_of-out_parents c = c.cut_lent.auto.1.1.1.1.1.1.1.1.1.1.1.0
-
-pub shape_of-out_starts : goal.shape_of-out_starts
-shape_of-out_starts c = c.cut_lent.auto.1.1.1.1.1.1.1.1.1.1.1.1.0
-
-pub shape_of-out_lengths : goal.shape_of-out_lengths
-shape_of-out_lengths c = c.cut_lent.auto.1.1.1.1.1.1.1.1.1.1.1.1.1.0
-
-pub shape_of-out_decoded : goal.shape_of-out_decoded
-shape_of-out_decoded c = c.cut_lent.auto.1.1.1.1.1.1.1.1.1.1.1.1.1.1.0
-
 pub returns : goal.returns
 returns c =
-    by-record _ _ _ _ (sym (passes-schema _ _) ∙ sym c.is_schema_record.ensures ∙ not-false _ c.if-not-is_schema_record.left) _ _ (c.cut_lent.ensures _ c.schema_sets-sets.ensures)
+    by-record _ _ _ _ (sym (passes-schema _ _) ∙ sym c.is_schema_record.ensures ∙ not-false _ c.if-not-is_schema_record.false-raw) _ _ (c.cut_lent.ensures _ c.schema_sets-sets.ensures)

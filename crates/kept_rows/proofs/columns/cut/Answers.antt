@@ -13,23 +13,5 @@ pub cut_into-requires : goal.cut_into-requires
 cut_into-requires c =
     record { rows = c.requires.0; scratch = scratch-room _ _ c.requires.0.kept.few; lent = c.requires.1 }
 
-pub shape_of-out_numbers : goal.shape_of-out_numbers
-shape_of-out_numbers c = c.cut_into.auto.1.1.1.1.1.1.1.1.0
-
-pub shape_of-out_names : goal.shape_of-out_names
-shape_of-out_names c = c.cut_into.auto.1.1.1.1.1.1.1.1.1.0
-
-pub shape_of-out_parents : goal.shape_of-out_parents
-shape_of-out_parents c = c.cut_into.auto.1.1.1.1.1.1.1.1.1.1.0
-
-pub shape_of-out_starts : goal.shape_of-out_starts
-shape_of-out_starts c = c.cut_into.auto.1.1.1.1.1.1.1.1.1.1.1.0
-
-pub shape_of-out_lengths : goal.shape_of-out_lengths
-shape_of-out_lengths c = c.cut_into.auto.1.1.1.1.1.1.1.1.1.1.1.1.0
-
-pub shape_of-out_decoded : goal.shape_of-out_decoded
-shape_of-out_decoded c = c.cut_into.auto.1.1.1.1.1.1.1.1.1.1.1.1.1.0
-
 pub returns : goal.returns
 returns c = c.cut_into.ensures

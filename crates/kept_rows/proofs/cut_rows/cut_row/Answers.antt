@@ -1,5 +1,4 @@
 use native.Mathlib.Omega.{arith}
-use borrow.Author.Rules.{rules}
 use Rattle.kept_rows.specs.cut_rows.Rows.{row_cut, row_kept}
 use Rattle.kept_rows.proofs.cut_rows.cut_row.Goals as goal
 
@@ -25,4 +24,4 @@ overflow_sub-out_parents c =
 pub returns : goal.returns
 returns c =
     let start = c.args in
-    row_kept _ _ _ start.r c.if-x-eq-NOT_KEPT.left
+    row_kept _ _ _ start.r c.if-x-eq-NOT_KEPT.false

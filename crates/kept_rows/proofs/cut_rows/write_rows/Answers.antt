@@ -1,10 +1,6 @@
-use Prim.Native.Nat.{◌-◌, ◌≤◌}
 use native.Mathlib.Omega.{arith}
-use borrow.Author.Rules.{rules}
-use lib.ListN.{length}
 use Rattle.kept_rows.specs.cut_rows.Cells.{noted-length}
-use Rattle.kept_rows.specs.cut_rows.Rows.{marked_by, CutPass, RowsNoted, rows_none, row-pass, row_next, rows_all}
-use Rattle.table_spec.specs.Columns.{columns}
+use Rattle.kept_rows.specs.cut_rows.Rows.{rows_none, row-pass, row_next, rows_all}
 use Rattle.kept_rows.proofs.cut_rows.write_rows.Goals as goal
 
 pub loop-r-init : goal.loop-r-init
@@ -17,7 +13,7 @@ cut_row-requires c =
 
 pub overflow_add-r : goal.overflow_add-r
 overflow_add-r c =
-    omega (arith, c.loop-r-test.true, c.well-formed.1.1.1.1.1.1.0)
+    omega (arith, c.loop-r-test.true, c.well_formed.1.1.1.1.1.1.0)
 
 pub loop-r-preserved : goal.loop-r-preserved
 loop-r-preserved c =

@@ -1,5 +1,4 @@
 -- `refused_table` meets its contract: columns of zeros.
-use borrow.Author.Rules.{rules}
 use Rattle.row_structs.specs.laws.Answers.{in-zeros}
 use Rattle.row_structs.proofs.refused.refused_table.Goals as goal
 

@@ -23,7 +23,7 @@ returns-then-not-is_table_beside c =
 pub text_of-requires : goal.text_of-requires
 text_of-requires c =
     let lent = beside-lent _ _ _ (sym (c.is_table_beside.ensures _ c.schema_words-words.ensures) ∙ not-false _ c.if-not-is_table_beside.false-raw) in
-    (lent.named, lent.started, lent.sized, lent.decreases)
+    (lent.named, lent.started, lent.sized, lent.measured)
 
 pub returns : goal.returns
 returns c =

@@ -1,6 +1,6 @@
 -- `row_fits_lem` meets its contract: it hands the cells of two rows on.
 use native.Mathlib.Omega.{arith}
-use borrow.Author.Rules.{rules, scaled_Fits}
+use borrow.Author.Rules.{rules}
 use Rattle.tables.proofs.rows.row_fits.Goals as goal
 
 pub overflow_sub-row : goal.overflow_sub-row
@@ -8,9 +8,6 @@ overflow_sub-row c = c.requires.0.later
 
 pub bounds-codes-row : goal.bounds-codes-row
 bounds-codes-row c = omega arith
-
-pub is_text-text-requires : goal.is_text-text-requires
-is_text-text-requires c = tt
 
 pub bounds-codes-parent : goal.bounds-codes-parent
 bounds-codes-parent c = c.requires.0.parented
@@ -24,29 +21,17 @@ overflow_sub-row-2 c = c.requires.0.later
 pub bounds-numbers-row : goal.bounds-numbers-row
 bounds-numbers-row c = omega arith
 
-pub offset_bounds-numbers-row-2 : goal.offset_bounds-numbers-row-2
-offset_bounds-numbers-row-2 c = search scaled_Fits
-
 pub bounds-numbers-row-2 : goal.bounds-numbers-row-2
 bounds-numbers-row-2 c = c.requires.0.numbered
 
 pub bounds-codes-row-2 : goal.bounds-codes-row-2
 bounds-codes-row-2 c = c.requires.0.named
 
-pub offset_bounds-starts-row : goal.offset_bounds-starts-row
-offset_bounds-starts-row c = search scaled_Fits
-
 pub bounds-starts-row : goal.bounds-starts-row
 bounds-starts-row c = c.requires.0.started
 
-pub offset_bounds-lengths-row : goal.offset_bounds-lengths-row
-offset_bounds-lengths-row c = search scaled_Fits
-
 pub bounds-lengths-row : goal.bounds-lengths-row
 bounds-lengths-row c = c.requires.0.sized
-
-pub offset_bounds-decoded-row : goal.offset_bounds-decoded-row
-offset_bounds-decoded-row c = search scaled_Fits
 
 pub bounds-decoded-row : goal.bounds-decoded-row
 bounds-decoded-row c = c.requires.0.measured

@@ -33,18 +33,15 @@ bounds-lengths-0 c = omega arith
 pub bounds-decoded-0 : goal.bounds-decoded-0
 bounds-decoded-0 c = omega arith
 
-pub root_fits-requires : goal.root_fits-requires
-root_fits-requires c = tt
-
 pub returns-then-not-root_fits : goal.returns-then-not-root_fits
 returns-then-not-root_fits c =
-    rows-rootless c.args.words.now (lent (goal.at.returns-then-not-root_fits c).Start) c.args.count c.if-count-eq0.left (sym c.root_fits.ensures ∙ not-true _ c.if-not-root_fits.true-raw)
+    rows-rootless c.args.words.now (lent (goal.at.returns-then-not-root_fits c).Start) c.args.count c.if-count-eq0.false (sym c.root_fits.ensures ∙ not-true _ c.if-not-root_fits.true-raw)
 
 pub later_rows_fit-requires : goal.later_rows_fit-requires
 later_rows_fit-requires c =
-    (c.requires, root-at (lent (goal.at.later_rows_fit-requires c).Start) c.args.count c.if-count-eq0.left (sym c.root_fits.ensures ∙ not-false _ c.if-not-root_fits.false-raw))
+    (c.requires, root-at (lent (goal.at.later_rows_fit-requires c).Start) c.args.count c.if-count-eq0.false (sym c.root_fits.ensures ∙ not-false _ c.if-not-root_fits.false-raw))
 
 pub returns : goal.returns
 returns c =
     c.later_rows_fit.ensures
-    ∙ rows-rooted c.args.words.now (lent (goal.at.returns c).Start) c.args.count c.if-count-eq0.left (sym c.root_fits.ensures ∙ not-false _ c.if-not-root_fits.false-raw)
+    ∙ rows-rooted c.args.words.now (lent (goal.at.returns c).Start) c.args.count c.if-count-eq0.false (sym c.root_fits.ensures ∙ not-false _ c.if-not-root_fits.false-raw)

@@ -11,7 +11,7 @@ returns-then-not-range_passes c = simp (sym c.is_text.ensures ∙ c.if-is_text.t
 
 pub range_decodes-requires : goal.range_decodes-requires
 range_decodes-requires c =
-    (c.requires, range_inside _ _ _ (sym c.range_passes.ensures ∙ not-false _ c.if-not-range_passes.false-raw), omega (arith, c.well-formed.1.1.1.0))
+    (c.requires, range_inside _ _ _ (sym c.range_passes.ensures ∙ not-false _ c.if-not-range_passes.false-raw), omega (arith, c.well_formed.1.1.1.0))
 
 pub returns-then-is_text : goal.returns-then-is_text
 returns-then-is_text c =
