@@ -9,9 +9,9 @@ use Rattle.schema.specs.declared.Judgement.{Judgement}
 use Rattle.hosts.proofs.texts.schema_told.Goals as goal
 
 pub returns-in-Accepted : goal.returns-in-Accepted
-returns-in-Accepted c = sym (ap (λ (j : Judgement). told_of (outcome_of j)) c.in-Accepted.field-0.1)
+returns-in-Accepted c = sym (ap (λ (j : Judgement). told_of (outcome_of j)) c.in-Accepted.is)
 
 pub returns-in-Refused : goal.returns-in-Refused
 returns-in-Refused c =
-    ap (λ (n : ℕ). record { number = n; place = c.in-Refused.kind.0.1.0 }) c.number.ensures
-    ∙ sym (ap (λ (j : Judgement). told_of (outcome_of j)) c.in-Refused.kind.1)
+    ap (λ (n : ℕ). record { number = n; place = c.in-Refused.place }) c.number.ensures
+    ∙ sym (ap (λ (j : Judgement). told_of (outcome_of j)) c.in-Refused.is)

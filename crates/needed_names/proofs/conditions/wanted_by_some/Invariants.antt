@@ -2,14 +2,11 @@
 use mathlib.Core.List.{Memᴰ}
 use mathlib.Core.Path.{◌≡◌}
 use Prim.Native.Nat.{◌≤◌, ◌-◌}
-use native.Mathlib.Omega.{arith}
-use borrow.Author.Rules.{rules}
 use Rattle.compiled_paths.specs.Columns.{alternatives_in}
 use Rattle.inference.specs.type_steps.Relations.{RelationsOf}
-use Rattle.names.specs.SetLaws.{common-known, common-set_in}
-use Rattle.names.specs.Sets.{member, set_in, Known}
+use Rattle.names.specs.Sets.{member, Known}
 use Rattle.needed_names.specs.conditions.Conditions.{wants_in}
-use Rattle.needed_names.specs.conditions.Laws.{wanted_below, wanted-none, wanted-one-more, wanted-gather}
+use Rattle.needed_names.specs.conditions.Laws.{wanted_below}
 use Rattle.path_spec.specs.Paths.{alternatives}
 use Rattle.schema_spec.specs.Names.{Name, names_of}
 use Rattle.schema_spec.specs.Schemas.{Schema}
