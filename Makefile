@@ -18,10 +18,12 @@ HEADERS = $(wildcard command/*.h) include/lozhymet.h
 all: $(BUILD)/lozhymet $(BUILD)/lozhymet.pc $(LISTING)
 
 $(PROVED): FORCE
-	rt staticlib library
+	tests/archive
 
 $(LISTING): FORCE
-	rt check listing
+	cd crates/listing && rt run </dev/null >/dev/null
+	mkdir -p $(dir $(LISTING))
+	cp crates/listing/out/listing $(LISTING)
 
 $(BUILD)/lozhymet: $(SOURCES) $(HEADERS) $(LOZHYMET_LIB)
 	mkdir -p $(BUILD)

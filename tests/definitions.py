@@ -27,33 +27,30 @@ NOT_EVALUATED = {
 }
 
 HEAD = """-- Written by tests/definitions.py.
-use mathlib.Core.List.{List, [], _∷_, map}
-use mathlib.Core.Path.{_≡_, refl}
-use Prim.Native.Nat.{ℕ}
-use lib.ListN.{length}
-use Rattle·journal_spec.specs.Reading.{readJournal}
-use Rattle·path_spec.specs.Paths.{LocationPath}
-use Rattle·path_spec.specs.Reading.{readBundle}
-use Rattle·path_spec.specs.Selection.{selectRows}
-use Rattle·library_spec.specs.Cases.Opened.{computing}
-use Rattle·extract_spec.specs.Cut.{cut}
-use Rattle·extract_spec.specs.Reading.{readExtract}
-use Rattle·inference_spec.specs.Needed.{needed, neededByPath, neededWord}
-use Rattle·library_spec.specs.Calls.{extractRead}
-use Rattle·library_spec.specs.Hosts.{extractOf}
-use Rattle·library_spec.specs.Listing.{listing}
-use Rattle·library_spec.specs.Records.{schemaHeld, tableBeside}
-use Rattle·schema_spec.specs.Names.{codeOf, wordOfSet}
-use Rattle·schema_spec.specs.Reading.{readSchema}
-use Rattle·schema_spec.specs.Records.{normal, schemaIn}
-use Rattle·schema_spec.specs.Types.{Types, typesOf}
-use Rattle·table_spec.specs.Rows.{Row}
-use Rattle·text_spec.specs.Calls.{handed, inRoom}
-use Rattle·text_spec.specs.Cells.{tooSmall}
-use Rattle·text_spec.specs.Limits.{maxSchemaBytes}
-use Rattle·text_spec.specs.Lists.{bytes}
-use Rattle·text_spec.specs.Records.{recordOf}
-use Rattle·text_spec.specs.Refusals.{Outcome, accepted, refused, andThen, numberOf}
+use Rattle.std.specs.Prelude.{List, [], ◌∷◌, map, ◌≡◌, refl, ℕ, length}
+use Rattle.journal_spec.specs.Reading.{read_journal}
+use Rattle.path_spec.specs.Paths.{LocationPath}
+use Rattle.path_spec.specs.Reading.{read_bundle}
+use Rattle.path_spec.specs.Selection.{select_rows}
+use Rattle.library_spec.specs.Cases.Opened.{computing}
+use Rattle.extract_spec.specs.Cut.{cut}
+use Rattle.extract_spec.specs.Reading.{read_extract}
+use Rattle.inference_spec.specs.Needed.{needed, needed_by_path, needed_word}
+use Rattle.library_spec.specs.Calls.{extract_read}
+use Rattle.library_spec.specs.Hosts.{extract_of}
+use Rattle.library_spec.specs.Listing.{listing}
+use Rattle.library_spec.specs.Records.{schema_held, table_beside}
+use Rattle.schema_spec.specs.Names.{code_of, word_of_set}
+use Rattle.schema_spec.specs.Reading.{read_schema}
+use Rattle.schema_spec.specs.Records.{normal, schema_in}
+use Rattle.schema_spec.specs.Types.{Types, types_of}
+use Rattle.table_spec.specs.Rows.{Row}
+use Rattle.text_spec.specs.Calls.{handed, in_room}
+use Rattle.text_spec.specs.Cells.{too_small}
+use Rattle.text_spec.specs.Limits.{max_schema_bytes}
+use Rattle.text_spec.specs.Lists.{bytes}
+use Rattle.text_spec.specs.Records.{record_of}
+use Rattle.text_spec.specs.Refusals.{Outcome, accepted, refused, and_then, number_of}
 
 data Seen : Type 0 where
   ok : List (List ℕ) → Seen
@@ -61,43 +58,43 @@ data Seen : Type 0 where
 
 abbrev seen : {A : Type 0} → (A → List (List ℕ)) → Outcome A → Seen
 seen f (accepted a) = ok (f a)
-seen f (refused r) = no (numberOf (r .reason)) (r .place)
+seen f (refused r) = no (number_of r.reason) r.place
 
 abbrev counted : {A : Type 0} → List A → List (List ℕ)
 counted l = (length l ∷ []) ∷ []
 
 abbrev row : Row → List ℕ
-row r = r .number ∷ codeOf (r .name) ∷ r .parent ∷ r .start ∷ r .size ∷ r .decoded ∷ []
+row r = r.number ∷ code_of r.name ∷ r.parent ∷ r.start ∷ r.size ∷ r.decoded ∷ []
 
-abbrev rowButStart : Row → List ℕ
-rowButStart r = r .number ∷ codeOf (r .name) ∷ r .parent ∷ r .size ∷ r .decoded ∷ []
+abbrev row_but_start : Row → List ℕ
+row_but_start r = r.number ∷ code_of r.name ∷ r.parent ∷ r.size ∷ r.decoded ∷ []
 
 abbrev lent : ℕ → List Row → Outcome (List Row)
-lent n rows = inRoom (tooSmall n rows) rows
+lent n rows = in_room (too_small n rows) rows
 
-abbrev wordsOf : Types → List (LocationPath ℕ) → List ℕ
-wordsOf t ps = neededWord t ps ∷ map (λ p. wordOfSet (t .names) (neededByPath t p)) ps
+abbrev words_of : Types → List (LocationPath ℕ) → List ℕ
+words_of t ps = needed_word t ps ∷ map (λ p. word_of_set t.names (needed_by_path t p)) ps
 
 abbrev words : List ℕ → List ℕ → Outcome (List (List ℕ))
 words s b =
-    andThen (readSchema s) (λ e.
-    andThen (readBundle e b) (λ ps.
-    accepted (wordsOf (typesOf e) ps ∷ [])))
+    and_then (read_schema s) (λ e.
+    and_then (read_bundle e b) (λ ps.
+    accepted (words_of (types_of e) ps ∷ [])))
 
 abbrev selections : List ℕ → List ℕ → List ℕ → Outcome (List (List ℕ))
 selections s b j =
-    andThen (readSchema s) (λ e. andThen (readBundle e b) (λ ps. andThen (readJournal JOURNAL_LIMIT e j) (λ rows. accepted (map (selectRows j rows) ps))))
+    and_then (read_schema s) (λ e. and_then (read_bundle e b) (λ ps. and_then (read_journal JOURNAL_LIMIT e j) (λ rows. accepted (map (select_rows j rows) ps))))
 
-abbrev selectionsFrom : List ℕ → List ℕ → List ℕ → Outcome (List (List ℕ))
-selectionsFrom s b x =
-    andThen (readSchema s) (λ e. andThen (readBundle e b) (λ ps. andThen (readExtract (typesOf e) x) (λ rows. accepted (map (selectRows x rows) ps))))
+abbrev selections_from : List ℕ → List ℕ → List ℕ → Outcome (List (List ℕ))
+selections_from s b x =
+    and_then (read_schema s) (λ e. and_then (read_bundle e b) (λ ps. and_then (read_extract (types_of e) x) (λ rows. accepted (map (select_rows x rows) ps))))
 
 abbrev extracts : List ℕ → List ℕ → List ℕ → Outcome (List (List ℕ))
 extracts s b j =
-    andThen (readSchema s) (λ e.
-    andThen (readBundle e b) (λ ps.
-    andThen (readJournal JOURNAL_LIMIT e j) (λ rows.
-    accepted ((length (cut (needed (typesOf e) ps) rows) ∷ []) ∷ extractOf e ps j rows ∷ []))))
+    and_then (read_schema s) (λ e.
+    and_then (read_bundle e b) (λ ps.
+    and_then (read_journal JOURNAL_LIMIT e j) (λ rows.
+    accepted ((length (cut (needed (types_of e) ps) rows) ∷ []) ∷ extract_of e ps j rows ∷ []))))
 
 abbrev same : {A : Type 0} → A → A
 same a = a
@@ -156,33 +153,33 @@ def asked(case):
     does, texts, limits = case["does"], case["texts"], case["limits"]
     t = [text(s) for s in texts]
     if does == "schema":
-        return "seen counted (readSchema %s)" % t[0]
+        return "seen counted (read_schema %s)" % t[0]
     if does == "bundle":
-        return "seen counted (readBundle (schemaIn %s) %s)" % (t[0], t[1])
+        return "seen counted (read_bundle (schema_in %s) %s)" % (t[0], t[1])
     if does == "journal":
         limit = limits[0] if limits else JOURNAL_LIMIT
         rows = limits[1] if len(limits) > 1 else JOURNAL_LIMIT
-        return "seen (map row) (andThen (readJournal %d (schemaIn %s) %s) (lent %d))" % (limit, t[0], t[1], rows)
+        return "seen (map row) (and_then (read_journal %d (schema_in %s) %s) (lent %d))" % (limit, t[0], t[1], rows)
     if does == "needed":
         return "seen same (words %s %s)" % (t[0], t[1])
     if does == "select":
         return "seen same (selections %s %s %s)" % tuple(t)
     if does == "select-extract":
-        return "seen same (selectionsFrom %s %s %s)" % tuple(t)
+        return "seen same (selections_from %s %s %s)" % tuple(t)
     if does == "extract":
         return "seen same (extracts %s %s %s)" % tuple(t)
     if does == "schema-record":
-        return "seen counted (handed (schemaHeld (record { cells = %s; size = %d })) (λ s. accepted s))" % (t[0], limits[0])
+        return "seen counted (handed (schema_held (record { cells = %s; size = %d })) (λ s. accepted s))" % (t[0], limits[0])
     if does == "read-extract" and limits:
-        return "seen (map rowButStart) (extractRead (recordOf maxSchemaBytes (normal %s)) %s (%s))" % (t[0], t[1], sizes(limits[1:]))
+        return "seen (map row_but_start) (extract_read (record_of max_schema_bytes (normal %s)) %s (%s))" % (t[0], t[1], sizes(limits[1:]))
     if does == "read-extract":
-        return "seen (map rowButStart) (readExtract (typesOf (schemaIn %s)) %s)" % (t[0], t[1])
+        return "seen (map row_but_start) (read_extract (types_of (schema_in %s)) %s)" % (t[0], t[1])
     if does == "listing":
         return "ok (listing %s %s %s ∷ [])" % tuple(t)
     rows = decimals(filter(None, texts[1].split("\n")))
     columns = "numbers = %s; names = %s; parents = %s; starts = %s; lengths = %s; decoded = %s" % tuple(numbers([r[i] for r in rows]) for i in range(6))
     table = "record { columns = record { %s }; count = %d }" % (columns, len(rows))
-    return "seen counted (handed (tableBeside (schemaIn %s) %s (%s)) (λ rows. accepted rows))" % (t[0], t[2], table)
+    return "seen counted (handed (table_beside (schema_in %s) %s (%s)) (λ rows. accepted rows))" % (t[0], t[2], table)
 
 
 def theorem(i, case):
@@ -217,14 +214,14 @@ def evaluate(cases):
             os.makedirs(os.path.join(crate, "src"))
             os.makedirs(os.path.join(crate, "specs"))
             body = "\n".join([HEAD] + [theorem(i, case) for i, case in enumerate(cases) if i % parts == part])
-            files = {"src/lib.rt": "// Theorems alone.\n", "specs/Lib.antt": "pub mod Vectors\n", "specs/Vectors.antt": body}
+            files = {"src/lib.rt": "#![tactic(auto)]\n\n// Theorems alone.\n", "specs/Lib.antt": "pub mod Vectors\n", "specs/Vectors.antt": body}
             for path, content in files.items():
                 with open(os.path.join(crate, path), "w") as out:
                     out.write(content)
             lines.append("vectors%d: %s\n" % (part, " ".join(SPECS)))
         with open(os.path.join(scratch, "crates.txt"), "w") as out:
             out.write("".join(lines))
-        return subprocess.run(["rt", "check"], cwd=scratch, capture_output=True, text=True)
+        return subprocess.run(["rt", "all", "check", "--jobs", str(parts)], cwd=scratch, capture_output=True, text=True)
 
 
 def main():

@@ -19,7 +19,8 @@ def layers():
             if line.startswith("# "):
                 found.append((line[2:].rstrip("."), []))
             elif line:
-                crate, _, names = line.partition(":")
+                head, _, names = line.partition(":")
+                crate = head.split()[0]
                 found[-1][1].append(crate)
                 named[crate] = names.split()
     return found, named

@@ -1,6 +1,6 @@
 #!/usr/bin/env python3
-"""The entries over slices of row structs, called by a program: tests/structs/main.txt, which nothing proves, since programs that hold arrays of
-structs are not covered by the prover. `rt try` runs it on the interpreter and compiled three ways, over the sources of this repository.
+"""The entries over slices of row structs, called by a program: tests/structs/main.txt, which nothing proves. `rt try` runs it on the interpreter and
+compiled with checks, over the sources of this repository.
 
 Each group of calls has a schema, a bundle and a journal: the journal is read into row structs, these are cut into others and selected on. What is
 expected is worked out here, from documents 01 and 02: rows from the tags, cutting from the rows, what a path selects and what is refused by hand. The
@@ -22,8 +22,6 @@ HERE = os.path.dirname(os.path.abspath(__file__))
 ROOT = os.path.dirname(HERE)
 PROGRAM = "struct_cases"
 NEEDS = "row_structs schema schema_reader bundle cells selection struct_reading struct_cutting struct_selecting io"
-# what the interpreter says where it stops before the program ends
-OUT_OF_STEPS = "the run did not finish within 10000000 steps"
 STACK = 64 << 20
 TEXTS = 32
 # as in the program
@@ -261,7 +259,7 @@ def large():
 def laid_out(folder, crates):
     """A repository of these crates and the program, whose source stands under another name here: rt takes every file *.rt for a crate's."""
     for crate in os.listdir(crates):
-        os.symlink(os.path.join(crates, crate), os.path.join(folder, "crates", crate))
+        shutil.copytree(os.path.join(crates, crate), os.path.join(folder, "crates", crate), ignore=shutil.ignore_patterns("out", "must-fail"))
     shutil.copy(os.path.join(ROOT, "crates.txt"), folder)
     with open(os.path.join(folder, "crates.txt"), "a") as f:
         f.write("%s: %s\n" % (PROGRAM, NEEDS))
@@ -274,20 +272,18 @@ def more_stack():
     resource.setrlimit(resource.RLIMIT_STACK, (STACK if hard == resource.RLIM_INFINITY else min(STACK, hard), hard))
 
 
-def said(folder, *words):
-    """Whether rt ends well, and what it says."""
-    ended = subprocess.run(["rt", *words], cwd=folder, stdout=subprocess.PIPE, stderr=subprocess.STDOUT, text=True, preexec_fn=more_stack)
+def tried(folder, **cases):
+    """What `rt try` says of the program on the cases, each of some groups."""
+    inputs = os.path.join(folder, "cases")
+    os.makedirs(inputs)
+    for name, groups in cases.items():
+        with open(os.path.join(inputs, name), "wb") as f:
+            f.write(b"".join(g.written() for g in groups))
+        with open(os.path.join(inputs, name + ".stdout"), "w") as f:
+            f.write("".join(outcome for g in groups for outcome in g.outcomes))
+    ended = subprocess.run(["rt", "try", "--cases", inputs], cwd=os.path.join(folder, "crates", PROGRAM), stdout=subprocess.PIPE, stderr=subprocess.STDOUT,
+                           text=True, preexec_fn=more_stack)
     return ended.returncode == 0, ended.stdout
-
-
-def tried(folder, groups):
-    """What `rt try` says of the program on the groups."""
-    program = os.path.join(folder, "crates", PROGRAM)
-    with open(os.path.join(program, "stdin"), "wb") as f:
-        f.write(b"".join(g.written() for g in groups))
-    with open(os.path.join(program, "stdout"), "w") as f:
-        f.write("".join(outcome for g in groups for outcome in g.outcomes))
-    return said(folder, "try", PROGRAM)
 
 
 def main():
@@ -296,16 +292,10 @@ def main():
     with tempfile.TemporaryDirectory() as folder:
         os.makedirs(os.path.join(folder, "crates", PROGRAM, "src"))
         laid_out(folder, crates)
-        formatted, lines = said(folder, "fmt", "--check")
-        if not formatted:
+        passed, lines = tried(folder, small=small, many=many)
+        if not passed or "case=small run=ended status=0 runners=2 output=expected" not in lines or "cases=2 ended=2" not in lines:
             sys.exit("structs: " + lines)
-        passed, lines = tried(folder, small)
-        if not passed:
-            sys.exit("structs: " + lines)
-        _, lines = tried(folder, many)
-        if lines.count("\nok: the native program") != 3 or OUT_OF_STEPS not in lines:
-            sys.exit("structs: " + lines)
-    print("structs: %d calls on the interpreter and compiled three ways, %d on decoded texts and a table of 65,535 rows compiled three ways"
+    print("structs: %d calls on the interpreter and compiled, %d on decoded texts and a table of 65,535 rows compiled"
           % (sum(len(g.outcomes) for g in small), sum(len(g.outcomes) for g in many)))
 
 

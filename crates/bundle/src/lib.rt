@@ -1,4 +1,6 @@
 // What judging a bundle text under a schema answers, and refusal 10: the names in the tests, looked up once while compiled paths are filled.
+#![tactic(auto)]
+
 pub mod byte_judging;
 pub mod columns;
 pub mod last_steps;

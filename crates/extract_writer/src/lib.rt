@@ -1,4 +1,6 @@
 // Writing the extract of a table that is handed in, beside the text that is lent with it.
+#![tactic(auto)]
+
 pub mod answers;
 pub mod decoded_texts;
 pub mod fields;

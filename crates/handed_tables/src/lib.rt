@@ -1,1 +1,3 @@
+#![tactic(auto)]
+
 // Definitions and theorems alone: they stand in specs/.

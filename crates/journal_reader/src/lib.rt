@@ -1,4 +1,6 @@
 // A whole journal read into clear columns, byte by byte (request R-4's step) or event by event, and its verdict.
+#![tactic(auto)]
+
 pub mod byte_loop;
 pub mod end;
 pub mod event_loop;

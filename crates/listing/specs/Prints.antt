@@ -15,6 +15,10 @@ use Rattle.listing_text.specs.lines.Lines.{refusal, line_of, row_line, RowPass}
 use Rattle.text_spec.specs.Limits.{listing_rows}
 use Rattle.text_spec.specs.Lists.{bytes}
 
+-- `&xs[..n]` is in bounds and has n bytes
+abbrev pub IsPrefixLen : ℕ → List ℕ → Type 0
+IsPrefixLen n xs = (n ≤ length xs) × (n ≡ length (take n xs))
+
 pub record RowsPrinted (schema numbers codes ps firsts : List ℕ) (r : Listed) : Type 0 where
   pub fit : LinesFit schema codes ps r
   pub numbered : length numbers ≡ r.rows

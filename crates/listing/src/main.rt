@@ -1,13 +1,17 @@
-// `listing`: reads schema.dtd, paths.txt and journal.xml, and prints the nodes that the paths select.
-ghost use Rattle.io.specs.Counts.{IsPrefixLen};
-ghost use Rattle.listing.specs.Prints.{RowsPrinted};
+#![tactic(auto)]
 
-use libc::STDOUT_FILENO;
+// `listing`: reads schema.dtd, paths.txt and journal.xml, and prints the nodes that the paths select.
+ghost use Rattle.std.specs.Prelude.{IfOk};
+ghost use Rattle.listing.specs.Prints.{IsPrefixLen, RowsPrinted};
+
 use listing_files::contents::Listed;
 use listing_files::list_files;
 use listing_text::headers::put_header;
 use listing_text::lines::put_row;
 use listing_text::parts::put_refusal;
+use std::fs::File;
+use std::io;
+use std::io::{Read, Write};
 use text::limits::{LISTED_BYTES, LISTED_ROWS, MAX_BUNDLE_BYTES, MAX_SCHEMA_BYTES};
 
 // Each file is read to one byte past its limit, so that a longer one is refused by 2.
@@ -20,34 +24,47 @@ const JOURNAL_BYTES: usize = LISTED_BYTES + 1;
 // The longest line takes 2,098 bytes.
 const LINE_BYTES: usize = 2200;
 
-// Reads a file; a missing one is empty.
-fn read_file(path: &[u8], buffer: &mut [u8]) -> usize
-    ensures { IsPrefixLen result buffer.new }
+// Reads until the buffer is full or the file ends, and gives how many bytes were read.
+fn read_full(file: &mut File, buffer: &mut [u8]) -> io::Result<usize>
+    ensures { IfOk result (λ n. IsPrefixLen n buffer.new) }
 {
-    let file = os::open_read(path);
-    if file < 0 {
-        return 0;
+    let mut n = 0;
+    while n < buffer.len() {
+        let more = file.read(&mut buffer[n..])?;
+        if more == 0 {
+            return Ok(n);
+        }
+        n += more;
     }
-    let n = io::read_full(file, buffer);
-    libc::close(file);
-    n
+    Ok(n)
 }
 
-fn print_refusal(number: u64, place: u64) {
+// Reads a file; a missing one is empty.
+fn read_file(rt: &HostRuntime, path: &str, buffer: &mut [u8]) -> io::Result<usize>
+    ensures { IfOk result (λ n. IsPrefixLen n buffer.new) }
+{
+    match File::open(rt, path) {
+        Ok(mut file) => read_full(&mut file, buffer),
+        Err(_) => Ok(0),
+    }
+}
+
+fn print_refusal(rt: &HostRuntime, number: u64, place: u64) -> io::Result<()> {
     let mut line = [0u8; LINE_BYTES];
     let n = put_refusal(&mut line, number, place);
-    io::write_all(STDOUT_FILENO, &line[..n]);
+    rt.stdout().write_all(&line[..n])
 }
 
 // The header, and then a line for each row that some path selects.
 fn print_rows(
+    rt: &HostRuntime,
     schema: &[u8],
     numbers: &[u16],
     codes: &[u8],
     parents: &[u16],
     firsts: &[u8],
     listed: Listed,
-)
+) -> io::Result<()>
     requires { RowsPrinted schema.now numbers.now codes.now parents.now firsts.now listed }
 {
     let mut line = [0u8; LINE_BYTES];
@@ -57,7 +74,7 @@ fn print_rows(
         listed.kept as u64,
         listed.rows as u64,
     );
-    io::write_all(STDOUT_FILENO, &line[..size]);
+    rt.stdout().write_all(&line[..size])?;
     let rows = listed.rows;
     let names = listed.names;
     let sizes = listed.sizes;
@@ -66,13 +83,14 @@ fn print_rows(
         let n = put_row(
             schema, &names, &sizes, codes, parents, numbers, firsts, r, &mut line,
         );
-        io::write_all(STDOUT_FILENO, &line[..n]);
+        rt.stdout().write_all(&line[..n])?;
         r += 1;
     }
+    Ok(())
 }
 
 // What the three texts give: a refusal alone, or the rows.
-fn print_listing(schema: &[u8], bundle: &[u8], journal: &[u8]) {
+fn print_listing(rt: &HostRuntime, schema: &[u8], bundle: &[u8], journal: &[u8]) -> io::Result<()> {
     let mut numbers = [0u16; LISTED_ROWS];
     let mut codes = [0u8; LISTED_ROWS];
     let mut parents = [0u16; LISTED_ROWS];
@@ -93,26 +111,26 @@ fn print_listing(schema: &[u8], bundle: &[u8], journal: &[u8]) {
         &mut firsts,
     );
     if listed.number != 0 {
-        print_refusal(listed.number, listed.place);
-        return;
+        return print_refusal(rt, listed.number, listed.place);
     }
     let rows = listed.rows;
     print_rows(
+        rt,
         schema,
         &numbers[..rows],
         &codes[..rows],
         &parents[..rows],
         &firsts[..rows],
         listed,
-    );
+    )
 }
 
-fn main() {
+fn main(rt: HostRuntime) -> io::Result<()> {
     let mut schema = [0u8; SCHEMA_BYTES];
     let mut bundle = [0u8; BUNDLE_BYTES];
     let mut journal = [0u8; JOURNAL_BYTES];
-    let s = read_file(b"schema.dtd", &mut schema);
-    let b = read_file(b"paths.txt", &mut bundle);
-    let j = read_file(b"journal.xml", &mut journal);
-    print_listing(&schema[..s], &bundle[..b], &journal[..j]);
+    let s = read_file(&rt, "schema.dtd", &mut schema)?;
+    let b = read_file(&rt, "paths.txt", &mut bundle)?;
+    let j = read_file(&rt, "journal.xml", &mut journal)?;
+    print_listing(&rt, &schema[..s], &bundle[..b], &journal[..j])
 }

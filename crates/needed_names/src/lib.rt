@@ -1,4 +1,6 @@
 // The names that a bundle needs: the union of what its paths need.
+#![tactic(auto)]
+
 pub mod alternatives;
 pub mod conditions;
 pub mod paths;

@@ -1,3 +1,5 @@
 // `read_journal_rows`: a journal read into lent row structs.
+#![tactic(auto)]
+
 pub mod columns;
 pub mod entry;

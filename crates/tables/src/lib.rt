@@ -1,4 +1,6 @@
 // Tables that are handed in as lent columns: the test of refusal 1, without a text beside them and with one.
+#![tactic(auto)]
+
 pub mod later_rows;
 pub mod range_tests;
 pub mod row_counts;

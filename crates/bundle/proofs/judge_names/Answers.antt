@@ -1,6 +1,5 @@
 -- `judge_names` meets its contract: 10, then acceptance.
 use mathlib.Core.List.{map}
-use borrow.Author.Rules.{rules}
 use Rattle.bundle.specs.Outcomes.{judge-room, judge-lost, judge-known, few-names}
 use Rattle.text_spec.specs.Scans.{name_at}
 use Rattle.bundle.proofs.judge_names.Goals as goal

@@ -14,41 +14,23 @@ loop-x-init c =
 
 pub read_row-next-requires : goal.read_row-next-requires
 read_row-next-requires c =
-    going-reads _ _ _ _ _ c.loop-x.invariant.0 c.loop-x-test.taken
+    going-reads _ _ _ _ _ c.loop-x.invariant.0 c.loop-x-test.true
 
 pub loop-x-smaller : goal.loop-x-smaller
-loop-x-smaller c = fewer-left _ _ _ _ _ c.loop-x.invariant.0 c.loop-x-test.taken _ refl _ _ _ c.read_row-next.ensures
+loop-x-smaller c = fewer-left _ _ _ _ _ c.loop-x.invariant.0 c.loop-x-test.true _ refl _ _ _ c.read_row-next.ensures
 
 pub loop-x-preserved : goal.loop-x-preserved
 loop-x-preserved c =
     let at = c.loop-x in
     (
       c.read_row-next.ensures.stands,
-      omega (arith, c.numbers-1.given, at.invariant.1),
-      omega (arith, c.names-1.given, at.invariant.2),
-      omega (arith, c.parents-1.given, at.invariant.3),
-      omega (arith, c.starts-1.given, at.invariant.4),
-      omega (arith, c.lengths-1.given, at.invariant.5),
-      omega (arith, c.decoded-1.given, at.invariant.6),
+      omega (arith, c.read_row-next.auto.numbers, at.invariant.1),
+      omega (arith, c.read_row-next.auto.names, at.invariant.2),
+      omega (arith, c.read_row-next.auto.parents, at.invariant.3),
+      omega (arith, c.read_row-next.auto.starts, at.invariant.4),
+      omega (arith, c.read_row-next.auto.lengths, at.invariant.5),
+      omega (arith, c.read_row-next.auto.decoded, at.invariant.6),
     )
-
-pub shape_of-numbers : goal.shape_of-numbers
-shape_of-numbers c = c.loop-x.invariant.1
-
-pub shape_of-names : goal.shape_of-names
-shape_of-names c = c.loop-x.invariant.2
-
-pub shape_of-parents : goal.shape_of-parents
-shape_of-parents c = c.loop-x.invariant.3
-
-pub shape_of-starts : goal.shape_of-starts
-shape_of-starts c = c.loop-x.invariant.4
-
-pub shape_of-lengths : goal.shape_of-lengths
-shape_of-lengths c = c.loop-x.invariant.5
-
-pub shape_of-decoded : goal.shape_of-decoded
-shape_of-decoded c = c.loop-x.invariant.6
 
 pub returns : goal.returns
 returns c =

@@ -10,7 +10,6 @@ use Rattle.extract_writer.specs.fields.Fields.{whole_characters, stored, stored-
 use Rattle.extract_writer.specs.rows.Rows.{StoredAt}
 use Rattle.journal_lexer.specs.whole_entities.Entities.{begins_at, EntityAfter, whole, itself, whole_split, whole-inside}
 use Rattle.table_spec.specs.Rows.{characters_by}
-use Rattle.text_spec.specs.Lists.{bytes}
 use Rattle.token_laws.specs.Characters.{decode-entity, decode-other, decode-filled}
 use Rattle.token_spec.specs.Characters.{decode}
 

@@ -1,6 +1,6 @@
 -- The bytes of an extract's fields, written from a place on.
 use Rattle.std.specs.Prelude.{List, [], ◌∷◌, ◌++◌, ◌≡◌, refl, ℕ, ◌+◌, ◌/◌, ◌%◌, ◌≤◌, length, set}
-use Rattle.std.proofs.Common.{sym, ap, subst, ◌∙◌, arith, length-set}
+use Rattle.std.proofs.Common.{sym, ap, ◌∙◌, arith, length-set}
 use Rattle.std.proofs.lemmas.List.Edits.{sets}
 use Rattle.std.proofs.Math.Seq.{length-sets}
 use Rattle.cells.specs.written_text.Written.{WrittenAt}

@@ -19,7 +19,6 @@ use Rattle.table_spec.specs.Columns.{Columns}
 use Rattle.text_spec.specs.Calls.{in_room, cells_after}
 use Rattle.text_spec.specs.Cells.{too_small}
 use Rattle.text_spec.specs.Limits.{max_declarations}
-use Rattle.text_spec.specs.Refusals.{at}
 
 -- ---- definitions
 unfoldable pub extract_in : List ℕ → Columns → List ℕ → List ℕ

@@ -15,7 +15,6 @@ use Rattle.library_spec.specs.Calls.{columns_after}
 use Rattle.schema_laws.specs.Accepted.{accepted-spelt, accepted-length, schema_in-by, schema_in-length}
 use Rattle.schema_spec.specs.Reading.{read_schema}
 use Rattle.schema_spec.specs.Records.{schema_in}
-use Rattle.schema_spec.specs.Schemas.{Schema}
 use Rattle.table_spec.specs.Columns.{Columns, sizes_of}
 use Rattle.text.specs.name_words.Words.{words_of, name_at as words_at}
 use Rattle.text_laws.specs.Texts.{length-within}

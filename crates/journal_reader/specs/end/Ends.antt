@@ -1,5 +1,5 @@
 -- What the end of a text leaves: the outcome by its key, and the rows in the columns.
-use Rattle.std.specs.Prelude.{not, List, reverse, ◌≡◌, refl, ℕ, ◌≤◌, ◌<◌, eqb, ltb, length}
+use Rattle.std.specs.Prelude.{not, List, reverse, ◌≡◌, ℕ, ◌≤◌, ◌<◌, eqb, ltb, length}
 use Rattle.std.proofs.Common.{sym, ap, subst, ◌∙◌, arith}
 use Rattle.std.proofs.lemmas.List.{length-reverse}
 use Rattle.journal_builder.specs.build_state.State.{Built}

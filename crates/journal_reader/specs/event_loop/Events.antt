@@ -1,5 +1,5 @@
 -- What reading some events of a text, and all of them, leaves.
-use Rattle.std.specs.Prelude.{List, ◌⊎◌, ◌≡◌, ℕ, ◌-◌, ◌≤◌, ◌<◌, length}
+use Rattle.std.specs.Prelude.{List, ◌⊎◌, ◌≡◌, ℕ, ◌≤◌, ◌<◌, length}
 use Rattle.std.proofs.Common.{inl, inr, sym, ap, subst, ◌∙◌, arith}
 use Rattle.journal_builder.specs.event_handling.Events.{SchemaCells, CellsOf}
 use Rattle.journal_lexer.specs.loop_laws.Advance.{foreign_below}

@@ -1,9 +1,9 @@
 -- Reading a whole journal: from cleared columns and the state before the first byte to the outcome.
-use Rattle.std.specs.Prelude.{List, [], ◌∷◌, ◌≡◌, refl, ℕ, ◌≤◌, ◌<◌, length}
-use Rattle.std.proofs.Common.{sym, subst, arith}
+use Rattle.std.specs.Prelude.{List, [], ◌∷◌, ◌≡◌, refl, ℕ, ◌≤◌, length}
+use Rattle.std.proofs.Common.{arith}
 use Rattle.cells.specs.columns.Columns.{EqualColumns}
 use Rattle.cells.specs.lent.Ends.{Slice, entry_columns, exit_columns}
-use Rattle.journal_builder.specs.build_state.State.{Built, build, Safe}
+use Rattle.journal_builder.specs.build_state.State.{Built, build}
 use Rattle.journal_builder.specs.event_handling.Events.{SchemaCells, CellsOf}
 use Rattle.journal_builder.specs.fillings.Fillings.{Shared}
 use Rattle.journal_builder.specs.open_levels.Levels.{AllLevels}

@@ -1,11 +1,11 @@
 -- What the end of a text does to the lexer's state: its event, and what is misspelt.
-use Rattle.std.specs.Prelude.{Bool, true, false, cond, List, [], ◌∷◌, ◌⊎◌, ◌≡◌, refl, ℕ, zero, suc, ◌-◌, ◌≤◌, ◌<◌, leb, ltb, length, get_or, set}
-use Rattle.std.proofs.Common.{true≢false, inl, inr, sym, ap, subst, ◌∙◌, arith, leb-true, le-ltb, length-set}
+use Rattle.std.specs.Prelude.{Bool, true, false, cond, List, [], ◌∷◌, ◌⊎◌, ◌≡◌, refl, ℕ, zero, suc, ◌-◌, ◌≤◌, leb, ltb, length, set}
+use Rattle.std.proofs.Common.{true≢false, inl, inr, sym, ◌∙◌, arith, leb-true, le-ltb, length-set}
 use Rattle.journal_lexer.specs.declared.state.Lex.{Lex}
-use Rattle.journal_lexer.specs.state.Places.{no_place, tag_at, run_start, foreign_at, run_of, tag-run, tag-other, tag-first}
+use Rattle.journal_lexer.specs.state.Places.{tag_at, run_start, foreign_at, run_of, tag-run, tag-other, tag-first}
 use Rattle.journal_lexer.specs.state.Relation.{Means, state_of, MeansMode, TellsEvent}
 use Rattle.text.specs.declared.name_words.Name.{Name}
-use Rattle.token_spec.specs.Lexer.{Mode, Event, quiet, runs, last_event, misspelt_at}
+use Rattle.token_spec.specs.Lexer.{Mode, quiet, runs, last_event, misspelt_at}
 
 -- the modes of character data, by their numbers
 abbrev pub is_data_mode : ℕ → Bool

@@ -11,7 +11,7 @@ use Rattle.journal_spec.specs.Reading.{Machine}
 use Rattle.schema_spec.specs.Schemas.{Schema}
 use Rattle.text.specs.fault_keys.KeyLaws.{least-bound}
 use Rattle.text.specs.fault_keys.Keys.{no_key, place_limit, key_at, least_key, noted_key, Placed}
-use Rattle.text_spec.specs.Lists.{is_empty, is_none, list_of}
+use Rattle.text_spec.specs.Lists.{is_empty, list_of}
 use Rattle.text_spec.specs.Refusals.{all_at, misspelt}
 use Rattle.token_spec.specs.Lexer.{misspelt_at}
 

@@ -1,6 +1,6 @@
 -- Columns that hold the rows built so far hold them after a step, too.
-use Rattle.std.specs.Prelude.{cond, ◌≡◌, refl, ℕ, suc, ◌%◌, length}
-use mathlib.Core.List.{List, [], ◌∷◌, ◌++◌, reverse, reverse-cons}
+use Rattle.std.specs.Prelude.{◌≡◌, ℕ, ◌%◌, length}
+use mathlib.Core.List.{List, reverse, reverse-cons}
 use Rattle.std.proofs.Common.{sym, ap, subst, ◌∙◌, arith}
 use Rattle.std.proofs.lemmas.List.{length-reverse}
 use Rattle.cells.specs.columns.ColumnLaws.{columns-more, equal-more}

@@ -1,9 +1,9 @@
 -- One event more, one byte more.
-use Rattle.std.specs.Prelude.{Bool, true, false, cond, List, [], ◌∷◌, ◌++◌, reverse, ◌⊎◌, ◌≡◌, refl, ℕ, zero, suc, min, ◌+◌, ◌≤◌, ◌<◌, eqb, length, get_or}
-use Rattle.std.proofs.Common.{inl, inr, sym, ap, subst, ◌∙◌, add-one, arith, eqb-true, eq-eqb, ne_eqb}
+use Rattle.std.specs.Prelude.{Bool, true, false, cond, List, [], ◌∷◌, ◌++◌, reverse, ◌⊎◌, ◌≡◌, refl, ℕ, zero, suc, ◌≤◌, ◌<◌, eqb, get_or}
+use Rattle.std.proofs.Common.{inl, inr, sym, ap, subst, ◌∙◌, add-one, arith, ne_eqb}
 use Rattle.std.proofs.Math.Option.{Option, none, some}
 use Rattle.std.proofs.lemmas.Bool.{eqb-false}
-use Rattle.journal_builder.specs.build_state.State.{Built, Leaves, SafeStep}
+use Rattle.journal_builder.specs.build_state.State.{Built, Leaves}
 use Rattle.journal_builder.specs.declared.build_state.Build.{Build}
 use Rattle.journal_builder.specs.declared.build_state.BuildStep.{BuildStep}
 use Rattle.journal_laws.specs.Derivations.{Clean, clean-event}
@@ -14,19 +14,18 @@ use Rattle.journal_lexer.specs.state.Places.{no_place, foreign_at}
 use Rattle.journal_lexer.specs.state.Relation.{first_foreign, MeansMode, Meant}
 use Rattle.journal_reader.specs.declared.state.ReaderState.{ReaderState}
 use Rattle.journal_reader.specs.rows.Rows.{RowAdded}
-use Rattle.journal_reader.specs.state.Reading.{foreign_key, ForeignCell, Usable, ReadAs}
+use Rattle.journal_reader.specs.state.Reading.{ForeignCell, Usable, ReadAs}
 use Rattle.journal_spec.specs.Builder.{Building, on_event}
 use Rattle.journal_spec.specs.Reading.{Machine, step}
 use Rattle.schema_spec.specs.Schemas.{Schema}
 use Rattle.table_spec.specs.Columns.{Columns, Sizes, columns_of}
-use Rattle.table_spec.specs.Rows.{Row}
-use Rattle.text.specs.fault_keys.KeyLaws.{key_below, least-bound, least-given, placed-given}
-use Rattle.text.specs.fault_keys.Keys.{no_key, place_limit, key_at, key_of, least_key, noted_key, Placed}
+use Rattle.text.specs.fault_keys.KeyLaws.{key_below}
+use Rattle.text.specs.fault_keys.Keys.{no_key, place_limit, key_at, least_key, Placed}
 use Rattle.text_laws.specs.Lists.{append-empty}
 use Rattle.text_spec.specs.Bytes.{is_foreign}
 use Rattle.text_spec.specs.Lists.{list_of}
 use Rattle.text_spec.specs.Refusals.{Refusal, at, given, bad_byte}
-use Rattle.token_spec.specs.Lexer.{Mode, Event, Lexed, lex}
+use Rattle.token_spec.specs.Lexer.{Event, Lexed, lex}
 
 -- ---- the first foreign byte
 pub no-foreign : ForeignCell no_place 0 []

@@ -1,7 +1,7 @@
 -- Columns that have some written steps, the last part of a written step as it is analysed, and what is inferred after it.
 use Rattle.std.specs.Prelude.{List, ◌≡◌, ℕ, ◌+◌, ◌≤◌, ◌<◌, length, get_or}
-use Rattle.cells.specs.lent.Ends.{Slice}
 use Rattle.compiled_paths.specs.Columns.{test_of, axis_at, condition_at}
+use Rattle.compiled_paths.specs.Paths.{Lent}
 use Rattle.inference.specs.written_steps.Parts.{last_part, before_last}
 use Rattle.inference_spec.specs.Needed.{keeps_name}
 use Rattle.inference_spec.specs.Types.{Env, infer}
@@ -22,7 +22,7 @@ module _ (axes tests conditions : List ℕ) where
     pub conditions-inside : (j : ℕ) → get_or conditions j 0 ≤ length axes
 
 -- the type and the context after the step k of lent columns
-abbrev pub after_step : Schema → Slice → Slice → Slice → ℕ → ℕ → Env → Env
+abbrev pub after_step : Schema → Lent → Lent → Lent → ℕ → ℕ → Env → Env
 after_step s axes tests conditions i k e =
     infer (types_of s) (keeps_name (types_of s)) (last_at axes.entry.now tests.entry.now conditions.entry.now i k)
     (before_last (types_of s) (axis_at axes.entry.now k) e)

@@ -1,10 +1,8 @@
 -- Images cut to a set, the root among what it reaches, and the set of the root alone.
-use Rattle.std.specs.Prelude.{Bool, true, false, ◌&&◌, ◌||◌, List, [], ◌∷◌, ◌≡◌, refl, ℕ, ◌<◌, ◌≤◌, T, ltb, length, get_or}
+use Rattle.std.specs.Prelude.{Bool, true, false, ◌&&◌, ◌||◌, List, [], ◌∷◌, ◌≡◌, refl, ℕ, ◌<◌, T, ltb, length, get_or}
 use Rattle.std.proofs.Math.Bool.{and-true}
 use Rattle.std.proofs.Common.{sym, ap, ap₂, subst, ◌∙◌, arith, lt-ltb, ltb-true, ltb-false}
-use Rattle.std.proofs.Math.ListN.{get_or-eq_default}
 use Rattle.inference.specs.type_steps.Relations.{RelationsOf}
-use Rattle.names.specs.SetLaws.{nothing-in}
 use Rattle.names.specs.Sets.{member, nothing, set_in}
 use Rattle.names.specs.closures.Relations.{relates, NonePast}
 use Rattle.names.specs.closures.Schemas.{holds-none-past}

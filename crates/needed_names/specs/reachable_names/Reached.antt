@@ -1,5 +1,5 @@
 -- The last filter over words: what each element holds inside a set, and what is reached from the root that way.
-use Rattle.std.specs.Prelude.{Bool, ◌&&◌, ◌||◌, ◌↔◌, ◌≡◌, refl, ℕ, ◌≤◌, length}
+use Rattle.std.specs.Prelude.{Bool, ◌&&◌, ◌||◌, ◌↔◌, ◌≡◌, refl, ℕ, length}
 use mathlib.Core.List.{List, Memᴰ as In}
 use Rattle.std.proofs.Common.{sym, arith}
 use Rattle.std.proofs.Math.Path.{subst}

@@ -1,5 +1,5 @@
 -- What compiled paths need under a compiled schema.
-use Rattle.std.specs.Prelude.{◌≡◌, length}
+use Rattle.std.specs.Prelude.{◌≡◌}
 use Rattle.compiled_paths.specs.Paths.{paths_in}
 use Rattle.compiled_paths.specs.declared.CompiledPaths.{CompiledPaths}
 use Rattle.compiled_schema.specs.declared.CompiledSchema.{CompiledSchema}

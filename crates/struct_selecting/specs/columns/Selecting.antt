@@ -17,6 +17,7 @@ use Rattle.selection.specs.answers.Answers.{AnsweredSelections, RefusedBy, refus
 use Rattle.selection.specs.declared.answers.Selected.{Selected}
 use Rattle.table_spec.specs.Columns.{Columns, all_of_size, sizes_of}
 use Rattle.table_spec.specs.Rows.{Row, Cells}
+use Rattle.tables.specs.Handed.{ReadSlice}
 use Rattle.text_spec.specs.Calls.{tested, handed, in_room}
 use Rattle.text_spec.specs.Cells.{too_small}
 use Rattle.text_spec.specs.Limits.{max_nodes}
@@ -24,7 +25,7 @@ use Rattle.text_spec.specs.Records.{TextRecord}
 use Rattle.text_spec.specs.Refusals.{Outcome, refused, at, bad_record}
 
 -- a call on so many row structs, as many of them laid in columns as a table can have
-abbrev pub SelectsRows : TextRecord → TextRecord → ℕ → Columns → ℕ → Slice → Slice → Slice → Selected → Type 0
+abbrev pub SelectsRows : TextRecord → TextRecord → ℕ → Columns → ℕ → ReadSlice → Slice → Slice → Selected → Type 0
 SelectsRows schema bundle place columns count lent items counts r =
     (rows : List Cells) → length rows ≡ count → Laid rows columns → AnsweredCells (nodes_selected_rows schema bundle place rows lent.entry.now) r items counts
 

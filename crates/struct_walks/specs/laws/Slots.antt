@@ -4,7 +4,7 @@ use Rattle.std.specs.Prelude.{◌≡◌, T as Holds, length, get_or, replicate, 
 use Rattle.std.proofs.Math.Path.{refl}
 use Rattle.std.proofs.Common.{sym, ap, subst, lt→ltb}
 use Prim.Native.Nat.{ℕ, zero, suc, ◌<◌, ◌^◌}
-use seplogic.Ra.TreeShare.{full_share}
+use base.Fraction.{full_share}
 use seplogic.Ra.Ura.{Ura}
 use Rattle.std.proofs.lemmas.List.{length-replicate}
 use base.Fml.{fat, froom, fsep}
@@ -52,7 +52,7 @@ pub zeros-are : (w : Width) (n : ℕ) → 0 < 2 ^ bits w → Numbers w n (zeros 
 unfolding zeros numbers_val
 zeros-are w n l = (map (vint w) (replicate n 0), ((refl, length-replicate n 0), each-zero w l n))
 
-map-zeros : (w : Width) (n : ℕ) → replicate n (vint w 0) ≡ map (vint w) (replicate n 0)
+map-zeros : (w : Width) (n : ℕ) → replicate {A = Val} n (vint w 0) ≡ map (vint w) (replicate n 0)
 map-zeros w zero = refl
 map-zeros w (suc n) = ap (λ (vs : List Val). vint w 0 ∷ vs) (map-zeros w n)
 

@@ -1,9 +1,8 @@
 -- `is_table` meets its contract: columns that do not fit, or the pass over their rows.
-use mathlib.Core.Bool.{true}
-use mathlib.Core.Path.{◌≡◌, sym, ◌∙◌}
+use mathlib.Core.Path.{sym, ◌∙◌}
 use borrow.Author.Tests.{not-true, not-false}
 use Rattle.library_spec.specs.Records.{LentTable}
-use Rattle.tables.specs.Handed.{lent_table, sizes_fit, fit-lent, held-unfit, held-fit}
+use Rattle.tables.specs.Handed.{lent_table, fit-lent, held-unfit, held-fit}
 use Rattle.tables.proofs.is_table.Goals.{Start}
 use Rattle.tables.proofs.is_table.Goals as goal
 

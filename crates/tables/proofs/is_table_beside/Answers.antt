@@ -1,9 +1,8 @@
 -- `is_table_beside` meets its contract: columns that do not fit, rows that do not, or the texts.
-use mathlib.Core.Bool.{true}
-use mathlib.Core.Path.{◌≡◌, sym, ◌∙◌}
+use mathlib.Core.Path.{sym, ◌∙◌}
 use borrow.Author.Tests.{not-true, not-false}
 use Rattle.library_spec.specs.Records.{LentTable}
-use Rattle.tables.specs.Handed.{lent_table, sizes_fit, fit-lent, beside-unfit, beside-ill, beside-well}
+use Rattle.tables.specs.Handed.{lent_table, fit-lent, beside-unfit, beside-ill, beside-well}
 use Rattle.tables.proofs.is_table_beside.Goals.{Start}
 use Rattle.tables.proofs.is_table_beside.Goals as goal
 

@@ -1,6 +1,5 @@
 -- `judge_bundle` meets its contract: 2, then 3, then the others.
 use mathlib.Core.List.{map}
-use borrow.Author.Rules.{rules}
 use Rattle.bundle.specs.Outcomes.{judge-empty, judge-long, judge-foreign, readable}
 use Rattle.text_spec.specs.Scans.{name_at}
 use Rattle.bundle.proofs.byte_judging.judge_bundle.Goals as goal

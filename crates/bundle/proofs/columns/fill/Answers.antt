@@ -1,5 +1,4 @@
 -- `fill` meets its contract.
-use borrow.Author.Rules.{rules}
 use Rattle.bundle.proofs.columns.Columns.{filled-from}
 use Rattle.bundle.proofs.columns.fill.Goals as goal
 

@@ -1,11 +1,8 @@
 -- `mark_last` meets its contract: what is left are the marks from the end i on.
-use mathlib.Core.Path.{◌≡◌, refl, ◌∙◌}
-use Prim.Native.Nat.{◌-◌, ◌≤◌}
+use mathlib.Core.Path.{refl, ◌∙◌}
 use native.Mathlib.Omega.{arith}
-use borrow.Author.Rules.{rules}
-use lib.ListN.{length, drop, length-set}
+use lib.ListN.{length-set}
 use Rattle.bundle.proofs.last_steps.Marks.{marked_next, marked_all}
-use Rattle.bundle.specs.last_steps.Marks.{marked}
 use Rattle.bundle.proofs.last_steps.mark_last.Goals as goal
 
 pub loop-i-init : goal.loop-i-init

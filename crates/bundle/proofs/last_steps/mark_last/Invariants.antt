@@ -1,10 +1,7 @@
 -- `mark_last` meets its contract: what is left are the marks from the end i on.
-use mathlib.Core.Path.{◌≡◌, refl, ◌∙◌}
+use mathlib.Core.Path.{◌≡◌}
 use Prim.Native.Nat.{◌-◌, ◌≤◌}
-use native.Mathlib.Omega.{arith}
-use borrow.Author.Rules.{rules}
-use lib.ListN.{length, drop, length-set}
-use Rattle.bundle.proofs.last_steps.Marks.{marked_next, marked_all}
+use lib.ListN.{length, drop}
 use Rattle.bundle.specs.last_steps.Marks.{marked}
 use Rattle.bundle.proofs.last_steps.mark_last.Given as goal
 

@@ -1,10 +1,7 @@
 -- `compile_steps` meets its contract: the first i steps are compiled.
 use mathlib.Core.List.{map}
-use Prim.Native.Nat.{◌-◌, ◌≤◌}
 use native.Mathlib.Omega.{arith}
-use borrow.Author.Rules.{rules}
-use lib.ListN.{length}
-use Rattle.bundle.proofs.names_in_tests.Columns.{CompiledTo, compiled-first, compiled-all, compiled-sizes, compiled-next}
+use Rattle.bundle.proofs.names_in_tests.Columns.{compiled-first, compiled-all, compiled-sizes, compiled-next}
 use Rattle.text_spec.specs.Scans.{name_at}
 use Rattle.bundle.proofs.names_in_tests.compile_steps.Goals as goal
 

@@ -1,5 +1,4 @@
 -- `compile_test` meets its contract: the two tests that are called, then the name.
-use borrow.Author.Rules.{rules}
 use Rattle.bundle.proofs.names_in_tests.Columns.{test-node, test-text, test-lost, test-named}
 use Rattle.bundle.proofs.names_in_tests.compile_test.Goals as goal
 

@@ -1,6 +1,5 @@
 -- `answer_of` meets its contract.
 use mathlib.Core.Path.{sym, ap}
-use borrow.Author.Rules.{rules}
 use Rattle.bundle.specs.reader.Records.{answer_of}
 use Rattle.bundle.proofs.reader.answer_of.Goals as goal
 

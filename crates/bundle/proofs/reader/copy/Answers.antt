@@ -1,9 +1,8 @@
 -- `copy` meets its contract: the first i bytes are copied.
-use mathlib.Core.List.{map, map-id}
+use mathlib.Core.List.{map-id}
 use mathlib.Core.Path.{◌≡◌, refl, ap, ◌∙◌}
-use Prim.Native.Nat.{ℕ, ◌-◌, ◌≤◌}
+use Prim.Native.Nat.{ℕ}
 use native.Mathlib.Omega.{arith}
-use borrow.Author.Rules.{rules}
 use lib.ListN.{length, take, length-set}
 use lib.Seq.{sets, take-length}
 use Rattle.bundle.specs.names_in_tests.Columns.{column-next-first}

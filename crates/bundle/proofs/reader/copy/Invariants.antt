@@ -1,12 +1,9 @@
 -- `copy` meets its contract: the first i bytes are copied.
-use mathlib.Core.List.{map, map-id}
-use mathlib.Core.Path.{◌≡◌, refl, ap, ◌∙◌}
-use Prim.Native.Nat.{ℕ, ◌-◌, ◌≤◌}
-use native.Mathlib.Omega.{arith}
-use borrow.Author.Rules.{rules}
-use lib.ListN.{length, take, length-set}
-use lib.Seq.{sets, take-length}
-use Rattle.bundle.specs.names_in_tests.Columns.{column-next-first}
+use mathlib.Core.List.{map}
+use mathlib.Core.Path.{◌≡◌}
+use Prim.Native.Nat.{◌-◌, ◌≤◌}
+use lib.ListN.{length, take}
+use lib.Seq.{sets}
 use Rattle.bundle.proofs.reader.copy.Given as goal
 
 abbrev pub invariant-loop-i : goal.invariant-loop-i

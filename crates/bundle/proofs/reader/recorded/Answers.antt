@@ -1,7 +1,6 @@
 -- `recorded` meets its contract.
 use mathlib.Core.Path.{refl}
 use native.Mathlib.Omega.{arith}
-use borrow.Author.Rules.{rules}
 use Rattle.bundle.proofs.reader.Records.{copied}
 use Rattle.bundle.proofs.reader.recorded.Goals as goal
 

@@ -1,7 +1,5 @@
 -- `is_bundle_record` meets its contract: the schema's record, the cells, then the text.
 use mathlib.Core.Path.{sym, ◌∙◌}
-use borrow.Author.Rules.{rules}
-use borrow.Author.Tests.{not-true, not-false}
 use lib.ListN.{take}
 use Rattle.bundle.proofs.record_tests.Records.{text-low, test-no-schema, test-no-text, test-text}
 use Rattle.schema_reader.specs.Records.{passes_record}

@@ -1,11 +1,7 @@
 -- `bracket_starts` meets its contract: the first i starts are written.
-use mathlib.Core.List.{map}
-use mathlib.Core.Path.{◌≡◌, refl, ◌∙◌}
-use Prim.Native.Nat.{◌-◌, ◌≤◌}
+use mathlib.Core.Path.{refl, ◌∙◌}
 use native.Mathlib.Omega.{arith}
-use borrow.Author.Rules.{rules}
-use lib.ListN.{length, take, get_or, length-set}
-use lib.Seq.{sets}
+use lib.ListN.{get_or, length-set}
 use Rattle.bundle.specs.names_in_tests.Columns.{column-next-first, column-whole}
 use Rattle.bundle.specs.step_starts.Starts.{bracket_start}
 use Rattle.bundle.proofs.step_starts.bracket_starts.Goals as goal

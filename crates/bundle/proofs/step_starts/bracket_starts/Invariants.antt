@@ -1,12 +1,9 @@
 -- `bracket_starts` meets its contract: the first i starts are written.
 use mathlib.Core.List.{map}
-use mathlib.Core.Path.{◌≡◌, refl, ◌∙◌}
+use mathlib.Core.Path.{◌≡◌}
 use Prim.Native.Nat.{◌-◌, ◌≤◌}
-use native.Mathlib.Omega.{arith}
-use borrow.Author.Rules.{rules}
-use lib.ListN.{length, take, get_or, length-set}
+use lib.ListN.{length, take}
 use lib.Seq.{sets}
-use Rattle.bundle.specs.names_in_tests.Columns.{column-next-first, column-whole}
 use Rattle.bundle.specs.step_starts.Starts.{bracket_start}
 use Rattle.bundle.proofs.step_starts.bracket_starts.Given as goal
 

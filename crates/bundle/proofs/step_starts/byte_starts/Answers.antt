@@ -1,11 +1,8 @@
 -- `byte_starts` meets its contract: the first i starts are copied.
-use mathlib.Core.List.{map, map-id}
-use mathlib.Core.Path.{◌≡◌, refl, ◌∙◌}
-use Prim.Native.Nat.{◌-◌, ◌≤◌}
+use mathlib.Core.List.{map-id}
+use mathlib.Core.Path.{refl, ◌∙◌}
 use native.Mathlib.Omega.{arith}
-use borrow.Author.Rules.{rules}
-use lib.ListN.{length, take, length-set}
-use lib.Seq.{sets}
+use lib.ListN.{length-set}
 use Rattle.bundle.specs.names_in_tests.Columns.{column-next-first, column-whole}
 use Rattle.bundle.proofs.step_starts.byte_starts.Goals as goal
 

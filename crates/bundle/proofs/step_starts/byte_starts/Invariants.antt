@@ -1,12 +1,9 @@
 -- `byte_starts` meets its contract: the first i starts are copied.
-use mathlib.Core.List.{map, map-id}
-use mathlib.Core.Path.{◌≡◌, refl, ◌∙◌}
+use mathlib.Core.List.{map}
+use mathlib.Core.Path.{◌≡◌}
 use Prim.Native.Nat.{◌-◌, ◌≤◌}
-use native.Mathlib.Omega.{arith}
-use borrow.Author.Rules.{rules}
-use lib.ListN.{length, take, length-set}
+use lib.ListN.{length, take}
 use lib.Seq.{sets}
-use Rattle.bundle.specs.names_in_tests.Columns.{column-next-first, column-whole}
 use Rattle.bundle.proofs.step_starts.byte_starts.Given as goal
 
 abbrev pub invariant-loop-i : goal.invariant-loop-i

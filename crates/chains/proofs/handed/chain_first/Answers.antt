@@ -1,6 +1,5 @@
 -- `chain_first` meets its contract: the first cells of the columns of names and parents give the chain, and the answer says whether there was room.
 use mathlib.Core.Path.{refl, sym}
-use borrow.Author.Rules.{rules}
 use lib.Seq.{length-take-le}
 use Rattle.chains.specs.handed.Answers.{sized-pass, sized-chain, written, too_few}
 use Rattle.chains.proofs.handed.chain_first.Goals as goal

@@ -1,6 +1,5 @@
 -- `chain_lent` meets its contract: the table and the position, the chain.
 use mathlib.Core.Path.{◌≡◌}
-use borrow.Author.Rules.{rules}
 use lib.ListN.{length}
 use Rattle.chains.specs.handed.Answers.{not-chained, may-be-chained, chain-answered}
 use Rattle.compiled_schema.specs.held_words.Words.{words-held}

@@ -1,5 +1,4 @@
 use native.Mathlib.Omega.{arith}
-use borrow.Author.Rules.{rules}
 use Rattle.chains.specs.lent.Answers.{answered-short, answered-whole}
 use Rattle.chains.proofs.lent.put_chain.Goals as goal
 

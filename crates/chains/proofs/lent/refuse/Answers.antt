@@ -1,5 +1,3 @@
-use native.Mathlib.Omega.{arith}
-use borrow.Author.Rules.{rules}
 use Rattle.cells.specs.lent.Cells.{all-cleared}
 use Rattle.chains.proofs.lent.refuse.Goals as goal
 

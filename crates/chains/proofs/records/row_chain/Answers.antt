@@ -21,7 +21,7 @@ passes : (c : Else-not-is_schema_record) → passes_record c.args.schema.bytes c
 passes c = sym c.is_schema_record.ensures ∙ not-false _ c.if-not-is_schema_record.false-raw
 
 inside : (c : Else-not-is_schema_record) → c.args.schema.len ≤ length c.args.schema.bytes
-inside c = 
+inside c =
     let schema = c.args.schema in
     let room : length schema.bytes ≡ max_schema_bytes = search rules in
     omega (arith, record-low schema.bytes schema.len (passes c))

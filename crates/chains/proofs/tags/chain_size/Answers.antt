@@ -1,6 +1,5 @@
 use native.Mathlib.Omega.{arith}
-use borrow.Author.Rules.{rules}
-use Rattle.chains.proofs.tags.Loops.{Climbing, climbing-first, climbing-next, climbing-fits, climbing-all}
+use Rattle.chains.proofs.tags.Loops.{climbing-first, climbing-next, climbing-fits, climbing-all}
 use Rattle.chains.proofs.tags.chain_size.Goals as goal
 
 pub loop-r-init : goal.loop-r-init

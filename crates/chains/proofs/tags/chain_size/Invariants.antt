@@ -1,6 +1,4 @@
-use native.Mathlib.Omega.{arith}
-use borrow.Author.Rules.{rules}
-use Rattle.chains.proofs.tags.Loops.{Climbing, climbing-first, climbing-next, climbing-fits, climbing-all}
+use Rattle.chains.proofs.tags.Loops.{Climbing}
 use Rattle.chains.proofs.tags.chain_size.Given as goal
 
 abbrev pub invariant-loop-r : goal.invariant-loop-r

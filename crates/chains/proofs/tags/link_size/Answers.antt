@@ -1,5 +1,4 @@
 use native.Mathlib.Omega.{arith}
-use borrow.Author.Rules.{rules}
 use Rattle.chains.specs.tags.Chains.{link-size-element, link-size-text}
 use Rattle.chains.proofs.tags.link_size.Goals as goal
 

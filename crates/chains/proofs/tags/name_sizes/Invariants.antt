@@ -1,9 +1,6 @@
 use Prim.Native.Nat.{◌-◌}
-use native.Mathlib.Omega.{arith}
-use borrow.Author.Rules.{rules}
 use lib.ListN.{length}
-use Rattle.chains.proofs.tags.Loops.{Sizing, sizing-next, sizing-all}
-use Rattle.text_laws.specs.Loops.{passed_first}
+use Rattle.chains.proofs.tags.Loops.{Sizing}
 use Rattle.chains.proofs.tags.name_sizes.Given as goal
 
 abbrev pub invariant-loop-e : goal.invariant-loop-e

@@ -1,8 +1,5 @@
 -- `put_link` meets its contract: `/`, then the element's name or `text()`.
-use mathlib.Core.Path.{◌∙◌}
 use native.Mathlib.Omega.{arith}
-use borrow.Author.Rules.{rules}
-use lib.ListN.{length-set}
 use Rattle.chains.proofs.tags.Links.{element-fits, element-room, element-written, text-room, text-written, slash-room}
 use Rattle.chains.proofs.tags.put_link.Goals as goal
 

@@ -1,7 +1,7 @@
 -- `write_chain` meets its contract: the root's link, or the chain of the row above and the row's link.
 use native.Mathlib.Omega.{arith}
 use Rattle.chains.proofs.writing.+write_chain.Goals as goal
-use Rattle.chains.specs.tags.Chains.{chained-root, chained-later, pass_up, pass-falls, pass-link, pass-root}
+use Rattle.chains.specs.tags.Chains.{chained-root, chained-later, pass_up, pass-link, pass-root}
 
 pub bounds-codes-0 : goal.bounds-codes-0
 bounds-codes-0 t c = omega (arith, c.requires.table.size, c.requires.table.within)

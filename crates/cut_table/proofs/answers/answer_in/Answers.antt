@@ -1,6 +1,5 @@
 -- `answer_in` meets its contract.
 use mathlib.Core.Path.{◌∙◌}
-use borrow.Author.Rules.{rules}
 use borrow.Author.Tests.{lt-ltb, le-ltb}
 use Rattle.cut_table.proofs.answers.answer_in.Goals as goal
 

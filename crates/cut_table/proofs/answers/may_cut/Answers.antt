@@ -1,5 +1,4 @@
 -- `may_cut` meets its contract.
-use borrow.Author.Rules.{rules}
 use borrow.Author.Tests.{not-true, not-false}
 use Rattle.cut_table.proofs.answers.Tests.{one-fails, other-decides}
 use Rattle.table_spec.specs.Columns.{equal_sizes}

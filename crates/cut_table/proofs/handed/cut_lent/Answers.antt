@@ -1,5 +1,4 @@
 -- `cut_lent` meets its contract: the table and the lent columns, the rows kept.
-use borrow.Author.Rules.{rules}
 use Rattle.cut_table.proofs.handed.Tests.{not-cut, may-be-cut, cut-answered}
 use Rattle.library_spec.specs.Records.{LentTable}
 use Rattle.table_spec.specs.Columns.{Columns, columns}

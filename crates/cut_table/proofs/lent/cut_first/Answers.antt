@@ -1,6 +1,5 @@
 -- `cut_first` meets its contract: the first cells of each column are cut, and the answer says whether there was room.
 use mathlib.Core.Path.{sym}
-use borrow.Author.Rules.{rules}
 use lib.Seq.{length-take-le}
 use Rattle.cut_table.proofs.lent.cut_first.Goals as goal
 

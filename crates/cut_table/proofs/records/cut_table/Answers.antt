@@ -1,6 +1,5 @@
 -- `cut_table` meets its contract: the record, then the rest.
 use mathlib.Core.Path.{sym, ◌∙◌}
-use borrow.Author.Rules.{rules}
 use borrow.Author.Tests.{not-true, not-false}
 use Rattle.compiled_schema.specs.records.Records.{passes-schema}
 use Rattle.cut_table.specs.laws.Answers.{refused-1, no_record, by-record}

@@ -11,7 +11,7 @@ pub overflow_mul-result : goal.overflow_mul-result
 overflow_mul-result c = omega (arith, c.type_inv.extract c.args.k, c.type_inv.extract (c.args.k + 1))
 
 pub overflow_cast-result-2 : goal.overflow_cast-result-2
-overflow_cast-result-2 c = omega (arith, c.shared_slice_known-1.given c.args.k, c.type_inv.extract (c.args.k + 1), c.shared_slice_known-1.given (c.args.k + 1), c.type_inv.extract c.args.k)
+overflow_cast-result-2 c = omega (arith, c.type_inv.extract (c.args.k + 1), c.type_inv.extract c.args.k)
 
 pub overflow_add-result-2 : goal.overflow_add-result-2
-overflow_add-result-2 c = omega (arith, c.shared_slice_known-1.given c.args.k, c.type_inv.extract (c.args.k + 1), c.shared_slice_known-1.given (c.args.k + 1), c.type_inv.extract c.args.k)
+overflow_add-result-2 c = omega (arith, c.type_inv.extract (c.args.k + 1), c.type_inv.extract c.args.k)

@@ -1,7 +1,6 @@
 -- `element_field` meets its contract: each test that fails is a wrong step, and all together the element's.
 use mathlib.Core.Path.{refl}
 use borrow.Author.Rules.{rules}
-use borrow.Author.Tests.{not-true, not-false}
 use Rattle.extract_reader.proofs.field_values.Values.{element-misfit, element-numbered, element-placed, element-accepted, value-level}
 use Rattle.extract_reader.proofs.field_values.element_field.Goals as goal
 
@@ -10,7 +9,7 @@ returns-then-size-ne5 c = element-misfit _ _ _ _ _ c.requires c.if-size-ne5.true
 
 pub returns-then-not-number_fits : goal.returns-then-not-number_fits
 returns-then-not-number_fits c =
-    element-numbered _ _ _ _ _ c.requires c.if-size-ne5.false _ _ _ _ c.two_bytes-number.ensures c.two_bytes.ensures refl c.level_of-depth.ensures _ c.number_fits.ensures (not-true _ c.if-not-number_fits.true-raw)
+    element-numbered _ _ _ _ _ c.requires c.if-size-ne5.false _ _ _ _ c.two_bytes-number.ensures c.two_bytes.ensures refl c.level_of-depth.ensures _ c.number_fits.ensures c.if-not-number_fits.true
 
 pub element_fits-requires : goal.element_fits-requires
 element_fits-requires c =
@@ -18,8 +17,8 @@ element_fits-requires c =
 
 pub returns-then-not-element_fits : goal.returns-then-not-element_fits
 returns-then-not-element_fits c =
-    element-placed _ _ _ _ _ c.requires c.if-size-ne5.false _ _ _ _ c.two_bytes-number.ensures c.two_bytes.ensures refl c.level_of-depth.ensures _ c.element_fits.ensures (not-true _ c.if-not-element_fits.true-raw)
+    element-placed _ _ _ _ _ c.requires c.if-size-ne5.false _ _ _ _ c.two_bytes-number.ensures c.two_bytes.ensures refl c.level_of-depth.ensures _ c.element_fits.ensures c.if-not-element_fits.true
 
 pub returns : goal.returns
 returns c =
-    element-accepted _ _ _ _ _ c.requires c.if-size-ne5.false _ _ _ _ c.two_bytes-number.ensures c.two_bytes.ensures refl c.level_of-depth.ensures _ _ c.number_fits.ensures (not-false _ c.if-not-number_fits.false-raw) c.element_fits.ensures (not-false _ c.if-not-element_fits.false-raw)
+    element-accepted _ _ _ _ _ c.requires c.if-size-ne5.false _ _ _ _ c.two_bytes-number.ensures c.two_bytes.ensures refl c.level_of-depth.ensures _ _ c.number_fits.ensures c.if-not-number_fits.false c.element_fits.ensures c.if-not-element_fits.false

@@ -2,7 +2,6 @@
 use Prim.Native.Nat.{◌-◌}
 use native.Mathlib.Omega.{arith}
 use borrow.Author.Rules.{rules}
-use borrow.Author.Tests.{not-true, not-false}
 use Rattle.extract_reader.proofs.field_values.Values.{text-under-five, text-over, text-numbered, text-placed, text-foreign, text-accepted, value-level}
 use Rattle.extract_reader.proofs.field_values.text_field.Goals as goal
 
@@ -14,7 +13,7 @@ returns-then-size c = text-over _ _ _ _ _ c.requires c.if-size.true
 
 pub returns-then-not-number_fits : goal.returns-then-not-number_fits
 returns-then-not-number_fits c =
-    text-numbered _ _ _ _ _ c.requires (c.args.size - 4) (omega arith) _ _ _ c.two_bytes-number.ensures c.two_bytes.ensures c.level_of-depth.ensures _ c.number_fits.ensures (not-true _ c.if-not-number_fits.true-raw)
+    text-numbered _ _ _ _ _ c.requires (c.args.size - 4) (omega arith) _ _ _ c.two_bytes-number.ensures c.two_bytes.ensures c.level_of-depth.ensures _ c.number_fits.ensures c.if-not-number_fits.true
 
 pub text_fits-requires : goal.text_fits-requires
 text_fits-requires c =
@@ -22,7 +21,7 @@ text_fits-requires c =
 
 pub returns-then-not-text_fits : goal.returns-then-not-text_fits
 returns-then-not-text_fits c =
-    text-placed _ _ _ _ _ c.requires (c.args.size - 4) (omega arith) _ _ _ c.two_bytes-number.ensures c.two_bytes.ensures c.level_of-depth.ensures _ c.text_fits.ensures (not-true _ c.if-not-text_fits.true-raw)
+    text-placed _ _ _ _ _ c.requires (c.args.size - 4) (omega arith) _ _ _ c.two_bytes-number.ensures c.two_bytes.ensures c.level_of-depth.ensures _ c.text_fits.ensures c.if-not-text_fits.true
 
 pub returns-then-any_foreign : goal.returns-then-any_foreign
 returns-then-any_foreign c =
@@ -30,4 +29,4 @@ returns-then-any_foreign c =
 
 pub returns : goal.returns
 returns c =
-    text-accepted _ _ _ _ _ c.requires (c.args.size - 4) (omega arith) _ _ _ c.two_bytes-number.ensures c.two_bytes.ensures _ c.any_foreign.ensures c.level_of-depth.ensures _ _ c.number_fits.ensures (not-false _ c.if-not-number_fits.false-raw) c.text_fits.ensures (not-false _ c.if-not-text_fits.false-raw) (omega arith) (omega arith) c.if-any_foreign.false
+    text-accepted _ _ _ _ _ c.requires (c.args.size - 4) (omega arith) _ _ _ c.two_bytes-number.ensures c.two_bytes.ensures _ c.any_foreign.ensures c.level_of-depth.ensures _ _ c.number_fits.ensures c.if-not-number_fits.false c.text_fits.ensures c.if-not-text_fits.false (omega arith) (omega arith) c.if-any_foreign.false

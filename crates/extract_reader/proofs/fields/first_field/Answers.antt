@@ -3,7 +3,6 @@ use mathlib.Core.Bool.{true}
 use mathlib.Core.Path.{◌≡◌, sym, ◌∙◌}
 use native.Mathlib.Omega.{arith}
 use borrow.Author.Rules.{rules}
-use borrow.Author.Tests.{not-true, not-false}
 use Rattle.extract_reader.specs.fields.FieldLaws.{length-inside, value-inside, first-none, first-root, first-other, first_ended, first-uncounted, first-tagged}
 use Rattle.projection_laws.specs.extract_passes.Steps.{has_field}
 use Rattle.extract_reader.proofs.fields.first_field.Goals.{Else-not-has_field}
@@ -11,10 +10,10 @@ use Rattle.extract_reader.proofs.fields.first_field.Goals as goal
 
 -- a whole field stands first
 stands : (c : Else-not-has_field) → has_field c.args.extract.now 0 ≡ true
-stands c = sym c.has_field.ensures ∙ not-false _ c.if-not-has_field.false-raw
+stands c = sym c.has_field.ensures ∙ c.if-not-has_field.false
 
 pub returns-then-not-has_field : goal.returns-then-not-has_field
-returns-then-not-has_field c = first-none _ (sym c.has_field.ensures ∙ not-true _ c.if-not-has_field.true-raw)
+returns-then-not-has_field c = first-none _ (sym c.has_field.ensures ∙ c.if-not-has_field.true)
 
 pub two_bytes-size-requires : goal.two_bytes-size-requires
 two_bytes-size-requires c = length-inside _ 0 (stands (goal.at.two_bytes-size-requires c).Else-not-has_field)

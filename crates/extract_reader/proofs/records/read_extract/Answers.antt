@@ -1,34 +1,13 @@
 -- `read_extract` meets its contract: the record, the columns, the extract.
-use mathlib.Core.Bool.{true}
-use mathlib.Core.Logic.{⊎_elim}
-use mathlib.Core.Path.{◌≡◌, sym, ◌∙◌}
+use mathlib.Core.Path.{sym, ◌∙◌}
 use Rattle.cells.specs.columns.ColumnLaws.{equal-columns}
 use Rattle.compiled_schema.specs.records.Records.{record_with, passes-schema}
-use Rattle.extract_reader.specs.records.Calls.{stated, call-no-record, call-no-columns, call-read}
-use Rattle.library_spec.specs.Records.{passes_schema}
+use Rattle.extract_reader.specs.records.Calls.{call-no-record, call-no-columns, call-read}
 use Rattle.schema_reader.specs.Sizes.{record-low}
-use Rattle.table_spec.specs.Columns.{Columns, columns}
+use Rattle.table_spec.specs.Columns.{columns}
 use Rattle.text_laws.specs.Tests.{passed}
-use Rattle.text_spec.specs.Records.{TextRecord}
-use Rattle.extract_reader.proofs.records.read_extract.Goals.{After-is_schema_record, Then-is_schema_record}
+use Rattle.extract_reader.proofs.records.read_extract.Goals.{then-is_schema_record+else-equal_sizes, else-is_schema_record}
 use Rattle.extract_reader.proofs.records.read_extract.Goals as goal
-
-abbrev held : After-is_schema_record → TextRecord
-held c = record_with c.args.schema.bytes c.args.schema.len
-
-abbrev lent : After-is_schema_record → Columns
-lent c = 
-    let at = c.args in
-    columns at.numbers.now at.names.now at.parents.now at.starts.now at.lengths.now at.decoded.now
-
-accepted : (c : Then-is_schema_record) → passes_schema (held c.before) ≡ true
-accepted c = sym (passes-schema (held c.before).cells (held c.before).size) ∙ sym c.is_schema_record.ensures ∙ c.if-is_schema_record.true
-
-pub is_schema_record-requires : goal.is_schema_record-requires
-is_schema_record-requires c = tt
-
-pub equal_sizes-requires : goal.equal_sizes-requires
-equal_sizes-requires c = tt
 
 pub schema_words-words-requires : goal.schema_words-words-requires
 schema_words-words-requires c =
@@ -37,59 +16,25 @@ schema_words-words-requires c =
 
 pub read_extract_table-requires : goal.read_extract_table-requires
 read_extract_table-requires c =
-    equal-columns _ (passed (sym c.equal_sizes.ensures ∙ c.if-equal_sizes.taken))
-
-pub shape_of-numbers-then-equal_sizes : goal.shape_of-numbers-then-equal_sizes
-shape_of-numbers-then-equal_sizes c = c.read_extract_table.auto.1.1.0
-
-pub shape_of-names-then-equal_sizes : goal.shape_of-names-then-equal_sizes
-shape_of-names-then-equal_sizes c = c.read_extract_table.auto.1.1.1.0
-
-pub shape_of-parents-then-equal_sizes : goal.shape_of-parents-then-equal_sizes
-shape_of-parents-then-equal_sizes c = c.read_extract_table.auto.1.1.1.1.0
-
-pub shape_of-starts-then-equal_sizes : goal.shape_of-starts-then-equal_sizes
-shape_of-starts-then-equal_sizes c = c.read_extract_table.auto.1.1.1.1.1.0
-
-pub shape_of-lengths-then-equal_sizes : goal.shape_of-lengths-then-equal_sizes
-shape_of-lengths-then-equal_sizes c = c.read_extract_table.auto.1.1.1.1.1.1.0
-
-pub shape_of-decoded-then-equal_sizes : goal.shape_of-decoded-then-equal_sizes
-shape_of-decoded-then-equal_sizes c = c.read_extract_table.auto.1.1.1.1.1.1.1.0
+    equal-columns _ (passed (sym c.equal_sizes.ensures ∙ c.if-equal_sizes.true))
 
 pub returns-then-equal_sizes : goal.returns-then-equal_sizes
 returns-then-equal_sizes c =
-    let extract = c.args.extract.now in
-    stated (call-read (held (goal.at.returns-then-equal_sizes c).After-is_schema_record) extract (lent (goal.at.returns-then-equal_sizes c).After-is_schema_record) _ _ (accepted (goal.at.returns-then-equal_sizes c).Then-is_schema_record) (sym c.equal_sizes.ensures ∙ c.if-equal_sizes.taken) _ c.schema_words-words.ensures c.read_extract_table.ensures)
-
-pub clear-requires : goal.clear-requires
-clear-requires c = tt
-
-pub refused-requires : goal.refused-requires
-refused-requires c = tt
-
-pub shape_of-numbers : goal.shape_of-numbers
-shape_of-numbers c = c.clear.auto.0
-
-pub shape_of-names : goal.shape_of-names
-shape_of-names c = c.clear.auto.1.0
-
-pub shape_of-parents : goal.shape_of-parents
-shape_of-parents c = c.clear.auto.1.1.0
-
-pub shape_of-starts : goal.shape_of-starts
-shape_of-starts c = c.clear.auto.1.1.1.0
-
-pub shape_of-lengths : goal.shape_of-lengths
-shape_of-lengths c = c.clear.auto.1.1.1.1.0
-
-pub shape_of-decoded : goal.shape_of-decoded
-shape_of-decoded c = c.clear.auto.1.1.1.1.1.0
+    let at = c.args in
+    let call = call-read (record_with at.schema.bytes at.schema.len) at.extract.now (columns at.numbers.now at.names.now at.parents.now at.starts.now at.lengths.now at.decoded.now) _ _
+    (sym (passes-schema at.schema.bytes at.schema.len) ∙ sym c.is_schema_record.ensures ∙ c.if-is_schema_record.true) (sym c.equal_sizes.ensures ∙ c.if-equal_sizes.true) _ c.schema_words-words.ensures c.read_extract_table.ensures in
+    record { value = call.answer; left_rows = call.cells }
 
 pub returns : goal.returns
 returns c =
-    let cleared = c.clear.ensures in
-    let extract = c.args.extract.now in
-    ⊎_elim (λ w. stated (call-no-columns (held (goal.at.returns c).After-is_schema_record) extract (lent (goal.at.returns c).After-is_schema_record) _ _ (accepted (record { before = (goal.at.returns c).After-is_schema_record; if1 = w.0 })) (sym w.1.ensures ∙ w.2.left) c.refused.ensures cleared))
-    (λ w. stated (call-no-record (held (goal.at.returns c).After-is_schema_record) extract (lent (goal.at.returns c).After-is_schema_record) _ _ (sym (passes-schema (held (goal.at.returns c).After-is_schema_record).cells (held (goal.at.returns c).After-is_schema_record).size) ∙ sym c.is_schema_record.ensures ∙ w.left) c.refused.ensures cleared))
-    c.if-is_schema_record.came
+    let at = c.args in
+    elim c.if-is_schema_record.branch [
+      then-is_schema_record+else-equal_sizes w ↦
+          let call = call-no-columns (record_with at.schema.bytes at.schema.len) at.extract.now (columns at.numbers.now at.names.now at.parents.now at.starts.now at.lengths.now at.decoded.now) _ _
+          (sym (passes-schema at.schema.bytes at.schema.len) ∙ sym c.is_schema_record.ensures ∙ w.if-is_schema_record.true) (sym w.equal_sizes.ensures ∙ w.if-equal_sizes.false) c.refused.ensures c.clear.ensures in
+          record { value = call.answer; left_rows = call.cells }
+    | else-is_schema_record w ↦
+          let call = call-no-record (record_with at.schema.bytes at.schema.len) at.extract.now (columns at.numbers.now at.names.now at.parents.now at.starts.now at.lengths.now at.decoded.now) _ _
+          (sym (passes-schema at.schema.bytes at.schema.len) ∙ sym c.is_schema_record.ensures ∙ w.if-is_schema_record.false) c.refused.ensures c.clear.ensures in
+          record { value = call.answer; left_rows = call.cells }
+    ]

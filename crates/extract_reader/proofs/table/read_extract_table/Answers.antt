@@ -3,62 +3,20 @@ use mathlib.Core.Path.{◌∙◌}
 use Rattle.extract_reader.specs.table.Tables.{cleared-first, table_kept, table-cleared}
 use Rattle.extract_reader.proofs.table.read_extract_table.Goals as goal
 
-pub clear-requires : goal.clear-requires
-clear-requires c = tt
-
 pub judge-verdict-requires : goal.judge-verdict-requires
 judge-verdict-requires c =
     cleared-first _ _ c.requires c.clear.ensures
-
-pub shape_of-numbers-then-verdict-eq0 : goal.shape_of-numbers-then-verdict-eq0
-shape_of-numbers-then-verdict-eq0 c = c.judge-verdict.auto.1.1.0 ∙ c.clear.auto.0
-
-pub shape_of-names-then-verdict-eq0 : goal.shape_of-names-then-verdict-eq0
-shape_of-names-then-verdict-eq0 c = c.judge-verdict.auto.1.1.1.0 ∙ c.clear.auto.1.0
-
-pub shape_of-parents-then-verdict-eq0 : goal.shape_of-parents-then-verdict-eq0
-shape_of-parents-then-verdict-eq0 c = c.judge-verdict.auto.1.1.1.1.0 ∙ c.clear.auto.1.1.0
-
-pub shape_of-starts-then-verdict-eq0 : goal.shape_of-starts-then-verdict-eq0
-shape_of-starts-then-verdict-eq0 c = c.judge-verdict.auto.1.1.1.1.1.0 ∙ c.clear.auto.1.1.1.0
-
-pub shape_of-lengths-then-verdict-eq0 : goal.shape_of-lengths-then-verdict-eq0
-shape_of-lengths-then-verdict-eq0 c = c.judge-verdict.auto.1.1.1.1.1.1.0 ∙ c.clear.auto.1.1.1.1.0
-
-pub shape_of-decoded-then-verdict-eq0 : goal.shape_of-decoded-then-verdict-eq0
-shape_of-decoded-then-verdict-eq0 c = c.judge-verdict.auto.1.1.1.1.1.1.1.0 ∙ c.clear.auto.1.1.1.1.1.0
 
 pub returns-then-verdict-eq0 : goal.returns-then-verdict-eq0
 returns-then-verdict-eq0 c =
     table_kept _ _ _ _ _ _ c.clear.ensures c.judge-verdict.ensures c.if-verdict-eq0.true
 
-pub clear-requires-2 : goal.clear-requires-2
-clear-requires-2 c = tt
-
-pub shape_of-numbers : goal.shape_of-numbers
-shape_of-numbers c = c.clear-2.auto.0 ∙ c.judge-verdict.auto.1.1.0 ∙ c.clear.auto.0
-
-pub shape_of-names : goal.shape_of-names
-shape_of-names c = c.clear-2.auto.1.0 ∙ c.judge-verdict.auto.1.1.1.0 ∙ c.clear.auto.1.0
-
-pub shape_of-parents : goal.shape_of-parents
-shape_of-parents c = c.clear-2.auto.1.1.0 ∙ c.judge-verdict.auto.1.1.1.1.0 ∙ c.clear.auto.1.1.0
-
-pub shape_of-starts : goal.shape_of-starts
-shape_of-starts c = c.clear-2.auto.1.1.1.0 ∙ c.judge-verdict.auto.1.1.1.1.1.0 ∙ c.clear.auto.1.1.1.0
-
-pub shape_of-lengths : goal.shape_of-lengths
-shape_of-lengths c = c.clear-2.auto.1.1.1.1.0 ∙ c.judge-verdict.auto.1.1.1.1.1.1.0 ∙ c.clear.auto.1.1.1.1.0
-
-pub shape_of-decoded : goal.shape_of-decoded
-shape_of-decoded c = c.clear-2.auto.1.1.1.1.1.0 ∙ c.judge-verdict.auto.1.1.1.1.1.1.1.0 ∙ c.clear.auto.1.1.1.1.1.0
-
 pub returns : goal.returns
 returns c =
     table-cleared _ _ _ _ _ _ c.clear.ensures c.judge-verdict.ensures c.if-verdict-eq0.false _ c.clear-2.ensures
-    (c.judge-verdict.kept.1.1.0 ∙ c.clear.kept.0)
-    (c.judge-verdict.kept.1.1.1.0 ∙ c.clear.kept.1.0)
-    (c.judge-verdict.kept.1.1.1.1.0 ∙ c.clear.kept.1.1.0)
-    (c.judge-verdict.kept.1.1.1.1.1.0 ∙ c.clear.kept.1.1.1.0)
-    (c.judge-verdict.kept.1.1.1.1.1.1.0 ∙ c.clear.kept.1.1.1.1.0)
-    (c.judge-verdict.kept.1.1.1.1.1.1.1.0 ∙ c.clear.kept.1.1.1.1.1.0)
+    (c.judge-verdict.auto.numbers ∙ c.clear.auto.numbers)
+    (c.judge-verdict.auto.names ∙ c.clear.auto.names)
+    (c.judge-verdict.auto.parents ∙ c.clear.auto.parents)
+    (c.judge-verdict.auto.starts ∙ c.clear.auto.starts)
+    (c.judge-verdict.auto.lengths ∙ c.clear.auto.lengths)
+    (c.judge-verdict.auto.decoded ∙ c.clear.auto.decoded)

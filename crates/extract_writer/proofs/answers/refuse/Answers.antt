@@ -1,5 +1,4 @@
 -- `refuse` meets its contract: the bytes cleared.
-use borrow.Author.Rules.{rules}
 use Rattle.extract_writer.specs.answers.Answers.{refused-by-1}
 use Rattle.extract_writer.proofs.answers.refuse.Goals as goal
 

@@ -1,5 +1,4 @@
 -- `write_in_room` meets its contract: the bytes, or 18.
-use borrow.Author.Rules.{rules}
 use Rattle.extract_writer.specs.answers.Answers.{too_few, enough}
 use Rattle.extract_writer.proofs.answers.write_in_room.Goals as goal
 

@@ -1,5 +1,4 @@
 use native.Mathlib.Omega.{arith}
-use borrow.Author.Rules.{rules}
 use Rattle.extract_writer.specs.decoded_texts.Decoded.{byte_put, entity-put}
 use Rattle.extract_writer.proofs.decoded_texts.put_character.Goals as goal
 

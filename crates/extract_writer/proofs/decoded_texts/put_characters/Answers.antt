@@ -1,7 +1,6 @@
 -- `put_characters` meets its contract: a text as long as its characters is copied, any other is decoded.
-use mathlib.Core.Path.{◌≡◌, refl, sym, ap, ◌∙◌}
+use mathlib.Core.Path.{sym, ap, ◌∙◌}
 use native.Mathlib.Omega.{arith}
-use borrow.Author.Rules.{rules}
 use lib.ListN.{length}
 use Rattle.extract_writer.specs.decoded_texts.Decoded.{copied-as, decoded-as}
 use Rattle.extract_writer.specs.fields.Fields.{stored, text-written}

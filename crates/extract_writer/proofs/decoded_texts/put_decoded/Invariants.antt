@@ -1,8 +1,6 @@
-use mathlib.Core.Path.{◌∙◌}
 use Prim.Native.Nat.{◌-◌}
-use native.Mathlib.Omega.{arith}
 use lib.ListN.{length}
-use Rattle.extract_writer.specs.decoded_texts.Decoded.{Decoding, decoding-none, decoding-room, decoding-then, decoding-fits, decoding-all, turn-room, turn-next, turn-less}
+use Rattle.extract_writer.specs.decoded_texts.Decoded.{Decoding}
 use Rattle.extract_writer.proofs.decoded_texts.put_decoded.Given as goal
 
 abbrev pub invariant-loop-i : goal.invariant-loop-i

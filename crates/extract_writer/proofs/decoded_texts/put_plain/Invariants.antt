@@ -1,9 +1,6 @@
 use Prim.Native.Nat.{◌-◌}
-use native.Mathlib.Omega.{arith}
-use borrow.Author.Rules.{rules}
-use borrow.Author.Tests.{not-true, eqb-false}
 use lib.ListN.{length}
-use Rattle.extract_writer.specs.decoded_texts.Decoded.{PlainPut, decoding-room, plain-none, plain_more}
+use Rattle.extract_writer.specs.decoded_texts.Decoded.{PlainPut}
 use Rattle.extract_writer.proofs.decoded_texts.put_plain.Given as goal
 
 abbrev pub invariant-loop-i : goal.invariant-loop-i

@@ -1,6 +1,5 @@
 use mathlib.Core.Path.{◌∙◌}
 use native.Mathlib.Omega.{arith}
-use borrow.Author.Rules.{rules}
 use lib.ListN.{length-set}
 use Rattle.extract_spec.specs.Fields.{count_tag}
 use Rattle.extract_writer.specs.fields.Fields.{stored-length, count-stored}

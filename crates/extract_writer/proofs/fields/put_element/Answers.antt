@@ -1,5 +1,4 @@
 use native.Mathlib.Omega.{arith}
-use borrow.Author.Rules.{rules}
 use Rattle.extract_writer.specs.fields.Fields.{set-length}
 use Rattle.extract_writer.specs.fields.Fields.{stored-length, element-stored}
 use Rattle.extract_writer.proofs.fields.put_element.Goals as goal

@@ -1,6 +1,5 @@
 use mathlib.Core.Path.{◌∙◌}
 use native.Mathlib.Omega.{arith}
-use borrow.Author.Rules.{rules}
 use lib.ListN.{length-set}
 use Rattle.extract_writer.specs.fields.Fields.{stored-length, head-stored}
 use Rattle.extract_writer.proofs.fields.put_head.Goals as goal

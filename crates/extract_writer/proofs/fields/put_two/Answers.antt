@@ -1,5 +1,4 @@
 use native.Mathlib.Omega.{arith}
-use borrow.Author.Rules.{rules}
 use lib.ListN.{length-set}
 use Rattle.extract_writer.specs.fields.Fields.{two-stored}
 use Rattle.extract_writer.proofs.fields.put_two.Goals as goal

@@ -1,4 +1,3 @@
-use borrow.Author.Rules.{rules}
 use Rattle.extract_writer.specs.rows.Rows.{size-element, size-text}
 use Rattle.extract_writer.proofs.rows.field_size.Goals as goal
 

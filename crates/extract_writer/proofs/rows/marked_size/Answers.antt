@@ -1,5 +1,4 @@
 use mathlib.Core.Path.{◌∙◌}
-use borrow.Author.Rules.{rules}
 use Rattle.extract_writer.specs.rows.Measure.{size-marked, size-unmarked}
 use Rattle.extract_writer.proofs.rows.marked_size.Goals as goal
 

@@ -1,8 +1,5 @@
-use Prim.Native.Nat.{◌-◌}
 use native.Mathlib.Omega.{arith}
-use borrow.Author.Rules.{rules}
-use lib.ListN.{length}
-use Rattle.extract_writer.specs.rows.Measure.{MeasurePass, Measuring, measuring-none, rows_few, mark-low, measuring-next, measured, marked-bound}
+use Rattle.extract_writer.specs.rows.Measure.{measuring-none, rows_few, mark-low, measuring-next, measured, marked-bound}
 use Rattle.extract_writer.proofs.rows.measure.Goals as goal
 
 pub loop-r-init : goal.loop-r-init
@@ -22,19 +19,19 @@ overflow_add-bytes c =
 pub overflow_cast-rows : goal.overflow_cast-rows
 overflow_cast-rows c =
     let loop = c.loop-r in
-    omega (arith, mark-low _ _ _ loop.invariant.0 loop.r loop.bytes loop.rows loop.invariant.1 c.loop-r-test.taken)
+    omega (arith, mark-low _ _ _ loop.invariant.0 loop.r loop.bytes loop.rows loop.invariant.1 c.loop-r-test.true)
 
 pub overflow_add-rows : goal.overflow_add-rows
 overflow_add-rows c =
     let loop = c.loop-r in
     omega
-    (arith, mark-low _ _ _ loop.invariant.0 loop.r loop.bytes loop.rows loop.invariant.1 c.loop-r-test.taken, rows_few _ _ _ loop.invariant.0 loop.r loop.bytes loop.rows loop.invariant.1 c.loop-r-test.taken, loop.invariant.0.few)
+    (arith, mark-low _ _ _ loop.invariant.0 loop.r loop.bytes loop.rows loop.invariant.1 c.loop-r-test.true, rows_few _ _ _ loop.invariant.0 loop.r loop.bytes loop.rows loop.invariant.1 c.loop-r-test.true, loop.invariant.0.few)
 
 pub loop-r-preserved : goal.loop-r-preserved
 loop-r-preserved c =
     let loop = c.loop-r in (
       loop.invariant.0,
-      measuring-next _ _ _ loop.invariant.0 loop.r loop.bytes loop.rows loop.invariant.1 c.loop-r-test.taken _ c.marked_size-bytes.ensures
+      measuring-next _ _ _ loop.invariant.0 loop.r loop.bytes loop.rows loop.invariant.1 c.loop-r-test.true _ c.marked_size-bytes.ensures
           (marked-bound _ _ _ _ c.marked_size-bytes.ensures (omega (arith, c.type_inv.decoded loop.r))),
     )
 

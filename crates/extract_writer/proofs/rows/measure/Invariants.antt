@@ -1,8 +1,6 @@
 use Prim.Native.Nat.{◌-◌}
-use native.Mathlib.Omega.{arith}
-use borrow.Author.Rules.{rules}
 use lib.ListN.{length}
-use Rattle.extract_writer.specs.rows.Measure.{MeasurePass, Measuring, measuring-none, rows_few, mark-low, measuring-next, measured, marked-bound}
+use Rattle.extract_writer.specs.rows.Measure.{MeasurePass, Measuring}
 use Rattle.extract_writer.proofs.rows.measure.Given as goal
 
 abbrev pub invariant-loop-r : goal.invariant-loop-r

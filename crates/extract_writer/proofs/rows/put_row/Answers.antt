@@ -46,9 +46,6 @@ put_element-requires c =
 pub overflow_add-result : goal.overflow_add-result
 overflow_add-result c = omega arith
 
-pub shape_of-out-then-name-lt-MAX_ELEMENTS : goal.shape_of-out-then-name-lt-MAX_ELEMENTS
-shape_of-out-then-name-lt-MAX_ELEMENTS c = c.out-1.given
-
 pub returns-then-name-lt-MAX_ELEMENTS : goal.returns-then-name-lt-MAX_ELEMENTS
 returns-then-name-lt-MAX_ELEMENTS c =
     element-put c.args.text.now (lent (goal.at.returns-then-name-lt-MAX_ELEMENTS c).Start) c.args.mark c.args.r c.args.out.now c.args.at c.requires c.if-mark-ne-MARKED.false c.if-name-lt-MAX_ELEMENTS.true _ c.put_element.ensures
@@ -104,9 +101,6 @@ overflow_cast-result c =
 pub overflow_add-result-3 : goal.overflow_add-result-3
 overflow_add-result-3 c =
     omega (arith, c.type_inv.decoded c.args.r, c.requires.room)
-
-pub shape_of-out : goal.shape_of-out
-shape_of-out c = c.out-2-1.given
 
 pub returns : goal.returns
 returns c =

@@ -1,10 +1,8 @@
-use Prim.Native.Nat.{ℕ, ◌+◌, ◌-◌, ◌<◌, ◌≤◌}
+use Prim.Native.Nat.{ℕ, ◌+◌, ◌<◌, ◌≤◌}
 use native.Mathlib.Omega.{arith}
-use borrow.Author.Rules.{rules}
 use lib.ListN.{length}
 use Rattle.extract_writer.specs.fields.Fields.{stored-length}
-use Rattle.extract_writer.specs.rows.Rows.{field_at, FieldsPass, StoredAt, fields-none, fields-row, fields-next, fields-all}
-use Rattle.kept_rows.specs.Joined.{joined}
+use Rattle.extract_writer.specs.rows.Rows.{fields-none, fields-row, fields-next, fields-all}
 use Rattle.table_spec.specs.Columns.{Columns, columns}
 use Rattle.extract_writer.proofs.rows.write_fields.Goals.{Start}
 use Rattle.extract_writer.proofs.rows.write_fields.Goals as goal

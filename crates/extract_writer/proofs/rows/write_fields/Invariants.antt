@@ -1,15 +1,12 @@
-use Prim.Native.Nat.{ℕ, ◌+◌, ◌-◌, ◌<◌, ◌≤◌}
-use native.Mathlib.Omega.{arith}
-use borrow.Author.Rules.{rules}
+use Prim.Native.Nat.{◌-◌, ◌≤◌}
 use lib.ListN.{length}
-use Rattle.extract_writer.specs.fields.Fields.{stored-length}
-use Rattle.extract_writer.specs.rows.Rows.{field_at, FieldsPass, StoredAt, fields-none, fields-row, fields-next, fields-all}
+use Rattle.extract_writer.specs.rows.Rows.{field_at, FieldsPass, StoredAt}
 use Rattle.kept_rows.specs.Joined.{joined}
-use Rattle.table_spec.specs.Columns.{Columns, columns}
+use Rattle.table_spec.specs.Columns.{columns}
 use Rattle.extract_writer.proofs.rows.write_fields.Given as goal
 
 abbrev pub invariant-loop-r : goal.invariant-loop-r
-invariant-loop-r l =     (l.r ≤ length l.marks) × FieldsPass l.text (columns l.numbers l.names l.parents l.starts l.lengths l.decoded) l.marks l.initial.out
+invariant-loop-r l = (l.r ≤ length l.marks) × FieldsPass l.text (columns l.numbers l.names l.parents l.starts l.lengths l.decoded) l.marks l.initial.out
     × StoredAt l.initial.out 0 (joined (field_at l.text (columns l.numbers l.names l.parents l.starts l.lengths l.decoded)) l.marks l.r) l.at l.out
 
 abbrev pub decreases-loop-r : goal.decreases-loop-r

@@ -1,5 +1,4 @@
 use mathlib.Core.Path.{sym}
-use borrow.Author.Rules.{rules}
 use Rattle.extract_writer.specs.writing.Extract.{prefix-length}
 use Rattle.extract_writer.proofs.writing.write_kept.Goals as goal
 

@@ -1,4 +1,3 @@
-use borrow.Author.Rules.{rules}
 use Rattle.extract_writer.specs.writing.Extract.{kept-pass, kept-marked, answered-same}
 use Rattle.extract_writer.proofs.writing.write_kept_into.Goals as goal
 

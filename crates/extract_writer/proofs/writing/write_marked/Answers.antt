@@ -1,5 +1,4 @@
 use native.Mathlib.Omega.{arith}
-use borrow.Author.Rules.{rules}
 use Rattle.extract_writer.specs.writing.Extract.{measure-pass, extract-low, extract-size, fields-pass, count_room, extract-stored, short-bytes, whole-bytes}
 use Rattle.extract_writer.proofs.writing.write_marked.Goals as goal
 

@@ -1,4 +1,3 @@
-use borrow.Author.Rules.{rules}
 use Rattle.extract_writer.specs.writing.Extract.{prefix-length, every-row, all-marked, answered-same}
 use Rattle.text_spec.specs.Limits.{max_nodes}
 use Rattle.extract_writer.proofs.writing.write_table.Goals as goal

@@ -1,5 +1,4 @@
 -- `inference::back_steps::complete_from` meets its contract.
-use borrow.Author.Rules.{rules}
 use Rattle.compiled_paths.specs.Columns.{axis_of}
 use Rattle.inference.specs.back_steps.Laws.{related-leading}
 use Rattle.names.specs.Sets.{set_in}

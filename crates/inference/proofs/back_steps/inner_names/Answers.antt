@@ -1,5 +1,4 @@
 -- `inference::back_steps::inner_names` meets its contract.
-use borrow.Author.Rules.{rules}
 use Rattle.inference.specs.back_steps.Laws.{within-inner}
 use Rattle.names.specs.Sets.{set_in}
 use Rattle.inference.proofs.back_steps.inner_names.Goals as goal

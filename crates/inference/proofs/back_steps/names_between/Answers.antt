@@ -1,6 +1,5 @@
 -- `inference::back_steps::names_between` meets its contract: by the axis.
 use mathlib.Core.Path.{sym, ap, ◌∙◌}
-use borrow.Author.Rules.{rules}
 use Rattle.compiled_paths.specs.Columns.{axis_of}
 use Rattle.inference.specs.back_steps.Laws.{between-along, none_between, empty-set_in}
 use Rattle.names.specs.Sets.{set_in}

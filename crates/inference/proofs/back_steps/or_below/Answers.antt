@@ -1,6 +1,5 @@
 -- `inference::back_steps::or_below` meets its contract.
 use mathlib.Core.Path.{ap, ◌∙◌}
-use borrow.Author.Rules.{rules}
 use Rattle.inference_spec.specs.Types.{union_of}
 use Rattle.names.specs.Sets.{set_in}
 use Rattle.schema_spec.specs.Types.{types_of}

@@ -1,6 +1,5 @@
 -- `inference::back_steps::related_names` meets its contract: by the axis.
 use mathlib.Core.Path.{ap}
-use borrow.Author.Rules.{rules}
 use Rattle.compiled_paths.specs.Columns.{axis_of}
 use Rattle.inference.specs.back_steps.Laws.{holding-related, all_above-related, descendant_or_self-related, held_by-related, all_below-related, ancestor_or_self-related, self-related, related-along}
 use Rattle.inference.specs.type_steps.Laws.{axis-self}

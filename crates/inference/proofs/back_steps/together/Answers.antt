@@ -1,5 +1,4 @@
 -- `inference::back_steps::together` meets its contract.
-use borrow.Author.Rules.{rules}
 use Rattle.inference.specs.back_steps.Laws.{union-append}
 use Rattle.inference.proofs.back_steps.together.Goals as goal
 

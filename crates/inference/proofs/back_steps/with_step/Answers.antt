@@ -1,7 +1,6 @@
 -- `inference::back_steps::with_step` meets its contract.
 use mathlib.Core.List.{◌++◌}
 use mathlib.Core.Path.{refl}
-use borrow.Author.Rules.{rules}
 use Rattle.compiled_paths.specs.Columns.{axis_of}
 use Rattle.inference_spec.specs.Needed.{between}
 use Rattle.inference.specs.back_steps.Laws.{set_in-within}

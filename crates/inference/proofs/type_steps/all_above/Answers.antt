@@ -1,5 +1,4 @@
 -- `inference::type_steps::all_above` meets its contract.
-use borrow.Author.Rules.{rules}
 use Rattle.inference.specs.type_steps.Laws.{related-all_above}
 use Rattle.inference.proofs.type_steps.all_above.Goals as goal
 

@@ -1,5 +1,4 @@
 -- `inference::type_steps::all_below` meets its contract.
-use borrow.Author.Rules.{rules}
 use Rattle.inference.specs.type_steps.Laws.{related-all_below}
 use Rattle.inference.proofs.type_steps.all_below.Goals as goal
 

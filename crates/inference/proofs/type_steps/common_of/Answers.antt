@@ -1,5 +1,4 @@
 -- `inference::type_steps::common_of` meets its contract.
-use borrow.Author.Rules.{rules}
 use Rattle.inference.specs.type_steps.Laws.{common-within}
 use Rattle.inference.proofs.type_steps.common_of.Goals as goal
 

@@ -1,5 +1,4 @@
 -- `inference::type_steps::cut_to` meets its contract.
-use borrow.Author.Rules.{rules}
 use Rattle.inference.specs.type_steps.Laws.{near-cut_to}
 use Rattle.names.specs.Sets.{set_in}
 use Rattle.inference.proofs.type_steps.cut_to.Goals as goal

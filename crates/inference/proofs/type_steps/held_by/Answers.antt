@@ -1,5 +1,4 @@
 -- `inference::type_steps::held_by` meets its contract.
-use borrow.Author.Rules.{rules}
 use Rattle.inference.specs.type_steps.Laws.{related-held_by}
 use Rattle.inference.proofs.type_steps.held_by.Goals as goal
 

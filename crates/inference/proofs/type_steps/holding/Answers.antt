@@ -1,5 +1,4 @@
 -- `inference::type_steps::holding` meets its contract.
-use borrow.Author.Rules.{rules}
 use Rattle.inference.specs.type_steps.Laws.{related-holding}
 use Rattle.inference.proofs.type_steps.holding.Goals as goal
 

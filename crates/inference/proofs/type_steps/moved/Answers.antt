@@ -1,6 +1,5 @@
 -- `inference::type_steps::moved` meets its contract: by the axis.
 use mathlib.Core.Path.{refl, ap}
-use borrow.Author.Rules.{rules}
 use Rattle.compiled_paths.specs.Columns.{axis_of, test_of}
 use Rattle.inference.specs.type_steps.Laws.{move-along, axis-self}
 use Rattle.inference.specs.type_steps.Relations.{env_in}

@@ -1,5 +1,4 @@
 -- `inference::type_steps::only_element` meets its contract.
-use borrow.Author.Rules.{rules}
 use Rattle.inference.specs.type_steps.Laws.{one-tested}
 use Rattle.inference.proofs.type_steps.only_element.Goals as goal
 

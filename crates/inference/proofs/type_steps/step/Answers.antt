@@ -1,6 +1,5 @@
 -- `inference::type_steps::step` meets its contract.
 use mathlib.Core.Path.{ap, ◌∙◌}
-use borrow.Author.Rules.{rules}
 use Rattle.compiled_paths.specs.Columns.{test_of}
 use Rattle.inference_spec.specs.Types.{Env, narrow}
 use Rattle.inference.specs.type_steps.Laws.{narrow-parts, tested-filter}

@@ -1,7 +1,6 @@
 -- `inference::type_steps::tested` meets its contract: by the number of the test.
 use mathlib.Core.Path.{sym, ap, ◌∙◌}
 use Prim.Native.Nat.{ℕ}
-use borrow.Author.Rules.{rules}
 use Rattle.compiled_paths.specs.Columns.{test_of}
 use Rattle.inference.specs.type_steps.Laws.{tested-along, all_tested, test-named}
 use Rattle.path_spec.specs.Paths.{named, any_node, any_text}

@@ -1,5 +1,4 @@
 -- `inference::type_steps::to_ancestors` meets its contract.
-use borrow.Author.Rules.{rules}
 use Rattle.inference.specs.type_steps.Laws.{move-ancestor}
 use Rattle.names.specs.Sets.{set_in}
 use Rattle.inference.proofs.type_steps.to_ancestors.Goals as goal

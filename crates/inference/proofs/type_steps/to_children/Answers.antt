@@ -1,5 +1,4 @@
 -- `inference::type_steps::to_children` meets its contract.
-use borrow.Author.Rules.{rules}
 use Rattle.compiled_paths.specs.Columns.{test_of}
 use Rattle.inference.specs.type_steps.Laws.{move-child, tested-filter}
 use Rattle.names.specs.Sets.{set_in}

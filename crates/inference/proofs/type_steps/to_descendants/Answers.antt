@@ -1,5 +1,4 @@
 -- `inference::type_steps::to_descendants` meets its contract.
-use borrow.Author.Rules.{rules}
 use Rattle.inference.specs.type_steps.Laws.{move-descendant}
 use Rattle.names.specs.Sets.{set_in}
 use Rattle.inference.proofs.type_steps.to_descendants.Goals as goal

@@ -1,5 +1,4 @@
 -- `inference::type_steps::to_parents` meets its contract.
-use borrow.Author.Rules.{rules}
 use Rattle.inference.specs.type_steps.Laws.{move-parent}
 use Rattle.names.specs.Sets.{set_in}
 use Rattle.inference.proofs.type_steps.to_parents.Goals as goal

@@ -1,5 +1,4 @@
 -- `inference::type_steps::union_of` meets its contract.
-use borrow.Author.Rules.{rules}
 use Rattle.inference.specs.type_steps.Laws.{union-union_of}
 use Rattle.inference.proofs.type_steps.union_of.Goals as goal
 

@@ -1,5 +1,4 @@
 -- `inference::written_steps::to_following` meets its contract.
-use borrow.Author.Rules.{rules}
 use Rattle.compiled_paths.specs.Columns.{axis_of, test_of}
 use Rattle.inference.specs.type_steps.Relations.{env_in}
 use Rattle.inference.specs.written_steps.Laws.{following-reached}

@@ -1,6 +1,5 @@
 -- `inference::written_steps::with_written_step` meets its contract: by the axis.
 use mathlib.Core.Path.{ap}
-use borrow.Author.Rules.{rules}
 use Rattle.compiled_paths.specs.Columns.{axis_of, written_of}
 use Rattle.inference.specs.type_steps.Relations.{env_in}
 use Rattle.inference.specs.written_steps.Laws.{written-along, needs-by, along-needs}

@@ -1,6 +1,5 @@
 -- `is_lent` meets its contract: the record, then the columns.
 use mathlib.Core.Path.{sym, ◌∙◌}
-use borrow.Author.Tests.{not-true, not-false}
 use Rattle.journal.specs.records.Records.{first-fails, second-decides}
 use Rattle.journal.proofs.records.is_lent.Goals as goal
 

@@ -1,7 +1,7 @@
 -- `read_journal` meets its contract: refusal 1 in cleared columns, or what reading under the record's schema answers.
 use mathlib.Core.Bool.{Bool, true, ◌&&◌}
 use mathlib.Core.Path.{◌≡◌, refl, sym, ◌∙◌}
-use borrow.Author.Tests.{not-true, not-false, ltb-true}
+use borrow.Author.Tests.{ltb-true}
 use Rattle.journal.specs.records.Records.{refused-1, cleared-1, lent-room, lent-part, lent-equal, read_answer, read-cells}
 use Rattle.schema.specs.declared.Schema.{Schema}
 use Rattle.schema_reader.specs.Records.{passes_record}

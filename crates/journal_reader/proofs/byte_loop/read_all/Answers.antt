@@ -1,17 +1,15 @@
 -- `read_all` meets its contract: after each turn one byte more is read.
-use mathlib.Core.Path.{◌≡◌, refl, sym, subst, ◌∙◌}
-use Prim.Native.Nat.{ℕ, ◌+◌, ◌-◌, ◌≤◌, ◌<◌}
+use mathlib.Core.Path.{refl, sym, subst, ◌∙◌}
+use Prim.Native.Nat.{ℕ, ◌+◌, ◌≤◌, ◌<◌}
 use native.Mathlib.Nat.{lt_trans}
 use native.Mathlib.Omega.{arith}
 use borrow.Author.Count.{falls}
-use lib.ListN.{length, get_or}
+use lib.ListN.{get_or}
 use mir.Facts.{Fits-8_64}
 use mir.Syntax.{w64}
 use mir.Val.{Fits}
-use Rattle.journal_builder.specs.event_handling.Events.{schema_cells}
 use Rattle.journal_lexer.specs.state.Places.{no_place}
-use Rattle.journal_reader.specs.byte_loop.Whole.{SomeRead, none_read, more-read, all_read}
-use Rattle.table_spec.specs.Columns.{columns}
+use Rattle.journal_reader.specs.byte_loop.Whole.{none_read, more-read, all_read}
 use Rattle.journal_reader.proofs.byte_loop.read_all.Goals as goal
 
 next_fits : (k n : ℕ) → k < n → n < no_place → Fits w64 (k + 1)
@@ -59,8 +57,7 @@ loop-at-smaller c = falls _ _ c.loop-at-test.true
 
 pub loop-at-preserved : goal.loop-at-preserved
 loop-at-preserved c =
-    let at = c.loop-at in
-    (
+    let at = c.loop-at in (
       more-read c.loop-at-test.true at.invariant.0 c.read_byte-next.ensures,
       next-inside _ _ c.loop-at-test.true,
       c.numbers-1.given ∙ at.invariant.2,

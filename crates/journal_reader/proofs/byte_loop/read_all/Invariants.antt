@@ -1,21 +1,14 @@
 -- `read_all` meets its contract: after each turn one byte more is read.
-use mathlib.Core.Path.{◌≡◌, refl, sym, subst, ◌∙◌}
-use Prim.Native.Nat.{ℕ, ◌+◌, ◌-◌, ◌≤◌, ◌<◌}
-use native.Mathlib.Nat.{lt_trans}
-use native.Mathlib.Omega.{arith}
-use borrow.Author.Count.{falls}
-use lib.ListN.{length, get_or}
-use mir.Facts.{Fits-8_64}
-use mir.Syntax.{w64}
-use mir.Val.{Fits}
+use mathlib.Core.Path.{◌≡◌}
+use Prim.Native.Nat.{◌-◌, ◌≤◌}
+use lib.ListN.{length}
 use Rattle.journal_builder.specs.event_handling.Events.{schema_cells}
-use Rattle.journal_lexer.specs.state.Places.{no_place}
-use Rattle.journal_reader.specs.byte_loop.Whole.{SomeRead, none_read, more-read, all_read}
+use Rattle.journal_reader.specs.byte_loop.Whole.{SomeRead}
 use Rattle.table_spec.specs.Columns.{columns}
 use Rattle.journal_reader.proofs.byte_loop.read_all.Given as goal
 
 abbrev pub invariant-loop-at : goal.invariant-loop-at
-invariant-loop-at l =     SomeRead (schema_cells l.words l.count l.kinds l.firsts l.lasts l.nullables l.elements l.predecessors l.sizes) l.text l.at l.initial.levels l.initial.places (columns l.initial.numbers l.initial.names l.initial.parents l.initial.starts l.initial.lengths l.initial.decoded) l.levels
+invariant-loop-at l = SomeRead (schema_cells l.words l.count l.kinds l.firsts l.lasts l.nullables l.elements l.predecessors l.sizes) l.text l.at l.initial.levels l.initial.places (columns l.initial.numbers l.initial.names l.initial.parents l.initial.starts l.initial.lengths l.initial.decoded) l.levels
     l.places (columns l.numbers l.names l.parents l.starts l.lengths l.decoded) l.x
     × (l.at ≤ length l.text)
     × (length l.numbers ≡ length l.initial.numbers)
@@ -26,4 +19,4 @@ invariant-loop-at l =     SomeRead (schema_cells l.words l.count l.kinds l.first
     × (length l.decoded ≡ length l.initial.decoded)
 
 abbrev pub decreases-loop-at : goal.decreases-loop-at
-decreases-loop-at l =     length l.text - l.at
+decreases-loop-at l = length l.text - l.at

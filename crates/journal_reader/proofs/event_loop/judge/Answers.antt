@@ -1,7 +1,6 @@
 -- `judge` meets its contract: 2, or what reading finds.
 use mathlib.Core.Path.{refl, sym, ◌∙◌}
 use Prim.Native.Nat.{◌≤◌}
-use borrow.Author.Tests.{not-true, not-false}
 use lib.ListN.{length}
 use Rattle.journal_reader.specs.event_loop.Judging.{judged-2, outside-2, judged-within, within, within-places}
 use Rattle.journal_reader.proofs.event_loop.judge.Goals.{Else-not-length_fits}

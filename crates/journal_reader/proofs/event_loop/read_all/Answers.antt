@@ -1,11 +1,7 @@
 -- `read_all` meets its contract: after each turn one event more is read.
-use mathlib.Core.Path.{◌≡◌, refl, ◌∙◌}
-use Prim.Native.Nat.{◌-◌}
-use lib.ListN.{length}
-use Rattle.journal_builder.specs.event_handling.Events.{schema_cells}
-use Rattle.journal_reader.specs.event_loop.Events.{EventsRead, no-event-read, event-more, events-all}
+use mathlib.Core.Path.{refl, ◌∙◌}
+use Rattle.journal_reader.specs.event_loop.Events.{no-event-read, event-more, events-all}
 use Rattle.journal_reader.specs.event_step.Points.{fewer-left}
-use Rattle.table_spec.specs.Columns.{columns}
 use Rattle.journal_reader.proofs.event_loop.read_all.Goals as goal
 
 pub start-x-requires : goal.start-x-requires
@@ -23,8 +19,7 @@ loop-x-smaller c = fewer-left c.read_on-next.ensures
 
 pub loop-x-preserved : goal.loop-x-preserved
 loop-x-preserved c =
-    let at = c.loop-x in
-    (
+    let at = c.loop-x in (
       event-more at.invariant.0 c.read_on-next.ensures,
       c.numbers-1.given ∙ at.invariant.1,
       c.names-1.given ∙ at.invariant.2,

@@ -7,11 +7,10 @@ pub with_event-from-requires : goal.with_event-from-requires
 with_event-from-requires c = tt
 
 pub data_part-data-requires : goal.data_part-data-requires
-data_part-data-requires c =
-    (
-      quiet-ready c.args.l c.with_event-from.result c.with_event-from.ensures c.requires.0,
-      quiet-event c.args.l c.with_event-from.result c.with_event-from.ensures,
-    )
+data_part-data-requires c = (
+  quiet-ready c.args.l c.with_event-from.result c.with_event-from.ensures c.requires.0,
+  quiet-event c.args.l c.with_event-from.result c.with_event-from.ensures,
+)
 
 pub returns-then-data-ne-QUIET : goal.returns-then-data-ne-QUIET
 returns-then-data-ne-QUIET c =
@@ -22,11 +21,10 @@ returns-then-data-ne-QUIET c =
     onward l s e part (further-event part.progress (quiet-event l s e) c.if-data-ne-QUIET.true)
 
 pub tag_part-requires : goal.tag_part-requires
-tag_part-requires c =
-    (
-      ready-after (quiet-ready c.args.l c.with_event-from.result c.with_event-from.ensures c.requires.0) c.data_part-data.ensures,
-      c.if-data-ne-QUIET.false,
-    )
+tag_part-requires c = (
+  ready-after (quiet-ready c.args.l c.with_event-from.result c.with_event-from.ensures c.requires.0) c.data_part-data.ensures,
+  c.if-data-ne-QUIET.false,
+)
 
 pub returns : goal.returns
 returns c =

@@ -1,6 +1,5 @@
 -- `ending` meets its contract: by the mode.
 use mathlib.Core.Path.{sym, ◌∙◌}
-use borrow.Author.Rules.{rules}
 use Rattle.journal_reader.specs.findings.Endings.{ended-run, ended-quiet}
 use Rattle.journal_reader.proofs.findings.ending.Goals as goal
 

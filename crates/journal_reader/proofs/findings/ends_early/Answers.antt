@@ -1,6 +1,5 @@
 -- `ends_early` meets its contract.
 use mathlib.Core.Path.{sym, ◌∙◌}
-use borrow.Author.Rules.{rules}
 use borrow.Author.Tests.{eq-eqb, ne_eqb}
 use Rattle.journal_reader.proofs.findings.ends_early.Goals as goal
 

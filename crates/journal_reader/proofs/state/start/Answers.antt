@@ -1,5 +1,4 @@
 -- `start` meets its contract.
-use borrow.Author.Rules.{rules}
 use Rattle.journal_reader.proofs.state.start.Goals as goal
 
 pub returns : goal.returns

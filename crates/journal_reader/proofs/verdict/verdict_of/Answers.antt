@@ -1,6 +1,5 @@
 -- `verdict_of` meets its contract: by the key, then by the number of cells.
 use mathlib.Core.Bool.{true, false}
-use borrow.Author.Rules.{rules}
 use borrow.Author.Tests.{lt-ltb, le-ltb}
 use Rattle.journal_reader.specs.verdict.Verdicts.{verdict-refused, verdict-kept}
 use Rattle.journal_reader.proofs.verdict.verdict_of.Goals as goal

@@ -1,7 +1,6 @@
 -- `needed_names::alternatives::ends_some` meets its contract.
 use mathlib.Core.Bool.{not}
 use mathlib.Core.Path.{ap, ◌∙◌}
-use borrow.Author.Rules.{rules}
 use Rattle.inference_spec.specs.Types.{Env}
 use Rattle.needed_names.specs.alternatives.Laws.{overlap-some-set_in}
 use Rattle.text_spec.specs.Lists.{is_empty}

@@ -1,6 +1,5 @@
 -- `needed_names::alternatives::from_name` meets its contract.
 use mathlib.Core.Path.{ap, ap₂, ◌∙◌}
-use borrow.Author.Rules.{rules}
 use Rattle.inference_spec.specs.Types.{env, cut_to}
 use Rattle.names.specs.Sets.{set_in}
 use Rattle.names.specs.codes.Codes.{name_of_code}

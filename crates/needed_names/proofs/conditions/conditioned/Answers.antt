@@ -1,5 +1,4 @@
 -- `needed_names::conditions::conditioned` meets its contract.
-use borrow.Author.Rules.{rules}
 use Rattle.compiled_paths.specs.Columns.{condition_in}
 use Rattle.inference.specs.type_steps.Laws.{narrow-parts}
 use Rattle.inference.specs.type_steps.Relations.{env_in}

@@ -1,7 +1,6 @@
 -- `needed_names::conditions::keeps` meets its contract.
 use mathlib.Core.Bool.{Bool, ◌&&◌}
 use mathlib.Core.Path.{sym, ap, ◌∙◌}
-use borrow.Author.Rules.{rules}
 use Rattle.compiled_paths.specs.Columns.{alternatives_in}
 use Rattle.inference_spec.specs.Types.{Env}
 use Rattle.names.specs.codes.Codes.{name_of_code}

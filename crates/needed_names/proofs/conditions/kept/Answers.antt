@@ -1,5 +1,4 @@
 -- `needed_names::conditions::kept` meets its contract.
-use borrow.Author.Rules.{rules}
 use Rattle.needed_names.specs.conditions.Laws.{keeps-unconditional, keeps-conditional}
 use Rattle.needed_names.proofs.conditions.kept.Goals as goal
 

@@ -1,19 +1,11 @@
 -- `needed_names::conditions::kept_by_some` meets its contract.
 use mathlib.Core.Bool.{◌&&◌}
-use mathlib.Core.List.{Memᴰ}
-use mathlib.Core.Path.{◌≡◌}
-use Prim.Native.Nat.{◌≤◌, ◌-◌}
 use native.Mathlib.Omega.{arith}
-use borrow.Author.Rules.{rules}
-use lib.Dec.{ltb}
 use Rattle.compiled_paths.specs.Columns.{alternatives_in}
-use Rattle.inference.specs.type_steps.Relations.{RelationsOf}
-use Rattle.names.specs.Sets.{member, NamesOf}
+use Rattle.names.specs.Sets.{member}
 use Rattle.needed_names.specs.conditions.Conditions.{keeps_in}
 use Rattle.needed_names.specs.conditions.Laws.{kept-none, kept-one-more, kept-all}
 use Rattle.path_spec.specs.Paths.{alternatives}
-use Rattle.schema_spec.specs.Names.{Name, code_of, names_of}
-use Rattle.schema_spec.specs.Schemas.{Schema}
 use Rattle.needed_names.proofs.conditions.kept_by_some.Goals as goal
 
 pub loop-c-init : goal.loop-c-init

@@ -1,5 +1,4 @@
 -- `needed_names::conditions::wanted` meets its contract.
-use borrow.Author.Rules.{rules}
 use Rattle.inference.specs.back_steps.Laws.{empty-set_in}
 use Rattle.needed_names.specs.conditions.Laws.{wants-unconditional, wants-conditional}
 use Rattle.needed_names.proofs.conditions.wanted.Goals as goal

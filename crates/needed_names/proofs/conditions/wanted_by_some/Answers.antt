@@ -1,18 +1,11 @@
 -- `needed_names::conditions::wanted_by_some` meets its contract.
-use mathlib.Core.List.{Memᴰ}
-use mathlib.Core.Path.{◌≡◌}
-use Prim.Native.Nat.{◌≤◌, ◌-◌}
 use native.Mathlib.Omega.{arith}
-use borrow.Author.Rules.{rules}
 use Rattle.compiled_paths.specs.Columns.{alternatives_in}
-use Rattle.inference.specs.type_steps.Relations.{RelationsOf}
 use Rattle.names.specs.SetLaws.{common-known, common-set_in}
-use Rattle.names.specs.Sets.{member, set_in, Known}
+use Rattle.names.specs.Sets.{set_in}
 use Rattle.needed_names.specs.conditions.Conditions.{wants_in}
-use Rattle.needed_names.specs.conditions.Laws.{wanted_below, wanted-none, wanted-one-more, wanted-gather}
+use Rattle.needed_names.specs.conditions.Laws.{wanted-none, wanted-one-more, wanted-gather}
 use Rattle.path_spec.specs.Paths.{alternatives}
-use Rattle.schema_spec.specs.Names.{Name, names_of}
-use Rattle.schema_spec.specs.Schemas.{Schema}
 use Rattle.needed_names.proofs.conditions.wanted_by_some.Goals as goal
 
 pub loop-c-init : goal.loop-c-init

@@ -1,7 +1,6 @@
 -- `needed_names::conditions::wanted_of` meets its contract.
 use mathlib.Core.Bool.{Bool, ◌&&◌}
 use mathlib.Core.Path.{sym, ap, ◌∙◌}
-use borrow.Author.Rules.{rules}
 use Rattle.compiled_paths.specs.Columns.{alternatives_in}
 use Rattle.inference.specs.back_steps.Laws.{within-member}
 use Rattle.inference.specs.type_steps.Relations.{env_in}

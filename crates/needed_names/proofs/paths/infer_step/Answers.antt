@@ -1,7 +1,6 @@
 -- `needed_names::paths::infer_step` meets its contract.
 use mathlib.Core.Path.{refl}
 use native.Mathlib.Omega.{arith}
-use borrow.Author.Rules.{rules}
 use Rattle.compiled_paths.specs.Columns.{condition_in}
 use Rattle.inference.specs.type_steps.Relations.{env_in}
 use Rattle.needed_names.specs.paths.Laws.{condition-steps, condition-range, infer-written-step}

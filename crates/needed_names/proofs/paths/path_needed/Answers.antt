@@ -1,6 +1,5 @@
 -- `needed_names::paths::path_needed` meets its contract.
 use mathlib.Core.Path.{ap, ap₂, ◌∙◌}
-use borrow.Author.Rules.{rules}
 use Rattle.compiled_paths.specs.Columns.{steps_in}
 use Rattle.inference_spec.specs.Needed.{keeps_name, wants_names, need, from_root, needed_before_filter, needed_by_path}
 use Rattle.inference_spec.specs.Types.{Env, env}

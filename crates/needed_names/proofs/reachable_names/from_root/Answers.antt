@@ -1,5 +1,4 @@
 -- `needed_names::reachable_names::from_root` meets its contract.
-use borrow.Author.Rules.{rules}
 use lib.ListN.{get_or}
 use Rattle.names.specs.Sets.{nothing}
 use Rattle.needed_names.specs.reachable_names.Images.{inside-holds, inside-none-past, root-or-reached}

@@ -1,14 +1,14 @@
 -- `needed_names::reachable_names::held_inside` meets its contract: the images that the loop has passed are cut.
 use mathlib.Core.Logic.{◌⊎◌}
 use mathlib.Core.Path.{◌≡◌, sym, subst, ◌∙◌}
-use Prim.Native.Nat.{ℕ, ◌≤◌, ◌-◌}
+use Prim.Native.Nat.{ℕ, ◌≤◌}
 use native.Mathlib.Omega.{arith}
 use borrow.Author.Rules.{rules}
 use lib.ListN.{length, length-set}
 use Rattle.names.specs.Sets.{nothing}
 use Rattle.names.specs.closures.Rounds.{none-past-rounds}
 use Rattle.needed_names.specs.reachable_names.Images.{ImageInside, image-is-inside, images-inside}
-use Rattle.text_laws.specs.Loops.{Passed, passed_first, passed-next}
+use Rattle.text_laws.specs.Loops.{passed_first, passed-next}
 use Rattle.text_spec.specs.Limits.{max_declarations}
 use Rattle.needed_names.proofs.reachable_names.held_inside.Goals as goal
 

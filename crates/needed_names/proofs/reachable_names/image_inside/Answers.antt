@@ -1,7 +1,6 @@
 -- `needed_names::reachable_names::image_inside` meets its contract.
 use mathlib.Core.Bool.{Bool, ◌&&◌, and-false}
 use mathlib.Core.Path.{sym, ap, ◌∙◌}
-use borrow.Author.Rules.{rules}
 use Rattle.names.specs.Sets.{member}
 use Rattle.needed_names.proofs.reachable_names.image_inside.Goals as goal
 

@@ -3,7 +3,6 @@ use mathlib.Core.Path.{◌≡◌, sym, ◌∙◌}
 use Prim.Native.Nat.{◌≤◌}
 use native.Mathlib.Omega.{arith}
 use borrow.Author.Rules.{rules}
-use borrow.Author.Tests.{not-true, not-false}
 use lib.ListN.{length}
 use lib.Seq.{length-take-le}
 use Rattle.bundle.specs.records.Records.{schema-size, bundle-size}
@@ -14,21 +13,21 @@ use Rattle.needed_names.proofs.records.needed_names.Goals as goal
 
 -- both records pass their test, so that their texts are not too long
 schema-inside : (c : Else-not-is_bundle_record) → c.args.schema.len ≤ length c.args.schema.bytes
-schema-inside c = 
+schema-inside c =
     let at = c.args in
     let room : length at.schema.bytes ≡ max_schema_bytes = search rules in
-    omega (arith, schema-size at.schema.bytes at.schema.len at.bundle.bytes at.bundle.len (sym c.is_bundle_record.ensures ∙ not-false _ c.if-not-is_bundle_record.false-raw))
+    omega (arith, schema-size at.schema.bytes at.schema.len at.bundle.bytes at.bundle.len (sym c.is_bundle_record.ensures ∙ c.if-not-is_bundle_record.false))
 
 bundle-inside : (c : Else-not-is_bundle_record) → c.args.bundle.len ≤ length c.args.bundle.bytes
-bundle-inside c = 
+bundle-inside c =
     let at = c.args in
     let room : length at.bundle.bytes ≡ max_bundle_bytes = search rules in
-    omega (arith, bundle-size at.schema.bytes at.schema.len at.bundle.bytes at.bundle.len (sym c.is_bundle_record.ensures ∙ not-false _ c.if-not-is_bundle_record.false-raw))
+    omega (arith, bundle-size at.schema.bytes at.schema.len at.bundle.bytes at.bundle.len (sym c.is_bundle_record.ensures ∙ c.if-not-is_bundle_record.false))
 
 pub returns-then-not-is_bundle_record : goal.returns-then-not-is_bundle_record
 returns-then-not-is_bundle_record c =
     let at = c.args in
-    not-records at.schema.bytes at.schema.len at.bundle.bytes at.bundle.len (sym c.is_bundle_record.ensures ∙ not-true _ c.if-not-is_bundle_record.true-raw)
+    not-records at.schema.bytes at.schema.len at.bundle.bytes at.bundle.len (sym c.is_bundle_record.ensures ∙ c.if-not-is_bundle_record.true)
 
 pub slice_bounds-bytes-end : goal.slice_bounds-bytes-end
 slice_bounds-bytes-end c = schema-inside (goal.at.slice_bounds-bytes-end c).Else-not-is_bundle_record
@@ -45,4 +44,4 @@ slice_bounds-needed_by_texts-end-2 c = sym (length-take-le _ _ (bundle-inside (g
 pub returns : goal.returns
 returns c =
     let at = c.args in
-    both-records at.schema.bytes at.schema.len at.bundle.bytes at.bundle.len (sym c.is_bundle_record.ensures ∙ not-false _ c.if-not-is_bundle_record.false-raw) _ c.needed_by_texts.ensures
+    both-records at.schema.bytes at.schema.len at.bundle.bytes at.bundle.len (sym c.is_bundle_record.ensures ∙ c.if-not-is_bundle_record.false) _ c.needed_by_texts.ensures

@@ -1,4 +1,3 @@
-use borrow.Author.Rules.{rules}
 use Rattle.bundle.specs.records.Compiled.{judged-shaped}
 use Rattle.compiled_schema.specs.Places.{names-inside, names-taken, names-few, compiled-few}
 use Rattle.needed_names.specs.texts.Texts.{judged-needed}

@@ -1,7 +1,6 @@
 -- `cut_columns` meets its contract: more rows than a table can have are refused by 1, and others are cut.
 use mathlib.Core.Path.{sym, ◌∙◌}
 use native.Mathlib.Omega.{arith}
-use borrow.Author.Rules.{rules}
 use borrow.Author.Tests.{ltb-true, ltb-false}
 use Rattle.compiled_schema.specs.records.Records.{record_with}
 use Rattle.struct_cutting.specs.columns.Cutting.{cut-many}

@@ -1,7 +1,6 @@
 -- `later_fits` meets its contract: the tests in their order.
 use mathlib.Core.Path.{sym, ◌∙◌}
 use native.Mathlib.Omega.{arith}
-use borrow.Author.Rules.{rules}
 use borrow.Author.Tests.{lt-ltb, le-ltb, le-leb, not-true, not-false}
 use Rattle.table_laws.specs.passes.Passes.{later_fits}
 use Rattle.tables.proofs.later_rows.later_fits.Goals as goal

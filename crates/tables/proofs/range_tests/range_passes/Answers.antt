@@ -1,5 +1,4 @@
 -- `range_passes` meets its contract: the range ends inside the text, and no byte in it is foreign.
-use borrow.Author.Rules.{rules}
 use Rattle.tables.proofs.range_tests.Ranges.{range-past, range-short, range-whole}
 use Rattle.tables.proofs.range_tests.range_passes.Goals as goal
 

@@ -1,6 +1,5 @@
 -- `row_text_place` meets its contract: the record, the table, the row.
 use mathlib.Core.Path.{sym, ap, ◌∙◌}
-use borrow.Author.Rules.{rules}
 use borrow.Author.Tests.{not-true, not-false}
 use Rattle.compiled_schema.specs.records.Records.{passes-schema}
 use Rattle.schema_reader.specs.Sizes.{record-low}

@@ -1,7 +1,6 @@
 -- `text_of` meets its contract: past the rows, a text, or an element.
 use mathlib.Core.Path.{sym, ◌∙◌}
 use native.Mathlib.Omega.{arith}
-use borrow.Author.Rules.{rules}
 use borrow.Author.Tests.{le-leb, lt-leb}
 use Rattle.tables.proofs.row_text.text_of.Goals as goal
 

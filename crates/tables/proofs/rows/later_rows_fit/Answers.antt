@@ -1,11 +1,9 @@
 -- `later_rows_fit` meets its contract. The outer invariant: the pass from this row on is the whole pass; the inner one: the climb from this row on is the whole climb.
 use mathlib.Core.Path.{refl, sym, ◌∙◌}
-use Prim.Native.Nat.{◌-◌}
 use native.Mathlib.Omega.{arith}
-use borrow.Author.Rules.{rules}
 use borrow.Author.Tests.{not-true, not-false}
 use Rattle.table_spec.specs.Columns.{Columns, columns}
-use Rattle.tables.proofs.rows.Turns.{Rows, Climbing, row-lent, rows-first, climb-first, climb-next, rows-past, rows-fail, rows-text, rows-element, rows-done}
+use Rattle.tables.proofs.rows.Turns.{row-lent, rows-first, climb-first, climb-next, rows-past, rows-fail, rows-text, rows-element, rows-done}
 use Rattle.tables.proofs.rows.later_rows_fit.Goals.{Start, then-not-is_text, else-not-is_text, else-rows-test, then-rows-test+then-loop-element-test+then-depth-eq1, then-rows-test+else-loop-element-test+then-not-row_fits}
 use Rattle.tables.proofs.rows.later_rows_fit.Goals as goal
 
@@ -47,15 +45,15 @@ rows-preserved c =
     let more = c.rows-test.true in
     let text = sym c.is_text.ensures in
     elim c.if-not-is_text.branch [
-      then-not-is_text w ↦ rw (w.element-is, w.depth-is) (rows-element c.args.words.now (lent (goal.at.rows-preserved c).Start) c.args.count c.rows.element c.rows.depth c.rows.row _ c.loop-element.element c.loop-element.depth refl more r k here fits (text ∙ not-true _ w.if-not-is_text.true-raw))
-    | else-not-is_text w ↦ rw (w.element-is, w.depth-is) (rows-text c.args.words.now (lent (goal.at.rows-preserved c).Start) c.args.count c.rows.element c.rows.depth c.rows.row _ c.loop-element.element c.loop-element.depth refl more r k here fits (text ∙ not-false _ w.if-not-is_text.false-raw))
+      | then-not-is_text w ↦ rw (w.element-is, w.depth-is) (rows-element c.args.words.now (lent (goal.at.rows-preserved c).Start) c.args.count c.rows.element c.rows.depth c.rows.row _ c.loop-element.element c.loop-element.depth refl more r k here fits (text ∙ not-true _ w.if-not-is_text.true-raw))
+      | else-not-is_text w ↦ rw (w.element-is, w.depth-is) (rows-text c.args.words.now (lent (goal.at.rows-preserved c).Start) c.args.count c.rows.element c.rows.depth c.rows.row _ c.loop-element.element c.loop-element.depth refl more r k here fits (text ∙ not-false _ w.if-not-is_text.false-raw))
     ]
 
 pub returns : goal.returns
 returns c =
     let r = c.rows.invariant in
     elim c.rows-test.branch [
-      else-rows-test w ↦ rows-done c.args.words.now (lent (goal.at.returns c).Start) c.args.count _ _ _ r w.rows-test.false
-    | then-rows-test+then-loop-element-test+then-depth-eq1 w ↦ rows-past c.args.words.now (lent (goal.at.returns c).Start) c.args.count _ _ _ _ _ _ refl w.rows-test.true r w.loop-element.invariant w.loop-element-test.true w.if-depth-eq1.true
-    | then-rows-test+else-loop-element-test+then-not-row_fits w ↦ rows-fail c.args.words.now (lent (goal.at.returns c).Start) c.args.count _ _ _ _ _ _ refl w.rows-test.true r w.loop-element.invariant w.loop-element-test.false (sym w.row_fits.ensures ∙ not-true _ w.if-not-row_fits.true-raw)
+      | else-rows-test w ↦ rows-done c.args.words.now (lent (goal.at.returns c).Start) c.args.count _ _ _ r w.rows-test.false
+      | then-rows-test+then-loop-element-test+then-depth-eq1 w ↦ rows-past c.args.words.now (lent (goal.at.returns c).Start) c.args.count _ _ _ _ _ _ refl w.rows-test.true r w.loop-element.invariant w.loop-element-test.true w.if-depth-eq1.true
+      | then-rows-test+else-loop-element-test+then-not-row_fits w ↦ rows-fail c.args.words.now (lent (goal.at.returns c).Start) c.args.count _ _ _ _ _ _ refl w.rows-test.true r w.loop-element.invariant w.loop-element-test.false (sym w.row_fits.ensures ∙ not-true _ w.if-not-row_fits.true-raw)
     ]

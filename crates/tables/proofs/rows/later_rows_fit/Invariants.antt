@@ -1,12 +1,7 @@
 -- `later_rows_fit` meets its contract. The outer invariant: the pass from this row on is the whole pass; the inner one: the climb from this row on is the whole climb.
-use mathlib.Core.Logic.{⊎_elim}
-use mathlib.Core.Path.{refl, sym, ◌∙◌}
 use Prim.Native.Nat.{◌-◌}
-use native.Mathlib.Omega.{arith}
-use borrow.Author.Rules.{rules}
-use borrow.Author.Tests.{not-true, not-false}
-use Rattle.table_spec.specs.Columns.{Columns, columns}
-use Rattle.tables.proofs.rows.Turns.{Rows, Climbing, row-lent, rows-first, climb-first, climb-next, rows-past, rows-fail, rows-text, rows-element, rows-done}
+use Rattle.table_spec.specs.Columns.{columns}
+use Rattle.tables.proofs.rows.Turns.{Rows, Climbing}
 use Rattle.tables.proofs.rows.later_rows_fit.Given as goal
 
 abbrev pub invariant-loop-element : goal.invariant-loop-element

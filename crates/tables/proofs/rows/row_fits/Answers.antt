@@ -1,6 +1,5 @@
 -- `row_fits_lem` meets its contract: it hands the cells of two rows on.
 use native.Mathlib.Omega.{arith}
-use borrow.Author.Rules.{rules}
 use Rattle.tables.proofs.rows.row_fits.Goals as goal
 
 pub overflow_sub-row : goal.overflow_sub-row

@@ -1,10 +1,7 @@
 -- `copied_rows` meets its contract. The invariant: what is left of the rows decides.
 use mathlib.Core.Path.{sym, ◌∙◌}
-use Prim.Native.Nat.{◌-◌}
-use borrow.Author.Rules.{rules}
 use borrow.Author.Tests.{not-false}
 use Rattle.tables.proofs.text_ranges.Ranges.{left-first, left-copied}
-use Rattle.tables.specs.text_ranges.Left.{Left}
 use Rattle.tables.proofs.text_ranges.copied_rows.Goals as goal
 
 pub loop-i-init : goal.loop-i-init

@@ -1,7 +1,6 @@
 -- `is_copied` meets its contract: by the code.
 use mathlib.Core.Bool.{Bool, true, false, not, ◌&&◌, ◌||◌}
 use mathlib.Core.Path.{◌≡◌, refl, sym, ◌∙◌}
-use borrow.Author.Rules.{rules}
 use borrow.Author.Tests.{eq-eqb, ne_eqb}
 use Rattle.table_laws.specs.passes.Texts.{range_passes}
 use Rattle.tables.proofs.text_ranges.is_copied.Goals as goal

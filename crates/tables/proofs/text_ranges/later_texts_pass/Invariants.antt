@@ -1,9 +1,5 @@
 -- `later_texts_pass` meets its contract. The invariant: what is left of the rows decides.
-use mathlib.Core.Path.{sym, ◌∙◌}
 use Prim.Native.Nat.{◌-◌}
-use borrow.Author.Rules.{rules}
-use borrow.Author.Tests.{not-true, not-false}
-use Rattle.tables.proofs.text_ranges.Ranges.{left-fails, left-next, left-done}
 use Rattle.tables.specs.text_ranges.Left.{Left}
 use Rattle.tables.proofs.text_ranges.later_texts_pass.Given as goal
 

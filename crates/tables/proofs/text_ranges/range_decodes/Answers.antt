@@ -1,5 +1,4 @@
 -- `range_decodes` meets its contract: by the lengths, and by the size that the lexer tells.
-use borrow.Author.Rules.{rules}
 use Rattle.tables.proofs.text_ranges.Decoding.{decodes-equal, decodes-zero, decodes-size}
 use Rattle.tables.proofs.text_ranges.range_decodes.Goals as goal
 

@@ -1,7 +1,6 @@
 -- `text_passes` meets its contract: by the code, the range and the lengths.
 use mathlib.Core.Path.{sym, ◌∙◌}
 use native.Mathlib.Omega.{arith}
-use borrow.Author.Rules.{rules}
 use borrow.Author.Tests.{not-true, not-false}
 use Rattle.tables.proofs.text_ranges.Decoding.{range_inside}
 use Rattle.tables.proofs.text_ranges.text_passes.Goals as goal

@@ -1,6 +1,5 @@
 -- `texts_pass` meets its contract: what the rows that are copied leave decides.
 use native.Mathlib.Omega.{arith}
-use borrow.Author.Rules.{rules}
 use Rattle.tables.proofs.text_ranges.Ranges.{left-done}
 use Rattle.tables.proofs.text_ranges.texts_pass.Goals as goal
 

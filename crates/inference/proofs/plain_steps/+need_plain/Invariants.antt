@@ -1,0 +1,5 @@
+-- The steps that are left fall.
+use Rattle.inference.proofs.plain_steps.+need_plain.Given as goal
+
+abbrev pub decreases-need_plain : goal.decreases-need_plain
+decreases-need_plain l = l.n
