@@ -1,8 +1,8 @@
 -- From the first field to the last: what stands after each, and what is read in the end.
-use Rattle.std.specs.Prelude.{Bool, true, cond, ◌≡◌, ℕ, zero, suc, ◌+◌, ◌-◌, ◌<◌, ◌≤◌, get_or, replicate}
+use Rattle.std.specs.Prelude.{Bool, true, cond, ◌≡◌, ℕ, zero, suc, ◌-◌, ◌<◌, ◌≤◌, get_or}
 use Rattle.std.proofs.Math.Bool.{false}
 use mathlib.Core.List.{List, [], ◌∷◌}
-use Rattle.std.proofs.Math.Option.{Option, none, some}
+use Rattle.std.proofs.Math.Option.{none, some}
 use Rattle.std.proofs.Math.Path.{refl, ap}
 use Rattle.std.proofs.Common.{sym, subst, ◌∙◌}
 use native.Mathlib.Omega.{arith}
@@ -15,14 +15,12 @@ use Rattle.extract_reader.specs.declared.fields.First.TheVariants as first
 use Rattle.extract_reader.specs.declared.steps.Progress.{Progress}
 use Rattle.extract_reader.specs.field_rows.Steps.{carried_on}
 use Rattle.extract_reader.specs.field_tests.Tests.{word_types}
-use Rattle.extract_reader.specs.field_values.Fields.{state_in}
-use Rattle.extract_reader.specs.fields.Fields.{first_of, FirstAs}
+use Rattle.extract_reader.specs.fields.Fields.{FirstAs}
 use Rattle.extract_reader.specs.levels.Levels.{row_in, number_in, element_in, levels_in}
-use Rattle.extract_reader.specs.steps.ReadLaws.{hold-by}
-use Rattle.extract_reader.specs.steps.Reads.{prepended, Hold, progress, Reads, Stands, still-reading, refused, all_read, ReadOn}
+use Rattle.extract_reader.specs.steps.Reads.{Hold, progress, Reads, Stands, still-reading, refused, all_read, ReadOn}
 use Rattle.extract_spec.specs.Reading.{Placed, cons_row}
 use Rattle.projection_laws.specs.Opens.{placed}
-use Rattle.projection_laws.specs.extract_passes.Steps.{state, Step, wrong, ended, onward, continued, past_field, first_step, rows_from, rows_in}
+use Rattle.projection_laws.specs.extract_passes.Steps.{state, Step, continued, past_field, rows_from, rows_in}
 use Rattle.table_spec.specs.Columns.{Columns, Sizes, sizes_of, columns_of}
 use Rattle.table_spec.specs.Rows.{Row, element_row}
 use Rattle.text_laws.specs.Tests.{never}

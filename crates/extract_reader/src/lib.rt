@@ -1,4 +1,6 @@
 // All rows of an extract, read into clear columns, with the open elements in cells of their own.
+#![tactic(auto)]
+
 pub mod field_ends;
 pub mod field_rows;
 pub mod field_tests;

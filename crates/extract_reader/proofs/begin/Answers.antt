@@ -1,6 +1,5 @@
 -- `begin` meets its contract: by what the first field says.
 use mathlib.Core.Path.{refl}
-use borrow.Author.Rules.{rules}
 use Rattle.extract_reader.specs.Whole.{begun-by}
 use Rattle.extract_reader.specs.declared.fields.First.TheVariants as first
 use Rattle.extract_reader.proofs.begin.Goals as goal

@@ -9,13 +9,13 @@ use borrow.Author.Tests.{le-leb, lt-leb}
 use lib.Dec.{T, eqb, leb, ltb, ltb→lt, leb→le}
 use lib.ListN.{get_or, take, drop}
 use Rattle.extract_reader.specs.declared.field_values.Carried.{Carried}
-use Rattle.extract_reader.specs.declared.field_values.FieldRead.TheVariants.{Wrong, Ended, Element, Text}
+use Rattle.extract_reader.specs.declared.field_values.FieldRead.TheVariants.{Wrong, Element, Text}
 use Rattle.extract_reader.specs.field_ends.Values.{no-element, five, no_text, four, value-long, value-at, in_two_lem, number_in, parent_in}
 use Rattle.extract_reader.specs.field_tests.TestLaws.{and-nothing, element-test, text-test}
 use Rattle.extract_reader.specs.field_tests.Tests.{held_by, word_types, LevelPass, element_under, text_under}
 use Rattle.extract_reader.specs.field_values.Fields.{state_in, field_step, ValuePass, ElementAs, TextAs}
 use Rattle.extract_reader.specs.levels.Levels.{levels_in, last_element, LevelOf}
-use Rattle.extract_spec.specs.Reading.{element_item, text_item, no_item, in_two, element_value, text_value, Placed, open_from, top_row, top_element}
+use Rattle.extract_spec.specs.Reading.{element_item, text_item, element_value, text_value, Placed, open_from, top_row, top_element}
 use Rattle.projection_laws.specs.Opens.{placed}
 use Rattle.projection_laws.specs.extract_passes.Steps.{wrong, onward, state, element_fits, text_fits, later_step}
 use Rattle.schema_spec.specs.Names.{element, text}

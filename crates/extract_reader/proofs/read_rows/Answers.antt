@@ -1,10 +1,8 @@
 -- `read_rows` meets its contract: after each turn one field more is read, so that fewer bytes are left.
-use mathlib.Core.Path.{◌≡◌, refl}
+use mathlib.Core.Path.{refl}
 use native.Mathlib.Omega.{arith}
 use borrow.Author.Rules.{rules}
-use lib.ListN.{length}
-use Rattle.extract_reader.specs.Whole.{stands-begun, bytes_left, going-reads, fewer-left, rows-read, same-sizes}
-use Rattle.extract_reader.specs.steps.Reads.{Stands}
+use Rattle.extract_reader.specs.Whole.{stands-begun, going-reads, fewer-left, rows-read, same-sizes}
 use Rattle.table_spec.specs.Columns.{columns}
 use Rattle.extract_reader.proofs.read_rows.Goals as goal
 
@@ -21,8 +19,7 @@ loop-x-smaller c = fewer-left _ _ _ _ _ c.loop-x.invariant.0 c.loop-x-test.true 
 
 pub loop-x-preserved : goal.loop-x-preserved
 loop-x-preserved c =
-    let at = c.loop-x in
-    (
+    let at = c.loop-x in (
       c.read_row-next.ensures.stands,
       omega (arith, c.read_row-next.auto.numbers, at.invariant.1),
       omega (arith, c.read_row-next.auto.names, at.invariant.2),

@@ -1,5 +1,5 @@
 -- The row of a field, and the levels after it, are those of the step.
-use Rattle.std.specs.Prelude.{true, false, List, ◌∷◌, ◌≡◌, refl, ℕ, suc, ◌+◌, ◌-◌, ◌<◌, ◌≤◌, length, set}
+use Rattle.std.specs.Prelude.{true, false, List, ◌∷◌, ◌≡◌, refl, ℕ, suc, ◌+◌, ◌-◌, ◌≤◌, length, set}
 use Rattle.std.proofs.Common.{⊎_elim, sym, ap, ap₂, subst, ◌∙◌, add-one, arith, length-set}
 use Rattle.extract_reader.specs.declared.field_rows.FieldStep.{FieldStep}
 use Rattle.extract_reader.specs.declared.field_rows.FieldStep.TheVariants as field
@@ -7,17 +7,16 @@ use Rattle.extract_reader.specs.declared.field_values.Carried.{Carried}
 use Rattle.extract_reader.specs.declared.field_values.FieldRead.{FieldRead}
 use Rattle.extract_reader.specs.declared.field_values.FieldRead.TheVariants.{Wrong, Ended, Element, Text}
 use Rattle.extract_reader.specs.field_rows.Steps.{carried_on, row_step, element_step, text_step, ElementPlace, TextPlace, Ready, StepAs, wrong-field, last-field, row_field}
-use Rattle.extract_reader.specs.field_tests.Tests.{word_types}
-use Rattle.extract_reader.specs.field_values.Fields.{state_in, field_step}
+use Rattle.extract_reader.specs.field_values.Fields.{state_in}
 use Rattle.extract_reader.specs.fields.Fields.{FieldAs}
 use Rattle.extract_reader.specs.levels.LevelLaws.{top-row, top-element, levels-opened, known-opened}
 use Rattle.extract_reader.specs.levels.Levels.{level_word, levels_in, last_row, last_element, Known}
 use Rattle.extract_spec.specs.Reading.{Placed, top_row, top_element}
 use Rattle.projection_laws.specs.Opens.{placed}
-use Rattle.projection_laws.specs.extract_passes.Steps.{State, state, onward, past_field, step_at}
-use Rattle.table_spec.specs.Rows.{Row, Cells, cells_of, element_row, text_row}
+use Rattle.projection_laws.specs.extract_passes.Steps.{state, onward, past_field}
+use Rattle.table_spec.specs.Rows.{Cells, element_row, text_row}
 use Rattle.text_laws.specs.Tests.{never}
-use Rattle.text_spec.specs.Limits.{max_declarations, max_depth}
+use Rattle.text_spec.specs.Limits.{max_declarations}
 
 -- ---- the rows that the code makes
 pub element-made : (levels : List ℕ) (c : Carried) (number e d p : ℕ) → p ≡ last_row levels d

@@ -1,5 +1,5 @@
 -- A field of an extract as a row in numbers, with what is then carried on.
-use Rattle.std.specs.Prelude.{Bool, true, false, List, ◌≡◌, ℕ, ◌+◌, ◌*◌, ◌-◌, ◌<◌, ◌≤◌, length}
+use Rattle.std.specs.Prelude.{Bool, true, false, List, ◌≡◌, ℕ, ◌+◌, ◌*◌, ◌<◌, ◌≤◌, length}
 use Rattle.extract_reader.specs.declared.field_rows.FieldRow.{FieldRow}
 use Rattle.extract_reader.specs.declared.field_rows.FieldStep.{FieldStep}
 use Rattle.extract_reader.specs.declared.field_rows.FieldStep.TheVariants as field
@@ -7,8 +7,8 @@ use Rattle.extract_reader.specs.declared.field_values.Carried.{Carried}
 use Rattle.extract_reader.specs.field_tests.Tests.{word_types}
 use Rattle.extract_reader.specs.field_values.Fields.{state_in}
 use Rattle.extract_reader.specs.fields.Fields.{FieldPass}
-use Rattle.extract_reader.specs.levels.Levels.{row_in, last_row, last_element, Known}
-use Rattle.projection_laws.specs.extract_passes.Steps.{Step, wrong, ended, onward, past_field, step_at}
+use Rattle.extract_reader.specs.levels.Levels.{last_row, last_element}
+use Rattle.projection_laws.specs.extract_passes.Steps.{wrong, ended, onward, past_field, step_at}
 use Rattle.table_spec.specs.Rows.{Row, Cells, cells_of}
 use Rattle.text_spec.specs.Limits.{max_declarations, max_nodes, max_depth, max_text_bytes}
 

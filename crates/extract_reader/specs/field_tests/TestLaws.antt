@@ -1,6 +1,6 @@
 -- The tests of a row are those of the pass.
 use Rattle.std.proofs.Math.Bool.{Bool, true, false, not}
-use Rattle.std.specs.Prelude.{◌&&◌, List, ◌≡◌, eqb, ltb, length, get_or}
+use Rattle.std.specs.Prelude.{◌&&◌, List, ◌≡◌, eqb, ltb, get_or}
 use Rattle.std.proofs.Math.Path.{refl, sym, ap}
 use Rattle.std.proofs.Common.{ap₂, ◌∙◌, lt-ltb, le-ltb, le-leb, eq-eqb, ne_eqb}
 use Prim.Native.Nat.{ℕ, zero, suc, ◌+◌, ◌-◌, ◌<◌, ◌≤◌}

@@ -1,5 +1,5 @@
 -- A field by its tag and length is the item that stands there.
-use Rattle.std.specs.Prelude.{Bool, cond, ◌&&◌, List, [], ◌∷◌, ◌≡◌, ℕ, ◌+◌, ◌-◌, ◌<◌, ◌≤◌, T, length, get_or, take, drop}
+use Rattle.std.specs.Prelude.{Bool, cond, ◌&&◌, List, [], ◌∷◌, ◌≡◌, ℕ, ◌+◌, ◌-◌, ◌<◌, ◌≤◌, T, length, get_or, drop}
 use Rattle.std.proofs.Math.Bool.{true, false}
 use Rattle.std.proofs.Common.{inl, subst, ◌∙◌, length-take, length-drop}
 use Rattle.std.proofs.Math.Logic.{inr}
@@ -10,20 +10,19 @@ use Rattle.std.proofs.Math.Dec.{eqb, leb, leb→le}
 use Rattle.extract_reader.specs.declared.field_values.Carried.{Carried}
 use Rattle.extract_reader.specs.declared.field_values.FieldRead.{FieldRead}
 use Rattle.extract_reader.specs.declared.field_values.FieldRead.TheVariants.{Wrong, Ended}
-use Rattle.extract_reader.specs.declared.fields.First.{First}
 use Rattle.extract_reader.specs.declared.fields.First.TheVariants as first
 use Rattle.extract_reader.specs.field_ends.Ends.{is_root, is_count}
 use Rattle.extract_reader.specs.field_tests.Tests.{word_types}
 use Rattle.extract_reader.specs.field_values.Fields.{state_in, Bounds, ValuePass, ElementAs, TextAs}
 use Rattle.extract_reader.specs.fields.Fields.{CountAs, FieldPass, FieldAs, first_of, FirstAs}
 use Rattle.extract_spec.specs.Fields.{element_tag, text_tag, count_tag}
-use Rattle.extract_spec.specs.Reading.{Item, element_item, text_item, count_item, no_item, in_two, element_value, text_value, count_value, item_of}
+use Rattle.extract_spec.specs.Reading.{Item, no_item, in_two, element_value, text_value, count_value, item_of}
 use Rattle.projection_laws.specs.Opens.{placed}
 use Rattle.projection_laws.specs.extract_passes.Places.{no_field, step-wrong, step_right}
 use Rattle.projection_laws.specs.extract_passes.Steps.{State, state, Step, wrong, ended, onward, later_step, root_step, size_at, past_field, has_field, item_at, is_last, step_at, first_step}
 use Rattle.schema_spec.specs.Names.{Name, element, same_name}
 use Rattle.schema_spec.specs.Types.{Types}
-use Rattle.table_spec.specs.Rows.{Row, element_row}
+use Rattle.table_spec.specs.Rows.{element_row}
 use Rattle.text_laws.specs.Tests.{never, passed, and_cases, cond_yes, cond_no}
 use Rattle.text_spec.specs.Lists.{part}
 

@@ -10,13 +10,13 @@ use Prim.Native.Nat.{ℕ, zero, suc, ◌+◌, ◌-◌, ◌<◌, ◌≤◌}
 use native.Mathlib.Omega.{arith}
 use Rattle.std.proofs.Math.Dec.{leb}
 use Rattle.extract_reader.specs.field_tests.Tests.{held_by, word_types}
-use Rattle.extract_spec.specs.Reading.{Item, element_item, text_item, count_item, no_item, open_from, Placed, top_row, top_element, cons_row}
+use Rattle.extract_spec.specs.Reading.{Item, element_item, text_item, count_item, no_item, open_from, top_row, top_element, cons_row}
 use Rattle.projection_laws.specs.Opens.{placed}
 use Rattle.projection_laws.specs.extract_passes.Steps.{State, state, Step, wrong, ended, onward, continued, number_fits, later_step, root_step, past_field, has_field, item_at, is_last, step_at, first_step, rows_from, rows_in}
 use Rattle.schema_laws.specs.Accepted.{schema_in-length, schema_in-closed}
 use Rattle.schema_laws.specs.Closure.{held_in}
 use Rattle.schema_laws.specs.Names.{in-element, in-text}
-use Rattle.schema_spec.specs.Names.{Name, element, text, has_bit, code_of, name_of_code, same_name, names_of}
+use Rattle.schema_spec.specs.Names.{Name, element, text, has_bit, name_of_code, same_name, names_of}
 use Rattle.schema_spec.specs.Records.{schema_in}
 use Rattle.schema_spec.specs.Schemas.{Schema}
 use Rattle.schema_spec.specs.Types.{Types, holds, types_of}

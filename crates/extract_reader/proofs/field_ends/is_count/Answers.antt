@@ -1,5 +1,4 @@
 -- `is_count` meets its contract: the length, the end, the number.
-use borrow.Author.Rules.{rules}
 use Rattle.extract_reader.proofs.field_ends.Ends.{count-misfit, count-not-last, count-last}
 use Rattle.extract_reader.proofs.field_ends.is_count.Goals as goal
 

@@ -1,6 +1,5 @@
 -- `is_root` meets its contract: the three numbers of the value in turn.
 use mathlib.Core.Path.{refl}
-use borrow.Author.Rules.{rules}
 use Rattle.extract_reader.proofs.field_ends.Ends.{root-misfit, root-numbered, root-under, root-accepted}
 use Rattle.extract_reader.proofs.field_ends.is_root.Goals as goal
 

@@ -1,5 +1,4 @@
 -- `element_row` meets its contract: the row in numbers, and the level set.
-use borrow.Author.Rules.{rules}
 use Rattle.extract_reader.specs.field_rows.StepLaws.{element-made}
 use Rattle.extract_reader.proofs.field_rows.element_row.Goals as goal
 

@@ -1,5 +1,4 @@
 -- `step` meets its contract: what the field says, as a step of the pass.
-use borrow.Author.Rules.{rules}
 use Rattle.extract_reader.specs.field_rows.StepLaws.{step-wrong, step-ended, element_place, element-step, text-place, text-step}
 use Rattle.extract_reader.proofs.field_rows.step.Goals as goal
 

@@ -1,5 +1,4 @@
 -- `text_row` meets its contract: the row in numbers.
-use borrow.Author.Rules.{rules}
 use Rattle.extract_reader.specs.field_rows.StepLaws.{text-made}
 use Rattle.extract_reader.proofs.field_rows.text_row.Goals as goal
 

@@ -1,5 +1,4 @@
 -- `element_fits` meets its contract: the tests of `element_under` in turn.
-use borrow.Author.Rules.{rules}
 use Rattle.extract_reader.specs.field_tests.TestLaws.{element-none, element-deep, element-held, level-known}
 use Rattle.extract_reader.proofs.field_tests.element_fits.Goals as goal
 

@@ -1,6 +1,5 @@
 -- `holds_element` meets its contract: an element past the last holds none, else the bit of the word.
 use mathlib.Core.Path.{◌∙◌}
-use borrow.Author.Rules.{rules}
 use Rattle.extract_reader.specs.field_tests.TestLaws.{held-past, held_low}
 use Rattle.extract_reader.proofs.field_tests.holds_element.Goals as goal
 

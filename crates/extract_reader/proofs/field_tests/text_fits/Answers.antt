@@ -1,6 +1,5 @@
 -- `text_fits` meets its contract: the tests of `text_under` in turn.
 use native.Mathlib.Omega.{arith}
-use borrow.Author.Rules.{rules}
 use Rattle.extract_reader.specs.field_tests.TestLaws.{text-none, text-after, text-held, level-known}
 use Rattle.extract_reader.proofs.field_tests.text_fits.Goals as goal
 

@@ -1,7 +1,6 @@
 -- `two_bytes_lem` meets its contract: each byte is below 256.
 use Prim.Native.Nat.{◌+◌}
 use native.Mathlib.Omega.{arith}
-use borrow.Author.Rules.{rules}
 use Rattle.extract_reader.proofs.field_tests.two_bytes.Goals as goal
 
 pub overflow_cast-result : goal.overflow_cast-result

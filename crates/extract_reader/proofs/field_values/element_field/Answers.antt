@@ -1,6 +1,5 @@
 -- `element_field` meets its contract: each test that fails is a wrong step, and all together the element's.
 use mathlib.Core.Path.{refl}
-use borrow.Author.Rules.{rules}
 use Rattle.extract_reader.proofs.field_values.Values.{element-misfit, element-numbered, element-placed, element-accepted, value-level}
 use Rattle.extract_reader.proofs.field_values.element_field.Goals as goal
 

@@ -1,7 +1,6 @@
 -- `text_field` meets its contract: each test that fails is a wrong step, and all together the text's.
 use Prim.Native.Nat.{◌-◌}
 use native.Mathlib.Omega.{arith}
-use borrow.Author.Rules.{rules}
 use Rattle.extract_reader.proofs.field_values.Values.{text-under-five, text-over, text-numbered, text-placed, text-foreign, text-accepted, value-level}
 use Rattle.extract_reader.proofs.field_values.text_field.Goals as goal
 

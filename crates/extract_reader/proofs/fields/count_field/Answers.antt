@@ -1,6 +1,5 @@
 -- `count_field` meets its contract: the end, or nothing that may stand here.
 use mathlib.Core.Path.{sym, ◌∙◌}
-use borrow.Author.Rules.{rules}
 use Rattle.extract_reader.specs.fields.FieldLaws.{count-ended, count-wrong}
 use Rattle.extract_reader.proofs.fields.count_field.Goals as goal
 

@@ -2,7 +2,6 @@
 use mathlib.Core.Bool.{true}
 use mathlib.Core.Path.{◌≡◌, sym, ◌∙◌}
 use native.Mathlib.Omega.{arith}
-use borrow.Author.Rules.{rules}
 use Rattle.extract_reader.specs.fields.FieldLaws.{length-inside, value-inside, first-none, first-root, first-other, first_ended, first-uncounted, first-tagged}
 use Rattle.projection_laws.specs.extract_passes.Steps.{has_field}
 use Rattle.extract_reader.proofs.fields.first_field.Goals.{Else-not-has_field}

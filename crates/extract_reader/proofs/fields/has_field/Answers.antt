@@ -1,5 +1,4 @@
 -- `has_field` meets its contract: three bytes, and as many as they say.
-use borrow.Author.Rules.{rules}
 use Rattle.extract_reader.specs.fields.FieldLaws.{field-short, field-measured}
 use Rattle.extract_reader.proofs.fields.has_field.Goals as goal
 

@@ -2,7 +2,6 @@
 use mathlib.Core.Bool.{true}
 use mathlib.Core.Path.{◌≡◌, sym, ◌∙◌}
 use native.Mathlib.Omega.{arith}
-use borrow.Author.Rules.{rules}
 use Rattle.extract_reader.specs.fields.FieldLaws.{length-inside, value-inside, value-pass, field-none, field-element, field-text, field-count, field-unknown}
 use Rattle.projection_laws.specs.extract_passes.Steps.{has_field}
 use Rattle.extract_reader.proofs.fields.read_field.Goals.{Else-not-has_field}

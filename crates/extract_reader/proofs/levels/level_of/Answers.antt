@@ -1,7 +1,6 @@
 -- `level_of` meets its contract: the climb from the innermost open element up.
 use mathlib.Core.Path.{sym, ◌∙◌}
-use borrow.Author.Rules.{rules}
-use Rattle.extract_reader.specs.levels.LevelLaws.{Climbing, climbing-first, climbing-found, climbing-next, climbing-none}
+use Rattle.extract_reader.specs.levels.LevelLaws.{climbing-first, climbing-found, climbing-next, climbing-none}
 use Rattle.extract_reader.proofs.levels.level_of.Goals as goal
 
 pub loop-d-init : goal.loop-d-init

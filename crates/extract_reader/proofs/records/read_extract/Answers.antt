@@ -29,11 +29,11 @@ pub returns : goal.returns
 returns c =
     let at = c.args in
     elim c.if-is_schema_record.branch [
-      then-is_schema_record+else-equal_sizes w ↦
+      | then-is_schema_record+else-equal_sizes w ↦
           let call = call-no-columns (record_with at.schema.bytes at.schema.len) at.extract.now (columns at.numbers.now at.names.now at.parents.now at.starts.now at.lengths.now at.decoded.now) _ _
           (sym (passes-schema at.schema.bytes at.schema.len) ∙ sym c.is_schema_record.ensures ∙ w.if-is_schema_record.true) (sym w.equal_sizes.ensures ∙ w.if-equal_sizes.false) c.refused.ensures c.clear.ensures in
           record { value = call.answer; left_rows = call.cells }
-    | else-is_schema_record w ↦
+      | else-is_schema_record w ↦
           let call = call-no-record (record_with at.schema.bytes at.schema.len) at.extract.now (columns at.numbers.now at.names.now at.parents.now at.starts.now at.lengths.now at.decoded.now) _ _
           (sym (passes-schema at.schema.bytes at.schema.len) ∙ sym c.is_schema_record.ensures ∙ w.if-is_schema_record.false) c.refused.ensures c.clear.ensures in
           record { value = call.answer; left_rows = call.cells }

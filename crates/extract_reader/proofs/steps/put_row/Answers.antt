@@ -1,5 +1,4 @@
 -- `put_row` meets its contract: a store in each column, or in none.
-use borrow.Author.Rules.{rules}
 use Rattle.cells.specs.columns.ColumnLaws.{row_in, row_out}
 use Rattle.extract_reader.specs.field_rows.Steps.{row_cells}
 use Rattle.table_spec.specs.Columns.{columns}

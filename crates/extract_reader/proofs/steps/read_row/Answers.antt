@@ -1,6 +1,5 @@
 -- `read_row` meets its contract: one row more, or the end.
 use mathlib.Core.Path.{refl}
-use borrow.Author.Rules.{rules}
 use Rattle.extract_reader.specs.steps.ReadLaws.{wrong-on, ended-on, row_on}
 use Rattle.extract_reader.proofs.steps.read_row.Goals as goal
 

@@ -1,7 +1,5 @@
 -- `judge` meets its contract: 2, or what reading finds.
 use mathlib.Core.Path.{refl}
-use native.Mathlib.Omega.{arith}
-use borrow.Author.Rules.{rules}
 use Rattle.extract_reader.specs.table.Tables.{judged-2, judged-found}
 use Rattle.extract_reader.proofs.table.judge.Goals as goal
 

@@ -1,6 +1,5 @@
 -- `verdict_of` meets its contract: 17, then 18.
 use mathlib.Core.Path.{◌∙◌}
-use borrow.Author.Rules.{rules}
 use borrow.Author.Tests.{not-true, not-false}
 use Rattle.extract_reader.specs.verdict.Verdicts.{verdict-17, verdict-18, verdict-rows}
 use Rattle.extract_reader.proofs.verdict.verdict_of.Goals as goal
