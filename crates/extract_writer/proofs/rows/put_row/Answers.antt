@@ -41,14 +41,14 @@ overflow_cast-name c = omega (arith, c.type_inv.names c.args.r)
 
 pub put_element-requires : goal.put_element-requires
 put_element-requires c =
-    element-room c.args.text.now (lent (goal.at.put_element-requires c).Start) c.args.mark c.args.r c.args.out.now c.args.at c.requires c.if-mark-ne-MARKED.false c.if-name-lt-MAX_ELEMENTS.true
+    element-room c.args.text.now (lent (goal.at.put_element-requires c).Start) c.args.mark c.args.r c.args.out.now c.args.at c.requires (omega arith) c.if-name-lt-MAX_ELEMENTS.true
 
 pub overflow_add-result : goal.overflow_add-result
 overflow_add-result c = omega arith
 
 pub returns-then-name-lt-MAX_ELEMENTS : goal.returns-then-name-lt-MAX_ELEMENTS
 returns-then-name-lt-MAX_ELEMENTS c =
-    element-put c.args.text.now (lent (goal.at.returns-then-name-lt-MAX_ELEMENTS c).Start) c.args.mark c.args.r c.args.out.now c.args.at c.requires c.if-mark-ne-MARKED.false c.if-name-lt-MAX_ELEMENTS.true _ c.put_element.ensures
+    element-put c.args.text.now (lent (goal.at.returns-then-name-lt-MAX_ELEMENTS c).Start) c.args.mark c.args.r c.args.out.now c.args.at c.requires (omega arith) c.if-name-lt-MAX_ELEMENTS.true _ c.put_element.ensures
 
 pub offset_bounds-starts-r : goal.offset_bounds-starts-r
 offset_bounds-starts-r c = (row-place c.requires).words
@@ -89,7 +89,7 @@ slice_bounds-put_text-end c =
 
 pub put_text-requires : goal.put_text-requires
 put_text-requires c =
-    text-asked c.args.text.now (lent (goal.at.put_text-requires c).Start) c.args.mark c.args.r c.args.out.now c.args.at c.requires c.if-mark-ne-MARKED.false c.if-name-lt-MAX_ELEMENTS.false
+    text-asked c.args.text.now (lent (goal.at.put_text-requires c).Start) c.args.mark c.args.r c.args.out.now c.args.at c.requires (omega arith) c.if-name-lt-MAX_ELEMENTS.false
 
 pub overflow_add-result-2 : goal.overflow_add-result-2
 overflow_add-result-2 c = omega arith
@@ -104,4 +104,4 @@ overflow_add-result-3 c =
 
 pub returns : goal.returns
 returns c =
-    text-put c.args.text.now (lent (goal.at.returns c).Start) c.args.mark c.args.r c.args.out.now c.args.at c.requires c.if-mark-ne-MARKED.false c.if-name-lt-MAX_ELEMENTS.false _ c.put_text.ensures
+    text-put c.args.text.now (lent (goal.at.returns c).Start) c.args.mark c.args.r c.args.out.now c.args.at c.requires (omega arith) c.if-name-lt-MAX_ELEMENTS.false _ c.put_text.ensures
