@@ -139,7 +139,7 @@ module _ (schema : List ℕ) (s : Schema) (read : read_schema schema ≡ accepte
       let h = tested-columns (types_of s) rows alone (rows-coded schema s read rows alone) in
       record {
         rooms = rooms (read_extract (types_of s) extract) c equal n d w;
-        columns = rw (rows_in.numbered, rows_in.named, rows_in.parented) h;
+        columns = rw (rows_in_lem.numbered, rows_in_lem.named, rows_in_lem.parented) h;
       }
 
   module _ (paths : CompiledPaths) (place : ℕ) (items counts items' counts' : List ℕ) (e : Columns) (r : HostResult) (u : SelectedUnder paths place n d e items counts items' counts' r) where
