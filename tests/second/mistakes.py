@@ -1,7 +1,7 @@
 #!/usr/bin/env python3
 """Do tests/compare and tests/compare_inner notice a mistake? Each edit puts one into a copy of the second implementation. For tests/compare that is then
 built as the archive to compare with; the comparison must fail, and where an edit says so the C host of tests/host must, too, and the cases of
-tests/vectors; without an edit none of them may. For tests/compare_inner it is compared with the archives of the proved crates (rt staticlib). Takes some
+tests/vectors; without an edit none of them may. For tests/compare_inner it is compared with the archives of the proved crates (tests/archive). Takes some
 minutes; not part of the gate.
 Needs gcc and rustc. The words after the program's name choose edits by a part of their names."""
 import os

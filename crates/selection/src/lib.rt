@@ -1,4 +1,6 @@
 // The rows that a compiled path selects, marked: its steps one after the other from the root.
+#![tactic(auto)]
+
 pub mod answers;
 pub mod asked;
 pub mod first_paths;

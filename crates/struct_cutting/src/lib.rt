@@ -1,3 +1,5 @@
 // `cut_table_rows`: a table of row structs cut into others.
+#![tactic(auto)]
+
 pub mod columns;
 pub mod entry;

@@ -1,3 +1,5 @@
 // `select_nodes_rows`: nodes selected on a table of row structs.
+#![tactic(auto)]
+
 pub mod columns;
 pub mod entry;

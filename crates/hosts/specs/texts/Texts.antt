@@ -1,8 +1,8 @@
 -- What judging a schema and a bundle in turn answers, in the definition's terms.
 use Rattle.std.specs.Prelude.{Bool, true, false, ◌≡◌, refl, ℕ}
-use mathlib.Core.List.{List, [], map}
+use mathlib.Core.List.{List, []}
 use Rattle.std.proofs.Math.Path.{sym, ap}
-use Rattle.std.proofs.Common.{subst, ◌∙◌, arith}
+use Rattle.std.proofs.Common.{◌∙◌}
 use Rattle.bundle.specs.Judging.{JudgedUnder}
 use Rattle.bundle.specs.Judging as under
 use Rattle.bundle.specs.declared.Judged.{Judged}
@@ -11,7 +11,6 @@ use Rattle.compiled_paths.specs.Paths.{paths_in, Shaped}
 use Rattle.compiled_paths.specs.declared.CompiledPaths.{CompiledPaths}
 use Rattle.compiled_schema.specs.Compiled.{CompiledOf, JudgedAs}
 use Rattle.compiled_schema.specs.Places.{names_at}
-use Rattle.compiled_schema.specs.declared.CompiledSchema.{CompiledSchema}
 use Rattle.compiled_schema.specs.declared.JudgedSchema.{JudgedSchema}
 use Rattle.hosts.specs.declared.texts.Texts.{Texts}
 use Rattle.hosts.specs.declared.texts.Told.{Told}

@@ -1,6 +1,5 @@
 use Prim.Native.Nat.{◌+◌}
 use native.Mathlib.Omega.{arith}
-use borrow.Author.Rules.{rules}
 use Rattle.selection.specs.Steps.{path-steps, path-marked}
 use Rattle.selection.proofs.select_path.Goals as goal
 

@@ -1,9 +1,7 @@
 use mathlib.Core.Path.{sym, ◌∙◌}
-use Prim.Native.Nat.{◌+◌, ◌-◌}
 use native.Mathlib.Omega.{arith}
-use borrow.Author.Rules.{rules}
 use borrow.Author.Tests.{not-true}
-use Rattle.selection.specs.Steps.{StepsSoFar, steps-begun, steps-pass, steps_next, steps_all, steps-ended}
+use Rattle.selection.specs.Steps.{steps-begun, steps-pass, steps_next, steps_all, steps-ended}
 use Rattle.selection.proofs.steps_from.Goals as goal
 
 pub overflow_add-end : goal.overflow_add-end

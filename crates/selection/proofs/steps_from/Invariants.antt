@@ -1,13 +1,9 @@
-use mathlib.Core.Path.{sym, ◌∙◌}
 use Prim.Native.Nat.{◌+◌, ◌-◌}
-use native.Mathlib.Omega.{arith}
-use borrow.Author.Rules.{rules}
-use borrow.Author.Tests.{not-true}
-use Rattle.selection.specs.Steps.{StepsSoFar, steps-begun, steps-pass, steps_next, steps_all, steps-ended}
+use Rattle.selection.specs.Steps.{StepsSoFar}
 use Rattle.selection.proofs.steps_from.Given as goal
 
 abbrev pub invariant-loop-k : goal.invariant-loop-k
-invariant-loop-k l =     StepsSoFar l.parents l.codes l.axes l.tests l.conditions l.first l.size l.initial.marks l.k l.marks l.held l.steps l.next
+invariant-loop-k l = StepsSoFar l.parents l.codes l.axes l.tests l.conditions l.first l.size l.initial.marks l.k l.marks l.held l.steps l.next
 
 abbrev pub decreases-loop-k : goal.decreases-loop-k
 decreases-loop-k l = l.first + l.size - l.k

@@ -1,5 +1,4 @@
 use native.Mathlib.Omega.{arith}
-use borrow.Author.Rules.{rules}
 use Rattle.selection.specs.Steps.{no_steps, first-at, later-pass, later-marked}
 use Rattle.selection.proofs.steps_from_root.Goals as goal
 
@@ -23,13 +22,12 @@ pub overflow_sub-size : goal.overflow_sub-size
 overflow_sub-size c = let some = c.if-size-eq0.false in omega arith
 
 pub steps_from-requires : goal.steps_from-requires
-steps_from-requires c =
-    (
-      later-pass _ _ c.args.axes.now c.args.tests.now _ _ _ _ _ _ _ c.requires.0 _
-          c.first_step.ensures c.if-size-eq0.false _ _ _
-          (omega (arith, c.held-1.given)) (omega (arith, c.steps-1.given)) (omega (arith, c.next-1.given)),
-      c.requires.1,
-    )
+steps_from-requires c = (
+  later-pass _ _ c.args.axes.now c.args.tests.now _ _ _ _ _ _ _ c.requires.0 _
+      c.first_step.ensures c.if-size-eq0.false _ _ _
+      (omega (arith, c.held-1.given)) (omega (arith, c.steps-1.given)) (omega (arith, c.next-1.given)),
+  c.requires.1,
+)
 
 pub returns : goal.returns
 returns c =

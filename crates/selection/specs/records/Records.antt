@@ -3,7 +3,7 @@ use Rattle.std.specs.Prelude.{Bool, cond, ◌&&◌, List, [], ◌≡◌, ℕ, ta
 use Rattle.std.proofs.Math.Bool.{true, false}
 use Rattle.std.proofs.Math.Option.{none, some}
 use Rattle.std.proofs.Math.Path.{refl}
-use Rattle.std.proofs.Common.{sym, ap, subst, ◌∙◌}
+use Rattle.std.proofs.Common.{◌∙◌}
 use Rattle.bundle.specs.Judging.{JudgedUnder}
 use Rattle.bundle.specs.declared.Judged.{Judged}
 use Rattle.bundle.specs.reader.Records.{passes_bundle_record}
@@ -16,7 +16,6 @@ use Rattle.compiled_schema.specs.held_words.Words.{WordsOf, words-held}
 use Rattle.compiled_schema.specs.records.Records.{record_with}
 use Rattle.library_spec.specs.Calls.{nodes_selected}
 use Rattle.library_spec.specs.Records.{LentTable, schema_held, bundle_held, passes_schema, passes_bundle}
-use Rattle.library_spec.specs.Selections.{Selections}
 use Rattle.path_spec.specs.Paths.{LocationPath}
 use Rattle.path_spec.specs.Reading.{read_bundle}
 use Rattle.schema_laws.specs.Accepted.{schema_in-length}
@@ -30,7 +29,7 @@ use Rattle.selection.specs.lent.Lent.{SomeSchema, lent_selected}
 use Rattle.table_laws.specs.passes.Codes.{HeldWords}
 use Rattle.text_spec.specs.Calls.{tested, handed}
 use Rattle.text_spec.specs.Records.{TextRecord}
-use Rattle.text_spec.specs.Refusals.{Outcome, refused, at, bad_record, result_or}
+use Rattle.text_spec.specs.Refusals.{Outcome, at, bad_record, result_or}
 
 -- ---- definitions
 -- a call that selects by two records on a lent table beside a lent text

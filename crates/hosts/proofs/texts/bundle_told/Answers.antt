@@ -1,10 +1,8 @@
 -- `bundle_told` meets its contract: by the cases of a judgement.
 use mathlib.Core.Path.{sym, ap, ◌∙◌}
 use Prim.Native.Nat.{ℕ}
-use borrow.Author.Rules.{rules}
 use Rattle.bundle.specs.Judging.{outcome_of}
 use Rattle.bundle.specs.declared.Judgement.{Judgement}
-use Rattle.hosts.specs.declared.texts.Told.{Told}
 use Rattle.hosts.specs.texts.Texts.{told_of}
 use Rattle.hosts.proofs.texts.bundle_told.Goals as goal
 

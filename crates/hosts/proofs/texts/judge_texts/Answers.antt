@@ -1,5 +1,4 @@
 -- `judge_texts` meets its contract: the schema refused, or the bundle judged under it.
-use borrow.Author.Rules.{rules}
 use Rattle.compiled_schema.specs.Places.{names-inside, names-taken, names-few}
 use Rattle.hosts.specs.texts.Texts.{schema-turned-back, bundle-judged}
 use Rattle.hosts.proofs.texts.judge_texts.Goals as goal

@@ -1,8 +1,6 @@
 -- `schema_told` meets its contract: by the cases of a judgement.
 use mathlib.Core.Path.{sym, ap, ◌∙◌}
 use Prim.Native.Nat.{ℕ}
-use borrow.Author.Rules.{rules}
-use Rattle.hosts.specs.declared.texts.Told.{Told}
 use Rattle.hosts.specs.texts.Texts.{told_of}
 use Rattle.schema.specs.Judging.{outcome_of}
 use Rattle.schema.specs.declared.Judgement.{Judgement}

@@ -1,6 +1,5 @@
 -- `in_room` meets its contract: 18 by the items, by the counts, or the answer.
 use mathlib.Core.Path.{refl}
-use borrow.Author.Rules.{rules}
 use Rattle.selection.specs.answers.Answers.{short-items, short-counts, all-answered}
 use Rattle.selection.proofs.answers.in_room.Goals as goal
 

@@ -1,6 +1,5 @@
 -- `refused` meets its contract: both outputs are cleared.
 use mathlib.Core.Path.{refl}
-use borrow.Author.Rules.{rules}
 use Rattle.cells.specs.lent.Cells.{all-cleared}
 use Rattle.selection.proofs.answers.refused.Goals as goal
 

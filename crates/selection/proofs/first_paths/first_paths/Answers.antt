@@ -1,10 +1,5 @@
-use mathlib.Core.Path.{◌∙◌}
-use Prim.Native.Nat.{◌-◌}
 use native.Mathlib.Omega.{arith}
-use borrow.Author.Rules.{rules}
-use Rattle.compiled_paths.specs.Paths.{lent_paths}
-use Rattle.selection.proofs.first_paths.first_paths.Reads as reads
-use Rattle.selection.specs.first_paths.Firsts.{FirstsSoFar, firsts-begun, firsts-path, firsts-next, firsts-all}
+use Rattle.selection.specs.first_paths.Firsts.{firsts-begun, firsts-path, firsts-next, firsts-all}
 use Rattle.selection.proofs.first_paths.first_paths.Goals as goal
 
 pub loop-i-init : goal.loop-i-init

@@ -1,9 +1,5 @@
-use Prim.Native.Nat.{◌-◌}
 use native.Mathlib.Omega.{arith}
-use borrow.Author.Rules.{rules}
-use lib.ListN.{length}
-use Rattle.selection.proofs.first_paths.note.Reads as reads
-use Rattle.selection.specs.first_paths.Firsts.{Noting, noting-first, noting-next, noting-all}
+use Rattle.selection.specs.first_paths.Firsts.{noting-first, noting-next, noting-all}
 use Rattle.selection.proofs.first_paths.note.Goals as goal
 
 pub loop-r-init : goal.loop-r-init

@@ -1,9 +1,6 @@
 use Prim.Native.Nat.{◌-◌}
-use native.Mathlib.Omega.{arith}
-use borrow.Author.Rules.{rules}
 use lib.ListN.{length}
-use Rattle.selection.proofs.first_paths.note.Reads as reads
-use Rattle.selection.specs.first_paths.Firsts.{Noting, noting-first, noting-next, noting-all}
+use Rattle.selection.specs.first_paths.Firsts.{Noting}
 use Rattle.selection.proofs.first_paths.note.Given as goal
 
 abbrev pub invariant-loop-r : goal.invariant-loop-r

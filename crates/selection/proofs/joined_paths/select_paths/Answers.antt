@@ -1,8 +1,5 @@
-use Prim.Native.Nat.{◌-◌}
 use native.Mathlib.Omega.{arith}
-use borrow.Author.Rules.{rules}
-use Rattle.compiled_paths.specs.Paths.{lent_paths}
-use Rattle.selection.specs.joined_paths.Joined.{PathsSoFar, paths-begun, paths-one, one-fits, paths-next, paths-all}
+use Rattle.selection.specs.joined_paths.Joined.{paths-begun, paths-one, one-fits, paths-next, paths-all}
 use Rattle.selection.proofs.joined_paths.select_paths.Goals as goal
 
 pub loop-i-init : goal.loop-i-init
@@ -10,8 +7,7 @@ loop-i-init c = paths-begun _ _ _ _ _ _ _ _ _ _ _ _ c.requires.0
 
 pub select_one-m-requires : goal.select_one-m-requires
 select_one-m-requires c =
-    let at = c.loop-i in
-    (
+    let at = c.loop-i in (
       paths-one _ _ _ _ _ _ _ _ at.i at.n at.items at.counts at.marks at.held at.steps at.next at.invariant _ _ _ _ c.requires.0 (omega arith),
       c.requires.1,
     )

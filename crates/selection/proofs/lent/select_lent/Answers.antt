@@ -1,6 +1,5 @@
 -- `select_lent` meets its contract: the place, the table, what is selected.
 use mathlib.Core.Path.{sym}
-use borrow.Author.Rules.{rules}
 use borrow.Author.Tests.{not-true, not-false}
 use lib.Seq.{length-take-le}
 use Rattle.selection.specs.lent.Lent.{beside-inside, beside-columns, beside-texts, no_place, no_table, table_selected}

@@ -1,4 +1,3 @@
-use borrow.Author.Rules.{rules}
 use Rattle.selection.specs.one_path.Paths.{one-path, one-append, one_selected, none-selected}
 use Rattle.selection.proofs.one_path.select_one.Goals as goal
 

@@ -18,12 +18,12 @@ both-pass : (c : Else-not-is_bundle_record) → BothPass c.args.schema.bytes c.a
 both-pass c = sym c.is_bundle_record.ensures ∙ not-false _ c.if-not-is_bundle_record.false-raw
 
 schema-room : (c : Else-not-is_bundle_record) → c.args.schema.len ≤ length c.args.schema.bytes
-schema-room c = 
+schema-room c =
     let room : length c.args.schema.bytes ≡ max_schema_bytes = search rules in
     omega (arith, schema-size c.args.schema.bytes c.args.schema.len c.args.bundle.bytes c.args.bundle.len (both-pass c))
 
 bundle-room : (c : Else-not-is_bundle_record) → c.args.bundle.len ≤ length c.args.bundle.bytes
-bundle-room c = 
+bundle-room c =
     let room : length c.args.bundle.bytes ≡ max_bundle_bytes = search rules in
     omega (arith, bundle-size c.args.schema.bytes c.args.schema.len c.args.bundle.bytes c.args.bundle.len (both-pass c))
 

@@ -1,5 +1,4 @@
 -- `select_texts` meets its contract: both texts compiled, and the table judged by what they give.
-use borrow.Author.Rules.{rules}
 use Rattle.bundle.specs.records.Compiled.{judged-shaped}
 use Rattle.compiled_schema.specs.Places.{names-inside, names-taken, names-few}
 use Rattle.selection.specs.records.Records.{some-schema, texts-selected}

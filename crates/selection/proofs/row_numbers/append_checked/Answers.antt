@@ -1,8 +1,5 @@
-use Prim.Native.Nat.{◌-◌}
 use native.Mathlib.Omega.{arith}
-use borrow.Author.Rules.{rules}
-use lib.ListN.{length}
-use Rattle.selection.specs.row_numbers.Cells.{Appending, appending-none, appending-next, appending-all, mark-small}
+use Rattle.selection.specs.row_numbers.Cells.{appending-none, appending-next, appending-all, mark-small}
 use Rattle.selection.proofs.row_numbers.append_checked.Goals as goal
 
 pub loop-r-init : goal.loop-r-init

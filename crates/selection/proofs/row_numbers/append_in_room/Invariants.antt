@@ -1,9 +1,6 @@
 use Prim.Native.Nat.{◌-◌}
-use native.Mathlib.Omega.{arith}
-use borrow.Author.Rules.{rules}
 use lib.ListN.{length}
-use Rattle.cells.specs.lent.Appended.{written_in}
-use Rattle.selection.specs.row_numbers.Cells.{Appending, appending-none, appending-next, appending-all, mark-small}
+use Rattle.selection.specs.row_numbers.Cells.{Appending}
 use Rattle.selection.proofs.row_numbers.append_in_room.Given as goal
 
 abbrev pub invariant-loop-r : goal.invariant-loop-r

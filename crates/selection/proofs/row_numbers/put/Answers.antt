@@ -1,5 +1,4 @@
 use native.Mathlib.Omega.{arith}
-use borrow.Author.Rules.{rules}
 use Rattle.cells.specs.lent.Appended.{written_in, written_out}
 use Rattle.selection.proofs.row_numbers.put.Goals as goal
 

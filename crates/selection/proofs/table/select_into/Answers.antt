@@ -1,6 +1,4 @@
 -- `select_into` meets its contract: the range of the paths asked for, what they select, the room.
-use mathlib.Core.Path.{◌∙◌}
-use borrow.Author.Rules.{rules}
 use Rattle.selection.specs.asked.Ranges.{asked-order}
 use Rattle.selection.specs.table.Tables.{asked-pass, asked-answered}
 use Rattle.selection.proofs.table.select_into.Goals as goal

@@ -1,5 +1,4 @@
 -- `select_table` meets its contract: scratch of as many cells as the table has rows.
-use borrow.Author.Rules.{rules}
 use Rattle.selection.specs.table.Tables.{scratch-long, with-scratch}
 use Rattle.selection.proofs.table.select_table.Goals as goal
 
