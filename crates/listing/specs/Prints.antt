@@ -1,5 +1,5 @@
 -- The lines that are printed have room in the buffer.
-use Rattle.std.specs.Prelude.{Bool, cond, ◌≡◌, ℕ, ◌+◌, ◌≤◌, ◌<◌, eqb, get_or, take, replicate}
+use Rattle.std.specs.Prelude.{Bool, cond, ◌≡◌, ℕ, ◌≤◌, ◌<◌, eqb, get_or, take, replicate}
 use Rattle.std.proofs.Math.Bool.{true, false}
 use mathlib.Core.List.{List, [], ◌++◌}
 use Rattle.std.proofs.Common.{sym, ◌∙◌, length-append, length-take-le}

@@ -1,5 +1,3 @@
-use native.Mathlib.Omega.{arith}
-use borrow.Author.Rules.{rules}
 use Rattle.listing.specs.Prints.{refusal-fits, taken}
 use Rattle.listing.proofs.print_refusal.Goals as goal
 
