@@ -1,9 +1,4 @@
-use mathlib.Core.List.{List}
-use mathlib.Core.Path.{subst}
-use Prim.Native.Nat.{ℕ}
 use native.Mathlib.Omega.{arith}
-use borrow.Author.Rules.{rules}
-use Rattle.cells.specs.written_text.Written.{WrittenAt, written_then}
 use Rattle.listing_text.specs.headers.Headers.{header-written}
 use Rattle.listing_text.proofs.headers.put_header.Goals as goal
 

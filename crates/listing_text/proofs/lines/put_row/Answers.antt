@@ -1,5 +1,4 @@
 use native.Mathlib.Omega.{arith}
-use borrow.Author.Rules.{rules}
 use Rattle.listing_text.specs.lines.Lines.{no_line, some-line}
 use Rattle.listing_text.proofs.lines.put_row.Goals as goal
 

@@ -1,5 +1,3 @@
-use native.Mathlib.Omega.{arith}
-use borrow.Author.Rules.{rules}
 use Rattle.listing_text.specs.nodes.Nodes.{first-room, second-room, third-room, fourth-pass, fifth-room, line-written}
 use Rattle.listing_text.proofs.nodes.put_line.Goals as goal
 

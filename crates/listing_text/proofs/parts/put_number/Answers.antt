@@ -1,5 +1,3 @@
-use native.Mathlib.Omega.{arith}
-use borrow.Author.Rules.{rules}
 use Rattle.listing_text.specs.parts.Parts.{number-room, number_put}
 use Rattle.listing_text.proofs.parts.put_number.Goals as goal
 

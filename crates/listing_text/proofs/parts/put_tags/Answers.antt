@@ -1,5 +1,4 @@
 use native.Mathlib.Omega.{arith}
-use borrow.Author.Rules.{rules}
 use Rattle.listing_text.specs.parts.Parts.{tags-pass, tags-low, tags-written}
 use Rattle.listing_text.proofs.parts.put_tags.Goals as goal
 
