@@ -1,4 +1,6 @@
 // The three files of a listing, read once: what is refused, or what the header and the lines are made of.
+#![tactic(auto)]
+
 pub mod contents;
 pub mod table;
 

@@ -1,7 +1,6 @@
 -- `list_files` meets its contract: the two texts, the journal, its rows.
 use mathlib.Core.Path.{sym, ◌∙◌}
 use native.Mathlib.Omega.{arith}
-use borrow.Author.Rules.{rules}
 use lib.Seq.{take_at}
 use Rattle.listing_files.specs.contents.FileLaws.{texts-refused-lists, journal-refused-lists, rows-rooms, firsts-room, rows-asked, rows-texts, rows-list, taken-size}
 use Rattle.listing_files.proofs.list_files.Goals as goal

@@ -1,6 +1,5 @@
 -- `list_rows` meets its contract: the needed names, the rows kept, the first paths, the names.
 use mathlib.Core.Path.{refl, sym}
-use borrow.Author.Rules.{rules}
 use Rattle.compiled_schema.specs.Places.{compiled-few}
 use Rattle.listing_files.specs.contents.Files.{names-all}
 use Rattle.listing_files.proofs.list_rows.Goals as goal

@@ -1,5 +1,4 @@
 use mathlib.Core.Path.{sym}
-use borrow.Author.Rules.{rules}
 use Rattle.listing_files.specs.table.Tables.{scratch-size, kept-asked}
 use Rattle.listing_files.proofs.table.kept_count.Goals as goal
 

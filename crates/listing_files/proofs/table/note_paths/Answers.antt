@@ -1,5 +1,4 @@
 use mathlib.Core.Path.{sym}
-use borrow.Author.Rules.{rules}
 use Rattle.listing_files.specs.table.Tables.{scratch-size, no_rows, paths-asked}
 use Rattle.listing_files.proofs.table.note_paths.Goals as goal
 
