@@ -56,14 +56,14 @@ def units(crate):
 def called(crate, module, name, texts):
     """Whether another crate calls a function or a method of this crate's module by its name: by a path to it, or brought by a `use`."""
     home = "::".join(filter(None, [crate, module]))
-    path = re.compile(r"\b%s::(?:(?:[A-Z]\w*::)?%s\(|%s;)" % (module or crate, name, name))
-    brought = re.compile(r"\buse %s::([A-Z]\w*)" % home)
+    path = re.compile(r"\b%s::(?:(?:[A-Z]\w*::)?%s\(|%s;|\{[^}]*\b%s\b)" % (module or crate, name, name, name))
+    brought = re.compile(r"\buse %s::(\w+|\{[^}]*\})" % home)
     for other, text in texts.items():
         if other == crate or home not in text or name not in text:
             continue
         if path.search(text):
             return True
-        types = brought.findall(text)
+        types = [word for item in brought.findall(text) for word in re.findall(r"\b[A-Z]\w*", item)]
         if types and re.search(r"(?:\b(?:%s)::|\.)%s\(" % ("|".join(types), name), text):
             return True
     return False
@@ -99,7 +99,7 @@ def public_functions(promises):
     for name in sorted(set(heads) ^ passed):
         yield "%s stands in one of lozhymet and the table of public functions, and not in the other" % name
     for name, head in heads.items():
-        if re.search(r"^    requires \{", head, re.M):
+        if re.search(r"^    requires\b", head, re.M):
             yield "the public function %s has a requires" % name
 
 

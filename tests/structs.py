@@ -293,7 +293,7 @@ def main():
         os.makedirs(os.path.join(folder, "crates", PROGRAM, "src"))
         laid_out(folder, crates)
         passed, lines = tried(folder, small=small, many=many)
-        if not passed or "case=small run=ended status=0 runners=2 output=expected" not in lines or "cases=2 ended=2" not in lines:
+        if not passed or "case=small run=ended status=0 runners=2 output=expected" not in lines or "case=many run=ended status=0" not in lines:
             sys.exit("structs: " + lines)
     print("structs: %d calls on the interpreter and compiled, %d on decoded texts and a table of 65,535 rows compiled"
           % (sum(len(g.outcomes) for g in small), sum(len(g.outcomes) for g in many)))

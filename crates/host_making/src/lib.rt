@@ -1,4 +1,6 @@
 // Making an extract of three texts: columns of one length first (1), then the texts in turn, 18 last. On refusal every lent cell is 0.
+#![tactic(auto)]
+
 pub mod accepted;
 
 ghost use Rattle.hosts.specs.results.Exits.{MakingExits};

@@ -1,5 +1,7 @@
 // Selecting from an extract by two texts: 1 first (columns of unequal length, a place that the bundle does not have), then the texts in turn, 18
 // last. On refusal every lent cell is 0.
+#![tactic(auto)]
+
 pub mod accepted;
 
 ghost use Rattle.hosts.specs.results.Exits.{SelectingExits};

@@ -1,4 +1,6 @@
 // The two functions that a C host calls. A slice is a pointer and a length, what is lent is `&mut`, and the result goes out by value.
+#![tactic(auto)]
+
 ghost use Rattle.hosts.specs.results.Exits.{MakingExits, SelectingExits};
 ghost use Rattle.library_spec.specs.Hosts.{make_extract, select_from};
 

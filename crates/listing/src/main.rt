@@ -1,7 +1,7 @@
 #![tactic(auto)]
 
 // `listing`: reads schema.dtd, paths.txt and journal.xml, and prints the nodes that the paths select.
-ghost use Rattle.std.specs.Prelude.{IfOk};
+ghost use Rattle.std.specs.Prelude.{◌≡◌, length, IfOk, OnErr};
 ghost use Rattle.listing.specs.Prints.{IsPrefixLen, RowsPrinted};
 
 use listing_files::contents::Listed;
@@ -24,9 +24,10 @@ const JOURNAL_BYTES: usize = LISTED_BYTES + 1;
 // The longest line takes 2,098 bytes.
 const LINE_BYTES: usize = 2200;
 
-// Reads until the buffer is full or the file ends, and gives how many bytes were read.
+// Reads until the buffer is full or the file ends, and gives how many bytes were read. After an error the buffer has any bytes.
 fn read_full(file: &mut File, buffer: &mut [u8]) -> io::Result<usize>
-    ensures { IfOk result (λ n. IsPrefixLen n buffer.new) }
+    ensures ok { IfOk result (λ n. IsPrefixLen n buffer.new) }
+    ensures err { OnErr result (length buffer.new ≡ length buffer.old) }
 {
     let mut n = 0;
     while n < buffer.len() {
@@ -41,7 +42,8 @@ fn read_full(file: &mut File, buffer: &mut [u8]) -> io::Result<usize>
 
 // Reads a file; a missing one is empty.
 fn read_file(rt: &HostRuntime, path: &str, buffer: &mut [u8]) -> io::Result<usize>
-    ensures { IfOk result (λ n. IsPrefixLen n buffer.new) }
+    ensures ok { IfOk result (λ n. IsPrefixLen n buffer.new) }
+    ensures err { OnErr result (length buffer.new ≡ length buffer.old) }
 {
     match File::open(rt, path) {
         Ok(mut file) => read_full(&mut file, buffer),

@@ -1,3 +1,5 @@
+#![tactic(auto)]
+
 // The public library in one crate: every function that another project calls. Each is proved in the crate that it comes from, and none has a
 // `requires`; docs/PROMISES.md lists what each is equal to. A caller names the types by the crates that declare them. A C host links the crate
 // `library`, whose two functions stand here, too.

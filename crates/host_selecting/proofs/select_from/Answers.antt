@@ -1,7 +1,7 @@
 -- `select_from` meets its contract: a call that is refused before the extract is read, or what is chosen under the two texts.
 use Rattle.host_selecting.specs.Calls.{under-schema, refused-call, accepted-call}
 use Rattle.table_spec.specs.Columns.{Columns, columns}
-use Rattle.host_selecting.proofs.select_from.Goals.{After-refusal-arg-1, After-refusal-told}
+use Rattle.host_selecting.proofs.select_from.Goals.{After-refusal-told}
 use Rattle.host_selecting.proofs.select_from.Goals as goal
 
 abbrev lent : After-refusal-told → Columns
@@ -14,9 +14,9 @@ returns-then-told-ne0 c =
 
 pub choose_under-requires : goal.choose_under-requires
 choose_under-requires c =
-    under-schema _ _ _ _ c.judge_texts-texts.ensures (lent (goal.at.choose_under-requires c).After-refusal-arg-1) _ c.equal_sizes-equal.ensures _ c.passes-passed.ensures _ c.refusal-told.ensures c.if-told-ne0.false
+    under-schema _ _ _ _ c.judge_texts-texts.ensures (lent (goal.at.choose_under-requires c).After-refusal-told) _ c.equal_sizes-equal.ensures _ c.passes-passed.ensures _ c.refusal-told.ensures c.if-told-ne0.false
 
 pub returns : goal.returns
 returns c =
     let at = c.args in
-    accepted-call _ _ _ _ (lent (goal.at.returns c).After-refusal-arg-1) at.items.now at.counts.now _ c.judge_texts-texts.ensures _ c.equal_sizes-equal.ensures _ c.passes-passed.ensures _ c.refusal-told.ensures c.if-told-ne0.false c.choose_under.ensures
+    accepted-call _ _ _ _ (lent (goal.at.returns c).After-refusal-told) at.items.now at.counts.now _ c.judge_texts-texts.ensures _ c.equal_sizes-equal.ensures _ c.passes-passed.ensures _ c.refusal-told.ensures c.if-told-ne0.false c.choose_under.ensures

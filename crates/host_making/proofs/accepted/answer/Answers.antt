@@ -1,5 +1,4 @@
 -- `answer` meets its contract: 18, or the result.
-use borrow.Author.Rules.{rules}
 use Rattle.host_making.specs.accepted.Making.{answer-short, answer-enough}
 use Rattle.host_making.proofs.accepted.answer.Goals as goal
 

@@ -1,7 +1,5 @@
 -- `make_under` meets its contract: the journal's refusal, or its rows and the bytes.
-use mathlib.Core.Path.{◌∙◌}
 use native.Mathlib.Omega.{arith}
-use borrow.Author.Rules.{rules}
 use Rattle.compiled_schema.specs.Places.{compiled-few}
 use Rattle.host_making.specs.accepted.Making.{refused-made, first-asked, made-exit}
 use Rattle.hosts.specs.columns.Rows.{rows-read}

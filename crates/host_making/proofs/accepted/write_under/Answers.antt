@@ -52,7 +52,7 @@ returns c =
     record {
       set = c.needed_under-set.result;
       need = c.needed_under-set.ensures;
-      size = c.write-Kept.result;
-      bytes = c.write-Kept.ensures;
+      size = c.write_kept-bytes.result;
+      bytes = c.write_kept-bytes.ensures;
       last = c.answer.ensures;
     }

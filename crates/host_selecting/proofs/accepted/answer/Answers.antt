@@ -1,5 +1,4 @@
 -- `answer` meets its contract: selecting refused, or the result.
-use borrow.Author.Rules.{rules}
 use Rattle.host_selecting.specs.accepted.Choosing.{last-short, last-enough}
 use Rattle.host_selecting.proofs.accepted.answer.Goals as goal
 

@@ -1,6 +1,4 @@
 -- `choose_under` meets its contract: the extract's refusal, or its rows and what is selected on them.
-use mathlib.Core.Path.{◌∙◌}
-use borrow.Author.Rules.{rules}
 use Rattle.compiled_paths.specs.Paths.{lent_paths}
 use Rattle.compiled_paths.specs.declared.CompiledPaths.{CompiledPaths}
 use Rattle.host_selecting.specs.accepted.Choosing.{words-read, refused-chosen, rows-asked, chosen-exit}
