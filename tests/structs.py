@@ -9,6 +9,7 @@ interpreter runs the first groups; those on decoded texts and on a table of 65,5
     tests/structs.py            every group
     tests/structs.py CRATES     over the crates of that folder, to see the test fail where a source is changed
 """
+import filecmp
 import os
 import re
 import resource
@@ -274,6 +275,10 @@ def more_stack():
 
 def tried(folder, **cases):
     """What `rt try` says of the program on the cases, each of some groups."""
+    program = os.path.join(folder, "crates", PROGRAM)
+    subprocess.run(["rt", "fmt"], cwd=program, stdout=subprocess.DEVNULL)
+    if not filecmp.cmp(os.path.join(program, "src", "main.rt"), os.path.join(HERE, "structs", "main.txt"), shallow=False):
+        return False, "tests/structs/main.txt is not laid out as rt fmt lays it out"
     inputs = os.path.join(folder, "cases")
     os.makedirs(inputs)
     for name, groups in cases.items():
@@ -281,7 +286,7 @@ def tried(folder, **cases):
             f.write(b"".join(g.written() for g in groups))
         with open(os.path.join(inputs, name + ".stdout"), "w") as f:
             f.write("".join(outcome for g in groups for outcome in g.outcomes))
-    ended = subprocess.run(["rt", "try", "--cases", inputs], cwd=os.path.join(folder, "crates", PROGRAM), stdout=subprocess.PIPE, stderr=subprocess.STDOUT,
+    ended = subprocess.run(["rt", "try", "--cases", inputs], cwd=program, stdout=subprocess.PIPE, stderr=subprocess.STDOUT,
                            text=True, preexec_fn=more_stack)
     return ended.returncode == 0, ended.stdout
 
