@@ -22,7 +22,7 @@ import tempfile
 HERE = os.path.dirname(os.path.abspath(__file__))
 ROOT = os.path.dirname(HERE)
 PROGRAM = "struct_cases"
-NEEDS = "row_structs schema schema_reader bundle cells selection struct_reading struct_cutting struct_selecting io"
+NEEDS = "text row_structs schema schema_reader bundle selection struct_reading struct_cutting struct_selecting io"
 STACK = 64 << 20
 TEXTS = 32
 # as in the program

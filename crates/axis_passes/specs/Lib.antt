@@ -1,10 +1,11 @@
 pub mod alternative_steps
-pub mod code_ranges
 pub mod alternatives
 pub mod conditions
 pub mod downward
-pub mod inverse_axes
+pub mod name_tests
 pub mod root
+pub mod rows
+pub mod scratch
 pub mod siblings
 pub mod steps
 pub mod upward

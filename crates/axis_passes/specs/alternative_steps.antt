@@ -1,2 +1,1 @@
 pub mod Alternatives
-pub mod Texts

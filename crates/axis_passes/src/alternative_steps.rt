@@ -1,43 +1,31 @@
 // An alternative of a condition of a compiled path judged for all rows at once, from its last step back.
-ghost use Rattle.std.specs.Prelude.{◌≡◌};
-ghost use Rattle.axis_passes.specs.alternative_steps.Texts.{HeldTexts};
+ghost use Rattle.std.specs.Prelude.{◌≡◌, ◌-◌};
 ghost use Rattle.axis_passes.specs.alternative_steps.Alternatives.{AlternativePass};
-ghost use Rattle.axis_passes.specs.steps.Tests.{names_in};
+ghost use Rattle.axis_passes.specs.rows.Rows.{parents_in, names_of};
+ghost use Rattle.axis_passes.specs.scratch.Scratch.{Kept};
 ghost use Rattle.cells.specs.row_sets.Columns.{union};
-ghost use Rattle.compiled_paths.specs.Columns.{plain_in};
+ghost use Rattle.compiled_paths.specs.Steps.{plain_in};
 ghost use Rattle.selection_laws.specs.marks.Selection.{alternative_marks};
 
 use crate::mark_sets::unite;
+use crate::rows::Rows;
+use crate::scratch::Scratch;
 use crate::steps::step_back;
-use cells::row_sets::{MARKED, fill};
-use compiled_paths::{STEPS, axis_number};
+use cells::row_sets::MARKED;
+use compiled_paths::CompiledPaths;
+use std::ops::Range;
 
-// Adds the rows from which `size` steps, the first of them at `first`, lead to some row; `steps` and `next` are scratch.
-// The texts of the rows, `starts`, `lengths` and `decoded` in `lent`, are here for conditions that compare them: none does.
-pub fn alternative<'a>(
-    parents: &[u16],
-    codes: &[u8],
-    starts: &[u32],
-    lengths: &[u16],
-    decoded: &[u16],
-    lent: &[u8],
-    axes: &'a [u8; STEPS],
-    tests: &'a [u8; STEPS],
-    first: usize,
-    size: usize,
-    held: &mut [u8],
-    steps: &mut [u8],
-    next: &mut [u8],
-)
-    requires { AlternativePass parents.now codes.now first size held.old steps.old next.old × HeldTexts parents starts lengths decoded lent }
-    ensures { held.new ≡ union held.old (alternative_marks parents.now (names_in codes.now) (plain_in axes.now tests.now size first)) }
+// Adds the rows from which these steps lead to some row to those that are held.
+pub fn alternative(rows: &Rows, paths: &CompiledPaths, steps: Range<usize>, scratch: &mut Scratch)
+    requires { AlternativePass rows.now steps.start steps.end scratch.old }
+    ensures held { scratch.new.held.now ≡ union scratch.old.held.now (alternative_marks (parents_in rows.now) (names_of rows.now) (plain_in paths.now.steps (steps.end - steps.start) steps.start)) }
+    ensures kept { Kept scratch.old scratch.new }
 {
-    fill(steps, MARKED);
-    let mut k = first + size;
-    while first < k {
-        k -= 1;
-        let axis = axis_number(axes[k]);
-        step_back(parents, codes, axis, tests[k], steps, next);
+    scratch.steps.fill(MARKED);
+    for k in (steps.start..steps.end).rev() {
+        let step = paths.steps[k];
+        step_back(&rows.columns, step, scratch.steps, scratch.next);
     }
-    unite(&steps[..], held);
+    let reached = &mut *scratch.steps;
+    unite(reached, scratch.held);
 }

@@ -1,27 +1,24 @@
-// The inverse of an axis by its number.
+// The inverse of an axis.
 ghost use Rattle.std.specs.Prelude.{◌≡◌};
-ghost use Rattle.compiled_paths.specs.Columns.{written_of};
+ghost use Rattle.compiled_paths.specs.Steps.{written_axis};
 ghost use Rattle.path_laws.specs.Inverses.{inverse_written};
 
-use compiled_paths::{
-    ANCESTOR, ANCESTOR_OR_SELF, CHILD, DESCENDANT, DESCENDANT_OR_SELF, FOLLOWING,
-    FOLLOWING_SIBLING, PARENT, PRECEDING, PRECEDING_SIBLING, SELF,
-};
+use compiled_paths::Axis;
 
-pub fn inverse_of(axis: u8) -> u8
-    ensures { written_of result ≡ inverse_written (written_of axis) }
+pub fn inverse_of(axis: Axis) -> Axis
+    ensures { written_axis result ≡ inverse_written (written_axis axis) }
 {
     match axis {
-        CHILD => PARENT,
-        DESCENDANT => ANCESTOR,
-        DESCENDANT_OR_SELF => ANCESTOR_OR_SELF,
-        PARENT => CHILD,
-        ANCESTOR => DESCENDANT,
-        ANCESTOR_OR_SELF => DESCENDANT_OR_SELF,
-        FOLLOWING => PRECEDING,
-        FOLLOWING_SIBLING => PRECEDING_SIBLING,
-        PRECEDING => FOLLOWING,
-        PRECEDING_SIBLING => FOLLOWING_SIBLING,
-        _ => SELF,
+        Axis::SelfNode => Axis::SelfNode,
+        Axis::Child => Axis::Parent,
+        Axis::Descendant => Axis::Ancestor,
+        Axis::DescendantOrSelf => Axis::AncestorOrSelf,
+        Axis::Parent => Axis::Child,
+        Axis::Ancestor => Axis::Descendant,
+        Axis::AncestorOrSelf => Axis::DescendantOrSelf,
+        Axis::Following => Axis::Preceding,
+        Axis::FollowingSibling => Axis::PrecedingSibling,
+        Axis::Preceding => Axis::Following,
+        Axis::PrecedingSibling => Axis::FollowingSibling,
     }
 }

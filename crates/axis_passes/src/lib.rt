@@ -3,12 +3,14 @@
 
 pub mod alternative_steps;
 pub mod alternatives;
-pub mod code_ranges;
 pub mod conditions;
 pub mod downward;
 pub mod inverse_axes;
 pub mod mark_sets;
+pub mod name_tests;
 pub mod root;
+pub mod rows;
+pub mod scratch;
 pub mod siblings;
 pub mod steps;
 pub mod upward;

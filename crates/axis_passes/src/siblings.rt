@@ -7,8 +7,8 @@ ghost use Rattle.selection_laws.specs.marks.Selection.{written_marks};
 ghost use Rattle.selection_laws.specs.marks.Siblings.{following_sibling_marks, preceding_sibling_marks};
 
 use crate::downward::descendants_or_self;
-use crate::upward::{LAST_TAKEN, ancestors_or_self};
-use cells::row_sets::{UNMARKED, fill};
+use crate::upward::ancestors_or_self;
+use cells::row_sets::UNMARKED;
 
 // `from` is used up: a row that is passed needs its own mark no more, and its cell says whether a marked child of it was passed.
 pub fn following_siblings(parents: &[u16], from: &mut [u8], out: &mut [u8])
@@ -17,27 +17,24 @@ pub fn following_siblings(parents: &[u16], from: &mut [u8], out: &mut [u8])
 {
     from[0] = UNMARKED;
     out[0] = UNMARKED;
-    let mut r = 1;
-    while r < out.len() {
+    for r in 1..out.len() {
         let p = parents[r] as usize;
         let x = from[r];
         let seen = from[p];
         out[r] = seen;
         from[p] = seen | x;
         from[r] = UNMARKED;
-        r += 1;
     }
 }
 
 // The cell of a row that the pass has still to reach says whether a marked child of it was passed.
+// A pass of its own beside `following_siblings`: forwards the parent's answer is written already, so that its mark is used up instead.
 pub fn preceding_siblings(parents: &[u16], from: &[u8], out: &mut [u8])
     requires { AxisPass parents.now from.now out.old }
     ensures { out.new ≡ preceding_sibling_marks parents.now from.now }
 {
-    fill(out, UNMARKED);
-    let mut r = out.len();
-    while LAST_TAKEN < r {
-        r -= 1;
+    out.fill(UNMARKED);
+    for r in (1..out.len()).rev() {
         let p = parents[r] as usize;
         let x = from[r];
         let seen = out[p];

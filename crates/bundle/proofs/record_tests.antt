@@ -1,1 +1,1 @@
-mod Records
+pub mod Records

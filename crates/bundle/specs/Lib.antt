@@ -1,9 +1,7 @@
 pub mod Judging
 pub mod Outcomes
 pub mod columns
-pub mod last_steps
 pub mod laws
 pub mod names_in_tests
 pub mod reader
 pub mod records
-pub mod step_starts

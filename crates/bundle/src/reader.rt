@@ -1,17 +1,19 @@
-// Reading bundle texts: the answer, and the bundle in its record, which is the accepted text itself.
-ghost use Rattle.std.specs.Prelude.{◌≡◌, ◌≤◌, length};
-ghost use Rattle.std.proofs.lemmas.List.Edits.{sets};
-ghost use Rattle.bundle.specs.Judging.{JudgedAs};
-ghost use Rattle.bundle.specs.reader.Records.{empty_bundle, Recorded, answer_of, handed_back, ReadAs};
+// Reading bundle texts: the judgement, and the bundle in its record, which is the accepted text itself.
+ghost use Rattle.std.specs.Prelude.{◌≡◌};
+ghost use Rattle.bundle.specs.Judging.{JudgedAs, sized};
+ghost use Rattle.bundle.specs.reader.Records.{empty_bundle, Recorded, read_under, ReadAs};
 ghost use Rattle.schema_spec.specs.Records.{schema_in};
+ghost use Rattle.text.specs.refusals.Refusals.{outcome_of};
 
-use crate::{Judged, Judgement, Kind, byte_judging};
+use crate::byte_judging::judge_bundle;
+use compiled_paths::CompiledPaths;
 use names::MAX_ELEMENTS;
 use schema::Schema;
 use schema::places::MAX_USES;
-use schema_reader::text_judging;
+use schema_reader::text_judging::judge_into;
+use text::refusals::{Reason, Refusal};
 
-// A bundle: an accepted text in the first `len` bytes; the others are 0.
+// A bundle: an accepted text in the first `len` bytes; the others are 0. A length beside its cells, since hosts keep such a record.
 #[derive(Clone, Copy)]
 pub struct Bundle {
     pub bytes: [u8; crate::MAX_BYTES],
@@ -30,18 +32,6 @@ impl Bundle {
     }
 }
 
-// Copies the text into the first cells.
-fn copy(text: &[u8], out: &mut [u8])
-    requires { length text.now ≤ length out.old }
-    ensures { out.new ≡ sets out.old 0 text.now }
-{
-    let mut i = 0;
-    while i < text.len() {
-        out[i] = text[i];
-        i += 1;
-    }
-}
-
 // A text that is not too long, in a bundle's cells.
 pub fn recorded(text: &[u8]) -> Bundle
     ensures { Recorded text.now result }
@@ -50,7 +40,7 @@ pub fn recorded(text: &[u8]) -> Bundle
         return Bundle::empty();
     }
     let mut bytes = [0u8; crate::MAX_BYTES];
-    copy(text, &mut bytes);
+    bytes[..text.len()].copy_from_slice(text);
     Bundle {
         bytes,
         len: text.len(),
@@ -58,72 +48,41 @@ pub fn recorded(text: &[u8]) -> Bundle
 }
 
 // Judges a bundle text under the schema in a text, one with no element where that text is refused.
-pub fn judge_under(schema: &[u8], text: &[u8]) -> Judged
+pub fn judge_under(schema: &[u8], text: &[u8]) -> Result<CompiledPaths, Refusal>
     ensures { JudgedAs (schema_in schema.now) text.now result }
 {
     let mut names = [0usize; MAX_ELEMENTS];
     let mut uses = [0usize; MAX_USES];
-    match text_judging::judge_into(schema, &mut names, &mut uses) {
-        schema::Judgement::Accepted(count) => byte_judging::judge_bundle(
-            schema,
-            &names[..count],
-            text,
-        ),
-        schema::Judgement::Refused(_, _) => {
-            let none = 0;
-            byte_judging::judge_bundle(schema, &names[..none], text)
-        }
-    }
+    let count = judge_into(schema, &mut names, &mut uses).unwrap_or(0);
+    judge_bundle(schema, &names[..count], text)
 }
 
-// What reading answers: the number of paths, or refusal 1 of the schema's record, or the bundle text's own refusal and its place.
-#[derive(Drop)]
-pub enum Answer {
-    Accepted(usize),
-    BadRecord,
-    Refused(Kind, usize),
-}
-
-fn answer_of(judgement: Judgement) -> Answer
-    ensures { result ≡ answer_of judgement }
-{
-    match judgement {
-        Judgement::Accepted(n) => Answer::Accepted(n),
-        Judgement::Refused(kind, place) => Answer::Refused(kind, place),
-    }
-}
-
-// On refusal the empty bundle is handed back.
-fn handed_back(judgement: Judgement, read: Bundle) -> Bundle
-    ensures { result ≡ handed_back judgement read }
-{
-    match judgement {
-        Judgement::Accepted(_) => read,
-        Judgement::Refused(_, _) => Bundle::empty(),
-    }
-}
-
+// The number of paths or the refusal, and the record, which is handed back either way: the empty one on refusal.
 #[derive(Drop)]
 pub struct BundleRead {
-    pub answer: Answer,
+    pub judgement: Result<usize, Refusal>,
     pub bundle: Bundle,
+}
+
+// Judges a bundle text under a schema's record: the number of paths, or the refusal that comes first.
+fn judge_with(schema: &Schema, text: &[u8]) -> Result<usize, Refusal>
+    ensures { outcome_of result ≡ sized (read_under schema.now.bytes schema.now.len text.now) }
+{
+    if !schema_reader::is_schema_record(*schema) {
+        return Err(Refusal::of(Reason::BadRecord));
+    }
+    let paths = judge_under(&schema.bytes[..schema.len], text)?;
+    Ok(paths.count)
 }
 
 // Reads a bundle text under a schema's record: the refusal that comes first, or the bundle.
 pub fn read_bundle(schema: Schema, text: &[u8]) -> BundleRead
     ensures { ReadAs schema.bytes schema.len text.now result }
 {
-    if !schema_reader::is_schema_record(schema) {
-        return BundleRead {
-            answer: Answer::BadRecord,
-            bundle: Bundle::empty(),
-        };
-    }
-    let bytes = schema.bytes;
-    let len = schema.len;
-    let judged = judge_under(&bytes[..len], text);
-    let judgement = judged.judgement;
-    let bundle = handed_back(judgement, recorded(text));
-    let answer = answer_of(judgement);
-    BundleRead { answer, bundle }
+    let judgement = judge_with(&schema, text);
+    let bundle = match judgement {
+        Ok(_) => recorded(text),
+        Err(_) => Bundle::empty(),
+    };
+    BundleRead { judgement, bundle }
 }

@@ -10,12 +10,8 @@ use crate::reader::{Bundle, recorded};
 pub fn holds_text(bundle: Bundle) -> bool
     ensures { result ≡ (leb bundle.len max_bundle_bytes && same_bytes bundle.bytes (padded max_bundle_bytes (take bundle.len bundle.bytes))) }
 {
-    let size = bundle.len;
-    if crate::MAX_BYTES < size {
+    if crate::MAX_BYTES < bundle.len {
         return false;
     }
-    let cells = bundle.bytes;
-    let again = recorded(&cells[..size]);
-    let same = again.bytes;
-    schema_reader::same_cells(&cells, &same)
+    bundle.bytes == recorded(&bundle.bytes[..bundle.len]).bytes
 }

@@ -6,7 +6,6 @@ ghost use Rattle.schema_reader.specs.Records.{passes_record};
 ghost use Rattle.schema_spec.specs.Records.{schema_in};
 ghost use Rattle.text_spec.specs.Limits.{max_schema_bytes, max_bundle_bytes};
 
-use crate::Judgement;
 use crate::reader::{Bundle, judge_under};
 use crate::record_cells::holds_text;
 use schema::Schema;
@@ -16,27 +15,12 @@ fn accepts_text(schema: Schema, bundle: Bundle) -> bool
     requires { (schema.len ≤ max_schema_bytes) × (bundle.len ≤ max_bundle_bytes) }
     ensures { result ≡ is_bundle_record (schema_in (take schema.len schema.bytes)) (take bundle.len bundle.bytes) }
 {
-    let bytes = schema.bytes;
-    let len = schema.len;
-    let cells = bundle.bytes;
-    let size = bundle.len;
-    let judged = judge_under(&bytes[..len], &cells[..size]);
-    let judgement = judged.judgement;
-    match judgement {
-        Judgement::Accepted(_) => true,
-        Judgement::Refused(_, _) => false,
-    }
+    judge_under(&schema.bytes[..schema.len], &bundle.bytes[..bundle.len]).is_ok()
 }
 
 // Whether the record is one that `read_bundle` can hand back under this schema's record: its text is accepted, and its cells are that text's.
 pub fn is_bundle_record(schema: Schema, bundle: Bundle) -> bool
     ensures { result ≡ (passes_record schema.bytes schema.len && passes_bundle_record (schema_in (take schema.len schema.bytes)) bundle.bytes bundle.len) }
 {
-    if !schema_reader::is_schema_record(schema) {
-        return false;
-    }
-    if !holds_text(bundle) {
-        return false;
-    }
-    accepts_text(schema, bundle)
+    schema_reader::is_schema_record(schema) && holds_text(bundle) && accepts_text(schema, bundle)
 }

@@ -1,4 +1,3 @@
 pub mod Readings
 pub mod Conditions
-pub mod Laws
 pub mod ConditionLaws

@@ -1,53 +1,43 @@
 // What stands in the brackets of a step: alternatives parted by ` or `.
-ghost use Rattle.std.specs.Prelude.{◌≤◌, length};
 ghost use Rattle.bundle_text.specs.alternatives.Conditions.{ReadsCondition};
-ghost use Rattle.text_spec.specs.Limits.{max_bundle_bytes};
+ghost use Rattle.bundle_text.specs.notes.Notes.{ReadsFrom};
 
-use crate::alternative_ends::Follow;
-use crate::alternatives::{AlternativeOutcome, Alternatives, ConditionOutcome, either};
-use crate::{alternative_ends, alternatives};
+use crate::alternative_ends::{Follow, after_alternative};
+use crate::alternatives::alternative;
+use crate::notes::Notes;
 use text::limits::{MAX_ALTERNATIVE_STEPS, MAX_ALTERNATIVES};
-use text::scanning;
 
-// Past the condition whose first alternative is due at `at`. The numbers of steps are noted from n on, the ends of alternatives after m.
-pub fn condition(
-    s: &[u8],
-    at: usize,
-    cells: &mut [usize],
-    n: usize,
-    ways: &mut [usize],
-    m: usize,
-) -> ConditionOutcome
-    requires { (at ≤ length s.now) × (length s.now ≤ max_bundle_bytes) × (n ≤ at) × (m ≤ at) }
-    ensures { ReadsCondition s.now at n m cells.old cells.new ways.old ways.new result }
+// The place past a part, and whether a condition in it passes a limit.
+#[derive(Clone, Copy, Debug, PartialEq, Eq)]
+pub struct Past {
+    pub at: usize,
+    pub over_limit: bool,
+}
+
+// Past the condition whose first alternative is due at `at`, or where the text departs from it.
+// A `loop`: each turn goes on where the alternative before ended.
+pub fn condition(s: &[u8], at: usize, notes: &mut Notes) -> Result<Past, usize>
+    requires { ReadsFrom s.now at notes.old }
+    ensures { ReadsCondition s.now at notes.old notes.new result }
 {
     let mut i = at;
-    let mut count = n;
-    let mut k = m;
+    let mut count = 0;
     let mut long = false;
     loop {
-        match alternatives::alternative(s, i, cells, count) {
-            AlternativeOutcome::Fail(j) => return ConditionOutcome::Fail(j),
-            AlternativeOutcome::Past(c, j) => {
-                long = either(long, MAX_ALTERNATIVE_STEPS < c - count);
-                count = c;
-                k += 1;
-                scanning::note(ways, k, count);
-                match alternative_ends::after_alternative(s, j) {
-                    Follow::Fail(f) => return ConditionOutcome::Fail(f),
-                    Follow::More(f) => {
-                        i = f;
-                    }
-                    Follow::Close(f) => {
-                        let over = either(MAX_ALTERNATIVES < k - m, long);
-                        return ConditionOutcome::Past(Alternatives {
-                            at: f,
-                            n: count,
-                            m: k,
-                            over,
-                        });
-                    }
-                }
+        let before = notes.inner_count;
+        let end = alternative(s, i, notes)?;
+        count += 1;
+        long |= MAX_ALTERNATIVE_STEPS < notes.inner_count - before;
+        match after_alternative(s, end)? {
+            Follow::More(next) => {
+                i = next;
+            }
+            Follow::Close(past) => {
+                let over_limit = MAX_ALTERNATIVES < count || long;
+                return Ok(Past {
+                    at: past,
+                    over_limit,
+                });
             }
         }
     }

@@ -6,6 +6,7 @@ pub mod alternatives;
 pub mod axes;
 pub mod conditions;
 pub mod lines;
+pub mod notes;
 pub mod path_limits;
 pub mod paths;
 pub mod steps;

@@ -1,29 +1,12 @@
-// The limits of a bundle's paths (9): the first path that passes one, path by path.
-ghost use Rattle.std.specs.Prelude.{◌≡◌, ◌≤◌};
-ghost use Rattle.bundle_text.specs.path_limits.Limits.{over_limit};
-ghost use Rattle.text_spec.specs.Limits.{max_bundle_bytes};
+// The limits of a bundle's paths (9).
+ghost use Rattle.std.specs.Prelude.{◌||◌, ◌≡◌, leb, ltb};
+ghost use Rattle.text_spec.specs.Limits.{max_steps, max_path_bytes, max_paths};
 
 use text::limits::{MAX_PATH_BYTES, MAX_PATHS, MAX_STEPS};
 
-// What is known of the limits after a path that starts at `at`, has d before it, so many steps and bytes and this said of its conditions.
-pub fn over_limit(over: usize, d: usize, at: usize, steps: usize, size: usize, past: bool) -> usize
-    requires { at ≤ max_bundle_bytes }
-    ensures { result ≡ over_limit over d at steps size past }
+// Whether a path passes a limit that has d before it, so many steps and bytes, and this said of its conditions.
+pub fn passes_limit(d: usize, steps: usize, size: usize, condition: bool) -> bool
+    ensures { result ≡ (leb max_paths d || (ltb max_steps steps || (ltb max_path_bytes size || condition))) }
 {
-    if over != 0 {
-        return over;
-    }
-    if MAX_PATHS <= d {
-        return at + 1;
-    }
-    if MAX_STEPS < steps {
-        return at + 1;
-    }
-    if MAX_PATH_BYTES < size {
-        return at + 1;
-    }
-    if past {
-        return at + 1;
-    }
-    0
+    MAX_PATHS <= d || MAX_STEPS < steps || MAX_PATH_BYTES < size || condition
 }

@@ -1,69 +1,30 @@
 // All paths of a bundle text: where it departs from the grammar (8), or what it has and the first path that passes a limit (9).
 ghost use Rattle.std.specs.Prelude.{◌≤◌, ◌<◌, length};
-ghost use Rattle.bundle_text.specs.paths.Readings.{ReadsBundleIn};
+ghost use Rattle.bundle_text.specs.notes.Notes.{Few};
+ghost use Rattle.bundle_text.specs.paths.Readings.{ReadsBundle};
 ghost use Rattle.text_spec.specs.Limits.{max_bundle_bytes};
 
-use crate::written_steps::LineOutcome;
-use crate::{lines, path_limits};
-use text::scanning;
+use crate::lines;
+use crate::notes::Notes;
+use crate::path_limits::passes_limit;
 
-// The numbers of paths, of steps outside brackets, of steps in brackets and of alternatives, and one more than the first byte of the
-// first path that passes a limit, or 0.
-#[derive(Drop)]
-pub struct Bundled {
-    pub count: usize,
-    pub k: usize,
-    pub n: usize,
-    pub m: usize,
-    pub over: usize,
-}
-
-#[derive(Drop)]
-pub enum BundleOutcome {
-    Past(Bundled),
-    Fail(usize),
-}
-
-// Reads all paths. The numbers of steps outside brackets go to `outers`, of those in brackets to `cells`; the ends of conditions, of paths
-// and of alternatives to `conditions`, `paths` and `ways`, from 1 on.
-pub fn all_paths(
-    s: &[u8],
-    outers: &mut [usize],
-    conditions: &mut [usize],
-    paths: &mut [usize],
-    cells: &mut [usize],
-    ways: &mut [usize],
-) -> BundleOutcome
-    requires { (0 < length s.now) × (length s.now ≤ max_bundle_bytes) }
-    ensures { ReadsBundleIn s outers conditions paths cells ways result }
+// Reads all paths into notes that have none. Gives the first byte of the first path that passes a limit, if there is one, or else where the
+// text departs from the grammar.
+// A `while`: each turn goes on where the path before ended.
+pub fn all_paths(s: &[u8], notes: &mut Notes) -> Result<Option<usize>, usize>
+    requires { (0 < length s.now) × (length s.now ≤ max_bundle_bytes) × Few 0 notes.old }
+    ensures { ReadsBundle s.now notes.old notes.new result }
 {
     let mut i = 0;
-    let mut d = 0;
-    let mut k = 0;
-    let mut n = 0;
-    let mut m = 0;
-    let mut over = 0;
+    let mut over = None;
     while i < s.len() {
-        match lines::path(s, i, outers, conditions, k, cells, n, ways, m) {
-            LineOutcome::Fail(j) => return BundleOutcome::Fail(j),
-            LineOutcome::Past(p) => {
-                let end = p.at;
-                let steps = p.k;
-                over = path_limits::over_limit(over, d, i, steps - k, end - 1 - i, p.over);
-                k = steps;
-                n = p.n;
-                m = p.m;
-                d += 1;
-                scanning::note(paths, d, k);
-                i = end;
-            }
-        }
+        let before = notes.outer_count;
+        let line = lines::path(s, i, notes)?;
+        let steps = notes.outer_count - before;
+        let passes = passes_limit(notes.path_count, steps, line.at - 1 - i, line.over_limit);
+        over = over.or(passes.then_some(i));
+        notes.note_path();
+        i = line.at;
     }
-    BundleOutcome::Past(Bundled {
-        count: d,
-        k,
-        n,
-        m,
-        over,
-    })
+    Ok(over)
 }

@@ -1,111 +1,105 @@
-// Steps without brackets: an axis, and a test that is a name, `node()` or `text()`. A step is noted as a number.
-ghost use Rattle.std.specs.Prelude.{◌≡◌, ◌+◌, ◌≤◌, ◌<◌, length};
-ghost use Rattle.bundle_text.specs.axes.Readings.{max_axis};
-ghost use Rattle.bundle_text.specs.steps.Readings.{ReadsTest, named-at, called, tests_in, Packed, ReadsPlain};
+// Steps without brackets: an axis, and a test that is a name, `node()` or `text()`.
+ghost use Rattle.std.specs.Prelude.{◌≡◌, ◌≤◌, ◌<◌, length};
+ghost use Rattle.bundle_text.specs.steps.Readings.{Stands, Within, ReadsTest, named-at, called, last_read, ReadsPlain};
 ghost use Rattle.path_spec.specs.Machine.{before_test};
 ghost use Rattle.text_spec.specs.Limits.{max_bundle_bytes};
 ghost use Rattle.text_spec.specs.Scans.{byte_at};
 
 use crate::axes;
-use crate::axes::AxisOutcome;
-use text::scanning::Read;
-use text::{lookup, scanning};
+use compiled_paths::Axis;
+use text::{name_bytes, scanning};
 
-// The numbers of tests: these, and two more than the place of a name.
-pub const NODE: usize = 0;
-
-pub const TEXT: usize = 1;
-
-pub const NAMES: usize = 2;
-
-// The number of axes.
-pub const AXES: usize = 11;
-
-// The number of a test or a step and the place past it, or where the text departs from it.
-#[derive(Drop)]
-pub enum StepOutcome {
-    Past(usize, usize),
-    Fail(usize),
+// A test as it is read: a name by its place in the text, of at most 4,104 bytes.
+#[derive(Clone, Copy, Debug, PartialEq, Eq)]
+pub enum TestRead {
+    Node,
+    Text,
+    Name(u16),
 }
 
-// Past the `)` of the test.
-fn close(s: &[u8], at: usize, test: usize) -> StepOutcome
-    requires { test ≤ tests_in s.now }
-    ensures { ReadsTest (called s.now test) s.now at result }
-{
-    if s.len() <= at {
-        return StepOutcome::Fail(at);
-    }
-    if s[at] == b')' {
-        return StepOutcome::Past(test, at + 1);
-    }
-    StepOutcome::Fail(at)
+// Beside `compiled_paths::Step`, whose test is an element: a `Step<T>` would put its parameter into each law that speaks of a step, and is no plainer.
+#[derive(Clone, Copy, Debug, PartialEq, Eq)]
+pub struct StepRead {
+    pub axis: Axis,
+    pub test: TestRead,
+    // whether the alternative of a condition ends with this step
+    pub ends_alternative: bool,
 }
 
-// The name at p, whose end is the `(` at `at`, is one of the two that are called.
-fn call(s: &[u8], p: usize, at: usize) -> StepOutcome
-    requires { (at < length s.now) × (byte_at s.now at ≡ 0x28) }
-    ensures { ReadsTest (named-at s.now p) s.now at result }
-{
-    let first = [0usize; 1];
-    if lookup::find(b"node", &first, s, p) == 0 {
-        return close(s, at + 1, NODE);
-    }
-    if lookup::find(b"text", &first, s, p) == 0 {
-        return close(s, at + 1, TEXT);
-    }
-    StepOutcome::Fail(at)
-}
-
-// The test that is due at `at`.
-pub fn node_test(s: &[u8], at: usize) -> StepOutcome
-    requires { length s.now ≤ max_bundle_bytes }
-    ensures { ReadsTest before_test s.now at result }
-{
-    if s.len() <= at {
-        return StepOutcome::Fail(at);
-    }
-    if !text::starts_name(s[at]) {
-        return StepOutcome::Fail(at);
-    }
-    match scanning::name_end(s, at) {
-        Read::Fail(j) => StepOutcome::Fail(j),
-        Read::Past(j) => {
-            if s.len() <= j {
-                return StepOutcome::Past(at + NAMES, j);
-            }
-            if s[j] == b'(' {
-                return call(s, at, j);
-            }
-            StepOutcome::Past(at + NAMES, j)
+impl StepRead {
+    // The same step as the last one of its alternative.
+    pub fn last(self) -> StepRead
+        ensures { result ≡ last_read self }
+    {
+        StepRead {
+            ends_alternative: true,
+            ..self
         }
     }
 }
 
-fn wide(b: u8) -> usize
-    ensures { result ≡ b }
+// Whether the byte b stands at `at`.
+// A function and no `s.get(at) == Some(&b)` at each place: what it promises, `Stands`, may not change.
+pub fn stands(s: &[u8], at: usize, b: u8) -> bool
+    ensures { Stands s.now at b result }
 {
-    b as usize
+    at < s.len() && s[at] == b
 }
 
-// The number of a step.
-fn pack(axis: u8, test: usize) -> usize
-    requires { (axis ≤ max_axis) × (test ≤ max_bundle_bytes + 1) }
-    ensures { Packed axis test result }
+// Past the `)` of the test: the test and the place past it, or where the text departs from it.
+fn close(s: &[u8], at: usize, test: TestRead) -> Result<(TestRead, usize), usize>
+    requires { Within s.now test }
+    ensures { ReadsTest (called s.now test) s.now at result }
 {
-    test * AXES + wide(axis)
+    if stands(s, at, b')') {
+        Ok((test, at + 1))
+    } else {
+        Err(at)
+    }
 }
 
-// The step without brackets that is due at `at`.
-pub fn plain_step(s: &[u8], at: usize) -> StepOutcome
+// The name at p, whose end is the `(` at `at`, is one of the two that are called.
+fn call(s: &[u8], p: usize, at: usize) -> Result<(TestRead, usize), usize>
+    requires { (at < length s.now) × (byte_at s.now at ≡ 0x28) }
+    ensures { ReadsTest (named-at s.now p) s.now at result }
+{
+    if name_bytes::is_named(s, p, b"node") {
+        return close(s, at + 1, TestRead::Node);
+    }
+    if name_bytes::is_named(s, p, b"text") {
+        return close(s, at + 1, TestRead::Text);
+    }
+    Err(at)
+}
+
+// The test that is due at `at`.
+pub fn node_test(s: &[u8], at: usize) -> Result<(TestRead, usize), usize>
+    requires { length s.now ≤ max_bundle_bytes }
+    ensures { ReadsTest before_test s.now at result }
+{
+    if s.len() <= at || !text::starts_name(s[at]) {
+        return Err(at);
+    }
+    let j = scanning::name_end(s, at)?;
+    if stands(s, j, b'(') {
+        return call(s, at, j);
+    }
+    Ok((TestRead::Name(at as u16), j))
+}
+
+// The step without brackets that is due at `at`, and the place past it.
+pub fn plain_step(s: &[u8], at: usize) -> Result<(StepRead, usize), usize>
     requires { (at ≤ length s.now) × (length s.now ≤ max_bundle_bytes) }
     ensures { ReadsPlain s.now at result }
 {
-    match axes::axis(s, at) {
-        AxisOutcome::Fail(j) => StepOutcome::Fail(j),
-        AxisOutcome::Past(axis, i) => match node_test(s, i) {
-            StepOutcome::Fail(j) => StepOutcome::Fail(j),
-            StepOutcome::Past(test, j) => StepOutcome::Past(pack(axis, test), j),
+    let (axis, i) = axes::axis(s, at)?;
+    let (test, j) = node_test(s, i)?;
+    Ok((
+        StepRead {
+            axis,
+            test,
+            ends_alternative: false,
         },
-    }
+        j,
+    ))
 }

@@ -1,6 +1,5 @@
 pub mod columns
 pub mod lent
 pub mod row_sets
-pub mod sizes
 pub mod verdicts
 pub mod written_text

@@ -1,2 +1,3 @@
-pub mod Columns
 pub mod ColumnLaws
+pub mod Columns
+pub mod Lent

@@ -5,4 +5,3 @@ pub mod handed;
 pub mod lent;
 pub mod records;
 pub mod tags;
-pub mod writing;

@@ -1,3 +1,3 @@
-pub mod Columns
 pub mod Paths
 pub mod Sizes
+pub mod Steps

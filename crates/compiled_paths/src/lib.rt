@@ -1,44 +1,14 @@
-// The paths of a bundle in columns of numbers, derived from its text and never judged.
+// The paths of a bundle in fixed memory, derived from its text and never judged.
 #![tactic(auto)]
 
-pub mod ranges;
-
-ghost use Rattle.std.specs.Prelude.{[], ◌≡◌, ◌+◌, ◌≤◌, length};
-ghost use Rattle.compiled_paths.specs.Columns.{axis_number, first_size};
+ghost use Rattle.std.specs.Prelude.{[], ◌≡◌, ◌+◌, ◌≤◌, ◌<◌, length};
+ghost use Rattle.compiled_paths.specs.Steps.{first_size, start_at, end_at};
 ghost use Rattle.compiled_paths.specs.Paths.{paths_in, Shaped};
+ghost use Rattle.compiled_paths.specs.Sizes.{written_steps, all_steps};
+ghost use Rattle.text_spec.specs.Limits.{max_paths};
 
+use std::ops::Range;
 use text::limits::{MAX_PATH_BYTES, MAX_PATHS, MAX_STEPS};
-
-// The axes by their numbers: in the order of document 01, then those of document 02, R-1, each before its sibling axis.
-pub const SELF: u8 = 0;
-
-pub const CHILD: u8 = 1;
-
-pub const DESCENDANT: u8 = 2;
-
-pub const DESCENDANT_OR_SELF: u8 = 3;
-
-pub const PARENT: u8 = 4;
-
-pub const ANCESTOR: u8 = 5;
-
-pub const ANCESTOR_OR_SELF: u8 = 6;
-
-pub const FOLLOWING: u8 = 7;
-
-pub const FOLLOWING_SIBLING: u8 = 8;
-
-pub const PRECEDING: u8 = 9;
-
-pub const PRECEDING_SIBLING: u8 = 10;
-
-// Added to the number of the axis at the last step of an alternative.
-pub const LAST: u8 = 16;
-
-// The tests by their numbers: these two, and of a name the index of its element.
-pub const ANY_NODE: u8 = 254;
-
-pub const ANY_TEXT: u8 = 255;
 
 // The fewest bytes that a step in brackets takes, with the byte before it.
 pub const STEP_BYTES: usize = 8;
@@ -53,20 +23,65 @@ pub const PATH_STARTS: usize = MAX_PATHS + 1;
 
 pub const CONDITION_STARTS: usize = WRITTEN_STEPS + 1;
 
+// The axes of document 01, then those of document 02, R-1, each before its sibling axis.
+#[derive(Clone, Copy, Debug, PartialEq, Eq)]
+pub enum Axis {
+    SelfNode,
+    Child,
+    Descendant,
+    DescendantOrSelf,
+    Parent,
+    Ancestor,
+    AncestorOrSelf,
+    Following,
+    FollowingSibling,
+    Preceding,
+    PrecedingSibling,
+}
+
+// What a step asks of a node: nothing, that it is a text, or that it is the element with this index in the schema.
+#[derive(Clone, Copy, Debug, PartialEq, Eq)]
+pub enum NodeTest {
+    Node,
+    Text,
+    Element(u8),
+}
+
+#[derive(Clone, Copy, Debug, PartialEq, Eq)]
+pub struct Step {
+    pub axis: Axis,
+    pub test: NodeTest,
+    // whether the alternative of a condition ends with this step
+    pub ends_alternative: bool,
+}
+
+// In a cell that no step is written to.
+pub const NO_STEP: Step = Step {
+    axis: Axis::SelfNode,
+    test: NodeTest::Node,
+    ends_alternative: false,
+};
+
 // Each range starts at its cell and ends where the next one starts.
 #[derive(Drop)]
 pub struct CompiledPaths {
     // how many paths there are
     pub count: usize,
     // for each path the range of its written steps
-    pub paths: [u8; PATH_STARTS],
+    pub paths: [u16; PATH_STARTS],
     // for each written step the range of the steps in its condition's alternatives, empty where it has no condition
     pub conditions: [u16; CONDITION_STARTS],
     // the steps: those outside brackets, and from 128 on those in brackets
-    // an axis by its number; 16 more where an alternative ends
-    pub axes: [u8; STEPS],
-    // a test by its number
-    pub tests: [u8; STEPS],
+    pub steps: [Step; STEPS],
+}
+
+// The range of the cell `i`: it ends where the next one starts.
+fn range_at(starts: &[u16], i: usize) -> Range<usize>
+    requires { i + 1 < length starts.now }
+    ensures { (result.start ≡ start_at starts.now i) × (result.end ≡ end_at starts.now i) }
+{
+    let first = usize::from(starts[i]);
+    first..first.max(usize::from(starts[i + 1]))
 }
 
 impl CompiledPaths {
@@ -78,34 +93,36 @@ impl CompiledPaths {
             count: 0,
             paths: [0; PATH_STARTS],
             conditions: [0; CONDITION_STARTS],
-            axes: [0; STEPS],
-            tests: [0; STEPS],
+            steps: [NO_STEP; STEPS],
         }
     }
-}
 
-// The number of the axis in a cell.
-pub fn axis_number(cell: u8) -> u8
-    ensures { result ≡ axis_number cell }
-{
-    if cell < LAST {
-        return cell;
+    // The written steps of the path `i`.
+    pub fn path(&self, i: usize) -> Range<usize>
+        requires { i < max_paths }
+        ensures { (result.start ≡ start_at self.now.paths i) × (result.end ≡ end_at self.now.paths i) }
+    {
+        range_at(&self.paths, i)
     }
-    cell - LAST
-}
 
-// How many steps the first alternative has of those that take `n` steps from `k` on.
-pub fn first_size(axes: &[u8], k: usize, n: usize) -> usize
-    requires { k + n ≤ length axes.now }
-    ensures { result ≡ first_size axes.now n k }
-{
-    let mut i = 0;
-    while i < n {
-        let cell = axes[k + i];
-        i += 1;
-        if LAST <= cell {
-            return i;
+    // The steps in the alternatives of the written step `k`.
+    pub fn condition(&self, k: usize) -> Range<usize>
+        requires { k < written_steps }
+        ensures { (result.start ≡ start_at self.now.conditions k) × (result.end ≡ end_at self.now.conditions k) }
+    {
+        range_at(&self.conditions, k)
+    }
+
+    // How many steps the first alternative has of those that take `n` steps from `k` on.
+    pub fn first_size(&self, k: usize, n: usize) -> usize
+        requires { k + n ≤ all_steps }
+        ensures { result ≡ first_size self.now.steps n k }
+    {
+        for i in 0..n {
+            if self.steps[k + i].ends_alternative {
+                return i + 1;
+            }
         }
+        n
     }
-    i
 }

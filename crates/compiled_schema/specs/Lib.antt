@@ -1,7 +1,7 @@
 pub mod Compiled
 pub mod Places
 pub mod element_entry
-pub mod entry_columns
+pub mod entries
 pub mod entry_parts
 pub mod held_words
 pub mod records

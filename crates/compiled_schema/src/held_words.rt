@@ -4,15 +4,13 @@ ghost use Rattle.compiled_schema.specs.held_words.Words.{WordsOf};
 use names::{MAX_ELEMENTS, NameSet};
 
 // The words of the sets that each element holds.
-pub fn held_words(sets: [NameSet; MAX_ELEMENTS]) -> [u64; MAX_ELEMENTS]
-    ensures { WordsOf sets result }
+// By index: two arrays go in step, and a `zip` is no plainer.
+pub fn held_words(sets: &[NameSet; MAX_ELEMENTS]) -> [u64; MAX_ELEMENTS]
+    ensures { WordsOf sets.now result }
 {
     let mut out = [0u64; MAX_ELEMENTS];
-    let mut i = 0;
-    while i < MAX_ELEMENTS {
-        let set = sets[i];
-        out[i] = set.to_word();
-        i += 1;
+    for i in 0..MAX_ELEMENTS {
+        out[i] = sets[i].to_word();
     }
     out
 }

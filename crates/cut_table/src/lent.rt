@@ -1,51 +1,36 @@
 // Cutting a table that has passed its test into other lent columns.
+ghost use Rattle.cells.specs.columns.Lent.{read_columns, lent_columns};
 ghost use Rattle.cells.specs.lent.Columns.{first_cells};
-ghost use Rattle.cells.specs.lent.Ends.{held_columns};
 ghost use Rattle.cut_table.specs.laws.Answers.{Cuttable, CutFirstIn};
 ghost use Rattle.kept_rows.specs.Kept.{in_set};
-ghost use Rattle.tables.specs.Handed.{lent_table};
-ghost use Rattle.table_spec.specs.Columns.{columns};
+ghost use Rattle.tables.specs.Handed.{read_table};
 
 use crate::answers::answer_in;
-use cells::verdicts::Verdict;
+use cells::columns::{Columns, ColumnsMut};
 use kept_rows::columns::cut;
 use names::NameSet;
+use text::refusals::Refusal;
 
 // The rows that the set keeps, of a table that has passed its test; 18 where there are too few cells for them.
 pub fn cut_first(
     set: NameSet,
-    numbers: &[u16],
-    codes: &[u8],
-    parents: &[u16],
-    starts: &[u32],
-    lengths: &[u16],
-    decoded: &[u16],
+    table: &Columns,
     count: usize,
-    out_numbers: &mut [u16],
-    out_names: &mut [u8],
-    out_parents: &mut [u16],
-    out_starts: &mut [u32],
-    out_lengths: &mut [u16],
-    out_decoded: &mut [u16],
-) -> Verdict
-    requires { Cuttable (lent_table numbers.now codes.now parents.now starts.now lengths.now decoded.now count) (held_columns out_numbers out_names out_parents out_starts out_lengths out_decoded) }
-    ensures { CutFirstIn (in_set set) (first_cells count (columns numbers.now codes.now parents.now starts.now lengths.now decoded.now)) out_numbers out_names out_parents out_starts out_lengths out_decoded result }
+    out: &mut ColumnsMut,
+) -> Result<usize, Refusal>
+    requires { Cuttable (read_table table.now count) (lent_columns out.old) }
+    ensures { CutFirstIn (in_set set) (first_cells count (read_columns table.now)) result out.old out.new }
 {
-    let room = out_numbers.len();
-    let n = cut(
-        set,
-        &numbers[..count],
-        &codes[..count],
-        &parents[..count],
-        &starts[..count],
-        &lengths[..count],
-        &decoded[..count],
-        out_numbers,
-        out_names,
-        out_parents,
-        out_starts,
-        out_lengths,
-        out_decoded,
-    );
+    let room = out.room();
+    // Column by column: `Columns::first` asks that all have as many cells, and here each need have the rows alone.
+    let first = Columns {
+        numbers: &table.numbers[..count],
+        names: &table.names[..count],
+        parents: &table.parents[..count],
+        starts: &table.starts[..count],
+        lengths: &table.lengths[..count],
+        decoded: &table.decoded[..count],
+    };
+    let n = cut(set, &first, out);
     answer_in(room, n)
 }

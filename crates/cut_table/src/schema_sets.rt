@@ -5,9 +5,6 @@ ghost use Rattle.schema_spec.specs.Records.{schema_in};
 ghost use Rattle.text_spec.specs.Limits.{max_schema_bytes};
 
 use compiled_schema::compile;
-use compiled_schema::entry_columns::Entries;
-use compiled_schema::held_words::held_words;
-use names::known::names_of;
 use names::{MAX_ELEMENTS, NameSet};
 use schema::Schema;
 
@@ -19,17 +16,12 @@ pub struct SchemaSets {
 }
 
 // Of a record that has passed its test.
-pub fn schema_sets(schema: Schema) -> SchemaSets
-    requires { schema.len ≤ max_schema_bytes }
-    ensures { SetsOf (schema_in (take schema.len schema.bytes)) result }
+pub fn schema_sets(schema: &Schema) -> SchemaSets
+    requires { schema.now.len ≤ max_schema_bytes }
+    ensures { SetsOf (schema_in (take schema.now.len schema.now.bytes)) result }
 {
-    let bytes = schema.bytes;
-    let len = schema.len;
-    let compiled = compile(&bytes[..len]);
-    let count = compiled.count;
-    let entries: Entries = compiled.entries;
-    let sets = entries.holds;
-    let words = held_words(sets);
-    let all = names_of(sets, count);
+    let compiled = compile(&schema.bytes[..schema.len]);
+    let words = compiled.held_words();
+    let all = compiled.relations.names();
     SchemaSets { words, all }
 }

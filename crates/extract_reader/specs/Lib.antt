@@ -1,11 +1,10 @@
-pub mod Whole
 pub mod field_ends
 pub mod field_rows
 pub mod field_tests
 pub mod field_values
 pub mod fields
 pub mod levels
+pub mod reading
 pub mod records
-pub mod steps
+pub mod rows
 pub mod table
-pub mod verdict

@@ -11,14 +11,8 @@ pub fn is_count(extract: &[u8], at: usize, rows: usize, size: usize) -> bool
     requires { at + 3 + size ≤ length extract.now }
     ensures { result ≡ is_count rows (eqb (at + 3 + size) (length extract.now)) (count_value (part (at + 3) size extract.now)) }
 {
-    if size != 2 {
-        return false;
-    }
     let from = at + 3;
-    if from + 2 != extract.len() {
-        return false;
-    }
-    two_bytes(extract, from) == rows
+    size == 2 && from + 2 == extract.len() && two_bytes(extract, from) as usize == rows
 }
 
 // Whether a field's value of `size` bytes is that of the root, in the first field.
@@ -26,14 +20,5 @@ pub fn is_root(extract: &[u8], size: usize) -> bool
     requires { 3 + size ≤ length extract.now }
     ensures { result ≡ is_root (element_value (part 3 size extract.now)) }
 {
-    if size != 5 {
-        return false;
-    }
-    if two_bytes(extract, 3) != 0 {
-        return false;
-    }
-    if two_bytes(extract, 5) != 0 {
-        return false;
-    }
-    extract[7] == 0
+    size == 5 && two_bytes(extract, 3) == 0 && two_bytes(extract, 5) == 0 && extract[7] == 0
 }

@@ -5,84 +5,57 @@ ghost use Rattle.projection_laws.specs.extract_passes.Steps.{has_field};
 
 use crate::field_ends::{is_count, is_root};
 use crate::field_tests::two_bytes;
-use crate::field_values::{Carried, FieldRead, element_field, text_field};
+use crate::field_values::Field;
+use crate::reading::Reader;
 use extract_writer::fields::{COUNT_TAG, ELEMENT_TAG, TEXT_TAG};
-use names::MAX_ELEMENTS;
-use text::limits::MAX_DEPTH;
-
-// What the first field says.
-#[derive(Drop)]
-pub enum First {
-    Wrong,
-    // the table is empty
-    Ended,
-    Root,
-}
 
 // Whether a whole field stands at a place.
 fn has_field(extract: &[u8], at: usize) -> bool
     requires { at ≤ length extract.now }
     ensures { result ≡ has_field extract.now at }
 {
-    if extract.len() - at < 3 {
-        return false;
-    }
-    two_bytes(extract, at + 1) <= extract.len() - (at + 3)
+    extract.len() - at >= 3 && two_bytes(extract, at + 1) as usize <= extract.len() - (at + 3)
 }
 
-// The field of a count.
-fn count_field(extract: &[u8], carried: Carried, size: usize) -> FieldRead
-    requires { CountPass extract.now carried size }
-    ensures { CountAs extract.now carried size result }
-{
-    if is_count(extract, carried.at, carried.rows, size) {
-        return FieldRead::Ended;
-    }
-    FieldRead::Wrong
-}
-
-// The field at the carried place.
-pub fn read_field(
-    extract: &[u8],
-    words: &[u64; MAX_ELEMENTS],
-    levels: &[u64; MAX_DEPTH],
-    carried: Carried,
-) -> FieldRead
-    requires { FieldPass extract.now levels.now carried }
-    ensures { FieldAs extract.now words.now levels.now carried result }
-{
-    let at = carried.at;
-    if !has_field(extract, at) {
-        return FieldRead::Wrong;
-    }
-    let size = two_bytes(extract, at + 1);
-    match extract[at] {
-        ELEMENT_TAG => element_field(extract, words, levels, carried, size),
-        TEXT_TAG => text_field(extract, words, levels, carried, size),
-        COUNT_TAG => count_field(extract, carried, size),
-        _ => FieldRead::Wrong,
-    }
-}
-
-// The first field.
-pub fn first_field(extract: &[u8]) -> First
+// Whether the first field is the root's. Where it may stand and is not, it is the count of an empty table.
+pub fn begins_with_root(extract: &[u8]) -> Option<bool>
     ensures { FirstAs extract.now result }
 {
     if !has_field(extract, 0) {
-        return First::Wrong;
+        return None;
     }
-    let size = two_bytes(extract, 1);
-    let tag = extract[0];
-    if tag == ELEMENT_TAG {
-        if is_root(extract, size) {
-            return First::Root;
+    let size = two_bytes(extract, 1) as usize;
+    match extract[0] {
+        ELEMENT_TAG => is_root(extract, size).then_some(true),
+        COUNT_TAG => is_count(extract, 0, 0, size).then_some(false),
+        _ => None,
+    }
+}
+
+impl Reader<'_> {
+    // The field of a count.
+    fn count_field(&self, size: usize) -> Option<Field>
+        requires { CountPass self.now.extract.now self.now.carried size }
+        ensures { CountAs self.now.extract.now self.now.carried size result }
+    {
+        is_count(self.extract, self.carried.at, self.carried.rows, size).then_some(Field::Count)
+    }
+
+    // The field at the carried place, if it may stand there.
+    pub fn read_field(&self) -> Option<Field>
+        requires { FieldPass self.now.extract.now self.now.levels self.now.carried }
+        ensures { FieldAs self.now.extract.now self.now.words.now self.now.levels self.now.carried result }
+    {
+        let at = self.carried.at;
+        if !has_field(self.extract, at) {
+            return None;
         }
-        return First::Wrong;
-    }
-    if tag == COUNT_TAG {
-        if is_count(extract, 0, 0, size) {
-            return First::Ended;
+        let size = two_bytes(self.extract, at + 1) as usize;
+        match self.extract[at] {
+            ELEMENT_TAG => self.element_field(size),
+            TEXT_TAG => self.text_field(size),
+            COUNT_TAG => self.count_field(size),
+            _ => None,
         }
     }
-    First::Wrong
 }

@@ -1,46 +1,31 @@
 // Reading an extract under a schema's record, into lent columns.
 ghost use Rattle.std.specs.Prelude.{◌≡◌};
-ghost use Rattle.cells.specs.lent.Ends.{entry_sizes, LeftRows};
+ghost use Rattle.cells.specs.columns.Lent.{lent_columns};
 ghost use Rattle.cells.specs.verdicts.Verdicts.{verdict};
 ghost use Rattle.compiled_schema.specs.records.Records.{record_with};
+ghost use Rattle.extract_reader.specs.records.Calls.{LeftRows};
 ghost use Rattle.library_spec.specs.Calls.{extract_read};
+ghost use Rattle.table_spec.specs.Columns.{sizes_of};
 
 use crate::table::read_extract_table;
-use cells::sizes::equal_sizes;
-use cells::verdicts::{BAD_RECORD, Verdict};
-use cells::{columns, verdicts};
+use cells::columns::ColumnsMut;
 use compiled_schema::record_words::schema_words;
 use schema::Schema;
 use schema_reader::is_schema_record;
+use text::refusals::{Reason, Refusal};
 
 pub fn read_extract(
     schema: Schema,
     extract: &[u8],
-    numbers: &mut [u16],
-    names: &mut [u8],
-    parents: &mut [u16],
-    starts: &mut [u32],
-    lengths: &mut [u16],
-    decoded: &mut [u16],
-) -> Verdict
-    ensures value { result ≡ verdict (extract_read (record_with schema.bytes schema.len) extract.now (entry_sizes numbers names parents starts lengths decoded)) }
-    ensures left_rows { LeftRows (extract_read (record_with schema.bytes schema.len) extract.now) numbers names parents starts lengths decoded }
+    columns: &mut ColumnsMut,
+) -> Result<usize, Refusal>
+    ensures value { result ≡ verdict (extract_read (record_with schema.bytes schema.len) extract.now (sizes_of (lent_columns columns.old))) }
+    ensures left_rows { LeftRows (extract_read (record_with schema.bytes schema.len) extract.now) columns.old columns.new }
 {
-    if is_schema_record(schema) {
-        if equal_sizes(
-            numbers.len(),
-            names.len(),
-            parents.len(),
-            starts.len(),
-            lengths.len(),
-            decoded.len(),
-        ) {
-            let words = schema_words(schema);
-            return read_extract_table(
-                extract, &words, numbers, names, parents, starts, lengths, decoded,
-            );
-        }
+    if is_schema_record(schema) && columns.are_equal() {
+        let words = schema_words(&schema);
+        return read_extract_table(extract, &words, columns);
     }
-    columns::clear(numbers, names, parents, starts, lengths, decoded);
-    verdicts::refused(BAD_RECORD, 0)
+    columns.clear();
+    Err(Refusal::of(Reason::BadRecord))
 }

@@ -5,4 +5,5 @@ pub mod decoded_texts
 pub mod fields
 pub mod row_laws
 pub mod rows
+pub mod writers
 pub mod writing

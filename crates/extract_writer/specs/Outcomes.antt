@@ -1,11 +1,12 @@
 -- The library's outcome of writing an extract, stage by stage: the record, the table beside its text, the bytes.
-use Rattle.std.specs.Prelude.{Bool, cond, ◌≡◌, ℕ, T, length}
+use Rattle.std.specs.Prelude.{Bool, cond, ◌≡◌, ℕ, ◌≤◌, T, length}
 use Rattle.std.proofs.Math.Bool.{true, false, not}
 use mathlib.Core.List.{List}
 use Rattle.std.proofs.Math.Option.{Option, none, some}
 use Rattle.std.proofs.Math.Path.{refl, sym, ap}
 use Rattle.std.proofs.Common.{◌∙◌}
 use Rattle.std.proofs.lemmas.List.{length-map}
+use Rattle.cells.specs.columns.Columns.{EqualColumns}
 use Rattle.cells.specs.lent.Columns.{first_cells}
 use Rattle.cells.specs.row_sets.Columns.{marks}
 use Rattle.cells.specs.verdicts.Verdicts.{in_bytes}
@@ -15,7 +16,7 @@ use Rattle.extract_writer.specs.row_laws.Written.{table-extract}
 use Rattle.extract_writer.specs.rows.Rows.{ExtractColumns}
 use Rattle.extract_writer.specs.writing.Extract.{extract_in}
 use Rattle.handed_tables.specs.calls.Calls.{beside-some}
-use Rattle.handed_tables.specs.columns.Rows.{lent-coded, held-columns}
+use Rattle.handed_tables.specs.columns.Rows.{lent-coded, lent-cells, lent-equal, held-columns}
 use Rattle.kept_rows.specs.laws.Codes.{codes-named}
 use Rattle.kept_rows.specs.laws.Cut.{columns_in}
 use Rattle.library_spec.specs.Calls.{extract_written}
@@ -60,6 +61,13 @@ module _ (s : Schema) (lent : List ℕ) (t : LentTable) (beside : is_beside s le
 
   long : length rows ≡ length columns.numbers
   long = sym (length-map rows (λ r. r.number)) ∙ ap (λ (c : Columns). length c.numbers) same
+
+  -- they can be taken
+  pub table-equal : EqualColumns t.columns
+  table-equal = lent-equal t rows held.0
+
+  pub table-room : t.count ≤ length t.columns.numbers
+  table-room = (lent-cells t rows held.0).numbered
 
   pub table-columns : ExtractColumns lent columns (length columns.numbers)
   table-columns = rw (← same, ← long) (text-columns (types_of s) lent rows held.1 (lent-coded t rows held.0))

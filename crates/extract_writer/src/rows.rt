@@ -1,21 +1,24 @@
 // The fields of the marked rows of a table in columns: how many bytes they take, and writing them.
 ghost use Rattle.std.specs.Prelude.{◌≡◌, length};
+ghost use Rattle.cells.specs.columns.Lent.{read_columns};
 ghost use Rattle.extract_writer.specs.rows.Measure.{marked_size, MeasurePass, MeasuredAs};
-ghost use Rattle.extract_writer.specs.rows.Rows.{field_at, marked_field, field_size, RowPass, StoredAt, FieldsPass};
+ghost use Rattle.extract_writer.specs.rows.Rows.{field_at, marked_field, field_size, RowPass, FieldsPass};
+ghost use Rattle.extract_writer.specs.writers.Writers.{Puts};
 ghost use Rattle.kept_rows.specs.Joined.{joined};
-ghost use Rattle.table_spec.specs.Columns.{columns};
 
-use crate::fields::{ELEMENT_BYTES, TEXT_HEAD_BYTES, put_element, put_text};
+use crate::fields::{ELEMENT_BYTES, TEXT_HEAD_BYTES};
+use crate::writers::Writer;
+use cells::columns::Columns;
 use cells::row_sets::MARKED;
 use names::MAX_ELEMENTS;
 
-#[derive(Drop)]
+#[derive(Clone, Copy)]
 pub struct Measured {
     pub bytes: usize,
     pub rows: u16,
 }
 
-// How many bytes the field of a row takes.
+// How many bytes the field of a row takes. The name is a code, below 32 an element's, and no enum: the column is lent over the C interface.
 fn field_size(name: u8, decoded: u16) -> usize
     ensures { result ≡ field_size name decoded }
 {
@@ -44,72 +47,43 @@ pub fn measure(names: &[u8], decoded: &[u16], marks: &[u8]) -> Measured
 {
     let mut bytes = 0;
     let mut rows: u16 = 0;
-    let mut r = 0;
-    while r < marks.len() {
+    for r in 0..marks.len() {
         bytes += marked_size(marks[r], names[r], decoded[r]);
         rows += marks[r] as u16;
-        r += 1;
     }
     Measured { bytes, rows }
 }
 
-// Writes the field of row `r` from `at` on, if its mark is set, and gives the place after it.
-fn put_row(
-    text: &[u8],
-    numbers: &[u16],
-    names: &[u8],
-    parents: &[u16],
-    starts: &[u32],
-    lengths: &[u16],
-    decoded: &[u16],
-    mark: u8,
-    r: usize,
-    out: &mut [u8],
-    at: usize,
-) -> usize
-    requires { RowPass text.now (columns numbers.now names.now parents.now starts.now lengths.now decoded.now) mark r out.old at }
-    ensures { StoredAt out.old at (marked_field text.now (columns numbers.now names.now parents.now starts.now lengths.now decoded.now) mark r) result out.new }
-{
-    if mark != MARKED {
-        return at;
+impl Writer<'_> {
+    // Writes the field of row `r`, if its mark is set.
+    fn put_row(&mut self, text: &[u8], table: &Columns, mark: u8, r: usize)
+        requires { RowPass text.now (read_columns table.now) mark r self.old }
+        ensures { Puts self.old (marked_field text.now (read_columns table.now) mark r) self.new }
+    {
+        if mark != MARKED {
+            return;
+        }
+        let number = table.numbers[r];
+        let p = table.parents[r] as usize;
+        let parent = table.numbers[p];
+        // a code here, too
+        let name = table.names[r];
+        if (name as usize) < MAX_ELEMENTS {
+            self.put_element(number, parent, name);
+            return;
+        }
+        let from = table.starts[r] as usize;
+        let to = from + table.lengths[r] as usize;
+        self.put_text(number, parent, &text[from..to], table.decoded[r]);
     }
-    let number = numbers[r];
-    let p = parents[r] as usize;
-    let parent = numbers[p];
-    let name = names[r];
-    if (name as usize) < MAX_ELEMENTS {
-        put_element(out, at, number, parent, name);
-        return at + ELEMENT_BYTES;
-    }
-    let from = starts[r] as usize;
-    let to = from + lengths[r] as usize;
-    let size = decoded[r];
-    put_text(out, at, number, parent, &text[from..to], size);
-    at + TEXT_HEAD_BYTES + size as usize
-}
 
-// Writes the fields of the marked rows, one after the other, and gives the place after them.
-pub fn write_fields(
-    text: &[u8],
-    numbers: &[u16],
-    names: &[u8],
-    parents: &[u16],
-    starts: &[u32],
-    lengths: &[u16],
-    decoded: &[u16],
-    marks: &[u8],
-    out: &mut [u8],
-) -> usize
-    requires { FieldsPass text.now (columns numbers.now names.now parents.now starts.now lengths.now decoded.now) marks.now out.old }
-    ensures { StoredAt out.old 0 (joined (field_at text.now (columns numbers.now names.now parents.now starts.now lengths.now decoded.now)) marks.now (length marks.now)) result out.new }
-{
-    let mut at = 0;
-    let mut r = 0;
-    while r < marks.len() {
-        at = put_row(
-            text, numbers, names, parents, starts, lengths, decoded, marks[r], r, out, at,
-        );
-        r += 1;
+    // Writes the fields of the marked rows, one after the other.
+    pub fn put_rows(&mut self, text: &[u8], table: &Columns, marks: &[u8])
+        requires { FieldsPass text.now (read_columns table.now) marks.now self.old }
+        ensures { Puts self.old (joined (field_at text.now (read_columns table.now)) marks.now (length marks.now)) self.new }
+    {
+        for r in 0..marks.len() {
+            self.put_row(text, table, marks[r], r);
+        }
     }
-    at
 }

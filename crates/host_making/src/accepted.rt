@@ -1,138 +1,64 @@
 // Making an extract under an accepted schema and bundle, both compiled: the journal's rows in the lent columns, and the bytes of those that the
 // bundle needs.
 ghost use Rattle.std.specs.Prelude.{◌≤◌};
-ghost use Rattle.cells.specs.lent.Ends.{exit_columns, entry_columns, held_columns};
-ghost use Rattle.compiled_paths.specs.Paths.{lent_paths, paths_in, Shaped, entry_paths};
-ghost use Rattle.host_making.specs.accepted.Making.{AnswerAs, FirstAsked, UnderTexts, WrittenUnderIn, made_in};
-ghost use Rattle.hosts.specs.results.Exits.{MakingExits};
+ghost use Rattle.cells.specs.columns.Lent.{Same, lent_columns};
+ghost use Rattle.compiled_paths.specs.Paths.{Shaped, paths_in};
+ghost use Rattle.host_making.specs.accepted.Making.{FirstAsked, UnderTexts, WrittenUnder, made_in};
+ghost use Rattle.hosts.specs.results.Settled.{MakingSettled};
 ghost use Rattle.schema_spec.specs.Records.{schema_in};
-ghost use Rattle.table_spec.specs.Columns.{columns};
 ghost use Rattle.text_spec.specs.Limits.{max_declarations};
 
-use cells::columns;
-use cells::verdicts::TOO_FEW_CELLS;
-use compiled_paths::{CONDITION_STARTS, PATH_STARTS, STEPS};
-use compiled_schema::CompiledSchema;
+use cells::columns::ColumnsMut;
 use extract_writer::writing::write_kept;
-use hosts::results;
-use hosts::results::HostResult;
+use hosts::results::Answered;
+use hosts::texts::Texts;
 use journal::compiled::read_compiled;
-use kept_rows::columns::clear_bytes;
 use needed_names::sets::needed_under;
 use text::limits::MAX_JOURNAL_BYTES;
+use text::refusals::{Reason, Refusal};
 
-// The result for rows in the columns and bytes in `room` cells; 18 where these are too few, and then no row is left.
-fn answer(
-    rows: usize,
-    bytes: usize,
-    room: usize,
-    numbers: &mut [u16],
-    names: &mut [u8],
-    parents: &mut [u16],
-    starts: &mut [u32],
-    lengths: &mut [u16],
-    decoded: &mut [u16],
-) -> HostResult
-    ensures { AnswerAs rows bytes room (entry_columns numbers names parents starts lengths decoded) (exit_columns numbers names parents starts lengths decoded) result }
-{
-    if room < bytes {
-        columns::clear(numbers, names, parents, starts, lengths, decoded);
-        return results::refused(TOO_FEW_CELLS, 0);
-    }
-    results::answered(rows, bytes, 0)
-}
-
-// Writes the extract of the first rows in the columns.
-fn write_under<'a>(
-    compiled: CompiledSchema,
-    axes: &'a [u8; STEPS],
-    tests: &'a [u8; STEPS],
-    conditions: &'a [u16; CONDITION_STARTS],
-    paths: &'a [u8; PATH_STARTS],
-    total: usize,
+// Writes the extract of the first rows in the columns; no row is left in them where `out` has too few cells (18).
+fn write_under(
+    texts: &Texts,
     journal: &[u8],
     rows: usize,
-    numbers: &mut [u16],
-    names: &mut [u8],
-    parents: &mut [u16],
-    starts: &mut [u32],
-    lengths: &mut [u16],
-    decoded: &mut [u16],
+    columns: &mut ColumnsMut,
     out: &mut [u8],
-) -> HostResult
-    requires { Shaped (lent_paths axes.now tests.now conditions.now paths.now total) × (compiled.count ≤ max_declarations) × FirstAsked journal.now (held_columns numbers names parents starts lengths decoded) rows }
-    ensures { WrittenUnderIn compiled (entry_paths axes tests conditions paths total) journal rows numbers names parents starts lengths decoded out result }
+) -> Result<Answered, Refusal>
+    requires { Shaped texts.now.paths × (texts.now.schema.relations.count ≤ max_declarations) × FirstAsked journal.now (lent_columns columns.old) rows }
+    ensures same { Same columns.old columns.new }
+    ensures written { WrittenUnder texts.now journal.now rows (lent_columns columns.old) (lent_columns columns.new) out.old out.new result }
 {
-    let set = needed_under(compiled, axes, tests, conditions, paths, total);
-    let bytes = write_kept(
-        set,
-        journal,
-        &numbers[..rows],
-        &names[..rows],
-        &parents[..rows],
-        &starts[..rows],
-        &lengths[..rows],
-        &decoded[..rows],
-        out,
-    );
-    let room = out.len();
-    answer(
-        rows, bytes, room, numbers, names, parents, starts, lengths, decoded,
-    )
+    let needed = needed_under(&texts.schema, &texts.paths);
+    let bytes = write_kept(needed, journal, &columns.as_columns().first(rows), out);
+    if out.len() < bytes {
+        columns.clear();
+        return Err(Refusal::of(Reason::TooFewCells));
+    }
+    Ok(Answered {
+        rows,
+        items: bytes,
+        counts: 0,
+    })
 }
 
-// The journal's rows in the columns, and then the bytes; on refusal no cell is left.
-pub fn make_under<'a>(
+// The journal's rows in the columns, and then the bytes; on refusal no cell is left. The schema's text is the one that was compiled.
+pub fn make_under(
     schema: &[u8],
-    compiled: CompiledSchema,
-    axes: &'a [u8; STEPS],
-    tests: &'a [u8; STEPS],
-    conditions: &'a [u16; CONDITION_STARTS],
-    paths: &'a [u8; PATH_STARTS],
-    total: usize,
+    texts: &Texts,
     journal: &[u8],
-    numbers: &mut [u16],
-    names: &mut [u8],
-    parents: &mut [u16],
-    starts: &mut [u32],
-    lengths: &mut [u16],
-    decoded: &mut [u16],
+    columns: &mut ColumnsMut,
     out: &mut [u8],
-) -> HostResult
-    requires { UnderTexts schema.now compiled (lent_paths axes.now tests.now conditions.now paths.now total) (held_columns numbers names parents starts lengths decoded) }
-    ensures { MakingExits (made_in (schema_in schema.now) (paths_in (entry_paths axes tests conditions paths total)) journal.now) result numbers names parents starts lengths decoded out }
+) -> Result<Answered, Refusal>
+    requires { UnderTexts schema.now texts.now (lent_columns columns.old) }
+    ensures same { Same columns.old columns.new }
+    ensures made { MakingSettled (made_in (schema_in schema.now) (paths_in texts.now.paths) journal.now) (lent_columns columns.old) out.old result (lent_columns columns.new) out.new }
 {
-    let verdict = read_compiled(
-        schema,
-        compiled,
-        journal,
-        MAX_JOURNAL_BYTES,
-        numbers,
-        names,
-        parents,
-        starts,
-        lengths,
-        decoded,
-    );
-    if verdict.number != 0 {
-        clear_bytes(out, 0);
-        return results::refused(verdict.number, verdict.place);
+    match read_compiled(schema, &texts.schema, journal, MAX_JOURNAL_BYTES, columns) {
+        Ok(rows) => write_under(texts, journal, rows, columns, out),
+        Err(refusal) => {
+            out.fill(0);
+            Err(refusal)
+        }
     }
-    write_under(
-        compiled,
-        axes,
-        tests,
-        conditions,
-        paths,
-        total,
-        journal,
-        verdict.size,
-        numbers,
-        names,
-        parents,
-        starts,
-        lengths,
-        decoded,
-        out,
-    )
 }

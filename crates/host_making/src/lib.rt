@@ -3,20 +3,29 @@
 
 pub mod accepted;
 
+ghost use Rattle.cells.specs.columns.Lent.{lent_columns};
+ghost use Rattle.host_making.specs.Calls.{CallJudged};
 ghost use Rattle.hosts.specs.results.Exits.{MakingExits};
 ghost use Rattle.library_spec.specs.Hosts.{make_extract};
 
 use crate::accepted::make_under;
-use cells::sizes::equal_sizes;
-use compiled_paths::CompiledPaths;
-use compiled_schema::CompiledSchema;
-use compiled_schema::entry_columns::Entries;
-use hosts::refusals::refuse_making;
+use cells::columns::ColumnsMut;
 use hosts::results::HostResult;
-use hosts::texts::{judge_texts, refusal};
-use names::NameSet;
+use hosts::texts::{Texts, judge_texts};
+use text::refusals::{Reason, Refusal};
+
+// What is tested before the journal: the columns' lengths, the schema, the bundle.
+fn judge(schema: &[u8], bundle: &[u8], columns: &ColumnsMut) -> Result<Texts, Refusal>
+    ensures { CallJudged schema.now bundle.now (lent_columns columns.now) result }
+{
+    if !columns.are_equal() {
+        return Err(Refusal::of(Reason::BadRecord));
+    }
+    judge_texts(schema, bundle)
+}
 
 // The texts are compiled once, and the journal is read once.
+// Ten parameters, each column one: `MakingExits` speaks of six slices, as the C interface has them, and two exporting crates call it so.
 pub fn make_extract(
     schema: &[u8],
     bundle: &[u8],
@@ -31,34 +40,20 @@ pub fn make_extract(
 ) -> HostResult
     ensures { MakingExits (make_extract schema.now bundle.now journal.now) result numbers names parents starts lengths decoded out }
 {
-    let equal = equal_sizes(
-        numbers.len(),
-        names.len(),
-        parents.len(),
-        starts.len(),
-        lengths.len(),
-        decoded.len(),
-    );
-    let texts = judge_texts(schema, bundle);
-    let told = refusal(equal, texts.told);
-    if told.number != 0 {
-        return refuse_making(told, numbers, names, parents, starts, lengths, decoded, out);
-    }
-    make_under(
-        schema,
-        texts.schema,
-        &texts.paths.axes,
-        &texts.paths.tests,
-        &texts.paths.conditions,
-        &texts.paths.paths,
-        texts.paths.count,
-        journal,
+    let mut columns = ColumnsMut {
         numbers,
         names,
         parents,
         starts,
         lengths,
         decoded,
-        out,
-    )
+    };
+    match judge(schema, bundle, &columns) {
+        Ok(texts) => HostResult::from(make_under(schema, &texts, journal, &mut columns, out)),
+        Err(refusal) => {
+            columns.clear();
+            out.fill(0);
+            HostResult::from(Err(refusal))
+        }
+    }
 }

@@ -4,20 +4,30 @@
 
 pub mod accepted;
 
+ghost use Rattle.cells.specs.columns.Lent.{lent_columns};
+ghost use Rattle.host_selecting.specs.Calls.{CallJudged};
 ghost use Rattle.hosts.specs.results.Exits.{SelectingExits};
 ghost use Rattle.library_spec.specs.Hosts.{select_from};
 
 use crate::accepted::choose_under;
-use cells::sizes::equal_sizes;
-use compiled_paths::CompiledPaths;
-use compiled_schema::CompiledSchema;
-use compiled_schema::entry_columns::Entries;
-use hosts::refusals::{passes, refuse_selecting};
+use cells::columns::ColumnsMut;
 use hosts::results::HostResult;
-use hosts::texts::{judge_texts, refusal};
-use names::NameSet;
+use hosts::texts::{Texts, has_place, judge_texts};
+use text::refusals::{Reason, Refusal};
+
+// What is tested before the extract: the columns' lengths, the place, the schema, the bundle.
+fn judge(schema: &[u8], bundle: &[u8], place: usize, columns: &ColumnsMut) -> Result<Texts, Refusal>
+    ensures { CallJudged schema.now bundle.now place (lent_columns columns.now) result }
+{
+    let texts = judge_texts(schema, bundle);
+    if !columns.are_equal() || !has_place(&texts, place) {
+        return Err(Refusal::of(Reason::BadRecord));
+    }
+    texts
+}
 
 // The texts are compiled once, and the extract is read once for all paths that are asked for.
+// Twelve parameters, each column one: `SelectingExits` speaks of six slices, as the C interface has them, and two exporting crates call it so.
 pub fn select_from(
     schema: &[u8],
     bundle: &[u8],
@@ -34,38 +44,28 @@ pub fn select_from(
 ) -> HostResult
     ensures { SelectingExits (select_from schema.now bundle.now place extract.now) result numbers names parents starts lengths decoded items counts }
 {
-    let equal = equal_sizes(
-        numbers.len(),
-        names.len(),
-        parents.len(),
-        starts.len(),
-        lengths.len(),
-        decoded.len(),
-    );
-    let texts = judge_texts(schema, bundle);
-    let passed = passes(equal, place, texts.told.number, texts.paths.count);
-    let told = refusal(passed, texts.told);
-    if told.number != 0 {
-        return refuse_selecting(
-            told, numbers, names, parents, starts, lengths, decoded, items, counts,
-        );
-    }
-    choose_under(
-        texts.schema,
-        &texts.paths.axes,
-        &texts.paths.tests,
-        &texts.paths.conditions,
-        &texts.paths.paths,
-        texts.paths.count,
-        place,
-        extract,
+    let mut columns = ColumnsMut {
         numbers,
         names,
         parents,
         starts,
         lengths,
         decoded,
-        items,
-        counts,
-    )
+    };
+    match judge(schema, bundle, place, &columns) {
+        Ok(texts) => HostResult::from(choose_under(
+            &texts,
+            place,
+            extract,
+            &mut columns,
+            items,
+            counts,
+        )),
+        Err(refusal) => {
+            columns.clear();
+            items.fill(0);
+            counts.fill(0);
+            HostResult::from(Err(refusal))
+        }
+    }
 }

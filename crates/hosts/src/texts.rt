@@ -1,97 +1,38 @@
-// The schema and the bundle that a host function is handed, judged in turn, each read once.
+// The schema and the bundle that a host function is handed, judged in turn, each read once, and the place in the bundle that it asks for.
 ghost use Rattle.std.specs.Prelude.{◌≡◌};
-ghost use Rattle.bundle.specs.Judging as under;
-ghost use Rattle.hosts.specs.texts.Texts.{told_of, refusal_of, TextsJudged};
-ghost use Rattle.schema.specs.Judging as first;
+ghost use Rattle.hosts.specs.texts.Texts.{TextsJudged, range_of};
 
 use bundle::byte_judging;
-use cells::verdicts::BAD_RECORD;
 use compiled_paths::CompiledPaths;
-use compiled_schema::entry_columns::Entries;
 use compiled_schema::{CompiledSchema, judge_and_compile};
-use names::NameSet;
+use text::limits::MAX_PATHS;
+use text::refusals::Refusal;
 
-// The refusal's number and its place, 0 and 0 for none.
-#[derive(Drop)]
-pub struct Told {
-    pub number: u64,
-    pub place: u64,
-}
-
-// The same of both texts, and their compiled forms: those of a schema with no element and of no path where the texts are refused.
+// Both texts compiled.
 #[derive(Drop)]
 pub struct Texts {
-    pub told: Told,
     pub schema: CompiledSchema,
     pub paths: CompiledPaths,
 }
 
-fn schema_told(judgement: schema::Judgement) -> Told
-    ensures { result ≡ told_of (first.outcome_of judgement) }
-{
-    match judgement {
-        schema::Judgement::Accepted(_) => Told {
-            number: 0,
-            place: 0,
-        },
-        schema::Judgement::Refused(kind, place) => Told {
-            number: kind.number() as u64,
-            place: place as u64,
-        },
-    }
-}
-
-fn bundle_told(judgement: bundle::Judgement) -> Told
-    ensures { result ≡ told_of (under.outcome_of judgement) }
-{
-    match judgement {
-        bundle::Judgement::Accepted(_) => Told {
-            number: 0,
-            place: 0,
-        },
-        bundle::Judgement::Refused(kind, place) => Told {
-            number: kind.number() as u64,
-            place: place as u64,
-        },
-    }
-}
-
-pub fn judge_texts(schema: &[u8], bundle: &[u8]) -> Texts
+pub fn judge_texts(schema: &[u8], bundle: &[u8]) -> Result<Texts, Refusal>
     ensures { TextsJudged schema.now bundle.now result }
 {
-    let judged = judge_and_compile(schema);
-    let judgement = judged.judgement;
-    let compiled = judged.schema;
-    let told = schema_told(judgement);
-    if told.number != 0 {
-        return Texts {
-            told,
-            schema: compiled,
-            paths: CompiledPaths::empty(),
-        };
-    }
-    let count = compiled.count;
-    let names = compiled.names;
-    let second = byte_judging::judge_bundle(schema, &names[..count], bundle);
-    let judgement = second.judgement;
-    let paths = second.paths;
-    let told = bundle_told(judgement);
-    Texts {
-        told,
+    let compiled = judge_and_compile(schema)?;
+    let count = compiled.relations.count;
+    let paths = byte_judging::judge_bundle(schema, &compiled.names[..count], bundle)?;
+    Ok(Texts {
         schema: compiled,
         paths,
-    }
+    })
 }
 
-// The refusal before a call's last text is read: the call's own, then that of the schema and the bundle.
-pub fn refusal(passes: bool, told: Told) -> Told
-    ensures { result ≡ refusal_of passes told }
+// Whether the bundle has the place, or it is 0; of texts that are refused, whether some bundle has it.
+pub fn has_place(texts: &Result<Texts, Refusal>, place: usize) -> bool
+    ensures { result ≡ range_of place texts.now }
 {
-    if !passes {
-        return Told {
-            number: BAD_RECORD,
-            place: 0,
-        };
+    match texts {
+        Ok(texts) => place <= texts.paths.count,
+        Err(_) => place <= MAX_PATHS,
     }
-    told
 }

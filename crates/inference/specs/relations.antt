@@ -1,2 +1,2 @@
--- Theorems: the columns of a compiled schema are the relations, the number of elements and the names that needed names ask for (`Compiled`).
+-- Theorems: the relations in a compiled schema are those that needed names ask for (`Compiled`).
 pub mod Compiled

@@ -1,2 +1,2 @@
-pub mod Relations
+pub mod Envs
 pub mod Laws

@@ -4,4 +4,3 @@
 pub mod back_steps;
 pub mod plain_steps;
 pub mod type_steps;
-pub mod written_steps;

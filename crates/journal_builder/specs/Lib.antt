@@ -1,9 +1,10 @@
 pub mod Events
+pub mod build_state
 pub mod element_names
 pub mod event_handling
 pub mod fillings
+pub mod journal_schema
 pub mod laws
-pub mod name_tables
 pub mod open_levels
+pub mod rows
 pub mod start_tags
-pub mod build_state

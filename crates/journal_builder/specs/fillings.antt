@@ -1,3 +1,2 @@
 pub mod Fillings
 pub mod FillingLaws
-pub mod Entries

@@ -1,9 +1,9 @@
 // Start tags: one child more of the innermost open element, a new open element and its row; refusals 12 to 16 at a start tag.
 ghost use Rattle.std.specs.Prelude.{List, ◌≡◌, ◌≤◌, ◌<◌, length};
-ghost use Rattle.journal_builder.specs.build_state.State.{Safe, SafeStep};
-ghost use Rattle.journal_builder.specs.fillings.Fillings.{Sized};
+ghost use Rattle.journal_builder.specs.build_state.State.{SafeStep};
+ghost use Rattle.journal_builder.specs.journal_schema.Entries.{Sized};
 ghost use Rattle.journal_builder.specs.laws.Tags.{Opens, Starts, FitsChild};
-ghost use Rattle.journal_builder.specs.open_levels.Levels.{AllLevels, Opened};
+ghost use Rattle.journal_builder.specs.open_levels.Levels.{Opened};
 ghost use Rattle.journal_builder.specs.start_tags.Starts.{SafeStart};
 ghost use Rattle.journal_spec.specs.Builder.{Open, parent_row, begin, on_start};
 ghost use Rattle.schema_spec.specs.Schemas.{Schema};
@@ -11,154 +11,91 @@ ghost use Rattle.text.specs.fault_keys.Keys.{place_limit};
 ghost use Rattle.text_spec.specs.Limits.{max_depth};
 
 use crate::build_state::{Build, BuildStep};
+use crate::fillings::Filling;
+use crate::journal_schema::JournalSchema;
 use crate::open_levels::{LEVELS, Level};
-use crate::{begun_nodes, build_state, children, fillings, open_levels};
-use cells::columns::RowCells;
-use compiled_schema::entry_columns::MAX_CELLS;
-use names::MAX_ELEMENTS;
-use text::fault_keys::{BAD_NESTING, OVER_DEPTH};
+use crate::rows;
 use text::limits::MAX_DEPTH;
 use text::name_words::Name;
+use text::refusals::Reason;
 
 // The row of the innermost open element, or 0.
-fn parent_row(levels: &[u64; LEVELS], d: usize) -> u64
+fn parent_row(levels: &[Level; LEVELS], d: usize) -> usize
     requires { d ≤ max_depth }
     ensures { (s : Schema) (os : List Open) → d ≡ length os → Opened s levels.now os → result ≡ parent_row os }
 {
-    if d == 0 {
-        return 0;
-    }
-    let level = open_levels::load(levels, d);
-    level.row
+    if d == 0 { 0 } else { levels[d].row }
 }
 
 // One child more of the innermost open element.
-fn fit_child(
-    firsts: &[u64; MAX_ELEMENTS],
-    lasts: &[u64; MAX_ELEMENTS],
-    nullables: &[bool; MAX_ELEMENTS],
-    elements: &[u8; MAX_CELLS],
-    predecessors: &[u64; MAX_CELLS],
-    sizes: &[usize; MAX_ELEMENTS],
-    levels: &mut [u64; LEVELS],
-    d: usize,
-    e: usize,
-)
-    requires { (d ≤ max_depth) × AllLevels levels.old × Sized sizes.now }
-    ensures { AllLevels levels.new × FitsChild firsts lasts nullables elements predecessors sizes levels d e }
+fn fit_child(schema: &JournalSchema, levels: &mut [Level; LEVELS], d: usize, e: Option<u8>)
+    requires { (d ≤ max_depth) × Sized schema.now.compiled.now }
+    ensures { FitsChild schema.now levels.old d e levels.new }
 {
-    let level = open_levels::load(levels, d);
-    let old = level.filling;
-    let new = children::with_child(
-        firsts,
-        lasts,
-        nullables,
-        elements,
-        predecessors,
-        sizes,
-        old,
-        e,
-    );
-    open_levels::refill(levels, d, new);
+    let old = levels[d].filling;
+    levels[d].filling = old.with_child(schema, e);
 }
 
 // The element e, or an undeclared one, is open at the level past d.
 fn open_element(
-    kinds: &[u8; MAX_ELEMENTS],
-    levels: &mut [u64; LEVELS],
+    schema: &JournalSchema,
+    levels: &mut [Level; LEVELS],
     d: usize,
-    e: usize,
+    e: Option<u8>,
     row: usize,
     at: u32,
     name: Name,
 )
-    requires { (d < max_depth) × AllLevels levels.old }
-    ensures { AllLevels levels.new × Opens kinds levels d e row at name }
+    requires { d < max_depth }
+    ensures { Opens schema.now levels.old d e row at name levels.new }
 {
-    let filling = fillings::filling_for(kinds, e);
-    let level = Level {
+    levels[d + 1] = Level {
         name,
-        place: at as u64,
-        row: row as u64,
-        filling,
+        place: at,
+        row,
+        filling: Filling::of(schema, e),
     };
-    open_levels::store(levels, d + 1, level);
 }
 
 // The element e, or an undeclared one, begins.
 fn begin(
-    kinds: &[u8; MAX_ELEMENTS],
-    firsts: &[u64; MAX_ELEMENTS],
-    lasts: &[u64; MAX_ELEMENTS],
-    nullables: &[bool; MAX_ELEMENTS],
-    elements: &[u8; MAX_CELLS],
-    predecessors: &[u64; MAX_CELLS],
-    sizes: &[usize; MAX_ELEMENTS],
-    levels: &mut [u64; LEVELS],
+    schema: &JournalSchema,
+    levels: &mut [Level; LEVELS],
     m: Build,
-    e: usize,
+    e: Option<u8>,
     name: Name,
     at: u32,
 ) -> BuildStep
-    requires { Safe levels.old m × Sized sizes.now × (m.depth < max_depth) × (m.count < place_limit) }
-    ensures { SafeStep levels.new m result × (0 < result.build.depth) × Starts begin kinds firsts lasts nullables elements predecessors sizes levels m e name at result }
+    requires { (m.depth < max_depth) × (m.count < place_limit) × Sized schema.now.compiled.now }
+    ensures { SafeStep m result × (0 < result.build.depth) × Starts begin schema.now levels.old m e name at levels.new result }
 {
     let d = m.depth;
-    let count = m.count;
-    let parent = parent_row(levels, d);
-    fit_child(
-        firsts,
-        lasts,
-        nullables,
-        elements,
-        predecessors,
-        sizes,
-        levels,
-        d,
-        e,
-    );
-    open_element(kinds, levels, d, e, count, at, name);
-    let row: RowCells = build_state::element_row(e, parent);
-    let build = begun_nodes::with_element(m, e, at);
-    BuildStep { build, row }
+    let row = rows::element_row(e, parent_row(levels, d));
+    fit_child(schema, levels, d, e);
+    open_element(schema, levels, d, e, m.count, at, name);
+    BuildStep {
+        build: m.with_element(e, at),
+        row: Some(row),
+    }
 }
 
 // A start tag. 12 comes before 13, so a second root is judged first.
 pub fn on_start(
-    kinds: &[u8; MAX_ELEMENTS],
-    firsts: &[u64; MAX_ELEMENTS],
-    lasts: &[u64; MAX_ELEMENTS],
-    nullables: &[bool; MAX_ELEMENTS],
-    elements: &[u8; MAX_CELLS],
-    predecessors: &[u64; MAX_CELLS],
-    sizes: &[usize; MAX_ELEMENTS],
-    levels: &mut [u64; LEVELS],
+    schema: &JournalSchema,
+    levels: &mut [Level; LEVELS],
     m: Build,
-    e: usize,
+    e: Option<u8>,
     name: Name,
     at: u32,
 ) -> BuildStep
-    requires { Safe levels.old m × Sized sizes.now × (m.count < place_limit) }
-    ensures { SafeStart levels.new m result × Starts on_start kinds firsts lasts nullables elements predecessors sizes levels m e name at result }
+    requires { (m.depth ≤ max_depth) × (m.count < place_limit) × Sized schema.now.compiled.now }
+    ensures { SafeStart m result × Starts on_start schema.now levels.old m e name at levels.new result }
 {
-    if build_state::is_second_root(m) {
-        return build_state::without_row(build_state::broken(m, BAD_NESTING, at));
+    if m.is_second_root() {
+        return m.broken(Reason::BadNesting, at).without_row();
     }
     if MAX_DEPTH <= m.depth {
-        return build_state::without_row(build_state::broken(m, OVER_DEPTH, at));
+        return m.broken(Reason::OverDepth, at).without_row();
     }
-    begin(
-        kinds,
-        firsts,
-        lasts,
-        nullables,
-        elements,
-        predecessors,
-        sizes,
-        levels,
-        m,
-        e,
-        name,
-        at,
-    )
+    begin(schema, levels, m, e, name, at)
 }

@@ -1,10 +1,11 @@
 pub mod character_data
 pub mod data_loops
+pub mod entities
 pub mod kinds
 pub mod loop_laws
+pub mod mode_loops
 pub mod run_laws
 pub mod state
-pub mod step
 pub mod tag_loops
 pub mod tags
 pub mod whole_entities

@@ -1,4 +1,4 @@
+pub mod Modes
 pub mod Places
-pub mod Entities
 pub mod Relation
 pub mod Laws

@@ -2,106 +2,94 @@
 ghost use Rattle.journal_lexer.specs.character_data.Runs.{Plain};
 ghost use Rattle.journal_lexer.specs.state.Relation.{Handed, Steps};
 
-use crate::data_runs::{data_byte, entity_begins, entity_ends, tag_opens, two_before};
-use crate::entities;
-use crate::entities::ENTITY_ENDED;
-use crate::kinds::{AMPERSAND, BRACKET, GREATER, LESS};
-use crate::state::{
-    AFTER_BRACKET, AFTER_BRACKETS, AT, ENTITY, Lex, QUIET, RUNS, SAVED, SOLID, START, STOPPED,
-    counts, goes, note_foreign, stop,
-};
+use crate::data_runs::{data_byte, entity_begins, entity_ends, tag_opens};
+use crate::entities::EntityRest;
+use crate::kinds::ByteKind;
+use crate::state::{Event, Lex, Mode, Places, stop};
 
-pub fn between_byte(places: &mut [u32; 5], l: Lex, b: u8, c: u8) -> Lex
+pub fn between_byte(places: &mut Places, l: Lex, b: u8, c: ByteKind) -> Lex
     requires { Handed l places.old b c }
-    ensures { Steps 0 l places.old b result places.new }
+    ensures { Steps Mode.Between l places.old b result places.new }
 {
-    if c == LESS {
-        return tag_opens(places, l, QUIET);
+    if c == ByteKind::Less {
+        return tag_opens(places, l, Event::Quiet);
     }
-    places[SAVED] = 0;
+    places.saved = 0;
     data_byte(places, l, l.place as u32, b, c)
 }
 
-pub fn blanks_byte(places: &mut [u32; 5], l: Lex, b: u8, c: u8) -> Lex
+pub fn blanks_byte(places: &mut Places, l: Lex, b: u8, c: ByteKind) -> Lex
     requires { Handed l places.old b c }
-    ensures { Steps 1 l places.old b result places.new }
+    ensures { Steps Mode.Blanks l places.old b result places.new }
 {
-    if c == LESS {
-        return tag_opens(places, l, RUNS);
+    if c == ByteKind::Less {
+        return tag_opens(places, l, Event::Runs);
     }
-    let start = places[START];
+    let start = places.start;
     data_byte(places, l, start, b, c)
 }
 
-// A byte that is not part of `]]>`, where the run has a byte that is not a blank.
-fn plain_byte(places: &mut [u32; 5], l: Lex, b: u8, c: u8) -> Lex
+// A byte that is not part of `]]>`, where the run has a byte that is not a blank. Most bytes are plain, and one test is made of these.
+fn plain_byte(places: &mut Places, l: Lex, b: u8, c: ByteKind) -> Lex
     requires { Handed l places.old b c }
     ensures { Plain l places.old b c result places.new }
 {
-    if c < LESS {
-        return goes(SOLID, l);
+    if c.is_plain() {
+        return l.goes(Mode::Solid);
     }
-    if c == LESS {
-        return tag_opens(places, l, RUNS);
+    match c {
+        ByteKind::Less => tag_opens(places, l, Event::Runs),
+        ByteKind::Ampersand => entity_begins(places, l),
+        ByteKind::Bracket => l.goes(Mode::AfterBracket),
+        _ => {
+            places.note_foreign(l.place, c);
+            l.goes(Mode::Solid)
+        }
     }
-    if c == AMPERSAND {
-        return entity_begins(places, l);
-    }
-    if c == BRACKET {
-        return goes(AFTER_BRACKET, l);
-    }
-    note_foreign(places, l.place, c);
-    goes(SOLID, l)
 }
 
-pub fn solid_byte(places: &mut [u32; 5], l: Lex, b: u8, c: u8) -> Lex
+pub fn solid_byte(places: &mut Places, l: Lex, b: u8, c: ByteKind) -> Lex
     requires { Handed l places.old b c }
-    ensures { Steps 2 l places.old b result places.new }
+    ensures { Steps Mode.Solid l places.old b result places.new }
 {
     plain_byte(places, l, b, c)
 }
 
-pub fn after_bracket_byte(places: &mut [u32; 5], l: Lex, b: u8, c: u8) -> Lex
+pub fn after_bracket_byte(places: &mut Places, l: Lex, b: u8, c: ByteKind) -> Lex
     requires { Handed l places.old b c }
-    ensures { Steps 3 l places.old b result places.new }
+    ensures { Steps Mode.AfterBracket l places.old b result places.new }
 {
-    if c == BRACKET {
-        return goes(AFTER_BRACKETS, l);
+    if c == ByteKind::Bracket {
+        return l.goes(Mode::AfterBrackets);
     }
     plain_byte(places, l, b, c)
 }
 
-pub fn after_brackets_byte(places: &mut [u32; 5], l: Lex, b: u8, c: u8) -> Lex
+pub fn after_brackets_byte(places: &mut Places, l: Lex, b: u8, c: ByteKind) -> Lex
     requires { Handed l places.old b c }
-    ensures { Steps 4 l places.old b result places.new }
+    ensures { Steps Mode.AfterBrackets l places.old b result places.new }
 {
-    if c == BRACKET {
-        return goes(AFTER_BRACKETS, l);
+    match c {
+        ByteKind::Bracket => l.goes(Mode::AfterBrackets),
+        ByteKind::Greater => {
+            places.at = l.place.saturating_sub(2) as u32;
+            l.goes(Mode::Stopped)
+        }
+        _ => plain_byte(places, l, b, c),
     }
-    if c == GREATER {
-        places[AT] = two_before(l.place);
-        return goes(STOPPED, l);
-    }
-    plain_byte(places, l, b, c)
 }
 
-pub fn entity_byte(places: &mut [u32; 5], l: Lex, b: u8, c: u8) -> Lex
+pub fn entity_byte(places: &mut Places, l: Lex, b: u8, c: ByteKind) -> Lex
     requires { Handed l places.old b c }
-    ensures { Steps 5 l places.old b result places.new }
+    ensures { Steps Mode.InEntity l places.old b result places.new }
 {
-    let s = l.count;
-    if ENTITY_ENDED <= s {
+    let Some(rest) = l.rest.after(b) else {
         return stop(places, l, c);
-    }
-    let next = entities::entity_next(s, b);
-    if next == ENTITY_ENDED {
-        note_foreign(places, l.place, c);
+    };
+    places.note_foreign(l.place, c);
+    if rest == EntityRest::Ended {
         entity_ends(places, l.place);
-        return goes(SOLID, l);
+        return l.goes(Mode::Solid);
     }
-    if ENTITY_ENDED < next {
-        return stop(places, l, c);
-    }
-    note_foreign(places, l.place, c);
-    counts(ENTITY, l, next)
+    l.enters(rest)
 }

@@ -1,209 +1,144 @@
-// Loops over a journal's character data: one for each mode that lasts, over the byte functions.
-ghost use Rattle.std.specs.Prelude.{◌≡◌};
-ghost use Rattle.journal_lexer.specs.data_loops.Entities.{past_entity};
-ghost use Rattle.journal_lexer.specs.data_loops.Modes.{data_mode};
-ghost use Rattle.journal_lexer.specs.data_loops.Characters.{moved_to, PlainBytes, EntityEnd};
+// Reading on in a journal's character data: a loop for each mode that lasts, whole entities and plain bytes passed at once.
+ghost use Rattle.std.specs.Prelude.{◌≡◌, ◌≤◌, length};
+ghost use Rattle.journal_lexer.specs.data_loops.Modes.{DataMode};
+ghost use Rattle.journal_lexer.specs.data_loops.Characters.{PlainBytes, EntityEnd};
 ghost use Rattle.journal_lexer.specs.loop_laws.Advance.{Ready, Advance, never, only};
 
 use crate::character_data;
 use crate::data_runs::entity_ends;
-use crate::kinds::LESS;
-use crate::state::{BETWEEN, BLANKS, ENTITY, Lex, QUIET, SAVED, SOLID};
-use crate::whole_entities::{Character, entity_after};
-
-// Between tokens, where one byte is read.
-pub fn between_step(t: &[u8], kinds: &[u8; 256], places: &mut [u32; 5], l: Lex) -> Lex
-    requires { Ready t.now kinds.now l places.old × (l.event ≡ 0) }
-    ensures { Advance (only 0) t.now l places.old result places.new }
-{
-    let at = l.place;
-    if t.len() <= at {
-        return l;
-    }
-    if l.mode != BETWEEN {
-        return l;
-    }
-    let b = t[at];
-    let c = kinds[b as usize];
-    character_data::between_byte(places, l, b, c)
-}
-
-fn blanks_run(t: &[u8], kinds: &[u8; 256], places: &mut [u32; 5], l: Lex) -> Lex
-    requires { Ready t.now kinds.now l places.old }
-    ensures { Advance (only 1) t.now l places.old result places.new }
-{
-    let mut s = l;
-    while s.place < t.len() && s.mode == BLANKS {
-        let at = s.place;
-        let b = t[at];
-        let c = kinds[b as usize];
-        let next = character_data::blanks_byte(places, s, b, c);
-        s = next;
-    }
-    s
-}
-
-fn solid_run(t: &[u8], kinds: &[u8; 256], places: &mut [u32; 5], l: Lex) -> Lex
-    requires { Ready t.now kinds.now l places.old }
-    ensures { Advance (only 2) t.now l places.old result places.new }
-{
-    let mut s = l;
-    while s.place < t.len() && s.mode == SOLID {
-        let at = s.place;
-        let b = t[at];
-        let c = kinds[b as usize];
-        let next = character_data::solid_byte(places, s, b, c);
-        s = next;
-    }
-    s
-}
-
-// The state past an entity.
-fn past_entity(l: Lex, place: usize) -> Lex
-    ensures { result ≡ past_entity place l }
-{
-    let name = l.name;
-    Lex {
-        place,
-        mode: SOLID,
-        event: QUIET,
-        count: l.count,
-        name,
-    }
-}
+use crate::entities::EntityRest;
+use crate::kinds::ByteKind;
+use crate::mode_loops::{mode_run, mode_step};
+use crate::state::{Event, Lex, Mode, Places};
+use crate::whole_entities::entity_after;
 
 // Passes an entity whose `&` alone is read, if it stands whole there.
-fn whole_entity(t: &[u8], kinds: &[u8; 256], places: &mut [u32; 5], l: Lex) -> Lex
+fn whole_entity(t: &[u8], kinds: &[ByteKind; 256], places: &mut Places, l: Lex) -> Lex
     requires { Ready t.now kinds.now l places.old }
     ensures { Advance never t.now l places.old result places.new }
 {
-    if l.mode != ENTITY {
+    if l.mode != Mode::InEntity || l.event != Event::Quiet || l.rest != EntityRest::All {
         return l;
     }
-    if l.event != QUIET {
+    let Some(c) = entity_after(t, l.place) else {
         return l;
-    }
-    if l.count != 0 {
-        return l;
-    }
-    let from = l.place;
-    let c = entity_after(t, from);
-    if c.next == from {
-        return l;
-    }
+    };
     entity_ends(places, c.next - 1);
-    past_entity(l, c.next)
-}
-
-// The bytes of an entity, one at a time.
-fn entity_bytes(t: &[u8], kinds: &[u8; 256], places: &mut [u32; 5], l: Lex) -> Lex
-    requires { Ready t.now kinds.now l places.old }
-    ensures { Advance (only 5) t.now l places.old result places.new }
-{
-    let mut s = l;
-    while s.place < t.len() && s.mode == ENTITY {
-        let at = s.place;
-        let b = t[at];
-        let c = kinds[b as usize];
-        let next = character_data::entity_byte(places, s, b, c);
-        s = next;
+    Lex {
+        place: c.next,
+        mode: Mode::Solid,
+        event: Event::Quiet,
+        ..l
     }
-    s
 }
 
 // An entity: at once where it stands whole, else its bytes one at a time.
-pub fn entity_run(t: &[u8], kinds: &[u8; 256], places: &mut [u32; 5], l: Lex) -> Lex
+pub fn entity_run(t: &[u8], kinds: &[ByteKind; 256], places: &mut Places, l: Lex) -> Lex
     requires { Ready t.now kinds.now l places.old }
-    ensures { Advance (only 5) t.now l places.old result places.new }
+    ensures { Advance (only Mode.InEntity) t.now l places.old result places.new }
 {
     let whole = whole_entity(t, kinds, places, l);
-    entity_bytes(t, kinds, places, whole)
+    mode_run(
+        t,
+        kinds,
+        places,
+        whole,
+        Mode::InEntity,
+        character_data::entity_byte,
+    )
 }
 
-// The state at another place.
-fn moved_to(l: Lex, place: usize) -> Lex
-    ensures { result ≡ moved_to place l }
-{
-    let name = l.name;
-    Lex {
-        place,
-        mode: l.mode,
-        event: l.event,
-        count: l.count,
-        name,
-    }
-}
-
-// The place of the first byte from `from` on that is no plain one.
-fn plain_end(t: &[u8], kinds: &[u8; 256], from: usize) -> usize
+// The place of the first byte from `from` on that is no plain one. Compiled in place, the loop has two instructions a byte more, of nine, and takes a fourth longer.
+#[inline(never)]
+fn plain_end(t: &[u8], kinds: &[ByteKind; 256], from: usize) -> usize
+    requires { from ≤ length t.now }
     ensures { PlainBytes t.now kinds.now from result }
 {
-    let mut at = from;
-    while at < t.len() && kinds[t[at] as usize] < LESS {
-        at += 1;
+    for at in from..t.len() {
+        if !kinds[t[at] as usize].is_plain() {
+            return at;
+        }
     }
-    at
+    t.len()
 }
 
-// The place past the entity that stands at `at`; `at` where none does.
-fn entity_end(t: &[u8], at: usize) -> usize
+// The place past the entity that stands at `at`, if one does.
+fn entity_end(t: &[u8], at: usize) -> Option<usize>
     ensures { EntityEnd t.now at result }
 {
-    if t.len() <= at {
-        return at;
+    if t.len() <= at || t[at] != b'&' {
+        return None;
     }
-    if t[at] != b'&' {
-        return at;
-    }
-    let c = entity_after(t, at + 1);
-    if c.next == at + 1 {
-        return at;
-    }
-    c.next
+    let c = entity_after(t, at + 1)?;
+    Some(c.next)
 }
 
 // Passes the characters of a run that has a byte that is not a blank, up to a byte that is no plain one and begins no entity.
-pub fn characters_run(t: &[u8], kinds: &[u8; 256], places: &mut [u32; 5], l: Lex) -> Lex
+// A `while let`: each turn passes a whole entity and the plain bytes after it.
+pub fn characters_run(t: &[u8], kinds: &[ByteKind; 256], places: &mut Places, l: Lex) -> Lex
     requires { Ready t.now kinds.now l places.old }
     ensures { Advance never t.now l places.old result places.new }
 {
-    if l.mode != SOLID {
+    if l.mode != Mode::Solid || l.event != Event::Quiet {
         return l;
     }
-    if l.event != QUIET {
-        return l;
-    }
-    let mut saved = places[SAVED] as usize;
+    let mut saved = places.saved as usize;
     let mut at = plain_end(t, kinds, l.place);
-    let mut next = entity_end(t, at);
-    while at < next {
+    while let Some(next) = entity_end(t, at) {
         saved += next - at - 1;
         at = plain_end(t, kinds, next);
-        next = entity_end(t, at);
     }
-    places[SAVED] = saved as u32;
-    moved_to(l, at)
+    places.saved = saved as u32;
+    Lex { place: at, ..l }
 }
 
 // An entity whose `&` is read, and what comes after it.
-fn entity_part(t: &[u8], kinds: &[u8; 256], places: &mut [u32; 5], l: Lex) -> Lex
+fn entity_part(t: &[u8], kinds: &[ByteKind; 256], places: &mut Places, l: Lex) -> Lex
     requires { Ready t.now kinds.now l places.old }
-    ensures { Advance (only 5) t.now l places.old result places.new }
+    ensures { Advance (only Mode.InEntity) t.now l places.old result places.new }
 {
     let entity = entity_run(t, kinds, places, l);
     let characters = characters_run(t, kinds, places, entity);
-    solid_run(t, kinds, places, characters)
+    mode_run(
+        t,
+        kinds,
+        places,
+        characters,
+        Mode::Solid,
+        character_data::solid_byte,
+    )
 }
 
 // Reads on in character data, up to an event, another mode or the end.
-pub fn data_part(t: &[u8], kinds: &[u8; 256], places: &mut [u32; 5], l: Lex) -> Lex
-    requires { Ready t.now kinds.now l places.old × (l.event ≡ 0) }
-    ensures { Advance data_mode t.now l places.old result places.new }
+pub fn data_part(t: &[u8], kinds: &[ByteKind; 256], places: &mut Places, l: Lex) -> Lex
+    requires { Ready t.now kinds.now l places.old × (l.event ≡ Event.Quiet) }
+    ensures { Advance DataMode t.now l places.old result places.new }
 {
-    let between = between_step(t, kinds, places, l);
-    let blanks = blanks_run(t, kinds, places, between);
-    let solid = solid_run(t, kinds, places, blanks);
-    if solid.mode == ENTITY {
+    let between = mode_step(
+        t,
+        kinds,
+        places,
+        l,
+        Mode::Between,
+        character_data::between_byte,
+    );
+    let blanks = mode_run(
+        t,
+        kinds,
+        places,
+        between,
+        Mode::Blanks,
+        character_data::blanks_byte,
+    );
+    let solid = mode_run(
+        t,
+        kinds,
+        places,
+        blanks,
+        Mode::Solid,
+        character_data::solid_byte,
+    );
+    if solid.mode == Mode::InEntity {
         return entity_part(t, kinds, places, solid);
     }
     solid

@@ -1,80 +1,75 @@
-// The entities of a journal as an automaton of nine states for all five, a letter at a time.
-ghost use Rattle.std.specs.Prelude.{cond, ◌≡◌, ◌<◌, eqb};
-ghost use Rattle.journal_lexer.specs.state.Entities.{entity_dead, first_letter, second_letter, next_state};
+// The entities of a journal as an automaton for all five, a letter at a time.
+ghost use Rattle.std.specs.Prelude.{cond, ◌≡◌, eqb, Some, None};
+ghost use Rattle.journal_lexer.specs.entities.Rests.{after_ampersand, after_a, rest_after};
 
-// The states of an entity past its end, and where nothing can follow.
-pub const ENTITY_ENDED: u32 = 9;
-
-const ENTITY_DEAD: u32 = 10;
-
-fn first_letter(b: u8) -> u32
-    ensures { result ≡ first_letter b }
-{
-    if b == b'l' {
-        return 1;
-    }
-    if b == b'g' {
-        return 1;
-    }
-    if b == b'a' {
-        return 3;
-    }
-    if b == b'q' {
-        return 7;
-    }
-    ENTITY_DEAD
+// What may still come of an entity. `&lt;` and `&gt;` go on alike, and so do others at their ends.
+#[derive(Clone, Copy, PartialEq, Eq)]
+pub enum EntityRest {
+    // all five, after the `&`
+    All,
+    // `t;`
+    ThenT,
+    // `;`
+    ThenSemicolon,
+    // `mp;` or `pos;`
+    ThenMpOrPos,
+    // `p;`
+    ThenP,
+    // `os;`
+    ThenOs,
+    // `s;`
+    ThenS,
+    // `uot;`
+    ThenUot,
+    // `ot;`
+    ThenOt,
+    // its `;` is read
+    Ended,
 }
 
-// After `&a`.
-fn second_letter(b: u8) -> u32
-    ensures { result ≡ second_letter b }
+fn after_ampersand(b: u8) -> Option<EntityRest>
+    ensures { result ≡ after_ampersand b }
 {
-    if b == b'm' {
-        return 4;
+    match b {
+        b'l' | b'g' => Some(EntityRest::ThenT),
+        b'a' => Some(EntityRest::ThenMpOrPos),
+        b'q' => Some(EntityRest::ThenUot),
+        _ => None,
     }
-    if b == b'p' {
-        return 5;
-    }
-    ENTITY_DEAD
 }
 
-fn only(b: u8, expected: u8, next: u32) -> u32
-    ensures { result ≡ cond (eqb b expected) next entity_dead }
+fn after_a(b: u8) -> Option<EntityRest>
+    ensures { result ≡ after_a b }
 {
-    if b == expected {
-        return next;
+    match b {
+        b'm' => Some(EntityRest::ThenP),
+        b'p' => Some(EntityRest::ThenOs),
+        _ => None,
     }
-    ENTITY_DEAD
 }
 
-// The next state of an entity.
-pub fn entity_next(s: u32, b: u8) -> u32
-    requires { s < 9 }
-    ensures { result ≡ next_state s b }
+fn only(b: u8, expected: u8, next: EntityRest) -> Option<EntityRest>
+    ensures { result ≡ cond (eqb b expected) (Some next) None }
 {
-    if s == 0 {
-        return first_letter(b);
+    if b == expected { Some(next) } else { None }
+}
+
+impl EntityRest {
+    // What may still come after one byte more; nothing, where the byte cannot.
+    pub fn after(self, b: u8) -> Option<EntityRest>
+        ensures { result ≡ rest_after self b }
+    {
+        match self {
+            EntityRest::All => after_ampersand(b),
+            EntityRest::ThenT => only(b, b't', EntityRest::ThenSemicolon),
+            EntityRest::ThenSemicolon => only(b, b';', EntityRest::Ended),
+            EntityRest::ThenMpOrPos => after_a(b),
+            EntityRest::ThenP => only(b, b'p', EntityRest::ThenSemicolon),
+            EntityRest::ThenOs => only(b, b'o', EntityRest::ThenS),
+            EntityRest::ThenS => only(b, b's', EntityRest::ThenSemicolon),
+            EntityRest::ThenUot => only(b, b'u', EntityRest::ThenOt),
+            EntityRest::ThenOt => only(b, b'o', EntityRest::ThenT),
+            EntityRest::Ended => None,
+        }
     }
-    if s == 3 {
-        return second_letter(b);
-    }
-    if s == 1 {
-        return only(b, b't', 2);
-    }
-    if s == 2 {
-        return only(b, b';', ENTITY_ENDED);
-    }
-    if s == 4 {
-        return only(b, b'p', 2);
-    }
-    if s == 5 {
-        return only(b, b'o', 6);
-    }
-    if s == 6 {
-        return only(b, b's', 2);
-    }
-    if s == 7 {
-        return only(b, b'u', 8);
-    }
-    only(b, b'o', 1)
 }

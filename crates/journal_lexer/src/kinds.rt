@@ -1,76 +1,84 @@
 // The kinds of bytes that a journal's lexer tells apart, and the table of all of them.
 ghost use Rattle.std.specs.Prelude.{◌≡◌};
-ghost use Rattle.journal_lexer.specs.kinds.Kinds.{kind_of, delimiter_kind, KindTable};
+ghost use Rattle.journal_lexer.specs.kinds.Kinds.{continues_name_kind, is_plain_kind, kind_of, delimiter_kind, KindTable};
 
-// So numbered that a name goes on with a kind below BLANK, and character data that is not all blanks with one below LESS.
-pub const LETTER: u8 = 0;
-
-pub const DIGIT: u8 = 1;
-
-pub const BLANK: u8 = 2;
-
-pub const OTHER: u8 = 3;
-
-pub const SLASH: u8 = 4;
-
-pub const GREATER: u8 = 5;
-
-pub const LESS: u8 = 6;
-
-pub const AMPERSAND: u8 = 7;
-
-pub const BRACKET: u8 = 8;
-
-pub const FOREIGN: u8 = 9;
-
-fn delimiter_kind(b: u8) -> u8
-    ensures { result ≡ delimiter_kind b }
-{
-    if b == b'/' {
-        return SLASH;
-    }
-    if b == b'>' {
-        return GREATER;
-    }
-    if b == b'<' {
-        return LESS;
-    }
-    if b == b'&' {
-        return AMPERSAND;
-    }
-    if b == b']' {
-        return BRACKET;
-    }
-    OTHER
+#[derive(Clone, Copy, PartialEq, Eq)]
+pub enum ByteKind {
+    Letter,
+    Digit,
+    Blank,
+    Other,
+    Slash,
+    Greater,
+    Less,
+    Ampersand,
+    Bracket,
+    Foreign,
 }
 
-pub fn kind_of(b: u8) -> u8
+impl ByteKind {
+    // Whether a name goes on with such a byte.
+    pub fn continues_name(self) -> bool
+        ensures { result ≡ continues_name_kind self }
+    {
+        matches!(self, ByteKind::Letter | ByteKind::Digit)
+    }
+
+    // Whether such a byte is read alone and leaves character data that is not all blanks as it is, where no `]]` stands before it.
+    pub fn is_plain(self) -> bool
+        ensures { result ≡ is_plain_kind self }
+    {
+        matches!(
+            self,
+            ByteKind::Letter
+                | ByteKind::Digit
+                | ByteKind::Blank
+                | ByteKind::Other
+                | ByteKind::Slash
+                | ByteKind::Greater
+        )
+    }
+}
+
+fn delimiter_kind(b: u8) -> ByteKind
+    ensures { result ≡ delimiter_kind b }
+{
+    match b {
+        b'/' => ByteKind::Slash,
+        b'>' => ByteKind::Greater,
+        b'<' => ByteKind::Less,
+        b'&' => ByteKind::Ampersand,
+        b']' => ByteKind::Bracket,
+        _ => ByteKind::Other,
+    }
+}
+
+#[tactic(auto, unfolding(crate::specs::kinds::Kinds::kind_of))]
+pub fn kind_of(b: u8) -> ByteKind
     ensures { result ≡ kind_of b }
 {
     if text::starts_name(b) {
-        return LETTER;
+        return ByteKind::Letter;
     }
     if text::continues_name(b) {
-        return DIGIT;
+        return ByteKind::Digit;
     }
     if text::is_blank(b) {
-        return BLANK;
+        return ByteKind::Blank;
     }
     if text::is_foreign(b) {
-        return FOREIGN;
+        return ByteKind::Foreign;
     }
     delimiter_kind(b)
 }
 
 // The kind of each byte, made once for a journal and lent: a match on the byte in the loop costs a fourth of the speed.
-pub fn all_kinds() -> [u8; 256]
+pub fn all_kinds() -> [ByteKind; 256]
     ensures { KindTable result }
 {
-    let mut kinds = [0u8; 256];
-    let mut b = 0;
-    while b < 256 {
+    let mut kinds = [ByteKind::Letter; 256];
+    for b in 0..256 {
         kinds[b] = kind_of(b as u8);
-        b += 1;
     }
     kinds
 }

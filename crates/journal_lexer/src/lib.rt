@@ -6,7 +6,7 @@ pub mod data_loops;
 pub mod data_runs;
 pub mod entities;
 pub mod kinds;
-pub mod name_loops;
+pub mod mode_loops;
 pub mod state;
 pub mod step;
 pub mod tag_loops;

@@ -1,103 +1,55 @@
 // An entity recognised at once, by the bytes after its `&`, and the character that it stands for.
-ghost use Rattle.std.specs.Prelude.{[], ◌∷◌, ◌≡◌, ◌≤◌, length};
+ghost use Rattle.std.specs.Prelude.{◌≡◌, ◌≤◌, length};
 ghost use Rattle.journal_lexer.specs.whole_entities.Entities.{begins_at, NoLonger, EntityAfter};
 
 // A character, and the place past the bytes that spell it.
-#[derive(Drop)]
+#[derive(Clone, Copy)]
 pub struct Character {
     pub byte: u8,
     pub next: usize,
 }
 
-// Whether a byte stands at a place of a text.
-fn is_at(text: &[u8], i: usize, a: u8) -> bool
-    ensures { result ≡ begins_at text.now i (a ∷ []) }
+// Whether bytes stand at a place of a text.
+fn begins_at(text: &[u8], i: usize, word: &[u8]) -> bool
+    requires { i ≤ length text.now }
+    ensures { result ≡ begins_at text.now i word.now }
 {
-    if text.len() <= i {
-        return false;
-    }
-    a == text[i]
+    text[i..].starts_with(word)
 }
 
-// Whether bytes stand there one after the other: three, four, five.
-fn three_at(text: &[u8], i: usize, a: u8, b: u8, c: u8) -> bool
+// What an `&` before place `i` stands for by `lt;` or `gt;`, if by one of them.
+fn bracket_after(text: &[u8], i: usize) -> Option<Character>
     requires { i ≤ length text.now }
-    ensures { result ≡ begins_at text.now i (a ∷ b ∷ c ∷ []) }
+    ensures { NoLonger text.now i → EntityAfter text.now i result }
 {
-    if !is_at(text, i, a) {
-        return false;
+    if begins_at(text, i, b"lt;") {
+        let next = i + 3;
+        return Some(Character { byte: b'<', next });
     }
-    if !is_at(text, i + 1, b) {
-        return false;
+    if begins_at(text, i, b"gt;") {
+        let next = i + 3;
+        return Some(Character { byte: b'>', next });
     }
-    is_at(text, i + 2, c)
+    None
 }
 
-fn four_at(text: &[u8], i: usize, a: u8, b: u8, c: u8, d: u8) -> bool
+// What an `&` before place `i` stands for by the bytes of an entity, if one stands there: else it stands for itself.
+// Branches: a loop over a table of the five is no plainer, since its invariant would name those that don't begin there.
+pub fn entity_after(text: &[u8], i: usize) -> Option<Character>
     requires { i ≤ length text.now }
-    ensures { result ≡ begins_at text.now i (a ∷ b ∷ c ∷ d ∷ []) }
+    ensures { EntityAfter text.now i result }
 {
-    if !is_at(text, i, a) {
-        return false;
+    if begins_at(text, i, b"amp;") {
+        let next = i + 4;
+        return Some(Character { byte: b'&', next });
     }
-    three_at(text, i + 1, b, c, d)
-}
-
-fn five_at(text: &[u8], i: usize, a: u8, b: u8, c: u8, d: u8, e: u8) -> bool
-    requires { i ≤ length text.now }
-    ensures { result ≡ begins_at text.now i (a ∷ b ∷ c ∷ d ∷ e ∷ []) }
-{
-    if !is_at(text, i, a) {
-        return false;
+    if begins_at(text, i, b"apos;") {
+        let next = i + 5;
+        return Some(Character { byte: b'\'', next });
     }
-    four_at(text, i + 1, b, c, d, e)
-}
-
-// What an `&` before place `i` stands for by `lt;`, `gt;` or none of the five.
-fn bracket_after(text: &[u8], i: usize) -> Character
-    requires { i ≤ length text.now }
-    ensures { NoLonger text.now i → EntityAfter text.now i result.byte result.next }
-{
-    if three_at(text, i, b'l', b't', b';') {
-        return Character {
-            byte: b'<',
-            next: i + 3,
-        };
-    }
-    if three_at(text, i, b'g', b't', b';') {
-        return Character {
-            byte: b'>',
-            next: i + 3,
-        };
-    }
-    Character {
-        byte: b'&',
-        next: i,
-    }
-}
-
-// What an `&` before place `i` stands for: by the bytes of an entity, or itself.
-pub fn entity_after(text: &[u8], i: usize) -> Character
-    requires { i ≤ length text.now }
-    ensures { EntityAfter text.now i result.byte result.next }
-{
-    if four_at(text, i, b'a', b'm', b'p', b';') {
-        return Character {
-            byte: b'&',
-            next: i + 4,
-        };
-    }
-    if five_at(text, i, b'a', b'p', b'o', b's', b';') {
-        return Character {
-            byte: b'\'',
-            next: i + 5,
-        };
-    }
-    if five_at(text, i, b'q', b'u', b'o', b't', b';') {
-        return Character {
-            byte: b'"',
-            next: i + 5,
-        };
+    if begins_at(text, i, b"quot;") {
+        let next = i + 5;
+        return Some(Character { byte: b'"', next });
     }
     bracket_after(text, i)
 }

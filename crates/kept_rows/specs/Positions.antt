@@ -3,8 +3,8 @@ use Rattle.std.specs.Prelude.{Bool, true, false, cond, not, ◌&&◌, ◌≡◌,
 use Rattle.std.proofs.Math.Bool.{and-false}
 use mathlib.Core.List.{List, [], ◌∷◌}
 use Rattle.std.proofs.Math.Path.{sym}
-use Rattle.std.proofs.Common.{ap, ap₂, subst, ◌∙◌, arith, eq-eqb, ne_eqb, eqb-true}
-use Prim.Native.Nat.{ℕ, zero, suc, ◌+◌, ◌<◌, ◌≤◌}
+use Rattle.std.proofs.Common.{ap, ap₂, subst, ◌∙◌, arith, eq-eqb, ne_eqb}
+use Prim.Native.Nat.{ℕ, zero, suc, ◌+◌, ◌<◌, ◌≤◌, max}
 use Rattle.cells.specs.row_sets.Columns.{is_marked, marks, mark-test, marks-length, marks-marked}
 use Rattle.cells.specs.row_sets.Loops.{Forward, forward-none, forward-next, forward-all}
 use Rattle.kept_rows.specs.Joined.{rank, total-none, total-marked, total-unmarked, total-bound}
@@ -26,10 +26,6 @@ positions m = column (length m) (position_of m)
 -- the next position, of a row whose name and whose parent's row are kept
 unfoldable pub next_position : ℕ → ℕ → ℕ → ℕ
 next_position named above n = cond (eqb named 1 && not (eqb above 0)) (n + 1) 0
-
--- the last position that was given: x, unless its row is not kept
-unfoldable pub last_position : ℕ → ℕ → ℕ
-last_position x n = cond (eqb x 0) n x
 
 -- ---- laws
 pub column-length : (n : ℕ) (f : ℕ → ℕ) → length (column n f) ≡ n
@@ -94,13 +90,12 @@ nonzero-position m r = pick (is_marked m r)
     pick false = refl
 
 -- the count goes on with a position that is given
-rank-next : (m : List ℕ) (r n : ℕ) → n ≡ rank m r → rank m (r + 1) ≡ last_position (position_of m r) n
-unfolding last_position
+rank-next : (m : List ℕ) (r n : ℕ) → n ≡ rank m r → rank m (r + 1) ≡ max n (position_of m r)
 rank-next m r n e = pick (is_marked m r) refl
   where
-    pick : (b : Bool) → is_marked m r ≡ b → rank m (r + 1) ≡ cond (eqb (cond b (rank m r + 1) 0) 0) n (cond b (rank m r + 1) 0)
-    pick true q = total-marked (λ k. 1) m r q ∙ sym (ap (λ (b : Bool). cond b n (rank m r + 1)) (ne_eqb (rank m r + 1) 0 (λ z. omega arith)))
-    pick false q = total-unmarked (λ k. 1) m r q ∙ sym e
+    pick : (b : Bool) → is_marked m r ≡ b → rank m (r + 1) ≡ max n (cond b (rank m r + 1) 0)
+    pick true q = omega (arith, total-marked (λ k. 1) m r q)
+    pick false q = omega (arith, total-unmarked (λ k. 1) m r q)
 
 -- ---- the pass
 -- r rows behind it, of which n are kept
@@ -117,11 +112,11 @@ pub numbering-none : (m was : List ℕ) → Numbering m was 0 0 was
 numbering-none m was = record { forward = forward-none (positions m) was; counted = sym (total-none (λ q. 1) m) }
 
 numbering-more : (m was : List ℕ) → length was ≡ length m → (r n : ℕ) (out : List ℕ) (x : ℕ) → Numbering m was r n out → r < length out → x ≡ position_of m r
-    → Numbering m was (r + 1) (last_position x n) (set out r x)
+    → Numbering m was (r + 1) (max n x) (set out r x)
 numbering-more m was e r n out x w l q =
     record {
       forward = forward-next (positions m) was r out x w.forward l (q ∙ sym (positions-at m r (omega (arith, w.forward.size))));
-      counted = ap (λ (y : ℕ). last_position y n) q ∙ sym (rank-next m r n w.counted);
+      counted = ap (λ (y : ℕ). max n y) q ∙ sym (rank-next m r n w.counted);
     }
 
 pub numbering-all : (m was : List ℕ) → length was ≡ length m → (r n : ℕ) (out : List ℕ) → Numbering m was r n out → length out ≤ r → Numbered m n out
@@ -131,22 +126,6 @@ numbering-all m was e r n out w l =
 
 pub numbered-same : (m k : List ℕ) (n : ℕ) (out : List ℕ) → m ≡ k → Numbered m n out → Numbered k n out
 numbered-same m k n out e w = subst (λ (x : List ℕ). Numbered x n out) e w
-
-pub last-unkept : (x n : ℕ) → x ≡ 0 → n ≡ last_position x n
-unfolding last_position
-last-unkept x n e = sym (ap (λ (b : Bool). cond b n x) (eq-eqb x 0 e))
-
-pub last-kept : (x n : ℕ) → (x ≡ 0 → ⊥) → x ≡ last_position x n
-unfolding last_position
-last-kept x n d = sym (ap (λ (b : Bool). cond b n x) (ne_eqb x 0 d))
-
-count-first : (x : ℕ) → last_position x 0 ≡ x
-unfolding last_position
-count-first x = pick (eqb x 0) refl
-  where
-    pick : (b : Bool) → eqb x 0 ≡ b → cond b 0 x ≡ x
-    pick true q = sym (eqb-true x 0 q)
-    pick false q = refl
 
 module _ (f : ℕ → Bool) (codes ps was : List ℕ) (h : KeptPass codes ps was) where
   pub kept-size : length was ≡ length (kept_marks f codes ps)
@@ -169,7 +148,7 @@ module _ (f : ℕ → Bool) (codes ps was : List ℕ) (h : KeptPass codes ps was
     numbering-begun l =
         record {
           forward = forward-first (positions m) was x l (first ∙ sym (positions-at m 0 (omega (arith, kept-size))));
-          counted = first ∙ sym (rank-next m 0 0 (sym (total-none (λ q. 1) m)) ∙ count-first (position_of m 0));
+          counted = omega (arith, first, rank-next m 0 0 (sym (total-none (λ q. 1) m)));
         }
       where
         m : List ℕ
@@ -186,7 +165,7 @@ module _ (f : ℕ → Bool) (codes ps was : List ℕ) (h : KeptPass codes ps was
 
     numbering-next : (r n : ℕ) (out : List ℕ) (x : ℕ) → 0 < r → r < length out → Numbering (kept_marks f codes ps) was r n out
         → x ≡ next_position (get_or table (get_or codes r 0) 0) (get_or out (get_or ps r 0) 0) n
-        → Numbering (kept_marks f codes ps) was (r + 1) (last_position x n) (set out r x)
+        → Numbering (kept_marks f codes ps) was (r + 1) (max n x) (set out r x)
     unfolding next_position
     numbering-next r n out x p l w q = numbering-more m was kept-size r n out x w l (q ∙ next)
       where
@@ -215,5 +194,5 @@ module _ (f : ℕ → Bool) (codes ps was : List ℕ) (h : KeptPass codes ps was
             ∙ ap (λ (k : ℕ). cond (is_marked m r) (k + 1) 0) w.counted
 
     pub numbering-again : (r n : ℕ) (out : List ℕ) → 0 < r → r < length out → Numbering (kept_marks f codes ps) was r n out → (x k : ℕ)
-        → x ≡ next_position (get_or table (get_or codes r 0) 0) (get_or out (get_or ps r 0) 0) n → k ≡ last_position x n → Numbering (kept_marks f codes ps) was (r + 1) k (set out r x)
+        → x ≡ next_position (get_or table (get_or codes r 0) 0) (get_or out (get_or ps r 0) 0) n → k ≡ max n x → Numbering (kept_marks f codes ps) was (r + 1) k (set out r x)
     numbering-again r n out p l w x k q d = rw d (numbering-next r n out x p l w q)

@@ -1,81 +1,34 @@
 // The rows of a table that have a position, written into other columns, parents renumbered.
-ghost use Rattle.cells.specs.lent.Ends.{held_columns};
-ghost use Rattle.kept_rows.specs.cut_rows.Rows.{RowPass, CutPass, RowsNotedIn, RowAddedIn};
-ghost use Rattle.table_spec.specs.Columns.{columns};
+ghost use Rattle.cells.specs.columns.Lent.{read_columns, lent_columns, Left};
+ghost use Rattle.kept_rows.specs.cut_rows.Rows.{RowPass, CutPass, RowsWritten, row_added};
 
 use crate::NOT_KEPT;
+use cells::columns::{Columns, ColumnsMut};
 
 // Writes row `r` at its position, if it has one; its parent's row becomes that row's position.
-fn cut_row(
-    numbers: &[u16],
-    names: &[u8],
-    parents: &[u16],
-    starts: &[u32],
-    lengths: &[u16],
-    decoded: &[u16],
-    positions: &[u16],
-    out_numbers: &mut [u16],
-    out_names: &mut [u8],
-    out_parents: &mut [u16],
-    out_starts: &mut [u32],
-    out_lengths: &mut [u16],
-    out_decoded: &mut [u16],
-    r: usize,
-)
-    requires { RowPass positions.now (columns numbers.now names.now parents.now starts.now lengths.now decoded.now) (held_columns out_numbers out_names out_parents out_starts out_lengths out_decoded) r }
-    ensures { RowAddedIn positions (columns numbers.now names.now parents.now starts.now lengths.now decoded.now) r out_numbers out_names out_parents out_starts out_lengths out_decoded }
+fn cut_row(table: &Columns, positions: &[u16], out: &mut ColumnsMut, r: usize)
+    requires { RowPass positions.now (read_columns table.now) (lent_columns out.old) r }
+    ensures { Left out.old out.new (row_added positions.now (read_columns table.now) r (lent_columns out.old)) }
 {
     let x = positions[r];
     if x == NOT_KEPT {
         return;
     }
     let at = (x - 1) as usize;
-    let p = parents[r] as usize;
-    out_numbers[at] = numbers[r];
-    out_names[at] = names[r];
-    out_parents[at] = positions[p] - 1;
-    out_starts[at] = starts[r];
-    out_lengths[at] = lengths[r];
-    out_decoded[at] = decoded[r];
+    out.numbers[at] = table.numbers[r];
+    out.names[at] = table.names[r];
+    out.parents[at] = positions[table.parents[r] as usize] - 1;
+    out.starts[at] = table.starts[r];
+    out.lengths[at] = table.lengths[r];
+    out.decoded[at] = table.decoded[r];
 }
 
 // Writes the rows that have a position, one after the other.
-pub fn write_rows(
-    numbers: &[u16],
-    names: &[u8],
-    parents: &[u16],
-    starts: &[u32],
-    lengths: &[u16],
-    decoded: &[u16],
-    positions: &[u16],
-    out_numbers: &mut [u16],
-    out_names: &mut [u8],
-    out_parents: &mut [u16],
-    out_starts: &mut [u32],
-    out_lengths: &mut [u16],
-    out_decoded: &mut [u16],
-)
-    requires { CutPass positions.now (columns numbers.now names.now parents.now starts.now lengths.now decoded.now) (held_columns out_numbers out_names out_parents out_starts out_lengths out_decoded) }
-    ensures { RowsNotedIn positions numbers names parents starts lengths decoded out_numbers out_names out_parents out_starts out_lengths out_decoded }
+pub fn write_rows(table: &Columns, positions: &[u16], out: &mut ColumnsMut)
+    requires { CutPass positions.now (read_columns table.now) (lent_columns out.old) }
+    ensures { RowsWritten positions.now (read_columns table.now) out.old out.new }
 {
-    let mut r = 0;
-    while r < positions.len() {
-        cut_row(
-            numbers,
-            names,
-            parents,
-            starts,
-            lengths,
-            decoded,
-            positions,
-            out_numbers,
-            out_names,
-            out_parents,
-            out_starts,
-            out_lengths,
-            out_decoded,
-            r,
-        );
-        r += 1;
+    for r in 0..positions.len() {
+        cut_row(table, positions, out, r);
     }
 }

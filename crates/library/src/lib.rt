@@ -9,6 +9,7 @@ use host_selecting::select_from;
 use hosts::results::HostResult;
 
 // Makes the extract of a journal for a bundle under a schema: the journal's table in the six columns, the extract in `out`.
+// Ten parameters: the C interface, where each lent column is one.
 #[unsafe(no_mangle)]
 pub extern "C" fn host_make_extract(
     schema: &[u8],
@@ -31,6 +32,7 @@ pub extern "C" fn host_make_extract(
 
 // Selects from an extract what the path at a place of the bundle selects, or for place 0 what each path selects: the extract's table in the six
 // columns, the numbers of the selected nodes in `items`, how many each path selects in `counts`.
+// Twelve parameters: the C interface, where each lent column is one.
 #[unsafe(no_mangle)]
 pub extern "C" fn host_select(
     schema: &[u8],

@@ -6,6 +6,7 @@ ghost use Rattle.library_spec.specs.Hosts.{make_extract, select_from};
 
 use hosts::results::HostResult;
 
+// A twin of the crate `library`'s: an exported function of a library crate exports nothing. Its ten parameters are the C interface.
 #[unsafe(no_mangle)]
 pub extern "C" fn host_make_extract(
     schema: &[u8],
@@ -26,6 +27,7 @@ pub extern "C" fn host_make_extract(
     )
 }
 
+// A twin for the same reason. Its twelve parameters are the C interface.
 #[unsafe(no_mangle)]
 pub extern "C" fn host_select(
     schema: &[u8],

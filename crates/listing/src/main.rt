@@ -4,6 +4,8 @@
 ghost use Rattle.std.specs.Prelude.{◌≡◌, length, IfOk, OnErr};
 ghost use Rattle.listing.specs.Prints.{IsPrefixLen, RowsPrinted};
 
+use cells::columns::{Columns, ColumnsMut};
+use chains::tags::ElementNames;
 use listing_files::contents::Listed;
 use listing_files::list_files;
 use listing_text::headers::put_header;
@@ -13,6 +15,7 @@ use std::fs::File;
 use std::io;
 use std::io::{Read, Write};
 use text::limits::{LISTED_BYTES, LISTED_ROWS, MAX_BUNDLE_BYTES, MAX_SCHEMA_BYTES};
+use text::refusals::Refusal;
 
 // Each file is read to one byte past its limit, so that a longer one is refused by 2.
 const SCHEMA_BYTES: usize = MAX_SCHEMA_BYTES + 1;
@@ -25,6 +28,7 @@ const JOURNAL_BYTES: usize = LISTED_BYTES + 1;
 const LINE_BYTES: usize = 2200;
 
 // Reads until the buffer is full or the file ends, and gives how many bytes were read. After an error the buffer has any bytes.
+// A `while`: each turn goes on after the bytes that the read before gave.
 fn read_full(file: &mut File, buffer: &mut [u8]) -> io::Result<usize>
     ensures ok { IfOk result (λ n. IsPrefixLen n buffer.new) }
     ensures err { OnErr result (length buffer.new ≡ length buffer.old) }
@@ -51,9 +55,9 @@ fn read_file(rt: &HostRuntime, path: &str, buffer: &mut [u8]) -> io::Result<usiz
     }
 }
 
-fn print_refusal(rt: &HostRuntime, number: u64, place: u64) -> io::Result<()> {
+fn print_refusal(rt: &HostRuntime, refusal: Refusal) -> io::Result<()> {
     let mut line = [0u8; LINE_BYTES];
-    let n = put_refusal(&mut line, number, place);
+    let n = put_refusal(&mut line, refusal);
     rt.stdout().write_all(&line[..n])
 }
 
@@ -61,13 +65,11 @@ fn print_refusal(rt: &HostRuntime, number: u64, place: u64) -> io::Result<()> {
 fn print_rows(
     rt: &HostRuntime,
     schema: &[u8],
-    numbers: &[u16],
-    codes: &[u8],
-    parents: &[u16],
+    table: &Columns,
     firsts: &[u8],
     listed: Listed,
 ) -> io::Result<()>
-    requires { RowsPrinted schema.now numbers.now codes.now parents.now firsts.now listed }
+    requires { RowsPrinted schema.now table.now firsts.now listed }
 {
     let mut line = [0u8; LINE_BYTES];
     let size = put_header(
@@ -77,16 +79,13 @@ fn print_rows(
         listed.rows as u64,
     );
     rt.stdout().write_all(&line[..size])?;
-    let rows = listed.rows;
-    let names = listed.names;
-    let sizes = listed.sizes;
-    let mut r = 0;
-    while r < rows {
-        let n = put_row(
-            schema, &names, &sizes, codes, parents, numbers, firsts, r, &mut line,
-        );
+    let places = listed.names;
+    // As many cells as there are names; `of` writes their sizes there.
+    let mut sizes = places;
+    let names = ElementNames::of(schema, &places, &mut sizes);
+    for r in 0..listed.rows {
+        let n = put_row(&names, table, firsts, r, &mut line);
         rt.stdout().write_all(&line[..n])?;
-        r += 1;
     }
     Ok(())
 }
@@ -94,37 +93,27 @@ fn print_rows(
 // What the three texts give: a refusal alone, or the rows.
 fn print_listing(rt: &HostRuntime, schema: &[u8], bundle: &[u8], journal: &[u8]) -> io::Result<()> {
     let mut numbers = [0u16; LISTED_ROWS];
-    let mut codes = [0u8; LISTED_ROWS];
+    let mut names = [0u8; LISTED_ROWS];
     let mut parents = [0u16; LISTED_ROWS];
     let mut starts = [0u32; LISTED_ROWS];
     let mut lengths = [0u16; LISTED_ROWS];
     let mut decoded = [0u16; LISTED_ROWS];
     let mut firsts = [0u8; LISTED_ROWS];
-    let listed = list_files(
-        schema,
-        bundle,
-        journal,
-        &mut numbers,
-        &mut codes,
-        &mut parents,
-        &mut starts,
-        &mut lengths,
-        &mut decoded,
-        &mut firsts,
-    );
-    if listed.number != 0 {
-        return print_refusal(rt, listed.number, listed.place);
+    let mut columns = ColumnsMut {
+        numbers: &mut numbers,
+        names: &mut names,
+        parents: &mut parents,
+        starts: &mut starts,
+        lengths: &mut lengths,
+        decoded: &mut decoded,
+    };
+    match list_files(schema, bundle, journal, &mut columns, &mut firsts) {
+        Err(refusal) => print_refusal(rt, refusal),
+        Ok(listed) => {
+            let table = columns.as_columns().first(listed.rows);
+            print_rows(rt, schema, &table, &firsts[..listed.rows], listed)
+        }
     }
-    let rows = listed.rows;
-    print_rows(
-        rt,
-        schema,
-        &numbers[..rows],
-        &codes[..rows],
-        &parents[..rows],
-        &firsts[..rows],
-        listed,
-    )
 }
 
 fn main(rt: HostRuntime) -> io::Result<()> {

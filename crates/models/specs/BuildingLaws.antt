@@ -1,7 +1,7 @@
 -- Laws of a position automaton made part by part: ends from the ends of the parts, links from the links within the parts.
-use Rattle.std.specs.Prelude.{Bool, true, false, ◌&&◌, ◌||◌, List, ◌≡◌, refl, ℕ, ◌+◌, ◌≤◌, ◌<◌, eqb, ltb, length, get_or}
+use Rattle.std.specs.Prelude.{Bool, true, false, ◌&&◌, ◌||◌, List, ◌≡◌, refl, ℕ, ◌+◌, ◌≤◌, ◌<◌, eqb, ltb, length, get_or, set}
 use Rattle.std.proofs.Math.Bool.{or-false, and-true, and-false}
-use Rattle.std.proofs.Common.{⊎_elim, sym, ap, ap₂, ◌∙◌, arith, lt-ltb}
+use Rattle.std.proofs.Common.{⊎_elim, eq-or-lt_of_le, sym, subst, ap, ap₂, ◌∙◌, arith, lt-ltb}
 use Rattle.std.specs.Int.Bits.{bit_or}
 use Rattle.models.specs.Automaton.{AutomatonOf}
 use Rattle.models.specs.Building.{EndsOf, Linked, linked_bit, LinksAdded}
@@ -11,7 +11,7 @@ use Rattle.models.specs.declared.Ends.{Ends}
 use Rattle.names.specs.bits.Bits.{bit-none, bit-or}
 use Rattle.schema_spec.specs.Models.{Particle, named, sequence, choice, repeated, uses}
 use Rattle.schema_spec.specs.Names.{has_bit}
-use Rattle.text_laws.specs.Loops.{Passed}
+use Rattle.text_laws.specs.Loops.{Passed, passed-next}
 use Rattle.text_laws.specs.Searches.{below-or-past}
 use Rattle.text_spec.specs.Limits.{max_model_names}
 
@@ -69,9 +69,35 @@ module _ (before : List ℕ) (lasts firsts : ℕ) where
   linked-next j now w test p t new i =
       new i ∙ ap₂ (λ (x : ℕ) (b : Bool). has_bit x i || (b && has_bit lasts i)) (p.kept j (omega arith)) t
 
-  pub linked-all : (j : ℕ) (now : List ℕ) → length before ≤ j → length now ≡ length before → Passed (LinkedAt before lasts firsts) 0 before j now
-      → LinksAdded before lasts firsts now
-  linked-all j now past long p = record { long = long; bits = λ i m l. p.done m (omega arith) i }
+  pub linked-set : (j : ℕ) (now : List ℕ) → j < length now → Passed (LinkedAt before lasts firsts) 0 before j now → has_bit firsts j ≡ true
+      → Passed (LinkedAt before lasts firsts) 0 before (j + 1) (set now j (bit_or (get_or now j 0) lasts))
+  linked-set j now inside p t =
+      passed-next (LinkedAt before lasts firsts) 0 before j now (bit_or (get_or now j 0) lasts) inside p
+      (λ i. bit-or (get_or now j 0) lasts i ∙ ap₂ (λ (x : ℕ) (b : Bool). has_bit x i || (b && has_bit lasts i)) (p.kept j (omega arith)) (sym t))
+
+  pub linked-kept : (j : ℕ) (now : List ℕ) → Passed (LinkedAt before lasts firsts) 0 before j now → has_bit firsts j ≡ false → Passed (LinkedAt before lasts firsts) 0 before (j + 1) now
+  linked-kept j now p f =
+      record {
+        done = λ m l. ⊎_elim (λ e. subst (λ (n : ℕ). LinkedAt before lasts firsts n (get_or now n 0)) (sym e) here) (p.done m) (eq-or-lt_of_le (at_most m l));
+        kept = λ m l. p.kept m (omega arith);
+      }
+    where
+      at_most : (m : ℕ) → m < j + 1 → m ≤ j
+      at_most m l = omega arith
+
+      here : LinkedAt before lasts firsts j (get_or now j 0)
+      here i =
+          ap (λ (x : ℕ). has_bit x i) (p.kept j (omega arith)) ∙ sym (ap (λ (b : Bool). has_bit (get_or before j 0) i || (b && has_bit lasts i)) f ∙ or-false (has_bit (get_or before j 0) i))
+
+  -- a cell past the highest first position stays as it was
+  pub linked-all : (j : ℕ) (now : List ℕ) → ((m : ℕ) → j ≤ m → m < length before → has_bit firsts m ≡ false) → length now ≡ length before
+      → Passed (LinkedAt before lasts firsts) 0 before j now → LinksAdded before lasts firsts now
+  linked-all j now past long p = record { long = long; bits = λ i m l. ⊎_elim (λ h. p.done m h i) (λ h. unlinked m h l i) (below-or-past m j) }
+    where
+      unlinked : (m : ℕ) → j ≤ m → m < length before → LinkedAt before lasts firsts m (get_or now m 0)
+      unlinked m h l i =
+          ap (λ (x : ℕ). has_bit x i) (p.kept m h)
+          ∙ sym (ap (λ (b : Bool). has_bit (get_or before m 0) i || (b && has_bit lasts i)) (past m h l) ∙ or-false (has_bit (get_or before m 0) i))
 
 -- Links. Two particles in a row are linked from the last of the one to the first of the other; of two alternatives neither follows the
 -- other; what repeats is linked from its last to its first.

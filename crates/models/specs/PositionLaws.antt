@@ -1,5 +1,5 @@
 -- Laws of a content model's positions: how many there are, and that first and following positions are the particle's own.
-use Rattle.std.specs.Prelude.{Bool, false, ◌&&◌, ◌||◌, ◌≡◌, refl, ℕ, ◌+◌, ◌≤◌, ◌<◌, T, length}
+use Rattle.std.specs.Prelude.{false, ◌&&◌, ◌||◌, ◌≡◌, refl, ℕ, ◌+◌, ◌≤◌, ◌<◌, T, length}
 use Rattle.std.proofs.Common.{⊎_elim, ap₂, ◌∙◌, arith, eqb→eq, length-append}
 use Rattle.models.specs.Positions.{size, may_be_absent, is_first, is_last, is_next}
 use Rattle.schema_spec.specs.Models.{Particle, named, sequence, choice, repeated, uses}

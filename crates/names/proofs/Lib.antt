@@ -1,1 +1,1 @@
-pub mod Words
+mod Words

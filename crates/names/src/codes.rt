@@ -1,5 +1,5 @@
 // Names by their codes, one at a time.
-ghost use Rattle.std.specs.Prelude.{◌&&◌, ◌||◌, ◌≡◌, ◌<◌};
+ghost use Rattle.std.specs.Prelude.{◌≡◌, ◌<◌};
 ghost use Rattle.names.specs.Sets.{member};
 ghost use Rattle.names.specs.codes.Codes.{name_of_code};
 ghost use Rattle.schema_spec.specs.Names.{Name, same_name};
@@ -14,11 +14,10 @@ pub fn single(c: usize) -> NameSet
     requires { c < 64 }
     ensures { (n : Name) → member result n ≡ same_name n (name_of_code c) }
 {
-    let none = NameSet::empty();
     if c < MAX_ELEMENTS {
-        none.insert_element(c)
+        NameSet::empty().insert_element(c)
     } else {
-        none.insert_text(c - MAX_ELEMENTS)
+        NameSet::empty().insert_text(c - MAX_ELEMENTS)
     }
 }
 
@@ -31,18 +30,5 @@ pub fn has(t: NameSet, c: usize) -> bool
         t.has_element(c)
     } else {
         t.has_text(c - MAX_ELEMENTS)
-    }
-}
-
-// The set `out`, and with it the name of the code `c`, if `v`.
-pub fn with_name(out: NameSet, c: usize, v: bool) -> NameSet
-    requires { c < 64 }
-    ensures { (n : Name) → member result n ≡ (member out n || (same_name n (name_of_code c) && v)) }
-{
-    if v {
-        let one = single(c);
-        out.union(one)
-    } else {
-        out
     }
 }

@@ -2,21 +2,21 @@
 
 // Sets of names: elements and text names, each as the bits of a word, by value.
 pub mod bits;
-pub mod closures;
 pub mod codes;
 pub mod known;
-pub mod related;
+pub mod relations;
 
 ghost use Rattle.std.specs.Prelude.{false, not, ◌&&◌, ◌||◌, ◌↔◌, ◌≡◌, T, ltb};
 ghost use Rattle.names.specs.Sets.{member, set_of, every_name, overlap};
 ghost use Rattle.schema_spec.specs.Names.{Name, element, text, same_name, has, set_of_word, word_of_set};
 
+use std::ops::{BitAnd, BitOr, BitOrAssign, Sub};
 use text::limits;
 
 // How many elements a schema may have.
 pub const MAX_ELEMENTS: usize = limits::MAX_DECLARATIONS;
 
-#[derive(Clone, Copy)]
+#[derive(Clone, Copy, PartialEq, Eq)]
 pub struct NameSet {
     pub elements: u64,
     pub texts: u64,
@@ -36,10 +36,9 @@ impl NameSet {
     pub fn insert_element(self, e: usize) -> NameSet
         ensures { (n : Name) → member result n ≡ (member self n || (same_name n (element e) && ltb e 64)) }
     {
-        let elements = bits::with_bit(self.elements, e);
         NameSet {
-            elements,
-            texts: self.texts,
+            elements: bits::with_bit(self.elements, e),
+            ..self
         }
     }
 
@@ -47,10 +46,9 @@ impl NameSet {
     pub fn insert_text(self, e: usize) -> NameSet
         ensures { (n : Name) → member result n ≡ (member self n || (same_name n (text e) && ltb e 64)) }
     {
-        let texts = bits::with_bit(self.texts, e);
         NameSet {
-            elements: self.elements,
-            texts,
+            texts: bits::with_bit(self.texts, e),
+            ..self
         }
     }
 
@@ -66,39 +64,10 @@ impl NameSet {
         bits::has_bit(self.texts, e)
     }
 
-    pub fn union(self, other: NameSet) -> NameSet
-        ensures { (n : Name) → member result n ≡ (member self n || member other n) }
-    {
-        NameSet {
-            elements: self.elements | other.elements,
-            texts: self.texts | other.texts,
-        }
-    }
-
-    // What both sets have.
-    pub fn common(self, other: NameSet) -> NameSet
-        ensures { (n : Name) → member result n ≡ (member self n && member other n) }
-    {
-        NameSet {
-            elements: self.elements & other.elements,
-            texts: self.texts & other.texts,
-        }
-    }
-
-    // What this set has and the other has not.
-    pub fn without(self, other: NameSet) -> NameSet
-        ensures { (n : Name) → member result n ≡ (member self n && not (member other n)) }
-    {
-        NameSet {
-            elements: self.elements ^ (self.elements & other.elements),
-            texts: self.texts ^ (self.texts & other.texts),
-        }
-    }
-
     pub fn is_empty(self) -> bool
         ensures { T result ↔ ((n : Name) → member self n ≡ false) }
     {
-        (self.elements | self.texts) == 0
+        self == NameSet::empty()
     }
 
     // Whether some name is in both sets.
@@ -123,5 +92,55 @@ impl NameSet {
         ensures { result ≡ word_of_set every_name (set_of every_name self) }
     {
         (self.elements % 4294967296) | ((self.texts % 4294967296) << 32)
+    }
+}
+
+// The names of both sets.
+impl BitOr for NameSet {
+    type Output = NameSet;
+
+    ghost bitor_gives = { λ a b r. (n : Name) → member r n ≡ (member a n || member b n) };
+
+    fn bitor(self, other: NameSet) -> NameSet {
+        NameSet {
+            elements: self.elements | other.elements,
+            texts: self.texts | other.texts,
+        }
+    }
+}
+
+impl BitOrAssign for NameSet {
+    ghost bitor_assign_gives = { λ a b r. (n : Name) → member r n ≡ (member a n || member b n) };
+
+    fn bitor_assign(&mut self, other: NameSet) {
+        *self = *self | other;
+    }
+}
+
+// What both sets have.
+impl BitAnd for NameSet {
+    type Output = NameSet;
+
+    ghost bitand_gives = { λ a b r. (n : Name) → member r n ≡ (member a n && member b n) };
+
+    fn bitand(self, other: NameSet) -> NameSet {
+        NameSet {
+            elements: self.elements & other.elements,
+            texts: self.texts & other.texts,
+        }
+    }
+}
+
+// What this set has and the other has not.
+impl Sub for NameSet {
+    type Output = NameSet;
+
+    ghost sub_gives = { λ a b r. (n : Name) → member r n ≡ (member a n && not (member b n)) };
+
+    fn sub(self, other: NameSet) -> NameSet {
+        NameSet {
+            elements: self.elements & !other.elements,
+            texts: self.texts & !other.texts,
+        }
     }
 }

@@ -1,30 +1,44 @@
 // The names that compiled paths need under a compiled schema.
-ghost use Rattle.std.specs.Prelude.{◌≤◌};
-ghost use Rattle.compiled_paths.specs.Paths.{lent_paths, Shaped, entry_paths};
+ghost use Rattle.std.specs.Prelude.{◌≡◌, ◌≤◌};
+ghost use Rattle.compiled_paths.specs.Paths.{paths_in, Shaped};
+ghost use Rattle.inference_spec.specs.Needed.{needed};
+ghost use Rattle.names.specs.Sets.{Known, set_in};
+ghost use Rattle.names.specs.relations.Relations.{RelationsOf};
 ghost use Rattle.needed_names.specs.sets.Needs.{NeededIn};
+ghost use Rattle.schema_spec.specs.Schemas.{Schema};
+ghost use Rattle.schema_spec.specs.Types.{types_of};
 ghost use Rattle.text_spec.specs.Limits.{max_declarations};
 
-use crate::needed_set;
-use compiled_paths::{CONDITION_STARTS, PATH_STARTS, STEPS};
+use crate::asked::Asked;
+use crate::paths::path_needed;
+use compiled_paths::CompiledPaths;
 use compiled_schema::CompiledSchema;
-use compiled_schema::entry_columns::Entries;
-use names::{MAX_ELEMENTS, NameSet};
+use names::NameSet;
+use names::relations::Relations;
 
-// The names that `total` paths need, as a set of names of the schema alone.
-pub fn needed_under<'a>(
-    compiled: CompiledSchema,
-    axes: &'a [u8; STEPS],
-    tests: &'a [u8; STEPS],
-    conditions: &'a [u16; CONDITION_STARTS],
-    paths: &'a [u8; PATH_STARTS],
-    total: usize,
-) -> NameSet
-    requires { Shaped (lent_paths axes.now tests.now conditions.now paths.now total) × (compiled.count ≤ max_declarations) }
-    ensures { NeededIn compiled (entry_paths axes tests conditions paths total) result }
+// The names that paths need, as a set of names of the schema alone.
+pub fn needed_set(relations: &Relations, paths: &CompiledPaths) -> NameSet
+    requires { Shaped paths.now × (relations.now.count ≤ max_declarations) }
+    ensures { (s : Schema) → RelationsOf s relations.now → (set_in s result ≡ needed (types_of s) (paths_in paths.now)) × Known s result }
 {
-    let count = compiled.count;
-    let entries: Entries = compiled.entries;
-    let holds: [NameSet; MAX_ELEMENTS] = entries.holds;
-    let below: [NameSet; MAX_ELEMENTS] = compiled.below;
-    needed_set(holds, below, count, axes, tests, conditions, paths, total)
+    let all = relations.names();
+    let asked = Asked {
+        relations,
+        all,
+        paths,
+    };
+    let mut needed = NameSet::empty();
+    for i in 0..paths.count {
+        let range = paths.path(i);
+        needed |= path_needed(&asked, range.start, range.end - range.start);
+    }
+    needed & all
+}
+
+// The names that paths need, as a set of names of the schema alone.
+pub fn needed_under(compiled: &CompiledSchema, paths: &CompiledPaths) -> NameSet
+    requires { Shaped paths.now × (compiled.now.relations.count ≤ max_declarations) }
+    ensures { NeededIn compiled.now paths.now result }
+{
+    needed_set(&compiled.relations, paths)
 }

@@ -1,12 +1,12 @@
 // Rows as structs, and the columns that a table of them has inside the library.
 #![tactic(auto)]
 
-pub mod refused;
-
 ghost use Rattle.std.specs.Prelude.{◌≡◌};
-ghost use Rattle.row_structs.specs.Structs.{cell_of};
+ghost use Rattle.cells.specs.columns.Lent.{read_columns};
+ghost use Rattle.row_structs.specs.Structs.{cell_count, columns_in, empty_columns};
+ghost use Rattle.table_spec.specs.Columns.{all_of_size, sizes_of};
 
-use cells::verdicts::Verdict;
+use cells::columns::Columns;
 use text::limits;
 
 // How many rows a table has at most.
@@ -27,6 +27,7 @@ pub struct Row {
 }
 
 // The columns of a table.
+// Six arrays and none of rows: they are lent as columns.
 #[derive(Drop)]
 pub struct RowColumns {
     pub numbers: [u16; CELLS],
@@ -37,19 +38,33 @@ pub struct RowColumns {
     pub decoded: [u16; CELLS],
 }
 
-// What a call that makes a table answers: the verdict, and the rows, then zeros.
-#[derive(Drop)]
-pub struct TableAnswer {
-    pub verdict: Verdict,
-    pub columns: RowColumns,
-}
-
-// The cell of a row: the last one for all rows past those that a table can have.
-pub fn cell_of(row: usize) -> usize
-    ensures { result ≡ cell_of row }
-{
-    if row < MAX_ROWS {
-        return row;
+impl RowColumns {
+    // Every cell is 0.
+    pub fn empty() -> RowColumns
+        ensures { columns_in result ≡ empty_columns }
+    {
+        RowColumns {
+            numbers: [0; CELLS],
+            names: [0; CELLS],
+            parents: [0; CELLS],
+            starts: [0; CELLS],
+            lengths: [0; CELLS],
+            decoded: [0; CELLS],
+        }
     }
-    MAX_ROWS
+
+    // The same, to be read: a cell for each row.
+    pub fn as_columns(&self) -> Columns<'_>
+        ensures value { read_columns result ≡ columns_in self.now }
+        ensures sizes { sizes_of (columns_in self.now) ≡ all_of_size cell_count }
+    {
+        Columns {
+            numbers: &self.numbers[..],
+            names: &self.names[..],
+            parents: &self.parents[..],
+            starts: &self.starts[..],
+            lengths: &self.lengths[..],
+            decoded: &self.decoded[..],
+        }
+    }
 }

@@ -1,40 +1,19 @@
-// The limits of a schema's declarations (5): the first place that passes one, declaration by declaration.
-ghost use Rattle.std.specs.Prelude.{◌≡◌, ◌≤◌, get_or};
+// The limits of a schema's declarations (5).
+ghost use Rattle.std.specs.Prelude.{◌≡◌, ◌≤◌};
 ghost use Rattle.schema.specs.declaration_limits.Limits.{over_limit};
 
 use crate::Schema;
 
-// The cell k, or 0 where there is none.
-fn cell(cells: &[usize], k: usize) -> usize
-    ensures { result ≡ get_or cells.now k 0 }
-{
-    if k < cells.len() {
-        return cells[k];
-    }
-    0
-}
-
-// The first place that passes a limit, after a declaration that starts at i, is the one with index d and takes the count of names from n to m.
-pub fn over_limit(
-    size: usize,
-    over: usize,
-    d: usize,
-    i: usize,
-    n: usize,
-    m: usize,
-    uses: &[usize],
-) -> usize
+// The first place that passes a limit in the declaration with index d, which starts at i and takes the count of names from n to m.
+pub fn over_limit(d: usize, i: usize, n: usize, m: usize, uses: &[usize]) -> Option<usize>
     requires { n ≤ m }
-    ensures { result ≡ over_limit size over d i n m uses.now }
+    ensures { result ≡ over_limit d i n m uses.now }
 {
-    if over < size {
-        return over;
-    }
     if Schema::MAX_DECLARATIONS <= d {
-        return i;
+        return Some(i);
     }
     if Schema::MAX_MODEL_NAMES < m - n {
-        return cell(uses, n + Schema::MAX_MODEL_NAMES);
+        return Some(uses.get(n + Schema::MAX_MODEL_NAMES).copied().unwrap_or(0));
     }
-    size
+    None
 }

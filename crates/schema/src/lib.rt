@@ -1,4 +1,4 @@
-// Schemas: the type with its limits, and what judging a schema text can answer.
+// Schemas: the type with its limits, and the parser of their texts.
 #![tactic(auto)]
 
 pub mod contents;
@@ -6,18 +6,19 @@ pub mod declaration_limits;
 pub mod declarations;
 pub mod groups;
 pub mod indicators;
+pub mod parsing;
 pub mod particles;
 pub mod places;
 pub mod separators;
 pub mod used_names;
 
 ghost use Rattle.std.specs.Prelude.{◌≡◌};
-ghost use Rattle.schema.specs.Judging.{empty_schema, reason_of};
-ghost use Rattle.text_spec.specs.Refusals.{number_of};
+ghost use Rattle.schema.specs.Judging.{empty_schema};
 
 use text::limits;
 
 // A schema: an accepted text in its normal form, in the first `len` bytes; the others are 0.
+// A length beside its cells, since hosts keep such a record.
 #[derive(Clone, Copy)]
 pub struct Schema {
     pub bytes: [u8; Schema::MAX_BYTES],
@@ -42,38 +43,4 @@ impl Schema {
             len: 0,
         }
     }
-}
-
-// Why a schema text is turned back: refusals 2 to 7.
-#[derive(Clone, Copy)]
-pub enum Kind {
-    BadLength,
-    BadByte,
-    BadGrammar,
-    OverLimit,
-    DeclaredTwice,
-    Undeclared,
-}
-
-impl Kind {
-    // Document 01's number.
-    pub fn number(self) -> u8
-        ensures { result ≡ number_of (reason_of self) }
-    {
-        match self {
-            Kind::BadLength => 2,
-            Kind::BadByte => 3,
-            Kind::BadGrammar => 4,
-            Kind::OverLimit => 5,
-            Kind::DeclaredTwice => 6,
-            Kind::Undeclared => 7,
-        }
-    }
-}
-
-// The number of elements, or the refusal and its place.
-#[derive(Clone, Copy)]
-pub enum Judgement {
-    Accepted(usize),
-    Refused(Kind, usize),
 }

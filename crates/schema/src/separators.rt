@@ -1,54 +1,49 @@
-// The particles of a group with what parts them: what follows one, and what two make of the model's position automaton.
+// The particles of a group with what parts them: what follows one, and what two make of the model's position automaton. No
+// methods of `Parser`, since each takes but one of its fields.
 ghost use Rattle.std.specs.Prelude.{◌≡◌, ◌≤◌, length};
 ghost use Rattle.schema.specs.particles.Automata.{Joined};
-ghost use Rattle.schema.specs.particles.Readings.{may_part, Followed};
+ghost use Rattle.schema.specs.particles.Readings.{Followed, may_part};
 
-use crate::particles::{Follow, UNPARTED};
+use crate::particles::{Follow, Separator};
 use models::{Ends, automata};
 use text::scanning;
 
-// Whether the byte may part a group that `sep` parts.
-fn may_part(sep: u8, b: u8) -> bool
-    ensures { result ≡ may_part sep b }
+// Whether this may part a group that `parted` parts so far.
+fn may_part(parted: Option<Separator>, by: Separator) -> bool
+    ensures { result ≡ may_part parted by }
 {
-    if sep == UNPARTED {
-        if b == b'|' {
-            return true;
-        }
-        return b == b',';
+    match parted {
+        None => true,
+        Some(separator) => separator == by,
     }
-    b == sep
 }
 
-// What follows a particle that ends at `at`, after blanks.
-pub fn after_particle(s: &[u8], at: usize, sep: u8) -> Follow
+// What follows a particle that ends at `at`, after blanks, in a group that `parted` parts so far.
+pub fn after_particle(s: &[u8], at: usize, parted: Option<Separator>) -> Result<Follow, usize>
     requires { at ≤ length s.now }
-    ensures { Followed s.now at sep result }
+    ensures { Followed s.now at parted result }
 {
     let i = scanning::skip(s, at);
-    if s.len() <= i {
-        return Follow::Fail(i);
+    match s.get(i) {
+        Some(b')') => Ok(Follow::Close(i + 1)),
+        Some(b'|') if may_part(parted, Separator::Bar) => Ok(Follow::More(Separator::Bar, i + 1)),
+        Some(b',') if may_part(parted, Separator::Comma) => {
+            Ok(Follow::More(Separator::Comma, i + 1))
+        }
+        _ => Err(i),
     }
-    let b = s[i];
-    if b == b')' {
-        return Follow::Close(i + 1);
-    }
-    if may_part(sep, b) {
-        return Follow::More(b, i + 1);
-    }
-    Follow::Fail(i)
 }
 
-// Where a group begins and ends that `sep` parts: so far `a`, and then the particle `b`.
-pub fn join(sep: u8, a: Ends, b: Ends, predecessors: &mut [u64]) -> Ends
-    ensures { Joined sep a b predecessors.old predecessors.new result }
+// Where a group begins and ends that `parted` parts: so far `a`, and then the particle `b`.
+pub fn join(parted: Option<Separator>, a: Ends, b: Ends, predecessors: &mut [u64]) -> Ends
+    ensures { Joined parted a b predecessors.old predecessors.new result }
 {
-    if sep == UNPARTED {
-        return b;
+    match parted {
+        None => b,
+        Some(Separator::Comma) => {
+            automata::link(predecessors, a.last, b.first);
+            a.in_sequence(b)
+        }
+        Some(Separator::Bar) => a.in_choice(b),
     }
-    if sep == b',' {
-        automata::link(predecessors, a.last, b.first);
-        return automata::in_sequence(a, b);
-    }
-    automata::in_choice(a, b)
 }

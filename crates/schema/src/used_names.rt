@@ -4,35 +4,23 @@ ghost use Rattle.schema.specs.particles.Readings.{ReadsName};
 ghost use Rattle.text_spec.specs.Bytes.{starts_name};
 ghost use Rattle.text_spec.specs.Scans.{byte_at};
 
-use crate::indicators;
-use crate::particles::{Part, PartOutcome};
-use models::{Ends, automata};
+use crate::parsing::Parser;
+use crate::particles::Part;
+use models::Ends;
 use text::scanning;
-use text::scanning::Read;
 
-// Past the name at i and its indicator. Its place is noted at n; the names of its model are counted from `start` on.
-pub fn use_name(
-    s: &[u8],
-    i: usize,
-    out: &mut [usize],
-    n: usize,
-    start: usize,
-    predecessors: &mut [u64],
-) -> PartOutcome
-    requires { (i < length s.now) × (starts_name (byte_at s.now i) ≡ true) × (n ≤ i) × (start ≤ n) }
-    ensures { ReadsName s.now i n start out.old out.new predecessors.old predecessors.new result }
-{
-    scanning::note(out, n, i);
-    match scanning::name_end(s, i) {
-        Read::Past(e) => {
-            let ends: Ends = automata::named(n - start);
-            let p = Part {
-                at: e,
-                n: n + 1,
-                ends,
-            };
-            PartOutcome::Past(indicators::indicated(s, p, predecessors))
-        }
-        Read::Fail(j) => PartOutcome::Fail(j),
+impl Parser<'_> {
+    // Past the name at i and its indicator. Its place is noted.
+    pub fn use_name(&mut self, i: usize) -> Result<Part, usize>
+        requires { (i < length self.old.text.now) × (starts_name (byte_at self.old.text.now i) ≡ true) × (self.old.count ≤ i) × (self.old.start ≤ self.old.count) }
+        ensures { ReadsName i self.old self.new result }
+    {
+        scanning::note(self.uses, self.count, i);
+        let name = Part {
+            at: scanning::name_end(self.text, i)?,
+            ends: Ends::named(self.count - self.start),
+        };
+        self.count += 1;
+        Ok(self.indicated(name))
     }
 }

@@ -2,21 +2,21 @@
 use mathlib.Core.Bool.{Bool, true, false, ◌&&◌}
 use mathlib.Core.List.{List}
 use mathlib.Core.Path.{◌≡◌, refl, sym, ap, ap₂, subst, ◌∙◌}
-use Prim.Native.Nat.{ℕ, suc, ◌+◌, ◌≤◌, ◌<◌}
-use native.Mathlib.Numerals.{add-one}
+use Prim.Native.Nat.{ℕ, ◌≤◌, ◌<◌}
 use native.Mathlib.Omega.{arith}
-use borrow.Author.Tests.{le-leb, lt-leb, eq-eqb, ne_eqb}
-use lib.Dec.{T, eqb, leb, leb→le}
-use lib.ListN.{length, drop, take, get_or, drop_of_length-le}
-use lib.Seq.{drop-cons, length-take-le}
-use Rattle.schema.specs.Judging.{outcome_of, sized}
-use Rattle.schema.specs.declared.Judgement.TheVariants.{Accepted, Refused}
-use Rattle.schema.specs.declared.Kind.{Kind}
+use borrow.Author.Tests.{le-leb, lt-leb}
+use lib.Dec.{T, leb, leb→le}
+use lib.ListN.{length, take}
+use lib.Seq.{length-take-le}
+use Rattle.schema.specs.Judging.{sized}
 use Rattle.schema_reader.specs.Records.{ReadAs, passes_record}
 use Rattle.schema_reader.specs.declared.SchemaRead.{SchemaRead}
 use Rattle.schema_spec.specs.Reading.{read_schema}
 use Rattle.schema_spec.specs.Records.{normal, record_by, schema_record, is_schema_record}
 use Rattle.schema_spec.specs.Schemas.{Schema}
+use Rattle.std.specs.Prelude.{Ok, Err}
+use Rattle.text.specs.declared.refusals.Refusal.{Refusal}
+use Rattle.text.specs.refusals.Refusals.{refusal_in, outcome_of}
 use Rattle.text_laws.specs.Cells.{padded-length, padded-take}
 use Rattle.text_laws.specs.Lists.{bytes-equal, bytes_same}
 use Rattle.text_laws.specs.Tests.{passed, true_of, false_of, and_cases, and_intro, never}
@@ -24,25 +24,6 @@ use Rattle.text_spec.specs.Cells.{padded}
 use Rattle.text_spec.specs.Limits.{max_schema_bytes}
 use Rattle.text_spec.specs.Lists.{same_bytes}
 use Rattle.text_spec.specs.Refusals.{Outcome, accepted, refused, is_accepted}
-
--- ---- two slices
-module _ (a b : List ℕ) where
-  pub cells-sizes : (length a ≡ length b → ⊥) → same_bytes a b ≡ false
-  cells-sizes h = false_of (same_bytes a b) (λ t. h (ap length (bytes-equal a b t)))
-
-module _ (a b : List ℕ) (i : ℕ) where
-  pub cells-ended : length a ≤ i → length b ≤ i → same_bytes (drop i a) (drop i b) ≡ true
-  cells-ended h g = ap₂ same_bytes (drop_of_length-le a h) (drop_of_length-le b g)
-
-  module _ (h : i < length a) (g : i < length b) where
-    cells-cons : same_bytes (drop i a) (drop i b) ≡ (eqb (get_or a i 0) (get_or b i 0) && same_bytes (drop (suc i) a) (drop (suc i) b))
-    cells-cons = ap₂ same_bytes (drop-cons a i 0 h) (drop-cons b i 0 g)
-
-    pub cells-differ : (get_or a i 0 ≡ get_or b i 0 → ⊥) → same_bytes (drop i a) (drop i b) ≡ false
-    cells-differ e = cells-cons ∙ ap (λ (t : Bool). t && same_bytes (drop (suc i) a) (drop (suc i) b)) (ne_eqb (get_or a i 0) (get_or b i 0) e)
-
-    pub cells-next : get_or a i 0 ≡ get_or b i 0 → same_bytes (drop i a) (drop i b) ≡ same_bytes (drop (i + 1) a) (drop (i + 1) b)
-    cells-next e = cells-cons ∙ ap (λ (t : Bool). t && same_bytes (drop (suc i) a) (drop (suc i) b)) (eq-eqb (get_or a i 0) (get_or b i 0) e) ∙ rw (add-one i)
 
 -- ---- the test
 and-false : (a : Bool) {b : Bool} → b ≡ false → (a && b) ≡ false
@@ -55,21 +36,21 @@ module _ (cells : List ℕ) (size : ℕ) where
 
   module _ {r : SchemaRead} (R : ReadAs (take size cells) r) where
     -- a text that is turned back is no record
-    pub record-refused : {k : Kind} {p : ℕ} → r.judgement ≡ Refused k p → passes_record cells size ≡ false
+    pub record-refused : {f : Refusal} → r.judgement ≡ Err f → passes_record cells size ≡ false
     unfolding is_schema_record
-    record-refused {k} {p} e =
+    record-refused {f} e =
         and-false (leb size max_schema_bytes && same_bytes cells (padded max_schema_bytes (take size cells)))
         (ap (λ (t : Bool). t && same_bytes (normal (take size cells)) (take size cells)) (go (read_schema (take size cells)) (sym (ap outcome_of e) ∙ R.outcome)))
       where
-        go : (o : Outcome Schema) → outcome_of (Refused k p) ≡ sized o → is_accepted o ≡ false
+        go : (o : Outcome Schema) → refused (refusal_in f) ≡ sized o → is_accepted o ≡ false
         go (accepted s) q = never (cc)
-        go (refused f) q = refl
+        go (refused g) q = refl
 
-    module _ {n : ℕ} (e : r.judgement ≡ Accepted n) where
+    module _ {n : ℕ} (e : r.judgement ≡ Ok n) where
       is-accepted : is_accepted (read_schema (take size cells)) ≡ true
       is-accepted = go (read_schema (take size cells)) (sym (ap outcome_of e) ∙ R.outcome)
         where
-          go : (o : Outcome Schema) → outcome_of (Accepted n) ≡ sized o → is_accepted o ≡ true
+          go : (o : Outcome Schema) → accepted n ≡ sized o → is_accepted o ≡ true
           go (accepted s) q = refl
           go (refused f) q = never (cc)
 

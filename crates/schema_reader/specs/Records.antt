@@ -1,9 +1,10 @@
 -- What the schema reader hands back, in the definition's terms.
 use Rattle.std.specs.Prelude.{Bool, ◌&&◌, List, ◌≡◌, ℕ, leb, length, take}
-use Rattle.schema.specs.Judging.{outcome_of, sized}
+use Rattle.schema.specs.Judging.{sized}
 use Rattle.schema_reader.specs.declared.SchemaRead.{SchemaRead}
 use Rattle.schema_spec.specs.Reading.{read_schema}
 use Rattle.schema_spec.specs.Records.{schema_record, is_schema_record}
+use Rattle.text.specs.refusals.Refusals.{outcome_of}
 use Rattle.text_spec.specs.Cells.{padded}
 use Rattle.text_spec.specs.Limits.{max_schema_bytes}
 use Rattle.text_spec.specs.Lists.{same_bytes}

@@ -5,24 +5,19 @@ ghost use Rattle.schema_reader.specs.judging_laws.Spellings.{Readable};
 ghost use Rattle.text_spec.specs.Limits.{max_declarations, max_model_names};
 
 use crate::name_judging;
-use schema::places::All;
-use schema::{Judgement, Kind, places};
+use schema::places;
+use text::refusals::{Reason, Refusal};
 
 // Judges 4 to 7 on a text that passes 2 and 3.
-pub fn judge(s: &[u8], names: &mut [usize], uses: &mut [usize]) -> Judgement
+pub fn judge(s: &[u8], names: &mut [usize], uses: &mut [usize]) -> Result<usize, Refusal>
     requires { Readable s.now × (names.old ≡ replicate max_declarations 0) × (length uses.old ≡ max_declarations * max_model_names + 1) }
     ensures { JudgedInto s.now names.new uses.new result }
 {
     match places::all_declarations(s, names, uses) {
-        All::Fail(j) => Judgement::Refused(Kind::BadGrammar, j),
-        All::Past(c) => {
-            let d = c.d;
-            let n = c.n;
-            let over = c.over;
-            if over < s.len() {
-                return Judgement::Refused(Kind::OverLimit, over);
-            }
-            name_judging::judge_names(s, &names[..d], &mut uses[..n])
-        }
+        Err(place) => Err(Refusal::at(Reason::BadSchema, place)),
+        Ok(counts) => match counts.over {
+            Some(place) => Err(Refusal::at(Reason::OverSchemaLimit, place)),
+            None => name_judging::judge_names(s, &names[..counts.d], &mut uses[..counts.n]),
+        },
     }
 }

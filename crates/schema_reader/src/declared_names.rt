@@ -1,37 +1,32 @@
 // Names by their places in a schema text: which is declared twice, and the elements that the used ones name.
 ghost use Rattle.std.specs.Prelude.{[], ◌≡◌};
-ghost use Rattle.schema_reader.specs.declared_names.Names.{first_place, twice_at, Resolved};
+ghost use Rattle.schema_reader.specs.declared_names.Names.{twice_at, Resolved};
+ghost use Rattle.text.specs.lookup.Lookup.{found};
+ghost use Rattle.text_spec.specs.Lists.{first};
 
 use text::lookup;
 
-// The first of the declared names that is declared before it, or the text's length.
-pub fn twice(s: &[u8], names: &[usize]) -> usize
-    ensures { result ≡ first_place s.now (twice_at s.now [] names.now) }
+// The first of the declared names that is declared before it.
+pub fn twice(s: &[u8], names: &[usize]) -> Option<usize>
+    ensures { found result ≡ first (twice_at s.now [] names.now) }
 {
-    let mut i = 0;
-    while i < names.len() {
-        let p = names[i];
-        if lookup::find(s, &names[..i], s, p) < i {
-            return p;
+    for (i, place) in names.iter().enumerate() {
+        if lookup::find(s, &names[..i], s, *place).is_some() {
+            return Some(*place);
         }
-        i += 1;
     }
-    s.len()
+    None
 }
 
-// Replaces the place of each used name by the element with that name. The first place whose name is not declared, or the text's length.
-pub fn resolve(s: &[u8], names: &[usize], uses: &mut [usize]) -> usize
+// Replaces the place of each used name by the element with that name, or else gives the first place whose name is not declared.
+pub fn resolve(s: &[u8], names: &[usize], uses: &mut [usize]) -> Result<(), usize>
     ensures { Resolved s.now names.now uses.old uses.new result }
 {
-    let mut i = 0;
-    while i < uses.len() {
-        let p = uses[i];
-        let e = lookup::find(s, names, s, p);
-        if names.len() <= e {
-            return p;
+    for place in uses.iter_mut() {
+        match lookup::find(s, names, s, *place) {
+            Some(element) => *place = element,
+            None => return Err(*place),
         }
-        uses[i] = e;
-        i += 1;
     }
-    s.len()
+    Ok(())
 }

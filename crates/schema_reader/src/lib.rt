@@ -10,13 +10,14 @@ pub mod text_judging;
 
 ghost use Rattle.std.specs.Prelude.{◌≡◌};
 ghost use Rattle.schema_reader.specs.Records.{ReadAs, passes_record};
-ghost use Rattle.text_spec.specs.Lists.{same_bytes};
 
-use schema::{Judgement, Schema};
+use schema::Schema;
+use text::refusals::Refusal;
 
+// The number of elements or the refusal, and the record, which is handed back either way: the empty one on refusal.
 #[derive(Drop)]
 pub struct SchemaRead {
-    pub judgement: Judgement,
+    pub judgement: Result<usize, Refusal>,
     pub schema: Schema,
 }
 
@@ -25,47 +26,20 @@ pub fn read_schema(text: &[u8]) -> SchemaRead
     ensures { ReadAs text.now result }
 {
     let judgement = text_judging::judge_schema(text);
-    let schema = record_cells::handed_back(judgement, record_cells::recorded(text));
+    let schema = record_cells::handed_back(text, judgement);
     SchemaRead { judgement, schema }
-}
-
-// Whether two slices hold the same bytes.
-pub fn same_cells(a: &[u8], b: &[u8]) -> bool
-    ensures { result ≡ same_bytes a.now b.now }
-{
-    if a.len() != b.len() {
-        return false;
-    }
-    let mut i = 0;
-    while i < a.len() {
-        if a[i] != b[i] {
-            return false;
-        }
-        i += 1;
-    }
-    true
 }
 
 // Whether the record is one that `read_schema` can hand back for an accepted text: reading it again gives it again.
 pub fn is_schema_record(schema: Schema) -> bool
     ensures { result ≡ passes_record schema.bytes schema.len }
 {
-    let bytes = schema.bytes;
-    let len = schema.len;
-    if Schema::MAX_BYTES < len {
+    if Schema::MAX_BYTES < schema.len {
         return false;
     }
-    let read = read_schema(&bytes[..len]);
-    let judgement = read.judgement;
-    match judgement {
-        Judgement::Refused(_, _) => false,
-        Judgement::Accepted(_) => {
-            let again = read.schema;
-            let cells = again.bytes;
-            if again.len != len {
-                return false;
-            }
-            same_cells(&cells, &bytes)
-        }
+    let read = read_schema(&schema.bytes[..schema.len]);
+    match read.judgement {
+        Ok(_) => read.schema.len == schema.len && read.schema.bytes == schema.bytes,
+        Err(_) => false,
     }
 }

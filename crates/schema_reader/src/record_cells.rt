@@ -1,12 +1,12 @@
 // The schema that a text is read into: its normal form in cells, and the empty schema on refusal.
-ghost use Rattle.std.specs.Prelude.{◌≡◌};
-ghost use Rattle.schema_reader.specs.record_cells.Recorded.{Recorded, handed_back};
+ghost use Rattle.schema_reader.specs.record_cells.Recorded.{Recorded, HandedBack};
 
 use crate::normal_form;
-use schema::{Judgement, Schema};
+use schema::Schema;
+use text::refusals::Refusal;
 
 // The normal form of a text that is not too long, in a schema's cells.
-pub fn recorded(s: &[u8]) -> Schema
+fn recorded(s: &[u8]) -> Schema
     ensures { Recorded s.now result }
 {
     if Schema::MAX_BYTES < s.len() {
@@ -18,11 +18,11 @@ pub fn recorded(s: &[u8]) -> Schema
 }
 
 // On refusal the empty schema is handed back.
-pub fn handed_back(judgement: Judgement, read: Schema) -> Schema
-    ensures { result ≡ handed_back judgement read }
+pub fn handed_back(text: &[u8], judgement: Result<usize, Refusal>) -> Schema
+    ensures { HandedBack text.now judgement result }
 {
     match judgement {
-        Judgement::Accepted(_) => read,
-        Judgement::Refused(_, _) => Schema::empty(),
+        Ok(_) => recorded(text),
+        Err(_) => Schema::empty(),
     }
 }

@@ -4,29 +4,26 @@ ghost use Rattle.schema.specs.Judging.{JudgedAs, JudgedInto};
 ghost use Rattle.text_spec.specs.Limits.{max_declarations, max_model_names};
 
 use crate::declaration_judging;
+use schema::Schema;
 use schema::places::MAX_USES;
-use schema::{Judgement, Kind, Schema};
+use text::refusals::{Reason, Refusal};
 
 // Judges a schema text. On acceptance the places of its declared names are left in `names`, and in `uses` the elements that its models use.
-pub fn judge_into(text: &[u8], names: &mut [usize], uses: &mut [usize]) -> Judgement
+pub fn judge_into(text: &[u8], names: &mut [usize], uses: &mut [usize]) -> Result<usize, Refusal>
     requires { (names.old ≡ replicate max_declarations 0) × (length uses.old ≡ max_declarations * max_model_names + 1) }
     ensures { JudgedInto text.now names.new uses.new result }
 {
-    if text.len() == 0 {
-        return Judgement::Refused(Kind::BadLength, 0);
+    if text.is_empty() || Schema::MAX_BYTES < text.len() {
+        return Err(Refusal::of(Reason::BadLength));
     }
-    if Schema::MAX_BYTES < text.len() {
-        return Judgement::Refused(Kind::BadLength, 0);
-    }
-    let foreign = text::first_foreign(text);
-    if foreign < text.len() {
-        return Judgement::Refused(Kind::BadByte, foreign);
+    if let Some(place) = text::first_foreign(text) {
+        return Err(Refusal::at(Reason::BadByte, place));
     }
     declaration_judging::judge(text, names, uses)
 }
 
 // Judges a schema text: the number of elements, or the refusal that comes first.
-pub fn judge_schema(text: &[u8]) -> Judgement
+pub fn judge_schema(text: &[u8]) -> Result<usize, Refusal>
     ensures { JudgedAs text.now result }
 {
     let mut names = [0usize; Schema::MAX_DECLARATIONS];

@@ -11,140 +11,72 @@ pub mod records;
 pub mod row_numbers;
 pub mod table;
 
-ghost use Rattle.std.specs.Prelude.{◌≡◌, length};
-ghost use Rattle.axis_passes.specs.alternative_steps.Texts.{HeldTexts};
-ghost use Rattle.axis_passes.specs.steps.Tests.{names_in};
-ghost use Rattle.compiled_paths.specs.Columns.{path_at};
-ghost use Rattle.compiled_paths.specs.Paths.{entry_steps};
+ghost use Rattle.std.specs.Prelude.{◌≡◌, ◌-◌, length};
+ghost use Rattle.axis_passes.specs.rows.Rows.{parents_in, names_of};
+ghost use Rattle.axis_passes.specs.scratch.Scratch.{Kept};
+ghost use Rattle.compiled_paths.specs.Steps.{steps_in, path_at};
 ghost use Rattle.selection_laws.specs.marks.Selection.{steps_marks, path_marks, root_marks};
 ghost use Rattle.selection.specs.Steps.{StepsPass, RootStepsPass, PathPass};
 
 use axis_passes::mark_sets::any_marked;
 use axis_passes::root::mark_root;
-use axis_passes::written_steps::{first_step, range_size, step};
-use compiled_paths::{CONDITION_STARTS, PATH_STARTS, STEPS};
+use axis_passes::rows::Rows;
+use axis_passes::scratch::Scratch;
+use axis_passes::written_steps::{first_step, step};
+use compiled_paths::CompiledPaths;
+use std::ops::Range;
 
-// The rows that `size` written steps, the first of them at `first`, lead to from the marked ones. From no row nothing is reached.
-fn steps_from<'a>(
-    parents: &[u16],
-    codes: &[u8],
-    starts: &[u32],
-    lengths: &[u16],
-    decoded: &[u16],
-    lent: &[u8],
-    axes: &'a [u8; STEPS],
-    tests: &'a [u8; STEPS],
-    conditions: &'a [u16; CONDITION_STARTS],
-    first: usize,
-    size: usize,
+// The rows that these written steps lead to from the marked ones. From no row nothing is reached.
+fn steps_from(
+    rows: &Rows,
+    paths: &CompiledPaths,
+    steps: Range<usize>,
     marks: &mut [u8],
-    held: &mut [u8],
-    steps: &mut [u8],
-    next: &mut [u8],
+    scratch: &mut Scratch,
 )
-    requires { StepsPass parents.now codes.now conditions.now first size marks.old held.old steps.old next.old × HeldTexts parents starts lengths decoded lent }
-    ensures { marks.new ≡ steps_marks parents.now (names_in codes.now) (entry_steps axes tests conditions size first) marks.old }
+    requires { StepsPass rows.now paths.now steps.start steps.end marks.old scratch.old }
+    ensures marks { marks.new ≡ steps_marks (parents_in rows.now) (names_of rows.now) (steps_in paths.now.steps paths.now.conditions (steps.end - steps.start) steps.start) marks.old }
+    ensures kept { Kept scratch.old scratch.new }
 {
-    let end = first + size;
-    let mut k = first;
-    while k < end {
+    for k in steps.start..steps.end {
         if !any_marked(&marks[..]) {
             return;
         }
-        step(
-            parents, codes, starts, lengths, decoded, lent, axes, tests, conditions, k, marks,
-            held, steps, next,
-        );
-        k += 1;
+        step(rows, paths, k, marks, scratch);
     }
 }
 
-// The rows that `size` written steps, the first of them at `first`, lead to from the root.
-fn steps_from_root<'a>(
-    parents: &[u16],
-    codes: &[u8],
-    starts: &[u32],
-    lengths: &[u16],
-    decoded: &[u16],
-    lent: &[u8],
-    axes: &'a [u8; STEPS],
-    tests: &'a [u8; STEPS],
-    conditions: &'a [u16; CONDITION_STARTS],
-    first: usize,
-    size: usize,
+// The rows that these written steps lead to from the root.
+fn steps_from_root(
+    rows: &Rows,
+    paths: &CompiledPaths,
+    steps: Range<usize>,
     marks: &mut [u8],
-    held: &mut [u8],
-    steps: &mut [u8],
-    next: &mut [u8],
+    scratch: &mut Scratch,
 )
-    requires { RootStepsPass parents.now codes.now conditions.now first size marks.old held.old steps.old next.old × HeldTexts parents starts lengths decoded lent }
-    ensures { marks.new ≡ steps_marks parents.now (names_in codes.now) (entry_steps axes tests conditions size first) (root_marks (length parents.now)) }
+    requires { RootStepsPass rows.now paths.now steps.start steps.end marks.old scratch.old }
+    ensures marks { marks.new ≡ steps_marks (parents_in rows.now) (names_of rows.now) (steps_in paths.now.steps paths.now.conditions (steps.end - steps.start) steps.start) (root_marks (length (parents_in rows.now))) }
+    ensures kept { Kept scratch.old scratch.new }
 {
-    if size == 0 {
+    if steps.start == steps.end {
         mark_root(marks);
         return;
     }
-    first_step(
-        parents, codes, starts, lengths, decoded, lent, axes, tests, conditions, first, marks,
-        held, steps, next,
-    );
-    steps_from(
-        parents,
-        codes,
-        starts,
-        lengths,
-        decoded,
-        lent,
-        axes,
-        tests,
-        conditions,
-        first + 1,
-        size - 1,
-        marks,
-        held,
-        steps,
-        next,
-    );
+    first_step(rows, paths, steps.start, marks, scratch);
+    steps_from(rows, paths, steps.start + 1..steps.end, marks, scratch);
 }
 
-// The rows of a table that is not empty that the path `i` selects; `held`, `steps` and `next` are scratch.
-pub fn select_path<'a>(
-    parents: &[u16],
-    codes: &[u8],
-    starts: &[u32],
-    lengths: &[u16],
-    decoded: &[u16],
-    lent: &[u8],
-    axes: &'a [u8; STEPS],
-    tests: &'a [u8; STEPS],
-    conditions: &'a [u16; CONDITION_STARTS],
-    paths: &'a [u8; PATH_STARTS],
+// The rows of a table that is not empty that the path `i` selects.
+pub fn select_path(
+    rows: &Rows,
+    paths: &CompiledPaths,
     i: usize,
     marks: &mut [u8],
-    held: &mut [u8],
-    steps: &mut [u8],
-    next: &mut [u8],
+    scratch: &mut Scratch,
 )
-    requires { PathPass conditions.now paths.now i parents.now codes.now marks.old held.old steps.old next.old × HeldTexts parents starts lengths decoded lent }
-    ensures { marks.new ≡ path_marks parents.now (names_in codes.now) (path_at axes.now tests.now conditions.now paths.now i) }
+    requires { PathPass rows.now paths.now i marks.old scratch.old }
+    ensures marks { marks.new ≡ path_marks (parents_in rows.now) (names_of rows.now) (path_at paths.now.steps paths.now.conditions paths.now.paths i) }
+    ensures kept { Kept scratch.old scratch.new }
 {
-    let start = paths[i] as u16;
-    let size = range_size(start, paths[i + 1] as u16);
-    steps_from_root(
-        parents,
-        codes,
-        starts,
-        lengths,
-        decoded,
-        lent,
-        axes,
-        tests,
-        conditions,
-        start as usize,
-        size,
-        marks,
-        held,
-        steps,
-        next,
-    );
+    steps_from_root(rows, paths, paths.path(i), marks, scratch);
 }

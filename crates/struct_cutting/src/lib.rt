@@ -1,5 +1,4 @@
 // `cut_table_rows`: a table of row structs cut into others.
 #![tactic(auto)]
 
-pub mod columns;
 pub mod entry;

@@ -1,5 +1,4 @@
 // `read_journal_rows`: a journal read into lent row structs.
 #![tactic(auto)]
 
-pub mod columns;
 pub mod entry;

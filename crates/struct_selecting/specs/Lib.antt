@@ -1,1 +1,1 @@
-pub mod columns
+pub mod entry

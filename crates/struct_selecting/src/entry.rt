@@ -1,16 +1,17 @@
-// Selecting on a table that is handed in as row structs, by the records of a schema and a bundle.
+// Selecting on a table that is handed in as row structs, under the records of a schema and a bundle.
 ghost use Rattle.std.specs.Prelude.{map};
 ghost use Rattle.compiled_schema.specs.records.Records.{record_with};
 ghost use Rattle.library_spec.specs.Calls.{nodes_selected_rows};
 ghost use Rattle.row_structs.specs.Structs.{cells_in};
 ghost use Rattle.selection.specs.answers.Answers.{AnsweredCells};
 
-use crate::columns::select_columns;
 use bundle::reader::Bundle;
 use row_structs::Row;
 use schema::Schema;
 use selection::answers::Selected;
+use selection::records::select_nodes;
 use struct_walks::to_columns::columns_of;
+use text::refusals::Refusal;
 
 // Selects on the rows, which are laid in columns first.
 pub fn select_nodes_rows(
@@ -21,14 +22,15 @@ pub fn select_nodes_rows(
     lent: &[u8],
     items: &mut [u16],
     counts: &mut [u32],
-) -> Selected
+) -> Result<Selected, Refusal>
     ensures { AnsweredCells (nodes_selected_rows (record_with schema.bytes schema.len) (record_with bundle.bytes bundle.len) place (map cells_in rows.now) lent.now) result items counts }
 {
-    select_columns(
+    let laid = columns_of(rows);
+    select_nodes(
         schema,
         bundle,
         place,
-        columns_of(rows),
+        &laid.as_columns(),
         rows.len(),
         lent,
         items,

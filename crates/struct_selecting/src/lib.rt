@@ -1,5 +1,4 @@
 // `select_nodes_rows`: nodes selected on a table of row structs.
 #![tactic(auto)]
 
-pub mod columns;
 pub mod entry;

@@ -1,35 +1,30 @@
 -- A table that is handed in as lent columns holds rows exactly if the passes over its columns say so.
-use Rattle.std.specs.Borrow.{Bor}
 use Rattle.std.specs.Prelude.{Bool, true, false, cond, not, ◌&&◌, List, ◌≡◌, refl, ℕ, eqb, leb, length}
+use Rattle.std.proofs.Math.Bool.{and_assoc}
 use Rattle.std.proofs.Math.Option.{Option, none, some}
 use Rattle.std.proofs.Math.Path.{sym}
-use Rattle.std.proofs.Common.{ap, ◌∙◌, arith, eqb→eq, leb→le}
-use denote.Triple.Both.{Both}
+use Rattle.std.proofs.Common.{ap, ap₂, ◌∙◌, arith, eqb→eq, leb→le}
+use Rattle.cells.specs.columns.Lent.{read_columns}
+use Rattle.cells.specs.declared.columns.Columns as reading
 use Rattle.library_spec.specs.Records.{LentTable, rows_lent, kept_if, table_held, table_beside}
 use Rattle.schema_spec.specs.Schemas.{Schema}
 use Rattle.schema_spec.specs.Types.{types_of}
 use Rattle.table_laws.specs.passes.Codes.{HeldWords}
 use Rattle.table_laws.specs.passes.Passes.{rows_pass}
 use Rattle.table_laws.specs.passes.Tables.{passes_rows, rows_pass_lem}
-use Rattle.table_laws.specs.passes.Texts.{texts_pass, beside-pass}
-use Rattle.table_spec.specs.Columns.{sizes_of, equal_sizes, cells_from, columns}
+use Rattle.table_laws.specs.passes.Texts.{beside-pass}
+use Rattle.table_spec.specs.Columns.{sizes_of, equal_sizes, cells_from}
 use Rattle.table_spec.specs.Rows.{Row, rows_of}
 use Rattle.table_spec.specs.Tables.{well_formed, well_formed_with}
 use Rattle.tables.specs.rows.Lent.{Lent}
+use Rattle.tables.specs.text_ranges.Left.{texts_in}
 use Rattle.text_laws.specs.Tests.{passed, and_cases}
 use Rattle.text_spec.specs.Lists.{is_none}
 
 -- ---- definitions
-abbrev pub lent_table : List ℕ → List ℕ → List ℕ → List ℕ → List ℕ → List ℕ → ℕ → LentTable
-lent_table numbers names parents starts lengths decoded count = record { columns = columns numbers names parents starts lengths decoded; count = count }
-
--- a slice that is lent to be read, at both ends of a call
-abbrev pub ReadSlice : Type 0
-ReadSlice = Both (Bor (List ℕ)) (Bor (List ℕ))
-
--- the table in six columns that are lent
-abbrev pub entry_table : ReadSlice → ReadSlice → ReadSlice → ReadSlice → ReadSlice → ReadSlice → ℕ → LentTable
-entry_table numbers names parents starts lengths decoded count = lent_table numbers.entry.now names.entry.now parents.entry.now starts.entry.now lengths.entry.now decoded.entry.now count
+-- the table in columns that are read
+abbrev pub read_table : reading.Columns → ℕ → LentTable
+read_table t count = record { columns = read_columns t; count = count }
 
 -- the table holds rows: alone, and beside a text
 unfoldable pub is_held : Schema → LentTable → Bool
@@ -79,32 +74,26 @@ fit-lent t e =
       measured = omega (arith, eqb→eq z.decoded n c₄.1);
     }
 
+-- the tests of the code, in their order
 module _ (words : List ℕ) (t : LentTable) (s : Schema) (hw : HeldWords (types_of s) words) where
-  abbrev rows : Bool
-  rows = rows_pass words t.columns t.count
-
-  pub held-unfit : sizes_fit t ≡ false → false ≡ is_held s t
+  pub held-tests : (sizes rows : Bool) → sizes ≡ sizes_fit t → rows ≡ rows_pass words t.columns t.count → (sizes && rows) ≡ is_held s t
   unfolding is_held table_held
-  held-unfit e = sym (unfit (well_formed (types_of s)) t e)
+  held-tests sizes rows e f = ap₂ ◌&&◌ e f ∙ by (sizes_fit t) refl
+    where
+      by : (b : Bool) → sizes_fit t ≡ b → (b && rows_pass words t.columns t.count) ≡ not (is_none (kept_if (well_formed (types_of s)) (rows_lent t)))
+      by true q = rows_pass_lem (types_of s) words hw t.columns t.count ∙ sym (fit (well_formed (types_of s)) t q)
+      by false q = sym (unfit (well_formed (types_of s)) t q)
 
-  pub held-fit : sizes_fit t ≡ true → rows ≡ is_held s t
-  unfolding is_held table_held
-  held-fit e = rows_pass_lem (types_of s) words hw t.columns t.count ∙ sym (fit (well_formed (types_of s)) t e)
+  pub beside-tests : (lent : List ℕ) (sizes rows texts : Bool) → sizes ≡ sizes_fit t → rows ≡ rows_pass words t.columns t.count → texts ≡ texts_in lent t.columns t.count
+      → (sizes && (rows && texts)) ≡ is_beside s lent t
+  unfolding is_beside table_beside
+  beside-tests lent sizes rows texts e f g = ap₂ ◌&&◌ e (ap₂ ◌&&◌ f g) ∙ by (sizes_fit t) refl
+    where
+      by : (b : Bool) → sizes_fit t ≡ b → (b && (rows_pass words t.columns t.count && texts_in lent t.columns t.count)) ≡ not (is_none (kept_if (well_formed_with (types_of s) lent) (rows_lent t)))
+      by true q = beside-pass (types_of s) words hw t.columns lent t.count ∙ sym (fit (well_formed_with (types_of s) lent) t q)
+      by false q = sym (unfit (well_formed_with (types_of s) lent) t q)
 
-  module _ (lent : List ℕ) where
-    abbrev texts : Bool
-    texts = texts_pass lent t.columns.names t.columns.starts t.columns.lengths t.columns.decoded 0 t.count
-
-    pub beside-unfit : sizes_fit t ≡ false → false ≡ is_beside s lent t
-    unfolding is_beside table_beside
-    beside-unfit e = sym (unfit (well_formed_with (types_of s) lent) t e)
-
-    beside-fit : sizes_fit t ≡ true → (rows && texts) ≡ is_beside s lent t
-    unfolding is_beside table_beside
-    beside-fit e = beside-pass (types_of s) words hw t.columns lent t.count ∙ sym (fit (well_formed_with (types_of s) lent) t e)
-
-    pub beside-ill : sizes_fit t ≡ true → rows ≡ false → false ≡ is_beside s lent t
-    beside-ill e f = sym (ap (λ (b : Bool). b && texts) f) ∙ beside-fit e
-
-    pub beside-well : sizes_fit t ≡ true → rows ≡ true → texts ≡ is_beside s lent t
-    beside-well e f = sym (ap (λ (b : Bool). b && texts) f) ∙ beside-fit e
+  pub beside-held : (lent : List ℕ) (held texts : Bool) → held ≡ is_held s t → texts ≡ texts_in lent t.columns t.count → (held && texts) ≡ is_beside s lent t
+  beside-held lent held texts e f =
+      ap (λ (b : Bool). b && texts) (e ∙ sym (held-tests (sizes_fit t) (rows_pass words t.columns t.count) refl refl))
+      ∙ and_assoc (sizes_fit t) (rows_pass words t.columns t.count) texts ∙ beside-tests lent (sizes_fit t) (rows_pass words t.columns t.count) texts refl refl f

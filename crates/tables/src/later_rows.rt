@@ -3,8 +3,10 @@ ghost use Rattle.std.specs.Prelude.{◌≡◌, ◌≤◌};
 ghost use Rattle.table_laws.specs.passes.Passes.{later_fits};
 ghost use Rattle.text_spec.specs.Limits.{max_depth};
 
-use crate::{row_limits, row_tests};
-use names::bits;
+use crate::row_limits::{element_fits, text_fits};
+use crate::row_tests::is_text;
+use cells::columns::RowCells;
+use names::bits::has_bit;
 use text::limits;
 
 // One more than the highest number of a row.
@@ -18,25 +20,17 @@ pub fn later_fits(
     word: u64,
     depth: usize,
     number: u16,
-    code: u8,
-    start: u32,
-    length: u16,
-    decoded: u16,
+    row: RowCells,
 ) -> bool
     requires { depth ≤ max_depth }
-    ensures { result ≡ later_fits before text word depth number code start length decoded }
+    ensures { result ≡ later_fits before text word depth number row.name row.start row.size row.decoded }
 {
-    if number <= before {
-        return false;
-    }
-    if MAX_NODES <= number {
-        return false;
-    }
-    if !bits::has_bit(word, code as usize) {
-        return false;
-    }
-    if row_tests::is_text(code) {
-        return row_limits::text_fits(text, length, decoded);
-    }
-    row_limits::element_fits(depth, start, length, decoded)
+    before < number
+        && number < MAX_NODES
+        && has_bit(word, row.name as usize)
+        && if is_text(row.name) {
+            text_fits(text, row.size, row.decoded)
+        } else {
+            element_fits(depth, row.start, row.size, row.decoded)
+        }
 }

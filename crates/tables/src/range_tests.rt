@@ -8,12 +8,5 @@ use text::foreign_bytes::any_foreign;
 pub fn range_passes(lent: &[u8], start: usize, size: usize) -> bool
     ensures { result ≡ range_passes lent.now start size }
 {
-    if lent.len() < start {
-        return false;
-    }
-    if lent.len() - start < size {
-        return false;
-    }
-    let end = start + size;
-    !any_foreign(&lent[start..end])
+    start <= lent.len() && size <= lent.len() - start && !any_foreign(&lent[start..start + size])
 }

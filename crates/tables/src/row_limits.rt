@@ -13,16 +13,7 @@ const MAX_TEXT_BYTES: u16 = limits::MAX_TEXT_BYTES as u16;
 pub fn text_fits(text: bool, length: u16, decoded: u16) -> bool
     ensures { result ≡ (not text && (leb 1 length && (leb length max_text_bytes && (leb 1 decoded && leb decoded length)))) }
 {
-    if text {
-        return false;
-    }
-    if decoded < 1 {
-        return false;
-    }
-    if length < decoded {
-        return false;
-    }
-    length <= MAX_TEXT_BYTES
+    !text && 1 <= decoded && decoded <= length && length <= MAX_TEXT_BYTES
 }
 
 // Whether an element may stand under a parent of this depth, with these cells for a text that it has not.
@@ -30,14 +21,5 @@ pub fn element_fits(depth: usize, start: u32, length: u16, decoded: u16) -> bool
     requires { depth ≤ max_depth }
     ensures { result ≡ (leb (suc depth) max_depth && (eqb start 0 && (eqb length 0 && eqb decoded 0))) }
 {
-    if depth == MAX_DEPTH {
-        return false;
-    }
-    if start != 0 {
-        return false;
-    }
-    if length != 0 {
-        return false;
-    }
-    decoded == 0
+    depth < MAX_DEPTH && start == 0 && length == 0 && decoded == 0
 }

@@ -2,6 +2,7 @@
 ghost use Rattle.std.specs.Prelude.{◌≡◌};
 ghost use Rattle.table_laws.specs.passes.Passes.{is_text_code, root_fits};
 
+use cells::columns::RowCells;
 use names::MAX_ELEMENTS;
 
 // Whether the code is that of a text name.
@@ -11,24 +12,14 @@ pub fn is_text(code: u8) -> bool
     MAX_ELEMENTS <= code as usize
 }
 
-// Whether row 0 is the root element.
-pub fn root_fits(number: u16, code: u8, parent: u16, start: u32, length: u16, decoded: u16) -> bool
-    ensures { result ≡ root_fits number code parent start length decoded }
+// Whether row 0 is the root element, by its number and its other cells.
+pub fn root_fits(number: u16, row: RowCells) -> bool
+    ensures { result ≡ root_fits number row.name row.parent row.start row.size row.decoded }
 {
-    if number != 0 {
-        return false;
-    }
-    if code != 0 {
-        return false;
-    }
-    if parent != 0 {
-        return false;
-    }
-    if start != 0 {
-        return false;
-    }
-    if length != 0 {
-        return false;
-    }
-    decoded == 0
+    number == 0
+        && row.name == 0
+        && row.parent == 0
+        && row.start == 0
+        && row.size == 0
+        && row.decoded == 0
 }

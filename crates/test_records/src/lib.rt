@@ -1,14 +1,15 @@
 // For tests alone: what the functions for C of the other crates test_.. answer, and records of any bytes that tests hand in.
 #![tactic(auto)]
 
-use bundle::reader::{Answer, Bundle};
-use cells::verdicts::Verdict;
-use compiled_paths::CompiledPaths;
-use schema::{Judgement, Schema};
+use bundle::reader::Bundle;
+use compiled_paths::{Axis, CompiledPaths, NodeTest, Step};
+use schema::Schema;
+use text::refusals::Refusal;
 
-// The number of the refusal and its place, or 0 and 0; how many cells are answered; and a second number, where a function says which.
+// The number of the refusal and its place, or 0 and 0; how many cells are answered; and a second number, where a function says which. Numbers
+// and no Result: it is the C interface of the tests.
 #[repr(C)]
-#[derive(Drop)]
+#[derive(Clone, Copy)]
 pub struct Outcome {
     pub number: u64,
     pub place: u64,
@@ -16,12 +17,24 @@ pub struct Outcome {
     pub other: u64,
 }
 
-pub fn refused(number: u64, place: u64) -> Outcome {
-    Outcome {
-        number,
-        place,
-        size: 0,
-        other: 0,
+impl From<Refusal> for Outcome {
+    fn from(refusal: Refusal) -> Outcome {
+        Outcome {
+            number: refusal.reason.number(),
+            place: refusal.place as u64,
+            size: 0,
+            other: 0,
+        }
+    }
+}
+
+// So many cells answered, or a refusal.
+impl From<Result<usize, Refusal>> for Outcome {
+    fn from(answer: Result<usize, Refusal>) -> Outcome {
+        match answer {
+            Ok(size) => answered(size, 0),
+            Err(refusal) => Outcome::from(refusal),
+        }
     }
 }
 
@@ -34,54 +47,75 @@ pub fn answered(size: usize, other: u64) -> Outcome {
     }
 }
 
-pub fn answer_of(verdict: Verdict) -> Outcome {
-    Outcome {
-        number: verdict.number,
-        place: verdict.place,
-        size: verdict.size as u64,
-        other: 0,
+// What reading a text into a record answers: the length of what is handed back, and how much it holds or the refusal.
+pub fn of_record(answer: Result<usize, Refusal>, len: usize) -> Outcome {
+    match answer {
+        Ok(count) => answered(len, count as u64),
+        Err(refusal) => Outcome {
+            size: len as u64,
+            ..Outcome::from(refusal)
+        },
     }
 }
 
 // Copies as far as both go.
-pub fn copy(from: &[u8], out: &mut [u8]) {
-    let mut i = 0;
-    while i < from.len() {
-        if out.len() <= i {
-            return;
-        }
+// A loop and no `copy_from_slice`: in the C interface of the tests the lengths may differ.
+pub fn copy<T: Copy>(from: &[T], out: &mut [T]) {
+    for i in 0..from.len().min(out.len()) {
         out[i] = from[i];
-        i += 1;
     }
 }
 
-fn copy_numbers(from: &[u16], out: &mut [u16]) {
-    let mut i = 0;
-    while i < from.len() {
-        if out.len() <= i {
-            return;
-        }
-        out[i] = from[i];
-        i += 1;
+// The number of a step's axis, and 16 more at the last step of an alternative.
+fn axis_cell(step: Step) -> u8 {
+    let number = match step.axis {
+        Axis::SelfNode => 0,
+        Axis::Child => 1,
+        Axis::Descendant => 2,
+        Axis::DescendantOrSelf => 3,
+        Axis::Parent => 4,
+        Axis::Ancestor => 5,
+        Axis::AncestorOrSelf => 6,
+        Axis::Following => 7,
+        Axis::FollowingSibling => 8,
+        Axis::Preceding => 9,
+        Axis::PrecedingSibling => 10,
+    };
+    if step.ends_alternative {
+        number + 16
+    } else {
+        number
     }
 }
 
-// The columns of compiled paths.
+// The number of a step's test: 254 for any node, 255 for any text, of a name the index of its element.
+fn test_cell(step: Step) -> u8 {
+    match step.test {
+        NodeTest::Node => 254,
+        NodeTest::Text => 255,
+        NodeTest::Element(e) => e,
+    }
+}
+
+// Compiled paths as columns of numbers.
+// Loops by hand: in the C interface of the tests compiled paths are columns of numbers, of any length.
 pub fn copy_paths(
-    c: CompiledPaths,
+    c: &CompiledPaths,
     paths: &mut [u8],
     conditions: &mut [u16],
     axes: &mut [u8],
     tests: &mut [u8],
 ) {
-    let path_starts = c.paths;
-    copy(&path_starts, paths);
-    let condition_starts = c.conditions;
-    copy_numbers(&condition_starts, conditions);
-    let step_axes = c.axes;
-    copy(&step_axes, axes);
-    let step_tests = c.tests;
-    copy(&step_tests, tests);
+    for i in 0..c.paths.len().min(paths.len()) {
+        paths[i] = (c.paths[i] % 256) as u8;
+    }
+    copy(&c.conditions, conditions);
+    for k in 0..c.steps.len().min(axes.len()) {
+        axes[k] = axis_cell(c.steps[k]);
+    }
+    for k in 0..c.steps.len().min(tests.len()) {
+        tests[k] = test_cell(c.steps[k]);
+    }
 }
 
 // A record of any bytes and any length; past the bytes its cells are 0.
@@ -95,30 +129,4 @@ pub fn bundle_of(cells: &[u8], len: usize) -> Bundle {
     let mut bytes = [0u8; bundle::MAX_BYTES];
     copy(cells, &mut bytes);
     Bundle { bytes, len }
-}
-
-// A refusal with the length of what is handed back beside it.
-pub fn refused_with(number: u8, place: usize, len: usize) -> Outcome {
-    Outcome {
-        number: number as u64,
-        place: place as u64,
-        size: len as u64,
-        other: 0,
-    }
-}
-
-// What reading a schema answers beside the cells of its record.
-pub fn of_schema(judgement: Judgement, len: usize) -> Outcome {
-    match judgement {
-        Judgement::Accepted(n) => answered(len, n as u64),
-        Judgement::Refused(kind, place) => refused_with(kind.number(), place, len),
-    }
-}
-
-pub fn of_bundle(answer: Answer, len: usize) -> Outcome {
-    match answer {
-        Answer::Accepted(n) => answered(len, n as u64),
-        Answer::BadRecord => refused_with(1, 0, len),
-        Answer::Refused(kind, place) => refused_with(kind.number(), place, len),
-    }
 }

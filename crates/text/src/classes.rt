@@ -1,9 +1,9 @@
 // The classes of bytes, and what may stand where by its class.
 ghost use Rattle.std.specs.Prelude.{◌≡◌};
 ghost use Rattle.text_spec.specs.Bytes.{class_of};
-ghost use Rattle.text.specs.classes.Classes.{meant, joins_name, is_foreign_class, in_name};
+ghost use Rattle.text.specs.classes.Classes.{meant, joins_name, in_name};
 
-#[derive(Drop)]
+#[derive(Clone, Copy, Debug, PartialEq, Eq)]
 pub enum Class {
     Blank,
     Letter,
@@ -28,19 +28,6 @@ pub fn class_of(b: u8) -> Class
     }
 }
 
-pub fn foreign(class: Class) -> bool
-    ensures { result ≡ is_foreign_class (meant class) }
-{
-    match class {
-        Class::Foreign => true,
-        Class::Blank => false,
-        Class::Letter => false,
-        Class::Digit => false,
-        Class::Markup => false,
-        Class::Other => false,
-    }
-}
-
 // Whether a byte of this class may stand in a name, where digits may or may not, and this byte may or may not if it is another.
 pub fn in_name(class: Class, digits: bool, other: bool) -> bool
     ensures { result ≡ in_name (meant class) digits other }
@@ -49,9 +36,7 @@ pub fn in_name(class: Class, digits: bool, other: bool) -> bool
         Class::Letter => true,
         Class::Digit => digits,
         Class::Other => other,
-        Class::Blank => false,
-        Class::Markup => false,
-        Class::Foreign => false,
+        Class::Blank | Class::Markup | Class::Foreign => false,
     }
 }
 
@@ -59,11 +44,5 @@ pub fn in_name(class: Class, digits: bool, other: bool) -> bool
 pub fn joins_name(b: u8) -> bool
     ensures { result ≡ joins_name b }
 {
-    if b == b'-' {
-        return true;
-    }
-    if b == b'.' {
-        return true;
-    }
-    b == b'_'
+    matches!(b, b'-' | b'.' | b'_')
 }

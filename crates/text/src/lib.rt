@@ -8,29 +8,25 @@ pub mod limits;
 pub mod lookup;
 pub mod name_bytes;
 pub mod name_words;
+pub mod refusals;
 pub mod scanning;
 
 ghost use Rattle.std.specs.Prelude.{◌≡◌};
 ghost use Rattle.text_spec.specs.Bytes.{is_blank, is_foreign, starts_name, continues_name};
-ghost use Rattle.text.specs.Places.{foreign_place};
+ghost use Rattle.text.specs.lookup.Lookup.{found};
+ghost use Rattle.text_spec.specs.Lists.{first, places_from};
 
 pub fn is_blank(b: u8) -> bool
     ensures { result ≡ is_blank b }
 {
-    if b == b' ' {
-        return true;
-    }
-    if b == b'\t' {
-        return true;
-    }
-    b == b'\n'
+    matches!(b, b' ' | b'\t' | b'\n')
 }
 
-// A byte that fails refusal 3.
+// A byte that fails refusal 3. By its values and not by its class, since `any_foreign` asks it of every byte.
 pub fn is_foreign(b: u8) -> bool
     ensures { result ≡ is_foreign b }
 {
-    classes::foreign(classes::class_of(b))
+    !matches!(b, b'\t' | b'\n' | b' '..=b'~')
 }
 
 pub fn starts_name(b: u8) -> bool
@@ -45,19 +41,12 @@ pub fn continues_name(b: u8) -> bool
     classes::in_name(classes::class_of(b), true, classes::joins_name(b))
 }
 
-// The place of the first byte that fails refusal 3, or the length. Most texts have no such byte, and the first test is the quicker one.
-pub fn first_foreign(text: &[u8]) -> usize
-    ensures { result ≡ foreign_place text.now }
+// The place of the first byte that fails refusal 3. Most texts have no such byte, and the first test is the quicker one.
+pub fn first_foreign(text: &[u8]) -> Option<usize>
+    ensures { found result ≡ first (places_from 0 is_foreign text.now) }
 {
     if !foreign_bytes::any_foreign(text) {
-        return text.len();
+        return None;
     }
-    let mut i = 0;
-    while i < text.len() {
-        if is_foreign(text[i]) {
-            return i;
-        }
-        i += 1;
-    }
-    i
+    text.iter().position(|b| is_foreign(*b))
 }

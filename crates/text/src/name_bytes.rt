@@ -1,39 +1,44 @@
-// The bytes of a name at a place of a text, and whether two names are the same.
-ghost use Rattle.std.specs.Prelude.{◌≡◌, ◌+◌, length};
+// The name at a place of a text, and whether it is a given one.
+ghost use Rattle.std.specs.Prelude.{◌≡◌, ◌==◌, drop, length};
+ghost use Rattle.text.specs.name_bytes.Names.{IsName};
 ghost use Rattle.text_spec.specs.Lists.{same_bytes};
 ghost use Rattle.text_spec.specs.Scans.{name_at};
-ghost use Rattle.text.specs.name_bytes.Names.{name_byte};
 
-// The byte at i if a name goes on with it, or 0.
-pub fn name_byte(s: &[u8], i: usize) -> u8
-    ensures { result ≡ name_byte s.now i }
+// The text from place p on, empty past its end.
+fn rest_at(s: &[u8], p: usize) -> &[u8]
+    ensures { result.now ≡ drop p s.now }
 {
-    if s.len() <= i {
-        return 0;
-    }
-    let b = s[i];
-    if crate::continues_name(b) {
-        return b;
-    }
-    0
+    s.get(p..).unwrap_or(&[])
 }
 
-// Whether the name at place q of s is the one of t that starts at p and ends before `end`.
-pub fn same_name(t: &[u8], p: usize, end: usize, s: &[u8], q: usize) -> bool
-    requires { end ≡ p + length (name_at t.now p) }
-    ensures { result ≡ same_bytes (name_at t.now p) (name_at s.now q) }
+// The name at place p.
+pub fn name_at(s: &[u8], p: usize) -> &[u8]
+    ensures value { result.now ≡ name_at s.now p }
+    ensures name { IsName result.now }
 {
-    let mut i = p;
-    let mut j = q;
-    while i < end {
-        if s.len() <= j {
-            return false;
-        }
-        if t[i] != s[j] {
-            return false;
-        }
-        i += 1;
-        j += 1;
+    let rest = rest_at(s, p);
+    let len = rest
+        .iter()
+        .take_while(|b| crate::continues_name(**b))
+        .count();
+    &rest[..len]
+}
+
+// Whether no byte of a name stands at place k.
+fn ends_at(s: &[u8], k: usize) -> bool
+    ensures { result ≡ (length (name_at s.now k) == 0) }
+{
+    match s.get(k) {
+        Some(b) => !crate::continues_name(*b),
+        None => true,
     }
-    name_byte(s, j) == 0
+}
+
+// Whether the name at place p is the given one.
+pub fn is_named(s: &[u8], p: usize, name: &[u8]) -> bool
+    requires { IsName name.now }
+    ensures { result ≡ same_bytes name.now (name_at s.now p) }
+{
+    let rest = rest_at(s, p);
+    rest.starts_with(name) && ends_at(rest, name.len())
 }

@@ -1,7 +1,7 @@
 // Names of at most 31 bytes as four words, by value.
-ghost use Rattle.std.specs.Prelude.{List, [], ◌∷◌, ◌++◌, ◌≡◌, ℕ, ◌<◌, length};
+ghost use Rattle.std.specs.Prelude.{List, [], ◌∷◌, ◌++◌, ◌≡◌, ℕ, length};
 ghost use Rattle.text_spec.specs.Lists.{same_bytes};
-ghost use Rattle.text.specs.name_words.Words.{words_of, name_at, Spells};
+ghost use Rattle.text.specs.name_words.Words.{words_of, Spells};
 
 // The bytes in groups of eight, the last group in `a` as a number to the base 256, the group before it in `b`, and so on.
 #[derive(Clone, Copy)]
@@ -10,12 +10,6 @@ pub struct Name {
     pub b: u64,
     pub c: u64,
     pub d: u64,
-}
-
-fn wide(x: u8) -> u64
-    ensures { result ≡ x }
-{
-    x as u64
 }
 
 impl Name {
@@ -35,7 +29,7 @@ impl Name {
         ensures { result ≡ words_of (x ∷ []) }
     {
         Name {
-            a: wide(x),
+            a: u64::from(x),
             b: 0,
             c: 0,
             d: 0,
@@ -48,37 +42,25 @@ impl Name {
     {
         if len % 8 == 0 {
             return Name {
-                a: wide(x),
+                a: u64::from(x),
                 b: self.a,
                 c: self.b,
                 d: self.c,
             };
         }
         Name {
-            a: self.a % 72057594037927936 * 256 + wide(x),
+            a: self.a % 72057594037927936 * 256 + u64::from(x),
             b: self.b,
             c: self.c,
             d: self.d,
         }
     }
 
+    // By exclusive or and no `==` of the fields: one branch for the four words.
     pub fn same(self, other: Name) -> bool
         ensures { (u v : List ℕ) → Spells self u → Spells other v → result ≡ same_bytes u v }
     {
         let x = (self.a ^ other.a) | (self.b ^ other.b) | (self.c ^ other.c) | (self.d ^ other.d);
-        x == 0
-    }
-
-    // Whether this is the name at cell e of a table of words, four for each name.
-    pub fn is(self, table: &[u64; 128], e: usize) -> bool
-        requires { e < 32 }
-        ensures { (u v : List ℕ) → Spells self u → Spells (name_at table.now e) v → result ≡ same_bytes u v }
-    {
-        let k = e * 4;
-        let x = (self.a ^ table[k])
-            | (self.b ^ table[k + 1])
-            | (self.c ^ table[k + 2])
-            | (self.d ^ table[k + 3]);
         x == 0
     }
 }

@@ -5,14 +5,14 @@ use Rattle.std.specs.Prelude.{◌≡◌, ℕ, ◌<◌, length}
 use Rattle.std.proofs.Math.Path.{sym, ap}
 use Rattle.std.proofs.Common.{◌∙◌}
 use Rattle.std.proofs.Math.ListN.{replicate}
-use Rattle.axis_passes.specs.code_ranges.Tests.{InRange, range-test}
-use Rattle.axis_passes.specs.steps.Tests.{names_in}
+use Rattle.axis_passes.specs.name_tests.Tests.{names_in, TestPass}
 use Rattle.cells.specs.row_sets.Columns.{RowSet, is_marked, marks, OnlyMarks, union, intersection, marks-length, only-marks, no-row-marked}
-use Rattle.compiled_paths.specs.Columns.{written_of, test_of}
+use Rattle.compiled_paths.specs.Steps.{written_axis, node_test}
+use Rattle.compiled_paths.specs.declared.Step.{Step}
 use Rattle.path_laws.specs.Inverses.{inverse_written}
-use Rattle.path_spec.specs.Paths.{Axis, self, descendant_or_self, ancestor_or_self, WrittenAxis, along, following, following_sibling, preceding, preceding_sibling}
+use Rattle.path_spec.specs.Paths.{Axis, descendant_or_self, ancestor_or_self, WrittenAxis, along, following, following_sibling, preceding, preceding_sibling}
 use Rattle.selection_laws.specs.marks.Parents.{image_marks}
-use Rattle.selection_laws.specs.marks.Passes.{AxisPass, SameLength, FilterPass, self-image, range_marks, fill-marks}
+use Rattle.selection_laws.specs.marks.Passes.{AxisPass, SameLength, fill-marks}
 use Rattle.selection_laws.specs.marks.Roots.{written_none}
 use Rattle.selection_laws.specs.marks.Selection.{written_marks, inverse_marks, no_marks, test_marks}
 use Rattle.selection_laws.specs.marks.Siblings.{following_sibling_marks, preceding_sibling_marks}
@@ -21,14 +21,14 @@ use Rattle.table_laws.specs.Parents.{ParentsBefore}
 use Rattle.text_spec.specs.Lists.{any_below}
 
 -- ---- definitions
-module _ (ps codes : List ℕ) (axis test : ℕ) where
+module _ (ps codes : List ℕ) (p : Step) where
   -- the rows that a step leads to from the marked ones, before its condition
   unfoldable pub forward_marks : List ℕ → List ℕ
-  forward_marks m = intersection (written_marks (written_of axis) ps m) (test_marks (test_of test) (names_in codes))
+  forward_marks m = intersection (written_marks (written_axis p.axis) ps m) (test_marks (node_test p.test) (names_in codes))
 
   -- the rows from which a step leads to a marked one
   unfoldable pub backward_marks : List ℕ → List ℕ
-  backward_marks m = inverse_marks (written_of axis) ps (intersection m (test_marks (test_of test) (names_in codes)))
+  backward_marks m = inverse_marks (written_axis p.axis) ps (intersection m (test_marks (node_test p.test) (names_in codes)))
 
 -- ---- what the passes ask
 -- the columns of parents and of names of a table that is not empty
@@ -47,10 +47,6 @@ pub record StepPass (ps codes m out : List ℕ) : Type 0 where
   pub table : TableColumns ps codes
   pub column : MarkColumn ps m
   pub room : length out ≡ length ps
-
-pub record TestPass (codes m out : List ℕ) : Type 0 where
-  pub columns : FilterPass codes m out
-  pub coded : Coded codes
 
 -- ---- columns stay columns
 pub marks-column : (ps : List ℕ) (f : RowSet) → MarkColumn ps (marks (length ps) f)
@@ -84,29 +80,18 @@ module _ (ps m k : List ℕ) (c : MarkColumn ps m) where
   unfolding intersection
   intersection-column = record { marked = only-marks (length m) _; size = marks-length (length m) _ ∙ c.size }
 
-pub forward-column : (ps codes : List ℕ) (axis test : ℕ) (m : List ℕ) → MarkColumn ps (forward_marks ps codes axis test m)
+pub forward-column : (ps codes : List ℕ) (p : Step) (m : List ℕ) → MarkColumn ps (forward_marks ps codes p m)
 unfolding forward_marks
-forward-column ps codes axis test m = intersection-column ps (written_marks (written_of axis) ps m) (test_marks (test_of test) (names_in codes)) (written-column (written_of axis) ps m)
+forward-column ps codes p m = intersection-column ps (written_marks (written_axis p.axis) ps m) (test_marks (node_test p.test) (names_in codes)) (written-column (written_axis p.axis) ps m)
 
-pub backward-column : (ps codes : List ℕ) (axis test : ℕ) (m : List ℕ) → MarkColumn ps (backward_marks ps codes axis test m)
+pub backward-column : (ps codes : List ℕ) (p : Step) (m : List ℕ) → MarkColumn ps (backward_marks ps codes p m)
 unfolding backward_marks
-backward-column ps codes axis test m = written-column (inverse_written (written_of axis)) ps (intersection m (test_marks (test_of test) (names_in codes)))
+backward-column ps codes p m = written-column (inverse_written (written_axis p.axis)) ps (intersection m (test_marks (node_test p.test) (names_in codes)))
 
 pub columns-same-length : {ps m out : List ℕ} → MarkColumn ps m → MarkColumn ps out → SameLength m out
 columns-same-length c d = record { marked = c.marked; marks-out = d.marked; size = c.size ∙ sym d.size }
 
--- ---- axes by their numbers
-pub axis-number : (c k : ℕ) (ps m out : List ℕ) → c ≡ k → out ≡ written_marks (written_of k) ps m → out ≡ written_marks (written_of c) ps m
-axis-number c k ps m out e h = rw e h
-
-pub image-kept : (c : ℕ) (ps m was out : List ℕ) → AxisPass ps m was → written_of c ≡ along self → out ≡ m → out ≡ written_marks (written_of c) ps m
-image-kept c ps m was out h e d = rw e (d ∙ self-image ps m was h)
-
 -- ---- a test
-pub tested : (test a b : ℕ) (codes m y : List ℕ) → Coded codes → InRange a b (test_of test) → y ≡ intersection m (range_marks a b codes)
-    → y ≡ intersection m (test_marks (test_of test) (names_in codes))
-tested test a b codes m y h r e = e ∙ ap (intersection m) (range-test a b (test_of test) codes r h)
-
 pub column-test : {ps codes m out : List ℕ} → TableColumns ps codes → MarkColumn ps m → length out ≡ length ps → TestPass codes m out
 column-test t c e =
     record { columns = record { marked = c.marked; size = c.size ∙ sym e; codes-size = t.size ∙ sym e }; coded = t.coded }
@@ -116,21 +101,21 @@ module _ (ps codes m out : List ℕ) (h : StepPass ps codes m out) where
   pub pass-axis : AxisPass ps m out
   pass-axis = record { before = h.table.before; filled = h.table.filled; marked = h.column.marked; size = h.column.size; room = h.room }
 
-  pub moved-test : (axis : ℕ) (x y : List ℕ) → x ≡ written_marks (written_of axis) ps m → length y ≡ length m → TestPass codes x y
-  moved-test axis x y e d = column-test h.table (rw e (written-column (written_of axis) ps m)) (d ∙ h.column.size)
+  pub moved-test : (p : Step) (x y : List ℕ) → x ≡ written_marks (written_axis p.axis) ps m → length y ≡ length m → TestPass codes x y
+  moved-test p x y e d = column-test h.table (rw e (written-column (written_axis p.axis) ps m)) (d ∙ h.column.size)
 
-  pub moved : (axis test : ℕ) (x y : List ℕ) → x ≡ written_marks (written_of axis) ps m → y ≡ intersection x (test_marks (test_of test) (names_in codes))
-      → y ≡ forward_marks ps codes axis test m
+  pub moved : (p : Step) (x y : List ℕ) → x ≡ written_marks (written_axis p.axis) ps m → y ≡ intersection x (test_marks (node_test p.test) (names_in codes))
+      → y ≡ forward_marks ps codes p m
   unfolding forward_marks
-  moved axis test x y e f = f ∙ ap (λ (l : List ℕ). intersection l (test_marks (test_of test) (names_in codes))) e
+  moved p x y e f = f ∙ ap (λ (l : List ℕ). intersection l (test_marks (node_test p.test) (names_in codes))) e
 
   -- ---- back: the test, then the inverse axis
   pub pass-test : TestPass codes m out
   pass-test = column-test h.table h.column h.room
 
-  module _ (test : ℕ) (k : List ℕ) (e : k ≡ intersection m (test_marks (test_of test) (names_in codes))) where
+  module _ (p : Step) (k : List ℕ) (e : k ≡ intersection m (test_marks (node_test p.test) (names_in codes))) where
     tested-column : MarkColumn ps k
-    tested-column = rw e (intersection-column ps m (test_marks (test_of test) (names_in codes)) h.column)
+    tested-column = rw e (intersection-column ps m (test_marks (node_test p.test) (names_in codes)) h.column)
 
     pub tested-marks : OnlyMarks k
     tested-marks = tested-column.marked
@@ -145,14 +130,14 @@ module _ (ps codes m out : List ℕ) (h : StepPass ps codes m out) where
           room = h.column.size;
         }
 
-    pub moved_back : (axis i : ℕ) (x : List ℕ) → written_of i ≡ inverse_written (written_of axis) → x ≡ written_marks (written_of i) ps k → x ≡ backward_marks ps codes axis test m
+    pub moved_back : (a : WrittenAxis) (x : List ℕ) → a ≡ inverse_written (written_axis p.axis) → x ≡ written_marks a ps k → x ≡ backward_marks ps codes p m
     unfolding backward_marks
-    moved_back axis i x d f =
-        f ∙ ap (written_marks (written_of i) ps) e ∙ ap (λ (a : WrittenAxis). written_marks a ps (intersection m (test_marks (test_of test) (names_in codes)))) d
+    moved_back a x d f =
+        f ∙ ap (written_marks a ps) e ∙ ap (λ (b : WrittenAxis). written_marks b ps (intersection m (test_marks (node_test p.test) (names_in codes)))) d
 
     -- no marked row passes the test
-    pub none-back : (axis : ℕ) (x : List ℕ) → any_below (length k) (is_marked k) ≡ false → x ≡ replicate (length m) 0 → x ≡ backward_marks ps codes axis test m
+    pub none-back : (x : List ℕ) → any_below (length k) (is_marked k) ≡ false → x ≡ replicate (length m) 0 → x ≡ backward_marks ps codes p m
     unfolding backward_marks
-    none-back axis x d f =
+    none-back x d f =
         f ∙ ap (λ (n : ℕ). replicate n 0) h.column.size ∙ fill-marks (length ps) false
-        ∙ sym (ap (written_marks (inverse_written (written_of axis)) ps) (sym e ∙ no-row-marked k tested-marks d ∙ ap no_marks tested-column.size) ∙ written_none (inverse_written (written_of axis)) ps)
+        ∙ sym (ap (written_marks (inverse_written (written_axis p.axis)) ps) (sym e ∙ no-row-marked k tested-marks d ∙ ap no_marks tested-column.size) ∙ written_none (inverse_written (written_axis p.axis)) ps)

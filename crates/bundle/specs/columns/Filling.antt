@@ -1,45 +1,43 @@
--- Compiled paths, column by column, from what was noted of a bundle text under the names of a schema's elements.
-use Rattle.std.specs.Prelude.{List, map, ◌≡◌, ℕ, ◌+◌, ◌≤◌, ◌<◌, length, drop, get_or, replicate}
+-- Compiled paths from what was noted of a bundle text, under the names of a schema's elements.
+use Rattle.std.specs.Prelude.{List, map, ℕ, ◌≤◌, length, take, replicate, Option, Some, None, Result, Ok, Err}
 use Rattle.std.proofs.lemmas.List.Edits.{sets}
-use Rattle.bundle.specs.declared.columns.Filled.{Filled}
-use Rattle.bundle.specs.last_steps.Marks.{marked}
-use Rattle.bundle.specs.names_in_tests.Steps.{earliest_of, axis_cell, test_cell, lost_cell}
-use Rattle.bundle.specs.step_starts.Starts.{bracket_start}
-use Rattle.compiled_paths.specs.Paths.{AtMost}
-use Rattle.compiled_paths.specs.Sizes.{written_steps, all_alternatives, inner_steps, all_steps}
+use Rattle.bundle_text.specs.declared.notes.Notes.{Notes}
+use Rattle.bundle_text.specs.declared.steps.StepRead.{StepRead}
+use Rattle.bundle.specs.names_in_tests.Steps.{earliest, earliest_of, step_cell, lost_cell}
+use Rattle.compiled_paths.specs.Sizes.{written_steps, inner_steps, all_steps}
+use Rattle.compiled_paths.specs.Steps.{no_step}
 use Rattle.compiled_paths.specs.declared.CompiledPaths.{CompiledPaths}
-use Rattle.text_spec.specs.Limits.{max_declarations, max_paths}
+use Rattle.compiled_paths.specs.declared.Step.{Step}
+use Rattle.text_spec.specs.Limits.{max_declarations}
 
--- what a column has of the steps outside brackets and of those in them
-abbrev pub step_column : (ℕ → ℕ) → List ℕ → List ℕ → List ℕ
-step_column f outers cells = sets (sets (replicate all_steps 0) 0 (map f outers)) written_steps (map f cells)
+-- the steps outside brackets and in them
+abbrev pub outer_read : Notes → List StepRead
+outer_read N = take N.outer_count N.outer
 
--- `ways` has 0 and then the ends of the alternatives
-abbrev pub filled_paths : List (List ℕ) → List ℕ → ℕ → List ℕ → List ℕ → List ℕ → List ℕ → List ℕ → CompiledPaths
-filled_paths names text count outers cells paths conditions ways =
-    record {
-      count = count;
-      paths = paths;
-      conditions = map (bracket_start ways) conditions;
-      axes = marked (step_column axis_cell outers cells) (drop 1 ways);
-      tests = step_column (test_cell names text) outers cells;
-    }
+abbrev pub inner_read : Notes → List StepRead
+inner_read N = take N.inner_count N.inner
 
-unfoldable pub filled : List (List ℕ) → List ℕ → ℕ → List ℕ → List ℕ → List ℕ → List ℕ → List ℕ → Filled
-filled names text count outers cells paths conditions ways =
-    record {
-      paths = filled_paths names text count outers cells paths conditions ways;
-      lost = earliest_of (earliest_of 0 (map (lost_cell names text) outers)) (map (lost_cell names text) cells);
-    }
+module _ (names : List (List ℕ)) (text : List ℕ) (N : Notes) where
+  -- the steps, those in brackets from the 128th cell on
+  abbrev pub filled_steps : List Step
+  filled_steps = sets (sets (replicate all_steps no_step) 0 (map (step_cell names text) (outer_read N))) written_steps (map (step_cell names text) (inner_read N))
 
--- what was noted has room in the columns
-pub record Room (names outers cells paths conditions ways : List ℕ) : Type 0 where
+  abbrev pub filled_paths : CompiledPaths
+  filled_paths = record { count = N.path_count; paths = N.paths; conditions = N.conditions; steps = filled_steps }
+
+  -- the least place of a name that no element has
+  abbrev pub lost : Option ℕ
+  lost = earliest (earliest_of None (map (lost_cell names text) (outer_read N))) (earliest_of None (map (lost_cell names text) (inner_read N)))
+
+  abbrev pub unless_lost : Option ℕ → Result CompiledPaths ℕ
+  unless_lost None = Ok filled_paths
+  unless_lost (Some p) = Err p
+
+  abbrev pub filled : Result CompiledPaths ℕ
+  filled = unless_lost lost
+
+-- what was noted has room among the steps
+pub record Room (names : List ℕ) (N : Notes) : Type 0 where
   pub few-names : length names ≤ max_declarations
-  pub few-outers : length outers ≤ written_steps
-  pub few-cells : length cells ≤ inner_steps
-  pub paths-size : length paths ≡ max_paths + 1
-  pub conditions-size : length conditions ≡ written_steps + 1
-  pub paths-small : AtMost written_steps paths
-  pub few-ways : length ways ≤ all_alternatives + 1
-  pub conditions-small : (k : ℕ) → get_or conditions k 0 < length ways
-  pub ways-small : AtMost inner_steps ways
+  pub few-outer : N.outer_count ≤ written_steps
+  pub few-inner : N.inner_count ≤ inner_steps

@@ -1,15 +1,16 @@
 -- The first path that passes a limit (9), against the refusals that the definition lists, and what holds where none does.
-use Rattle.std.specs.Prelude.{Bool, true, false, cond, ◌≡◌, refl, ℕ, suc, ◌+◌, ◌*◌, ◌≤◌, ◌<◌, leb, ltb, length}
+use Rattle.std.specs.Prelude.{Bool, true, false, cond, ◌≡◌, refl, ℕ, suc, ◌+◌, ◌*◌, ◌≤◌, ◌<◌, leb, ltb, length, Option, Some, None}
 use mathlib.Core.List.Memᴰ.{head as here}
 use mathlib.Core.List.Memᴰ.{tail as there}
-use mathlib.Core.List.{List, [], ◌∷◌, ◌++◌, map, append_assoc, Memᴰ as In}
+use mathlib.Core.List.{List, [], ◌∷◌, ◌++◌, map, Memᴰ as In}
 use Rattle.std.proofs.Common.{sym, ap, subst, ◌∙◌, arith, leb-false, ltb-false, length-append}
 use Rattle.std.proofs.lemmas.List.{length-map}
-use Rattle.bundle_text.specs.alternatives.Conditions.{cells_of}
-use Rattle.bundle_text.specs.alternatives.Laws.{cells-append}
-use Rattle.bundle_text.specs.paths.Readings.{LineCells, path_noted, all_steps, first_over}
+use Rattle.bundle_text.specs.declared.steps.StepRead.{StepRead}
+use Rattle.bundle_text.specs.notes.Laws.{cells-append, gather_append}
+use Rattle.bundle_text.specs.notes.Notes.{cells_of, Written, all_paths, Line, all_steps}
+use Rattle.bundle_text.specs.paths.Readings.{path_noted, first_over}
 use Rattle.bundle_text.specs.steps.Readings.{plain_noted}
-use Rattle.bundle_text.specs.written_steps.Readings.{Written, step_noted, condition_of, all_paths}
+use Rattle.bundle_text.specs.written_steps.Readings.{step_noted, condition_of}
 use Rattle.bundle.specs.laws.Order.{Later, later-none, later-all, later-append, Least}
 use Rattle.compiled_paths.specs.Sizes.{written_steps, all_alternatives, inner_steps, steps_of_all, bracketed_steps, steps_of, steps-few}
 use Rattle.path_laws.specs.Grammar.Sound.{parse-sound}
@@ -23,6 +24,9 @@ use Rattle.text_spec.specs.Limits.{max_steps, max_alternatives, max_paths, max_p
 use Rattle.text_spec.specs.Lists.{any_of, gather}
 use Rattle.text_spec.specs.Machines.{spells}
 use Rattle.text_spec.specs.Refusals.{Reason, number_of, Refusal, at, given, over_path_limit}
+
+pub none_some : {x : ℕ} → ◌≡◌ {A = Option ℕ} None (Some x) → ⊥
+none_some e = cc
 
 -- ---- paths stand one after the other
 abbrev Rising : ℕ → List PathRead → Type 0
@@ -53,14 +57,14 @@ limits-after i k (p ∷ ps) r g m =
     pick false h n = h n
 
 -- the first path over a limit has the least place
-limits-first : (i k : ℕ) (ps : List PathRead) → Rising k ps → (m : ℕ) → first_over i ps ≡ m + 1 → Least over_path_limit m (limit_refusals i ps)
-limits-first i k [] r m e = absurd (omega arith)
+limits-first : (i k : ℕ) (ps : List PathRead) → Rising k ps → (m : ℕ) → first_over i ps ≡ Some m → Least over_path_limit m (limit_refusals i ps)
+limits-first i k [] r m e = absurd (none_some e)
 limits-first i k (p ∷ ps) r m e = pick (passes_limit i p) (λ f. limits-first (suc i) p.place ps r.1 m f) e
   where
-    pick : (b : Bool) → (first_over (suc i) ps ≡ m + 1 → Least over_path_limit m (limit_refusals (suc i) ps)) → cond b (p.place + 1) (first_over (suc i) ps) ≡ m + 1
+    pick : (b : Bool) → (first_over (suc i) ps ≡ Some m → Least over_path_limit m (limit_refusals (suc i) ps)) → cond b (Some p.place) (first_over (suc i) ps) ≡ Some m
         → Least over_path_limit m (given b (at over_path_limit p.place) ++ limit_refusals (suc i) ps)
     pick true h f =
-        let z : m ≡ p.place = omega arith in
+        let z : m ≡ p.place = cc in
         record {
           listed = here (ap (at over_path_limit) z);
           only = λ g n. (this g n).0;
@@ -72,13 +76,13 @@ limits-first i k (p ∷ ps) r m e = pick (passes_limit i p) (λ f. limits-first 
         this g (there n) = limits-after (suc i) p.place ps r.1 g n
     pick false h f = h f
 
-limits-none : (i : ℕ) (ps : List PathRead) → first_over i ps ≡ 0 → limit_refusals i ps ≡ []
+limits-none : (i : ℕ) (ps : List PathRead) → first_over i ps ≡ None → limit_refusals i ps ≡ []
 limits-none i [] e = refl
 limits-none i (p ∷ ps) e = pick (passes_limit i p) (limits-none (suc i) ps) e
   where
-    pick : (b : Bool) → (first_over (suc i) ps ≡ 0 → limit_refusals (suc i) ps ≡ []) → cond b (p.place + 1) (first_over (suc i) ps) ≡ 0
+    pick : (b : Bool) → (first_over (suc i) ps ≡ None → limit_refusals (suc i) ps ≡ []) → cond b (Some p.place) (first_over (suc i) ps) ≡ None
         → given b (at over_path_limit p.place) ++ limit_refusals (suc i) ps ≡ []
-    pick true h f = absurd (omega arith)
+    pick true h f = absurd (none_some (sym f))
     pick false h f = h f
 
 pub limits-later : (r : Reason) → number_of r < number_of over_path_limit → (i : ℕ) (ps : List PathRead) → Later r (limit_refusals i ps)
@@ -90,18 +94,14 @@ limits-later r h i (p ∷ ps) = later-append r (given (passes_limit i p) (at ove
     one false = later-none r
 
 module _ (text : List ℕ) (ps : List PathRead) (e : parse text ≡ spells ps) where
-  pub over_first : (m : ℕ) → first_over 0 ps ≡ m + 1 → Least over_path_limit m (limit_refusals 0 ps)
+  pub over_first : (m : ℕ) → first_over 0 ps ≡ Some m → Least over_path_limit m (limit_refusals 0 ps)
   over_first = limits-first 0 0 ps (bundle-rising (parse-sound e))
 
-  pub over_none : first_over 0 ps ≡ 0 → limit_refusals 0 ps ≡ []
+  pub over_none : first_over 0 ps ≡ None → limit_refusals 0 ps ≡ []
   over_none = limits-none 0 ps
 
 -- ---- how much there is where no limit is passed
-pub gather_append : {A B : Type 0} (f : A → List B) (xs ys : List A) → gather f (xs ++ ys) ≡ gather f xs ++ gather f ys
-gather_append f [] ys = refl
-gather_append f (x ∷ xs) ys = ap (λ l. f x ++ l) (gather_append f xs ys) ∙ sym (append_assoc (f x) (gather f xs) (gather f ys))
-
-condition-count : (s : List ℕ) (qs : List (List ℕ)) → length (condition_paths (condition_of s qs)) ≡ length qs
+condition-count : (s : List ℕ) (qs : List (List StepRead)) → length (condition_paths (condition_of s qs)) ≡ length qs
 condition-count s [] = refl
 condition-count s (q ∷ qs) = length-map (q ∷ qs) (map (plain_noted s))
 
@@ -116,18 +116,18 @@ alternatives-few s (w ∷ ws) e =
     omega (arith, condition-count s w.paths, length-append w.paths (all_paths ws))
 
 -- so many paths, steps and alternatives, where the first path has i before it
-lines-few : (s : List ℕ) (i : ℕ) (ls : List LineCells) → first_over i (map (path_noted s) ls) ≡ 0 → i ≤ max_paths
+lines-few : (s : List ℕ) (i : ℕ) (ls : List Line) → first_over i (map (path_noted s) ls) ≡ None → i ≤ max_paths
     → (i + length ls ≤ max_paths) × (length (all_steps ls) ≤ length ls * max_steps) × (length (all_paths (all_steps ls)) ≤ length (all_steps ls) * max_alternatives)
 lines-few s i [] e h = (omega arith, omega arith, omega arith)
 lines-few s i (l ∷ ls) e h = pick (passes_limit i (path_noted s l)) refl (λ f k. lines-few s (suc i) ls f k) e
   where
     pick : (b : Bool) → passes_limit i (path_noted s l) ≡ b
-        → (first_over (suc i) (map (path_noted s) ls) ≡ 0 → suc i ≤ max_paths
+        → (first_over (suc i) (map (path_noted s) ls) ≡ None → suc i ≤ max_paths
         → (suc i + length ls ≤ max_paths) × (length (all_steps ls) ≤ length ls * max_steps) × (length (all_paths (all_steps ls)) ≤ length (all_steps ls) * max_alternatives))
-        → cond b (l.place + 1) (first_over (suc i) (map (path_noted s) ls)) ≡ 0
+        → cond b (Some l.place) (first_over (suc i) (map (path_noted s) ls)) ≡ None
         → (i + length (l ∷ ls) ≤ max_paths) × (length (all_steps (l ∷ ls)) ≤ length (l ∷ ls) * max_steps)
         × (length (all_paths (all_steps (l ∷ ls))) ≤ length (all_steps (l ∷ ls)) * max_alternatives)
-    pick true p more f = absurd (omega arith)
+    pick true p more f = absurd (none_some (sym f))
     pick false p more f =
         let z = or-false (leb max_paths i) _ p in
         let y = or-false (ltb max_steps (length (map (step_noted s) l.steps))) _ z.1 in
@@ -146,11 +146,11 @@ lines-few s i (l ∷ ls) e h = pick (passes_limit i (path_noted s l)) refl (λ f
         (omega arith, omega arith, omega arith)
 
 -- the steps in brackets
-inner-count : (s : List ℕ) (qs : List (List ℕ)) → steps_of_all (map (map (plain_noted s)) qs) ≡ length (cells_of qs)
+inner-count : (s : List ℕ) (qs : List (List StepRead)) → steps_of_all (map (map (plain_noted s)) qs) ≡ length (cells_of qs)
 inner-count s [] = refl
 inner-count s (q ∷ qs) = let e = inner-count s qs in omega (arith, length-map q (plain_noted s), length-append q (cells_of qs))
 
-condition-inner : (s : List ℕ) (qs : List (List ℕ)) → steps_of_all (condition_paths (condition_of s qs)) ≡ length (cells_of qs)
+condition-inner : (s : List ℕ) (qs : List (List StepRead)) → steps_of_all (condition_paths (condition_of s qs)) ≡ length (cells_of qs)
 condition-inner s [] = refl
 condition-inner s (q ∷ qs) = inner-count s (q ∷ qs)
 
@@ -162,7 +162,7 @@ bracketed-count s (w ∷ ws) =
     let g = ap length (cells-append w.paths (all_paths ws)) in
     omega (arith, length-append (cells_of w.paths) (cells_of (all_paths ws)))
 
-all-count : (s : List ℕ) (ls : List LineCells) → steps_of (map (path_noted s) ls) ≡ length (all_steps ls) + length (cells_of (all_paths (all_steps ls)))
+all-count : (s : List ℕ) (ls : List Line) → steps_of (map (path_noted s) ls) ≡ length (all_steps ls) + length (cells_of (all_paths (all_steps ls)))
 all-count s [] = refl
 all-count s (l ∷ ls) =
     let e = all-count s ls in
@@ -183,7 +183,7 @@ steps-some : {k : ℕ} {w : List ℕ} {ps : List PathRead} → BundleText k w ps
 steps-some (last-path {s = s} p) = let z = path-some p in omega (arith, length-append s [])
 steps-some (next-path {s = s} {ps = ps} p b) = let z = path-some p in omega (arith, length-append s (gather (λ p. p.path.steps) ps))
 
-outer-count : (s : List ℕ) (ls : List LineCells) → length (gather (λ p. p.path.steps) (map (path_noted s) ls)) ≡ length (all_steps ls)
+outer-count : (s : List ℕ) (ls : List Line) → length (gather (λ p. p.path.steps) (map (path_noted s) ls)) ≡ length (all_steps ls)
 outer-count s [] = refl
 outer-count s (l ∷ ls) =
     let e = outer-count s ls in
@@ -227,11 +227,11 @@ bundle-each : {k : ℕ} {w : List ℕ} {ps : List PathRead} → BundleText k w p
 bundle-each (last-path {s = s} a) = each_append (bracketed s) [] (path-each a) tt
 bundle-each (next-path {s = s} {ps = ps} a b) = each_append (bracketed s) (gather (λ p. bracketed p.path.steps) ps) (path-each a) (bundle-each b)
 
-plain-each : (s : List ℕ) (qs : List (List ℕ)) → EachSome (map (map (plain_noted s)) qs) → EachSome qs
+plain-each : (s : List ℕ) (qs : List (List StepRead)) → EachSome (map (map (plain_noted s)) qs) → EachSome qs
 plain-each s [] a = tt
 plain-each s (q ∷ qs) a = let z = a.0 in (omega (arith, length-map q (plain_noted s)), plain-each s qs a.1)
 
-condition-noted : (s : List ℕ) (qs : List (List ℕ)) → EachSome (condition_paths (condition_of s qs)) → EachSome qs
+condition-noted : (s : List ℕ) (qs : List (List StepRead)) → EachSome (condition_paths (condition_of s qs)) → EachSome qs
 condition-noted s [] a = tt
 condition-noted s (q ∷ qs) a = plain-each s (q ∷ qs) a
 
@@ -241,21 +241,21 @@ steps-noted s (w ∷ ws) a =
     let z = each-split (condition_paths (condition_of s w.paths)) (bracketed (map (step_noted s) ws)) a in
     each_append w.paths (all_paths ws) (condition-noted s w.paths z.0) (steps-noted s ws z.1)
 
-lines_noted : (s : List ℕ) (ls : List LineCells) → EachSome (gather (λ p. bracketed p.path.steps) (map (path_noted s) ls)) → EachSome (all_paths (all_steps ls))
+lines_noted : (s : List ℕ) (ls : List Line) → EachSome (gather (λ p. bracketed p.path.steps) (map (path_noted s) ls)) → EachSome (all_paths (all_steps ls))
 lines_noted s [] a = tt
 lines_noted s (l ∷ ls) a =
     let z = each-split (bracketed (map (step_noted s) l.steps)) (gather (λ p. bracketed p.path.steps) (map (path_noted s) ls)) a in
     subst EachSome (sym (gather_append (λ (w : Written). w.paths) l.steps (all_steps ls)))
     (each_append (all_paths l.steps) (all_paths (all_steps ls)) (steps-noted s l.steps z.0) (lines_noted s ls z.1))
 
-pub record Few (ls : List LineCells) : Type 0 where
+pub record Few (ls : List Line) : Type 0 where
   pub paths : length ls ≤ max_paths
   pub steps : length (all_steps ls) ≤ written_steps
   pub alternatives : length (all_paths (all_steps ls)) ≤ all_alternatives
   pub inner : length (cells_of (all_paths (all_steps ls))) ≤ inner_steps
   pub each : EachSome (all_paths (all_steps ls))
 
-pub all-few : (s : List ℕ) (ls : List LineCells) → length s ≤ max_bundle_bytes → parse s ≡ spells (map (path_noted s) ls) → first_over 0 (map (path_noted s) ls) ≡ 0 → Few ls
+pub all-few : (s : List ℕ) (ls : List Line) → length s ≤ max_bundle_bytes → parse s ≡ spells (map (path_noted s) ls) → first_over 0 (map (path_noted s) ls) ≡ None → Few ls
 all-few s ls h e f =
     let z = lines-few s 0 ls f (omega arith) in
     let a = z.0 in

@@ -1,13 +1,14 @@
 -- Refusals 2 and 3 of any text: the least place of each, or none.
-use Rattle.std.specs.Prelude.{Bool, true, false, cond, ◌||◌, ◌≡◌, refl, ℕ, suc, ◌+◌, ◌≤◌, ◌<◌, ltb, length}
+use Rattle.std.specs.Prelude.{Bool, true, false, cond, ◌||◌, ◌≡◌, refl, ℕ, suc, ◌+◌, ◌≤◌, ◌<◌, ltb, length, Option, Some, None}
 use mathlib.Core.List.Memᴰ.{head as here}
 use mathlib.Core.List.Memᴰ.{tail as there}
 use mathlib.Core.List.{List, [], ◌∷◌, Memᴰ as In}
-use Rattle.std.proofs.Common.{sym, ap, subst, arith, lt-ltb, le-ltb}
+use Rattle.std.proofs.Common.{sym, ap, subst, ◌∙◌, arith, lt-ltb, le-ltb}
+use Rattle.std.proofs.Math.Option as Math
 use Rattle.bundle.specs.laws.Order.{Least, least-all}
-use Rattle.text.specs.Places.{foreign_place}
+use Rattle.text.specs.lookup.Lookup.{found}
 use Rattle.text_spec.specs.Bytes.{is_foreign}
-use Rattle.text_spec.specs.Lists.{is_empty, first, value_or, places_from}
+use Rattle.text_spec.specs.Lists.{is_empty, first, places_from}
 use Rattle.text_spec.specs.Refusals.{at, all_at, given, bad_length, bad_byte}
 use Rattle.text_spec.specs.Texts.{length_refusals, byte_refusals}
 
@@ -61,20 +62,25 @@ module _ (f : ℕ → Bool) where
       pick true h g d (there n) = let z : i ≡ k = cc in let a = (h n).0 in omega arith
       pick false h g d n = g d x n
 
-module _ (text : List ℕ) {k : ℕ} (e : k ≡ foreign_place text) where
-  pub foreign-refused : k < length text → Least bad_byte k (byte_refusals text)
-  foreign-refused h = go (places_from 0 is_foreign text) refl e
+module _ (text : List ℕ) {r : Option ℕ} (e : found r ≡ first (places_from 0 is_foreign text)) where
+  pub foreign-refused : {k : ℕ} → r ≡ Some k → Least bad_byte k (byte_refusals text)
+  foreign-refused {k} u = go (places_from 0 is_foreign text) refl (sym (ap found u) ∙ e)
     where
-      go : (ks : List ℕ) → places_from 0 is_foreign text ≡ ks → k ≡ value_or (length text) (first ks) → Least bad_byte k (all_at bad_byte (places_from 0 is_foreign text))
-      go [] p q = absurd (omega arith)
+      go : (ks : List ℕ) → places_from 0 is_foreign text ≡ ks → Math.some k ≡ first ks → Least bad_byte k (all_at bad_byte (places_from 0 is_foreign text))
+      go [] p q = absurd (nothing q)
+        where
+          nothing : ◌≡◌ {A = Math.Option ℕ} (Math.some k) Math.none → ⊥
+          nothing q = cc
       go (j ∷ ks) p q =
-          least-all bad_byte k (places_from 0 is_foreign text) (subst (In k) (sym p) (here q)) (λ x m. let z = first-least is_foreign 0 text j ks p x m in omega arith)
+          let z : k ≡ j = cc in
+          least-all bad_byte k (places_from 0 is_foreign text) (subst (In k) (sym p) (here z)) (λ x m. let y = first-least is_foreign 0 text j ks p x m in omega arith)
 
-  pub none-foreign : length text ≤ k → byte_refusals text ≡ []
-  none-foreign h = ap (all_at bad_byte) (go (places_from 0 is_foreign text) refl e)
+  pub none-foreign : r ≡ None → byte_refusals text ≡ []
+  none-foreign u = ap (all_at bad_byte) (go (places_from 0 is_foreign text) refl (sym (ap found u) ∙ e))
     where
-      go : (ks : List ℕ) → places_from 0 is_foreign text ≡ ks → k ≡ value_or (length text) (first ks) → places_from 0 is_foreign text ≡ []
+      go : (ks : List ℕ) → places_from 0 is_foreign text ≡ ks → Math.none ≡ first ks → places_from 0 is_foreign text ≡ []
       go [] p q = p
-      go (j ∷ ks) p q =
-          let z = (places-between is_foreign 0 text j (subst (In j) (sym p) (here refl))).1 in
-          absurd (omega arith)
+      go (j ∷ ks) p q = absurd (nothing q)
+        where
+          nothing : ◌≡◌ {A = Math.Option ℕ} Math.none (Math.some j) → ⊥
+          nothing q = cc

@@ -1,10 +1,6 @@
 -- What the bundle reader answers and hands back, in the definition's terms.
 use Rattle.std.specs.Prelude.{Bool, ◌&&◌, List, ◌≡◌, ℕ, ◌≤◌, leb, length, take, replicate}
-use Rattle.bundle.specs.Judging.{reason_of, sized}
-use Rattle.bundle.specs.declared.Judgement.{Judgement}
-use Rattle.bundle.specs.declared.Judgement.TheVariants.{Accepted as JudgedAccepted, Refused as JudgedRefused}
-use Rattle.bundle.specs.declared.reader.Answer.{Answer}
-use Rattle.bundle.specs.declared.reader.Answer.TheVariants.{Accepted, BadRecord, Refused}
+use Rattle.bundle.specs.Judging.{sized}
 use Rattle.bundle.specs.declared.reader.Bundle.{Bundle}
 use Rattle.bundle.specs.declared.reader.BundleRead.{BundleRead}
 use Rattle.path_spec.specs.Paths.{LocationPath}
@@ -12,11 +8,12 @@ use Rattle.path_spec.specs.Reading.{read_bundle, is_bundle_record}
 use Rattle.schema_reader.specs.Records.{passes_record}
 use Rattle.schema_spec.specs.Records.{schema_in, record_by}
 use Rattle.schema_spec.specs.Schemas.{Schema}
+use Rattle.text.specs.refusals.Refusals.{outcome_of}
 use Rattle.text_spec.specs.Calls.{tested}
 use Rattle.text_spec.specs.Cells.{padded}
 use Rattle.text_spec.specs.Limits.{max_bundle_bytes}
 use Rattle.text_spec.specs.Lists.{same_bytes}
-use Rattle.text_spec.specs.Refusals.{Outcome, accepted, refused, at, bad_record}
+use Rattle.text_spec.specs.Refusals.{Outcome}
 
 -- the bundle that is handed back on refusal
 abbrev pub empty_bundle : Bundle
@@ -27,28 +24,13 @@ pub record Recorded (text : List ℕ) (b : Bundle) : Type 0 where
   pub bytes : length text ≤ max_bundle_bytes → b.bytes ≡ padded max_bundle_bytes text
   pub size : length text ≤ max_bundle_bytes → b.len ≡ length text
 
-abbrev pub answer_of : Judgement → Answer
-answer_of (JudgedAccepted n) = Accepted n
-answer_of (JudgedRefused k p) = Refused k p
-
--- the bundle that was read, or the empty one
-abbrev pub handed_back : Judgement → Bundle → Bundle
-handed_back (JudgedAccepted n) b = b
-handed_back (JudgedRefused k p) b = empty_bundle
-
--- an answer as an outcome: accepted with so many paths, or refused
-abbrev pub outcome_of : Answer → Outcome ℕ
-outcome_of (Accepted n) = accepted n
-outcome_of BadRecord = refused (at bad_record 0)
-outcome_of (Refused k p) = refused (at (reason_of k) p)
-
 -- refusal 1 of the schema's record, then the bundle text under the schema in it
 abbrev pub read_under : List ℕ → ℕ → List ℕ → Outcome (List (LocationPath ℕ))
 read_under cells size text = tested (passes_record cells size) (read_bundle (schema_in (take size cells)) text)
 
 -- reading a text answers so: the outcome, and the record, which is the empty one on refusal
 pub record ReadAs (cells : List ℕ) (n : ℕ) (text : List ℕ) (r : BundleRead) : Type 0 where
-  pub outcome : outcome_of r.answer ≡ sized (read_under cells n text)
+  pub outcome : outcome_of r.judgement ≡ sized (read_under cells n text)
   pub bytes : r.bundle.bytes ≡ padded max_bundle_bytes (record_by (read_under cells n text) text)
   pub size : r.bundle.len ≡ length (record_by (read_under cells n text) text)
 

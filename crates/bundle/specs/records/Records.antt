@@ -7,7 +7,7 @@ use Rattle.std.proofs.Math.Path.{refl}
 use Rattle.std.proofs.Common.{sym, ap, ap₂, ◌∙◌, leb→le}
 use Rattle.bundle.specs.Judging.{sized}
 use Rattle.bundle.specs.declared.reader.BundleRead.{BundleRead}
-use Rattle.bundle.specs.reader.Records.{outcome_of, ReadAs, passes_bundle_record}
+use Rattle.bundle.specs.reader.Records.{ReadAs, passes_bundle_record}
 use Rattle.compiled_schema.specs.records.Records.{record_with, refusal_in}
 use Rattle.library_spec.specs.Calls.{record_after, bundle_read}
 use Rattle.library_spec.specs.Records.{passes_schema, passes_bundle, schema_held}
@@ -17,6 +17,7 @@ use Rattle.schema_reader.specs.Records.{passes_record}
 use Rattle.schema_reader.specs.Sizes.{record-low}
 use Rattle.schema_spec.specs.Records.{schema_in, record_by}
 use Rattle.schema_spec.specs.Schemas.{Schema}
+use Rattle.text.specs.refusals.Refusals.{outcome_of}
 use Rattle.text_laws.specs.Tests.{and_cases, passed, true_of}
 use Rattle.text_spec.specs.Calls.{tested, handed}
 use Rattle.text_spec.specs.Cells.{padded}
@@ -63,7 +64,7 @@ module _ (cells : List ℕ) (size : ℕ) (text : List ℕ) where
     read-record = ap₂ record_with R.bytes R.size ∙ same-record (passes_record cells size) ∙ ap (record_after max_bundle_bytes) (sym called)
 
     -- The refusal that it answers, with its place, or none.
-    pub read-refusal : refusal_in (outcome_of r.answer) ≡ refusal_in (bundle_read (record_with cells size) text)
+    pub read-refusal : refusal_in (outcome_of r.judgement) ≡ refusal_in (bundle_read (record_with cells size) text)
     read-refusal = ap refusal_in R.outcome ∙ same-refusal (passes_record cells size) ∙ ap refusal_in (sym called)
 
 -- Refusal 1 on a bundle's record under a schema.

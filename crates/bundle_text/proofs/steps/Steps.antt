@@ -1,107 +1,77 @@
 -- Laws of reading a test and a step.
-use mathlib.Core.Bool.{Bool, true, false, cond}
-use mathlib.Core.List.{List, [], ◌∷◌, ◌++◌, map}
-use mathlib.Core.Option.{Option, none, some}
-use mathlib.Core.Path.{◌≡◌, refl, sym, ap, ap₂, subst, ◌∙◌}
-use Prim.Native.Nat.{ℕ, ◌+◌, ◌*◌, ◌-◌, ◌≤◌, ◌<◌}
+use mathlib.Core.Bool.{Bool, true, false}
+use mathlib.Core.List.{List, [], ◌∷◌, ◌++◌}
+use mathlib.Core.Option.{Option, none}
+use mathlib.Core.Path.{◌≡◌, refl, sym, ap, subst, ◌∙◌}
+use Prim.Native.Nat.{ℕ, ◌+◌, ◌≤◌, ◌<◌}
 use native.Mathlib.Omega.{arith}
-use borrow.Author.Tests.{eq-eqb, ne_eqb}
-use lib.Dec.{T}
-use lib.ListN.{length, take, drop, length-append}
+use borrow.Author.Tests.{eq-eqb, ne_eqb, ltb-true, ltb-false}
+use lib.Dec.{T, ltb}
+use lib.ListN.{length, take, length-append}
 use lib.Seq.{take-append_seam}
-use Rattle.bundle_text.specs.axes.Readings.{max_axis, AxisAs, ReadsAxis}
-use Rattle.bundle_text.specs.declared.axes.AxisOutcome.{AxisOutcome}
-use Rattle.bundle_text.specs.declared.axes.AxisOutcome.TheVariants.{Past as AxisPast, Fail as AxisFail}
-use Rattle.bundle_text.specs.declared.steps.StepOutcome.{StepOutcome}
-use Rattle.bundle_text.specs.declared.steps.StepOutcome.TheVariants.{Past, Fail}
-use Rattle.bundle_text.specs.steps.Readings.{axis_count, use_at, test_noted, step_axis, step_test, tests_in, TestAs, ReadsTest, named-at, called, ReadsPlain, Packed}
-use Rattle.compiled_paths.specs.Columns.{written_of}
+use Rattle.std.specs.Prelude.{Result, Ok, Err}
+use Rattle.bundle_text.specs.axes.Readings.{AxisAs, ReadsAxis}
+use Rattle.bundle_text.specs.declared.steps.TestRead.{TestRead}
+use Rattle.bundle_text.specs.declared.steps.TestRead.TheVariants.{Node, Text, Name}
+use Rattle.bundle_text.specs.steps.Readings.{Stands, use_at, test_noted, Within, TestAs, ReadsTest, named-at, called, ReadsPlain}
+use Rattle.compiled_paths.specs.Steps.{written_axis}
+use Rattle.compiled_paths.specs.declared.Axis.{Axis}
 use Rattle.path_laws.specs.Grammar.Machine.{test-naming}
 use Rattle.path_spec.specs.Grammar.{PathRead}
 use Rattle.path_spec.specs.Machine.{Context, State, dead, before_test, in_test, in_call, after_call, call_of, begin_step, step, ends, bundle_machine}
-use Rattle.path_spec.specs.Paths.{WrittenAxis, NodeTest, named, any_node, any_text}
-use Rattle.schema_spec.specs.Declarations.{Use}
-use Rattle.schema_spec.specs.Schemas.{index_from}
-use Rattle.text.specs.declared.scanning.Read.{Read}
-use Rattle.text.specs.declared.scanning.Read.TheVariants.{Past as NamePast, Fail as NameFail}
+use Rattle.path_spec.specs.Paths.{WrittenAxis, named, any_node, any_text}
 use Rattle.text.specs.scanning.OutcomeLaws.{named_end, named_past, named-fail}
 use Rattle.text.specs.scanning.Outcomes.{Named}
 use Rattle.text_laws.specs.Lists.{bytes-equal, bytes_same}
 use Rattle.text_laws.specs.Scans.{step-at, dead-at, same_at, at-end}
 use Rattle.text_laws.specs.Tests.{passed, failed, false_of, cond_yes, cond_no}
 use Rattle.text_spec.specs.Bytes.{starts_name}
-use Rattle.text_spec.specs.Lists.{bytes, same_bytes, value_or}
+use Rattle.text_spec.specs.Lists.{bytes, same_bytes}
 use Rattle.text_spec.specs.Machines.{spelt, from}
-use Rattle.text_spec.specs.Scans.{byte_at, name_in, name_at}
-
--- ---- numbers of tests
-test-node : (s : List ℕ) → test_noted s 0 ≡ any_node
-unfolding test_noted
-test-node s = refl
-
-test-text : (s : List ℕ) → test_noted s 1 ≡ any_text
-unfolding test_noted
-test-text s = refl
-
-test-named : (s : List ℕ) (p : ℕ) → test_noted s (p + 2) ≡ named (use_at s p)
-unfolding test_noted
-test-named s p =
-    let e : p + 2 - 2 ≡ p = omega arith in
-    cond_no any_node _ (ne_eqb (p + 2) 0 (λ q. omega arith)) ∙ cond_no any_text _ (ne_eqb (p + 2) 1 (λ q. omega arith)) ∙ ap (λ (k : ℕ). named (use_at s k)) e
+use Rattle.text_spec.specs.Scans.{byte_at, name_at}
 
 -- ---- a text that stops short, a byte that leads nowhere
 module _ (s : List ℕ) (at : ℕ) (before : WrittenAxis → Context → State) where
-  pub test-end : ((a : WrittenAxis) (x : Context) → ends (before a x) ≡ none) → length s ≤ at → ReadsTest before s at (Fail at)
+  pub test-end : ((a : WrittenAxis) (x : Context) → ends (before a x) ≡ none) → length s ≤ at → ReadsTest before s at (Err at)
   test-end silent l = record { says = λ a x. at-end bundle_machine s at (before a x) l ∙ ap (λ (o : Option (List PathRead)). spelt o at) (silent a x) }
 
-  pub test-not : at < length s → ((a : WrittenAxis) (x : Context) → step (before a x) at (byte_at s at) ≡ dead) → ReadsTest before s at (Fail at)
+  pub test-not : at < length s → ((a : WrittenAxis) (x : Context) → step (before a x) at (byte_at s at) ≡ dead) → ReadsTest before s at (Err at)
   test-not l to = record { says = λ a x. dead-at bundle_machine s at (before a x) dead l (to a x) refl }
 
 -- ---- a reading that starts earlier
 test-later : (before after : WrittenAxis → Context → State) (s : List ℕ) (at i : ℕ) → at ≤ i
-    → ((a : WrittenAxis) (x : Context) → from bundle_machine (before a x) s at ≡ from bundle_machine (after a x) s i) → (r : StepOutcome) → TestAs after s i r → TestAs before s at r
-test-later before after s at i l to (Past t j) R =
+    → ((a : WrittenAxis) (x : Context) → from bundle_machine (before a x) s at ≡ from bundle_machine (after a x) s i) → (r : Result (TestRead × ℕ) ℕ) → TestAs after s i r → TestAs before s at r
+test-later before after s at i l to (Ok r) R =
     let g = R.0 in
     (omega arith, R.1, R.2, λ a x. to a x ∙ R.3 a x)
-test-later before after s at i l to (Fail j) R = λ a x. to a x ∙ R a x
+test-later before after s at i l to (Err j) R = λ a x. to a x ∙ R a x
 
 -- ---- `)`
-module _ (s : List ℕ) (at t : ℕ) where
-  pub close-end : length s ≤ at → ReadsTest (called s t) s at (Fail at)
-  close-end l = test-end s at (called s t) (λ a x. refl) l
-
-  pub close-past : at < length s → t ≤ tests_in s → byte_at s at ≡ 0x29 → ReadsTest (called s t) s at (Past t (at + 1))
+module _ {s : List ℕ} {at : ℕ} {b : Bool} (S : Stands s at 0x29 b) (t : TestRead) where
+  pub close-past : Within s t → b ≡ true → ReadsTest (called s t) s at (Ok (t, at + 1))
   unfolding step
-  close-past l m e =
+  close-past w f =
+      let l = (S.here f).0 in
       record {
         says = (
           omega arith,
           omega arith,
-          m,
-          λ a x. step-at bundle_machine s at (called s t a x) (after_call a (test_noted s t) x) l (cond_yes (after_call a (test_noted s t) x) dead (eq-eqb (byte_at s at) 0x29 e)) refl,
+          w,
+          λ a x. step-at bundle_machine s at (called s t a x) (after_call a (test_noted s t) x) l (cond_yes (after_call a (test_noted s t) x) dead (eq-eqb (byte_at s at) 0x29 (S.here f).1)) refl,
         );
       }
 
-  pub close-not : at < length s → (byte_at s at ≡ 0x29 → ⊥) → ReadsTest (called s t) s at (Fail at)
+  pub close-not : b ≡ false → ReadsTest (called s t) s at (Err at)
   unfolding step
-  close-not l e = test-not s at (called s t) l (λ a x. cond_no (after_call a (test_noted s t) x) dead (ne_eqb (byte_at s at) 0x29 e))
+  close-not f = go (ltb at (length s)) refl
+    where
+      go : (c : Bool) → ltb at (length s) ≡ c → ReadsTest (called s t) s at (Err at)
+      go true e =
+          let l = ltb-true at (length s) e in
+          test-not s at (called s t) l (λ a x. cond_no (after_call a (test_noted s t) x) dead (ne_eqb (byte_at s at) 0x29 (S.other f l)))
+      go false e = test-end s at (called s t) (λ a x. refl) (ltb-false at (length s) e)
 
 -- ---- names that are called
--- what seeking the one name w says
-module _ (w s : List ℕ) (p : ℕ) {r : ℕ} (whole : name_in (drop 0 w) ≡ w) (e : r ≡ value_or 1 (index_from 0 (name_at s p) (map (name_at w) (0 ∷ [])))) where
-  sought : (t : Bool) → same_bytes (name_at s p) w ≡ t → r ≡ value_or 1 (cond t (some 0) none) → (r ≡ 0 → name_at s p ≡ w) × ((r ≡ 0 → ⊥) → name_at s p ≡ w → ⊥)
-  sought true t f = (λ g. bytes-equal (name_at s p) w (passed t), λ g h. g f)
-  sought false t f = (λ g. absurd (omega arith), λ g h. failed t (subst (λ (v : List ℕ). T (same_bytes v w)) (sym h) (bytes_same w)))
-
-  sought-one : (r ≡ 0 → name_at s p ≡ w) × ((r ≡ 0 → ⊥) → name_at s p ≡ w → ⊥)
-  sought-one = sought (same_bytes (name_at s p) w) refl (e ∙ ap (λ (v : List ℕ). value_or 1 (cond (same_bytes (name_at s p) v) (some 0) none)) whole)
-
-  pub sought-found : r ≡ 0 → name_at s p ≡ w
-  sought-found = sought-one.0
-
-  pub sought-none : (r ≡ 0 → ⊥) → name_at s p ≡ w → ⊥
-  sought-none = sought-one.1
-
 append-cancel : (n w u : List ℕ) → n ++ u ≡ w ++ u → n ≡ w
 append-cancel n w u e =
     let a = length-append n u in
@@ -118,7 +88,7 @@ module _ (s : List ℕ) (p at : ℕ) (l : at < length s) (e : byte_at s at ≡ 0
   unfolding step
   call_step a x = ap (λ (b : ℕ). step (named-at s p a x) at b) e
 
-  call-of : (w : List ℕ) (t : ℕ) → name_at s p ≡ w → ((a : WrittenAxis) (x : Context) → call_of a w x ≡ called s t a x) → {r : StepOutcome} → ReadsTest (called s t) s (at + 1) r
+  call-of : (w : List ℕ) (t : TestRead) → name_at s p ≡ w → ((a : WrittenAxis) (x : Context) → call_of a w x ≡ called s t a x) → {r : Result (TestRead × ℕ) ℕ} → ReadsTest (called s t) s (at + 1) r
       → ReadsTest (named-at s p) s at r
   call-of w t h to {r} R =
       record {
@@ -127,98 +97,83 @@ module _ (s : List ℕ) (p at : ℕ) (l : at < length s) (e : byte_at s at ≡ 0
             (λ a x. step-at bundle_machine s at (named-at s p a x) (called s t a x) l (call_step a x ∙ ap (λ (n : List ℕ). call_of a n x) h ∙ to a x) refl) r R.says;
       }
 
-  pub call-node : name_at s p ≡ bytes "node" → {r : StepOutcome} → ReadsTest (called s 0) s (at + 1) r → ReadsTest (named-at s p) s at r
-  call-node h = call-of (bytes "node") 0 h (λ a x. ap (λ (t : NodeTest Use). in_call a t x) (sym (test-node s)))
+  pub call-node : same_bytes (bytes "node") (name_at s p) ≡ true → {r : Result (TestRead × ℕ) ℕ} → ReadsTest (called s Node) s (at + 1) r → ReadsTest (named-at s p) s at r
+  call-node h = call-of (bytes "node") Node (sym (bytes-equal (bytes "node") (name_at s p) (passed h))) (λ a x. refl)
 
-  pub call-text : name_at s p ≡ bytes "text" → {r : StepOutcome} → ReadsTest (called s 1) s (at + 1) r → ReadsTest (named-at s p) s at r
-  call-text h = call-of (bytes "text") 1 h (λ a x. ap (λ (t : NodeTest Use). in_call a t x) (sym (test-text s)))
+  pub call-text : same_bytes (bytes "text") (name_at s p) ≡ true → {r : Result (TestRead × ℕ) ℕ} → ReadsTest (called s Text) s (at + 1) r → ReadsTest (named-at s p) s at r
+  call-text h = call-of (bytes "text") Text (sym (bytes-equal (bytes "text") (name_at s p) (passed h))) (λ a x. refl)
 
-  pub call-not : (name_at s p ≡ bytes "node" → ⊥) → (name_at s p ≡ bytes "text" → ⊥) → ReadsTest (named-at s p) s at (Fail at)
+  pub call-not : same_bytes (bytes "node") (name_at s p) ≡ false → same_bytes (bytes "text") (name_at s p) ≡ false → ReadsTest (named-at s p) s at (Err at)
   call-not d f =
       test-not s at (named-at s p) l
-      (λ a x. call_step a x ∙ cond_no (in_call a any_node x) _ (append-differs (name_at s p) (bytes "node") (bytes "()") d)
-      ∙ cond_no (in_call a any_text x) dead (append-differs (name_at s p) (bytes "text") (bytes "()") f))
+      (λ a x. call_step a x ∙ cond_no (in_call a any_node x) _ (append-differs (name_at s p) (bytes "node") (bytes "()") (other (bytes "node") d))
+      ∙ cond_no (in_call a any_text x) dead (append-differs (name_at s p) (bytes "text") (bytes "()") (other (bytes "text") f)))
+    where
+      other : (w : List ℕ) → same_bytes w (name_at s p) ≡ false → name_at s p ≡ w → ⊥
+      other w e h = failed e (subst (λ (v : List ℕ). T (same_bytes w v)) (sym h) (bytes_same w))
 
 -- ---- a test
 module _ (s : List ℕ) (at : ℕ) where
-  pub due-end : length s ≤ at → ReadsTest before_test s at (Fail at)
+  pub due-end : length s ≤ at → ReadsTest before_test s at (Err at)
   due-end l = test-end s at before_test (λ a x. refl) l
 
-  pub due-not : at < length s → starts_name (byte_at s at) ≡ false → ReadsTest before_test s at (Fail at)
+  pub due-not : at < length s → starts_name (byte_at s at) ≡ false → ReadsTest before_test s at (Err at)
   unfolding step
   due-not l e = test-not s at before_test l (λ a x. cond_no (in_test a at (byte_at s at ∷ []) x) dead e)
 
-module _ {s : List ℕ} {at : ℕ} (l : at < length s) (g : starts_name (byte_at s at) ≡ true) {r : Read} (N : Named s at r) where
+module _ {s : List ℕ} {at : ℕ} (l : at < length s) (g : starts_name (byte_at s at) ≡ true) {r : Result ℕ ℕ} (N : Named s at r) where
   first_byte : (a : WrittenAxis) (x : Context) → from bundle_machine (before_test a x) s at ≡ from bundle_machine (in_test a at (byte_at s at ∷ []) x) s (at + 1)
   unfolding step
   first_byte a x = step-at bundle_machine s at (before_test a x) (in_test a at (byte_at s at ∷ []) x) l (cond_yes (in_test a at (byte_at s at ∷ []) x) dead g) refl
 
-  pub due-long : {j : ℕ} → r ≡ NameFail j → ReadsTest before_test s at (Fail j)
+  pub due-long : {j : ℕ} → r ≡ Err j → ReadsTest before_test s at (Err j)
   due-long u = record { says = λ a x. first_byte a x ∙ named-fail N (test-naming a at x) u }
 
-  module _ {j : ℕ} (u : r ≡ NamePast j) where
+  module _ {j : ℕ} (u : r ≡ Ok j) where
     due-name : (a : WrittenAxis) (x : Context) → from bundle_machine (before_test a x) s at ≡ from bundle_machine (named-at s at a x) s j
     due-name a x = first_byte a x ∙ named_past N (test-naming a at x) u
 
-    named-as : ((a : WrittenAxis) (x : Context) → from bundle_machine (named-at s at a x) s j ≡ from bundle_machine (after_call a (named (use_at s at)) x) s j) → ReadsTest before_test s at (Past (at + 2) j)
+    named-as : ((a : WrittenAxis) (x : Context) → from bundle_machine (named-at s at a x) s j ≡ from bundle_machine (after_call a (named (use_at s at)) x) s j) → ReadsTest before_test s at (Ok (Name at, j))
     named-as to =
         let h = named_end N u in
         let o = h.0 in
-        record {
-          says = (
-            omega arith,
-            h.1,
-            omega arith,
-            λ a x. due-name a x ∙ to a x ∙ ap (λ (t : NodeTest Use). from bundle_machine (after_call a t x) s j) (sym (test-named s at)),
-          );
-        }
+        record { says = (omega arith, h.1, l, λ a x. due-name a x ∙ to a x) }
 
-    pub due-last : length s ≤ j → ReadsTest before_test s at (Past (at + 2) j)
-    due-last o = named-as (λ a x. at-end bundle_machine s j (named-at s at a x) o ∙ sym (at-end bundle_machine s j (after_call a (named (use_at s at)) x) o))
-
-    pub due-named : j < length s → (byte_at s j ≡ 0x28 → ⊥) → ReadsTest before_test s at (Past (at + 2) j)
+    pub due-named : {b : Bool} → Stands s j 0x28 b → b ≡ false → ReadsTest before_test s at (Ok (Name at, j))
     unfolding step
-    due-named o d =
-        named-as
-        (λ a x. same_at bundle_machine s j (named-at s at a x) (after_call a (named (use_at s at)) x) o
-        (cond_no _ _ ((named_end N u).2 o) ∙ cond_no (call_of a (name_at s at) x) _ (ne_eqb (byte_at s j) 0x28 d)))
+    due-named S f = named-as (λ a x. go a x (ltb j (length s)) refl)
+      where
+        go : (a : WrittenAxis) (x : Context) (c : Bool) → ltb j (length s) ≡ c → from bundle_machine (named-at s at a x) s j ≡ from bundle_machine (after_call a (named (use_at s at)) x) s j
+        go a x true e =
+            let o = ltb-true j (length s) e in
+            same_at bundle_machine s j (named-at s at a x) (after_call a (named (use_at s at)) x) o
+            (cond_no _ _ ((named_end N u).2 o) ∙ cond_no (call_of a (name_at s at) x) _ (ne_eqb (byte_at s j) 0x28 (S.other f o)))
+        go a x false e =
+            let o = ltb-false j (length s) e in
+            at-end bundle_machine s j (named-at s at a x) o ∙ sym (at-end bundle_machine s j (after_call a (named (use_at s at)) x) o)
 
-    pub due-called : {o : StepOutcome} → ReadsTest (named-at s at) s j o → ReadsTest before_test s at o
+    pub due-called : {o : Result (TestRead × ℕ) ℕ} → ReadsTest (named-at s at) s j o → ReadsTest before_test s at o
     due-called {o} R =
         let h = (named_end N u).0 in
         record { says = test-later before_test (named-at s at) s at j (omega arith) due-name o R.says }
 
 -- ---- a step
-pub packed : (a t : ℕ) → a ≤ max_axis → Packed a t (t * axis_count + a)
-packed a t h = record { axis = omega arith; test = omega arith }
-
-module _ {s : List ℕ} {at : ℕ} {r : AxisOutcome} (A : ReadsAxis begin_step s at r) where
-  axis-as : {o : AxisOutcome} → r ≡ o → AxisAs begin_step s at o
+module _ {s : List ℕ} {at : ℕ} {r : Result (Axis × ℕ) ℕ} (A : ReadsAxis begin_step s at r) where
+  axis-as : {o : Result (Axis × ℕ) ℕ} → r ≡ o → AxisAs begin_step s at o
   axis-as u = (subst (ReadsAxis begin_step s at) u A).says
 
-  pub plain-no-axis : {j : ℕ} → r ≡ AxisFail j → ReadsPlain s at (Fail j)
+  pub plain-no-axis : {j : ℕ} → r ≡ Err j → ReadsPlain s at (Err j)
   plain-no-axis u = record { says = axis-as u }
 
-  module _ {a i : ℕ} (u : r ≡ AxisPast a i) {o : StepOutcome} (T : ReadsTest before_test s i o) where
-    test-as : {q : StepOutcome} → o ≡ q → TestAs before_test s i q
+  module _ {a : Axis} {i : ℕ} (u : r ≡ Ok (a, i)) {o : Result (TestRead × ℕ) ℕ} (T : ReadsTest before_test s i o) where
+    test-as : {q : Result (TestRead × ℕ) ℕ} → o ≡ q → TestAs before_test s i q
     test-as v = (subst (ReadsTest before_test s i) v T).says
 
-    pub plain-no-test : {j : ℕ} → o ≡ Fail j → ReadsPlain s at (Fail j)
-    plain-no-test v = record { says = λ x. (axis-as u).3 x ∙ test-as v (written_of a) x }
+    pub plain-no-test : {j : ℕ} → o ≡ Err j → ReadsPlain s at (Err j)
+    plain-no-test v = record { says = λ x. (axis-as u).2 x ∙ test-as v (written_axis a) x }
 
-    pub plain-test : {t j : ℕ} → o ≡ Past t j → (a ≤ max_axis) × (t ≤ tests_in s)
-    plain-test v = ((axis-as u).2, (test-as v).2)
-
-    pub plain-past : {t j c : ℕ} → o ≡ Past t j → Packed a t c → ReadsPlain s at (Past c j)
-    unfolding step_axis step_test
-    plain-past {t} {j} {c} v P =
+    pub plain-past : {t : TestRead} {j : ℕ} → o ≡ Ok (t, j) → ReadsPlain s at (Ok (record { axis = a; test = t; ends_alternative = false }, j))
+    plain-past {t} {j} v =
         let g = (axis-as u).0 in
         let h = (test-as v).0 in
-        record {
-          says = (
-            omega arith,
-            (test-as v).1,
-            λ x. (axis-as u).3 x ∙ (test-as v).3 (written_of a) x
-                ∙ ap₂ (λ (m k : ℕ). from bundle_machine (after_call (written_of m) (test_noted s k) x) s j) (sym P.axis) (sym P.test),
-          );
-        }
+        record { says = (omega arith, (test-as v).1, refl, λ x. (axis-as u).2 x ∙ (test-as v).3 (written_axis a) x) }

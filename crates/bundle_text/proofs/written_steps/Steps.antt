@@ -1,21 +1,15 @@
 -- Laws of reading brackets, a step, and what follows it.
-use mathlib.Core.Bool.{Bool, true, false}
-use mathlib.Core.List.{List, [], ◌∷◌}
-use mathlib.Core.Path.{◌≡◌, refl, sym, ap, subst, ◌∙◌}
-use Prim.Native.Nat.{ℕ, ◌+◌, ◌≤◌, ◌<◌}
-use native.Mathlib.Omega.{arith}
-use borrow.Author.Tests.{ltb-true, ltb-false, ne_eqb}
-use lib.Dec.{ltb}
-use lib.ListN.{length, set}
+use Rattle.std.specs.Prelude.{Bool, true, false, List, [], ◌∷◌, ◌≡◌, refl, ℕ, ◌+◌, ◌≤◌, ◌<◌, ltb, length, Result, Ok, Err}
+use Rattle.std.proofs.Common.{sym, ap, subst, ◌∙◌, arith, ltb-true, ltb-false, ne_eqb}
 use Rattle.bundle_text.specs.alternatives.Conditions.{condition_noted, opened, ConditionAs, ReadsCondition}
-use Rattle.bundle_text.specs.alternatives.Readings.{Stands}
-use Rattle.bundle_text.specs.declared.alternative_ends.Follow.TheVariants.{Close, More, Fail as FollowFail}
-use Rattle.bundle_text.specs.declared.alternatives.ConditionOutcome.{ConditionOutcome}
-use Rattle.bundle_text.specs.declared.alternatives.ConditionOutcome.TheVariants.{Past as ConditionPast, Fail as ConditionFail}
-use Rattle.bundle_text.specs.declared.steps.StepOutcome.{StepOutcome}
-use Rattle.bundle_text.specs.declared.steps.StepOutcome.TheVariants.{Past as StepPast, Fail as StepFail}
-use Rattle.bundle_text.specs.steps.Readings.{step_axis, step_test, PlainAs, ReadsPlain}
-use Rattle.bundle_text.specs.written_steps.Readings.{condition_of, stepped, BracketsAs, ReadsBrackets, WrittenAs, ReadsWritten, line_ended, FollowedAs}
+use Rattle.bundle_text.specs.declared.alternative_ends.Follow.TheVariants.{Close, More}
+use Rattle.bundle_text.specs.declared.conditions.Past.{Past}
+use Rattle.bundle_text.specs.declared.notes.Notes.{Notes}
+use Rattle.bundle_text.specs.declared.steps.StepRead.{StepRead}
+use Rattle.bundle_text.specs.notes.Laws.{inners-none, outer-one}
+use Rattle.bundle_text.specs.notes.Notes.{with_outer}
+use Rattle.bundle_text.specs.steps.Readings.{Stands, step_axis, step_test, PlainAs, ReadsPlain}
+use Rattle.bundle_text.specs.written_steps.Readings.{condition_of, stepped, BracketsRead, BracketsAs, ReadsBrackets, ReadsWritten, line_ended, FollowedAs}
 use Rattle.path_spec.specs.Machine.{Outer, outside, inside, State, dead, after_call, after_brackets, begin_step, with_step, step_done, step, bundle_machine}
 use Rattle.path_spec.specs.Paths.{Condition}
 use Rattle.schema_spec.specs.Declarations.{Use}
@@ -25,11 +19,11 @@ use Rattle.text_spec.specs.Machines.{from}
 use Rattle.text_spec.specs.Scans.{byte_at}
 
 -- ---- brackets
-abbrev tested-past : List ℕ → ℕ → Outer → State
+abbrev tested-past : List ℕ → StepRead → Outer → State
 tested-past s c o = after_call (step_axis c) (step_test s c) (outside o)
 
 module _ {s : List ℕ} {at : ℕ} {t : Bool} (S : Stands s at 0x5B t) where
-  no-bracket : t ≡ false → (c : ℕ) (o : Outer) → from bundle_machine (tested-past s c o) s at ≡ from bundle_machine (after_brackets (stepped s c [] o)) s at
+  no-bracket : t ≡ false → (c : StepRead) (o : Outer) → from bundle_machine (tested-past s c o) s at ≡ from bundle_machine (after_brackets (stepped s c [] o)) s at
   unfolding step
   no-bracket f c o = go (ltb at (length s)) refl
     where
@@ -42,90 +36,109 @@ module _ {s : List ℕ} {at : ℕ} {t : Bool} (S : Stands s at 0x5B t) where
           let h = ltb-false at (length s) g in
           at-end bundle_machine s at (tested-past s c o) h ∙ sym (at-end bundle_machine s at (after_brackets (stepped s c [] o)) h)
 
-  pub brackets-none : {n m : ℕ} {o w : List ℕ} → at ≤ length s → n ≤ at → m ≤ at → t ≡ false
-      → ReadsBrackets s at n m o o w w (ConditionPast (record { at = at; n = n; m = m; over = false }))
-  brackets-none h l g f =
+  pub brackets-none : {N : Notes} → at ≤ length s → N.inner_count ≤ at → t ≡ false → ReadsBrackets s at N N (Ok (record { at = at; over_limit = false }))
+  brackets-none h few f =
       record {
         says = record {
           paths = [];
           low = omega arith;
           high = h;
-          counted = omega arith;
-          few = l;
-          counted-ways = omega arith;
-          few-ways = g;
-          wrote = refl;
-          wrote-ways = refl;
+          ended = tt;
+          noted = inners-none _;
+          few = few;
           limit = refl;
           same = no-bracket f;
         };
       }
 
-  open-bracket : t ≡ true → (c : ℕ) (o : Outer) → from bundle_machine (tested-past s c o) s at ≡ from bundle_machine (begin_step (inside (opened o (step_axis c) (step_test s c)))) s (at + 1)
+  open-bracket : t ≡ true → (c : StepRead) (o : Outer) → from bundle_machine (tested-past s c o) s at ≡ from bundle_machine (begin_step (inside (opened o (step_axis c) (step_test s c)))) s (at + 1)
   unfolding step
   open-bracket f c o =
       step-at bundle_machine s at (tested-past s c o) (begin_step (inside (opened o (step_axis c) (step_test s c)))) (S.here f).0 (ap (λ (b : ℕ). step (tested-past s c o) at b) (S.here f).1) refl
 
-  condition-of : (qs : List (List ℕ)) → 0 < length qs → condition_noted s qs ≡ condition_of s qs
+  condition-of : (qs : List (List StepRead)) → 0 < length qs → condition_noted s qs ≡ condition_of s qs
   condition-of [] h = absurd (omega arith)
   condition-of (q ∷ qs) h = refl
 
-  brackets-as : (n m : ℕ) (o o' w w' : List ℕ) → t ≡ true → (r : ConditionOutcome) → ConditionAs s (at + 1) n m o o' w w' r → BracketsAs s at n m o o' w w' r
-  brackets-as n m o o' w w' f (ConditionPast r) C =
+  brackets-as : (N N' : Notes) → t ≡ true → (r : Result Past ℕ) → ConditionAs s (at + 1) N N' r → BracketsAs s at N N' r
+  brackets-as N N' f (Ok r) C =
       let l = C.low in
       record {
         paths = C.paths;
         low = omega arith;
         high = C.high;
-        counted = C.counted;
+        ended = C.ended;
+        noted = C.noted;
         few = C.few;
-        counted-ways = C.counted-ways;
-        few-ways = C.few-ways;
-        wrote = C.wrote;
-        wrote-ways = C.wrote-ways;
         limit = C.limit;
         same = λ c z. open-bracket f c z ∙ C.same z (step_axis c) (step_test s c)
             ∙ ap (λ (d : Condition Use). from bundle_machine (after_brackets (with_step (step_axis c) (step_test s c) d z)) s r.at) (condition-of C.paths C.some);
       }
-  brackets-as n m o o' w w' f (ConditionFail j) C = λ c z. open-bracket f c z ∙ C z (step_axis c) (step_test s c)
+  brackets-as N N' f (Err j) C = λ c z. open-bracket f c z ∙ C z (step_axis c) (step_test s c)
 
-  pub brackets-some : {n m : ℕ} {o o' w w' : List ℕ} {r : ConditionOutcome} → t ≡ true → ReadsCondition s (at + 1) n m o o' w w' r → ReadsBrackets s at n m o o' w w' r
-  brackets-some {n} {m} {o} {o'} {w} {w'} {r} f C = record { says = brackets-as n m o o' w w' f r C.says }
+  pub brackets-some : {N N' : Notes} {r : Result Past ℕ} → t ≡ true → ReadsCondition s (at + 1) N N' r → ReadsBrackets s at N N' r
+  brackets-some {N} {N'} {r} f C = record { says = brackets-as N N' f r C.says }
 
 -- ---- a step
-module _ {s : List ℕ} {at : ℕ} {p : StepOutcome} (P : ReadsPlain s at p) where
-  plain-as : {a : StepOutcome} → p ≡ a → PlainAs s at a
+module _ {s : List ℕ} {at : ℕ} {p : Result (StepRead × ℕ) ℕ} (P : ReadsPlain s at p) where
+  plain-as : {a : Result (StepRead × ℕ) ℕ} → p ≡ a → PlainAs s at a
   plain-as u = (subst (ReadsPlain s at) u P).says
 
-  pub written-fails : {k n m : ℕ} {x x' o o' w w' : List ℕ} {j : ℕ} → p ≡ StepFail j → ReadsWritten s at k n m x x' o o' w w' (ConditionFail j)
+  pub written-fails : {N N' : Notes} {j : ℕ} → p ≡ Err j → ReadsWritten s at N N' (Err j)
   written-fails u = record { says = λ z. plain-as u (outside z) }
 
-  module _ {c j : ℕ} (u : p ≡ StepPast c j) where
+  module _ {c : StepRead} {j : ℕ} (u : p ≡ Ok (c, j)) where
     pub written-place : (at < j) × (j ≤ length s)
     written-place = ((plain-as u).0, (plain-as u).1)
 
-    written_as : (k n m : ℕ) (x x' o o' w w' : List ℕ) → x' ≡ set x k c → (r : ConditionOutcome) → BracketsAs s j n m o o' w w' r → WrittenAs s at k n m x x' o o' w w' r
-    written_as k n m x x' o o' w w' e (ConditionPast r) B =
-        record { cell = c; place = j; before = (plain-as u).0; noted = e; brackets = B; same = λ z. (plain-as u).2 (outside z) ∙ B.same c z }
-    written_as k n m x x' o o' w w' e (ConditionFail f) B = λ z. (plain-as u).2 (outside z) ∙ B c z
+    module _ {N M : Notes} {q : Result Past ℕ} (B : ReadsBrackets s j N M q) where
+      pub brackets-read : {a : Result Past ℕ} → q ≡ a → BracketsAs s j N M a
+      brackets-read v = (subst (ReadsBrackets s j N M) v B).says
 
-    pub written-reads : {k n m : ℕ} {x x' o o' w w' : List ℕ} {r : ConditionOutcome} → x' ≡ set x k c → ReadsBrackets s j n m o o' w w' r → ReadsWritten s at k n m x x' o o' w w' r
-    written-reads {k} {n} {m} {x} {x'} {o} {o'} {w} {w'} {r} e B = record { says = written_as k n m x x' o o' w w' e r B.says }
+      pub written-stops : {e : ℕ} → q ≡ Err e → {N' : Notes} → ReadsWritten s at N N' (Err e)
+      written-stops v = record { says = λ z. (plain-as u).3 (outside z) ∙ brackets-read v c z }
+
+      module _ {r : Past} (v : q ≡ Ok r) where
+        abbrev R : BracketsRead s j N M r
+        R = brackets-read v
+
+        pub written-counts : (M.outer_count ≡ N.outer_count) × (M.inner_count ≤ r.at)
+        written-counts = (ap (λ (K : Notes). K.outer_count) R.noted, R.few)
+
+        pub written-high : r.at ≤ length s
+        written-high = R.high
+
+        pub written-reads : {N' : Notes} → N' ≡ with_outer M c → ReadsWritten s at N N' (Ok r)
+        written-reads e =
+            let g = (plain-as u).0 in
+            let h = R.low in
+            record {
+              says = record {
+                step = record { cell = c; paths = R.paths };
+                low = omega arith;
+                high = R.high;
+                ended = R.ended;
+                noted = e ∙ ap (λ (K : Notes). with_outer K c) R.noted ∙ outer-one N (record { cell = c; paths = R.paths });
+                few = subst (λ (K : Notes). K.inner_count ≤ r.at) (sym e) R.few;
+                limit = R.limit;
+                same = λ z. (plain-as u).3 (outside z) ∙ R.same c z;
+              };
+            }
 
 -- ---- what follows it
 module _ (s : List ℕ) (at : ℕ) where
-  pub follow-end : length s ≤ at → FollowedAs s at (FollowFail at)
+  pub follow-end : length s ≤ at → FollowedAs s at (Err at)
   follow-end l o = at-end bundle_machine s at (after_brackets o) l
 
   module _ (l : at < length s) where
-    pub follow-slash : byte_at s at ≡ 0x2F → FollowedAs s at (More (at + 1))
+    pub follow-slash : byte_at s at ≡ 0x2F → FollowedAs s at (Ok (More (at + 1)))
     unfolding step
     follow-slash e = (omega arith, omega arith, λ o. step-at bundle_machine s at (after_brackets o) (begin_step (outside o)) l (ap (λ (b : ℕ). step (after_brackets o) at b) e) refl)
 
-    pub follow-line : byte_at s at ≡ 0x0A → FollowedAs s at (Close (at + 1))
+    pub follow-line : byte_at s at ≡ 0x0A → FollowedAs s at (Ok (Close (at + 1)))
     unfolding step
     follow-line e = (omega arith, omega arith, refl, λ o. step-at bundle_machine s at (after_brackets o) (line_ended o at) l (ap (λ (b : ℕ). step (after_brackets o) at b) e) refl)
 
-    pub follow-not : (byte_at s at ≡ 0x2F → ⊥) → (byte_at s at ≡ 0x0A → ⊥) → FollowedAs s at (FollowFail at)
+    pub follow-not : (byte_at s at ≡ 0x2F → ⊥) → (byte_at s at ≡ 0x0A → ⊥) → FollowedAs s at (Err at)
     unfolding step
     follow-not d e o = dead-at bundle_machine s at (after_brackets o) dead l (cond_no _ _ (ne_eqb (byte_at s at) 0x2F d) ∙ cond_no _ _ (ne_eqb (byte_at s at) 0x0A e)) refl

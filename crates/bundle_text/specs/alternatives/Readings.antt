@@ -1,40 +1,33 @@
--- What reading an alternative answers, in terms of the bundle machine: the numbers of its steps, and where they were noted.
-use Rattle.std.specs.Prelude.{Bool, true, false, List, [], ◌∷◌, map, reverse, ◌≡◌, ℕ, ◌+◌, ◌≤◌, ◌<◌, length}
-use Rattle.std.proofs.lemmas.List.Edits.{sets}
+-- What reading an alternative answers, in terms of the bundle machine, and what is noted of it.
+use Rattle.std.specs.Prelude.{List, [], ◌∷◌, map, reverse, ◌≡◌, ℕ, ◌≤◌, ◌<◌, length, Result, Ok, Err}
 use Rattle.bundle_text.specs.alternative_ends.Readings.{NoSlash, plain_past}
-use Rattle.bundle_text.specs.declared.alternatives.AlternativeOutcome.{AlternativeOutcome}
-use Rattle.bundle_text.specs.declared.alternatives.AlternativeOutcome.TheVariants.{Past as AlternativePast, Fail as AlternativeFail}
+use Rattle.bundle_text.specs.declared.notes.Notes.{Notes}
+use Rattle.bundle_text.specs.declared.steps.StepRead.{StepRead}
+use Rattle.bundle_text.specs.notes.Notes.{with_inners, Ended}
 use Rattle.bundle_text.specs.steps.Readings.{plain_noted}
 use Rattle.path_spec.specs.Machine.{Inner, inside, begin_step, bundle_machine}
 use Rattle.text_spec.specs.Machines.{departs, from}
-use Rattle.text_spec.specs.Scans.{byte_at}
-
--- ---- bytes
--- the byte b stands at a place
-pub record Stands (s : List ℕ) (at b : ℕ) (r : Bool) : Type 0 where
-  pub here : r ≡ true → (at < length s) × (byte_at s at ≡ b)
-  pub other : r ≡ false → at < length s → byte_at s at ≡ b → ⊥
 
 -- ---- an alternative
 -- brackets in which the steps cs of an alternative have been read, the last first
-abbrev pub in_alternative : List ℕ → List ℕ → Inner → Inner
+abbrev pub in_alternative : List ℕ → List StepRead → Inner → Inner
 in_alternative s cs x = record { outer = x.outer; axis = x.axis; test = x.test; alternatives = x.alternatives; steps = map (plain_noted s) cs }
 
-pub record AlternativeRead (s : List ℕ) (at n : ℕ) (cells cells' : List ℕ) (count j : ℕ) : Type 0 where
-  pub last : ℕ
+pub record AlternativeRead (s : List ℕ) (at : ℕ) (N N' : Notes) (j : ℕ) : Type 0 where
+  pub last : StepRead
   -- the last first
-  pub before : List ℕ
+  pub before : List StepRead
   pub low : at < j
   pub high : j ≤ length s
   pub stop : NoSlash s j
-  pub counted : count ≡ n + length (last ∷ before)
-  pub few : count ≤ j
-  pub wrote : cells' ≡ sets cells n (reverse (last ∷ before))
+  pub ended : Ended (reverse (last ∷ before))
+  pub noted : N' ≡ with_inners N (reverse (last ∷ before))
+  pub few : N'.inner_count ≤ j
   pub same : (x : Inner) → from bundle_machine (begin_step (inside (in_alternative s [] x))) s at ≡ from bundle_machine (plain_past s last (in_alternative s before x)) s j
 
-abbrev pub AlternativeAs : List ℕ → ℕ → ℕ → List ℕ → List ℕ → AlternativeOutcome → Type 0
-AlternativeAs s at n cells cells' (AlternativePast count j) = AlternativeRead s at n cells cells' count j
-AlternativeAs s at n cells cells' (AlternativeFail j) = (x : Inner) → from bundle_machine (begin_step (inside (in_alternative s [] x))) s at ≡ departs j
+abbrev pub AlternativeAs : List ℕ → ℕ → Notes → Notes → Result ℕ ℕ → Type 0
+AlternativeAs s at N N' (Ok j) = AlternativeRead s at N N' j
+AlternativeAs s at N N' (Err j) = (x : Inner) → from bundle_machine (begin_step (inside (in_alternative s [] x))) s at ≡ departs j
 
-pub record ReadsAlternative (s : List ℕ) (at n : ℕ) (cells cells' : List ℕ) (r : AlternativeOutcome) : Type 0 where
-  pub says : AlternativeAs s at n cells cells' r
+pub record ReadsAlternative (s : List ℕ) (at : ℕ) (N N' : Notes) (r : Result ℕ ℕ) : Type 0 where
+  pub says : AlternativeAs s at N N' r

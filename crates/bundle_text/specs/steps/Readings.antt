@@ -1,47 +1,57 @@
--- What reading a test and a step without brackets answers, in terms of the bundle machine, and the number in which a step is noted.
-use Rattle.std.specs.Prelude.{cond, List, ◌≡◌, ℕ, ◌+◌, ◌-◌, ◌/◌, ◌%◌, ◌≤◌, ◌<◌, eqb, length}
-use Rattle.bundle_text.specs.axes.Readings.{max_axis}
-use Rattle.bundle_text.specs.declared.steps.StepOutcome.{StepOutcome}
-use Rattle.bundle_text.specs.declared.steps.StepOutcome.TheVariants.{Past, Fail}
-use Rattle.compiled_paths.specs.Columns.{written_of}
+-- What reading a test and a step without brackets answers, in terms of the bundle machine, and what a step that was read stands for.
+use Rattle.std.specs.Prelude.{Bool, List, ◌≡◌, ℕ, ◌≤◌, ◌<◌, length, true, false, Result, Ok, Err}
+use Rattle.bundle_text.specs.declared.steps.StepRead.{StepRead}
+use Rattle.bundle_text.specs.declared.steps.TestRead.{TestRead}
+use Rattle.bundle_text.specs.declared.steps.TestRead.TheVariants.{Node, Text, Name}
+use Rattle.compiled_paths.specs.Steps.{written_axis}
 use Rattle.path_spec.specs.Machine.{Context, State, in_test, in_call, after_call, begin_step, bundle_machine}
 use Rattle.path_spec.specs.Paths.{WrittenAxis, NodeTest, named, any_node, any_text, PlainStep}
 use Rattle.schema_spec.specs.Declarations.{Use}
 use Rattle.text_spec.specs.Machines.{departs, from}
-use Rattle.text_spec.specs.Scans.{name_at}
+use Rattle.text_spec.specs.Scans.{byte_at, name_at}
 
+-- ---- bytes
+-- the byte b stands at a place
+pub record Stands (s : List ℕ) (at b : ℕ) (r : Bool) : Type 0 where
+  pub here : r ≡ true → (at < length s) × (byte_at s at ≡ b)
+  pub other : r ≡ false → at < length s → byte_at s at ≡ b → ⊥
+
+-- ---- what a step that was read stands for
 abbrev pub use_at : List ℕ → ℕ → Use
 use_at s p = record { place = p; name = name_at s p }
 
--- a test by its number: 0 and 1 for `node()` and `text()`, and two more than the place of a name
-unfoldable pub test_noted : List ℕ → ℕ → NodeTest Use
-test_noted s t = cond (eqb t 0) any_node (cond (eqb t 1) any_text (named (use_at s (t - 2))))
+-- a test of a text
+abbrev pub test_noted : List ℕ → TestRead → NodeTest Use
+test_noted s Node = any_node
+test_noted s Text = any_text
+test_noted s (Name p) = named (use_at s p)
 
--- the number of axes
-abbrev pub axis_count : ℕ
-axis_count = max_axis + 1
+abbrev pub step_axis : StepRead → WrittenAxis
+step_axis p = written_axis p.axis
 
--- a step by its number: so many times that of its test, and that of its axis
-unfoldable pub step_axis : ℕ → WrittenAxis
-step_axis c = written_of (c % axis_count)
+abbrev pub step_test : List ℕ → StepRead → NodeTest Use
+step_test s p = test_noted s p.test
 
-unfoldable pub step_test : List ℕ → ℕ → NodeTest Use
-step_test s c = test_noted s (c / axis_count)
+abbrev pub plain_noted : List ℕ → StepRead → PlainStep Use
+plain_noted s p = record { axis = step_axis p; test = step_test s p; condition = tt }
 
-abbrev pub plain_noted : List ℕ → ℕ → PlainStep Use
-plain_noted s c = record { axis = step_axis c; test = step_test s c; condition = tt }
-
--- the numbers of tests in a text
-abbrev pub tests_in : List ℕ → ℕ
-tests_in s = length s + 1
+-- a step with which its alternative ends
+abbrev pub last_read : StepRead → StepRead
+last_read p = record { axis = p.axis; test = p.test; ends_alternative = true }
 
 -- ---- a test
-abbrev pub TestAs : (WrittenAxis → Context → State) → List ℕ → ℕ → StepOutcome → Type 0
-TestAs before s at (Past t j) =
-    (at < j) × (j ≤ length s) × (t ≤ tests_in s) × ((a : WrittenAxis) (x : Context) → from bundle_machine (before a x) s at ≡ from bundle_machine (after_call a (test_noted s t) x) s j)
-TestAs before s at (Fail j) = (a : WrittenAxis) (x : Context) → from bundle_machine (before a x) s at ≡ departs j
+-- a name's place is in the text
+abbrev pub Within : List ℕ → TestRead → Type 0
+Within s Node = Unit {0}
+Within s Text = Unit {0}
+Within s (Name p) = p < length s
 
-pub record ReadsTest (before : WrittenAxis → Context → State) (s : List ℕ) (at : ℕ) (r : StepOutcome) : Type 0 where
+abbrev pub TestAs : (WrittenAxis → Context → State) → List ℕ → ℕ → Result (TestRead × ℕ) ℕ → Type 0
+TestAs before s at (Ok r) =
+    (at < r.1) × (r.1 ≤ length s) × Within s r.0 × ((a : WrittenAxis) (x : Context) → from bundle_machine (before a x) s at ≡ from bundle_machine (after_call a (test_noted s r.0) x) s r.1)
+TestAs before s at (Err j) = (a : WrittenAxis) (x : Context) → from bundle_machine (before a x) s at ≡ departs j
+
+pub record ReadsTest (before : WrittenAxis → Context → State) (s : List ℕ) (at : ℕ) (r : Result (TestRead × ℕ) ℕ) : Type 0 where
   pub says : TestAs before s at r
 
 -- in the name at a place
@@ -49,19 +59,15 @@ abbrev pub named-at : List ℕ → ℕ → WrittenAxis → Context → State
 named-at s at a x = in_test a at (name_at s at) x
 
 -- before the `)` of the test t
-abbrev pub called : List ℕ → ℕ → WrittenAxis → Context → State
+abbrev pub called : List ℕ → TestRead → WrittenAxis → Context → State
 called s t a x = in_call a (test_noted s t) x
 
 -- ---- a step
-abbrev pub PlainAs : List ℕ → ℕ → StepOutcome → Type 0
-PlainAs s at (Past c j) =
-    (at < j) × (j ≤ length s) × ((x : Context) → from bundle_machine (begin_step x) s at ≡ from bundle_machine (after_call (step_axis c) (step_test s c) x) s j)
-PlainAs s at (Fail j) = (x : Context) → from bundle_machine (begin_step x) s at ≡ departs j
+abbrev pub PlainAs : List ℕ → ℕ → Result (StepRead × ℕ) ℕ → Type 0
+PlainAs s at (Ok r) =
+    (at < r.1) × (r.1 ≤ length s) × (r.0.ends_alternative ≡ false)
+    × ((x : Context) → from bundle_machine (begin_step x) s at ≡ from bundle_machine (after_call (step_axis r.0) (step_test s r.0) x) s r.1)
+PlainAs s at (Err j) = (x : Context) → from bundle_machine (begin_step x) s at ≡ departs j
 
-pub record ReadsPlain (s : List ℕ) (at : ℕ) (r : StepOutcome) : Type 0 where
+pub record ReadsPlain (s : List ℕ) (at : ℕ) (r : Result (StepRead × ℕ) ℕ) : Type 0 where
   pub says : PlainAs s at r
-
--- the number of a step with this axis and this test
-pub record Packed (a t r : ℕ) : Type 0 where
-  pub axis : r % axis_count ≡ a
-  pub test : r / axis_count ≡ t

@@ -1,23 +1,33 @@
 -- Numbers appended to lent cells, as far as there is room, and the rest cleared.
-use Rattle.std.specs.Prelude.{Bool, true, false, cond, List, [], ◌∷◌, ◌++◌, ◌≡◌, refl, ℕ, ◌+◌, ◌-◌, ◌<◌, ◌≤◌, ltb, length, get_or, set}
-use Rattle.std.proofs.Common.{⊎_elim, sym, ap, ◌∙◌, arith, lt-ltb, le-ltb, length-set, length-append, ext_get_or, get_or-set_same, get_or-set_other, get_or-append-add}
+use Rattle.std.specs.Prelude.{Bool, true, false, cond, List, [], ◌∷◌, ◌++◌, ◌⊎◌, ◌≡◌, refl, ℕ, ◌+◌, ◌-◌, ◌<◌, ◌≤◌, ltb, length, get_or, set}
+use Rattle.std.proofs.Common.{⊎_elim, inl, inr, sym, ap, ◌∙◌, arith, lt-ltb, le-ltb, length-set, length-append, ext_get_or, get_or-set_same, get_or-set_other, get_or-append-add}
 use Rattle.std.proofs.Math.ListN.{get_or-append, get_or-eq_default}
 use Rattle.cells.specs.lent.Cells.{Cleared, padded-at}
 use Rattle.text_laws.specs.Cells.{padded-length}
+use Rattle.std.proofs.Math.Seq.{set_out}
+use Rattle.std.proofs.lemmas.Bool.{cases_lt}
 use Rattle.text_laws.specs.Searches.{below-or-past}
 use Rattle.text_spec.specs.Cells.{padded}
 
 -- a cell that is there is written
-unfoldable pub written : List ℕ → ℕ → ℕ → List ℕ
+unfoldable pub written : {A : Type 0} → List A → ℕ → A → List A
 written out n x = cond (ltb n (length out)) (set out n x) out
 
-pub written_in : (out : List ℕ) (n x : ℕ) → n < length out → set out n x ≡ written out n x
+pub written_in : {A : Type 0} (out : List A) (n : ℕ) (x : A) → n < length out → set out n x ≡ written out n x
 unfolding written
 written_in out n x l = sym (ap (λ (b : Bool). cond b (set out n x) out) (lt-ltb n (length out) l))
 
-pub written_out : (out : List ℕ) (n x : ℕ) → length out ≤ n → out ≡ written out n x
+pub written_out : {A : Type 0} (out : List A) (n : ℕ) (x : A) → length out ≤ n → out ≡ written out n x
 unfolding written
 written_out out n x l = sym (ap (λ (b : Bool). cond b (set out n x) out) (le-ltb n (length out) l))
+
+-- a store past the end changes nothing
+pub set-written : {A : Type 0} (out : List A) (n : ℕ) (x : A) → set out n x ≡ written out n x
+set-written out n x = by (cases_lt n (length out))
+  where
+    by : (n < length out) ⊎ (length out ≤ n) → set out n x ≡ written out n x
+    by (inl l) = written_in out n x l
+    by (inr l) = set_out out n x l ∙ written_out out n x l
 
 pub written-length : (out : List ℕ) (n x : ℕ) → length (written out n x) ≡ length out
 unfolding written

@@ -1,7 +1,9 @@
 -- Text in lent cells from a place on, and numbers in decimal.
-use Rattle.std.specs.Prelude.{Bool, true, false, cond, List, [], ◌∷◌, ◌++◌, ◌≡◌, refl, ℕ, zero, suc, ◌+◌, ◌*◌, ◌/◌, ◌%◌, ◌≤◌, ◌<◌, ltb, length, get_or, set, take}
+use Rattle.std.specs.Prelude.{Bool, true, false, cond, List, [], ◌∷◌, ◌++◌, ◌≡◌, refl, ℕ, zero, suc, ◌+◌, ◌*◌, ◌/◌, ◌%◌, ◌≤◌, ◌<◌, ltb, length, get_or, set, take, drop}
 use Rattle.std.proofs.Common.{sym, ap, ap₂, ◌∙◌, add-one, arith, lt-ltb, le-ltb, ltb-true, ltb-false, length-append, length-take-le, take-suc, take_all}
-use Rattle.std.proofs.lemmas.List.Edits.{sets}
+use Rattle.std.proofs.lemmas.List.Edits.{sets, sets-eq}
+use Rattle.std.proofs.lemmas.Slice.{put_mid-paste}
+use borrow.Rule.Slice.PartMut.{put_mid}
 use Rattle.std.proofs.Math.Seq.{length-sets}
 use Rattle.library_spec.specs.Listing.{decimal_in, decimal}
 use Rattle.text_laws.specs.Cells.{sets-append}
@@ -72,6 +74,11 @@ module _ (was : List ℕ) (at n : ℕ) where
                 ap₂ (λ (o : List ℕ) (k : ℕ). set o k (48 + (n % 10))) w.cells w.after
                 ∙ sym (sets-append was at (decimal (n / 10)) ((48 + (n % 10)) ∷ [])) ∙ ap (sets was at) (sym (decimal-more n low h));
           }
+
+-- ---- a text copied into a part of the cells, from `at` up to the cell past it
+pub copied-at : (was xs ys : List ℕ) (at k : ℕ) → ys ≡ xs → k ≡ length xs → at + length xs ≤ length was → WrittenAt was at xs (at + length xs) (put_mid at k was ys)
+copied-at was xs ys at k e q h =
+    record { after = refl; cells = put_mid-paste at k was ys xs (length xs) e (sym q) refl ∙ ap (λ (l : List ℕ). take at was ++ l ++ drop (at + length xs) was) (take_all (length xs) xs (omega arith)) ∙ sym (sets-eq xs was at h) }
 
 -- ---- a text copied cell by cell: i bytes of it are
 pub record Copying (text was : List ℕ) (at i : ℕ) (out : List ℕ) : Type 0 where

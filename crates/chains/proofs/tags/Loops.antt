@@ -3,10 +3,10 @@ use mathlib.Core.List.{List, [], ◌∷◌, map}
 use mathlib.Core.Path.{◌≡◌, refl, sym, ap, ◌∙◌}
 use Prim.Native.Nat.{ℕ, zero, suc, ◌+◌, ◌*◌, ◌-◌, ◌≤◌, ◌<◌}
 use native.Mathlib.Omega.{arith}
-use lib.ListN.{length, get_or, set, length-set, length-map}
+use lib.ListN.{length, get_or, length-map}
 use lib.Seq.{ext_get_or}
 use Rattle.chains.specs.tags.Chains.{link_size, chain_size, SizePass, link-small, size-root, size-later}
-use Rattle.text_laws.specs.Loops.{Passed, passed-next}
+use Rattle.text_laws.specs.Loops.{Passed}
 use Rattle.text_spec.specs.Limits.{max_nodes, max_schema_bytes}
 use Rattle.text_spec.specs.Scans.{name_at}
 
@@ -45,24 +45,10 @@ climbing-all sizes codes ps row n r k w z e = omega (arith, w.total, ap (chain_s
 abbrev pub IsSize : List ℕ → List ℕ → ℕ → ℕ → Type 0
 IsSize text names j x = x ≡ length (name_at text (get_or names j 0))
 
-pub record Sizing (text names was : List ℕ) (e : ℕ) (sizes : List ℕ) : Type 0 where
-  pub within : e ≤ length names
-  pub long : length sizes ≡ length names
-  pub passed : Passed (IsSize text names) 0 was e sizes
-
-pub sizing-next : (text names was : List ℕ) (e : ℕ) (sizes : List ℕ) (k : ℕ) → Sizing text names was e sizes → e < length names
-    → k ≡ get_or names e 0 + length (name_at text (get_or names e 0)) → Sizing text names was (e + 1) (set sizes e (k - get_or names e 0))
-sizing-next text names was e sizes k w l q =
-    record {
-      within = omega arith;
-      long = length-set sizes e (k - get_or names e 0) ∙ w.long;
-      passed = passed-next (IsSize text names) 0 was e sizes (k - get_or names e 0) (omega (arith, w.long)) w.passed (omega arith);
-    }
-
-pub sizing-all : (text names was : List ℕ) (e : ℕ) (sizes : List ℕ) → Sizing text names was e sizes → length names ≤ e → sizes ≡ map (λ p. length (name_at text p)) names
-sizing-all text names was e sizes w l =
-    ext_get_or 0 sizes (map (λ p. length (name_at text p)) names) (w.long ∙ sym (length-map names (λ p. length (name_at text p))))
-    (λ j b. w.passed.done j (omega (arith, w.long)) ∙ sym (mapped names j (omega (arith, w.long))))
+pub sizes-all : (text names was : List ℕ) (e : ℕ) (sizes : List ℕ) → e ≡ length names → length sizes ≡ length names → Passed (IsSize text names) 0 was e sizes → sizes ≡ map (λ p. length (name_at text p)) names
+sizes-all text names was e sizes end long w =
+    ext_get_or 0 sizes (map (λ p. length (name_at text p)) names) (long ∙ sym (length-map names (λ p. length (name_at text p))))
+    (λ j b. w.done j (omega (arith, long, end)) ∙ sym (mapped names j (omega (arith, long))))
   where
     mapped : (xs : List ℕ) (j : ℕ) → j < length xs → get_or (map (λ p. length (name_at text p)) xs) j 0 ≡ length (name_at text (get_or xs j 0))
     mapped [] j h = absurd (omega arith)

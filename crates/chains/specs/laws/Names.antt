@@ -78,8 +78,8 @@ module _ (text : List ℕ) (s : Schema) (read : read_schema text ≡ accepted s)
   name-at : (e : ℕ) → e < length s → name_at text (get_or t.names e 0) ≡ schemas.name_at s e
   name-at e l =
       let few = accepted-length text s read in
-      let own : e < length (take t.count t.names) = omega (arith, made.counted, length-take t.count t.names, cells) in
-      ap (name_at text) (sym (get_or-take t.count t.names e 0 (omega (arith, made.counted)))) ∙ sym (mapped_at (name_at text) (take t.count t.names) e 0 [] own)
+      let own : e < length (take t.relations.count t.names) = omega (arith, made.counted, length-take t.relations.count t.names, cells) in
+      ap (name_at text) (sym (get_or-take t.relations.count t.names e 0 (omega (arith, made.counted)))) ∙ sym (mapped_at (name_at text) (take t.relations.count t.names) e 0 [] own)
       ∙ ap (λ (z : List (List ℕ)). get_or z e []) made.named ∙ element-name s e l
 
   place-within : (e : ℕ) → get_or t.names e 0 ≤ length text

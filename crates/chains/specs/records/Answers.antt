@@ -1,6 +1,5 @@
 -- The chain of tags of a row of a table that is handed in with a schema's record: the library's outcome.
-use Rattle.std.specs.Prelude.{true, false, ◌&&◌, List, ◌≡◌, ℕ, leb, take}
-use Rattle.cells.specs.declared.verdicts.Verdict.{Verdict}
+use Rattle.std.specs.Prelude.{true, false, ◌&&◌, List, ◌≡◌, ℕ, Result, leb, take}
 use Rattle.cells.specs.verdicts.Verdicts.{AnsweredBytes}
 use Rattle.chains.specs.handed.Answers.{chain_held}
 use Rattle.handed_tables.specs.calls.Calls.{record-refused, record-held}
@@ -10,6 +9,7 @@ use Rattle.schema_laws.specs.Records.{record-accepted}
 use Rattle.schema_reader.specs.Records.{passes_record}
 use Rattle.schema_spec.specs.Reading.{read_schema}
 use Rattle.schema_spec.specs.Records.{schema_in, is_schema_record}
+use Rattle.text.specs.declared.refusals.Refusal.{Refusal}
 use Rattle.text_laws.specs.Tests.{and_cases, passed}
 use Rattle.text_spec.specs.Cells.{padded}
 use Rattle.text_spec.specs.Limits.{max_schema_bytes}
@@ -22,7 +22,7 @@ module _ (schema : TextRecord) (t : LentTable) (position size : ℕ) where
   unfolding row_chain
   no_record e = record-refused schema _ e
 
-  pub by-record : passes_schema schema ≡ true → (r : Verdict) (x : List ℕ) → AnsweredBytes (chain_held (schema_in (text_in schema)) t position size) size r x
+  pub by-record : passes_schema schema ≡ true → (r : Result ℕ Refusal) (x : List ℕ) → AnsweredBytes (chain_held (schema_in (text_in schema)) t position size) size r x
       → AnsweredBytes (row_chain schema t position size) size r x
   unfolding row_chain chain_held
   by-record e r x w = rw (record-held schema _ e) w

@@ -8,8 +8,6 @@ use native.Mathlib.Omega.{arith}
 use Rattle.std.proofs.Math.ListN.{length-append}
 use Rattle.std.proofs.lemmas.List.Edits.{sets}
 use Rattle.std.proofs.Math.Seq.{length-sets}
-use Rattle.std.specs.Borrow.{Bor}
-use denote.Triple.Both.{Both}
 use Rattle.cells.specs.row_sets.Ancestors.{ancestors_of, root-ancestors, later-ancestors}
 use Rattle.table_laws.specs.Parents.{ParentsBefore}
 use Rattle.text_laws.specs.Cells.{sets-append}
@@ -17,16 +15,9 @@ use Rattle.text_spec.specs.Limits.{max_declarations, max_nodes, max_schema_bytes
 use Rattle.text_spec.specs.Lists.{bytes, part}
 
 -- ---- definitions
--- a slice that is lent to be read, at both ends of a call
-abbrev pub ReadSlice : Type 0
-ReadSlice = Both (Bor (List ℕ)) (Bor (List ℕ))
-
 -- "/" and the tag of the name with a code
 unfoldable pub link_at : List ℕ → List ℕ → List ℕ → ℕ → List ℕ
 link_at text starts sizes c = bytes "/" ++ cond (ltb c max_declarations) (part (get_or starts c 0) (get_or sizes c 0) text) (bytes "text()")
-
-abbrev pub entry_link : ReadSlice → ReadSlice → ReadSlice → ℕ → List ℕ
-entry_link text starts sizes c = link_at text.entry.now starts.entry.now sizes.entry.now c
 
 unfoldable pub link_size : List ℕ → ℕ → ℕ
 link_size sizes c = cond (ltb c max_declarations) (get_or sizes c 0 + 1) 7
@@ -43,9 +34,6 @@ summed f (r ∷ rs) = summed f rs + f r
 -- the row and those above it, from the root down
 unfoldable pub chain_at : List ℕ → List ℕ → List ℕ → List ℕ → List ℕ → ℕ → List ℕ
 chain_at text starts sizes codes ps r = linked (λ q. link_at text starts sizes (get_or codes q 0)) (r ∷ ancestors_of ps r)
-
-abbrev pub entry_chain : ReadSlice → ReadSlice → ReadSlice → ReadSlice → ReadSlice → ℕ → List ℕ
-entry_chain text starts sizes codes parents row = chain_at text.entry.now starts.entry.now sizes.entry.now codes.entry.now parents.entry.now row
 
 unfoldable pub chain_size : List ℕ → List ℕ → List ℕ → ℕ → ℕ
 chain_size sizes codes ps r = summed (λ q. link_size sizes (get_or codes q 0)) (r ∷ ancestors_of ps r)

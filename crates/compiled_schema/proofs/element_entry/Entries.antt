@@ -2,26 +2,23 @@
 use mathlib.Core.List.{List, ◌++◌}
 use mathlib.Core.Logic.{⊎_elim}
 use mathlib.Core.Path.{◌≡◌, refl, sym, ap, subst, ◌∙◌}
+use Rattle.std.specs.Prelude.{Result, Ok, Err}
 use Prim.Native.Nat.{ℕ, ◌+◌, ◌-◌, ◌≤◌, ◌<◌}
 use native.Mathlib.Omega.{arith}
 use lib.ListN.{length, take, drop, get_or, replicate, length-map, length-replicate}
 use lib.Seq.{sets, sets-eq}
 use Rattle.compiled_schema.proofs.element_entry.Reading.{index, departs-not, model-within, model-cells, model-small, cell-small, element-small, content-here, model-size, uses-few, at_next}
-use Rattle.compiled_schema.specs.declared.entry_parts.ElementEntry.{ElementEntry}
 use Rattle.compiled_schema.specs.element_entry.Reading.{AtDeclaration, EntryMade}
-use Rattle.compiled_schema.specs.entry_parts.Entries.{kind_of, EntryOf, kind_in, is_held, entry_with, with_cells}
+use Rattle.compiled_schema.specs.entry_parts.Entries.{EntryOf, is_held}
 use Rattle.compiled_schema.specs.entry_parts.EntryLaws.{clear-bit, is_held-holds}
 use Rattle.models.specs.PositionLaws.{not-next}
 use Rattle.models.specs.Positions.{size}
 use Rattle.models.specs.declared.Content.{Content as ContentRead}
 use Rattle.names.specs.Sets.{member}
-use Rattle.names.specs.bits.Bits.{bit-none}
 use Rattle.names.specs.declared.NameSet.{NameSet}
 use Rattle.schema.specs.contents.Contents.{ContentBuilt, built-empty, built-pcdata, built-children}
 use Rattle.schema.specs.declarations.Declarations.{DeclarationRead, Declared}
 use Rattle.schema.specs.declared.declarations.DeclarationEnd.{DeclarationEnd}
-use Rattle.schema.specs.declared.declarations.DeclarationOutcome.{DeclarationOutcome}
-use Rattle.schema.specs.declared.declarations.DeclarationOutcome.TheVariants.{Past, Fail}
 use Rattle.schema.specs.particles.Readings.{use_at}
 use Rattle.schema_laws.specs.Accepted.{uses_in-rename}
 use Rattle.schema_spec.specs.Declarations.{Use, Declaration}
@@ -45,17 +42,14 @@ set-padded n cells vs e h =
     ∙ sym (padded-content n vs h)
 
 -- ---- what was built of a content is its entry
-module _ {before after : List ℕ} (clear : before ≡ replicate max_model_names 0) (f : Use → ℕ) (k : ℕ) (set : NameSet) {elements : List ℕ} where
+module _ {before after : List ℕ} (clear : before ≡ replicate max_model_names 0) (f : Use → ℕ) {elements : List ℕ} where
   entry-built : {content : Content Use} {c : ContentRead} → ContentBuilt before after content c → length (uses_in content) ≤ max_model_names → elements ≡ padded max_model_names (uses_in (rename_content f content))
-      → EntryOf (rename_content f content) (with_cells (entry_with k c (length (uses_in content)) set) elements after)
+      → EntryOf (rename_content f content) (record { content = c; size = length (uses_in content); elements = elements; predecessors = after })
   entry-built (built-empty e) l cells =
       record {
         few = l;
-        kind = refl;
+        content = refl;
         size = refl;
-        first = λ i h. bit-none i;
-        last = λ i h. bit-none i;
-        nullable = refl;
         elements = cells;
         room = ap length e ∙ ap length clear;
         next = λ i j h. clear-bit max_model_names (e ∙ clear) i j;
@@ -63,11 +57,8 @@ module _ {before after : List ℕ} (clear : before ≡ replicate max_model_names
   entry-built (built-pcdata e) l cells =
       record {
         few = l;
-        kind = refl;
+        content = refl;
         size = refl;
-        first = λ i h. bit-none i;
-        last = λ i h. bit-none i;
-        nullable = refl;
         elements = cells;
         room = ap length e ∙ ap length clear;
         next = λ i j h. clear-bit max_model_names (e ∙ clear) i j;
@@ -78,11 +69,8 @@ module _ {before after : List ℕ} (clear : before ≡ replicate max_model_names
       let r = b.right (omega arith) (omega arith) (λ i j h. clear-bit max_model_names clear i j) f in
       record {
         few = omega arith;
-        kind = refl;
+        content = (rename_in f tree, refl, r.ends);
         size = sym many;
-        first = r.ends.first;
-        last = r.ends.last;
-        nullable = r.ends.absent;
         elements = cells;
         room = b.long ∙ n;
         next =
@@ -91,11 +79,11 @@ module _ {before after : List ℕ} (clear : before ≡ replicate max_model_names
             (λ past. r.clear i j (omega arith) ∙ sym (not-next 0 (rename_in f tree) j (λ within. omega (arith, within.1)) i)) (below-or-past j (size (rename_in f tree)));
       }
 
-module _ {text uses : List ℕ} {d n i : ℕ} (A : AtDeclaration text uses d n i) {cells cells' before after : List ℕ} {r : DeclarationOutcome} (D : Declared text i 0 cells cells' before after r) where
-  pub entry-fails : {j : ℕ} → r ≡ Fail j → ⊥
+module _ {text uses : List ℕ} {d n i : ℕ} (A : AtDeclaration text uses d n i) {cells cells' before after : List ℕ} {r : Result DeclarationEnd ℕ} (D : Declared text i 0 cells cells' before after r) where
+  pub entry-fails : {j : ℕ} → r ≡ Err j → ⊥
   entry-fails u = departs-not A ((subst (Declared text i 0 cells cells' before after) u D).says A.done)
 
-  module _ {p : DeclarationEnd} (u : r ≡ Past p) where
+  module _ {p : DeclarationEnd} (u : r ≡ Ok p) where
     read : DeclarationRead text i 0 cells cells' before after p
     read = (subst (Declared text i 0 cells cells' before after) u D).says
 
@@ -144,21 +132,17 @@ module _ {text uses : List ℕ} {d n i : ℕ} (A : AtDeclaration text uses d n i
         entry_length = ap length entry-model ∙ sized
 
         pub entry-made : before ≡ replicate max_model_names 0 → {start elements : List ℕ} → start ≡ replicate max_model_names 0 → elements ≡ sets start 0 model
-            → {k kind : ℕ} {set : NameSet} {x : ElementEntry} → kind ≡ kind_in p.content → ((m : Name) → member set m ≡ is_held d kind model m)
-            → Skipped text p.at k → x ≡ entry_with k p.content p.n set → EntryMade text uses d n elements after x
-        entry-made clear {start} {elements} zeros copied {k} {kind} {set} ek eh K ex =
-            subst (EntryMade text uses d n elements after) (sym ex)
-            (record {
+            → {k : ℕ} {set : NameSet} → ((m : Name) → member set m ≡ is_held d p.content model m) → Skipped text p.at k
+            → EntryMade text uses d n (record { entry = record { content = p.content; size = p.n; elements = elements; predecessors = after }; «holds» = set; next = k })
+        entry-made clear {start} {elements} zeros copied {k} {set} eh K =
+            record {
               next = at_next A here p.at (read.same A.done) l p.n counted K;
-              entry =
-                  subst (λ (c : Content ℕ). EntryOf c (with_cells (entry_with k p.content p.n set) elements after)) (sym here-content)
-                  (subst (λ (m : ℕ). EntryOf (rename_content (index A) read.content) (with_cells (entry_with k p.content m set) elements after)) (sym counted)
-                  (entry-built clear (index A) k set read.built (uses-few A here p.at (read.same A.done)) cells-here));
+              entry = entry-here;
               held =
                   λ m.
                   let s = element-small A l in
-                  eh m ∙ is_held-holds (schema_in text) d kind model (omega arith) kind-here entry-model (λ b h. let t = model-small A b h in omega arith) m;
-            })
+                  eh m ∙ is_held-holds (schema_in text) d p.content model (omega arith) entry-here.content entry-model (λ b h. let t = model-small A b h in omega arith) m;
+            }
           where
             here-content : content_at (schema_in text) d ≡ rename_content (index A) read.content
             here-content = content-here A here p.at (read.same A.done)
@@ -169,10 +153,8 @@ module _ {text uses : List ℕ} {d n i : ℕ} (A : AtDeclaration text uses d n i
                 let e = entry_length in
                 copied ∙ set-padded max_model_names start model zeros (omega arith) ∙ ap (padded max_model_names) (entry-model ∙ ap uses_in here-content)
 
-            kind-built : {content : Content Use} {c : ContentRead} → ContentBuilt before after content c → kind_in c ≡ kind_of (rename_content (index A) content)
-            kind-built (built-empty e) = refl
-            kind-built (built-pcdata e) = refl
-            kind-built (built-children b) = refl
-
-            kind-here : kind ≡ kind_of (content_at (schema_in text) d)
-            kind-here = ek ∙ kind-built read.built ∙ ap kind_of (sym here-content)
+            entry-here : EntryOf (content_at (schema_in text) d) (record { content = p.content; size = p.n; elements = elements; predecessors = after })
+            entry-here =
+                subst (λ (c : Content ℕ). EntryOf c (record { content = p.content; size = p.n; elements = elements; predecessors = after })) (sym here-content)
+                (subst (λ (m : ℕ). EntryOf (rename_content (index A) read.content) (record { content = p.content; size = m; elements = elements; predecessors = after })) (sym counted)
+                (entry-built clear (index A) read.built (uses-few A here p.at (read.same A.done)) cells-here))

@@ -7,7 +7,8 @@ use native.Mathlib.Numerals.{add-one}
 use lib.Dec.{eqb, ltb}
 use lib.ListN.{length, drop, get_or, drop_of_length-le}
 use lib.Seq.{drop-cons}
-use Rattle.compiled_schema.specs.entry_parts.Entries.{is_one_of, is_held}
+use Rattle.compiled_schema.specs.entry_parts.Entries.{is_text, is_one_of, is_held}
+use Rattle.models.specs.declared.Content.{Content}
 use Rattle.names.specs.Sets.{member}
 use Rattle.names.specs.declared.NameSet.{NameSet}
 use Rattle.schema_spec.specs.Names.{Name, element, text, same_name}
@@ -38,13 +39,13 @@ module _ (elements : List ℕ) where
       none (text b) = refl
 
 -- with the text name, or without it
-module _ (a kind : ℕ) (elements : List ℕ) (set : NameSet) (from : (n : Name) → member set n ≡ is_one_of elements n) where
-  pub held-text : eqb kind 1 ≡ true → (next : NameSet) → ((n : Name) → member next n ≡ (member set n || (same_name n (text a) && ltb a 64)))
-      → (n : Name) → member next n ≡ is_held a kind elements n
+module _ (a : ℕ) (c : Content) (elements : List ℕ) (set : NameSet) (from : (n : Name) → member set n ≡ is_one_of elements n) where
+  pub held-text : is_text c ≡ true → (next : NameSet) → ((n : Name) → member next n ≡ (member set n || (same_name n (text a) && ltb a 64)))
+      → (n : Name) → member next n ≡ is_held a c elements n
   held-text e next new (element b) = new (element b) ∙ or-false (member set (element b)) ∙ from (element b)
   held-text e next new (text b) =
-      new (text b) ∙ ap (λ (c : Bool). c || (eqb b a && ltb a 64)) (from (text b)) ∙ sym (ap (λ (c : Bool). (eqb b a && ltb a 64) && c) e ∙ and-true (eqb b a && ltb a 64))
+      new (text b) ∙ ap (λ (t : Bool). t || (eqb b a && ltb a 64)) (from (text b)) ∙ sym (ap (λ (t : Bool). (eqb b a && ltb a 64) && t) e ∙ and-true (eqb b a && ltb a 64))
 
-  pub held_none : eqb kind 1 ≡ false → (n : Name) → member set n ≡ is_held a kind elements n
+  pub held_none : is_text c ≡ false → (n : Name) → member set n ≡ is_held a c elements n
   held_none e (element b) = from (element b)
-  held_none e (text b) = from (text b) ∙ sym (ap (λ (c : Bool). (eqb b a && ltb a 64) && c) e ∙ and-false (eqb b a && ltb a 64))
+  held_none e (text b) = from (text b) ∙ sym (ap (λ (t : Bool). (eqb b a && ltb a 64) && t) e ∙ and-false (eqb b a && ltb a 64))

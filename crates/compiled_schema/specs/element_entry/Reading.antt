@@ -1,7 +1,7 @@
 -- An accepted text, read declaration by declaration, and the entry that one of its declarations gives.
 use Rattle.std.specs.Prelude.{List, [], ◌≡◌, ℕ, ◌+◌, ◌≤◌, length, take}
-use Rattle.compiled_schema.specs.declared.entry_parts.ElementEntry.{ElementEntry}
-use Rattle.compiled_schema.specs.entry_parts.Entries.{EntryOf, with_cells}
+use Rattle.compiled_schema.specs.declared.element_entry.DeclaredElement.{DeclaredElement}
+use Rattle.compiled_schema.specs.entry_parts.Entries.{EntryOf}
 use Rattle.names.specs.Sets.{member}
 use Rattle.schema.specs.Judging.{used_in}
 use Rattle.schema_spec.specs.Declarations.{Declaration}
@@ -30,8 +30,8 @@ pub record AtDeclaration (text uses : List ℕ) (d n i : ℕ) : Type 0 where
   pub high : i ≤ length text
   pub no-blank : NoBlank text i
 
--- the entry of element d, with the cells of its positions
-pub record EntryMade (text uses : List ℕ) (d n : ℕ) (elements predecessors : List ℕ) (r : ElementEntry) : Type 0 where
-  pub next : AtDeclaration text uses (d + 1) (n + r.size) r.next
-  pub entry : EntryOf (content_at (schema_in text) d) (with_cells r elements predecessors)
-  pub held : (n : Name) → member r.holds n ≡ holds (schema_in text) (element d) n
+-- what the declaration of element d gives
+pub record EntryMade (text uses : List ℕ) (d n : ℕ) (r : DeclaredElement) : Type 0 where
+  pub next : AtDeclaration text uses (d + 1) (n + r.entry.size) r.next
+  pub entry : EntryOf (content_at (schema_in text) d) r.entry
+  pub held : (n : Name) → member r.«holds» n ≡ holds (schema_in text) (element d) n

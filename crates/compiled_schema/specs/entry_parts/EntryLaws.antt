@@ -6,16 +6,20 @@ use mathlib.Core.List.Memᴰ.{tail as there}
 use mathlib.Core.List.{List, [], ◌∷◌, Memᴰ as In}
 use Rattle.std.proofs.Common.{sym, ap, ap₂, subst, ◌∙◌, arith, lt-ltb, length-take-le, get_or-take}
 use Rattle.std.proofs.lemmas.List.{length-replicate}
-use Rattle.compiled_schema.specs.entry_parts.Entries.{kind_of, Entry, EntryOf, is_held}
+use Rattle.compiled_schema.specs.declared.entry_parts.ElementEntry.{ElementEntry}
+use Rattle.compiled_schema.specs.entry_parts.Entries.{ContentOf, EntryOf, empty_entry, ends_in, is_text, is_held}
 use Rattle.models.specs.Automaton.{AutomatonOf}
+use Rattle.models.specs.Building.{EndsOf}
 use Rattle.models.specs.PositionLaws.{size-uses}
+use Rattle.models.specs.declared.Content.{Content as ContentRead}
+use Rattle.models.specs.declared.Content.TheVariants.{Empty, Pcdata, Children}
 use Rattle.names.specs.bits.Bits.{bit-none}
-use Rattle.schema_spec.specs.Models.{Particle, Content, empty, pcdata, children, uses}
+use Rattle.schema_spec.specs.Models.{Particle, Content, empty, children, uses, uses_in}
 use Rattle.schema_spec.specs.Names.{Name, element, text, has_bit}
 use Rattle.schema_spec.specs.Schemas.{Schema, content_at, model_at, is_pcdata}
 use Rattle.schema_spec.specs.Types.{holds}
 use Rattle.text_laws.specs.Cells.{padded-length, padded-take, padded-zeros}
-use Rattle.text_laws.specs.Tests.{eqb-sym}
+use Rattle.text_laws.specs.Tests.{never, eqb-sym}
 use Rattle.text_spec.specs.Limits.{max_model_names}
 use Rattle.text_spec.specs.Lists.{any_of}
 
@@ -28,40 +32,47 @@ clear-bit n e i j = ap (λ (t : List ℕ). has_bit (get_or t j 0) i) e ∙ ap (�
     cell (suc n) zero = refl
     cell (suc n) (suc j) = cell n j
 
-abbrev pub empty_entry : Entry
-empty_entry = record { kind = 0; size = 0; first = 0; last = 0; nullable = false; elements = replicate max_model_names 0; predecessors = replicate max_model_names 0 }
-
 pub empty-entry : EntryOf empty empty_entry
 empty-entry =
     record {
       few = omega arith;
-      kind = refl;
+      content = refl;
       size = refl;
-      first = λ i l. bit-none i;
-      last = λ i l. bit-none i;
-      nullable = refl;
       elements = sym (padded-zeros max_model_names);
       room = length-replicate {A = ℕ} max_model_names 0;
       next = λ i j l. clear-bit max_model_names refl i j;
     }
 
-pub entry-size : {c : Content ℕ} {x : Entry} → EntryOf c x → x.size ≤ max_model_names
+pub entry-size : {c : Content ℕ} {x : ElementEntry} → EntryOf c x → x.size ≤ max_model_names
 entry-size E =
     let a = E.few in
     let b = E.size in
     omega arith
 
+-- there are cells for as many positions as a model may have
+pub entry-room : {c : Content ℕ} {x : ElementEntry} → EntryOf c x → (length x.elements ≡ max_model_names) × (length x.predecessors ≡ max_model_names)
+entry-room {c = c} E = (ap length E.elements ∙ padded-length max_model_names (uses_in c), E.room)
+
+-- where a children model may begin and end
+children-ends : (p : Particle ℕ) (k : ContentRead) → ContentOf (children p) k → EndsOf 0 p (ends_in k)
+children-ends p Empty e = never (cc)
+children-ends p Pcdata e = never (cc)
+children-ends p (Children e) (q, f, E) =
+    let g : q ≡ p = cc in
+    subst (λ (r : Particle ℕ). EndsOf 0 r e) g E
+
 -- the cells of its own positions
-pub entry-automaton : {c : Content ℕ} {x : Entry} → EntryOf c x → (p : Particle ℕ) → c ≡ children p
-    → AutomatonOf p (record { first = x.first; last = x.last; nullable = x.nullable }) (take x.size x.elements) (take x.size x.predecessors)
+pub entry-automaton : {c : Content ℕ} {x : ElementEntry} → EntryOf c x → (p : Particle ℕ) → c ≡ children p
+    → AutomatonOf p (ends_in x.content) (take x.size x.elements) (take x.size x.predecessors)
 entry-automaton {x = x} E p e = made (subst (λ (d : Content ℕ). EntryOf d x) e E)
   where
-    made : EntryOf (children p) x → AutomatonOf p (record { first = x.first; last = x.last; nullable = x.nullable }) (take x.size x.elements) (take x.size x.predecessors)
+    made : EntryOf (children p) x → AutomatonOf p (ends_in x.content) (take x.size x.elements) (take x.size x.predecessors)
     made F =
+        let ends = children-ends p x.content F.content in
         let few = F.few in
         let n = size-uses p in
         let m = F.size in
-        let long : length x.elements ≡ max_model_names = ap length F.elements ∙ padded-length max_model_names (uses p) in
+        let long = (entry-room F).0 in
         let deep = F.room in
         let a = length-take-le x.size x.elements (omega arith) in
         let b = length-take-le x.size x.predecessors (omega arith) in
@@ -70,10 +81,10 @@ entry-automaton {x = x} E p e = made (subst (λ (d : Content ℕ). EntryOf d x) 
           few = omega arith;
           room = (omega arith, omega arith);
           named = λ j l. ap (λ (us : List ℕ). get_or us j 0) own;
-          first = λ j l. F.first j (omega arith);
-          last = F.last;
+          first = λ j l. ends.first j (omega arith);
+          last = ends.last;
           next = λ i j l h. ap (λ (w : ℕ). has_bit w i) (get_or-take x.size x.predecessors j 0 (omega arith)) ∙ F.next i j l;
-          absent = F.nullable;
+          absent = ends.absent;
         }
 
 -- ---- what an element holds
@@ -81,17 +92,17 @@ any_same : (f g : ℕ → Bool) (xs : List ℕ) → ((x : ℕ) → In x xs → f
 any_same f g [] h = refl
 any_same f g (x ∷ xs) h = ap₂ ◌||◌ (h x (here refl)) (any_same f g xs (λ y i. h y (there i)))
 
-kind-pcdata : (c : Content ℕ) → eqb (kind_of c) 1 ≡ is_pcdata c
-kind-pcdata empty = refl
-kind-pcdata pcdata = refl
-kind-pcdata (children p) = refl
+content-text : (d : Content ℕ) (c : ContentRead) → ContentOf d c → is_text c ≡ is_pcdata d
+content-text d Empty e = sym (ap is_pcdata e)
+content-text d Pcdata e = sym (ap is_pcdata e)
+content-text d (Children e) (p, f, E) = sym (ap is_pcdata f)
 
--- what is made from an element's kind and the elements of its model is what it holds
-pub is_held-holds : (s : Schema) (a kind : ℕ) (elements : List ℕ) → a < 64 → kind ≡ kind_of (content_at s a) → elements ≡ model_at s a
-    → ((b : ℕ) → In b (model_at s a) → b < 64) → (n : Name) → is_held a kind elements n ≡ holds s (element a) n
+-- what is made from an element's content and the elements of its model is what it holds
+pub is_held-holds : (s : Schema) (a : ℕ) (c : ContentRead) (elements : List ℕ) → a < 64 → ContentOf (content_at s a) c → elements ≡ model_at s a
+    → ((b : ℕ) → In b (model_at s a) → b < 64) → (n : Name) → is_held a c elements n ≡ holds s (element a) n
 unfolding holds
-is_held-holds s a kind elements l k e small (element b) =
+is_held-holds s a c elements l k e small (element b) =
     ap (any_of (λ x. eqb b x && ltb x 64)) e
     ∙ any_same (λ x. eqb b x && ltb x 64) (eqb b) (model_at s a) (λ x i. ap (λ (t : Bool). eqb b x && t) (lt-ltb x 64 (small x i)) ∙ and-true (eqb b x))
-is_held-holds s a kind elements l k e small (text b) =
-    ap₂ ◌&&◌ (ap₂ ◌&&◌ (eqb-sym b a) (lt-ltb a 64 l) ∙ and-true (eqb a b)) (ap (λ (x : ℕ). eqb x 1) k ∙ kind-pcdata (content_at s a))
+is_held-holds s a c elements l k e small (text b) =
+    ap₂ ◌&&◌ (ap₂ ◌&&◌ (eqb-sym b a) (lt-ltb a 64 l) ∙ and-true (eqb a b)) (content-text (content_at s a) c k)

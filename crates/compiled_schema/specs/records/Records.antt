@@ -5,12 +5,13 @@ use Rattle.std.proofs.Math.Path.{refl, ap, ap₂}
 use Rattle.std.proofs.Common.{◌∙◌}
 use Rattle.library_spec.specs.Calls.{record_after, schema_read}
 use Rattle.library_spec.specs.Records.{passes_schema}
-use Rattle.schema.specs.Judging.{outcome_of, sized}
+use Rattle.schema.specs.Judging.{sized}
 use Rattle.schema_reader.specs.Records.{ReadAs, passes_record}
 use Rattle.schema_reader.specs.declared.SchemaRead.{SchemaRead}
 use Rattle.schema_spec.specs.Reading.{read_schema}
 use Rattle.schema_spec.specs.Records.{normal, record_by, schema_record}
 use Rattle.schema_spec.specs.Schemas.{Schema}
+use Rattle.text.specs.refusals.Refusals.{outcome_of}
 use Rattle.text_spec.specs.Limits.{max_schema_bytes}
 use Rattle.text_spec.specs.Records.{TextRecord, record_of}
 use Rattle.text_spec.specs.Refusals.{Refusal, Outcome, accepted, refused, and_then}

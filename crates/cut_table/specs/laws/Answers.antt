@@ -1,16 +1,16 @@
 -- Cutting a table that is handed in: what is asked of its columns, and that the answer is the library's outcome.
-use Rattle.std.specs.Prelude.{Bool, cond, ◌≡◌, ℕ, ◌+◌, ◌-◌, T, ltb, length, get_or, take}
+use Rattle.std.specs.Prelude.{Bool, cond, Result, Ok, Err, ◌≡◌, ℕ, ◌+◌, ◌-◌, T, ltb, length, get_or, take}
 use Rattle.std.proofs.Math.Bool.{true, false}
 use mathlib.Core.List.{List, [], ◌∷◌, map}
 use Rattle.std.proofs.Math.Path.{refl, ap}
 use Rattle.std.proofs.Common.{sym, ap₂, subst, ◌∙◌, arith, lt-ltb, le-ltb, length-take-le}
 use Rattle.std.proofs.lemmas.List.{length-map}
 use Rattle.cells.specs.columns.ColumnLaws.{equal-columns}
-use Rattle.cells.specs.declared.verdicts.Verdict.{Verdict}
+use Rattle.cells.specs.columns.Lent.{lent_columns, Same, Left}
+use Rattle.cells.specs.declared.columns.ColumnsMut.{ColumnsMut}
 use Rattle.cells.specs.lent.Columns.{first_cells}
-use Rattle.cells.specs.lent.Ends.{Slice, entry_sizes, exit_columns, entry_columns}
 use Rattle.cells.specs.row_sets.Columns.{picked}
-use Rattle.cells.specs.verdicts.Verdicts.{refused_by, answered_of, verdict}
+use Rattle.cells.specs.verdicts.Verdicts.{verdict}
 use Rattle.extract_spec.specs.Cut.{cut, cut_to_word}
 use Rattle.handed_tables.specs.calls.Calls.{Holds, table-holds, record-refused, record-held, table-refused, table-held}
 use Rattle.handed_tables.specs.columns.Rows.{lent-coded, lent-cells, held-columns, lent-columns}
@@ -37,6 +37,9 @@ use Rattle.table_spec.specs.Rows.{Row}
 use Rattle.table_spec.specs.Tables.{well_formed}
 use Rattle.tables.specs.Handed.{is_held}
 use Rattle.tables.specs.rows.Lent.{Lent}
+use Rattle.text.specs.declared.refusals.Reason.TheVariants.{BadRecord, TooFewCells}
+use Rattle.text.specs.declared.refusals.Refusal.{Refusal}
+use Rattle.text.specs.refusals.Refusals.{refusal}
 use Rattle.text_laws.specs.Tests.{passed, same_test}
 use Rattle.text_spec.specs.Calls.{tested, handed}
 use Rattle.text_spec.specs.Limits.{max_declarations}
@@ -44,24 +47,24 @@ use Rattle.text_spec.specs.Records.{TextRecord, text_in}
 use Rattle.text_spec.specs.Refusals.{Outcome, accepted, refused, at, bad_record, too_few_cells}
 
 -- ---- definitions
--- a table answered in lent columns: the verdict, and the columns at exit
-pub record AnsweredTable (o : Outcome (List Row)) (z : Sizes) (r : Verdict) (x : Columns) : Type 0 where
+-- a table answered in lent columns: how many rows or the refusal, and the columns at exit
+pub record AnsweredTable (o : Outcome (List Row)) (z : Sizes) (r : Result ℕ Refusal) (x : Columns) : Type 0 where
   pub answer : r ≡ verdict o
   pub cells : x ≡ columns_after z (λ rows. rows) o
 
 -- a call that is lent six columns, by its outcome for so many cells of each
-abbrev pub AnsweredColumns : (Sizes → Outcome (List Row)) → Verdict → Slice → Slice → Slice → Slice → Slice → Slice → Type 0
-AnsweredColumns call r numbers names parents starts lengths decoded =
-    AnsweredTable (call (entry_sizes numbers names parents starts lengths decoded)) (entry_sizes numbers names parents starts lengths decoded) r (exit_columns numbers names parents starts lengths decoded)
+pub record AnsweredColumns (call : Sizes → Outcome (List Row)) (r : Result ℕ Refusal) (old new : ColumnsMut) : Type 0 where
+  pub same : Same old new
+  pub table : AnsweredTable (call (sizes_of (lent_columns old))) (sizes_of (lent_columns old)) r (lent_columns new)
 
 -- refused by 1, and no row in the columns
-abbrev pub RefusedColumns : Verdict → Slice → Slice → Slice → Slice → Slice → Slice → Type 0
-RefusedColumns r numbers names parents starts lengths decoded =
-    (r ≡ refused_by 1 0) × (exit_columns numbers names parents starts lengths decoded ≡ columns_of (entry_sizes numbers names parents starts lengths decoded) [])
+pub record RefusedColumns (r : Result ℕ Refusal) (old new : ColumnsMut) : Type 0 where
+  pub answer : r ≡ Err (refusal BadRecord 0)
+  pub left : Left old new (columns_of (sizes_of (lent_columns old)) [])
 
 -- a table cut under a schema's record
-abbrev pub TableCutIn : TextRecord → LentTable → ℕ → Verdict → Slice → Slice → Slice → Slice → Slice → Slice → Type 0
-TableCutIn schema t word r numbers names parents starts lengths decoded = AnsweredColumns (table_cut schema t word) r numbers names parents starts lengths decoded
+abbrev pub TableCutIn : TextRecord → LentTable → ℕ → Result ℕ Refusal → ColumnsMut → ColumnsMut → Type 0
+TableCutIn schema t word r old new = AnsweredColumns (table_cut schema t word) r old new
 
 -- what cutting asks of a table that has passed refusal 1, and of the columns that are lent for the answer
 pub record Cuttable (t : LentTable) (o : Columns) : Type 0 where
@@ -69,16 +72,20 @@ pub record Cuttable (t : LentTable) (o : Columns) : Type 0 where
   pub rows : TableColumns (first_cells t.count t.columns)
   pub room : OfLength o (length o.numbers)
 
+-- how many rows in so much room, and 18 where it is too little
+abbrev pub answer_in : ℕ → ℕ → Result ℕ Refusal
+answer_in room n = cond (ltb room n) (Err (refusal TooFewCells 0)) (Ok n)
+
 -- the rows that the codes keep, and 18 where there are too few cells for them
-pub record CutFirst (f : ℕ → Bool) (c o : Columns) (r : Verdict) (x : Columns) : Type 0 where
+pub record CutFirst (f : ℕ → Bool) (c o : Columns) (r : Result ℕ Refusal) (x : Columns) : Type 0 where
   pub count : ℕ
-  pub answer : r ≡ cond (ltb (length o.numbers) count) (refused_by 18 0) (answered_of count)
+  pub answer : r ≡ answer_in (length o.numbers) count
   pub cells : CutAs f c o count x
 
--- the same of lent slices
-abbrev pub CutFirstIn : (ℕ → Bool) → Columns → Slice → Slice → Slice → Slice → Slice → Slice → Verdict → Type 0
-CutFirstIn f c numbers names parents starts lengths decoded r =
-    CutFirst f c (entry_columns numbers names parents starts lengths decoded) r (exit_columns numbers names parents starts lengths decoded)
+-- the same of lent columns
+pub record CutFirstIn (f : ℕ → Bool) (c : Columns) (r : Result ℕ Refusal) (old new : ColumnsMut) : Type 0 where
+  pub same : Same old new
+  pub first : CutFirst f c (lent_columns old) r (lent_columns new)
 
 -- ---- the columns of a table that is handed in
 module _ (s : Schema) (t : LentTable) (rows : List Row) (h : Holds s t rows) where
@@ -146,10 +153,10 @@ module _ (s : Types) (rows : List Row) (ok : T (well_formed s rows)) (f : ℕ �
       ap (rank marked) (length-map rows (λ q. q.parent)) ∙ picked-length marked rows (marks-size s rows ok f set agree)
       ∙ sym (length-map (picked marked rows) (renumbered_by marked)) ∙ ap (λ (l : List Row). length l) (sym (cut-picked s rows ok f set agree))
 
-  room-answer : (z : Sizes) (cuts : List Row) → cond (ltb z.numbers (length cuts)) (refused_by 18 0) (answered_of (length cuts)) ≡ verdict (in_columns z cuts)
+  room-answer : (z : Sizes) (cuts : List Row) → answer_in z.numbers (length cuts) ≡ verdict (in_columns z cuts)
   room-answer z cuts = pick (ltb z.numbers (length cuts))
     where
-      pick : (b : Bool) → cond b (refused_by 18 0) (answered_of (length cuts)) ≡ verdict (cond b (refused (at too_few_cells 0)) (accepted cuts))
+      pick : (b : Bool) → cond b (Err (refusal TooFewCells 0)) (Ok (length cuts)) ≡ verdict (cond b (refused (at too_few_cells 0)) (accepted cuts))
       pick true = refl
       pick false = refl
 
@@ -161,11 +168,11 @@ module _ (s : Types) (rows : List Row) (ok : T (well_formed s rows)) (f : ℕ �
       pick true = refl
       pick false = refl
 
-  cut-answers : (o : Columns) (r : Verdict) (x : Columns) → CutFirst f (columns_in rows) o r x → AnsweredTable (in_columns (sizes_of o) (cut set rows)) (sizes_of o) r x
+  cut-answers : (o : Columns) (r : Result ℕ Refusal) (x : Columns) → CutFirst f (columns_in rows) o r x → AnsweredTable (in_columns (sizes_of o) (cut set rows)) (sizes_of o) r x
   cut-answers o r x w =
       let n : w.count ≡ length (cut set rows) = w.cells.count ∙ cut-count in
       record {
-        answer = w.answer ∙ ap (λ (k : ℕ). cond (ltb (length o.numbers) k) (refused_by 18 0) (answered_of k)) n ∙ room-answer (sizes_of o) (cut set rows);
+        answer = w.answer ∙ ap (answer_in (length o.numbers)) n ∙ room-answer (sizes_of o) (cut set rows);
         cells = w.cells.columns ∙ ap₂ (answered (sizes_of o)) n (cut-columns s rows ok f set agree) ∙ room-cells (sizes_of o) (cut set rows);
       }
 
@@ -173,12 +180,12 @@ module _ (s : Types) (rows : List Row) (ok : T (well_formed s rows)) (f : ℕ �
 unfoldable pub cut_held : Schema → LentTable → ℕ → Sizes → Outcome (List Row)
 cut_held s t word z = handed (table_held s t) (λ rows. tested (equal_sizes z) (in_columns z (cut_to_word (types_of s) word rows)))
 
--- the same of lent slices
-abbrev pub HeldCutIn : Schema → LentTable → ℕ → Verdict → Slice → Slice → Slice → Slice → Slice → Slice → Type 0
-HeldCutIn s t word r numbers names parents starts lengths decoded = AnsweredColumns (cut_held s t word) r numbers names parents starts lengths decoded
+-- the same of lent columns
+abbrev pub HeldCutIn : Schema → LentTable → ℕ → Result ℕ Refusal → ColumnsMut → ColumnsMut → Type 0
+HeldCutIn s t word r old new = AnsweredColumns (cut_held s t word) r old new
 
 -- nothing is answered but a refusal by 1
-pub refused-1 : {o : Outcome (List Row)} {z : Sizes} {r : Verdict} {x : Columns} → o ≡ refused (at bad_record 0) → r ≡ refused_by 1 0 → x ≡ columns_of z [] → AnsweredTable o z r x
+pub refused-1 : {o : Outcome (List Row)} {z : Sizes} {r : Result ℕ Refusal} {x : Columns} → o ≡ refused (at bad_record 0) → r ≡ Err (refusal BadRecord 0) → x ≡ columns_of z [] → AnsweredTable o z r x
 unfolding columns_after
 refused-1 e v c = rw e (record { answer = v; cells = c })
 
@@ -203,7 +210,7 @@ module _ (s : Schema) (t : LentTable) (o : Columns) (held : is_held s t ≡ true
   pub cut-asked : Cuttable t o
   cut-asked = holds-cuttable s t found.0 found.1 o (sizes-equal o equal)
 
-  pub cut-found : (word : ℕ) (set : NameSet) → (set_in s set ≡ set_of_word (names_of s) word) × Known s set → (r : Verdict) (x : Columns)
+  pub cut-found : (word : ℕ) (set : NameSet) → (set_in s set ≡ set_of_word (names_of s) word) × Known s set → (r : Result ℕ Refusal) (x : Columns)
       → CutFirst (in_set set) (first_cells t.count t.columns) o r x → AnsweredTable (cut_held s t word (sizes_of o)) (sizes_of o) r x
   unfolding cut_to_word types_of
   cut-found word set (same, known) r x w =
@@ -217,6 +224,6 @@ module _ (schema : TextRecord) (t : LentTable) (word : ℕ) (z : Sizes) where
   unfolding table_cut
   no_record e = record-refused schema _ e
 
-  pub by-record : passes_schema schema ≡ true → (r : Verdict) (x : Columns) → AnsweredTable (cut_held (schema_in (text_in schema)) t word z) z r x → AnsweredTable (table_cut schema t word z) z r x
+  pub by-record : passes_schema schema ≡ true → (r : Result ℕ Refusal) (x : Columns) → AnsweredTable (cut_held (schema_in (text_in schema)) t word z) z r x → AnsweredTable (table_cut schema t word z) z r x
   unfolding table_cut cut_held
   by-record e r x w = rw (record-held schema _ e) w

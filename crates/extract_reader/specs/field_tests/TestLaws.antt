@@ -8,8 +8,9 @@ use native.Mathlib.Omega.{arith}
 use Rattle.std.proofs.lemmas.Bool.{lt-leb}
 use Rattle.std.proofs.Math.Dec.{leb}
 use Rattle.extract_reader.specs.field_tests.Tests.{held_by, word_types, LevelPass, element_under, text_under}
+use Rattle.extract_reader.specs.declared.levels.Level.{Level}
 use Rattle.extract_reader.specs.levels.LevelLaws.{levels-length}
-use Rattle.extract_reader.specs.levels.Levels.{element_in, levels_in, last_element}
+use Rattle.extract_reader.specs.levels.Levels.{level_at, levels_in, last_element}
 use Rattle.projection_laws.specs.extract_passes.Steps.{State, element_fits, text_fits}
 use Rattle.schema_spec.specs.Names.{element, text, has_bit}
 use Rattle.text_spec.specs.Bytes.{is_foreign}
@@ -39,10 +40,10 @@ pub held_low : (words : List ℕ) (a b : ℕ) → b < max_declarations → has_b
 held_low words a b l = sym (ap (λ (x : Bool). x && has_bit (get_or words a 0) b) (lt-ltb b max_declarations l))
 
 -- ---- under a level
-pub level-known : (levels : List ℕ) (d : ℕ) → LevelPass levels d → (d ≡ 0 → ⊥) → (e : ℕ) → e ≡ last_element levels d → e < max_declarations
+pub level-known : (levels : List Level) (d : ℕ) → LevelPass levels d → (d ≡ 0 → ⊥) → (e : ℕ) → e ≡ last_element levels d → e < max_declarations
 level-known levels d h z e q = omega (arith, h.known (d - 1) (omega arith))
 
-module _ (words levels : List ℕ) (d e : ℕ) where
+module _ (words : List ℕ) (levels : List Level) (d e : ℕ) where
   abbrev holds : Bool
   holds = held_by words (element (last_element levels d)) (element e)
 
@@ -60,7 +61,7 @@ module _ (words levels : List ℕ) (d e : ℕ) where
   unfolding element_under
   element-held z y l r p q f = q ∙ ap (λ (x : ℕ). held_by words (element x) (element e)) f ∙ sym (ap₂ (λ (a b : Bool). not a && (holds && b)) (ne_eqb d 0 z) (le-leb (suc d) max_depth (omega arith)) ∙ and-all holds)
 
-module _ (words levels : List ℕ) (d : ℕ) (after : Bool) where
+module _ (words : List ℕ) (levels : List Level) (d : ℕ) (after : Bool) where
   abbrev own : Bool
   own = held_by words (element (last_element levels d)) (text (last_element levels d))
 
@@ -77,7 +78,7 @@ module _ (words levels : List ℕ) (d : ℕ) (after : Bool) where
   text-held z y r p q f = q ∙ ap (λ (x : ℕ). held_by words (element x) (text x)) f ∙ sym (ap₂ (λ (a b : Bool). not a && (own && not b)) (ne_eqb d 0 z) y ∙ and-all own)
 
 -- ---- as the pass tests a row
-module _ (words bs levels : List ℕ) (st : State) (number : ℕ) where
+module _ (words bs : List ℕ) (levels : List Level) (st : State) (number : ℕ) where
   abbrev number_test : Bool
   number_test = ltb st.number number && ltb number max_nodes
 
@@ -86,8 +87,8 @@ module _ (words bs levels : List ℕ) (st : State) (number : ℕ) where
   element-test zero e = sym (and-nothing number_test)
   element-test (suc d) e =
       let i : suc d - 1 ≡ d = omega arith in
-      ap (λ (n : ℕ). number_test && (held_by words (element (element_in (get_or levels d 0))) (element e) && leb (suc (suc n)) max_depth)) (levels-length levels d)
-      ∙ ap (λ (k : ℕ). number_test && (held_by words (element (element_in (get_or levels k 0))) (element e) && leb (suc (suc d)) max_depth)) (sym i)
+      ap (λ (n : ℕ). number_test && (held_by words (element ((level_at levels d).element)) (element e) && leb (suc (suc n)) max_depth)) (levels-length levels d)
+      ∙ ap (λ (k : ℕ). number_test && (held_by words (element ((level_at levels k).element)) (element e) && leb (suc (suc d)) max_depth)) (sym i)
       ∙ ap (λ (b : Bool). number_test && (not b && (held_by words (element (last_element levels (suc d))) (element e) && leb (suc (suc d)) max_depth))) (sym (ne_eqb (suc d) 0 (λ z. omega arith)))
 
   -- the bytes of a text: how many, and which
@@ -100,7 +101,7 @@ module _ (words bs levels : List ℕ) (st : State) (number : ℕ) where
   text-test zero start size = sym (and-nothing number_test)
   text-test (suc d) start size =
       let i : suc d - 1 ≡ d = omega arith in
-      let held : ℕ → Bool = λ k. held_by words (element (element_in (get_or levels k 0))) (text (element_in (get_or levels k 0))) in
+      let held : ℕ → Bool = λ k. held_by words (element ((level_at levels k).element)) (text ((level_at levels k).element)) in
       ap (λ (k : ℕ). number_test && (held k && (not st.after_text && bytes_test start size))) (sym i)
       ∙ ap (λ (b : Bool). number_test && b) (joined (held (suc d - 1)) (not st.after_text) (bytes_test start size))
       ∙ ap (λ (b : Bool). number_test && ((not b && (held (suc d - 1) && not st.after_text)) && bytes_test start size)) (sym (ne_eqb (suc d) 0 (λ z. omega arith)))

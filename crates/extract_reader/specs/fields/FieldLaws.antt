@@ -1,16 +1,17 @@
 -- A field by its tag and length is the item that stands there.
-use Rattle.std.specs.Prelude.{Bool, cond, ◌&&◌, List, [], ◌∷◌, ◌≡◌, ℕ, ◌+◌, ◌-◌, ◌<◌, ◌≤◌, T, length, get_or, drop}
+use Rattle.std.specs.Prelude.{Bool, cond, ◌&&◌, List, [], ◌∷◌, ◌≡◌, ℕ, ◌+◌, ◌-◌, ◌<◌, ◌≤◌, Option, Some, None, T, length, get_or, drop}
 use Rattle.std.proofs.Math.Bool.{true, false}
+use Rattle.std.specs.Bool.{then_some}
 use Rattle.std.proofs.Common.{inl, subst, ◌∙◌, length-take, length-drop}
 use Rattle.std.proofs.Math.Logic.{inr}
 use Rattle.std.proofs.Math.Path.{refl, sym, ap, ap₂}
 use native.Mathlib.Omega.{arith}
 use borrow.Author.Tests.{le-leb, lt-leb, leb-false, eq-eqb, ne_eqb, eqb-true}
 use Rattle.std.proofs.Math.Dec.{eqb, leb, leb→le}
-use Rattle.extract_reader.specs.declared.field_values.Carried.{Carried}
-use Rattle.extract_reader.specs.declared.field_values.FieldRead.{FieldRead}
-use Rattle.extract_reader.specs.declared.field_values.FieldRead.TheVariants.{Wrong, Ended}
-use Rattle.extract_reader.specs.declared.fields.First.TheVariants as first
+use Rattle.extract_reader.specs.declared.field_values.Field.{Field}
+use Rattle.extract_reader.specs.declared.field_values.Field.TheVariants.{Count}
+use Rattle.extract_reader.specs.declared.levels.Level.{Level}
+use Rattle.extract_reader.specs.declared.reading.Carried.{Carried}
 use Rattle.extract_reader.specs.field_ends.Ends.{is_root, is_count}
 use Rattle.extract_reader.specs.field_tests.Tests.{word_types}
 use Rattle.extract_reader.specs.field_values.Fields.{state_in, Bounds, ValuePass, ElementAs, TextAs}
@@ -93,31 +94,32 @@ module _ (bs : List ℕ) (c : Carried) (size : ℕ) where
   abbrev counted : Bool
   counted = is_count c.rows (eqb (c.at + 3 + size) (length bs)) (count_value (part (c.at + 3) size bs))
 
-  pub count-ended : counted ≡ true → CountAs bs c size Ended
-  count-ended e =
+  count-field-by : (b : Bool) → counted ≡ b → CountAs bs c size (then_some b Count)
+  count-field-by true e =
       record { step = λ words levels. sym (count-step (word_types words) bs (state_in levels c) _ (part (c.at + 3) size bs) ∙ cond_yes ended wrong e); bounds = tt }
-
-  pub count-wrong : counted ≡ false → CountAs bs c size Wrong
-  count-wrong e =
+  count-field-by false e =
       record { step = λ words levels. sym (count-step (word_types words) bs (state_in levels c) _ (part (c.at + 3) size bs) ∙ cond_no ended wrong e); bounds = tt }
 
+  pub count-field : (b : Bool) → b ≡ counted → (r : Option Field) → r ≡ then_some b Count → CountAs bs c size r
+  count-field b e r q = subst (CountAs bs c size) (sym q) (count-field-by b (sym e))
+
 -- ---- a later field
-pub value-pass : (bs levels : List ℕ) (c : Carried) → FieldPass bs levels c → has_field bs c.at ≡ true → (size : ℕ) → size ≡ in_two (get_or bs (c.at + 1) 0) (get_or bs (c.at + 1 + 1) 0)
+pub value-pass : (bs : List ℕ) (levels : List Level) (c : Carried) → FieldPass bs levels c → has_field bs c.at ≡ true → (size : ℕ) → size ≡ in_two (get_or bs (c.at + 1) 0) (get_or bs (c.at + 1 + 1) 0)
     → ValuePass bs levels c size
 value-pass bs levels c h stands size measured = record { shallow = h.shallow; known = h.known; inside = value-inside bs c.at stands size measured }
 
-module _ (bs words levels : List ℕ) (c : Carried) (h : FieldPass bs levels c) where
-  pub field-none : has_field bs c.at ≡ false → FieldAs bs words levels c Wrong
+module _ (bs words : List ℕ) (levels : List Level) (c : Carried) (h : FieldPass bs levels c) where
+  pub field-none : has_field bs c.at ≡ false → FieldAs bs words levels c None
   field-none e = record { step = sym (step-wrong (word_types words) bs c.at (state_in levels c) e); bounds = tt; inside = inl refl }
 
   module _ (stands : has_field bs c.at ≡ true) (size : ℕ) (measured : size ≡ in_two (get_or bs (c.at + 1) 0) (get_or bs (c.at + 1 + 1) 0)) where
     step_by : (i : Item) → item_at bs c.at ≡ i → step_at (word_types words) bs c.at (state_in levels c) ≡ later_step (word_types words) bs (state_in levels c) (is_last bs c.at) i
     step_by i e = step_right (word_types words) bs c.at (state_in levels c) stands ∙ ap (later_step (word_types words) bs (state_in levels c) (is_last bs c.at)) e
 
-    measured-bounds : (r : FieldRead) → Bounds c size r → Bounds c (size_at bs c.at) r
+    measured-bounds : (r : Option Field) → Bounds c size r → Bounds c (size_at bs c.at) r
     measured-bounds r b = subst (λ (n : ℕ). Bounds c n r) (size_is bs c.at stands size measured) b
 
-    pub field-element : (r : FieldRead) → get_or bs c.at 0 ≡ element_tag → ElementAs bs words levels c size r → FieldAs bs words levels c r
+    pub field-element : (r : Option Field) → get_or bs c.at 0 ≡ element_tag → ElementAs bs words levels c size r → FieldAs bs words levels c r
     field-element r t a =
         record {
           step = a.step (is_last bs c.at) ∙ sym (step_by (element_value (part (c.at + 3) size bs)) (item_by bs c.at stands size measured element_tag t));
@@ -125,7 +127,7 @@ module _ (bs words levels : List ℕ) (c : Carried) (h : FieldPass bs levels c) 
           inside = inr (past bs c.at stands);
         }
 
-    pub field-text : (r : FieldRead) → get_or bs c.at 0 ≡ text_tag → TextAs bs words levels c size r → FieldAs bs words levels c r
+    pub field-text : (r : Option Field) → get_or bs c.at 0 ≡ text_tag → TextAs bs words levels c size r → FieldAs bs words levels c r
     field-text r t a =
         record {
           step = a.step (is_last bs c.at) ∙ sym (step_by (text_value (c.at + 3) (part (c.at + 3) size bs)) (item_by bs c.at stands size measured text_tag t));
@@ -133,7 +135,7 @@ module _ (bs words levels : List ℕ) (c : Carried) (h : FieldPass bs levels c) 
           inside = inr (past bs c.at stands);
         }
 
-    pub field-count : (r : FieldRead) → get_or bs c.at 0 ≡ count_tag → CountAs bs c size r → FieldAs bs words levels c r
+    pub field-count : (r : Option Field) → get_or bs c.at 0 ≡ count_tag → CountAs bs c size r → FieldAs bs words levels c r
     field-count r t a =
         record {
           step = a.step words levels
@@ -143,7 +145,7 @@ module _ (bs words levels : List ℕ) (c : Carried) (h : FieldPass bs levels c) 
           inside = inr (past bs c.at stands);
         }
 
-    pub field-unknown : (get_or bs c.at 0 ≡ element_tag → ⊥) → (get_or bs c.at 0 ≡ text_tag → ⊥) → (get_or bs c.at 0 ≡ count_tag → ⊥) → FieldAs bs words levels c Wrong
+    pub field-unknown : (get_or bs c.at 0 ≡ element_tag → ⊥) → (get_or bs c.at 0 ≡ text_tag → ⊥) → (get_or bs c.at 0 ≡ count_tag → ⊥) → FieldAs bs words levels c None
     unfolding later_step
     field-unknown e t n =
         record { step = sym (step_by no_item (item-unknown bs c.at stands size measured e t n)); bounds = tt; inside = inr (past bs c.at stands) }
@@ -152,7 +154,7 @@ module _ (bs words levels : List ℕ) (c : Carried) (h : FieldPass bs levels c) 
 root-number : (n : Name) (e : ℕ) → n ≡ element 0 → same_name (element e) n ≡ eqb e 0
 root-number n e q = ap (same_name (element e)) q
 
-root-step : (s : Types) → s.root ≡ element 0 → (last : Bool) (v : List ℕ) → root_step s last (element_value v) ≡ cond (is_root (element_value v)) (first_of first.Root) wrong
+root-step : (s : Types) → s.root ≡ element 0 → (last : Bool) (v : List ℕ) → root_step s last (element_value v) ≡ cond (is_root (element_value v)) (first_of (Some true)) wrong
 unfolding root_step
 root-step s q last [] = refl
 root-step s q last (a ∷ []) = refl
@@ -199,10 +201,10 @@ root-five (a ∷ b ∷ c ∷ d ∷ e ∷ []) t = refl
 root-five (a ∷ b ∷ c ∷ d ∷ e ∷ f ∷ v) t = absurd t
 
 module _ (bs : List ℕ) where
-  wrong_first : ((s : Types) → s.root ≡ element 0 → first_step s bs ≡ wrong) → FirstAs bs first.Wrong
+  wrong_first : ((s : Types) → s.root ≡ element 0 → first_step s bs ≡ wrong) → FirstAs bs None
   wrong_first f = record { step = f; past = λ e. never (cc); inside = λ e. never (cc) }
 
-  pub first-none : has_field bs 0 ≡ false → FirstAs bs first.Wrong
+  pub first-none : has_field bs 0 ≡ false → FirstAs bs None
   unfolding first_step
   first-none e = wrong_first (λ s q. cond_no _ wrong e)
 
@@ -212,7 +214,7 @@ module _ (bs : List ℕ) where
     first_by s i e = cond_yes _ wrong stands ∙ ap (root_step s (is_last bs 0)) e
 
     module _ (tagged : get_or bs 0 0 ≡ element_tag) where
-      pub first-root : is_root (element_value (part 3 size bs)) ≡ true → FirstAs bs first.Root
+      pub first-root : is_root (element_value (part 3 size bs)) ≡ true → FirstAs bs (Some true)
       first-root e =
           let five : size ≡ 5 = omega (arith, root-five (part 3 size bs) (passed e), length-take size (drop 3 bs), length-drop 3 bs, value-inside bs 0 stands size measured) in
           record {
@@ -221,7 +223,7 @@ module _ (bs : List ℕ) where
             inside = λ q. omega (arith, value-inside bs 0 stands size measured);
           }
 
-      pub first-other : is_root (element_value (part 3 size bs)) ≡ false → FirstAs bs first.Wrong
+      pub first-other : is_root (element_value (part 3 size bs)) ≡ false → FirstAs bs None
       first-other e =
           wrong_first (λ s q. first_by s (element_value (part 3 size bs)) (item_by bs 0 stands size measured element_tag tagged) ∙ root-step s q (is_last bs 0) (part 3 size bs) ∙ cond_no _ wrong e)
 
@@ -233,13 +235,28 @@ module _ (bs : List ℕ) where
           ∙ root-count s (eqb (3 + size) (length bs)) (part 3 size bs)
           ∙ ap (λ (x : Bool). cond x ended wrong) e
 
-      pub first_ended : is_count 0 (eqb (3 + size) (length bs)) (count_value (part 3 size bs)) ≡ true → FirstAs bs first.Ended
+      pub first_ended : is_count 0 (eqb (3 + size) (length bs)) (count_value (part 3 size bs)) ≡ true → FirstAs bs (Some false)
       first_ended e = record { step = λ s q. counting s true e; past = λ q. never (cc); inside = λ q. never (cc) }
 
-      pub first-uncounted : is_count 0 (eqb (3 + size) (length bs)) (count_value (part 3 size bs)) ≡ false → FirstAs bs first.Wrong
+      pub first-uncounted : is_count 0 (eqb (3 + size) (length bs)) (count_value (part 3 size bs)) ≡ false → FirstAs bs None
       first-uncounted e = wrong_first (λ s q. counting s false e)
 
-    pub first-tagged : (get_or bs 0 0 ≡ element_tag → ⊥) → (get_or bs 0 0 ≡ count_tag → ⊥) → FirstAs bs first.Wrong
+    pub first-of-root : get_or bs 0 0 ≡ element_tag → (b : Bool) → b ≡ is_root (element_value (part 3 size bs)) → (r : Option Bool) → r ≡ then_some b true → FirstAs bs r
+    first-of-root t b e r q = subst (FirstAs bs) (sym q) (by b (sym e))
+      where
+        by : (x : Bool) → is_root (element_value (part 3 size bs)) ≡ x → FirstAs bs (then_some x true)
+        by true f = first-root t f
+        by false f = first-other t f
+
+    pub first-of-count : get_or bs 0 0 ≡ count_tag → (b : Bool) → b ≡ is_count 0 (eqb (3 + size) (length bs)) (count_value (part 3 size bs)) → (r : Option Bool)
+        → r ≡ then_some b false → FirstAs bs r
+    first-of-count t b e r q = subst (FirstAs bs) (sym q) (by b (sym e))
+      where
+        by : (x : Bool) → is_count 0 (eqb (3 + size) (length bs)) (count_value (part 3 size bs)) ≡ x → FirstAs bs (then_some x false)
+        by true f = first_ended t f
+        by false f = first-uncounted t f
+
+    pub first-tagged : (get_or bs 0 0 ≡ element_tag → ⊥) → (get_or bs 0 0 ≡ count_tag → ⊥) → FirstAs bs None
     unfolding root_step
     first-tagged e n = wrong_first (λ s q. pick s (eqb (get_or bs 0 0) text_tag) refl)
       where

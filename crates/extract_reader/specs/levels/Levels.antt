@@ -1,39 +1,38 @@
--- The open elements of an extract in cells of 64 bits, and the climb to the one with a number.
-use Rattle.std.specs.Prelude.{List, [], ◌∷◌, ◌≡◌, ℕ, zero, suc, ◌+◌, ◌*◌, ◌-◌, ◌/◌, ◌%◌, ◌<◌, ◌≤◌, get_or}
+-- The open elements of an extract, and the climb to the one with a number.
+use Rattle.std.specs.Prelude.{List, [], ◌∷◌, ◌≡◌, ℕ, zero, suc, ◌-◌, ◌<◌, ◌≤◌, Option, Some, None, get_or}
+use Rattle.extract_reader.specs.declared.levels.Level.{Level}
 use Rattle.extract_spec.specs.Reading.{Placed, open_from}
 use Rattle.projection_laws.specs.Opens.{placed}
 use Rattle.text_spec.specs.Limits.{max_declarations}
 
--- ---- an open element in a cell: its row, its number, its element
-unfoldable pub level_word : ℕ → ℕ → ℕ → ℕ
-level_word row number e = (e * 65536 + number) * 65536 + row
+abbrev pub level : ℕ → ℕ → ℕ → Level
+level row number e = record { row = row; number = number; element = e }
 
-unfoldable pub row_in : ℕ → ℕ
-row_in l = l % 65536
-
-unfoldable pub number_in : ℕ → ℕ
-number_in l = l / 65536 % 65536
-
-unfoldable pub element_in : ℕ → ℕ
-element_in l = l / 65536 / 65536
+abbrev pub level_at : List Level → ℕ → Level
+level_at levels i = get_or levels i (level 0 0 0)
 
 -- ---- the first d of them, nearest first
-unfoldable pub levels_in : List ℕ → ℕ → List Placed
+unfoldable pub levels_in : List Level → ℕ → List Placed
 levels_in levels zero = []
-levels_in levels (suc d) = placed (row_in (get_or levels d 0)) (number_in (get_or levels d 0)) (element_in (get_or levels d 0)) ∷ levels_in levels d
+levels_in levels (suc d) = placed (level_at levels d).row (level_at levels d).number (level_at levels d).element ∷ levels_in levels d
 
 -- the row and the element of the last of the first d
-abbrev pub last_row : List ℕ → ℕ → ℕ
-last_row levels d = row_in (get_or levels (d - 1) 0)
+abbrev pub last_row : List Level → ℕ → ℕ
+last_row levels d = (level_at levels (d - 1)).row
 
-abbrev pub last_element : List ℕ → ℕ → ℕ
-last_element levels d = element_in (get_or levels (d - 1) 0)
+abbrev pub last_element : List Level → ℕ → ℕ
+last_element levels d = (level_at levels (d - 1)).element
 
 -- their elements are some schema's
-abbrev pub Known : List ℕ → ℕ → Type 0
-Known levels d = (i : ℕ) → i < d → element_in (get_or levels i 0) < max_declarations
+abbrev pub Known : List Level → ℕ → Type 0
+Known levels d = (i : ℕ) → i < d → (level_at levels i).element < max_declarations
 
 -- the first d are those from the one with this number up
-pub record LevelOf (levels : List ℕ) (depth number d : ℕ) : Type 0 where
+pub record LevelOf (levels : List Level) (depth number d : ℕ) : Type 0 where
   pub within : d ≤ depth
   pub found : levels_in levels d ≡ open_from number (levels_in levels depth)
+
+-- the first d are, and not none; or none has this number
+abbrev pub LevelFound : List Level → ℕ → ℕ → Option ℕ → Type 0
+LevelFound levels depth number None = LevelOf levels depth number 0
+LevelFound levels depth number (Some d) = LevelOf levels depth number d × (0 < d)

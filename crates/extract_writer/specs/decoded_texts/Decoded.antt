@@ -1,146 +1,144 @@
 -- The characters of a journal's text, written one after the other: how far writing has come.
-use Rattle.std.specs.Prelude.{Bool, cond, ◌≡◌, refl, get_or, set}
-use mathlib.Core.List.{List, [], ◌∷◌}
-use Rattle.std.proofs.Common.{sym, ◌∙◌, add-one, arith, eq-eqb, ne_eqb, length-drop, drop_of_length-le, drop-cons}
+use Rattle.std.specs.Prelude.{Bool, cond, ◌≡◌, refl, Option, Some, None, get_or}
+use mathlib.Core.List.{List, [], ◌∷◌, ◌++◌}
+use Rattle.std.proofs.Common.{sym, subst, ◌∙◌, take_all, add-one, arith, eq-eqb, ne_eqb, length-append, append_assoc, drop-cons}
 use Rattle.std.proofs.Math.Path.{ap, ap₂}
-use Prim.Native.Nat.{ℕ, suc, ◌+◌, ◌-◌, ◌≤◌, ◌<◌}
-use Rattle.std.proofs.Math.ListN.{length, drop, length-set}
-use Rattle.std.proofs.Math.Seq.{sets}
-use Rattle.extract_writer.specs.fields.Fields.{whole_characters, stored, stored-nothing}
-use Rattle.extract_writer.specs.rows.Rows.{StoredAt}
+use Prim.Native.Nat.{ℕ, zero, suc, ◌+◌, ◌-◌, ◌≤◌, ◌<◌}
+use Rattle.std.proofs.Math.ListN.{length, take, drop, length-drop}
+use Rattle.extract_writer.specs.declared.writers.Writer.{Writer}
+use Rattle.extract_writer.specs.fields.Fields.{whole_characters}
+use Rattle.extract_writer.specs.writers.Writers.{Puts, puts-nothing, puts-then, puts-as, puts-length}
+use Rattle.journal_lexer.specs.declared.whole_entities.Character.{Character}
 use Rattle.journal_lexer.specs.whole_entities.Entities.{begins_at, EntityAfter, whole, itself, whole_split, whole-inside}
 use Rattle.table_spec.specs.Rows.{characters_by}
+use Rattle.text_laws.specs.Tests.{never}
 use Rattle.token_laws.specs.Characters.{decode-entity, decode-other, decode-filled}
 use Rattle.token_spec.specs.Characters.{decode}
 
 -- ---- definitions
+-- the bytes before the first `&`, or no `&` at all
+abbrev pub FirstAmpersand : List ℕ → Option ℕ → Type 0
+FirstAmpersand t None = (k : ℕ) → k < length t → get_or t k 0 ≡ 0x26 → ⊥
+FirstAmpersand t (Some n) = (n < length t) × (get_or t n 0 ≡ 0x26) × ((k : ℕ) → k < n → get_or t k 0 ≡ 0x26 → ⊥)
+
 -- the bytes from a place up to another stand for a character, and it is written
-pub record CharacterPut (t : List ℕ) (i : ℕ) (was : List ℕ) (at next : ℕ) (out : List ℕ) : Type 0 where
+pub record CharacterPut (t : List ℕ) (i : ℕ) (old : Writer) (next : ℕ) (new : Writer) : Type 0 where
   pub character : ℕ
   pub decoded : decode (drop i t) ≡ character ∷ decode (drop next t)
   pub past : i < next
   pub inside : next ≤ length t
-  pub written : out ≡ set was at character
+  pub written : Puts old (character ∷ []) new
 
--- what is still to be written from a place on makes the output whole, of what was to be written from another place on
-pub record Decoding (t : List ℕ) (from : ℕ) (was : List ℕ) (at i : ℕ) (out : List ℕ) (end : ℕ) : Type 0 where
-  pub inside : i ≤ length t
-  pub long : length out ≡ length was
-  pub bytes : stored out end (decode (drop i t)) ≡ stored was at (decode (drop from t))
-  pub after : end + length (decode (drop i t)) ≡ at + length (decode (drop from t))
-
--- bytes that stand for themselves are written, from a place up to another
-pub record PlainPut (t : List ℕ) (from : ℕ) (was : List ℕ) (at next : ℕ) (out : List ℕ) (end : ℕ) : Type 0 where
-  pub decoding : Decoding t from was at next out end
-  pub past : from ≤ next
+-- the characters of a text are written but for those of the rest of it
+pub record Decoding (t rest : List ℕ) (old new : Writer) : Type 0 where
+  pub done : List ℕ
+  pub whole-text : decode t ≡ done ++ decode rest
+  pub written : Puts old done new
 
 -- ---- one character
-module _ (t : List ℕ) (i : ℕ) (was : List ℕ) (at : ℕ) (l : i < length t) where
-  pub byte_put : (get_or t i 0 ≡ 0x26 → ⊥) → CharacterPut t i was at (i + 1) (set was at (get_or t i 0))
-  byte_put d =
-      record {
-        character = get_or t i 0;
-        decoded =
-            ap decode (drop-cons t i 0 l) ∙ decode-other (get_or t i 0) (drop (suc i) t) (ne_eqb (get_or t i 0) 0x26 d)
-            ∙ ap (λ (k : ℕ). get_or t i 0 ∷ decode (drop k t)) (sym (add-one i));
-        past = omega arith;
-        inside = omega arith;
-        written = refl;
-      }
+module _ (t : List ℕ) (i : ℕ) (l : i < length t) (e : get_or t i 0 ≡ 0x26) (old new : Writer) where
+  amp : drop i t ≡ 0x26 ∷ drop (i + 1) t
+  amp = drop-cons t i 0 l ∙ ap₂ (λ (x k : ℕ). x ∷ drop k t) e (sym (add-one i))
 
-  pub entity-put : {c next : ℕ} → get_or t i 0 ≡ 0x26 → EntityAfter t (i + 1) c next → CharacterPut t i was at next (set was at c)
-  unfolding begins_at decode
-  entity-put {c} {next} e (whole u f begins q) =
+  pub entity-put : (c : Character) → EntityAfter t (i + 1) (Some c) → Puts old (c.byte ∷ []) new → CharacterPut t i old c.next new
+  unfolding begins_at
+  entity-put c (whole u b f begins q) p =
+      let n : c.next ≡ i + 1 + length u = next-of c b (i + 1 + length u) q in
+      let s : c.byte ≡ b = byte-of c b (i + 1 + length u) q in
       record {
-        character = c;
+        character = c.byte;
         decoded =
-            after ∙ ap (λ (w : List ℕ). decode (0x26 ∷ w)) (whole_split t (i + 1) u begins) ∙ decode-entity (drop (i + 1 + length u) t) f
-            ∙ ap (λ (k : ℕ). c ∷ decode (drop k t)) (sym q);
+            ap decode amp ∙ ap (λ (w : List ℕ). decode (0x26 ∷ w)) (whole_split t (i + 1) u begins) ∙ decode-entity (drop (i + 1 + length u) t) f
+            ∙ ap₂ (λ (x k : ℕ). x ∷ decode (drop k t)) (sym s) (sym n);
         past = omega arith;
         inside = omega (arith, whole-inside t (i + 1) u begins f);
-        written = refl;
+        written = p;
       }
     where
-      after : decode (drop i t) ≡ decode (0x26 ∷ drop (i + 1) t)
-      after = ap decode (drop-cons t i 0 l ∙ ap₂ (λ (x k : ℕ). x ∷ drop k t) e (sym (add-one i)))
-  entity-put {c} {next} e (itself n a b d q) =
+      next-of : (c : Character) (b n : ℕ) → Some c ≡ Some (record { byte = b; next = n }) → c.next ≡ n
+      next-of c b n q = cc
+
+      byte-of : (c : Character) (b n : ℕ) → Some c ≡ Some (record { byte = b; next = n }) → c.byte ≡ b
+      byte-of c b n q = cc
+  entity-put c (itself n a b q) p = never (cc)
+
+  pub itself-put : EntityAfter t (i + 1) None → Puts old (0x26 ∷ []) new → CharacterPut t i old (i + 1) new
+  unfolding begins_at decode
+  itself-put (whole u b f begins q) p = never (cc)
+  itself-put (itself n a b q) p =
       record {
-        character = c;
-        decoded =
-            ap decode (drop-cons t i 0 l ∙ ap₂ (λ (x k : ℕ). x ∷ drop k t) e (sym (add-one i)))
-            ∙ rw (a, b, n.amp, n.apos, n.quot) (ap₂ (λ (x k : ℕ). x ∷ decode (drop k t)) (sym d) (sym q));
+        character = 0x26;
+        decoded = ap decode amp ∙ rw (a, b, n.amp, n.apos, n.quot) refl;
         past = omega arith;
         inside = omega arith;
-        written = refl;
+        written = p;
       }
 
--- ---- all characters
+-- ---- plain bytes
 decode-none : decode [] ≡ []
 unfolding decode
 decode-none = refl
 
-module _ (t : List ℕ) (from : ℕ) (was : List ℕ) (at : ℕ) where
-  pub decoding-none : from ≤ length t → Decoding t from was at from was at
-  decoding-none l = record { inside = l; long = refl; bytes = refl; after = refl }
+plain-run : (w : List ℕ) (n : ℕ) → n ≤ length w → ((k : ℕ) → k < n → get_or w k 0 ≡ 0x26 → ⊥) → decode w ≡ take n w ++ decode (drop n w)
+plain-run w zero l f = refl
+plain-run [] (suc n) l f = absurd (omega arith)
+plain-run (b ∷ w) (suc n) l f =
+    decode-other b w (ne_eqb b 0x26 (f 0 (omega arith))) ∙ ap (λ (u : List ℕ). b ∷ u) (plain-run w n (omega arith) (λ k h. f (suc k) (omega arith)))
 
-  module _ (i : ℕ) (out : List ℕ) (end : ℕ) (h : Decoding t from was at i out end) where
-    pub decoding-room : at + length (decode (drop from t)) ≤ length was → i < length t → end < length out
-    decoding-room r l =
-        let n : length (drop i t) ≡ length t - i = length-drop i t in
-        let f : 1 ≤ length (decode (drop i t)) = decode-filled (drop i t) (omega arith) in
-        omega (arith, h.long, h.after)
+plain-all : (w : List ℕ) → ((k : ℕ) → k < length w → get_or w k 0 ≡ 0x26 → ⊥) → decode w ≡ w
+plain-all [] f = decode-none
+plain-all (b ∷ w) f =
+    decode-other b w (ne_eqb b 0x26 (f 0 (omega arith))) ∙ ap (λ (u : List ℕ). b ∷ u) (plain-all w (λ k h. f (suc k) (omega arith)))
 
-    pub decoding-next : (next : ℕ) (x : List ℕ) → CharacterPut t i out end next x → Decoding t from was at next x (end + 1)
-    unfolding stored
-    decoding-next next x p =
-        record {
-          inside = p.inside;
-          long = ap length p.written ∙ length-set out end p.character ∙ h.long;
-          bytes = ap₂ (λ (o : List ℕ) (k : ℕ). sets o k (decode (drop next t))) p.written (add-one end) ∙ ap (sets out end) (sym p.decoded) ∙ h.bytes;
-          after =
-              (let d : length (decode (drop i t)) ≡ suc (length (decode (drop next t))) = ap length p.decoded in
-              omega (arith, h.after));
-        }
+-- ---- all characters
+rejoined : (xs ys : List ℕ) (x : ℕ) (zs : List ℕ) → xs ++ (ys ++ (x ∷ zs)) ≡ ((xs ++ ys) ++ (x ∷ [])) ++ zs
+rejoined xs ys x zs = sym (append_assoc (xs ++ ys) (x ∷ []) zs ∙ append_assoc xs ys (x ∷ zs))
 
-    pub decoding-then : (next : ℕ) (x : List ℕ) (to : ℕ) → Decoding t i out end next x to → Decoding t from was at next x to
-    decoding-then next x to g = record { inside = g.inside; long = g.long ∙ h.long; bytes = g.bytes ∙ h.bytes; after = g.after ∙ h.after }
+pub decoding-none : (t : List ℕ) (w : Writer) → Decoding t t w w
+decoding-none t w = record { done = []; whole-text = refl; written = puts-nothing w }
 
-    -- there is room for what is still to be written
-    pub decoding-fits : at + length (decode (drop from t)) ≤ length was → end + length (decode (drop i t)) ≤ length out
-    decoding-fits r = omega (arith, h.long, h.after)
+module _ {t rest : List ℕ} {old new : Writer} (h : Decoding t rest old new) where
+  -- there is room for what is still to be written
+  pub decoding-room : old.at + length (decode t) ≤ length old.out.now → new.at + length (decode rest) ≤ length new.out.now
+  decoding-room r = omega (arith, h.written.after, puts-length h.written, ap length h.whole-text, length-append h.done (decode rest))
 
-    pub decoding-all : length t ≤ i → StoredAt was at (decode (drop from t)) end out
-    decoding-all l =
-        let z : decode (drop i t) ≡ [] = ap decode (drop_of_length-le t l) ∙ decode-none in
-        let y : length (decode (drop i t)) ≡ 0 = ap length z in
-        record { bytes = sym (stored-nothing out end) ∙ ap (stored out end) (sym z) ∙ h.bytes; after = omega (arith, h.after) }
+  -- no `&` is left
+  pub rest-plain : FirstAmpersand rest None → decode rest ≡ rest
+  rest-plain f = plain-all rest f
 
--- ---- plain bytes
-pub plain-none : {t : List ℕ} {from : ℕ} {was : List ℕ} {at : ℕ} → from ≤ length t → PlainPut t from was at from was at
-plain-none {t} {from} {was} {at} l = record { decoding = decoding-none t from was at l; past = omega arith }
+  pub decoding-all : FirstAmpersand rest None → (w : Writer) → Puts new rest w → Puts old (decode t) w
+  decoding-all f w p = puts-as (ap (λ (u : List ℕ). h.done ++ u) (sym (rest-plain f)) ∙ sym h.whole-text) (puts-then h.written p)
 
-pub plain_more : {t : List ℕ} {from : ℕ} {was : List ℕ} {at i : ℕ} {out : List ℕ} {end : ℕ} → PlainPut t from was at i out end → i < length t → (get_or t i 0 ≡ 0x26 → ⊥)
-    → PlainPut t from was at (i + 1) (set out end (get_or t i 0)) (end + 1)
-plain_more {t} {from} {was} {at} {i} {out} {end} h l d =
-    record {
-      decoding = decoding-next t from was at i out end h.decoding (i + 1) (set out end (get_or t i 0)) (byte_put t i out end l d);
-      past = omega (arith, h.past);
-    }
+  -- in each turn plain bytes and a character
+  module _ (n : ℕ) (f : FirstAmpersand rest (Some n)) where
+    run : decode rest ≡ take n rest ++ decode (drop n rest)
+    run = plain-run rest n (omega (arith, f.0)) f.2
 
--- ---- in each turn a character and the plain bytes after it
-module _ {t : List ℕ} {from : ℕ} {was : List ℕ} {at i : ℕ} {out : List ℕ} {end past : ℕ} {x : List ℕ} (h : Decoding t from was at i out end) (c : CharacterPut t i out end past x) where
-  one-put : Decoding t from was at past x (end + 1)
-  one-put = decoding-next t from was at i out end h past x c
+    pub plain-room : old.at + length (decode t) ≤ length old.out.now → new.at + length (take n rest) ≤ length new.out.now
+    plain-room r = omega (arith, decoding-room r, ap length run, length-append (take n rest) (decode (drop n rest)))
 
-  pub turn-room : at + length (decode (drop from t)) ≤ length was → (past ≤ length t) × (end + 1 + length (decode (drop past t)) ≤ length x)
-  turn-room r = (c.inside, decoding-fits t from was at past x (end + 1) one-put r)
+    -- the `&` stands for a character at least
+    filled : 1 ≤ length (decode (drop n rest))
+    filled = decode-filled (drop n rest) (omega (arith, f.0, length-drop n rest))
 
-  module _ {next : ℕ} {y : List ℕ} {to : ℕ} (p : PlainPut t past x (end + 1) next y to) where
-    pub turn-next : Decoding t from was at next y to
-    turn-next = decoding-then t from was at past x (end + 1) one-put next y to p.decoding
+    module _ (mid : Writer) (p : Puts new (take n rest) mid) where
+      pub character-room : old.at + length (decode t) ≤ length old.out.now → mid.at < length mid.out.now
+      character-room r =
+          omega (arith, decoding-room r, filled, p.after, puts-length p, ap length run, length-append (take n rest) (decode (drop n rest)))
 
-    pub turn-less : length t - next < length t - i
-    turn-less = omega (arith, c.past, p.past, p.decoding.inside)
+      pub decoding-next : (next : ℕ) (w : Writer) → CharacterPut rest n mid next w → Decoding t (drop next rest) old w
+      decoding-next next w c =
+          record {
+            done = (h.done ++ take n rest) ++ (c.character ∷ []);
+            whole-text = h.whole-text ∙ ap (λ (u : List ℕ). h.done ++ u) (run ∙ ap (λ (u : List ℕ). take n rest ++ u) c.decoded)
+                ∙ rejoined h.done (take n rest) c.character (decode (drop next rest));
+            written = puts-then (puts-then h.written p) c.written;
+          }
+
+-- the rest as the code takes it
+pub decoding-from : (t rest : List ℕ) (next : ℕ) (old new : Writer) → Decoding t (drop next rest) old new → Decoding t (take (length rest - next) (drop next rest)) old new
+decoding-from t rest next old new h =
+    subst (λ (u : List ℕ). Decoding t u old new) (sym (take_all (length rest - next) (drop next rest) (omega (arith, length-drop next rest)))) h
 
 -- ---- copied or decoded
 pub copied-as : (w : List ℕ) (n : ℕ) → n ≡ length w → whole_characters n w ≡ w

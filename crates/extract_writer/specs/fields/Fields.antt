@@ -1,13 +1,11 @@
--- The bytes of an extract's fields, written from a place on.
+-- The bytes of an extract's fields.
 use Rattle.std.specs.Prelude.{List, [], ◌∷◌, ◌++◌, ◌≡◌, refl, ℕ, ◌+◌, ◌/◌, ◌%◌, ◌≤◌, length, set}
-use Rattle.std.proofs.Common.{sym, ap, ◌∙◌, arith, length-set}
-use Rattle.std.proofs.lemmas.List.Edits.{sets}
-use Rattle.std.proofs.Math.Seq.{length-sets}
-use Rattle.cells.specs.written_text.Written.{WrittenAt}
+use Rattle.std.proofs.Common.{ap, ◌∙◌, arith}
 use Rattle.extract_spec.specs.Fields.{two_bytes, field, element_tag, text_tag, count_tag, row_field}
+use Rattle.extract_writer.specs.declared.writers.Writer.{Writer}
+use Rattle.extract_writer.specs.writers.Writers.{stored, Puts, stored-after, puts-then, puts-as, one-stored}
 use Rattle.schema_spec.specs.Names.{element, text}
 use Rattle.table_spec.specs.Rows.{characters_by}
-use Rattle.text_laws.specs.Cells.{sets-append}
 use Rattle.text_spec.specs.Limits.{max_text_bytes}
 
 -- the tag, the length and the two numbers that a row's field begins with
@@ -24,36 +22,7 @@ pub record TextPass (w : List ℕ) (decoded : ℕ) (out : List ℕ) (at : ℕ) :
   pub spelt : length (whole_characters decoded w) ≡ decoded
   pub room : at + 7 + decoded ≤ length out
 
--- bytes stored one after the other from a place on
-unfoldable pub stored : List ℕ → ℕ → List ℕ → List ℕ
-stored o k xs = sets o k xs
-
--- bytes after bytes, by the place where they start
-pub stored-after : (o : List ℕ) (k : ℕ) (xs ys : List ℕ) (n : ℕ) → n ≡ k + length xs → stored (stored o k xs) n ys ≡ stored o k (xs ++ ys)
-unfolding stored
-stored-after o k xs ys n e = ap (λ (i : ℕ). sets (sets o k xs) i ys) e ∙ sym (sets-append o k xs ys)
-
-pub stored-length : (o : List ℕ) (k : ℕ) (xs x : List ℕ) → x ≡ stored o k xs → length x ≡ length o
-unfolding stored
-stored-length o k xs x e = ap length e ∙ length-sets o k xs
-
-pub set-length : (o : List ℕ) (k : ℕ) (xs x : List ℕ) (i b : ℕ) → x ≡ stored o k xs → length (set x i b) ≡ length o
-set-length o k xs x i b e = length-set x i b ∙ stored-length o k xs x e
-
--- a text written from a place on
-pub text-written : {o w out : List ℕ} {k n : ℕ} → WrittenAt o k w n out → out ≡ stored o k w
-unfolding stored
-text-written h = h.cells
-
-pub stored-nothing : (o : List ℕ) (k : ℕ) → stored o k [] ≡ o
-unfolding stored
-stored-nothing o k = refl
-
--- one byte
-pub one-stored : (o : List ℕ) (k b : ℕ) → set o k b ≡ stored o k (b ∷ [])
-unfolding stored
-one-stored o k b = refl
-
+-- ---- the bytes on their own
 -- two bytes
 pub two-stored : (o : List ℕ) (k n : ℕ) → set (set o k (n / 256 % 256)) (k + 1) (n % 256) ≡ stored o k (two_bytes n)
 two-stored o k n =
@@ -89,3 +58,11 @@ module _ (o : List ℕ) (k : ℕ) where
       → y ≡ stored o k (field count_tag (two_bytes n))
   count-stored n x y d f =
       f ∙ ap (λ (u : List ℕ). stored u (k + 3) (two_bytes n)) (tag-stored count_tag 2 x d) ∙ stored-after o k (count_tag ∷ two_bytes 2) (two_bytes n) (k + 3) refl
+
+-- ---- what a writer puts
+-- a text's field is its head and its characters
+pub text-puts : {a b c : Writer} (number parent size : ℕ) (w : List ℕ) → length w ≡ size → Puts a (head text_tag (size + 4) number parent) b → Puts b w c
+    → Puts a (row_field (text 0) number parent w) c
+text-puts number parent size w e p q =
+    let z : size + 4 ≡ length (two_bytes number ++ (two_bytes parent ++ w)) = omega arith in
+    puts-as (ap (λ (n : ℕ). head text_tag n number parent ++ w) z) (puts-then p q)

@@ -6,7 +6,9 @@ use Rattle.std.proofs.Common.{subst, ◌∙◌, add-one, arith, eq-eqb, ne_eqb, 
 use Rattle.std.specs.Int.{w64}
 use Rattle.cells.specs.row_sets.Columns.{is_marked}
 use Rattle.extract_spec.specs.Fields.{row_field}
-use Rattle.extract_writer.specs.fields.Fields.{whole_characters, TextPass, stored, stored-after, stored-length, stored-nothing}
+use Rattle.extract_writer.specs.declared.writers.Writer.{Writer}
+use Rattle.extract_writer.specs.fields.Fields.{whole_characters, TextPass}
+use Rattle.extract_writer.specs.writers.Writers.{Puts, puts-nothing, puts-then, puts-as, puts-length}
 use Rattle.kept_rows.specs.Joined.{joined, joined-none}
 use Rattle.kept_rows.specs.cut_rows.Rows.{OfLength}
 use Rattle.names.specs.codes.Codes.{name_of_code}
@@ -102,11 +104,11 @@ module _ (lent : List ℕ) (c : Columns) (r : ℕ) where
   marked-field mark e = ap (λ (b : Bool). cond b (field_at lent c r) []) (eq-eqb mark 1 e)
 
 -- ---- one row
--- there is room for the field at a place
-pub record RowPass (lent : List ℕ) (c : Columns) (mark r : ℕ) (out : List ℕ) (at : ℕ) : Type 0 where
+-- there is room for the field
+pub record RowPass (lent : List ℕ) (c : Columns) (mark r : ℕ) (w : Writer) : Type 0 where
   pub columns : ExtractColumns lent c (length c.numbers)
   pub inside : r < length c.numbers
-  pub room : at + length (marked_field lent c mark r) ≤ length out
+  pub room : w.at + length (marked_field lent c mark r) ≤ length w.out.now
 
 -- so the row stands in each column, and its place in bytes fits a word
 pub record RowPlace (c : Columns) (r : ℕ) : Type 0 where
@@ -118,7 +120,7 @@ pub record RowPlace (c : Columns) (r : ℕ) : Type 0 where
   pub halves : Fits w64 (r * 2)
   pub words : Fits w64 (r * 4)
 
-pub row-place : {lent : List ℕ} {c : Columns} {mark r : ℕ} {out : List ℕ} {at : ℕ} → RowPass lent c mark r out at → RowPlace c r
+pub row-place : {lent : List ℕ} {c : Columns} {mark r : ℕ} {w : Writer} → RowPass lent c mark r w → RowPlace c r
 row-place h =
     let z = h.columns.sizes in
     let l = h.inside in
@@ -133,34 +135,23 @@ row-place h =
       words = omega arith;
     }
 
--- a list of bytes stored at a place, and the place after them
-pub record StoredAt (was : List ℕ) (at : ℕ) (xs : List ℕ) (n : ℕ) (out : List ℕ) : Type 0 where
-  pub bytes : out ≡ stored was at xs
-  pub after : n ≡ at + length xs
-
-module _ (lent : List ℕ) (c : Columns) (mark r : ℕ) (was : List ℕ) (at : ℕ) (h : RowPass lent c mark r was at) where
+module _ (lent : List ℕ) (c : Columns) (mark r : ℕ) (w : Writer) (h : RowPass lent c mark r w) where
   -- the text of the row, as the code takes it
   abbrev ranged : List ℕ
   ranged = take (get_or c.starts r 0 + get_or c.lengths r 0 - get_or c.starts r 0) (drop (get_or c.starts r 0) lent)
 
-  pub row-skipped : (mark ≡ 1 → ⊥) → StoredAt was at (marked_field lent c mark r) at was
-  row-skipped d = rw (unmarked-field lent c r mark d) (record { bytes = sym (stored-nothing was at); after = omega arith })
+  pub row-skipped : (mark ≡ 1 → ⊥) → Puts w (marked_field lent c mark r) w
+  row-skipped d = puts-as (sym (unmarked-field lent c r mark d)) (puts-nothing w)
 
-  pub row_room : mark ≡ 1 → at + size_at c r ≤ length was
+  pub row_room : mark ≡ 1 → w.at + size_at c r ≤ length w.out.now
   row_room e = omega (arith, h.room, ap length (marked-field lent c r mark e), field-length lent c r (length c.numbers) h.columns h.inside)
 
-  pub element-room : mark ≡ 1 → get_or c.names r 0 < max_declarations → at + 8 ≤ length was
+  pub element-room : mark ≡ 1 → get_or c.names r 0 < max_declarations → w.at + 8 ≤ length w.out.now
   element-room e l = omega (arith, row_room e, size-element (get_or c.names r 0) (get_or c.decoded r 0) l)
 
-  pub element-put : mark ≡ 1 → get_or c.names r 0 < max_declarations → (out : List ℕ)
-      → out ≡ stored was at (row_field (element (get_or c.names r 0)) (get_or c.numbers r 0) (get_or c.numbers (get_or c.parents r 0) 0) [])
-      → StoredAt was at (marked_field lent c mark r) (at + 8) out
-  element-put e l out q =
-      rw (marked-field lent c r mark e)
-      (record {
-        bytes = q ∙ ap (stored was at) (element-field lent c r l);
-        after = omega (arith, field-length lent c r (length c.numbers) h.columns h.inside, size-element (get_or c.names r 0) (get_or c.decoded r 0) l);
-      })
+  pub element-put : mark ≡ 1 → get_or c.names r 0 < max_declarations → (v : Writer)
+      → Puts w (row_field (element (get_or c.names r 0)) (get_or c.numbers r 0) (get_or c.numbers (get_or c.parents r 0) 0) []) v → Puts w (marked_field lent c mark r) v
+  element-put e l v p = puts-as (element-field lent c r l ∙ sym (marked-field lent c r mark e)) p
 
   text-length : max_declarations ≤ get_or c.names r 0 → length (part (get_or c.starts r 0) (get_or c.lengths r 0) lent) ≡ get_or c.lengths r 0
   text-length l = part_length lent (get_or c.starts r 0) (get_or c.lengths r 0) (h.columns.inside r h.inside l)
@@ -170,7 +161,7 @@ module _ (lent : List ℕ) (c : Columns) (mark r : ℕ) (was : List ℕ) (at : �
       ap (whole_characters (get_or c.decoded r 0)) (range-part lent (get_or c.starts r 0) (get_or c.lengths r 0))
       ∙ ap (λ (n : ℕ). characters_by n (get_or c.decoded r 0) (part (get_or c.starts r 0) (get_or c.lengths r 0) lent)) (text-length l)
 
-  pub text-asked : mark ≡ 1 → max_declarations ≤ get_or c.names r 0 → TextPass ranged (get_or c.decoded r 0) was at
+  pub text-asked : mark ≡ 1 → max_declarations ≤ get_or c.names r 0 → TextPass ranged (get_or c.decoded r 0) w.out.now w.at
   text-asked e l =
       record {
         short = h.columns.short r h.inside l;
@@ -178,24 +169,19 @@ module _ (lent : List ℕ) (c : Columns) (mark r : ℕ) (was : List ℕ) (at : �
         room = omega (arith, row_room e, size-text (get_or c.names r 0) (get_or c.decoded r 0) l);
       }
 
-  pub text-put : mark ≡ 1 → max_declarations ≤ get_or c.names r 0 → (out : List ℕ)
-      → out ≡ stored was at (row_field (text 0) (get_or c.numbers r 0) (get_or c.numbers (get_or c.parents r 0) 0) (whole_characters (get_or c.decoded r 0) ranged))
-      → StoredAt was at (marked_field lent c mark r) (at + 7 + get_or c.decoded r 0) out
-  text-put e l out q =
-      rw (marked-field lent c r mark e)
-      (record {
-        bytes =
-            q
-            ∙ ap (λ (u : List ℕ). stored was at (row_field (text 0) (get_or c.numbers r 0) (get_or c.numbers (get_or c.parents r 0) 0) u)) (ranged-characters l)
-            ∙ ap (stored was at) (text-field lent c r l);
-        after = omega (arith, field-length lent c r (length c.numbers) h.columns h.inside, size-text (get_or c.names r 0) (get_or c.decoded r 0) l);
-      })
+  pub text-put : mark ≡ 1 → max_declarations ≤ get_or c.names r 0 → (v : Writer)
+      → Puts w (row_field (text 0) (get_or c.numbers r 0) (get_or c.numbers (get_or c.parents r 0) 0) (whole_characters (get_or c.decoded r 0) ranged)) v
+      → Puts w (marked_field lent c mark r) v
+  text-put e l v p =
+      puts-as
+      (ap (row_field (text 0) (get_or c.numbers r 0) (get_or c.numbers (get_or c.parents r 0) 0)) (ranged-characters l) ∙ text-field lent c r l ∙ sym (marked-field lent c r mark e))
+      p
 
 -- ---- the rows before r behind
-pub record FieldsPass (lent : List ℕ) (c : Columns) (m out : List ℕ) : Type 0 where
+pub record FieldsPass (lent : List ℕ) (c : Columns) (m : List ℕ) (w : Writer) : Type 0 where
   pub columns : ExtractColumns lent c (length c.numbers)
   pub size : length m ≡ length c.numbers
-  pub room : length (joined (field_at lent c) m (length m)) ≤ length out
+  pub room : w.at + length (joined (field_at lent c) m (length m)) ≤ length w.out.now
 
 joined-rises : {A : Type 0} (f : ℕ → List A) (m : List ℕ) (r d : ℕ) → length (joined f m r) ≤ length (joined f m (r + d))
 unfolding joined
@@ -205,19 +191,19 @@ joined-rises f m r (suc d) =
     let h = joined-rises f m r d in
     rw z (omega (arith, length-append (joined f m (r + d)) (cond (is_marked m (r + d)) (f (r + d)) [])))
 
-module _ (lent : List ℕ) (c : Columns) (m was : List ℕ) (h : FieldsPass lent c m was) where
+module _ (lent : List ℕ) (c : Columns) (m : List ℕ) (was : Writer) (h : FieldsPass lent c m was) where
   abbrev Fields : ℕ → List ℕ
   Fields r = joined (field_at lent c) m r
 
-  pub fields-none : StoredAt was 0 (joined (field_at lent c) m 0) 0 was
-  fields-none = rw (joined-none (field_at lent c) m) (record { bytes = sym (stored-nothing was 0); after = refl })
+  pub fields-none : Puts was (joined (field_at lent c) m 0) was
+  fields-none = puts-as (sym (joined-none (field_at lent c) m)) (puts-nothing was)
 
-  module _ (r at : ℕ) (out : List ℕ) (w : StoredAt was 0 (joined (field_at lent c) m r) at out) (l : r < length m) where
+  module _ (r : ℕ) (w : Writer) (p : Puts was (joined (field_at lent c) m r) w) (l : r < length m) where
     one_more : joined (field_at lent c) m (r + 1) ≡ joined (field_at lent c) m r ++ marked_field lent c (get_or m r 0) r
     unfolding joined marked_field
     one_more = ap (joined (field_at lent c) m) (add-one r)
 
-    pub fields-row : RowPass lent c (get_or m r 0) r out at
+    pub fields-row : RowPass lent c (get_or m r 0) r w
     fields-row =
         record {
           columns = h.columns;
@@ -226,18 +212,11 @@ module _ (lent : List ℕ) (c : Columns) (m was : List ℕ) (h : FieldsPass lent
               (let z : r + 1 + (length m - (r + 1)) ≡ length m = omega arith in
               let t : length (Fields (r + 1)) ≤ length (Fields (length m)) =
               subst (λ (k : ℕ). length (Fields (r + 1)) ≤ length (Fields k)) z (joined-rises (field_at lent c) m (r + 1) (length m - (r + 1))) in
-              omega (arith, w.after, h.room, ap length one_more, length-append (Fields r) (marked_field lent c (get_or m r 0) r), stored-length was 0 (Fields r) out w.bytes));
+              omega (arith, p.after, h.room, ap length one_more, length-append (Fields r) (marked_field lent c (get_or m r 0) r), puts-length p));
         }
 
-    pub fields-next : (n : ℕ) (x : List ℕ) → StoredAt out at (marked_field lent c (get_or m r 0) r) n x → StoredAt was 0 (joined (field_at lent c) m (r + 1)) n x
-    fields-next n x v =
-        rw one_more
-        (record {
-          bytes =
-              v.bytes ∙ ap (λ (u : List ℕ). stored u at (marked_field lent c (get_or m r 0) r)) w.bytes
-              ∙ stored-after was 0 (Fields r) (marked_field lent c (get_or m r 0) r) at w.after;
-          after = omega (arith, v.after, w.after, length-append (Fields r) (marked_field lent c (get_or m r 0) r));
-        })
+    pub fields-next : (v : Writer) → Puts w (marked_field lent c (get_or m r 0) r) v → Puts was (joined (field_at lent c) m (r + 1)) v
+    fields-next v q = puts-as (sym one_more) (puts-then p q)
 
-  pub fields-all : (r at : ℕ) (out : List ℕ) → StoredAt was 0 (joined (field_at lent c) m r) at out → r ≡ length m → StoredAt was 0 (joined (field_at lent c) m (length m)) at out
-  fields-all r at out w e = subst (λ (k : ℕ). StoredAt was 0 (joined (field_at lent c) m k) at out) e w
+  pub fields-all : (r : ℕ) (w : Writer) → Puts was (joined (field_at lent c) m r) w → r ≡ length m → Puts was (joined (field_at lent c) m (length m)) w
+  fields-all r w p e = puts-as (ap (joined (field_at lent c) m) e) p

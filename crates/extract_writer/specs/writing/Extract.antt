@@ -9,9 +9,10 @@ use Rattle.cells.specs.lent.Cells.{Cleared}
 use Rattle.cells.specs.lent.Ends.{Slice}
 use Rattle.cells.specs.row_sets.Columns.{OnlyMarks, marks, only-marks, marks-length, marks-by-rows}
 use Rattle.extract_spec.specs.Fields.{count_tag, two_bytes, field}
-use Rattle.extract_writer.specs.fields.Fields.{stored, stored-after, stored-length}
+use Rattle.extract_writer.specs.declared.writers.Writer.{Writer}
 use Rattle.extract_writer.specs.rows.Measure.{MeasurePass, MeasuredAs}
-use Rattle.extract_writer.specs.rows.Rows.{field_at, size-element, size-text, field-length, size_at, ExtractColumns, StoredAt, FieldsPass}
+use Rattle.extract_writer.specs.rows.Rows.{field_at, size-element, size-text, field-length, size_at, ExtractColumns, FieldsPass}
+use Rattle.extract_writer.specs.writers.Writers.{stored, Puts, RestCleared, puts-then, puts-as, puts-length}
 use Rattle.kept_rows.specs.Joined.{joined, rank, joined_length, total-bound}
 use Rattle.kept_rows.specs.Kept.{is_kept, kept_marks, KeptColumns, KeptPass}
 use Rattle.kept_rows.specs.cut_rows.Cells.{sets-cleared}
@@ -92,19 +93,24 @@ module _ (lent : List ℕ) (c : Columns) (m : List ℕ) (h : ExtractPass lent c 
     unfolding extract_in
     extract-size = omega (arith, fields-size, length-append (joined (field_at lent c) m (length m)) (field count_tag (two_bytes (rank m (length m)))))
 
-    pub fields-pass : (out : List ℕ) → bytes + 5 ≤ length out → FieldsPass lent c m out
-    fields-pass out l = record { columns = h.columns; size = h.size; room = omega (arith, fields-size) }
+    pub fields-pass : (w : Writer) → w.at ≡ 0 → bytes + 5 ≤ length w.out.now → FieldsPass lent c m w
+    fields-pass w e l = record { columns = h.columns; size = h.size; room = omega (arith, fields-size) }
 
-    module _ (was x : List ℕ) (at : ℕ) (v : StoredAt was 0 (joined (field_at lent c) m (length m)) at x) where
-      pub count_room : bytes + 5 ≤ length was → at + 5 ≤ length x
-      count_room l = omega (arith, fields-size, v.after, stored-length was 0 (joined (field_at lent c) m (length m)) x v.bytes)
+    module _ (was x : Writer) (v : Puts was (joined (field_at lent c) m (length m)) x) where
+      pub count_room : was.at ≡ 0 → bytes + 5 ≤ length was.out.now → x.at + 5 ≤ length x.out.now
+      count_room e l = omega (arith, fields-size, v.after, puts-length v)
 
-      pub extract-stored : (y : List ℕ) → y ≡ stored x at (field count_tag (two_bytes rows)) → y ≡ stored was 0 (extract_in lent c m)
+      pub extract-put : (y : Writer) → Puts x (field count_tag (two_bytes rows)) y → Puts was (extract_in lent c m) y
       unfolding extract_in
-      extract-stored y e =
-          e ∙ ap (λ (k : ℕ). stored x at (field count_tag (two_bytes k))) w.rows_are
-          ∙ ap (λ (u : List ℕ). stored u at (field count_tag (two_bytes (rank m (length m))))) v.bytes
-          ∙ stored-after was 0 (joined (field_at lent c) m (length m)) (field count_tag (two_bytes (rank m (length m)))) at v.after
+      extract-put y p =
+          puts-as (ap (λ (k : ℕ). joined (field_at lent c) m (length m) ++ field count_tag (two_bytes k)) w.rows_are) (puts-then v p)
+
+-- the cells behind are cleared
+pub extract-left : (xs : List ℕ) (n : ℕ) (was x y : Writer) → was.at ≡ 0 → n ≡ length xs → n ≤ length was.out.now → Puts was xs x → RestCleared x y
+    → BytesWritten was.out.now xs n y.out.now
+extract-left xs n was x y e s l p q =
+    whole-bytes was.out.now xs n x.out.now y.out.now s l (p.bytes ∙ ap (λ (k : ℕ). stored was.out.now k xs) e)
+    (let z : x.at ≡ n = omega (arith, p.after) in subst (λ (k : ℕ). Cleared x.out.now k y.out.now) z q.cleared)
 
 -- ---- every row, and the rows that a set keeps
 pub all-marked : (k n : ℕ) → n ≤ k → take n (replicate k 1) ≡ marks n (λ r. true)

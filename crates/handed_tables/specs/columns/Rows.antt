@@ -1,7 +1,9 @@
 -- The columns of a table that is handed in are those of its rows, and are those of a tested table.
-use Rattle.std.specs.Prelude.{Bool, true, false, cond, List, [], ◌∷◌, map, ◌≡◌, refl, ℕ, zero, suc, ◌+◌, ◌-◌, ◌≤◌, T, ltb, length, get_or, take, drop}
+use Rattle.std.specs.Prelude.{Bool, true, false, cond, List, [], ◌∷◌, map, ◌≡◌, refl, ℕ, zero, suc, ◌+◌, ◌-◌, ◌≤◌, T, leb, ltb, length, get_or, take, drop}
 use Rattle.std.proofs.Math.Option.{Option, none, some}
 use Rattle.std.proofs.Common.{sym, ap, ap₂, subst, ◌∙◌, arith, ltb-false, drop-cons}
+use Rattle.cells.specs.columns.ColumnLaws.{equal-columns}
+use Rattle.cells.specs.columns.Columns.{EqualColumns}
 use Rattle.cells.specs.lent.Columns.{first_cells, same-columns}
 use Rattle.kept_rows.specs.laws.Cut.{columns_in}
 use Rattle.library_spec.specs.Records.{LentTable, rows_lent}
@@ -12,11 +14,12 @@ use Rattle.table_laws.specs.Codes.{NamesCoded, cells-coded}
 use Rattle.table_laws.specs.Columns.{parents_of, numbers_of, codes_of, tested-columns, TestedColumns, codes-map}
 use Rattle.table_laws.specs.Places.{none-some}
 use Rattle.table_laws.specs.passes.Tables.{rows-stand}
-use Rattle.table_spec.specs.Columns.{Columns, cells_at, cells_from}
+use Rattle.table_spec.specs.Columns.{Columns, sizes_of, equal_sizes, cells_at, cells_from}
 use Rattle.table_spec.specs.Rows.{Row, row, Cells, row_with, row_of, cons_of, rows_of}
 use Rattle.table_spec.specs.Tables.{well_formed}
 use Rattle.tables.specs.Handed.{sizes_fit, fit-lent}
 use Rattle.tables.specs.rows.Lent.{Lent}
+use Rattle.text_laws.specs.Tests.{passed, and_cases}
 use Rattle.text_spec.specs.Limits.{max_declarations}
 
 -- ---- a row and its cells
@@ -119,6 +122,10 @@ module _ (t : LentTable) (rows : List Row) (held : rows_lent t ≡ some rows) wh
 
   pub lent-cells : Lent t.columns t.count
   lent-cells = fit-lent t sizes-fit
+
+  -- the columns are of one length
+  pub lent-equal : EqualColumns t.columns
+  lent-equal = equal-columns t.columns (and_cases (equal_sizes (sizes_of t.columns)) (leb t.count (length t.columns.numbers)) (passed sizes-fit)).0
 
   pub lent-size : length rows ≡ t.count
   lent-size = (rows-stand t.columns 0 t.count rows rows-held).size

@@ -1,18 +1,18 @@
 -- A table that is handed in as row structs holds what the columns hold in which they are laid, and nothing where it has more rows than a table can have.
-use Rattle.std.specs.Prelude.{Bool, cond, ◌&&◌, ◌≡◌, ℕ, suc, ◌+◌, ◌<◌, ◌≤◌, T, leb, get_or}
-use Rattle.std.proofs.Math.Bool.{not}
+use Rattle.std.specs.Prelude.{Bool, cond, ◌&&◌, ◌≡◌, ℕ, suc, ◌+◌, ◌<◌, ◌≤◌, T, leb, ltb, get_or}
+use Rattle.std.proofs.Math.Bool.{true, false, not}
 use mathlib.Core.List.{List, [], ◌∷◌}
 use Rattle.std.proofs.Math.Option.{Option, none, some}
 use Rattle.std.proofs.Math.Path.{refl, sym, ap}
-use Rattle.std.proofs.Common.{ap₂, subst, ◌∙◌, arith, le→leb, length-take-le}
+use Rattle.std.proofs.Common.{ap₂, subst, ◌∙◌, arith, le→leb, ltb-true, ltb-false, length-take-le}
 use Rattle.std.proofs.Math.ListN.{length, get_or-map}
 use Rattle.std.proofs.lemmas.List.{length-map}
 use Rattle.handed_tables.specs.calls.Calls.{beside-some, table-holds}
 use Rattle.handed_tables.specs.columns.Rows.{lent-cells, lent-size, lent-columns}
 use Rattle.library_spec.specs.Calls.{table_of_cells}
 use Rattle.library_spec.specs.Records.{LentTable, rows_lent, kept_if, table_held, table_beside}
-use Rattle.row_structs.specs.Structs.{empty_cells, Laid}
-use Rattle.row_structs.specs.laws.Answers.{cell_count, equal-sizes}
+use Rattle.row_structs.specs.Structs.{empty_cells, cell_count, Laid}
+use Rattle.row_structs.specs.laws.Answers.{equal-sizes}
 use Rattle.schema_spec.specs.Schemas.{Schema}
 use Rattle.schema_spec.specs.Types.{types_of}
 use Rattle.table_laws.specs.WellFormed.{well-formed-alone}
@@ -132,3 +132,24 @@ module _ (s : Schema) (t : LentTable) where
         by (some rows) e =
             let h = beside-some s lent t rows e in
             absurd (omega (arith, rows_few rows h.0 (well-formed-alone (types_of s) lent rows h.1)))
+
+-- ---- laid in columns, few or many
+module _ (c : Columns) (count : ℕ) (sizes : sizes_of c ≡ all_of_size cell_count) (rows : List Cells) (long : length rows ≡ count) (laid : Laid rows c) (s : Schema) where
+  abbrev columns_laid : LentTable
+  columns_laid = record { columns = c; count = count }
+
+  pub held-laid : table_held s columns_laid ≡ table_held s (table_of_cells rows)
+  held-laid = by (ltb max_nodes count) refl
+    where
+      by : (b : Bool) → ltb max_nodes count ≡ b → table_held s columns_laid ≡ table_held s (table_of_cells rows)
+      by true e = let many = ltb-true max_nodes count e in none-held s columns_laid many ∙ sym (none-held s (table_of_cells rows) (omega (arith, many, long)))
+      by false e = same-held c count sizes rows long laid (ltb-false max_nodes count e) s
+
+  pub beside-laid : (lent : List ℕ) → table_beside s lent columns_laid ≡ table_beside s lent (table_of_cells rows)
+  beside-laid lent = by (ltb max_nodes count) refl
+    where
+      by : (b : Bool) → ltb max_nodes count ≡ b → table_beside s lent columns_laid ≡ table_beside s lent (table_of_cells rows)
+      by true e =
+          let many = ltb-true max_nodes count e in
+          none_beside s columns_laid many lent ∙ sym (none_beside s (table_of_cells rows) (omega (arith, many, long)) lent)
+      by false e = same_beside c count sizes rows long laid (ltb-false max_nodes count e) s lent

@@ -1,22 +1,37 @@
--- `select_from` meets its contract: a call that is refused before the extract is read, or what is chosen under the two texts.
+-- `select_from` meets its contract: a call that is refused before the extract is read, or what is selected under the two texts.
+use Rattle.std.proofs.Common.{sym, ◌∙◌}
+use Rattle.cells.specs.lent.Columns.{same-columns}
 use Rattle.host_selecting.specs.Calls.{under-schema, refused-call, accepted-call}
-use Rattle.table_spec.specs.Columns.{Columns, columns}
-use Rattle.host_selecting.proofs.select_from.Goals.{After-refusal-told}
+use Rattle.hosts.specs.results.Settled.{settled-kept}
+use Rattle.text_laws.specs.Cells.{padded-zeros}
 use Rattle.host_selecting.proofs.select_from.Goals as goal
 
-abbrev lent : After-refusal-told → Columns
-lent c = columns c.args.numbers.now c.args.names.now c.args.parents.now c.args.starts.now c.args.lengths.now c.args.decoded.now
-
-pub returns-then-told-ne0 : goal.returns-then-told-ne0
-returns-then-told-ne0 c =
-    let at = c.args in
-    refused-call _ _ _ _ (lent (goal.at.returns-then-told-ne0 c).After-refusal-told) at.items.now at.counts.now _ c.judge_texts-texts.ensures _ c.equal_sizes-equal.ensures _ c.passes-passed.ensures _ c.refusal-told.ensures c.if-told-ne0.true c.refuse_selecting.ensures
-
 pub choose_under-requires : goal.choose_under-requires
-choose_under-requires c =
-    under-schema _ _ _ _ c.judge_texts-texts.ensures (lent (goal.at.choose_under-requires c).After-refusal-told) _ c.equal_sizes-equal.ensures _ c.passes-passed.ensures _ c.refusal-told.ensures c.if-told-ne0.false
+choose_under-requires c = under-schema _ _ _ _ c.in-Ok.texts c.in-Ok.ensures.says
 
-pub returns : goal.returns
-returns c =
-    let at = c.args in
-    accepted-call _ _ _ _ (lent (goal.at.returns c).After-refusal-told) at.items.now at.counts.now _ c.judge_texts-texts.ensures _ c.equal_sizes-equal.ensures _ c.passes-passed.ensures _ c.refusal-told.ensures c.if-told-ne0.false c.choose_under.ensures
+pub returns-in-Ok : goal.returns-in-Ok
+returns-in-Ok c =
+    rw c.from.ensures
+    (accepted-call _ _ _ _ _ _ _ c.in-Ok.texts c.in-Ok.ensures.says (λ schema read made.
+    settled-kept (c.choose_under.ensures.chosen schema read made)
+    (same-columns
+    (c.numbers-1.given.1.1 (sym c.choose_under.ensures.same.numbers))
+    (c.names-1.given.1.1 (sym c.choose_under.ensures.same.names))
+    (c.parents-1.given.1.1 (sym c.choose_under.ensures.same.parents))
+    (c.starts-1.given.1.1 (sym c.choose_under.ensures.same.starts))
+    (c.lengths-1.given.1.1 (sym c.choose_under.ensures.same.lengths))
+    (c.decoded-1.given.1.1 (sym c.choose_under.ensures.same.decoded)))))
+
+pub returns-in-Err : goal.returns-in-Err
+returns-in-Err c =
+    rw c.from-in-Err.ensures
+    (refused-call _ _ _ _ _ _ _ c.in-Err.refusal c.in-Err.ensures.says
+    (same-columns
+    (c.numbers-in-Err-1.given.1.1 (sym c.clear.ensures.same.numbers))
+    (c.names-in-Err-1.given.1.1 (sym c.clear.ensures.same.names))
+    (c.parents-in-Err-1.given.1.1 (sym c.clear.ensures.same.parents))
+    (c.starts-in-Err-1.given.1.1 (sym c.clear.ensures.same.starts))
+    (c.lengths-in-Err-1.given.1.1 (sym c.clear.ensures.same.lengths))
+    (c.decoded-in-Err-1.given.1.1 (sym c.clear.ensures.same.decoded))
+    ∙ c.clear.ensures.cells)
+    (c.fill.ensures.after (λ y e. e) ∙ sym (padded-zeros _)) (c.fill-in-Err.ensures.after (λ y e. e) ∙ sym (padded-zeros _)))

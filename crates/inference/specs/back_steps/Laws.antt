@@ -1,5 +1,5 @@
 -- Laws of steps back, of names between, and of sets as lists in which a name may stand twice.
-use Rattle.std.specs.Prelude.{Bool, cond, ◌&&◌, ◌≡◌, ℕ, eqb}
+use Rattle.std.specs.Prelude.{Bool, ◌&&◌, ◌≡◌, ℕ}
 use Rattle.std.proofs.Math.Bool.{true, false, ◌||◌}
 use mathlib.Core.List.Memᴰ.{append_cases}
 use mathlib.Core.List.Memᴰ.{append_left}
@@ -7,8 +7,9 @@ use mathlib.Core.List.Memᴰ.{append_right}
 use mathlib.Core.List.{List, [], ◌∷◌, ◌++◌, Memᴰ as In}
 use Rattle.std.proofs.Common.{⊎_elim, ◌∙◌}
 use Rattle.std.proofs.Math.Path.{refl, sym, ap, ap₂}
-use borrow.Author.Tests.{ne_eqb}
-use Rattle.compiled_paths.specs.Columns.{axis_of}
+use Rattle.compiled_paths.specs.Steps.{axis_of}
+use Rattle.compiled_paths.specs.declared.Axis.{Axis as CompiledAxis}
+use Rattle.compiled_paths.specs.declared.Axis.TheVariants.{SelfNode, Child, Descendant, DescendantOrSelf, Parent, Ancestor, AncestorOrSelf, Following, FollowingSibling, Preceding, PrecedingSibling}
 use Rattle.inference_spec.specs.Needed.{linked, between, complete, need}
 use Rattle.inference_spec.specs.Types.{Env, held_by, holding, all_below, all_above, union_of, cut_to, infer}
 use Rattle.inference.specs.back_steps.Needs.{RelatedTo, leading, StepNeeds, NeedsOf}
@@ -89,16 +90,18 @@ module _ (s : Schema) where
   pub empty-set_in : (r : NameSet) → ((n : Name) → member r n ≡ false) → set_in s r ≡ []
   empty-set_in r h = memberless (set_in s r) (λ n i. failed (h n) (set_of-in (names_of s) r i).1)
 
-  pub none_between : (c : ℕ) (g h : Names) → (c ≡ 2 → ⊥) → (c ≡ 3 → ⊥) → between types (axis_of c) g h ≡ []
-  unfolding axis_of
-  none_between c g h d2 d3 = rw (ne_eqb c 2 d2, ne_eqb c 3 d3) (pick (eqb c 1) (eqb c 4) (eqb c 5) (eqb c 6))
-    where
-      pick : (p q r t : Bool) → between types (cond p child (cond q parent (cond r ancestor (cond t ancestor_or_self self)))) g h ≡ []
-      pick true q r t = refl
-      pick false true r t = refl
-      pick false false true t = refl
-      pick false false false true = refl
-      pick false false false false = refl
+  pub none_between : (x : CompiledAxis) (g h : Names) → (x ≡ Descendant → ⊥) → (x ≡ DescendantOrSelf → ⊥) → between types (axis_of x) g h ≡ []
+  none_between Descendant g h d e = absurd (d refl)
+  none_between DescendantOrSelf g h d e = absurd (e refl)
+  none_between SelfNode g h d e = refl
+  none_between Child g h d e = refl
+  none_between Parent g h d e = refl
+  none_between Ancestor g h d e = refl
+  none_between AncestorOrSelf g h d e = refl
+  none_between Following g h d e = refl
+  none_between FollowingSibling g h d e = refl
+  none_between Preceding g h d e = refl
+  none_between PrecedingSibling g h d e = refl
 
   -- ---- sets as lists in which a name may stand twice
   pub set_in-within : (x : NameSet) (l : Names) → set_in s x ≡ l → set_in s x ≡ within (names_of s) l

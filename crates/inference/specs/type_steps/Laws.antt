@@ -4,20 +4,20 @@ use Rattle.std.proofs.Math.Bool.{and-true, and-false}
 use mathlib.Core.List.Memᴰ.{append_cases}
 use mathlib.Core.List.Memᴰ.{append_left}
 use mathlib.Core.List.Memᴰ.{append_right}
-use mathlib.Core.List.{List, ◌++◌, Memᴰ as In}
+use mathlib.Core.List.{◌++◌, Memᴰ as In}
 use Rattle.std.proofs.Math.Logic.{⊎_elim}
-use Rattle.std.proofs.Common.{sym, ap, ap₂, ◌∙◌, arith, ne_eqb, lt→ltb, eqb→eq}
+use Rattle.std.proofs.Common.{sym, ap, ap₂, ◌∙◌, arith, lt→ltb, eqb→eq}
 use Rattle.std.proofs.Math.Path.{subst}
 use Rattle.std.proofs.Math.Dec.{T, eqb_refl}
-use Rattle.compiled_paths.specs.Columns.{axis_of, test_of}
 use Rattle.inference_spec.specs.Types.{Env, env, held_by, holding, all_below, all_above, union_of, cut_to, move, narrow}
-use Rattle.inference.specs.type_steps.Relations.{RelationsOf}
 use Rattle.names.specs.SetLaws.{set_of-in, set_of-union, set_of-common, schema-every, every_element, nothing-in}
 use Rattle.names.specs.Sets.{member, set_of, every_name, set_in}
 use Rattle.names.specs.closures.Relations.{related_from, related_to}
 use Rattle.names.specs.closures.Schemas.{holds-relating, below-relating, related_from-filter, related_to-filter}
 use Rattle.names.specs.declared.NameSet.{NameSet}
-use Rattle.path_spec.specs.Paths.{Axis, self, child, descendant, descendant_or_self, parent, ancestor, ancestor_or_self, NodeTest, named, any_node, any_text}
+use Rattle.names.specs.declared.relations.Relations.{Relations}
+use Rattle.names.specs.relations.Relations.{RelationsOf}
+use Rattle.path_spec.specs.Paths.{child, descendant, descendant_or_self, parent, ancestor, ancestor_or_self, NodeTest, named, any_node, any_text}
 use Rattle.path_spec.specs.Selection.{passes}
 use Rattle.schema_laws.specs.Names.{has_in, in-has}
 use Rattle.schema_spec.specs.Names.{Name, Names, element, text, same_name, has, within, names_of}
@@ -29,10 +29,6 @@ use Rattle.text_spec.specs.Limits.{max_declarations}
 use Rattle.text_spec.specs.Lists.{filter_by}
 
 -- ---- tests
-pub test-named : (t : ℕ) → (t ≡ 254 → ⊥) → (t ≡ 255 → ⊥) → test_of t ≡ named t
-unfolding test_of
-test-named t d e = rw (ne_eqb t 254 d, ne_eqb t 255 e)
-
 -- what a set has that passes a test
 abbrev pub Tested : NodeTest ℕ → NameSet → NameSet → Type 0
 Tested w x r = (n : Name) → In n every_name → member r n ≡ (member x n && passes w n)
@@ -76,25 +72,25 @@ module _ (s : Schema) where
   pub common-within : (a b r : NameSet) → ((n : Name) → member r n ≡ (member a n && member b n)) → set_in s r ≡ within (set_in s a) (set_in s b)
   common-within a b r h = set_of-common (names_of s) a b r h
 
-  module _ (held below : List NameSet) (count : ℕ) (c : RelationsOf s held below count) where
-    few : count ≤ max_declarations
+  module _ (r : Relations) (c : RelationsOf s r) where
+    few : r.count ≤ max_declarations
     few = omega (arith, c.small, c.counted)
 
-    pub related-held_by : (x r : NameSet) → (count ≤ max_declarations → (b : Name) → member r b ≡ related_from count held x b) → set_in s r ≡ held_by types (set_in s x)
+    pub related-held_by : (x z : NameSet) → (r.count ≤ max_declarations → (b : Name) → member z b ≡ related_from r.count r.«holds» x b) → set_in s z ≡ held_by types (set_in s x)
     unfolding types_of
-    related-held_by x r h = related_from-filter s c.small count c.counted (holds s) (holds-relating s c.closed) held c.holding x r (h few)
+    related-held_by x z h = related_from-filter s c.small r.count c.counted (holds s) (holds-relating s c.closed) r.«holds» c.holding x z (h few)
 
-    pub related-holding : (x r : NameSet) → (count ≤ max_declarations → (n : Name) → member r n ≡ related_to count held x n) → set_in s r ≡ holding types (set_in s x)
+    pub related-holding : (x z : NameSet) → (r.count ≤ max_declarations → (n : Name) → member z n ≡ related_to r.count r.«holds» x n) → set_in s z ≡ holding types (set_in s x)
     unfolding types_of
-    related-holding x r h = related_to-filter s c.small count c.counted (holds s) (holds-relating s c.closed) held c.holding x r (h few)
+    related-holding x z h = related_to-filter s c.small r.count c.counted (holds s) (holds-relating s c.closed) r.«holds» c.holding x z (h few)
 
-    pub related-all_below : (x r : NameSet) → (count ≤ max_declarations → (b : Name) → member r b ≡ related_from count below x b) → set_in s r ≡ all_below types (set_in s x)
+    pub related-all_below : (x z : NameSet) → (r.count ≤ max_declarations → (b : Name) → member z b ≡ related_from r.count r.below x b) → set_in s z ≡ all_below types (set_in s x)
     unfolding types_of
-    related-all_below x r h = related_from-filter s c.small count c.counted (is_below (types_of s)) (below-relating s c.closed) below c.below x r (h few)
+    related-all_below x z h = related_from-filter s c.small r.count c.counted (is_below (types_of s)) (below-relating s c.closed) r.below c.below x z (h few)
 
-    pub related-all_above : (x r : NameSet) → (count ≤ max_declarations → (n : Name) → member r n ≡ related_to count below x n) → set_in s r ≡ all_above types (set_in s x)
+    pub related-all_above : (x z : NameSet) → (r.count ≤ max_declarations → (n : Name) → member z n ≡ related_to r.count r.below x n) → set_in s z ≡ all_above types (set_in s x)
     unfolding types_of
-    related-all_above x r h = related_to-filter s c.small count c.counted (is_below (types_of s)) (below-relating s c.closed) below c.below x r (h few)
+    related-all_above x z h = related_to-filter s c.small r.count c.counted (is_below (types_of s)) (below-relating s c.closed) r.below c.below x z (h few)
 
   pub tested-filter : length s ≤ max_declarations → (w : NodeTest ℕ) (x r : NameSet) → Tested w x r → set_in s r ≡ filter_by (passes w) (set_in s x)
   unfolding set_of
@@ -145,14 +141,6 @@ module _ (s : Schema) where
         let g = h ∙ ap (union_of types ty) (d ∙ ap (λ (x : Names). within x ctx) e) in
         ap₂ env g (f ∙ ap (λ (x : Names). cut_to types x ctx) g)
 
-  pub move-along : (c : ℕ) (w : NodeTest ℕ) (r : Env) (e : Env) (x : Axis) → axis_of c ≡ x → r ≡ move types x w e → r ≡ move types (axis_of c) w e
-  move-along c w r e x d h = h ∙ ap (λ (a : Axis). move types a w e) (sym d)
-
   -- ---- a filter, after which the context is cut
   pub narrow-parts : (f : Name → Bool) (e : Env) (t k : Names) → t ≡ filter_by f e.type → k ≡ cut_to types t e.context → env t k ≡ narrow types f e
   narrow-parts f e t k d g = ap₂ env d (g ∙ ap (λ (x : Names). cut_to types x e.context) d)
-
--- ---- axes by their codes
-pub axis-self : (c : ℕ) → (c ≡ 1 → ⊥) → (c ≡ 2 → ⊥) → (c ≡ 3 → ⊥) → (c ≡ 4 → ⊥) → (c ≡ 5 → ⊥) → (c ≡ 6 → ⊥) → axis_of c ≡ self
-unfolding axis_of
-axis-self c h1 h2 h3 h4 h5 h6 = rw (ne_eqb c 1 h1, ne_eqb c 2 h2, ne_eqb c 3 h3, ne_eqb c 4 h4, ne_eqb c 5 h5, ne_eqb c 6 h6)

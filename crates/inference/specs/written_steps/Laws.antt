@@ -1,7 +1,9 @@
 -- Laws of written steps: by their parts they are the steps by which they are analysed, for conditions of some kind.
 use Rattle.std.specs.Prelude.{Bool, true, false, List, [], ◌∷◌, ◌++◌, map, ◌≡◌, refl, ℕ}
-use Rattle.std.proofs.Common.{sym, ap, ap₂, subst, ◌∙◌, ne_eqb}
-use Rattle.compiled_paths.specs.Columns.{axis_of, written_of}
+use Rattle.std.proofs.Common.{sym, ap, ap₂, subst, ◌∙◌}
+use Rattle.compiled_paths.specs.Steps.{axis_of, written_axis}
+use Rattle.compiled_paths.specs.declared.Axis.{Axis as CompiledAxis}
+use Rattle.compiled_paths.specs.declared.Axis.TheVariants.{SelfNode, Child, Descendant, DescendantOrSelf, Parent, Ancestor, AncestorOrSelf, Following, FollowingSibling, Preceding, PrecedingSibling}
 use Rattle.inference_spec.specs.Types.{Env, env, all_above, cut_to, move, narrow, infer, infer_all}
 use Rattle.inference.specs.back_steps.Laws.{set_in-within, empty-set_in, needs-step}
 use Rattle.inference.specs.back_steps.Needs.{StepNeeds, NeedsOf}
@@ -17,10 +19,19 @@ use Rattle.schema_spec.specs.Types.{Types, types_of}
 use Rattle.text_laws.specs.Lists.{filter-cong, filter-filter}
 use Rattle.text_spec.specs.Lists.{filter_by, gather}
 
--- ---- axes by their numbers
-pub written-along : (c : ℕ) → (c ≡ 7 → ⊥) → (c ≡ 8 → ⊥) → (c ≡ 9 → ⊥) → (c ≡ 10 → ⊥) → written_of c ≡ along (axis_of c)
-unfolding written_of
-written-along c h7 h8 h9 h10 = rw (ne_eqb c 7 h7, ne_eqb c 8 h8, ne_eqb c 9 h9, ne_eqb c 10 h10)
+-- ---- axes along which a step is analysed by itself
+pub written-along : (x : CompiledAxis) → (x ≡ Following → ⊥) → (x ≡ FollowingSibling → ⊥) → (x ≡ Preceding → ⊥) → (x ≡ PrecedingSibling → ⊥) → written_axis x ≡ along (axis_of x)
+written-along Following f s p q = absurd (f refl)
+written-along FollowingSibling f s p q = absurd (s refl)
+written-along Preceding f s p q = absurd (p refl)
+written-along PrecedingSibling f s p q = absurd (q refl)
+written-along SelfNode f s p q = refl
+written-along Child f s p q = refl
+written-along Descendant f s p q = refl
+written-along DescendantOrSelf f s p q = refl
+written-along Parent f s p q = refl
+written-along Ancestor f s p q = refl
+written-along AncestorOrSelf f s p q = refl
 
 filter-all : (f : Name → Bool) → ((a : Name) → f a ≡ true) → (xs : Names) → filter_by f xs ≡ xs
 filter-all f h xs = filter-cong f (λ a. true) xs (λ a i. h a) ∙ whole xs

@@ -1,29 +1,26 @@
 -- Reading a journal into lent columns: the library's outcome for an accepted schema.
-use Rattle.std.specs.Prelude.{List, [], ◌≡◌, ℕ, length}
-use Rattle.std.proofs.Math.Path.{refl}
-use Rattle.std.proofs.Common.{sym, ap, ◌∙◌}
+use Rattle.std.specs.Prelude.{Bool, true, false, List, [], ◌≡◌, refl, ℕ, length, Result, Ok, Err, is_err}
+use Rattle.std.proofs.Common.{true≢false, sym, ap, ◌∙◌}
 use Rattle.cells.specs.columns.Columns.{EqualColumns}
-use Rattle.cells.specs.declared.verdicts.Verdict.{Verdict}
-use Rattle.cells.specs.lent.Ends.{Slice, entry_columns, exit_columns}
+use Rattle.cells.specs.columns.Lent.{lent_columns, Left}
+use Rattle.cells.specs.declared.columns.ColumnsMut.{ColumnsMut}
 use Rattle.cells.specs.verdicts.Verdicts.{verdict}
-use Rattle.journal_builder.specs.event_handling.Events.{SchemaCells, CellsOf}
-use Rattle.journal_builder.specs.fillings.Fillings.{Shared}
+use Rattle.journal_builder.specs.declared.journal_schema.JournalSchema.{JournalSchema}
+use Rattle.journal_builder.specs.journal_schema.Schemas.{SchemaOf}
 use Rattle.journal_reader.specs.event_loop.Judging.{outcome, Judged}
+use Rattle.journal_reader.specs.rows.Kept.{Kept}
 use Rattle.library_spec.specs.Calls.{columns_after}
 use Rattle.schema_spec.specs.Schemas.{Schema}
 use Rattle.table_spec.specs.Columns.{Columns, Sizes, sizes_of, columns_of}
 use Rattle.table_spec.specs.Rows.{Row}
+use Rattle.text.specs.declared.refusals.Refusal.{Refusal}
 use Rattle.text_laws.specs.Cells.{padded-length}
 use Rattle.text_spec.specs.Refusals.{Outcome, accepted, refused}
 
 -- from any columns
-pub record TableRead (t : SchemaCells) (text : List ℕ) (limit : ℕ) (c d : Columns) (r : Verdict) : Type 0 where
-  pub answer : (s : Schema) → CellsOf s t → r ≡ verdict (outcome s text limit (sizes_of c))
-  pub cells : (s : Schema) → CellsOf s t → d ≡ columns_after (sizes_of c) (λ rows. rows) (outcome s text limit (sizes_of c))
-
--- the same of lent slices
-abbrev pub TableReadIn : SchemaCells → Shared → ℕ → Slice → Slice → Slice → Slice → Slice → Slice → Verdict → Type 0
-TableReadIn t text limit numbers names parents starts lengths decoded r = TableRead t text.entry.now limit (entry_columns numbers names parents starts lengths decoded) (exit_columns numbers names parents starts lengths decoded) r
+pub record TableRead (t : JournalSchema) (text : List ℕ) (limit : ℕ) (c d : Columns) (r : Result ℕ Refusal) : Type 0 where
+  pub answer : (s : Schema) → SchemaOf s t → r ≡ verdict (outcome s text limit (sizes_of c))
+  pub cells : (s : Schema) → SchemaOf s t → d ≡ columns_after (sizes_of c) (λ rows. rows) (outcome s text limit (sizes_of c))
 
 -- ---- the columns at exit
 pub cleared-sizes : (c d : Columns) → d ≡ columns_of (sizes_of c) [] → sizes_of d ≡ sizes_of c
@@ -49,38 +46,51 @@ cleared-equal c d q e =
       of-decoded = ap (λ (y : Sizes). y.decoded) z ∙ q.of-decoded ∙ sym (ap (λ (y : Sizes). y.numbers) z);
     }
 
-same-sizes : (c d : Columns) → length d.numbers ≡ length c.numbers → length d.names ≡ length c.names → length d.parents ≡ length c.parents
-    → length d.starts ≡ length c.starts → length d.lengths ≡ length c.lengths → length d.decoded ≡ length c.decoded → sizes_of d ≡ sizes_of c
-same-sizes c d p q r s t u = rw (p, q, r, s, t, u)
+-- columns that are cleared are kept
+pub cleared-kept : {a b : ColumnsMut} → Left a b (columns_of (sizes_of (lent_columns a)) []) → Kept a b
+cleared-kept w = record { same = w.same; sizes = cleared-sizes _ _ w.cells }
+
+-- what is answered, by whether it is a refusal
+pub not-refused : (r : Result ℕ Refusal) → is_err r ≡ false → (n : ℕ) × (r ≡ Ok n)
+not-refused (Ok n) e = (n, refl)
+not-refused (Err f) e = absurd (true≢false e)
+
+pub was-refused : (r : Result ℕ Refusal) → is_err r ≡ true → (f : Refusal) × (r ≡ Err f)
+was-refused (Ok n) e = absurd (true≢false (sym e))
+was-refused (Err f) e = (f, refl)
+
+abbrev is_ok : Result ℕ Refusal → Bool
+is_ok (Ok n) = true
+is_ok (Err f) = false
 
 -- the answer does not depend on which columns of these sizes are lent
-module _ {t : SchemaCells} {text : List ℕ} {limit : ℕ} (c b : Columns) {d : Columns} {r : Verdict} (clear : b ≡ columns_of (sizes_of c) [])
+module _ {t : JournalSchema} {text : List ℕ} {limit : ℕ} (c b : Columns) {d : Columns} {r : Result ℕ Refusal} (clear : b ≡ columns_of (sizes_of c) [])
     (j : Judged t text limit b d r) where
   still-clear : b ≡ columns_of (sizes_of b) []
   still-clear = clear ∙ ap (λ (z : Sizes). columns_of z []) (sym (cleared-sizes c b clear))
 
-  answer-of : (s : Schema) → CellsOf s t → r ≡ verdict (outcome s text limit (sizes_of c))
-  answer-of s cells = j.judged s cells still-clear ∙ ap (λ (z : Sizes). verdict (outcome s text limit z)) (cleared-sizes c b clear)
+  answer-of : (s : Schema) → SchemaOf s t → r ≡ verdict (outcome s text limit (sizes_of c))
+  answer-of s k = j.judged s k still-clear ∙ ap (λ (z : Sizes). verdict (outcome s text limit z)) (cleared-sizes c b clear)
 
-  pub table_kept : r.number ≡ 0 → TableRead t text limit c d r
-  table_kept n =
+  pub table_kept : (n : ℕ) → r ≡ Ok n → TableRead t text limit c d r
+  table_kept n e =
       record {
         answer = answer-of;
-        cells = λ s cells.
-            j.held s cells still-clear n ∙ ap (λ (z : Sizes). columns_after z (λ rows. rows) (outcome s text limit z)) (cleared-sizes c b clear);
+        cells = λ s k.
+            j.held s k still-clear n e ∙ ap (λ (z : Sizes). columns_after z (λ rows. rows) (outcome s text limit z)) (cleared-sizes c b clear);
       }
 
-  none_kept : (z : Sizes) (o : Outcome (List Row)) → r ≡ verdict o → (r.number ≡ 0 → ⊥) → columns_of z [] ≡ columns_after z (λ rows. rows) o
+  none_kept : (z : Sizes) (o : Outcome (List Row)) (f : Refusal) → r ≡ verdict o → r ≡ Err f → columns_of z [] ≡ columns_after z (λ rows. rows) o
   unfolding columns_after
-  none_kept z (accepted rows) v n = absurd (n (ap (λ (y : Verdict). y.number) v))
-  none_kept z (refused f) v n = refl
+  none_kept z (accepted rows) f v e = absurd (differ (sym v ∙ e))
+    where
+      differ : Ok (length rows) ≡ Err f → ⊥
+      differ q = true≢false (ap is_ok q)
+  none_kept z (refused g) f v e = refl
 
-  pub table-cleared : {e : Columns} → (r.number ≡ 0 → ⊥) → e ≡ columns_of (sizes_of d) [] → length d.numbers ≡ length c.numbers
-      → length d.names ≡ length c.names → length d.parents ≡ length c.parents → length d.starts ≡ length c.starts
-      → length d.lengths ≡ length c.lengths → length d.decoded ≡ length c.decoded → TableRead t text limit c e r
-  table-cleared n f l1 l2 l3 l4 l5 l6 =
+  pub table-cleared : {e : Columns} (f : Refusal) → r ≡ Err f → e ≡ columns_of (sizes_of d) [] → sizes_of d ≡ sizes_of c → TableRead t text limit c e r
+  table-cleared f q h l =
       record {
         answer = answer-of;
-        cells = λ s cells.
-            f ∙ ap (λ (z : Sizes). columns_of z []) (same-sizes c d l1 l2 l3 l4 l5 l6) ∙ none_kept (sizes_of c) (outcome s text limit (sizes_of c)) (answer-of s cells) n;
+        cells = λ s k. h ∙ ap (λ (z : Sizes). columns_of z []) l ∙ none_kept (sizes_of c) (outcome s text limit (sizes_of c)) f (answer-of s k) q;
       }

@@ -1,5 +1,5 @@
 -- Reading a journal under a record, as the library's outcome.
-use Rattle.std.specs.Prelude.{Bool, cond, ◌&&◌, List, [], ◌≡◌, ℕ, ◌≤◌, leb, length, take}
+use Rattle.std.specs.Prelude.{Bool, cond, ◌&&◌, List, [], ◌≡◌, ℕ, ◌≤◌, leb, length, take, Result, Err}
 use Rattle.std.proofs.Math.Bool.{true, false}
 use Rattle.std.proofs.Math.Option.{none, some}
 use Rattle.std.proofs.Math.Path.{refl, sym}
@@ -7,8 +7,7 @@ use Rattle.std.proofs.Common.{ap, subst, ◌∙◌, leb→le, length-take-le}
 use Rattle.std.proofs.Math.Dec.{T}
 use Rattle.cells.specs.columns.ColumnLaws.{equal-columns}
 use Rattle.cells.specs.columns.Columns.{EqualColumns}
-use Rattle.cells.specs.declared.verdicts.Verdict.{Verdict}
-use Rattle.cells.specs.verdicts.Verdicts.{refused_by, verdict}
+use Rattle.cells.specs.verdicts.Verdicts.{verdict}
 use Rattle.compiled_schema.specs.records.Records.{record_with}
 use Rattle.journal_reader.specs.event_loop.Judging.{outcome}
 use Rattle.journal.specs.compiled.Compiled.{CompiledRead}
@@ -20,6 +19,9 @@ use Rattle.schema_spec.specs.Reading.{read_schema}
 use Rattle.schema_spec.specs.Records.{schema_in, is_schema_record}
 use Rattle.table_spec.specs.Columns.{Columns, Sizes, sizes_of, equal_sizes, columns_of}
 use Rattle.table_spec.specs.Rows.{Row}
+use Rattle.text.specs.declared.refusals.Reason.TheVariants.{BadRecord}
+use Rattle.text.specs.declared.refusals.Refusal.{Refusal}
+use Rattle.text.specs.refusals.Refusals.{refusal}
 use Rattle.text_laws.specs.Cells.{padded-length}
 use Rattle.text_laws.specs.Lists.{bytes-equal}
 use Rattle.text_laws.specs.Tests.{and_cases, passed, failed}
@@ -29,16 +31,23 @@ use Rattle.text_spec.specs.Limits.{max_schema_bytes, max_journal_bytes}
 use Rattle.text_spec.specs.Lists.{same_bytes}
 use Rattle.text_spec.specs.Refusals.{Outcome, accepted, refused, at, bad_record}
 
--- the test of two that is decided by the first, or by the second
-pub first-fails : (p q : Bool) → p ≡ false → false ≡ (p && q)
-first-fails p q e = sym (ap (λ (b : Bool). b && q) e)
-
-pub second-decides : (p q : Bool) {r : Bool} → p ≡ true → r ≡ q → r ≡ (p && q)
-second-decides p q e f = f ∙ sym (ap (λ (b : Bool). b && q) e)
-
 module _ (cells : List ℕ) (size : ℕ) where
   abbrev is_lent : Sizes → Bool
   is_lent z = passes_record cells size && equal_sizes z
+
+  -- the test by its two parts
+  pub no-record : (z : Sizes) → passes_record cells size ≡ false → is_lent z ≡ false
+  no-record z e = ap (λ (b : Bool). b && equal_sizes z) e
+
+  pub no-columns : (z : Sizes) (b : Bool) → b ≡ equal_sizes z → b ≡ false → is_lent z ≡ false
+  no-columns z b e h = ap (λ (c : Bool). passes_record cells size && c) (sym e ∙ h) ∙ none (passes_record cells size)
+    where
+      none : (p : Bool) → (p && false) ≡ false
+      none true = refl
+      none false = refl
+
+  pub both-pass : (z : Sizes) (b : Bool) → passes_record cells size ≡ true → b ≡ equal_sizes z → b ≡ true → is_lent z ≡ true
+  both-pass z b e f h = ap (λ (c : Bool). c && equal_sizes z) e ∙ sym f ∙ h
 
   module _ (text : List ℕ) (z : Sizes) where
     -- the outcome by the two tests of refusal 1
@@ -68,7 +77,7 @@ module _ (cells : List ℕ) (size : ℕ) where
         pick true true e = refl
 
     -- 1
-    pub refused-1 : is_lent z ≡ false → (r : Verdict) → r ≡ refused_by 1 0 → r ≡ verdict (journal_read (record_with cells size) text z)
+    pub refused-1 : is_lent z ≡ false → (r : Result ℕ Refusal) → r ≡ Err (refusal BadRecord 0) → r ≡ verdict (journal_read (record_with cells size) text z)
     refused-1 h r e = e ∙ sym (ap verdict (none_read h))
 
     pub cleared-1 : is_lent z ≡ false → columns_of z [] ≡ columns_after z (λ rows. rows) (journal_read (record_with cells size) text z)
@@ -99,7 +108,7 @@ module _ (cells : List ℕ) (size : ℕ) where
     pub lent-equal : EqualColumns c
     lent-equal = equal-columns c (both (equal_sizes (sizes_of c)) lent).1
 
-    module _ {text : List ℕ} {d : Columns} {r : Verdict} (w : CompiledRead (take size cells) text max_journal_bytes c d r) where
+    module _ {text : List ℕ} {d : Columns} {r : Result ℕ Refusal} (w : CompiledRead (take size cells) text max_journal_bytes c d r) where
       pub read_answer : r ≡ verdict (journal_read (record_with cells size) text (sizes_of c))
       read_answer = w.answer (read (equal_sizes (sizes_of c)) lent) ∙ sym (ap verdict (read_under text (sizes_of c) lent))
 

@@ -1,13 +1,14 @@
 -- Laws of end tags.
-use Rattle.std.specs.Prelude.{Bool, false, cond, not, ◌≡◌, ℕ, ◌-◌, ◌%◌, ◌<◌}
+use Rattle.std.specs.Prelude.{Bool, false, cond, not, ◌≡◌, ℕ, ◌-◌, ◌<◌}
 use Rattle.std.proofs.Math.Bool.{true}
 use mathlib.Core.List.{List, [], ◌∷◌, ◌++◌}
 use Rattle.std.proofs.Math.Path.{refl, sym, ap, ap₂, subst}
-use Rattle.std.proofs.Common.{◌∙◌, mod-eq_of_lt, le-leb}
+use Rattle.std.proofs.Common.{◌∙◌, le-leb}
 use native.Mathlib.Omega.{arith}
 use Rattle.std.proofs.Math.ListN.{length}
 use Rattle.journal_builder.specs.build_state.State.{judged_from, RowsBelow, Built, ended_with}
 use Rattle.journal_builder.specs.declared.build_state.Build.{Build}
+use Rattle.journal_builder.specs.declared.open_levels.Level.{Level}
 use Rattle.journal_builder.specs.laws.Starts.{is_innermost}
 use Rattle.journal_builder.specs.laws.StateLaws.{Innermost, innermost, faults-now, placed-now, judged-now, built-as}
 use Rattle.journal_builder.specs.open_levels.Levels.{level_at, Opened}
@@ -18,7 +19,7 @@ use Rattle.text.specs.fault_keys.Keys.{no_key, place_limit, least_key, noted_key
 use Rattle.text_spec.specs.Lists.{is_none, list_of, same_bytes}
 use Rattle.text_spec.specs.Refusals.{at, given, bad_nesting, bad_content}
 
-module _ (s : Schema) (b : Building) (levels : List ℕ) (m : Build) (w : Built s levels m b) (n : List ℕ) (k : ℕ) where
+module _ (s : Schema) (b : Building) (levels : List Level) (m : Build) (w : Built s levels m b) (n : List ℕ) (k : ℕ) where
   pub end-outside : m.depth ≡ 0 → on_end n k b ≡ breaks (at bad_nesting k) b
   end-outside z = pick b.opens w.depth
     where
@@ -50,12 +51,11 @@ module _ (s : Schema) (b : Building) (levels : List ℕ) (m : Build) (w : Built 
     end-closes p = let e : same_bytes n p.own.name ≡ true = sym (own_name p) ∙ named in ap (λ (os : List Open). end_of os n k b) p.same ∙ rw e refl
 
     pub end-built : (fits : Bool) (place : ℕ) → fits ≡ fits_at_end top.own.filling → place ≡ (level_at levels m.depth).place
-        → Built s levels (ended_with fits (m.depth - 1) (place % place_limit) m) (on_end n k b)
+        → Built s levels (ended_with fits (m.depth - 1) place m) (on_end n k b)
     unfolding closing
     end-built fits place f g =
         built-as {n = ended_with fits (m.depth - 1) top.own.place m} {c = closing top} (ap (λ (x : ℕ). ended_with fits (m.depth - 1) x m) own-place) (end-closes top)
         (record {
-          safe = record { all = w.safe.all; shallow = let h = w.safe.shallow in omega arith };
           depth = omega (arith, w.depth, ap (λ (os : List Open). length os) top.same);
           opened = (subst (Opened s levels) top.same w.opened).1;
           below = (subst (RowsBelow b.count) top.same w.below).1;
@@ -74,8 +74,8 @@ module _ (s : Schema) (b : Building) (levels : List ℕ) (m : Build) (w : Built 
         low : top.own.place < place_limit
         low = top.level.placed
 
-        own-place : place % place_limit ≡ top.own.place
-        own-place = ap (λ (x : ℕ). x % place_limit) (g ∙ top.level.place) ∙ mod-eq_of_lt low
+        own-place : place ≡ top.own.place
+        own-place = g ∙ top.level.place
 
     -- no refusal applies after it: then none did before
     pub end_none : (r : Build) → Built s levels r (on_end n k b) → r.fault ≡ no_key → m.fault ≡ no_key

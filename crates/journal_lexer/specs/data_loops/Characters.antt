@@ -1,16 +1,24 @@
 -- Characters passed in a run that has a byte that is not a blank, plain bytes and whole entities: they move the place and what is saved, and nothing else.
-use Rattle.std.specs.Prelude.{true, List, ◌∷◌, ◌++◌, ◌≡◌, refl, ℕ, suc, ◌+◌, ◌-◌, ◌≤◌, ◌<◌, length, get_or, set, drop}
-use Rattle.std.proofs.Common.{inl, sym, ap, ap₂, subst, ◌∙◌, add-one, arith, length-set, drop-cons, get_or-set_same, get_or-set_other}
-use Rattle.std.proofs.lemmas.List.{set-get_or}
-use Rattle.journal_lexer.specs.character_data.Laws.{plain-less, solid-plain}
+use Rattle.std.specs.Prelude.{true, List, ◌∷◌, ◌++◌, ◌≡◌, refl, ℕ, suc, ◌+◌, ◌-◌, ◌≤◌, ◌<◌, length, get_or, slice_index_or, drop, Option, Some, None}
+use Rattle.std.proofs.Common.{inl, sym, ap, ap₂, subst, ◌∙◌, add-one, arith, drop-cons}
+use Rattle.journal_lexer.specs.character_data.Laws.{plain-same, solid-plain}
 use Rattle.journal_lexer.specs.data_loops.Bytes.{over-bytes, no-foreign, entity-passes-three}
+use Rattle.journal_lexer.specs.declared.kinds.ByteKind.{ByteKind}
+use Rattle.journal_lexer.specs.declared.kinds.ByteKind.TheVariants.{Letter}
+use Rattle.journal_lexer.specs.declared.state.Event.{Event as CodeEvent}
+use Rattle.journal_lexer.specs.declared.state.Event.TheVariants.{Quiet}
 use Rattle.journal_lexer.specs.declared.state.Lex.{Lex}
-use Rattle.journal_lexer.specs.loop_laws.Advance.{foreign_below, Stands, Ready, never, moved, Advance, Looked}
-use Rattle.journal_lexer.specs.loop_laws.Laws.{looked-handed, ready-after, advance-none, advance-then, advance-more}
+use Rattle.journal_lexer.specs.declared.state.Mode.{Mode as CodeMode}
+use Rattle.journal_lexer.specs.declared.state.Mode.TheVariants.{Solid}
+use Rattle.journal_lexer.specs.declared.state.Places.{Places}
+use Rattle.journal_lexer.specs.declared.whole_entities.Character.{Character}
+use Rattle.journal_lexer.specs.kinds.Kinds.{is_plain_kind}
+use Rattle.journal_lexer.specs.loop_laws.Advance.{foreign_below, Stands, Ready, Lasting, never, moved, Advance, Looked}
+use Rattle.journal_lexer.specs.loop_laws.Laws.{looked-handed, ready-after, advance-none, advance-first, advance-more}
 use Rattle.journal_lexer.specs.run_laws.Passes.{Passes}
 use Rattle.journal_lexer.specs.state.Laws.{steps-in}
-use Rattle.journal_lexer.specs.state.Places.{no_place, solid_at, saved_at, run_of, solid-stays}
-use Rattle.journal_lexer.specs.state.Relation.{state_of, report_of, Means, MeansMode, Tells, stepped}
+use Rattle.journal_lexer.specs.state.Places.{run_of, HasSolid, solid-stays}
+use Rattle.journal_lexer.specs.state.Relation.{Means, MeansMode, Tells, stepped}
 use Rattle.journal_lexer.specs.whole_entities.Entities.{begins_at, EntityAfter, whole, itself, whole_split, whole-inside}
 use Rattle.token_laws.specs.Characters.{for-entity}
 use Rattle.token_laws.specs.Passes.{entity-passes}
@@ -20,50 +28,57 @@ use Rattle.token_spec.specs.Lexer.{Run, Mode, in_data, Event, quiet, mode_after,
 -- ---- definitions
 -- the state at another place
 abbrev pub moved_to : ℕ → Lex → Lex
-moved_to k l = record { place = k; mode = l.mode; event = l.event; count = l.count; name = l.name }
+moved_to k l = record l { place = k }
+
+-- the lent places with so much saved
+abbrev pub saving : Places → ℕ → Places
+saving p n = record p { saved = n }
 
 -- the bytes from a place up to another are plain; there may be more of them
-pub data PlainBytes (text kinds : List ℕ) (from : ℕ) : ℕ → Type 0 where
+pub data PlainBytes (text : List ℕ) (kinds : List ByteKind) (from : ℕ) : ℕ → Type 0 where
   none : {next : ℕ} → next ≡ from → PlainBytes text kinds from next
-  more : {next : ℕ} (at : ℕ) → PlainBytes text kinds from at → at < length text → get_or text at 0 < 256 → get_or kinds (get_or text at 0) 0 < 6 → next ≡ at + 1
-      → PlainBytes text kinds from next
+  more : {next : ℕ} (at : ℕ) → PlainBytes text kinds from at → at < length text → get_or text at 0 < 256
+      → is_plain_kind (slice_index_or kinds (get_or text at 0) Letter) ≡ true → next ≡ at + 1 → PlainBytes text kinds from next
 
--- where the entity ends that stands at a place, or that place: nothing need be passed, since the loops over single bytes read what is left
-pub data EntityEnd (text : List ℕ) (at next : ℕ) : Type 0 where
-  entity : {c : ℕ} (u : List ℕ) → EntityFor (0x26 ∷ u) c → at < length text → get_or text at 0 ≡ 0x26 → begins_at text (at + 1) u ≡ true → next ≡ at + 1 + length u
-      → EntityEnd text at next
-  none : next ≡ at → EntityEnd text at next
+-- where the entity ends that stands at a place; none need be passed, since the loops over single bytes read what is left
+pub data EntityEnd (text : List ℕ) (at : ℕ) (r : Option ℕ) : Type 0 where
+  entity : {c : ℕ} (u : List ℕ) → EntityFor (0x26 ∷ u) c → at < length text → get_or text at 0 ≡ 0x26 → begins_at text (at + 1) u ≡ true → r ≡ Some (at + 1 + length u)
+      → EntityEnd text at r
+  none : r ≡ None → EntityEnd text at r
 
 -- how far the characters from l and p on are passed, up to an entity or to a byte that is no character
-pub record RunSoFar (text kinds : List ℕ) (l : Lex) (p : List ℕ) (at saved next : ℕ) : Type 0 where
+pub record RunSoFar (text : List ℕ) (kinds : List ByteKind) (l : Lex) (p : Places) (at saved : ℕ) : Type 0 where
   pub ready : Ready text kinds l p
-  pub mode : l.mode ≡ 2
-  pub event : l.event ≡ 0
-  pub advance : Advance never text l p (moved_to at l) (set p 4 saved)
-  pub end : EntityEnd text at next
+  pub mode : l.mode ≡ Solid
+  pub event : l.event ≡ Quiet
+  pub advance : Advance never text l p (moved_to at l) (saving p saved)
+
+solid-lasts : {m : CodeMode} → m ≡ Solid → Lasting m
+solid-lasts e = record { not_between = λ z. (cc); not_opened = λ z. (cc) }
 
 -- ---- one character more
-module _ {text kinds : List ℕ} {l : Lex} {p : List ℕ} {at : ℕ} (saved : ℕ) (h : Ready text kinds l p) (mode : l.mode ≡ 2) (event : l.event ≡ 0)
-    (a : Advance never text l p (moved_to at l) (set p 4 saved)) where
-  byte_more : at < length text → get_or text at 0 < 256 → get_or kinds (get_or text at 0) 0 < 6 → Advance never text l p (moved_to (at + 1) l) (set p 4 saved)
+module _ {text : List ℕ} {kinds : List ByteKind} {l : Lex} {p : Places} {at : ℕ} (saved : ℕ) (h : Ready text kinds l p) (mode : l.mode ≡ Solid) (event : l.event ≡ Quiet)
+    (a : Advance never text l p (moved_to at l) (saving p saved)) where
+  byte_more : at < length text → get_or text at 0 < 256 → is_plain_kind (slice_index_or kinds (get_or text at 0) Letter) ≡ true
+      → Advance never text l p (moved_to (at + 1) l) (saving p saved)
   byte_more inside small plain =
-      let seen : Looked text kinds (moved_to at l) (set p 4 saved) = record { ready = ready-after h a; more = inside; byte = small } in
+      let seen : Looked text kinds (moved_to at l) (saving p saved) = record { ready = ready-after h a; more = inside; byte = small } in
       let handed = looked-handed seen in
-      let same : moved_to (at + 1) l ≡ stepped 2 0 (moved_to at l) = rw (mode, event) in
-      advance-more seen (steps-in mode (solid-plain handed (plain-less handed plain same))) (λ z. omega (arith, z, mode)) (λ z. omega (arith, z, mode)) a
+      let same : moved_to (at + 1) l ≡ stepped Solid Quiet (moved_to at l) = rw (mode, event) in
+      advance-more seen (steps-in mode (solid-plain handed (plain-same handed plain same))) (solid-lasts mode) a
 
-  in-solid : (q : List ℕ) (k : ℕ) (x : Mode) → MeansMode (moved_to k l) q x → (x ≡ in_data (run_of q) 0) × (solid_at q < no_place)
-  in-solid q k x w = subst (λ (z : ℕ). Means (state_of z) l.name l.count q x) mode w
+  in-solid : (q : Places) (k : ℕ) (x : Mode) → MeansMode (moved_to k l) q x → (x ≡ in_data (run_of q) 0) × HasSolid q
+  in-solid q k x w = subst (λ (z : CodeMode). Means z l.name l.count l.rest q x) mode w
 
-  solid-means : (q : List ℕ) (k : ℕ) → solid_at q < no_place → MeansMode (moved_to k l) q (in_data (run_of q) 0)
-  solid-means q k has = subst (λ (z : ℕ). Means (state_of z) l.name l.count q (in_data (run_of q) 0)) (sym mode) (refl, has)
+  solid-means : (q : Places) (k : ℕ) → HasSolid q → MeansMode (moved_to k l) q (in_data (run_of q) 0)
+  solid-means q k has = subst (λ (z : CodeMode). Means z l.name l.count l.rest q (in_data (run_of q) 0)) (sym mode) (refl, has)
 
   module _ {c : ℕ} (u : List ℕ) (f : EntityFor (0x26 ∷ u) c) (inside : at < length text) (ampersand : get_or text at 0 ≡ 0x26) (begins : begins_at text (at + 1) u ≡ true) where
-    abbrev was : List ℕ
-    was = set p 4 saved
+    abbrev was : Places
+    was = saving p saved
 
-    abbrev after : List ℕ
-    after = set p 4 (saved + length u)
+    abbrev after : Places
+    after = saving p (saved + length u)
 
     abbrev next : ℕ
     next = at + 1 + length u
@@ -73,34 +88,18 @@ module _ {text kinds : List ℕ} {l : Lex} {p : List ℕ} {at : ℕ} (saved : �
         drop-cons text at 0 inside ∙ ap₂ (λ (x i : ℕ). x ∷ drop i text) ampersand (sym (add-one at))
         ∙ ap (λ (w : List ℕ). 0x26 ∷ w) (whole_split text (at + 1) u begins)
 
-    -- the cells but for what is saved
-    other : (i : ℕ) → (i ≡ 4 → ⊥) → get_or after i 0 ≡ get_or was i 0
-    other i n = get_or-set_other p 4 i (saved + length u) 0 n ∙ sym (get_or-set_other p 4 i saved 0 n)
-
-    was-saved : saved_at was ≡ saved
-    was-saved = get_or-set_same p 4 saved 0 (omega (arith, h.lent.five))
-
-    after-saved : saved_at after ≡ saved + length u
-    after-saved = get_or-set_same p 4 (saved + length u) 0 (omega (arith, h.lent.five))
-
-    after_run : run_of after ≡ saved_by (run_of was) (length u)
-    after_run = rw (other 1 (λ z. omega arith), other 2 (λ z. omega arith), after-saved, was-saved)
-
-    after-solid : solid_at was < no_place → solid_at after < no_place
-    after-solid has = rw (other 2 (λ z. omega arith)) has
-
     one_less : suc (length u) - 1 ≡ length u
     one_less = omega arith
 
-    reached : solid_at was < no_place → mode_after (in_data (run_of was) 0) at (0x26 ∷ u) ≡ in_data (run_of after) 0
+    reached : HasSolid was → mode_after (in_data (run_of was) 0) at (0x26 ∷ u) ≡ in_data (run_of after) 0
     reached has =
         (entity-passes (run_of was) 0 at (for-entity f)).mode
-        ∙ ap₂ (λ (r : Run) (n : ℕ). in_data (saved_by r n) 0) (solid-stays was at has) one_less ∙ ap (λ (r : Run). in_data r 0) (sym after_run)
+        ∙ ap₂ (λ (r : Run) (n : ℕ). in_data (saved_by r n) 0) (solid-stays was at has) one_less
 
     long : at + suc (length u) ≡ next
     long = omega arith
 
-    way : {k : ℕ} {m : Mode} → solid_at was < no_place → Passes text k m at (in_data (run_of was) 0) quiet → Passes text k m next (in_data (run_of after) 0) quiet
+    way : {k : ℕ} {m : Mode} → HasSolid was → Passes text k m at (in_data (run_of was) 0) quiet → Passes text k m next (in_data (run_of after) 0) quiet
     way {k} {m} has w =
         subst (λ (i : ℕ). Passes text k m i (in_data (run_of after) 0) quiet) long
         (subst (λ (x : Mode). Passes text k m (at + suc (length u)) x quiet) (reached has)
@@ -109,100 +108,105 @@ module _ {text kinds : List ℕ} {l : Lex} {p : List ℕ} {at : ℕ} (saved : �
     on : (k : ℕ) (m : Mode) → Stands text k m (moved_to at l) was → Stands text k m (moved_to next l) after
     on k m x =
         let here = in-solid was at x.mode x.means in
-        let z : x.event ≡ quiet = subst (λ (i : ℕ). Tells (report_of i) l.name was x.event) event x.told in
+        let z : x.event ≡ quiet = subst (λ (i : CodeEvent). Tells i l.name was x.event) event x.told in
         record {
           mode = in_data (run_of after) 0;
           event = quiet;
           way =
               way here.1
               (subst (λ (e : Event). Passes text k m at (in_data (run_of was) 0) e) z (subst (λ (y : Mode). Passes text k m at y x.event) here.0 x.way));
-          means = solid-means after next (after-solid here.1);
-          told = subst (λ (i : ℕ). Tells (report_of i) l.name after quiet) (sym event) refl;
+          means = solid-means after next here.1;
+          told = subst (λ (i : CodeEvent). Tells i l.name after quiet) (sym event) refl;
           silent = inl event;
-          foreign =
-              other 3 (λ y. omega arith) ∙ x.foreign
-              ∙ sym (ap (foreign_below text) (sym long) ∙ no-foreign text (0x26 ∷ u) (drop next text) at split (entity-passes-three f));
+          foreign = x.foreign ∙ sym (ap (foreign_below text) (sym long) ∙ no-foreign text (0x26 ∷ u) (drop next text) at split (entity-passes-three f));
         }
 
     entity-more : Advance never text l p (moved_to next l) after
     entity-more =
-        advance-then a
+        advance-first {g = never} a
         (record {
           inside = whole-inside text (at + 1) u begins f;
-          lent = record { five = length-set p 4 (saved + length u) ∙ h.lent.five; few = rw after-saved (omega (arith, a.lent.few, was-saved)) };
+          lent = record { few = omega (arith, a.lent.few) };
           valid =
               (let here = in-solid was at a.valid.mode a.valid.means in
-              record { mode = in_data (run_of after) 0; means = solid-means after next (after-solid here.1) });
+              record { mode = in_data (run_of after) 0; means = solid-means after next here.1 });
           stands = on;
           progress = moved (omega arith);
         })
 
 -- ---- turns
-module _ {text kinds : List ℕ} {l : Lex} {p : List ℕ} (saved : ℕ) (h : Ready text kinds l p) (mode : l.mode ≡ 2) (event : l.event ≡ 0) where
-  bytes-more : {from next : ℕ} → Advance never text l p (moved_to from l) (set p 4 saved) → PlainBytes text kinds from next
-      → Advance never text l p (moved_to next l) (set p 4 saved)
-  bytes-more a (PlainBytes.none e) = subst (λ (k : ℕ). Advance never text l p (moved_to k l) (set p 4 saved)) (sym e) a
+module _ {text : List ℕ} {kinds : List ByteKind} {l : Lex} {p : Places} (saved : ℕ) (h : Ready text kinds l p) (mode : l.mode ≡ Solid) (event : l.event ≡ Quiet) where
+  bytes-more : {from next : ℕ} → Advance never text l p (moved_to from l) (saving p saved) → PlainBytes text kinds from next
+      → Advance never text l p (moved_to next l) (saving p saved)
+  bytes-more a (PlainBytes.none e) = subst (λ (k : ℕ). Advance never text l p (moved_to k l) (saving p saved)) (sym e) a
   bytes-more a (more at b inside small plain e) =
-      subst (λ (k : ℕ). Advance never text l p (moved_to k l) (set p 4 saved)) (sym e) (byte_more saved h mode event (bytes-more a b) inside small plain)
+      subst (λ (k : ℕ). Advance never text l p (moved_to k l) (saving p saved)) (sym e) (byte_more saved h mode event (bytes-more a b) inside small plain)
 
 -- no entity is passed yet
-pub passed_first : {text kinds : List ℕ} {l : Lex} {p : List ℕ} {at next : ℕ} → Ready text kinds l p → l.mode ≡ 2 → l.event ≡ 0 → PlainBytes text kinds l.place at
-    → EntityEnd text at next → RunSoFar text kinds l p at (saved_at p) next
-passed_first {text} {l = l} {p = p} h m e b c =
-    record {
-      ready = h;
-      mode = m;
-      event = e;
-      advance = bytes-more (saved_at p) h m e (subst (λ (q : List ℕ). Advance never text l p l q) (sym (set-get_or p 4 0)) (advance-none h (λ z. refl))) b;
-      end = c;
-    }
+pub passed_first : {text : List ℕ} {kinds : List ByteKind} {l : Lex} {p : Places} {at : ℕ} → Ready text kinds l p → l.mode ≡ Solid → l.event ≡ Quiet
+    → PlainBytes text kinds l.place at → RunSoFar text kinds l p at p.saved
+passed_first {p = p} h m e b = record { ready = h; mode = m; event = e; advance = bytes-more p.saved h m e (advance-none h (λ z x. x)) b }
 
-module _ {text kinds : List ℕ} {l : Lex} {p : List ℕ} {at saved next : ℕ} (h : RunSoFar text kinds l p at saved next) where
+module _ {text : List ℕ} {kinds : List ByteKind} {l : Lex} {p : Places} {at saved : ℕ} (h : RunSoFar text kinds l p at saved) where
   -- so much is saved, of what was read
   pub passed-saved : saved ≤ at
-  passed-saved = omega (arith, h.advance.lent.few, get_or-set_same p 4 saved 0 (omega (arith, h.ready.lent.five)))
+  passed-saved = h.advance.lent.few
 
   pub passed-inside : at ≤ length text
   passed-inside = h.advance.inside
 
-  pub end-inside : next ≤ length text
-  end-inside = by h.end
-    where
-      by : EntityEnd text at next → next ≤ length text
-      by (entity u f inside b begins e) = omega (arith, whole-inside text (at + 1) u begins f)
-      by (EntityEnd.none e) = omega (arith, passed-inside)
+  module _ {next : ℕ} (end : EntityEnd text at (Some next)) where
+    pub end-past : at < next
+    end-past = by end
+      where
+        by : EntityEnd text at (Some next) → at < next
+        by (entity u f inside b begins e) =
+            let d : next ≡ at + 1 + length u = cc in
+            omega arith
+        by (EntityEnd.none e) = absurd (cc)
 
-  entity-passed : at < next → Advance never text l p (moved_to next l) (set p 4 (saved + (next - at - 1)))
-  entity-passed less = by h.end
-    where
-      by : EntityEnd text at next → Advance never text l p (moved_to next l) (set p 4 (saved + (next - at - 1)))
-      by (entity u f inside b begins e) =
-          let s : saved + length u ≡ saved + (next - at - 1) = omega arith in
-          subst (λ (k : ℕ). Advance never text l p (moved_to next l) (set p 4 k)) s
-          (subst (λ (k : ℕ). Advance never text l p (moved_to k l) (set p 4 (saved + length u))) (sym e)
-          (entity-more saved h.ready h.mode h.event h.advance u f inside b begins))
-      by (EntityEnd.none e) = absurd (omega arith)
+    pub end-inside : next ≤ length text
+    end-inside = by end
+      where
+        by : EntityEnd text at (Some next) → next ≤ length text
+        by (entity u f inside b begins e) =
+            let d : next ≡ at + 1 + length u = cc in
+            omega (arith, whole-inside text (at + 1) u begins f)
+        by (EntityEnd.none e) = absurd (cc)
 
-  -- an entity, and the plain bytes after it
-  pub passed-again : {to end : ℕ} → at < next → PlainBytes text kinds next to → EntityEnd text to end → RunSoFar text kinds l p to (saved + (next - at - 1)) end
-  passed-again less b c =
-      record {
-        ready = h.ready;
-        mode = h.mode;
-        event = h.event;
-        advance = bytes-more (saved + (next - at - 1)) h.ready h.mode h.event (entity-passed less) b;
-        end = c;
-      }
+    entity-passed : Advance never text l p (moved_to next l) (saving p (saved + (next - at - 1)))
+    entity-passed = by end
+      where
+        by : EntityEnd text at (Some next) → Advance never text l p (moved_to next l) (saving p (saved + (next - at - 1)))
+        by (entity u f inside b begins e) =
+            let d : next ≡ at + 1 + length u = cc in
+            let s : saved + length u ≡ saved + (next - at - 1) = omega arith in
+            subst (λ (k : ℕ). Advance never text l p (moved_to next l) (saving p k)) s
+            (subst (λ (k : ℕ). Advance never text l p (moved_to k l) (saving p (saved + length u))) (sym d)
+            (entity-more saved h.ready h.mode h.event h.advance u f inside b begins))
+        by (EntityEnd.none e) = absurd (cc)
 
-  pub passed-advance : {r : Lex} → r ≡ moved_to at l → Advance never text l p r (set p 4 saved)
-  passed-advance e = subst (λ (x : Lex). Advance never text l p x (set p 4 saved)) (sym e) h.advance
+    -- an entity, and the plain bytes after it
+    pub passed-again : {to : ℕ} → PlainBytes text kinds next to → RunSoFar text kinds l p to (saved + (next - at - 1))
+    passed-again b =
+        record {
+          ready = h.ready;
+          mode = h.mode;
+          event = h.event;
+          advance = bytes-more (saved + (next - at - 1)) h.ready h.mode h.event entity-passed b;
+        }
 
-pub plain-after : {text kinds : List ℕ} {from next : ℕ} → PlainBytes text kinds from next → from ≤ next
+  pub passed-advance : {r : Lex} → r ≡ moved_to at l → Advance never text l p r (saving p saved)
+  passed-advance e = subst (λ (x : Lex). Advance never text l p x (saving p saved)) (sym e) h.advance
+
+pub plain-after : {text : List ℕ} {kinds : List ByteKind} {from next : ℕ} → PlainBytes text kinds from next → from ≤ next
 plain-after (PlainBytes.none e) = omega arith
 plain-after (more at b inside small plain e) = omega (arith, plain-after b)
 
 -- ---- where an entity ends
-pub entity-end : {text : List ℕ} {at c next : ℕ} → at < length text → get_or text at 0 ≡ 0x26 → EntityAfter text (at + 1) c next → (next ≡ at + 1 → ⊥)
-    → EntityEnd text at next
-entity-end inside b (whole u f begins e) n = entity u f inside b begins e
-entity-end inside b (itself longer x y z e) n = absurd (n e)
+pub entity-end : {text : List ℕ} {at : ℕ} {c : Character} → at < length text → get_or text at 0 ≡ 0x26 → EntityAfter text (at + 1) (Some c)
+    → EntityEnd text at (Some c.next)
+entity-end {at = at} {c = c} inside b (whole u x f begins e) =
+    let d : c ≡ record { byte = x; next = at + 1 + length u } = cc in
+    entity u f inside b begins (ap (λ (y : Character). Some y.next) d)
+entity-end inside b (itself longer x y e) = absurd (cc)

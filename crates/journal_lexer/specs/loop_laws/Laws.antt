@@ -1,16 +1,23 @@
 -- Laws of loops: none, one byte more, one loop after the other.
-use Rattle.std.specs.Prelude.{Bool, true, false, ◌||◌, List, ◌⊎◌, ◌≡◌, refl, length}
+use Rattle.std.specs.Prelude.{List, ◌⊎◌, ◌≡◌, refl, length}
 use Rattle.std.proofs.Common.{inl, inr, ◌∙◌, arith}
 use Rattle.std.proofs.Math.Path.{sym, ap, subst}
 use Prim.Native.Nat.{ℕ, suc, ◌+◌, ◌-◌, ◌<◌}
 use Rattle.std.proofs.Math.Numerals.{add-one}
+use Rattle.std.specs.Prelude.{Option}
+use Rattle.journal_lexer.specs.declared.kinds.ByteKind.{ByteKind}
+use Rattle.journal_lexer.specs.declared.state.Event.{Event as CodeEvent}
+use Rattle.journal_lexer.specs.declared.state.Event.TheVariants.{Quiet}
 use Rattle.journal_lexer.specs.declared.state.Lex.{Lex}
-use Rattle.journal_lexer.specs.loop_laws.Advance.{foreign_below, Stands, Ready, never, either, Progress, moved, stayed, Advance, Looked, byte_at, kind_at}
+use Rattle.journal_lexer.specs.declared.state.Mode.{Mode as CodeMode}
+use Rattle.journal_lexer.specs.declared.state.Places.{Places}
+use Rattle.journal_lexer.specs.loop_laws.Advance.{foreign_below, Stands, Ready, Lasting, never, either, Progress, moved, stayed, Advance, Looked, byte_at, kind_at}
 use Rattle.journal_lexer.specs.run_laws.Passes.{Passes, reads}
-use Rattle.journal_lexer.specs.state.Relation.{TellsEvent, Tells, report_of, first_foreign, Handed, Steps}
+use Rattle.journal_lexer.specs.state.Relation.{TellsEvent, Tells, Silent, first_foreign, Handed, Steps}
 use Rattle.token_spec.specs.Lexer.{Mode, Event, quiet, lex}
 
-pub looked-handed : {text kinds : List ℕ} {l : Lex} {p : List ℕ} → Looked text kinds l p → Handed l p (byte_at text l) (kind_at text kinds l)
+pub looked-handed : {text : List ℕ} {kinds : List ByteKind} {l : Lex} {p : Places} → Looked text kinds l p
+    → Handed l p (byte_at text l) (kind_at text kinds l)
 looked-handed {text} {kinds} {l} {p} h =
     record {
       room = omega (arith, h.more, h.ready.short);
@@ -19,21 +26,22 @@ looked-handed {text} {kinds} {l} {p} h =
       kind = h.ready.table.kind (byte_at text l) h.byte;
     }
 
-quiet_told : (l : Lex) (p : List ℕ) (e : Event) → l.event ≡ 0 → TellsEvent l p e → e ≡ quiet
-quiet_told l p e z t = subst (λ (x : ℕ). Tells (report_of x) l.name p e) z t
+quiet_told : (l : Lex) (p : Places) (e : Event) → l.event ≡ Quiet → TellsEvent l p e → e ≡ quiet
+quiet_told l p e z t = subst (λ (x : CodeEvent). Tells x l.name p e) z t
 
 -- ---- the state after a loop
-pub ready-after : {f : ℕ → Bool} {text kinds : List ℕ} {l r : Lex} {p q : List ℕ} → Ready text kinds l p → Advance f text l p r q → Ready text kinds r q
+pub ready-after : {f : CodeMode → Type 0} {text : List ℕ} {kinds : List ByteKind} {l r : Lex} {p q : Places} → Ready text kinds l p
+    → Advance f text l p r q → Ready text kinds r q
 ready-after h g = record { table = h.table; short = h.short; inside = g.inside; lent = g.lent; valid = g.valid }
 
 -- ---- no byte
-pub advance-none : {f : ℕ → Bool} {text kinds : List ℕ} {l : Lex} {p : List ℕ} → Ready text kinds l p → (l.place < length text → f l.mode ≡ false)
-    → Advance f text l p l p
+pub advance-none : {f : CodeMode → Type 0} {text : List ℕ} {kinds : List ByteKind} {l : Lex} {p : Places} → Ready text kinds l p
+    → (l.place < length text → f l.mode → ⊥) → Advance f text l p l p
 advance-none h n = record { inside = h.inside; lent = h.lent; valid = h.valid; stands = λ k m a. a; progress = stayed refl n }
 
 -- ---- one byte, where the lexer has no event
-module _ {text kinds : List ℕ} {l r : Lex} {p q : List ℕ} (h : Looked text kinds l p) (s : Steps l.mode l p (byte_at text l) r q) where
-  next-stands : l.event ≡ 0 → (k : ℕ) (m : Mode) → Stands text k m l p → Stands text k m r q
+module _ {text : List ℕ} {kinds : List ByteKind} {l r : Lex} {p q : Places} (h : Looked text kinds l p) (s : Steps l.mode l p (byte_at text l) r q) where
+  next-stands : l.event ≡ Quiet → (k : ℕ) (m : Mode) → Stands text k m l p → Stands text k m r q
   unfolding foreign_below
   next-stands z k m a =
       let g = s.meant a.mode a.means in
@@ -49,14 +57,14 @@ module _ {text kinds : List ℕ} {l r : Lex} {p q : List ℕ} (h : Looked text k
         means = g.mode;
         told = g.event;
         silent = g.silent;
-        foreign = g.foreign ∙ ap (λ (y : ℕ). first_foreign y (byte_at text l) l.place) a.foreign ∙ ap (foreign_below text) i;
+        foreign = g.foreign ∙ ap (λ (y : Option ℕ). first_foreign y (byte_at text l) l.place) a.foreign ∙ ap (foreign_below text) i;
       }
 
   -- the place is one more
   next_place : r.place ≡ l.place + 1
   next_place = (s.meant h.ready.valid.mode h.ready.valid.means).place
 
-  next-advance : (f : ℕ → Bool) → ((k : ℕ) (m : Mode) → Stands text k m l p → Stands text k m r q) → Advance f text l p r q
+  next-advance : (f : CodeMode → Type 0) → ((k : ℕ) (m : Mode) → Stands text k m l p → Stands text k m r q) → Advance f text l p r q
   next-advance f t =
       let g = s.meant h.ready.valid.mode h.ready.valid.means in
       record {
@@ -72,27 +80,30 @@ module _ {text kinds : List ℕ} {l r : Lex} {p q : List ℕ} (h : Looked text k
   next-falls = omega (arith, h.more, next_place)
 
   -- where the event is dealt with
-  pub next-quiet : (f : ℕ → Bool) → l.event ≡ 0 → Advance f text l p r q
+  pub next-quiet : (f : CodeMode → Type 0) → l.event ≡ Quiet → Advance f text l p r q
   next-quiet f z = next-advance f (next-stands z)
 
   -- in a mode that no event ends in
-  next-within : (f : ℕ → Bool) → (l.mode ≡ 0 → ⊥) → (l.mode ≡ 6 → ⊥) → Advance f text l p r q
-  next-within f x y = next-advance f (λ k m a. next-stands (pick a.silent) k m a)
+  pub next-within : (f : CodeMode → Type 0) → Lasting l.mode → Advance f text l p r q
+  next-within f n = next-advance f (λ k m a. next-stands (pick a.silent) k m a)
     where
-      pick : (l.event ≡ 0) ⊎ ((l.mode ≡ 0) ⊎ (l.mode ≡ 6)) → l.event ≡ 0
+      pick : Silent l → l.event ≡ Quiet
       pick (inl e) = e
-      pick (inr (inl e)) = absurd (x e)
-      pick (inr (inr e)) = absurd (y e)
+      pick (inr (inl e)) = absurd (n.not_between e)
+      pick (inr (inr e)) = absurd (n.not_opened e)
 
 -- ---- one loop after the other
-progress-then : {f g : ℕ → Bool} {text : List ℕ} {l s r : Lex} → Progress f text l s → Progress g text s r → Progress (either f g) text l r
+progress-then : {f g : CodeMode → Type 0} {text : List ℕ} {l s r : Lex} → Progress f text l s → Progress g text s r → Progress (either f g) text l r
 progress-then (moved a) (moved b) = moved (omega arith)
 progress-then (moved a) (stayed e n) = moved (rw e a)
 progress-then (stayed e n) (moved b) = moved (rw e at b)
-progress-then {f} {g} {text} {l} {s} {r} (stayed e n) (stayed d o) =
-    stayed (d ∙ e) (λ h. rw (n h) (ap (λ (x : Lex). g x.mode) (sym e) ∙ o (subst (λ (x : Lex). x.place < length text) (sym e) h)))
+progress-then {f} {g} {text} {l} {s} {r} (stayed e n) (stayed d o) = stayed (d ∙ e) neither
+  where
+    neither : l.place < length text → f l.mode ⊎ g l.mode → ⊥
+    neither h (inl x) = n h x
+    neither h (inr x) = o (subst (λ (y : Lex). y.place < length text) (sym e) h) (subst (λ (y : Lex). g y.mode) (sym e) x)
 
-pub advance-then : {f g : ℕ → Bool} {text : List ℕ} {l s r : Lex} {p o q : List ℕ} → Advance f text l p s o → Advance g text s o r q
+pub advance-then : {f g : CodeMode → Type 0} {text : List ℕ} {l s r : Lex} {p o q : Places} → Advance f text l p s o → Advance g text s o r q
     → Advance (either f g) text l p r q
 advance-then a b =
     record {
@@ -103,30 +114,36 @@ advance-then a b =
       progress = progress-then a.progress b.progress;
     }
 
--- two loops as far as the first is concerned
-pub advance-first : {f g : ℕ → Bool} {text : List ℕ} {l s r : Lex} {p o q : List ℕ} → Advance f text l p s o → Advance g text s o r q → Advance f text l p r q
-advance-first {f} {g} {text} {l} {s} {r} a b =
-    let c = advance-then a b in
-    record { inside = c.inside; lent = c.lent; valid = c.valid; stands = c.stands; progress = pick c.progress }
+-- a loop as far as some of its modes are concerned
+pub advance-of : {f g : CodeMode → Type 0} {text : List ℕ} {l r : Lex} {p q : Places} → ((m : CodeMode) → f m → g m) → Advance g text l p r q
+    → Advance f text l p r q
+advance-of {f} {g} {text} {l} {r} w c = record { inside = c.inside; lent = c.lent; valid = c.valid; stands = c.stands; progress = pick c.progress }
   where
-    left : (x y : Bool) → (x || y) ≡ false → x ≡ false
-    left true y e = e
-    left false y e = refl
-
-    pick : Progress (either f g) text l r → Progress f text l r
+    pick : Progress g text l r → Progress f text l r
     pick (moved m) = moved m
-    pick (stayed e n) = stayed e (λ h. left (f l.mode) (g l.mode) (n h))
+    pick (stayed e n) = stayed e (λ h x. n h (w l.mode x))
+
+-- two loops as far as the first is concerned, and as far as the second is
+pub advance-first : {f g : CodeMode → Type 0} {text : List ℕ} {l s r : Lex} {p o q : Places} → Advance f text l p s o → Advance g text s o r q
+    → Advance f text l p r q
+advance-first a b = advance-of (λ m x. inl x) (advance-then a b)
+
+pub advance-last : {f g : CodeMode → Type 0} {text : List ℕ} {l s r : Lex} {p o q : Places} → Advance f text l p s o → Advance g text s o r q
+    → Advance g text l p r q
+advance-last a b = advance-of (λ m x. inr x) (advance-then a b)
 
 -- a turn of a loop, and its end
-pub advance-more : {text kinds : List ℕ} {l s r : Lex} {p o q : List ℕ} → Looked text kinds s o → Steps s.mode s o (byte_at text s) r q
-    → (s.mode ≡ 0 → ⊥) → (s.mode ≡ 6 → ⊥) → Advance never text l p s o → Advance never text l p r q
-advance-more h s x y a = advance-then a (next-within h s never x y)
+pub advance-more : {text : List ℕ} {kinds : List ByteKind} {l s r : Lex} {p o q : Places} → Looked text kinds s o → Steps s.mode s o (byte_at text s) r q
+    → Lasting s.mode → Advance never text l p s o → Advance never text l p r q
+advance-more h s n a = advance-first a (next-within h s never n)
 
-pub advance-end : {f : ℕ → Bool} {text : List ℕ} {l s : Lex} {p q : List ℕ} → Advance never text l p s q → (s.place < length text → f s.mode ≡ false)
-    → Advance f text l p s q
+pub advance-end : {f : CodeMode → Type 0} {text : List ℕ} {l s : Lex} {p q : Places} → Advance never text l p s q
+    → (s.place < length text → f s.mode → ⊥) → Advance f text l p s q
 advance-end {f} {text} {l} {s} a n =
     record { inside = a.inside; lent = a.lent; valid = a.valid; stands = a.stands; progress = pick a.progress }
   where
     pick : Progress never text l s → Progress f text l s
     pick (moved m) = moved m
-    pick (stayed e o) = stayed e (λ h. ap (λ (x : Lex). f x.mode) (sym e) ∙ n (subst (λ (x : Lex). x.place < length text) (sym e) h))
+    pick (stayed e o) =
+        stayed e
+        (λ h x. n (subst (λ (y : Lex). y.place < length text) (sym e) h) (subst (λ (y : Lex). f y.mode) (sym e) x))

@@ -1,15 +1,24 @@
 -- The modes that loops over tags read in.
-use Rattle.std.specs.Prelude.{Bool, true, false, cond, ◌≡◌, ℕ, eqb, ltb}
-use Rattle.std.proofs.Common.{true≢false, sym, ap, ◌∙◌}
-use Rattle.journal_lexer.specs.loop_laws.Advance.{only, either}
+use Rattle.std.specs.Prelude.{⊤, ◌≡◌}
+use Rattle.std.proofs.Math.Path.{subst}
+use Rattle.journal_lexer.specs.declared.state.Mode.{Mode}
+use Rattle.journal_lexer.specs.declared.state.Mode.TheVariants.{Between, Blanks, Solid, Opened, InName, Ending, InEndName}
+use Rattle.journal_lexer.specs.loop_laws.Advance.{Lasting, only, either}
 
 -- the modes that no loop of their own reads
-abbrev pub rare_mode : ℕ → Bool
-rare_mode mode = cond (eqb mode 6) false (ltb 2 mode)
+abbrev pub RareMode : Mode → Type 0
+RareMode Between = ⊥
+RareMode Blanks = ⊥
+RareMode Solid = ⊥
+RareMode Opened = ⊥
+RareMode m = ⊤
 
-abbrev pub tag_mode : ℕ → Bool
-tag_mode = either (only 6) (either (only 10) (either (only 7) (either (only 11) rare_mode)))
+abbrev pub TagMode : Mode → Type 0
+TagMode = either (only Opened) (either (only Ending) (either (only InName) (either (only InEndName) RareMode)))
 
--- a mode that is not rare, by its number
-pub rare-not : (mode x : ℕ) → rare_mode mode ≡ true → rare_mode x ≡ false → mode ≡ x → ⊥
-rare-not mode x r n e = true≢false (sym r ∙ ap rare_mode e ∙ n)
+pub rare-lasts : (m : Mode) → RareMode m → Lasting m
+rare-lasts m r = record { not_between = λ e. subst RareMode e r; not_opened = λ e. subst RareMode e r }
+
+-- a mode that is not rare
+pub rare-not : (mode x : Mode) → RareMode mode → (RareMode x → ⊥) → mode ≡ x → ⊥
+rare-not mode x r n e = n (subst RareMode e r)

@@ -1,8 +1,10 @@
 -- An entity by the bytes after its `&`: what begins at a place of a text.
-use Rattle.std.specs.Prelude.{Bool, true, false, ◌&&◌, ◌≡◌, refl, ℕ, zero, suc, ◌+◌, ◌≤◌, ◌<◌, T, eqb, length, get_or, drop}
+use Rattle.std.specs.Prelude.{Bool, true, false, ◌&&◌, ◌≡◌, refl, ℕ, zero, suc, ◌+◌, ◌≤◌, ◌<◌, T, eqb, length, get_or, take, drop, nat_eq, Option, Some, None}
 use mathlib.Core.List.{List, [], ◌∷◌, ◌++◌}
 use Rattle.std.proofs.Common.{sym, ap₂, ◌∙◌, add-one, arith, eqb→eq, length-append, length-drop, drop_of_length-le, drop-cons, drop-drop}
 use Rattle.std.proofs.Math.Path.{ap}
+use lib.Pointwise.{pointwise}
+use Rattle.journal_lexer.specs.declared.whole_entities.Character.{Character}
 use Rattle.text_laws.specs.Tests.{never, passed, and_cases}
 use Rattle.text_spec.specs.Lists.{bytes, begins_with}
 use Rattle.token_spec.specs.Characters.{EntityFor, lt, gt, amp, apos, quot}
@@ -18,10 +20,10 @@ pub record NoLonger (t : List ℕ) (i : ℕ) : Type 0 where
   pub apos : begins_at t i (bytes "apos;") ≡ false
   pub quot : begins_at t i (bytes "quot;") ≡ false
 
--- an `&` before a place stands for a character, by the bytes of an entity up to another place or, where none begins, by itself
-pub data EntityAfter (t : List ℕ) (i c next : ℕ) : Type 0 where
-  whole : (u : List ℕ) → EntityFor (0x26 ∷ u) c → begins_at t i u ≡ true → next ≡ i + length u → EntityAfter t i c next
-  itself : NoLonger t i → begins_at t i (bytes "lt;") ≡ false → begins_at t i (bytes "gt;") ≡ false → c ≡ 0x26 → next ≡ i → EntityAfter t i c next
+-- an `&` before a place stands for a character by the bytes of an entity up to another place or, where none begins, for itself
+pub data EntityAfter (t : List ℕ) (i : ℕ) (r : Option Character) : Type 0 where
+  whole : (u : List ℕ) (c : ℕ) → EntityFor (0x26 ∷ u) c → begins_at t i u ≡ true → r ≡ Some (record { byte = c; next = i + length u }) → EntityAfter t i r
+  itself : NoLonger t i → begins_at t i (bytes "lt;") ≡ false → begins_at t i (bytes "gt;") ≡ false → r ≡ None → EntityAfter t i r
 
 -- ---- bytes at a place
 pub begins-past : (t : List ℕ) (i a : ℕ) → length t ≤ i → begins_at t i (a ∷ []) ≡ false
@@ -64,6 +66,12 @@ begins-inside (b ∷ t) zero a e = omega arith
 begins-inside (b ∷ t) (suc i) a e =
     let h = begins-inside t i a e in
     omega arith
+
+-- how std tests whether a text begins with bytes
+pub starts-begins : (u t : List ℕ) → pointwise nat_eq u (take (length u) t) ≡ begins_with u t
+starts-begins [] t = refl
+starts-begins (a ∷ u) [] = refl
+starts-begins (a ∷ u) (b ∷ t) = ap (λ (x : Bool). eqb a b && x) (starts-begins u t)
 
 -- a text that begins with another is that one, and then the rest
 begins-split : (u w : List ℕ) → T (begins_with u w) → w ≡ u ++ drop (length u) w

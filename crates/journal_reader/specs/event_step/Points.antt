@@ -1,15 +1,15 @@
 -- Where a reading stands on the definition's way, and what reading on up to an event leaves.
 use Rattle.std.specs.Prelude.{List, reverse, ◌≡◌, ℕ, ◌-◌, ◌≤◌, ◌<◌, length}
 use Rattle.std.proofs.Common.{arith}
-use Rattle.cells.specs.lent.Ends.{Slice, entry_columns, exit_columns}
 use Rattle.journal_builder.specs.build_state.State.{Built}
 use Rattle.journal_builder.specs.declared.build_state.Build.{Build}
-use Rattle.journal_builder.specs.event_handling.Events.{SchemaCells, CellsOf}
-use Rattle.journal_builder.specs.fillings.Fillings.{Shared}
+use Rattle.journal_builder.specs.declared.journal_schema.JournalSchema.{JournalSchema}
+use Rattle.journal_builder.specs.declared.open_levels.Level.{Level}
+use Rattle.journal_builder.specs.journal_schema.Schemas.{SchemaOf}
 use Rattle.journal_lexer.specs.declared.state.Lex.{Lex}
+use Rattle.journal_lexer.specs.declared.state.Places.{Places}
 use Rattle.journal_lexer.specs.loop_laws.Advance.{foreign_below}
 use Rattle.journal_lexer.specs.run_laws.Passes.{Reached, reached-on}
-use Rattle.journal_lexer.specs.state.Places.{foreign_at}
 use Rattle.journal_lexer.specs.state.Relation.{MeansMode}
 use Rattle.journal_reader.specs.declared.state.ReaderState.{ReaderState}
 use Rattle.journal_reader.specs.event_rows.Events.{EventRead}
@@ -22,28 +22,23 @@ use Rattle.text.specs.fault_keys.Keys.{no_key}
 use Rattle.token_spec.specs.Lexer.{Mode}
 
 -- the reading stands on the definition's way through the text
-pub record Point (s : Schema) (z : Sizes) (text levels places : List ℕ) (c : Columns) (x : ReaderState) : Type 0 where
+pub record Point (s : Schema) (z : Sizes) (text : List ℕ) (levels : List Level) (places : Places) (c : Columns) (x : ReaderState) : Type 0 where
   pub mode : Mode
   pub building : Building
   pub reached : Reached s text x.lex.place mode building
   pub means : MeansMode x.lex places mode
-  pub foreign : foreign_at places ≡ foreign_below text x.lex.place
+  pub foreign : places.foreign_at ≡ foreign_below text x.lex.place
   pub built : Built s levels x.build building
   pub rows : x.build.fault ≡ no_key → c ≡ columns_of z (reverse building.rows)
 
 -- from x to y, and to what is lent beside it, by one byte at least
-pub record ReadOn (t : SchemaCells) (text levels places : List ℕ) (c : Columns) (x : ReaderState) (after q : List ℕ) (d : Columns) (y : ReaderState) : Type 0 where
-  pub usable : Usable after q d y
+pub record ReadOn (t : JournalSchema) (text : List ℕ) (levels : List Level) (places : Places) (c : Columns) (x : ReaderState) (after : List Level) (q : Places) (d : Columns) (y : ReaderState) : Type 0 where
+  pub usable : Usable q d y
   pub inside : y.lex.place ≤ length text
   pub further : x.lex.place < y.lex.place
-  pub read : (s : Schema) (z : Sizes) → CellsOf s t → Point s z text levels places c x → Point s z text after q d y
+  pub read : (s : Schema) (z : Sizes) → SchemaOf s t → Point s z text levels places c x → Point s z text after q d y
 
--- the same of lent slices
-abbrev pub ReadOnIn : SchemaCells → Shared → Slice → Slice → Slice → Slice → Slice → Slice → Slice → Slice → ReaderState → ReaderState → Type 0
-ReadOnIn t text levels places numbers names parents starts lengths decoded x y =
-    ReadOn t text.entry.now levels.entry.now places.entry.now (entry_columns numbers names parents starts lengths decoded) x levels.exit.now places.exit.now (exit_columns numbers names parents starts lengths decoded) y
-
-pub read-on : {t : SchemaCells} {text levels places after q : List ℕ} {c d : Columns} {x : ReaderState} {l : Lex} {r : Build} → Usable levels places c x
+pub read-on : {t : JournalSchema} {text : List ℕ} {levels after : List Level} {places q : Places} {c d : Columns} {x : ReaderState} {l : Lex} {r : Build} → Usable places c x
     → Onward text x.lex places l q → EventRead t levels q c l x.build after d r
     → ReadOn t text levels places c x after q d (record { lex = l; build = r })
 read-on u o e =
@@ -52,7 +47,7 @@ read-on u o e =
           record {
             lent = o.lent;
             valid = o.valid;
-            safe = e.safe;
+            shallow = e.shallow;
             counted = omega (arith, u.counted, e.counted, o.further);
             equal = e.equal;
           };
@@ -72,6 +67,6 @@ read-on u o e =
     }
 
 -- the measure of a loop over events falls
-pub fewer-left : {t : SchemaCells} {text levels places after q : List ℕ} {c d : Columns} {x y : ReaderState} → ReadOn t text levels places c x after q d y
+pub fewer-left : {t : JournalSchema} {text : List ℕ} {levels after : List Level} {places q : Places} {c d : Columns} {x y : ReaderState} → ReadOn t text levels places c x after q d y
     → length text - y.lex.place < length text - x.lex.place
 fewer-left r = omega (arith, r.inside, r.further)

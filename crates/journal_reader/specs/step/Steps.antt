@@ -1,10 +1,12 @@
 -- What one byte leaves: the state is that of the definition's step.
 use Rattle.std.specs.Prelude.{List, ◌≡◌, ℕ, ◌+◌, ◌<◌}
 use Rattle.std.proofs.Common.{arith}
-use Rattle.cells.specs.lent.Ends.{Slice, entry_columns, exit_columns}
 use Rattle.journal_builder.specs.declared.build_state.Build.{Build}
-use Rattle.journal_builder.specs.event_handling.Events.{SchemaCells, CellsOf}
+use Rattle.journal_builder.specs.declared.journal_schema.JournalSchema.{JournalSchema}
+use Rattle.journal_builder.specs.declared.open_levels.Level.{Level}
+use Rattle.journal_builder.specs.journal_schema.Schemas.{SchemaOf}
 use Rattle.journal_lexer.specs.declared.state.Lex.{Lex}
+use Rattle.journal_lexer.specs.declared.state.Places.{Places}
 use Rattle.journal_lexer.specs.state.Places.{no_place}
 use Rattle.journal_lexer.specs.state.Relation.{Steps}
 use Rattle.journal_reader.specs.declared.state.ReaderState.{ReaderState}
@@ -17,28 +19,23 @@ use Rattle.table_spec.specs.Columns.{Columns, Sizes}
 use Rattle.token_spec.specs.Lexer.{lex}
 
 -- the state y and what is lent beside it are what the byte b leaves: the definition's step
-pub record ByteRead (t : SchemaCells) (levels places : List ℕ) (c : Columns) (x : ReaderState) (b : ℕ) (after q : List ℕ) (d : Columns) (y : ReaderState)
+pub record ByteRead (t : JournalSchema) (levels : List Level) (places : Places) (c : Columns) (x : ReaderState) (b : ℕ) (after : List Level) (q : Places) (d : Columns) (y : ReaderState)
     : Type 0 where
-  pub usable : Usable after q d y
+  pub usable : Usable q d y
   pub place : y.lex.place ≡ x.lex.place + 1
-  pub read : (s : Schema) (z : Sizes) (m : Machine) → CellsOf s t → ReadAs s z levels places c x m → ReadAs s z after q d y (step s m b)
+  pub read : (s : Schema) (z : Sizes) (m : Machine) → SchemaOf s t → ReadAs s z levels places c x m → ReadAs s z after q d y (step s m b)
 
--- the same of lent slices
-abbrev pub ByteReadIn : SchemaCells → Slice → Slice → Slice → Slice → Slice → Slice → Slice → Slice → ReaderState → ℕ → ReaderState → Type 0
-ByteReadIn t levels places numbers names parents starts lengths decoded x b y =
-    ByteRead t levels.entry.now places.entry.now (entry_columns numbers names parents starts lengths decoded) x b levels.exit.now places.exit.now (exit_columns numbers names parents starts lengths decoded) y
-
-pub byte-read : {t : SchemaCells} {levels places after q : List ℕ} {c d : Columns} {x : ReaderState} {b : ℕ} {l : Lex} {r : Build} → Usable levels places c x
+pub byte-read : {t : JournalSchema} {levels after : List Level} {places q : Places} {c d : Columns} {x : ReaderState} {b : ℕ} {l : Lex} {r : Build} → Usable places c x
     → x.lex.place < no_place → Steps x.lex.mode x.lex places b l q → EventRead t levels q c l x.build after d r
     → ByteRead t levels places c x b after q d (record { lex = l; build = r })
-byte-read {t} {levels} {places} {after} {q} {c} {d} {x} {b} {l} {r} u room g e =
+byte-read {t} {levels} {after} {places} {q} {c} {d} {x} {b} {l} {r} u room g e =
     let some = g.meant u.valid.mode u.valid.means in
     record {
       usable =
           record {
             lent = some.lent;
             valid = record { mode = (lex u.valid.mode x.lex.place b).mode; means = some.mode };
-            safe = e.safe;
+            shallow = e.shallow;
             counted = omega (arith, u.counted, e.counted, some.place);
             equal = e.equal;
           };

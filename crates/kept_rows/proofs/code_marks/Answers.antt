@@ -1,9 +1,15 @@
-use mathlib.Core.Path.{refl, sym}
+use mathlib.Core.Bool.{Bool, true, false}
+use mathlib.Core.Path.{◌≡◌, refl, sym, ◌∙◌}
 use native.Mathlib.Omega.{arith}
-use Rattle.cells.specs.row_sets.Columns.{marks-length}
+use mir.Val.{bool_byte}
+use Rattle.cells.specs.row_sets.Columns.{mark, marks-length}
 use Rattle.cells.specs.row_sets.Loops.{forward-none, forward-all}
 use Rattle.kept_rows.specs.Kept.{code_count, codes-next}
 use Rattle.kept_rows.proofs.code_marks.Goals as goal
+
+byte-mark : (b : Bool) → bool_byte b ≡ mark b
+byte-mark true = refl
+byte-mark false = refl
 
 pub loop-c-init : goal.loop-c-init
 loop-c-init c = forward-none _ _
@@ -11,7 +17,7 @@ loop-c-init c = forward-none _ _
 pub loop-c-preserved : goal.loop-c-preserved
 loop-c-preserved c =
     let at = c.loop-c in
-    codes-next _ _ at.c at.table _ _ (omega arith) at.invariant c.mark_of.ensures c.has.ensures refl
+    codes-next _ _ at.c at.table _ _ (omega arith) at.invariant (c.from.ensures ∙ byte-mark _) c.has.ensures refl
 
 pub returns : goal.returns
 returns c =

@@ -1,5 +1,3 @@
-use Prim.Native.Nat.{◌-◌}
-use lib.ListN.{length}
 use Rattle.cells.specs.row_sets.Columns.{marks}
 use Rattle.cells.specs.row_sets.Loops.{Forward}
 use Rattle.kept_rows.specs.Kept.{in_set, code_count}
@@ -7,6 +5,3 @@ use Rattle.kept_rows.proofs.code_marks.Given as goal
 
 abbrev pub invariant-loop-c : goal.invariant-loop-c
 invariant-loop-c l = Forward (marks code_count (in_set l.set)) l.initial.table l.c l.table
-
-abbrev pub decreases-loop-c : goal.decreases-loop-c
-decreases-loop-c l = length l.initial.table - l.c

@@ -1,38 +1,17 @@
-use mathlib.Core.Path.{◌∙◌}
-use native.Mathlib.Omega.{arith}
+use Rattle.std.proofs.Common.{sym, ◌∙◌, arith, eqb-true}
+use Rattle.std.proofs.lemmas.Bool.{eqb-false}
 use Rattle.kept_rows.specs.Kept.{table-marks, kept_table, kept-none, pass-first, kept-begun, kept_next, kept-all}
 use Rattle.kept_rows.proofs.mark_kept.Goals as goal
 
-pub returns-then-kept-eq0 : goal.returns-then-kept-eq0
-returns-then-kept-eq0 c = kept-none _ _ _ _ c.requires c.if-kept-eq0.true
-
-pub overflow_cast-kept : goal.overflow_cast-kept
-overflow_cast-kept c = omega (arith, c.type_inv.names 0)
-
-pub bounds-table-names : goal.bounds-table-names
-bounds-table-names c = omega (arith, c.requires.columns.coded 0)
+pub returns-then-is_empty : goal.returns-then-is_empty
+returns-then-is_empty c = kept-none _ _ _ _ c.requires (eqb-true _ _ (sym c.is_empty.ensures ∙ c.if-is_empty.true))
 
 pub loop-r-init : goal.loop-r-init
 loop-r-init c =
     let h = c.requires in
     let e = table-marks _ _ c.code_marks-table.ensures in
+    let some = eqb-false _ _ (sym c.is_empty.ensures ∙ c.if-is_empty.false) in
     (omega arith, pass-first _ _ _ _ h, e, kept-begun _ _ _ _ h _ e (omega arith))
-
-pub overflow_cast-p : goal.overflow_cast-p
-overflow_cast-p c = omega (arith, c.type_inv.parents c.loop-r.r)
-
-pub overflow_cast-kept-in-loop-r : goal.overflow_cast-kept-in-loop-r
-overflow_cast-kept-in-loop-r c = omega (arith, c.type_inv.names c.loop-r.r)
-
-pub bounds-table-names-in-loop-r : goal.bounds-table-names-in-loop-r
-bounds-table-names-in-loop-r c =
-    let at = c.loop-r in
-    omega (arith, at.invariant.1.columns.coded at.r)
-
-pub bounds-kept-p : goal.bounds-kept-p
-bounds-kept-p c =
-    let at = c.loop-r in
-    omega (arith, at.invariant.1.columns.before at.r at.invariant.0 (omega arith))
 
 pub loop-r-preserved : goal.loop-r-preserved
 loop-r-preserved c =

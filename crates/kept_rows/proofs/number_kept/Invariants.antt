@@ -1,6 +1,5 @@
 use mathlib.Core.Path.{◌≡◌}
-use Prim.Native.Nat.{◌-◌, ◌<◌}
-use lib.ListN.{length}
+use Prim.Native.Nat.{◌<◌}
 use Rattle.cells.specs.row_sets.Columns.{marks, is_marked}
 use Rattle.kept_rows.specs.Kept.{code_count, kept_marks, KeptPass}
 use Rattle.kept_rows.specs.Positions.{Numbering}
@@ -8,6 +7,3 @@ use Rattle.kept_rows.proofs.number_kept.Given as goal
 
 abbrev pub invariant-loop-r : goal.invariant-loop-r
 invariant-loop-r l = (0 < l.r) × KeptPass l.names l.parents l.initial.positions × (l.table ≡ marks code_count (is_marked l.table)) × Numbering (kept_marks (is_marked l.table) l.names l.parents) l.initial.positions l.r l.n l.positions
-
-abbrev pub decreases-loop-r : goal.decreases-loop-r
-decreases-loop-r l = length l.initial.positions - l.r

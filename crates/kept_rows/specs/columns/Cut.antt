@@ -6,15 +6,16 @@ use Rattle.std.proofs.Common.{⊎_elim, ◌∙◌, eq-or-lt_of_le, arith, lt-ltb
 use Rattle.std.proofs.Math.Path.{sym, ap, ap₂, subst}
 use Rattle.std.proofs.Math.ListN.{length}
 use Rattle.std.proofs.lemmas.List.{length-replicate}
+use Rattle.cells.specs.columns.Lent.{lent_columns, Same}
+use Rattle.cells.specs.declared.columns.ColumnsMut.{ColumnsMut}
 use Rattle.cells.specs.lent.Cells.{all-cleared}
 use Rattle.cells.specs.lent.Columns.{ClearedFrom, same-columns}
-use Rattle.cells.specs.lent.Ends.{Slice, entry_columns, exit_columns}
 use Rattle.cells.specs.row_sets.Columns.{is_marked, marks, marks-length, marks-marked, marks-cong}
 use Rattle.kept_rows.specs.Joined.{rank}
 use Rattle.kept_rows.specs.Kept.{is_kept, kept_marks, KeptColumns, kept-later}
 use Rattle.kept_rows.specs.Positions.{Numbered as Counted, nonzero-position, positions, positions-length, positions-at}
 use Rattle.kept_rows.specs.cut_rows.Cells.{noted-cleared}
-use Rattle.kept_rows.specs.cut_rows.Rows.{ReadSlice, kept_columns, marked_by, OfLength, Room, CutPass, RowsNoted}
+use Rattle.kept_rows.specs.cut_rows.Rows.{kept_columns, marked_by, OfLength, Room, CutPass, RowsNoted}
 use Rattle.table_spec.specs.Columns.{Columns, Sizes, sizes_of, columns}
 use Rattle.text_laws.specs.Tests.{passed, true_of, and_cases}
 use Rattle.text_spec.specs.Cells.{padded}
@@ -79,10 +80,10 @@ pub record CutAs (f : ℕ → Bool) (c o : Columns) (n : ℕ) (x : Columns) : Ty
   pub count : n ≡ rank (kept_marks f c.names c.parents) (length c.parents)
   pub columns : x ≡ answered (sizes_of o) n (kept_columns (kept_marks f c.names c.parents) c (length c.parents))
 
--- the same of lent slices
-abbrev pub CutInto : (ℕ → Bool) → ReadSlice → ReadSlice → ReadSlice → ReadSlice → ReadSlice → ReadSlice → ℕ → Slice → Slice → Slice → Slice → Slice → Slice → Type 0
-CutInto f numbers names parents starts lengths decoded n numbers₂ names₂ parents₂ starts₂ lengths₂ decoded₂ =
-    CutAs f (columns numbers.entry.now names.entry.now parents.entry.now starts.entry.now lengths.entry.now decoded.entry.now) (entry_columns numbers₂ names₂ parents₂ starts₂ lengths₂ decoded₂) n (exit_columns numbers₂ names₂ parents₂ starts₂ lengths₂ decoded₂)
+-- the same of lent columns
+pub record CutInto (f : ℕ → Bool) (c : Columns) (n : ℕ) (old new : ColumnsMut) : Type 0 where
+  pub same : Same old new
+  pub cut : CutAs f c (lent_columns old) n (lent_columns new)
 
 module _ (f : ℕ → Bool) (c o : Columns) (h : TableColumns c) where
   m : List ℕ

@@ -1,11 +1,10 @@
 -- The rows of a table that have a position, written into other columns: parents' rows become their positions.
-use Rattle.std.specs.Borrow.{Bor}
 use Rattle.std.specs.Prelude.{Bool, true, false, cond, not, List, ◌≡◌, refl, ℕ, ◌+◌, ◌-◌, ◌<◌, ◌≤◌, eqb, length, get_or, set}
-use denote.Triple.Both.{Both}
 use Rattle.std.proofs.Math.Path.{sym}
 use Rattle.std.proofs.Common.{ap, subst, ◌∙◌, arith, eq-eqb, ne_eqb, eqb-true}
 use Rattle.std.proofs.lemmas.Bool.{eqb-false}
-use Rattle.cells.specs.lent.Ends.{Slice, entry_columns, exit_columns}
+use Rattle.cells.specs.columns.Lent.{lent_columns, Same}
+use Rattle.cells.specs.declared.columns.ColumnsMut.{ColumnsMut}
 use Rattle.cells.specs.row_sets.Columns.{is_marked, marks, marks-length}
 use Rattle.kept_rows.specs.Joined.{rank, total-marked, total-rises}
 use Rattle.kept_rows.specs.Positions.{position_of, positions, positions-at, position-marked, position-unmarked, marked-position}
@@ -14,10 +13,6 @@ use Rattle.table_spec.specs.Columns.{Columns, columns}
 use Rattle.text_laws.specs.Tests.{cond_yes, cond_no}
 
 -- ---- definitions
--- a slice that is lent to be read, at both ends of a call
-abbrev pub ReadSlice : Type 0
-ReadSlice = Both (Bor (List ℕ)) (Bor (List ℕ))
-
 -- the marked rows before r in columns: parents' rows become their positions among the marked rows
 unfoldable pub kept_columns : List ℕ → Columns → ℕ → Columns
 kept_columns m c r =
@@ -44,11 +39,6 @@ unfoldable pub row_added : List ℕ → Columns → ℕ → Columns → Columns
 row_added pos c r x =
     cond (eqb (get_or pos r 0) 0) x
     (stored x (get_or pos r 0 - 1) (get_or c.numbers r 0) (get_or c.names r 0) (get_or pos (get_or c.parents r 0) 0 - 1) (get_or c.starts r 0) (get_or c.lengths r 0) (get_or c.decoded r 0))
-
--- the same of lent slices
-abbrev pub RowAddedIn : ReadSlice → Columns → ℕ → Slice → Slice → Slice → Slice → Slice → Slice → Type 0
-RowAddedIn positions c r numbers names parents starts lengths decoded =
-    exit_columns numbers names parents starts lengths decoded ≡ row_added positions.entry.now c r (entry_columns numbers names parents starts lengths decoded)
 
 -- ---- what the functions ask
 -- columns of n cells each
@@ -104,11 +94,10 @@ pub record RowsNoted (m : List ℕ) (c o : Columns) (r : ℕ) (x : Columns) : Ty
   pub lengths : Noted (λ q. get_or c.lengths q 0) m o.lengths r x.lengths
   pub decoded : Noted (λ q. get_or c.decoded q 0) m o.decoded r x.decoded
 
--- the same of lent slices
-abbrev pub RowsNotedIn : ReadSlice → ReadSlice → ReadSlice → ReadSlice → ReadSlice → ReadSlice → ReadSlice → Slice → Slice → Slice → Slice → Slice → Slice → Type 0
-RowsNotedIn positions numbers names parents starts lengths decoded numbers₂ names₂ parents₂ starts₂ lengths₂ decoded₂ =
-    RowsNoted (marked_by positions.entry.now) (columns numbers.entry.now names.entry.now parents.entry.now starts.entry.now lengths.entry.now decoded.entry.now) (entry_columns numbers₂ names₂ parents₂ starts₂ lengths₂ decoded₂)
-    (length positions.entry.now) (exit_columns numbers₂ names₂ parents₂ starts₂ lengths₂ decoded₂)
+-- all rows, in lent columns
+pub record RowsWritten (pos : List ℕ) (c : Columns) (old new : ColumnsMut) : Type 0 where
+  pub same : Same old new
+  pub rows : RowsNoted (marked_by pos) c (lent_columns old) (length pos) (lent_columns new)
 
 pub rows_none : (m : List ℕ) (c o : Columns) → RowsNoted m c o 0 o
 rows_none m c o =

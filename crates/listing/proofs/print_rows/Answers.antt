@@ -15,15 +15,18 @@ loop-r-init c = new-long _ _ _ c.put_header-size.ensures
 
 pub put_row-n-requires : goal.put_row-n-requires
 put_row-n-requires c =
-    row-pass _ _ _ _ _ c.args.listed c.requires _ (omega arith) _ c.loop-r.invariant
+    let names = c.of-names.ensures in
+    row-pass _ _ _ c.args.listed c.requires _ (omega arith) c.of-names.result names.text names.starts names.sizes _ c.loop-r.invariant
 
 pub slice_bounds-line-end-in-loop-r : goal.slice_bounds-line-end-in-loop-r
 slice_bounds-line-end-in-loop-r c =
-    row_fits_lem _ _ _ _ _ c.args.listed c.requires _ (omega arith) _ _ _ c.loop-r.invariant c.put_row-n.ensures
+    let names = c.of-names.ensures in
+    row_fits_lem _ _ _ c.args.listed c.requires _ (omega arith) c.of-names.result names.text names.starts names.sizes _ _ _ c.loop-r.invariant c.put_row-n.ensures
 
 pub slice_bounds-write_all-end-in-loop-r : goal.slice_bounds-write_all-end-in-loop-r
 slice_bounds-write_all-end-in-loop-r c =
-    taken _ _ (row_fits_lem _ _ _ _ _ c.args.listed c.requires _ (omega arith) _ _ _ c.loop-r.invariant c.put_row-n.ensures)
+    let names = c.of-names.ensures in
+    taken _ _ (row_fits_lem _ _ _ c.args.listed c.requires _ (omega arith) c.of-names.result names.text names.starts names.sizes _ _ _ c.loop-r.invariant c.put_row-n.ensures)
 
 pub loop-r-preserved : goal.loop-r-preserved
 loop-r-preserved c =

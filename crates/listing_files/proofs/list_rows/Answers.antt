@@ -1,11 +1,10 @@
 -- `list_rows` meets its contract: the needed names, the rows kept, the first paths, the names.
-use mathlib.Core.Path.{refl, sym}
+use mathlib.Core.Path.{refl}
 use Rattle.compiled_schema.specs.Places.{compiled-few}
-use Rattle.listing_files.specs.contents.Files.{names-all}
 use Rattle.listing_files.proofs.list_rows.Goals as goal
 
-pub needed_under-set-requires : goal.needed_under-set-requires
-needed_under-set-requires c =
+pub needed_under-needed-requires : goal.needed_under-needed-requires
+needed_under-needed-requires c =
     (c.requires.0.shaped, compiled-few _ _ c.requires.0.compiled)
 
 pub kept_count-kept-requires : goal.kept_count-kept-requires
@@ -17,22 +16,14 @@ note_paths-requires c =
     let pre = c.requires.0 in
     (record { shaped = pre.shaped; columns = pre.columns; cells = pre.cells; listed = pre.listed }, c.requires.1)
 
-pub slice_bounds-name_sizes-end : goal.slice_bounds-name_sizes-end
-slice_bounds-name_sizes-end c = sym (names-all _ _ c.requires.0.compiled)
-
-pub name_sizes-requires : goal.name_sizes-requires
-name_sizes-requires c = names-all _ _ c.requires.0.compiled
-
 pub returns : goal.returns
 returns c =
     record {
-      accepted = refl;
       rows_are = refl;
       selected-is = c.selected_count-selected.ensures;
-      set = c.needed_under-set.result;
-      set-needed = c.needed_under-set.ensures;
+      set = c.needed_under-needed.result;
+      set-needed = c.needed_under-needed.ensures;
       kept-is = c.kept_count-kept.ensures;
       noted = c.note_paths.ensures;
       names-are = refl;
-      sizes-are = c.name_sizes.ensures;
     }

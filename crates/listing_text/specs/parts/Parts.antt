@@ -6,6 +6,8 @@ use Rattle.std.proofs.Math.Seq.{drop-length}
 use Rattle.cells.specs.written_text.Written.{WrittenAt, written_then, written-length, decimal-short}
 use Rattle.chains.specs.tags.Chains.{chain_at, chain_size, NamesAt, SizePass, ChainPass, Chained, chain_length}
 use Rattle.library_spec.specs.Listing.{decimal, line_feed, refused_line}
+use Rattle.text.specs.declared.refusals.Refusal as program
+use Rattle.text.specs.refusals.Refusals.{reason_in, refusal_in}
 use Rattle.text_spec.specs.Lists.{bytes}
 use Rattle.text_spec.specs.Refusals.{Refusal, number_of}
 
@@ -47,6 +49,12 @@ pub refusal-written : {w₀ w₁ w₂ w₃ : List ℕ} {a b d x y : ℕ} → Num
 refusal-written {w₀ = w₀} {w₃ = w₃} {d = d} {x = x} {y = y} p q s =
     subst (λ (l : List ℕ). WrittenAt w₀ 0 l d w₃) (joined-3 (bytes "refused ") (decimal x) (bytes " at ") (decimal y) line_feed)
     (written_then p.written (written_then q.written s))
+
+-- the same of a refusal of the program
+pub refused-written : {w₀ w₁ w₂ w₃ : List ℕ} {a b d x : ℕ} (f : program.Refusal) → x ≡ number_of (reason_in f.reason) → NumberAt w₀ 0 (bytes "refused ") x a w₁ → NumberAt w₁ a (bytes " at ") f.place b w₂
+    → WrittenAt w₂ b line_feed d w₃ → WrittenAt w₀ 0 (refused_line (refusal_in f)) d w₃
+refused-written {w₀ = w₀} {w₃ = w₃} {d = d} {x = x} f e p q s =
+    subst (λ (l : List ℕ). WrittenAt w₀ 0 l d w₃) (ap (λ (n : ℕ). refusal n f.place) e ∙ sym (refusal-line (refusal_in f))) (refusal-written p q s)
 
 -- ---- a chain of tags
 -- the chain's room from a place on

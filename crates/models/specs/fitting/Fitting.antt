@@ -1,5 +1,5 @@
 -- A content model's position automaton decides what fits it: its states are the definition's marks, step by step.
-use Rattle.std.specs.Prelude.{Bool, true, false, ◌&&◌, ◌||◌, List, [], ◌∷◌, ◌++◌, ◌↔◌, ◌≡◌, refl, ℕ, ◌≤◌, ◌<◌, eqb, ltb, length, get_or}
+use Rattle.std.specs.Prelude.{Bool, true, false, ◌&&◌, ◌||◌, List, [], ◌∷◌, ◌++◌, ◌↔◌, ◌≡◌, refl, ℕ, ◌<◌, eqb, ltb, get_or}
 use Rattle.std.proofs.Math.Bool.{or-false}
 use Rattle.std.proofs.Common.{sym, ap₂, ◌∙◌, zero-add, arith, lt-ltb}
 use Rattle.std.proofs.Math.Path.{ap, subst}
@@ -12,7 +12,7 @@ use Rattle.models.specs.declared.fitting.State.TheVariants.{Start, Amid}
 use Rattle.models.specs.fitting.Marks.{marked, marked-cong, marked-none, nullable-marked, final-marked, after, Labelled, shift-marked, labels}
 use Rattle.models.specs.fitting.Steps.{positions, comes_next, Stepped, may_end}
 use Rattle.schema_laws.specs.Models.{fits-decides}
-use Rattle.schema_spec.specs.Models.{Particle, uses, Fits, Position, shift, nullable, Progress, amid, started, advance, complete, advance_all, fits}
+use Rattle.schema_spec.specs.Models.{Particle, Fits, Position, shift, nullable, Progress, amid, started, advance, complete, advance_all, fits}
 use Rattle.schema_spec.specs.Names.{has_bit}
 use Rattle.text_laws.specs.Searches.{any-cong, any_none}
 use Rattle.text_laws.specs.Tests.{eqb-sym}

@@ -1,15 +1,15 @@
 -- Marks on a particle's names are sets of positions: the marks' end and their next marks are those that the sets of first, last and
 -- following positions give.
-use Rattle.std.specs.Prelude.{Bool, true, false, ◌&&◌, ◌||◌, ◌++◌, ◌≡◌, refl, ℕ, ◌+◌, ◌≤◌, ◌<◌, T, eqb, length, get_or}
+use Rattle.std.specs.Prelude.{Bool, true, false, ◌&&◌, ◌||◌, ◌++◌, ◌≡◌, refl, ℕ, ◌+◌, ◌≤◌, ◌<◌, eqb, get_or}
 use Rattle.std.proofs.Math.Bool.{and-false, or-false}
-use Rattle.std.proofs.Common.{⊎_elim, sym, ap, ap₂, ◌∙◌, add-zero, add_assoc, arith, eqb→eq, length-append, get_or-append-add}
+use Rattle.std.proofs.Common.{sym, ap, ap₂, ◌∙◌, add-zero, add_assoc, arith, get_or-append-add}
 use Rattle.std.proofs.Math.Dec.{eqb_refl}
 use Rattle.std.proofs.Math.ListN.{get_or-append}
 use Rattle.models.specs.PositionLaws.{size-uses, not_first, not-next}
 use Rattle.models.specs.Positions.{size, may_be_absent, is_first, is_last, is_next}
 use Rattle.schema_spec.specs.Models.{Particle, named, sequence, choice, repeated, uses, Position, position, unmarked, nullable, final, shift}
 use Rattle.text_laws.specs.Searches.{any-cong, any-only, any_none, any-and, any-or}
-use Rattle.text_laws.specs.Tests.{or_cases, and_cases, true_of, false_of}
+use Rattle.text_laws.specs.Tests.{true_of}
 use Rattle.text_spec.specs.Lists.{any_below}
 
 -- the particle with a mark on each position that is in a set

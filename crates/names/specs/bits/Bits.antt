@@ -1,10 +1,12 @@
 -- Laws of sets of numbers as the bits of a word: what each machine operation does to the bits, and that equal bits make equal words.
 use Rattle.std.specs.Prelude.{Bool, true, false, not, ◌&&◌, ◌||◌, ◌⊎◌, ◌≡◌, refl, ℕ, zero, suc, ◌+◌, ◌*◌, ◌-◌, ◌/◌, ◌%◌, ◌^◌, ◌<◌, ◌≤◌, T, eqb}
 use Rattle.std.proofs.Common.{true≢false, inl, inr, sym, ap, subst, ◌∙◌, mod-lt, div-one, one-mul, div-add-mod', lt_of_lt_of_le, mul_assoc, pow-suc, add-one, arith, eq-eqb, eqb→eq, pow_pos, pow_mono, pow-add, shr-shr, shr_lt}
-use Rattle.std.proofs.lemmas.Bool.{false≢true}
+use Rattle.std.proofs.lemmas.Bool.{false≢true, cases_lt}
+use Rattle.std.proofs.lemmas.Nat.Bits.{bit_at-lt, bit_at_above, bit_at_not}
 use Rattle.std.proofs.Math.Nat.{div-eq_of_lt, mul-div-mul_right}
-use Rattle.std.specs.Int.Bits.{bit_and, bit_or, bit_xor, and_lt, shifted_even}
-use Rattle.std.proofs.lemmas.Nat.{or_shr, or_mod, and_shr, and_mod, xor_shr, xor_mod, shl-shr}
+use Rattle.std.specs.Int.{bit_at, bit_not, w64}
+use Rattle.std.specs.Int.Bits.{bit_and, bit_or, and_lt, shifted_even}
+use Rattle.std.proofs.lemmas.Nat.{or_shr, or_mod, and_shr, and_mod, shl-shr}
 use Rattle.std.proofs.Math.Dec.{eqb-zero-suc, eqb-suc-zero, eqb-suc-suc}
 use Rattle.std.proofs.Math.Pow.{pow-lt, field, mod-mod-pow}
 use Rattle.schema_spec.specs.Names.{has_bit}
@@ -42,18 +44,25 @@ bit-or = by_bits bit_or (λ x y. x || y) or_shr or_mod refl refl refl refl
 pub bit-and : (a b i : ℕ) → has_bit (bit_and a b) i ≡ (has_bit a i && has_bit b i)
 bit-and = by_bits bit_and (λ x y. x && y) and_shr and_mod refl refl refl refl
 
--- what is in one of two sets and not in both: with what both have, the first without the second
-pub bit-without : (a b i : ℕ) → has_bit (bit_xor a (bit_and a b)) i ≡ (has_bit a i && not (has_bit b i))
-bit-without a b i =
-    by_bits bit_xor differ xor_shr xor_mod refl refl refl refl a (bit_and a b) i ∙ ap (differ (has_bit a i)) (bit-and a b i) ∙ only (has_bit a i) (has_bit b i)
-  where
-    differ : Bool → Bool → Bool
-    differ true y = not y
-    differ false y = y
+-- what is in the first of two sets and not in the second: words of 64 bits have none from 64 on
+module _ (a b i : ℕ) (ha : a < 2 ^ 64) (hb : b < 2 ^ 64) where
+  not-bit : i < 64 → has_bit (bit_not w64 b) i ≡ not (has_bit b i)
+  not-bit l = pick (bit_at b i) (bit_at (bit_not w64 b) i) (bit_at-lt b i) (bit_at_not w64 b i hb l)
+    where
+      pick : (m n : ℕ) → m < 2 → n ≡ 1 - m → eqb n 1 ≡ not (eqb m 1)
+      pick zero n h e = rw e refl
+      pick (suc zero) n h e = rw e refl
+      pick (suc (suc m)) n h e = absurd (omega arith)
 
-    only : (x y : Bool) → differ x (x && y) ≡ (x && not y)
-    only true y = refl
-    only false y = refl
+  no-bit : 64 ≤ i → has_bit a i ≡ false
+  no-bit l = ap (λ (n : ℕ). eqb n 1) (bit_at_above a 64 i ha l)
+
+  pub bit-and-not : has_bit (bit_and a (bit_not w64 b)) i ≡ (has_bit a i && not (has_bit b i))
+  bit-and-not = bit-and a (bit_not w64 b) i ∙ by (cases_lt i 64)
+    where
+      by : (i < 64) ⊎ (64 ≤ i) → (has_bit a i && has_bit (bit_not w64 b) i) ≡ (has_bit a i && not (has_bit b i))
+      by (inl l) = ap (λ (x : Bool). has_bit a i && x) (not-bit l)
+      by (inr l) = rw (no-bit l) refl
 
 pub bit-none : (i : ℕ) → has_bit 0 i ≡ false
 bit-none i = ap (λ (n : ℕ). eqb (n % 2) 1) (div-eq_of_lt (pow_pos i))

@@ -12,7 +12,7 @@ use Rattle.names.specs.codes.Codes.{name_of_code}
 use Rattle.names.specs.declared.NameSet.{NameSet}
 use Rattle.schema_laws.specs.Lists.{Distinct, none-twice, next}
 use Rattle.schema_laws.specs.Names.{same-equal, same-name, names-distinct}
-use Rattle.schema_spec.specs.Names.{Name, Names, element, text, same_name, code_of, has, names_of}
+use Rattle.schema_spec.specs.Names.{Name, Names, element, text, same_name, code_of, names_of}
 use Rattle.schema_spec.specs.Schemas.{Schema}
 use Rattle.text_laws.specs.Lists.{filter-cong, filter-in, memberless}
 use Rattle.text_laws.specs.Tests.{passed, failed, same_test}

@@ -2,7 +2,7 @@
 use Rattle.std.specs.Prelude.{Bool, not, ◌≡◌, ℕ}
 use mathlib.Core.List.{List, [], ◌∷◌, Memᴰ}
 use Rattle.inference.specs.declared.type_steps.Inferred.{Inferred}
-use Rattle.inference.specs.type_steps.Relations.{env_in}
+use Rattle.inference.specs.type_steps.Envs.{env_in}
 use Rattle.inference_spec.specs.Needed.{keeps_all, wants_nothing, need}
 use Rattle.inference_spec.specs.Types.{Env, env, cut_to, infer_all}
 use Rattle.names.specs.Sets.{set_in}

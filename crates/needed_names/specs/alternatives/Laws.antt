@@ -1,10 +1,10 @@
--- Laws of alternatives in columns, one and those after it.
+-- Laws of alternatives, one and those after it.
 use Rattle.std.specs.Prelude.{Bool, true, false, not, ◌||◌, ◌≡◌, refl, ℕ, ◌+◌, ◌-◌, ◌<◌, ◌≤◌, T, length}
 use mathlib.Core.List.Memᴰ.{head as here}
 use mathlib.Core.List.{List, [], ◌∷◌, ◌++◌, Memᴰ as In}
 use Rattle.std.proofs.Common.{sym, ap, subst, ◌∙◌, arith}
-use Rattle.compiled_paths.specs.Columns.{first_size, first-size-fits, first-size-some, plain_in, alternatives_in, alternatives-next}
-use Rattle.inference.specs.plain_steps.Columns.{HasSteps}
+use Rattle.compiled_paths.specs.Steps.{first_size, first-size-fits, first-size-some, plain_in, alternatives_in, alternatives-next}
+use Rattle.compiled_paths.specs.declared.Step.{Step as CompiledStep}
 use Rattle.inference_spec.specs.Needed.{keeps_all, wants_nothing, need}
 use Rattle.inference_spec.specs.Types.{Env}
 use Rattle.names.specs.SetLaws.{set_of-in, in-set_of, schema-every, every_element, every-text, overlap-some, element-overlap, text-overlap}
@@ -44,43 +44,31 @@ module _ (s : Schema) where
           let r = set_of-in (names_of s) t (subst (λ (x : Names). In n x) (sym e) (here refl)) in
           met n r.0 r.1
 
--- ---- alternatives in columns, of which the first has some size
-module _ (axes tests : List ℕ) (n k size : ℕ) (same : size ≡ first_size axes n k) where
-  pub first-steps : HasSteps axes tests k n → HasSteps axes tests k size
-  first-steps h =
-      let l = h.room in
-      let f = first-size-fits axes n k in
-      record { room = omega arith; tests-size = h.tests-size }
-
-  pub later-steps : HasSteps axes tests k n → HasSteps axes tests (k + size) (n - size)
-  later-steps h =
-      let l = h.room in
-      let f = first-size-fits axes n k in
-      record { room = omega arith; tests-size = h.tests-size }
-
+-- ---- alternatives, of which the first has some size
+module _ (steps : List CompiledStep) (n k size : ℕ) (same : size ≡ first_size steps n k) where
   pub fewer-steps : (n ≡ 0 → ⊥) → n - size < n
   fewer-steps d =
-      let l = first-size-some axes n k d in
-      let f = first-size-fits axes n k in
+      let l = first-size-some steps n k d in
+      let f = first-size-fits steps n k in
       omega arith
 
   module _ (s : Schema) (e : Env) (left : n ≡ 0 → ⊥) where
     abbrev one : List (PlainStep ℕ)
-    one = plain_in axes tests size k
+    one = plain_in steps size k
 
     abbrev rest : List (List (PlainStep ℕ))
-    rest = alternatives_in axes tests (n - size) (k + size)
+    rest = alternatives_in steps (n - size) (k + size)
 
-    one-and-rest : one ∷ rest ≡ alternatives_in axes tests n k
+    one-and-rest : one ∷ rest ≡ alternatives_in steps n k
     one-and-rest =
-        ap (λ (x : ℕ). plain_in axes tests x k ∷ alternatives_in axes tests (n - x) (k + x)) same ∙ sym (alternatives-next axes tests n k left)
+        ap (λ (x : ℕ). plain_in steps x k ∷ alternatives_in steps (n - x) (k + x)) same ∙ sym (alternatives-next steps n k left)
 
-    pub first_ends : (b : Bool) → b ≡ true → b ≡ ends_some s e one → true ≡ any_ends_some s e (alternatives_in axes tests n k)
+    pub first_ends : (b : Bool) → b ≡ true → b ≡ ends_some s e one → true ≡ any_ends_some s e (alternatives_in steps n k)
     first_ends b t h = ap (λ (x : Bool). x || any_ends_some s e rest) (sym t ∙ h) ∙ ap (any_ends_some s e) one-and-rest
 
-    pub later-ends : (b r : Bool) → b ≡ false → b ≡ ends_some s e one → r ≡ any_ends_some s e rest → r ≡ any_ends_some s e (alternatives_in axes tests n k)
+    pub later-ends : (b r : Bool) → b ≡ false → b ≡ ends_some s e one → r ≡ any_ends_some s e rest → r ≡ any_ends_some s e (alternatives_in steps n k)
     later-ends b r t h g = g ∙ ap (λ (x : Bool). x || any_ends_some s e rest) (sym t ∙ h) ∙ ap (any_ends_some s e) one-and-rest
 
     pub need-one-and-rest : (r : NameSet) → set_in s r ≡ within (names_of s) (need (types_of s) keeps_all wants_nothing (expand tt one) e ++ need_of_all s e rest)
-        → set_in s r ≡ within (names_of s) (need_of_all s e (alternatives_in axes tests n k))
+        → set_in s r ≡ within (names_of s) (need_of_all s e (alternatives_in steps n k))
     need-one-and-rest r h = h ∙ ap (λ (qs : List (List (PlainStep ℕ))). within (names_of s) (need_of_all s e qs)) one-and-rest

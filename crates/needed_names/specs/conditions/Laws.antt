@@ -5,7 +5,8 @@ use mathlib.Core.List.{List, [], ◌∷◌, Memᴰ as In}
 use Rattle.std.proofs.Common.{⊎_elim, sym, ap, ap₂, ◌∙◌, arith, lt-ltb, le-ltb, eqb→eq, ltb→lt, lt→ltb}
 use Rattle.std.proofs.Math.Path.{subst}
 use Rattle.std.proofs.Math.Dec.{T, ltb, eqb_refl}
-use Rattle.compiled_paths.specs.Columns.{alternatives_in, condition_in, condition-none, condition-some}
+use Rattle.compiled_paths.specs.Steps.{alternatives_in, condition_in, condition-none, condition-some}
+use Rattle.compiled_paths.specs.declared.Step.{Step as CompiledStep}
 use Rattle.inference.specs.back_steps.Laws.{set_in-within}
 use Rattle.names.specs.SetLaws.{set_of-in, in-set_of, schema-every}
 use Rattle.names.specs.Sets.{member, set_of, every_name, set_in, Known}
@@ -23,23 +24,23 @@ use Rattle.text_laws.specs.Tests.{passed, false_of, or_left, or_right, or_cases,
 use Rattle.text_spec.specs.Limits.{max_declarations}
 use Rattle.text_spec.specs.Lists.{any_of, filter_by, gather}
 
--- ---- a condition in columns
-module _ (axes tests : List ℕ) (s : Schema) (n i : ℕ) where
+-- ---- a condition by its range
+module _ (steps : List CompiledStep) (s : Schema) (n i : ℕ) where
   abbrev whole : Condition ℕ
-  whole = condition_in axes tests n i
+  whole = condition_in steps n i
 
   abbrev some : Condition ℕ
-  some = alternatives (alternatives_in axes tests n i)
+  some = alternatives (alternatives_in steps n i)
 
   -- no alternative keeps all and wants nothing
   pub keeps-unconditional : (k t : NameSet) → n ≡ 0 → (m : Name) → member t m ≡ (member t m && keeps_in s k whole m)
   keeps-unconditional k t e m =
-      sym (ap (λ (q : Condition ℕ). member t m && keeps_in s k q m) (condition-none axes tests n i e) ∙ and-true (member t m))
+      sym (ap (λ (q : Condition ℕ). member t m && keeps_in s k q m) (condition-none steps n i e) ∙ and-true (member t m))
 
   pub wants-unconditional : (k h r : NameSet) → n ≡ 0 → set_in s r ≡ [] → set_in s r ≡ within (names_of s) (gather (wants_in s k whole) (set_in s h))
   wants-unconditional k h r e b =
       set_in-within s r [] b
-      ∙ ap (within (names_of s)) (sym (ap (λ (q : Condition ℕ). gather (wants_in s k q) (set_in s h)) (condition-none axes tests n i e) ∙ none (set_in s h)))
+      ∙ ap (within (names_of s)) (sym (ap (λ (q : Condition ℕ). gather (wants_in s k q) (set_in s h)) (condition-none steps n i e) ∙ none (set_in s h)))
     where
       none : (xs : Names) → gather (wants_in s k unconditional) xs ≡ []
       none [] = refl
@@ -47,10 +48,10 @@ module _ (axes tests : List ℕ) (s : Schema) (n i : ℕ) where
 
   -- some are the condition
   pub keeps-conditional : (k t r : NameSet) → (n ≡ 0 → ⊥) → (m : Name) → member r m ≡ (member t m && keeps_in s k some m) → member r m ≡ (member t m && keeps_in s k whole m)
-  keeps-conditional k t r d m h = h ∙ ap (λ (q : Condition ℕ). member t m && keeps_in s k q m) (sym (condition-some axes tests n i d))
+  keeps-conditional k t r d m h = h ∙ ap (λ (q : Condition ℕ). member t m && keeps_in s k q m) (sym (condition-some steps n i d))
 
   pub wants-conditional : (k h r : NameSet) → (n ≡ 0 → ⊥) → set_in s r ≡ within (names_of s) (gather (wants_in s k some) (set_in s h)) → set_in s r ≡ within (names_of s) (gather (wants_in s k whole) (set_in s h))
-  wants-conditional k h r d e = e ∙ ap (λ (q : Condition ℕ). within (names_of s) (gather (wants_in s k q) (set_in s h))) (sym (condition-some axes tests n i d))
+  wants-conditional k h r d e = e ∙ ap (λ (q : Condition ℕ). within (names_of s) (gather (wants_in s k q) (set_in s h))) (sym (condition-some steps n i d))
 
 -- ---- names one by one, in the order of their codes
 module _ (s : Schema) (small : length s ≤ max_declarations) where

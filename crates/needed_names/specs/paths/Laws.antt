@@ -1,71 +1,104 @@
--- Laws of written steps in columns, one and those after it.
-use Rattle.std.specs.Prelude.{List, [], ◌∷◌, ◌≡◌, refl, ℕ, suc, ◌+◌, ◌-◌, get_or}
-use Rattle.std.proofs.Common.{sym, ap, ap₂, subst, ◌∙◌, arith}
-use Rattle.compiled_paths.specs.Columns.{written_of, axis_number, start_at, size_at, axis_at, condition_in, condition_at, steps_in, steps_next}
+-- Laws of written steps with their conditions, one and those after it, and of paths, those before one and it.
+use Rattle.std.specs.Prelude.{List, [], ◌∷◌, ◌++◌, ◌≡◌, refl, ℕ, zero, suc, ◌+◌, ◌-◌, ◌≤◌}
+use Rattle.std.proofs.Common.{sym, ap, subst, ◌∙◌, arith, add-one, zero-add, append-nil, append_assoc}
+use Rattle.compiled_paths.specs.Paths.{Shaped}
+use Rattle.compiled_paths.specs.Sizes.{written_steps, all_steps}
+use Rattle.compiled_paths.specs.Steps.{start_at, end_at, size_at, condition_at, step_at, steps_in, steps_next, path_at, bundle_in}
+use Rattle.compiled_paths.specs.declared.CompiledPaths.{CompiledPaths}
+use Rattle.compiled_paths.specs.declared.Step.{Step as CompiledStep}
 use Rattle.inference.specs.back_steps.Needs.{NeedsOf}
 use Rattle.inference.specs.declared.back_steps.Needs.{Needs}
-use Rattle.inference.specs.plain_steps.Columns.{HasSteps}
 use Rattle.inference.specs.written_steps.Laws.{written-needs}
-use Rattle.inference.specs.written_steps.Parts.{before_last, reached, WrittenNeeds}
-use Rattle.inference_spec.specs.Needed.{keeps_name, wants_names}
+use Rattle.inference.specs.written_steps.Parts.{last_part, before_last, reached, WrittenNeeds}
+use Rattle.inference_spec.specs.Needed.{keeps_name, wants_names, needed_by_path, needed}
 use Rattle.inference_spec.specs.Types.{Env, cut_to, narrow, infer}
 use Rattle.names.specs.Sets.{set_in}
 use Rattle.names.specs.declared.NameSet.{NameSet}
-use Rattle.needed_names.specs.conditions.Conditions.{keeps_in}
-use Rattle.needed_names.specs.paths.Columns.{last_at, HasWrittenSteps}
-use Rattle.path_spec.specs.Paths.{WrittenStep, Condition, unconditional, Step, expand_from}
+use Rattle.needed_names.specs.paths.Steps.{HasWrittenSteps}
+use Rattle.path_spec.specs.Paths.{WrittenStep, Condition, unconditional, Step, expand_from, LocationPath}
 use Rattle.schema_spec.specs.Names.{Names, names_of, within}
 use Rattle.schema_spec.specs.Schemas.{Schema}
 use Rattle.schema_spec.specs.Types.{types_of}
 use Rattle.text_spec.specs.Lists.{gather}
 
-module _ (axes tests conditions : List ℕ) where
-  pub condition-steps : (k n first size : ℕ) → HasWrittenSteps axes tests conditions k n → first ≡ start_at conditions k → size ≡ size_at conditions k → HasSteps axes tests first size
-  condition-steps k n first size h e f =
-      let l = h.conditions-inside k in
-      let m = h.conditions-inside (k + 1) in
-      record { room = omega arith; tests-size = h.tests-size }
+-- ---- ranges end within their columns
+pub condition-inside : (c : CompiledPaths) (k n i : ℕ) → HasWrittenSteps c k n → end_at c.conditions i ≤ all_steps
+condition-inside c k n i h =
+    let l = h.conditions-inside i in
+    let m = h.conditions-inside (i + 1) in
+    omega arith
 
-  pub first_step : (k n : ℕ) → (n ≡ 0 → ⊥) → HasWrittenSteps axes tests conditions k n → HasWrittenSteps axes tests conditions k 1
-  first_step k n d h =
-      let l = h.room in
-      let m = h.counted in
-      record { room = omega arith; counted = omega arith; tests-size = h.tests-size; conditions-inside = h.conditions-inside }
+pub path-inside : (c : CompiledPaths) (i : ℕ) → Shaped c → end_at c.paths i ≤ written_steps
+path-inside c i h =
+    let l = h.paths-in i in
+    let m = h.paths-in (i + 1) in
+    omega arith
 
-  pub later-steps : (k n : ℕ) → (n ≡ 0 → ⊥) → HasWrittenSteps axes tests conditions k n → HasWrittenSteps axes tests conditions (k + 1) (n - 1)
-  later-steps k n d h =
-      let l = h.room in
-      let m = h.counted in
-      record { room = omega arith; counted = omega arith; tests-size = h.tests-size; conditions-inside = h.conditions-inside }
+-- ---- the steps of a path, and those after the first
+pub path-steps : (c : CompiledPaths) (i first size : ℕ) → Shaped c → first ≡ start_at c.paths i → size ≡ size_at c.paths i → HasWrittenSteps c first size
+path-steps c i first size h e f =
+    let l = h.paths-in i in
+    let m = path-inside c i h in
+    record { counted = omega arith; conditions-inside = h.conditions-in }
 
-  -- the condition of the step k, by its range
-  pub condition-range : (k first size : ℕ) → first ≡ start_at conditions k → size ≡ size_at conditions k → condition_in axes tests size first ≡ condition_at axes tests conditions k
-  condition-range k first size e f = ap₂ (condition_in axes tests) f e
+pub later-steps : (c : CompiledPaths) (k n : ℕ) → (n ≡ 0 → ⊥) → HasWrittenSteps c k n → HasWrittenSteps c (k + 1) (n - 1)
+later-steps c k n d h =
+    let l = h.counted in
+    record { counted = omega arith; conditions-inside = h.conditions-inside }
 
-  -- the step k of some axis
-  module _ (s : Schema) (i k axis : ℕ) (number : axis ≡ axis_number (get_or axes k 0)) where
+module _ (steps : List CompiledStep) (conditions : List ℕ) where
+  -- ---- the step k, written as the step of number i: the test, then the condition
+  module _ (s : Schema) (i k : ℕ) where
     abbrev here : Step ℕ (Condition ℕ)
-    here = last_at axes tests conditions i k
+    here = last_part i (step_at steps conditions k).axis (step_at steps conditions k).test (condition_at steps conditions k)
 
-    -- the test, then the condition
-    pub infer-written-step : (q : Condition ℕ) (e gone f : Env) (kept : NameSet) → q ≡ here.condition → gone ≡ reached (types_of s) (written_of axis) here.test e
-        → set_in s kept ≡ gone.context → f ≡ narrow (types_of s) (keeps_in s kept q) gone → f ≡ infer (types_of s) (keeps_name (types_of s)) here (before_last (types_of s) (axis_at axes k) e)
-    infer-written-step q e gone f kept same g c d =
-        d ∙ ap (λ (x : Condition ℕ). narrowed x gone (set_in s kept)) same ∙ ap (narrowed here.condition gone) c
-        ∙ ap (λ (y : Env). narrowed here.condition y y.context) (g ∙ ap (λ (a : ℕ). reached (types_of s) (written_of a) here.test e) number)
-      where
-        narrowed : Condition ℕ → Env → Names → Env
-        narrowed x y l = narrow (types_of s) (λ a. keeps_name (types_of s) (cut_to (types_of s) (a ∷ []) l) x a) y
+    abbrev narrowed : Env → Env
+    narrowed gone = narrow (types_of s) (λ a. keeps_name (types_of s) (cut_to (types_of s) (a ∷ []) gone.context) here.condition a) gone
 
-    pub needs-written-step : (n : ℕ) → (n ≡ 0 → ⊥) → (e f : Env) (want : NameSet) (later r : Needs)
-        → f ≡ infer (types_of s) (keeps_name (types_of s)) here (before_last (types_of s) (axis_at axes k) e)
-        → NeedsOf s (keeps_name (types_of s)) (wants_names (types_of s)) (expand_from unconditional (suc i) (steps_in axes tests conditions (n - 1) (k + 1))) f later
+    pub infer-written-step : (e gone f : Env) → gone ≡ reached (types_of s) (step_at steps conditions k).axis here.test e → f ≡ narrowed gone
+        → f ≡ infer (types_of s) (keeps_name (types_of s)) here (before_last (types_of s) (step_at steps conditions k).axis e)
+    infer-written-step e gone f g d = d ∙ ap narrowed g
+
+    pub needs-written-step : (n : ℕ) → (n ≡ 0 → ⊥) → (e gone f : Env) (want : NameSet) (later r : Needs)
+        → gone ≡ reached (types_of s) (step_at steps conditions k).axis here.test e → f ≡ narrowed gone
+        → NeedsOf s (keeps_name (types_of s)) (wants_names (types_of s)) (expand_from unconditional (suc i) (steps_in steps conditions (n - 1) (k + 1))) f later
         → set_in s want ≡ within (names_of s) (gather (λ a. wants_names (types_of s) (cut_to (types_of s) (a ∷ []) f.context) here.condition a) (set_in s later.complete))
-        → WrittenNeeds s (written_of axis) e want later r
-        → NeedsOf s (keeps_name (types_of s)) (wants_names (types_of s)) (expand_from unconditional i (steps_in axes tests conditions n k)) e r
-    needs-written-step n left e f want later r d m w x =
+        → WrittenNeeds s (step_at steps conditions k).axis e want later r
+        → NeedsOf s (keeps_name (types_of s)) (wants_names (types_of s)) (expand_from unconditional i (steps_in steps conditions n k)) e r
+    needs-written-step n left e gone f want later r g d m w x =
         subst (λ (ps : List (WrittenStep ℕ (Condition ℕ))). NeedsOf s (keeps_name (types_of s)) (wants_names (types_of s)) (expand_from unconditional i ps) e r)
-        (sym (steps_next axes tests conditions n k left))
-        (written-needs s unconditional (keeps_name (types_of s)) (λ l a. refl) (wants_names (types_of s)) (λ l a. refl) i (axis_at axes k) here.test here.condition
-        (expand_from unconditional (suc i) (steps_in axes tests conditions (n - 1) (k + 1))) e f want later r d m w
-        (subst (λ (a : ℕ). WrittenNeeds s (written_of a) e want later r) number x))
+        (sym (steps_next steps conditions n k left))
+        (written-needs s unconditional (keeps_name (types_of s)) (λ l a. refl) (wants_names (types_of s)) (λ l a. refl) i (step_at steps conditions k).axis here.test here.condition
+        (expand_from unconditional (suc i) (steps_in steps conditions (n - 1) (k + 1))) e f want later r (infer-written-step e gone f g d) m w x)
+
+  -- ---- the paths before the path n from i on, and it
+  module _ (paths : List ℕ) where
+    bundle-last : (n i : ℕ) → bundle_in steps conditions paths (suc n) i ≡ bundle_in steps conditions paths n i ++ (path_at steps conditions paths (i + n) ∷ [])
+    unfolding bundle_in
+    bundle-last zero i = ap (λ (j : ℕ). path_at steps conditions paths j ∷ []) (omega arith)
+    bundle-last (suc n) i =
+        ap (λ (l : List (LocationPath ℕ)). path_at steps conditions paths i ∷ l) (bundle-last n (suc i)
+        ∙ ap (λ (j : ℕ). bundle_in steps conditions paths n (suc i) ++ (path_at steps conditions paths j ∷ [])) (omega arith))
+
+    gather-last : (f : LocationPath ℕ → Names) (ps : List (LocationPath ℕ)) (p : LocationPath ℕ) → gather f (ps ++ (p ∷ [])) ≡ gather f ps ++ f p
+    gather-last f [] p = append-nil (f p)
+    gather-last f (q ∷ ps) p = ap (λ (l : Names). f q ++ l) (gather-last f ps p) ∙ sym (append_assoc (f q) (gather f ps) (f p))
+
+    -- what the first i paths need
+    abbrev pub needed_before : Schema → ℕ → Names
+    needed_before s i = gather (needed_by_path (types_of s)) (bundle_in steps conditions paths i 0)
+
+    pub needed-none : (s : Schema) → needed_before s 0 ≡ []
+    unfolding bundle_in
+    needed-none s = refl
+
+    pub needed-next : (s : Schema) (i : ℕ) → needed_before s (i + 1) ≡ needed_before s i ++ needed_by_path (types_of s) (path_at steps conditions paths i)
+    needed-next s i =
+        let f = needed_by_path (types_of s) in
+        let before = bundle_in steps conditions paths i 0 in
+        ap (λ (n : ℕ). gather f (bundle_in steps conditions paths n 0)) (add-one i)
+        ∙ ap (gather f) (bundle-last i 0 ∙ ap (λ (j : ℕ). before ++ (path_at steps conditions paths j ∷ [])) (zero-add i)) ∙ gather-last f before (path_at steps conditions paths i)
+
+    pub needed-all : (s : Schema) (n : ℕ) → within (names_of s) (needed_before s n) ≡ needed (types_of s) (bundle_in steps conditions paths n 0)
+    unfolding needed types_of
+    needed-all s n = refl

@@ -2,12 +2,13 @@
 use Rattle.std.specs.Prelude.{Bool, true, false, ◌&&◌, ◌||◌, List, [], ◌∷◌, ◌≡◌, refl, ℕ, ◌<◌, T, ltb, length, get_or}
 use Rattle.std.proofs.Math.Bool.{and-true}
 use Rattle.std.proofs.Common.{sym, ap, ap₂, subst, ◌∙◌, arith, lt-ltb, ltb-true, ltb-false}
-use Rattle.inference.specs.type_steps.Relations.{RelationsOf}
 use Rattle.names.specs.Sets.{member, nothing, set_in}
 use Rattle.names.specs.closures.Relations.{relates, NonePast}
 use Rattle.names.specs.closures.Schemas.{holds-none-past}
 use Rattle.names.specs.codes.Laws.{single-list}
 use Rattle.names.specs.declared.NameSet.{NameSet}
+use Rattle.names.specs.declared.relations.Relations.{Relations}
+use Rattle.names.specs.relations.Relations.{RelationsOf}
 use Rattle.needed_names.specs.reachable_names.Reached.{HeldInside}
 use Rattle.schema_laws.specs.Names.{same-equal, same-name, element-in}
 use Rattle.schema_spec.specs.Names.{Name, element, same_name}
@@ -35,15 +36,15 @@ module _ (images : List NameSet) (m : NameSet) where
           let none : relates images a b ≡ false = past a b l in
           ap (λ (s : NameSet). member s b) (p.kept a l) ∙ none ∙ sym (ap (λ (c : Bool). c && (member m (element a) && member m b)) none)
 
-module _ (s : Schema) (held below r : List NameSet) (count : ℕ) (m : NameSet) (c : RelationsOf s held below count)
-    (h : NonePast count held → (a : ℕ) (b : Name) → relates r a b ≡ (relates held a b && (member m (element a) && member m b))) where
-  past : NonePast count held
-  past = holds-none-past s count c.counted held c.holding
+module _ (s : Schema) (t : Relations) (r : List NameSet) (m : NameSet) (c : RelationsOf s t)
+    (h : NonePast t.count t.«holds» → (a : ℕ) (b : Name) → relates r a b ≡ (relates t.«holds» a b && (member m (element a) && member m b))) where
+  past : NonePast t.count t.«holds»
+  past = holds-none-past s t.count c.counted t.«holds» c.holding
 
   pub inside-holds : HeldInside s m r
   inside-holds a b = h past a b ∙ ap (λ (x : Bool). x && (member m (element a) && member m b)) (c.holding a b)
 
-  pub inside-none-past : NonePast count r
+  pub inside-none-past : NonePast t.count r
   inside-none-past a b l = h past a b ∙ ap (λ (x : Bool). x && (member m (element a) && member m b)) (past a b l)
 
 same_name-sym : (a b : Name) → same_name a b ≡ same_name b a

@@ -1,18 +1,19 @@
 -- A table answered in the first cells of columns of zeros is one answered for so many row structs.
-use Rattle.std.specs.Prelude.{Bool, true, false, cond, List, [], ◌∷◌, ◌++◌, map, ◌≡◌, refl, ℕ, zero, suc, ◌≤◌, ltb, get_or, take, drop, replicate}
-use Rattle.std.proofs.Math.Path.{sym, ap, subst}
-use Rattle.std.proofs.Common.{ap₂, ◌∙◌, arith, le-ltb, ltb-true, ltb-false, eq-eqb, length-take-le}
+use Rattle.std.specs.Prelude.{Bool, true, false, Result, Err, List, [], ◌∷◌, ◌++◌, map, ◌≡◌, refl, ℕ, zero, suc, ◌≤◌, ltb, get_or, take, drop, replicate}
+use Rattle.std.proofs.Math.Path.{sym, ap}
+use Rattle.std.proofs.Common.{ap₂, ◌∙◌, arith, lt-ltb, le-ltb, ltb-true, ltb-false, eq-eqb, length-take-le}
 use Rattle.std.proofs.Math.ListN.{length, get_or-eq_default}
 use Rattle.std.proofs.lemmas.List.{length-map, length-replicate}
 use Rattle.cells.specs.lent.Columns.{same-columns}
-use Rattle.cells.specs.declared.verdicts.Verdict.{Verdict}
-use Rattle.cells.specs.verdicts.Verdicts.{refused_by, verdict}
+use Rattle.cells.specs.verdicts.Verdicts.{verdict}
 use Rattle.library_spec.specs.Calls.{rows_after, columns_after, structs_after, in_columns}
-use Rattle.row_structs.specs.Structs.{empty_cells, columns_in, cell_of, AnsweredFor}
-use Rattle.row_structs.specs.declared.RowColumns.{RowColumns}
+use Rattle.row_structs.specs.Structs.{empty_cells, cell_count, zeros, empty_columns, cell_of, AnsweredFor}
 use Rattle.schema_spec.specs.Names.{code_of}
 use Rattle.table_spec.specs.Columns.{Columns, Sizes, all_of_size, equal_sizes, sizes_of, columns_of, cells_at, cells_from, columns}
 use Rattle.table_spec.specs.Rows.{Row, Cells}
+use Rattle.text.specs.declared.refusals.Reason.TheVariants.{BadRecord}
+use Rattle.text.specs.declared.refusals.Refusal.{Refusal}
+use Rattle.text.specs.refusals.Refusals.{refusal}
 use Rattle.text_laws.specs.Cells.{padded-zeros}
 use Rattle.text_spec.specs.Calls.{in_room}
 use Rattle.text_spec.specs.Cells.{padded}
@@ -29,16 +30,9 @@ pub record Fitting (o : Outcome (List Row)) (n : ℕ) : Type 0 where
   pub room : length (rows_in o) ≤ n
   pub few : length (rows_in o) ≤ max_nodes
 
--- a column of zeros, and its first cells
-abbrev pub zeros : ℕ → List ℕ
-zeros n = replicate n 0
-
+-- the first cells of a column of zeros
 abbrev pub zeros_in : ℕ → ℕ → List ℕ
 zeros_in n k = take k (zeros n)
-
--- how many cells a column has
-abbrev pub cell_count : ℕ
-cell_count = 65536
 
 -- the sizes of the first cells of columns of zeros
 abbrev pub part_sizes : ℕ → Sizes
@@ -50,19 +44,7 @@ front k xs = xs ++ drop k (zeros cell_count)
 
 -- ---- the cell of a row
 pub cell-low : (n : ℕ) → cell_of n ≤ max_nodes
-cell-low n = by (ltb n max_nodes) refl
-  where
-    by : (b : Bool) → ltb n max_nodes ≡ b → cond b n max_nodes ≤ max_nodes
-    by true e = let l = ltb-true n max_nodes e in omega arith
-    by false e = omega arith
-
--- what fits the structs and a table fits the cells up to that one
-cell_room : (n k : ℕ) → k ≤ n → k ≤ max_nodes → k ≤ cell_of n
-cell_room n k l h = by (ltb n max_nodes)
-  where
-    by : (b : Bool) → k ≤ cond b n max_nodes
-    by true = l
-    by false = h
+cell-low n = omega arith
 
 -- ---- 18
 -- rows that a table can have, in columns for so many structs
@@ -76,13 +58,11 @@ module _ (n : ℕ) (rows : List Row) (few : length rows ≤ max_nodes) where
 
   -- the structs past those of a table make no difference
   pub room-same : in_columns (all_of_size (cell_of n)) rows ≡ in_columns (all_of_size n) rows
-  room-same = ap (λ (b : Bool). in_room b rows) (by (ltb n max_nodes) refl)
+  room-same = ap (λ (b : Bool). in_room b rows) (by (ltb n (length rows)) refl)
     where
-      by : (b : Bool) → ltb n max_nodes ≡ b → ltb (cond b n max_nodes) (length rows) ≡ ltb n (length rows)
-      by true e = refl
-      by false e =
-          let l = ltb-false n max_nodes e in
-          le-ltb max_nodes (length rows) few ∙ sym (le-ltb n (length rows) (omega arith))
+      by : (b : Bool) → ltb n (length rows) ≡ b → ltb (cell_of n) (length rows) ≡ b
+      by true e = let l = ltb-true n (length rows) e in lt-ltb (cell_of n) (length rows) (omega arith)
+      by false e = let l = ltb-false n (length rows) e in le-ltb (cell_of n) (length rows) (omega arith)
 
 -- columns of one size pass their test
 pub equal-sizes : (n : ℕ) → equal_sizes (all_of_size n) ≡ true
@@ -108,7 +88,7 @@ padded-front (suc k) (suc n) (x ∷ xs) h l = ap (λ (r : List ℕ). x ∷ r) (p
 
 -- the cells up to a row's are within a column of zeros, and so many
 pub cell-inside : (k n : ℕ) → k ≡ cell_of n → k ≤ cell_count
-cell-inside k n e = omega (arith, cell-low n)
+cell-inside k n e = omega (arith, e)
 
 zeros-length : (n k : ℕ) → k ≤ n → k ≡ length (zeros_in n k)
 zeros-length n k l = sym (length-take-le k (zeros n) (omega (arith, length-replicate {A = ℕ} n 0)))
@@ -154,8 +134,8 @@ from-same c d h i zero = refl
 from-same c d h i (suc n) = ap₂ (λ (x : Cells) (l : List Cells). x ∷ l) (h i) (from-same c d h (suc i) n)
 
 -- ---- a table that is answered
-module _ (o : Outcome (List Row)) (n : ℕ) (f : Fitting o n) (v : Verdict) (answer : v ≡ verdict o) where
-  in_cells : (m : ℕ) → max_nodes ≤ m → (c : RowColumns) → columns_in c ≡ columns_of (all_of_size m) (rows_in o) → AnsweredFor o n (record { verdict = v; columns = c })
+module _ (o : Outcome (List Row)) (n : ℕ) (f : Fitting o n) (v : Result ℕ Refusal) (answer : v ≡ verdict o) where
+  in_cells : (m : ℕ) → max_nodes ≤ m → (c : Columns) → c ≡ columns_of (all_of_size m) (rows_in o) → AnsweredFor o n v c
   unfolding structs_after columns_after
   in_cells m l c e =
       let enough : length (rows_in o) ≤ m = omega (arith, f.few) in
@@ -169,22 +149,21 @@ module _ (o : Outcome (List Row)) (n : ℕ) (f : Fitting o n) (v : Verdict) (ans
 
   -- in the first cells, as many as there are structs and rows in a table
   pub in-front : (k : ℕ) → k ≡ cell_of n → (numbers names parents starts lengths decoded : List ℕ) → columns numbers names parents starts lengths decoded ≡ columns_after (all_of_size k) (λ rows. rows) o
-      → AnsweredFor o n
-      (record { verdict = v; columns = record { numbers = front k numbers; names = front k names; parents = front k parents; starts = front k starts; lengths = front k lengths; decoded = front k decoded } })
+      → AnsweredFor o n v (columns (front k numbers) (front k names) (front k parents) (front k starts) (front k lengths) (front k decoded))
   unfolding columns_after
   in-front k s numbers names parents starts lengths decoded e =
       let rows = rows_in o in
-      let l : length rows ≤ k = subst (λ (x : ℕ). length rows ≤ x) (sym s) (cell_room n (length rows) f.room f.few) in
-      let h : k ≤ cell_count = omega (arith, cell-low n) in
+      let room = f.room in
+      let few = f.few in
+      let l : length rows ≤ k = omega (arith, s) in
+      let h : k ≤ cell_count = omega (arith, s) in
       let at : (g : Row → ℕ) → front k (padded k (map g rows)) ≡ padded cell_count (map g rows) = λ g. padded-front k cell_count (map g rows) (mapped rows g k l) h in
       in_cells cell_count (omega arith) _
       (ap (λ (x : Columns). columns (front k x.numbers) (front k x.names) (front k x.parents) (front k x.starts) (front k x.lengths) (front k x.decoded)) e
       ∙ same-columns (at (λ r. r.number)) (at (λ r. code_of r.name)) (at (λ r. r.parent)) (at (λ r. r.start)) (at (λ r. r.size)) (at (λ r. r.decoded)))
 
 -- refusal 1: zeros alone
-pub in-zeros : (n : ℕ) (v : Verdict) → v ≡ refused_by 1 0
-    → AnsweredFor (refused (at bad_record 0)) n
-    (record { verdict = v; columns = record { numbers = zeros cell_count; names = zeros cell_count; parents = zeros cell_count; starts = zeros cell_count; lengths = zeros cell_count; decoded = zeros cell_count } })
-in-zeros n v e =
+pub in-zeros : (n : ℕ) → AnsweredFor (refused (at bad_record 0)) n (Err (refusal BadRecord 0)) empty_columns
+in-zeros n =
     let clear = sym (padded-zeros cell_count) in
-    in_cells (refused (at bad_record 0)) n (record { room = omega arith; few = omega arith }) v e cell_count (omega arith) _ (same-columns clear clear clear clear clear clear)
+    in_cells (refused (at bad_record 0)) n (record { room = omega arith; few = omega arith }) (Err (refusal BadRecord 0)) refl cell_count (omega arith) _ (same-columns clear clear clear clear clear clear)

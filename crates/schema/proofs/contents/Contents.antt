@@ -2,6 +2,7 @@
 use mathlib.Core.Bool.{Bool, true, false}
 use mathlib.Core.List.{List, []}
 use mathlib.Core.Path.{◌≡◌, refl, sym, ap, subst, ◌∙◌}
+use Rattle.std.specs.Prelude.{Result, Ok, Err}
 use Prim.Native.Nat.{ℕ, ◌+◌, ◌-◌, ◌≤◌, ◌<◌}
 use native.Mathlib.Omega.{arith}
 use borrow.Author.Tests.{ltb-true, ltb-false, ne_eqb}
@@ -12,18 +13,13 @@ use Rattle.models.specs.declared.Content.TheVariants.{Empty, Pcdata, Children}
 use Rattle.schema_spec.specs.Declarations.{Use}
 use Rattle.schema_spec.specs.Machine.{fresh, Head, State, dead, before_content, in_empty, after_open, in_pcdata, after_pcdata, after_content, expecting, past, beginning, step, schema_machine, from}
 use Rattle.schema_spec.specs.Models.{Particle, Content, empty, pcdata, children, uses_in}
-use Rattle.schema.specs.contents.Contents.{PassesAs, ReadsPcdata, ContentBuilt, built-empty, built-pcdata, built-children, ContentAs, ReadsContent, ended, nameless_of}
+use Rattle.schema.specs.contents.Contents.{ReadsPcdata, ContentBuilt, built-empty, built-pcdata, built-children, ContentAs, ReadsContent, ended}
 use Rattle.schema.specs.declared.contents.ContentEnd.{ContentEnd}
-use Rattle.schema.specs.declared.contents.ContentOutcome.{ContentOutcome}
-use Rattle.schema.specs.declared.contents.ContentOutcome.TheVariants.{Past as ContentPast, Fail as ContentFail}
+use Rattle.schema.specs.declared.parsing.Parser.{Parser}
 use Rattle.schema.specs.declared.particles.Part.{Part}
-use Rattle.schema.specs.declared.particles.PartOutcome.{PartOutcome}
-use Rattle.schema.specs.declared.particles.PartOutcome.TheVariants.{Past as PartPast, Fail as PartFail}
 use Rattle.schema.specs.particles.Automata.{Built}
-use Rattle.schema.specs.particles.ReadingLaws.{noted-none, noted-as, reading-from, reading-to, part-read, indicated-reading}
-use Rattle.schema.specs.particles.Readings.{Fails, AroundAt, ReadsGroup, at-closed, PartIndicated}
-use Rattle.text.specs.declared.scanning.Read.{Read}
-use Rattle.text.specs.declared.scanning.Read.TheVariants.{Past, Fail}
+use Rattle.schema.specs.particles.ReadingLaws.{noted-none, noted-as, reading-from, reading-to, kept-same, kept-then, part-read, indicated-reading}
+use Rattle.schema.specs.particles.Readings.{Fails, Kept, AroundAt, ReadsGroup, at-closed, PartIndicated}
 use Rattle.text.specs.scanning.OutcomeLaws.{skipped-same, spelt-end, spelt-past, spelt-fail}
 use Rattle.text.specs.scanning.Outcomes.{Skipped, Spelt}
 use Rattle.text_laws.specs.Scans.{step-at, dead-at, same_at, at-end, Keyword}
@@ -50,34 +46,33 @@ module _ (h : Head) (k b : ℕ) where
   unfolding step
   after-pcdata-not e g = cond_no (after_pcdata h) _ e ∙ cond_no (after_content pcdata h) dead (ne_eqb b 0x29 g)
 
-module _ {s : List ℕ} {at : ℕ} {r : Read} (W : Spelt (bytes "PCDATA") s at r) where
-  pub pcdata-fails : {j : ℕ} → r ≡ Fail j → ReadsPcdata s at (Fail j)
+module _ {s : List ℕ} {at : ℕ} {r : Result ℕ ℕ} (W : Spelt (bytes "PCDATA") s at r) where
+  pub pcdata-fails : {j : ℕ} → r ≡ Err j → ReadsPcdata s at (Err j)
   pcdata-fails u = record { says = λ h. spelt-fail W (pcdata-keyword h) u }
 
-  module _ {j i : ℕ} (u : r ≡ Past j) (K : Skipped s j i) where
+  module _ {j i : ℕ} (u : r ≡ Ok j) (K : Skipped s j i) where
     pcdata-to : (h : Head) → from (in_pcdata (bytes "PCDATA") h) s at ≡ from (after_pcdata h) s i
     pcdata-to h = spelt-past W (pcdata-keyword h) u ∙ skipped-same schema_machine K (after_pcdata h) refl (after-pcdata-blank h)
 
-    pub pcdata-end : length s ≤ i → ReadsPcdata s at (Fail i)
+    pub pcdata-end : length s ≤ i → ReadsPcdata s at (Err i)
     pcdata-end l = record { says = λ h. pcdata-to h ∙ at-end schema_machine s i (after_pcdata h) l }
 
-    pub pcdata-close : i < length s → byte_at s i ≡ 0x29 → ReadsPcdata s at (Past (i + 1))
+    pub pcdata-close : i < length s → byte_at s i ≡ 0x29 → ReadsPcdata s at (Ok (i + 1))
     pcdata-close l e =
         let a = (spelt-end W u).0 in
         let b = K.low in
         record { says = (omega arith, omega arith, λ h. pcdata-to h ∙ step-at schema_machine s i (after_pcdata h) (after_content pcdata h) l (after-pcdata-close h i (byte_at s i) e) refl) }
 
-    pub pcdata-not : i < length s → (byte_at s i ≡ 0x29 → ⊥) → ReadsPcdata s at (Fail i)
+    pub pcdata-not : i < length s → (byte_at s i ≡ 0x29 → ⊥) → ReadsPcdata s at (Err i)
     pcdata-not l e = record { says = λ h. pcdata-to h ∙ dead-at schema_machine s i (after_pcdata h) dead l (after-pcdata-not h i (byte_at s i) (K.stop l) e) refl }
 
--- ---- a content without names, of which `before` and the end are known
-module _ (before : Head → State) (s : List ℕ) (at n : ℕ) (o t : List ℕ) (c : Content Use) (k : Contents) (none : uses_in c ≡ []) (made : ContentBuilt t t c k) (l : n ≤ at) where
-  nameless-content : (r : Read) → PassesAs before (after_content c) (λ j. j ≤ length s) s at r → ContentAs before after_content s at n o o t t (nameless_of r n k)
-  nameless-content (Past j) P =
-      let a = P.0 in
+-- ---- a content without names, of which the start and the end are known
+module _ {before : Head → State} {at j : ℕ} (old : Parser) (c : Content Use) (k : Contents) (none : uses_in c ≡ []) (made : ContentBuilt old.predecessors.now old.predecessors.now c k) (l : old.count ≤ at) where
+  nameless-content : at < j → j ≤ length old.text.now → ((h : Head) → from (before h) old.text.now at ≡ from (after_content c h) old.text.now j)
+      → ReadsContent before after_content at old old (Ok (record { at = j; content = k }))
+  nameless-content f g same =
       let h : at ≤ j = omega arith in
-      record { high = P.1; few = omega arith; tree = c; noted = noted-as (noted-none h) refl (sym none); made = made; same = P.2 }
-  nameless-content (Fail j) P = P
+      record { kept = kept-same; says = record { high = g; few = omega arith; tree = c; noted = noted-as (noted-none h) refl (sym none); made = made; same = same } }
 
 -- ---- models
 module _ (h : Head) (k b : ℕ) where
@@ -106,7 +101,10 @@ past-content s i p h = go (ltb i (length s)) refl
     go false e =
         at-end schema_machine s i (past p [] h) (ltb-false i (length s) e) ∙ sym (at-end schema_machine s i (after_content (children p) h) (ltb-false i (length s) e))
 
-module _ {s : List ℕ} {at i : ℕ} (K : Skipped s at i) where
+module _ (old : Parser) {at i : ℕ} (K : Skipped old.text.now at i) where
+  abbrev s : List ℕ
+  s = old.text.now
+
   open-to : (h : Head) → from (after_open h) s at ≡ from (after_open h) s i
   open-to h = skipped-same schema_machine K (after_open h) refl (open-blank h)
 
@@ -114,47 +112,50 @@ module _ {s : List ℕ} {at i : ℕ} (K : Skipped s at i) where
   model-end l h = open-to h ∙ at-end schema_machine s i (after_open h) l
 
   module _ (l : i < length s) where
-    pub model-pcdata : (n : ℕ) (o t : List ℕ) {r : Read} {q : ContentOutcome} → byte_at s i ≡ 0x23 → n ≤ at → ReadsPcdata s (i + 1) r → q ≡ nameless_of r n Pcdata
-        → ReadsContent after_open after_content s at n o o t t q
-    model-pcdata n o t {r} {q} e m P u =
-        record {
-          says =
-              subst (ContentAs after_open after_content s at n o o t t) (sym u)
-              (nameless-content after_open s at n o t pcdata Pcdata refl (built-pcdata refl) m r (go r P.says));
-        }
-      where
-        into : (h : Head) → from (after_open h) s at ≡ from (in_pcdata (bytes "PCDATA") h) s (i + 1)
-        into h = open-to h ∙ step-at schema_machine s i (after_open h) (in_pcdata (bytes "PCDATA") h) l (open-hash h i (byte_at s i) e) refl
+    module _ (e : byte_at s i ≡ 0x23) where
+      into-pcdata : (h : Head) → from (after_open h) s at ≡ from (in_pcdata (bytes "PCDATA") h) s (i + 1)
+      into-pcdata h = open-to h ∙ step-at schema_machine s i (after_open h) (in_pcdata (bytes "PCDATA") h) l (open-hash h i (byte_at s i) e) refl
 
-        go : (r : Read) → PassesAs (in_pcdata (bytes "PCDATA")) (after_content pcdata) (λ j. j ≤ length s) s (i + 1) r → PassesAs after_open (after_content pcdata) (λ j. j ≤ length s) s at r
-        go (Past j) P =
-            let a = P.0 in
-            let b = K.low in
-            (omega arith, P.1, λ h. into h ∙ P.2 h)
-        go (Fail j) P = λ h. into h ∙ P h
+      pub model-pcdata : {j : ℕ} → old.count ≤ at → ReadsPcdata s (i + 1) (Ok j)
+          → ReadsContent after_open after_content at old old (Ok (record { at = j; content = Pcdata }))
+      model-pcdata m P =
+          let a = P.says.0 in
+          let b = K.low in
+          nameless-content old pcdata Pcdata refl (built-pcdata refl) m (omega arith) P.says.1 (λ h. into-pcdata h ∙ P.says.2 h)
 
-    module _ {n : ℕ} {o o' t t' : List ℕ} {r : PartOutcome} (e : byte_at s i ≡ 0x23 → ⊥) (G : ReadsGroup s i 0 n n o o' t t' r) where
+      pub model-pcdata-fails : {j : ℕ} → ReadsPcdata s (i + 1) (Err j) → Fails after_open s at j
+      model-pcdata-fails P h = into-pcdata h ∙ P.says h
+
+    -- the model's positions are counted from here on
+    abbrev begun : Parser
+    begun = record old { start = old.count }
+
+    module _ {mid : Parser} {r : Result Part ℕ} (e : byte_at s i ≡ 0x23 → ⊥) (G : ReadsGroup i 0 begun mid r) where
+      pub model-kept : Kept old mid
+      model-kept = record { text = G.kept.text; uses = G.kept.uses; predecessors = G.kept.predecessors }
+
       abbrev alone : Head → AroundAt 0
       alone h = (record { frames = []; head = h }, refl)
 
       into-group : (h : Head) → from (after_open h) s at ≡ from (expecting fresh [] h) s i
       into-group h = open-to h ∙ same_at schema_machine s i (after_open h) (expecting fresh [] h) l (open-other h i (byte_at s i) (K.stop l) e)
 
-      pub model-fails : {j : ℕ} → r ≡ PartFail j → Fails after_open s at j
+      pub model-fails : {j : ℕ} → r ≡ Err j → Fails after_open s at j
       model-fails u h = into-group h ∙ part-read G u (alone h)
 
-      pub model-high : (p : Part) → r ≡ PartPast p → p.at ≤ length s
-      model-high p u = (part-read G u).high
+      pub model-high : (p : Part) → r ≡ Ok p → p.at ≤ length mid.text.now
+      model-high p u = subst (λ (l : List ℕ). p.at ≤ length l) (sym G.kept.text) (part-read G u).high
 
-      pub model-reads : {p y : Part} {t'' : List ℕ} → r ≡ PartPast p → PartIndicated s p t' t'' y
-          → ReadsContent after_open after_content s at n o o' t t'' (ContentPast (record { at = y.at; n = y.n; content = Children y.ends }))
-      model-reads {p} {y} {t''} u Q =
-          let R = indicated-reading (reading-from (part-read G u) at after_open alone K.low into-group) (λ h. (alone h).0) Q (λ h. at-closed) in
-          let z : n - n ≡ 0 = omega arith in
+      pub model-reads : {p y : Part} {new : Parser} → r ≡ Ok p → PartIndicated p mid new y
+          → ReadsContent after_open after_content at old new (Ok (record { at = y.at; content = Children y.ends }))
+      model-reads {p} {y} {new} u Q =
+          let R = indicated-reading mid (reading-from (part-read G u) at after_open alone K.low into-group) (λ h. (alone h).0) G.kept.text Q (λ h. at-closed) in
+          let z : old.count - old.count ≡ 0 = omega arith in
           record {
+            kept = kept-then model-kept Q.only.kept;
             says =
-                reading-to R after_content uses_in (λ c. ContentBuilt t t'' c (Children y.ends)) y.at y.n (omega arith) R.high refl (children R.tree) refl
-                (built-children (subst (λ (m : ℕ). Built m t t'' R.tree y.ends) z R.made)) (past-content s y.at R.tree);
+                reading-to R after_content uses_in (λ c. ContentBuilt old.predecessors.now new.predecessors.now c (Children y.ends)) y.at new.count (omega arith) R.high refl (children R.tree) refl
+                (built-children (subst (λ (m : ℕ). Built m old.predecessors.now new.predecessors.now R.tree y.ends) z R.made)) (past-content s y.at R.tree);
           }
 
 -- ---- contents
@@ -175,43 +176,41 @@ module _ (h : Head) (k b : ℕ) where
   unfolding step
   content-dead e f g = cond_no (before_content h) _ e ∙ cond_no (after_open h) _ (ne_eqb b 0x28 f) ∙ cond_no (in_empty (bytes "MPTY") h) dead (ne_eqb b 0x45 g)
 
-module _ (s : List ℕ) (at : ℕ) where
-  pub content-end : length s ≤ at → Fails before_content s at at
-  content-end l h = at-end schema_machine s at (before_content h) l
+module _ (old : Parser) (at : ℕ) where
+  abbrev text : List ℕ
+  text = old.text.now
 
-  module _ (l : at < length s) where
-    pub content-model : {n : ℕ} {o o' t t' : List ℕ} {r : ContentOutcome} → byte_at s at ≡ 0x28 → ReadsContent after_open after_content s (at + 1) n o o' t t' r
-        → ReadsContent before_content after_content s at n o o' t t' r
-    content-model {n} {o} {o'} {t} {t'} {r} e C = record { says = go r C.says }
+  pub content-end : length text ≤ at → Fails before_content text at at
+  content-end l h = at-end schema_machine text at (before_content h) l
+
+  module _ (l : at < length text) where
+    pub content-model : {new : Parser} {r : Result ContentEnd ℕ} → byte_at text at ≡ 0x28 → ReadsContent after_open after_content (at + 1) old new r
+        → ReadsContent before_content after_content at old new r
+    content-model {new} {r} e C = record { kept = C.kept; says = go r C.says }
       where
-        into : (h : Head) → from (before_content h) s at ≡ from (after_open h) s (at + 1)
-        into h = step-at schema_machine s at (before_content h) (after_open h) l (content-opens h at (byte_at s at) e) refl
+        into : (h : Head) → from (before_content h) text at ≡ from (after_open h) text (at + 1)
+        into h = step-at schema_machine text at (before_content h) (after_open h) l (content-opens h at (byte_at text at) e) refl
 
-        go : (r : ContentOutcome) → ContentAs after_open after_content s (at + 1) n o o' t t' r → ContentAs before_content after_content s at n o o' t t' r
-        go (ContentPast p) R = reading-from R at before_content (λ h. h) (omega arith) into
-        go (ContentFail j) F = λ h. into h ∙ F h
+        go : (r : Result ContentEnd ℕ) → ContentAs after_open after_content (at + 1) old new r → ContentAs before_content after_content at old new r
+        go (Ok p) R = reading-from R at before_content (λ h. h) (omega arith) into
+        go (Err j) F = λ h. into h ∙ F h
 
-    pub content-empty : (n : ℕ) (o t : List ℕ) {r : Read} {q : ContentOutcome} → byte_at s at ≡ 0x45 → n ≤ at → Spelt (bytes "MPTY") s (at + 1) r → q ≡ nameless_of r n Empty
-        → ReadsContent before_content after_content s at n o o t t q
-    content-empty n o t {r} {q} e m W u =
-        record {
-          says =
-              subst (ContentAs before_content after_content s at n o o t t) (sym u)
-              (nameless-content before_content s at n o t empty Empty refl (built-empty refl) m r (go r refl));
-        }
-      where
-        into : (h : Head) → from (before_content h) s at ≡ from (in_empty (bytes "MPTY") h) s (at + 1)
-        into h = step-at schema_machine s at (before_content h) (in_empty (bytes "MPTY") h) l (content-keyword h at (byte_at s at) e) refl
+    module _ (e : byte_at text at ≡ 0x45) where
+      into-empty : (h : Head) → from (before_content h) text at ≡ from (in_empty (bytes "MPTY") h) text (at + 1)
+      into-empty h = step-at schema_machine text at (before_content h) (in_empty (bytes "MPTY") h) l (content-keyword h at (byte_at text at) e) refl
 
-        go : (a : Read) → r ≡ a → PassesAs before_content (after_content empty) (λ j. j ≤ length s) s at a
-        go (Past j) v =
-            let f = spelt-end W v in
-            let b = f.0 in
-            (omega arith, f.1, λ h. into h ∙ spelt-past W (empty-keyword h) v)
-        go (Fail j) v = λ h. into h ∙ spelt-fail W (empty-keyword h) v
+      pub content-empty : {j : ℕ} → old.count ≤ at → Spelt (bytes "MPTY") text (at + 1) (Ok j)
+          → ReadsContent before_content after_content at old old (Ok (record { at = j; content = Empty }))
+      content-empty m W =
+          let f = spelt-end W refl in
+          let b = f.0 in
+          nameless-content old empty Empty refl (built-empty refl) m (omega arith) f.1 (λ h. into-empty h ∙ spelt-past W (empty-keyword h) refl)
 
-    pub content-not : is_blank (byte_at s at) ≡ false → (byte_at s at ≡ 0x28 → ⊥) → (byte_at s at ≡ 0x45 → ⊥) → Fails before_content s at at
-    content-not d e f h = dead-at schema_machine s at (before_content h) dead l (content-dead h at (byte_at s at) d e f) refl
+      pub content-empty-fails : {j : ℕ} → Spelt (bytes "MPTY") text (at + 1) (Err j) → Fails before_content text at j
+      content-empty-fails W h = into-empty h ∙ spelt-fail W (empty-keyword h) refl
+
+    pub content-not : is_blank (byte_at text at) ≡ false → (byte_at text at ≡ 0x28 → ⊥) → (byte_at text at ≡ 0x45 → ⊥) → Fails before_content text at at
+    content-not d e f h = dead-at schema_machine text at (before_content h) dead l (content-dead h at (byte_at text at) d e f) refl
 
 -- ---- the end of a declaration
 module _ (c : Content Use) (h : Head) (k b : ℕ) where
@@ -227,34 +226,58 @@ module _ (c : Content Use) (h : Head) (k b : ℕ) where
   unfolding step
   complete-not e g = cond_no (after_content c h) _ e ∙ cond_no (ended c h) dead (ne_eqb b 0x3E g)
 
-module _ {s : List ℕ} {at n : ℕ} {o o' t t' : List ℕ} {r : ContentOutcome} (C : ReadsContent before_content after_content s at n o o' t t' r) where
-  read : {a : ContentOutcome} → r ≡ a → ContentAs before_content after_content s at n o o' t t' a
-  read u = (subst (ReadsContent before_content after_content s at n o o' t t') u C).says
+module _ {at : ℕ} {old new : Parser} {r : Result ContentEnd ℕ} (C : ReadsContent before_content after_content at old new r) where
+  read : {a : Result ContentEnd ℕ} → r ≡ a → ContentAs before_content after_content at old new a
+  read u = (subst (ReadsContent before_content after_content at old new) u C).says
 
-  pub body-fails : {j : ℕ} → r ≡ ContentFail j → Fails before_content s at j
-  body-fails u = read u
+  pub body-fails : {j : ℕ} → r ≡ Err j → ReadsContent before_content ended at old new (Err j)
+  body-fails u = record { kept = C.kept; says = read u }
 
-  module _ {p : ContentEnd} (u : r ≡ ContentPast p) where
-    pub content-high : p.at ≤ length s
-    content-high = (read u).high
+  module _ {p : ContentEnd} (u : r ≡ Ok p) where
+    pub content-high : p.at ≤ length new.text.now
+    content-high = subst (λ (l : List ℕ). p.at ≤ length l) (sym C.kept.text) (read u).high
 
-    module _ {i : ℕ} (K : Skipped s p.at i) where
-      complete-to : (h : Head) → from (after_content (read u).tree h) s p.at ≡ from (after_content (read u).tree h) s i
-      complete-to h = skipped-same schema_machine K (after_content (read u).tree h) refl (complete-blank (read u).tree h)
+    abbrev text-read : List ℕ
+    text-read = old.text.now
 
-      pub body_end : length s ≤ i → Fails before_content s at i
-      body_end l h = (read u).same h ∙ complete-to h ∙ at-end schema_machine s i (after_content (read u).tree h) l
+    module _ {i : ℕ} (K : Skipped new.text.now p.at i) where
+      skipped : Skipped text-read p.at i
+      skipped = subst (λ (l : List ℕ). Skipped l p.at i) C.kept.text K
 
-      pub body-close : i < length s → byte_at s i ≡ 0x3E → ReadsContent before_content ended s at n o o' t t' (ContentPast (record { at = i + 1; n = p.n; content = p.content }))
+      complete-to : (h : Head) → from (before_content h) text-read at ≡ from (after_content (read u).tree h) text-read i
+      complete-to h = (read u).same h ∙ skipped-same schema_machine skipped (after_content (read u).tree h) refl (complete-blank (read u).tree h)
+
+      -- the text's end, and a byte of it
+      ends : length new.text.now ≤ i → length text-read ≤ i
+      ends l = subst (λ (t : List ℕ). length t ≤ i) C.kept.text l
+
+      stands : i < length new.text.now → i < length text-read
+      stands l = subst (λ (t : List ℕ). i < length t) C.kept.text l
+
+      byte-same : byte_at new.text.now i ≡ byte_at text-read i
+      byte-same = ap (λ (t : List ℕ). byte_at t i) C.kept.text
+
+      pub body_end : length new.text.now ≤ i → ReadsContent before_content ended at old new (Err i)
+      body_end l = record { kept = C.kept; says = λ h. complete-to h ∙ at-end schema_machine text-read i (after_content (read u).tree h) (ends l) }
+
+      pub body-close : i < length new.text.now → byte_at new.text.now i ≡ 0x3E → ReadsContent before_content ended at old new (Ok (record { at = i + 1; content = p.content }))
       body-close l e =
-          let a = K.low in
+          let a = skipped.low in
+          let b = stands l in
           record {
+            kept = C.kept;
             says =
-                reading-to (read u) ended uses_in (λ c. ContentBuilt t t' c p.content) (i + 1) p.n (omega arith) (omega arith) refl (read u).tree refl (read u).made
-                (λ h. complete-to h ∙ step-at schema_machine s i (after_content (read u).tree h) (ended (read u).tree h) l (complete-close (read u).tree h i (byte_at s i) e) refl);
+                reading-to (read u) ended uses_in (λ c. ContentBuilt old.predecessors.now new.predecessors.now c p.content) (i + 1) new.count (omega arith) (omega arith) refl (read u).tree refl (read u).made
+                (λ h. skipped-same schema_machine skipped (after_content (read u).tree h) refl (complete-blank (read u).tree h)
+                ∙ step-at schema_machine text-read i (after_content (read u).tree h) (ended (read u).tree h) b (complete-close (read u).tree h i (byte_at text-read i) (sym byte-same ∙ e)) refl);
           }
 
-      pub body-not : i < length s → (byte_at s i ≡ 0x3E → ⊥) → Fails before_content s at i
-      body-not l e h =
-          (read u).same h ∙ complete-to h
-          ∙ dead-at schema_machine s i (after_content (read u).tree h) dead l (complete-not (read u).tree h i (byte_at s i) (K.stop l) e) refl
+      pub body-not : i < length new.text.now → (byte_at new.text.now i ≡ 0x3E → ⊥) → ReadsContent before_content ended at old new (Err i)
+      body-not l e =
+          record {
+            kept = C.kept;
+            says = λ h.
+                complete-to h
+                ∙ dead-at schema_machine text-read i (after_content (read u).tree h) dead (stands l)
+                (complete-not (read u).tree h i (byte_at text-read i) (skipped.stop (stands l)) (λ z. e (byte-same ∙ z))) refl;
+          }

@@ -1,24 +1,21 @@
 -- Laws of reading declarations: the keyword, the name, the whole.
 use mathlib.Core.Bool.{true, false}
 use mathlib.Core.List.{List, [], ◌∷◌}
-use mathlib.Core.Path.{◌≡◌, refl, sym, ap, subst, ◌∙◌}
+use mathlib.Core.Path.{◌≡◌, refl, ap, subst, ◌∙◌}
+use Rattle.std.specs.Prelude.{Result, Ok, Err}
 use Prim.Native.Nat.{ℕ, ◌+◌, ◌≤◌, ◌<◌}
 use native.Mathlib.Omega.{arith}
 use borrow.Author.Tests.{ne_eqb}
 use lib.ListN.{length}
 use Rattle.schema_spec.specs.Declarations.{Declaration}
 use Rattle.schema_spec.specs.Machine.{Opening, Head, State, dead, between, in_keyword, after_keyword, before_name, in_name, before_content, headed, step, schema_machine, from}
-use Rattle.schema.specs.contents.Contents.{PassesAs, Passes, ReadsContent, ended}
-use Rattle.schema.specs.declarations.Declarations.{ReadsKeyword, ReadsDeclaredName, RestAs, DeclaredRest, DeclarationAs, Declared}
+use Rattle.schema_spec.specs.Models.{uses_in}
+use Rattle.schema.specs.contents.Contents.{PassesAs, Passes, ContentBuilt, ContentAs, ReadsContent, ended}
+use Rattle.schema.specs.declarations.Declarations.{ReadsKeyword, ReadsDeclaredName, Declared}
 use Rattle.schema.specs.declared.contents.ContentEnd.{ContentEnd}
-use Rattle.schema.specs.declared.contents.ContentOutcome.{ContentOutcome}
-use Rattle.schema.specs.declared.contents.ContentOutcome.TheVariants.{Past as ContentPast, Fail as ContentFail}
-use Rattle.schema.specs.declared.declarations.DeclarationOutcome.{DeclarationOutcome}
-use Rattle.schema.specs.declared.declarations.DeclarationOutcome.TheVariants.{Past as DeclPast, Fail as DeclFail}
+use Rattle.schema.specs.declared.parsing.Parser.{Parser}
 use Rattle.schema.specs.particles.ReadingLaws.{noted-wider, noted-low}
-use Rattle.schema.specs.particles.Readings.{use_at, Fails}
-use Rattle.text.specs.declared.scanning.Read.{Read}
-use Rattle.text.specs.declared.scanning.Read.TheVariants.{Past, Fail}
+use Rattle.schema.specs.particles.Readings.{use_at, Reading, Fails}
 use Rattle.text.specs.scanning.OutcomeLaws.{spaced-end, spaced-past, spaced-fail, spelt-end, spelt-past, spelt-fail, named_end, named_past, named-fail}
 use Rattle.text.specs.scanning.Outcomes.{NoBlank, Spaced, Spelt, Named}
 use Rattle.text_laws.specs.Scans.{step-at, dead-at, at-end, Spacing, Keyword, Naming}
@@ -28,8 +25,8 @@ use Rattle.text_spec.specs.Lists.{bytes}
 use Rattle.text_spec.specs.Scans.{byte_at, Stops, name_at}
 
 -- what an answer says
-module _ {X : Type 0} {before after : X → State} {End : ℕ → Type 0} {s : List ℕ} {at : ℕ} {r : Read} (P : Passes before after End s at r) where
-  passes : {a : Read} → r ≡ a → PassesAs before after End s at a
+module _ {X : Type 0} {before after : X → State} {End : ℕ → Type 0} {s : List ℕ} {at : ℕ} {r : Result ℕ ℕ} (P : Passes before after End s at r) where
+  passes : {a : Result ℕ ℕ} → r ≡ a → PassesAs before after End s at a
   passes u = (subst (Passes before after End s at) u P).says
 
 -- ---- the keyword
@@ -54,29 +51,29 @@ module _ (s : List ℕ) (at : ℕ) (l : at < length s) where
   pub keyword-not : is_blank (byte_at s at) ≡ false → (byte_at s at ≡ 0x3C → ⊥) → Fails between s at at
   keyword-not e g ds = dead-at schema_machine s at (between ds) dead l (between-dead at (byte_at s at) ds e g) refl
 
-  module _ {r : Read} (e : byte_at s at ≡ 0x3C) (W : Spelt (bytes "!ELEMENT") s (at + 1) r) where
+  module _ {r : Result ℕ ℕ} (e : byte_at s at ≡ 0x3C) (W : Spelt (bytes "!ELEMENT") s (at + 1) r) where
     abbrev opening : List Declaration → Opening
     opening ds = record { place = at; done = ds }
 
     into-keyword : (ds : List Declaration) → from (between ds) s at ≡ from (in_keyword (bytes "!ELEMENT") (opening ds)) s (at + 1)
     into-keyword ds = step-at schema_machine s at (between ds) (in_keyword (bytes "!ELEMENT") (opening ds)) l (between-opens at (byte_at s at) ds e) refl
 
-    pub keyword-fails : {j : ℕ} → r ≡ Fail j → Fails between s at j
+    pub keyword-fails : {j : ℕ} → r ≡ Err j → Fails between s at j
     keyword-fails u ds = into-keyword ds ∙ spelt-fail W (element-keyword (opening ds)) u
 
-    pub keyword-reads : {j : ℕ} {q : Read} → r ≡ Past j → Spaced s j q → ReadsKeyword s at q
+    pub keyword-reads : {j : ℕ} {q : Result ℕ ℕ} → r ≡ Ok j → Spaced s j q → ReadsKeyword s at q
     keyword-reads {j} {q} u S = record { says = go q refl }
       where
         to_space : (ds : List Declaration) → from (between ds) s at ≡ from (after_keyword (opening ds)) s j
         to_space ds = into-keyword ds ∙ spelt-past W (element-keyword (opening ds)) u
 
-        go : (a : Read) → q ≡ a → PassesAs between (λ ds. before_name (opening ds)) (λ j. (j ≤ length s) × NoBlank s j) s at a
-        go (Past i) v =
+        go : (a : Result ℕ ℕ) → q ≡ a → PassesAs between (λ ds. before_name (opening ds)) (λ j. (j ≤ length s) × NoBlank s j) s at a
+        go (Ok i) v =
             let f = spaced-end S v in
             let a = (spelt-end W u).0 in
             let b = f.0 in
             (omega arith, (f.1, f.2), λ ds. to_space ds ∙ spaced-past S (name-spacing s j (opening ds)) v)
-        go (Fail i) v = λ ds. to_space ds ∙ spaced-fail S (name-spacing s j (opening ds)) v
+        go (Err i) v = λ ds. to_space ds ∙ spaced-fail S (name-spacing s j (opening ds)) v
 
 -- ---- the declared name
 declared-naming : (j : ℕ) (o : Opening) → Naming schema_machine dead (λ n. in_name j n o)
@@ -105,14 +102,14 @@ module _ (s : List ℕ) (i : ℕ) where
     pub name-not : starts_name (byte_at s i) ≡ false → Fails before_name s i i
     name-not g o = dead-at schema_machine s i (before_name o) dead l (name-dead o i (byte_at s i) e g) refl
 
-    module _ {r : Read} (g : starts_name (byte_at s i) ≡ true) (N : Named s i r) where
+    module _ {r : Result ℕ ℕ} (g : starts_name (byte_at s i) ≡ true) (N : Named s i r) where
       into-name : (o : Opening) → from (before_name o) s i ≡ from (in_name i (byte_at s i ∷ []) o) s (i + 1)
       into-name o = step-at schema_machine s i (before_name o) (in_name i (byte_at s i ∷ []) o) l (name-begins o i (byte_at s i) e g) refl
 
-      pub name-fails : {j : ℕ} → r ≡ Fail j → Fails before_name s i j
+      pub name-fails : {j : ℕ} → r ≡ Err j → Fails before_name s i j
       name-fails u o = into-name o ∙ named-fail N (declared-naming i o) u
 
-      pub name-reads : {j : ℕ} {q : Read} → r ≡ Past j → Spaced s j q → ReadsDeclaredName s i q
+      pub name-reads : {j : ℕ} {q : Result ℕ ℕ} → r ≡ Ok j → Spaced s j q → ReadsDeclaredName s i q
       name-reads {j} {q} u S = record { says = go q refl }
         where
           to_space : (o : Opening) → from (before_name o) s i ≡ from (in_name i (name_at s i) o) s j
@@ -121,35 +118,28 @@ module _ (s : List ℕ) (i : ℕ) where
           spacing : (o : Opening) → Spacing schema_machine dead (in_name i (name_at s i) o) (before_content (headed i (name_at s i) o)) s j
           spacing o = content-spacing s j i (name_at s i) o (named_end N u).2
 
-          go : (a : Read) → q ≡ a → PassesAs before_name (λ o. before_content (headed i (name_at s i) o)) (λ j. (j ≤ length s) × NoBlank s j) s i a
-          go (Past k) v =
+          go : (a : Result ℕ ℕ) → q ≡ a → PassesAs before_name (λ o. before_content (headed i (name_at s i) o)) (λ j. (j ≤ length s) × NoBlank s j) s i a
+          go (Ok k) v =
               let f = spaced-end S v in
               let a = (named_end N u).0 in
               let b = f.0 in
               (omega arith, (f.1, f.2), λ o. to_space o ∙ spaced-past S (spacing o) v)
-          go (Fail k) v = λ o. to_space o ∙ spaced-fail S (spacing o) v
+          go (Err k) v = λ o. to_space o ∙ spaced-fail S (spacing o) v
 
 -- ---- a whole declaration
-module _ {s : List ℕ} {at n : ℕ} {o o' t t' : List ℕ} {r : ContentOutcome} (C : ReadsContent before_content ended s at n o o' t t' r) (name : ℕ) where
-  pub rest-reads : {p : ContentEnd} → r ≡ ContentPast p → DeclaredRest s name at n o o' t t' (DeclPast (record { at = p.at; name = name; n = p.n; content = p.content }))
-  rest-reads u = record { says = (refl, (subst (ReadsContent before_content ended s at n o o' t t') u C).says) }
-
-  pub rest-fails : {j : ℕ} → r ≡ ContentFail j → DeclaredRest s name at n o o' t t' (DeclFail j)
-  rest-fails u = record { says = (subst (ReadsContent before_content ended s at n o o' t t') u C).says }
-
-module _ {s : List ℕ} {at : ℕ} {r : Read} (W : ReadsKeyword s at r) where
-  pub declaration-fails : {j : ℕ} → r ≡ Fail j → Fails between s at j
+module _ {s : List ℕ} {at : ℕ} {r : Result ℕ ℕ} (W : ReadsKeyword s at r) where
+  pub declaration-fails : {j : ℕ} → r ≡ Err j → Fails between s at j
   declaration-fails u = passes W u
 
-  module _ {i : ℕ} (u : r ≡ Past i) where
+  module _ {i : ℕ} (u : r ≡ Ok i) where
     pub name-known : (at < i) × (i ≤ length s) × NoBlank s i
     name-known = let k = passes W u in (k.0, k.1.0, k.1.1)
 
-    module _ {q : Read} (H : ReadsDeclaredName s i q) where
-      pub declaration-name-fails : {j : ℕ} → q ≡ Fail j → Fails between s at j
+    module _ {q : Result ℕ ℕ} (H : ReadsDeclaredName s i q) where
+      pub declaration-name-fails : {j : ℕ} → q ≡ Err j → Fails between s at j
       declaration-name-fails v ds = (passes W u).2 ds ∙ passes H v (record { place = at; done = ds })
 
-      module _ {j : ℕ} (v : q ≡ Past j) where
+      module _ {j : ℕ} (v : q ≡ Ok j) where
         pub content-known : (i < j) × (j ≤ length s) × NoBlank s j
         content-known = let k = passes H v in (k.0, k.1.0, k.1.1)
 
@@ -159,24 +149,31 @@ module _ {s : List ℕ} {at : ℕ} {r : Read} (W : ReadsKeyword s at r) where
         to-content : (ds : List Declaration) → from (between ds) s at ≡ from (before_content (head ds)) s j
         to-content ds = (passes W u).2 ds ∙ (passes H v).2 (record { place = at; done = ds })
 
-        pub declaration-reads : {n : ℕ} {o o' t t' : List ℕ} {d : DeclarationOutcome} → DeclaredRest s i j n o o' t t' d → Declared s at n o o' t t' d
-        declaration-reads {n} {o} {o'} {t} {t'} {d} D = record { says = go d D.says }
-          where
-            go : (d : DeclarationOutcome) → RestAs s i j n o o' t t' d → DeclarationAs s at n o o' t t' d
-            go (DeclPast d) (e, R) =
-                let a = name-known.0 in
-                let b = content-known.0 in
-                let c = noted-low R.noted in
-                record {
-                  high = R.high;
-                  few = R.few;
-                  low = omega arith;
-                  named = omega arith;
-                  content = R.tree;
-                  noted = noted-wider R.noted at d.at (omega arith) (omega arith);
-                  built = R.made;
-                  same = λ ds.
-                      to-content ds ∙ R.same (head ds)
-                      ∙ ap (λ (k : ℕ). from (between (record { place = at; name = use_at s k; content = R.tree } ∷ ds)) s d.at) (sym e);
-                }
-            go (DeclFail k) F = λ ds. to-content ds ∙ F (head ds)
+        module _ (old : Parser) (h : old.text.now ≡ s) {new : Parser} {c : Result ContentEnd ℕ} (C : ReadsContent before_content ended j old new c) where
+          content : {a : Result ContentEnd ℕ} → c ≡ a → ContentAs before_content ended j old new a
+          content w = (subst (ReadsContent before_content ended j old new) w C).says
+
+          pub declaration-content-fails : {k : ℕ} → c ≡ Err k → Fails between s at k
+          declaration-content-fails {k} w ds = to-content ds ∙ subst (λ (l : List ℕ). Fails before_content l j k) h (content w) (head ds)
+
+          pub declaration-reads : {p : ContentEnd} → c ≡ Ok p
+              → Declared s at old.count old.uses.now new.uses.now old.predecessors.now new.predecessors.now (Ok (record { at = p.at; name = i; n = new.count; content = p.content }))
+          declaration-reads {p} w =
+              let R : Reading before_content ended uses_in (λ c. ContentBuilt old.predecessors.now new.predecessors.now c p.content) s j old.count old.uses.now new.uses.now p.at new.count =
+              subst (λ (l : List ℕ). Reading before_content ended uses_in (λ c. ContentBuilt old.predecessors.now new.predecessors.now c p.content) l j old.count old.uses.now new.uses.now p.at new.count) h (content w) in
+              let a = name-known.0 in
+              let b = content-known.0 in
+              let d = noted-low R.noted in
+              record {
+                says =
+                    record {
+                      high = R.high;
+                      few = R.few;
+                      low = omega arith;
+                      named = omega arith;
+                      content = R.tree;
+                      noted = noted-wider R.noted at p.at (omega arith) (omega arith);
+                      built = R.made;
+                      same = λ ds. to-content ds ∙ R.same (head ds);
+                    };
+              }

@@ -3,8 +3,8 @@ use mathlib.Core.Bool.{Bool, true, false, cond, ◌||◌}
 use mathlib.Core.List.{List}
 use mathlib.Core.Path.{◌≡◌, refl, sym, ap, ap₂, ◌∙◌}
 use Prim.Native.Nat.{ℕ, ◌+◌, ◌≤◌, ◌<◌}
-use borrow.Author.Tests.{ne_eqb}
-use lib.Dec.{eqb}
+use borrow.Author.Tests.{ltb-true, ltb-false, ne_eqb}
+use lib.Dec.{eqb, ltb}
 use lib.ListN.{length, get_or-eq_default}
 use Rattle.schema_spec.specs.Declarations.{Use, Indicator, once, optional, any, one_or_more, indicated}
 use Rattle.schema_spec.specs.Machine.{State, past, following, indicating, step, schema_machine, at_end, from}
@@ -13,6 +13,12 @@ use Rattle.schema.specs.particles.Readings.{Around, Ended, at_name, at-closed, i
 use Rattle.text_laws.specs.Scans.{step-at, same_at, at-end}
 use Rattle.text_laws.specs.Tests.{never, or-false, cond_no}
 use Rattle.text_spec.specs.Scans.{byte_at}
+
+pub not-indicator : (b : ℕ) → (b ≡ 0x3F → ⊥) → (b ≡ 0x2A → ⊥) → (b ≡ 0x2B → ⊥) → is_indicator b ≡ false
+not-indicator b x y z = ap₂ ◌||◌ (ne_eqb b 0x3F x) (ap₂ ◌||◌ (ne_eqb b 0x2A y) (ne_eqb b 0x2B z))
+
+pub none-past : (s : List ℕ) (i : ℕ) → length s ≤ i → is_indicator (byte_at s i) ≡ false
+none-past s i l = ap is_indicator (get_or-eq_default s 0 l)
 
 -- no indicator stands at i
 module _ (s : List ℕ) (i : ℕ) where
@@ -28,12 +34,7 @@ module _ (s : List ℕ) (i : ℕ) where
       cond_no optional (cond (eqb (byte_at s i) 0x2A) any (cond (eqb (byte_at s i) 0x2B) one_or_more once)) a.0
       ∙ cond_no any (cond (eqb (byte_at s i) 0x2B) one_or_more once) a.1 ∙ cond_no one_or_more once a.2
 
-  pub once-other : (byte_at s i ≡ 0x3F → ⊥) → (byte_at s i ≡ 0x2A → ⊥) → (byte_at s i ≡ 0x2B → ⊥) → indicator_at s i ≡ once
-  once-other a b c =
-      once-there
-      (ap₂ ◌||◌ (ne_eqb (byte_at s i) 0x3F a) (ap₂ ◌||◌ (ne_eqb (byte_at s i) 0x2A b) (ne_eqb (byte_at s i) 0x2B c)))
-
-  pub once-past : length s ≤ i → indicator_at s i ≡ once
+  once-past : length s ≤ i → indicator_at s i ≡ once
   once-past l = ap indicator_of (get_or-eq_default s 0 l)
 
 -- the state after a particle p and its indicator
@@ -72,8 +73,15 @@ module _ {s : List ℕ} {i : ℕ} where
         let a = none-there s i e in
         cond_no (beyond optional p x) _ a.0 ∙ cond_no (beyond any p x) _ a.1 ∙ cond_no (beyond one_or_more p x) _ a.2
 
-    pub indicator-absent : i < length s → is_indicator (byte_at s i) ≡ false → from q s i ≡ from (beyond (indicator_at s i) p x) s i
+    indicator-absent : i < length s → is_indicator (byte_at s i) ≡ false → from q s i ≡ from (beyond (indicator_at s i) p x) s i
     indicator-absent l e = same_at schema_machine s i q (beyond once p x) l (ended-step E l ∙ other_step e) ∙ as-once s i p x (once-there s i e)
 
-    pub indicator-end : length s ≤ i → from q s i ≡ from (beyond (indicator_at s i) p x) s i
+    indicator-end : length s ≤ i → from q s i ≡ from (beyond (indicator_at s i) p x) s i
     indicator-end l = at-end schema_machine s i q l ∙ ended-end E ∙ sym (at-end schema_machine s i (beyond once p x) l) ∙ as-once s i p x (once-past s i l)
+
+    pub indicator-none : is_indicator (byte_at s i) ≡ false → from q s i ≡ from (beyond (indicator_at s i) p x) s i
+    indicator-none e = pick (ltb i (length s)) refl
+      where
+        pick : (t : Bool) → ltb i (length s) ≡ t → from q s i ≡ from (beyond (indicator_at s i) p x) s i
+        pick true g = indicator-absent (ltb-true i (length s) g) e
+        pick false g = indicator-end (ltb-false i (length s) g)

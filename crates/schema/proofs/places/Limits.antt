@@ -6,13 +6,15 @@ use mathlib.Core.List.Memᴰ.{tail as there}
 use mathlib.Core.List.{List, [], ◌∷◌, ◌++◌, map, map-append, reverse, reverse-cons, append-nil, append_assoc, Memᴰ as In}
 use mathlib.Core.Logic.{◌⊎◌, inl, inr}
 use mathlib.Core.Path.{◌≡◌, refl, sym, ap, ap₂, subst, ◌∙◌}
+use Rattle.std.specs.Prelude.{Option, Some, None, Result, Ok, Err}
 use Prim.Native.Nat.{ℕ, zero, suc, ◌+◌, ◌*◌, ◌-◌, ◌≤◌, ◌<◌}
 use native.Mathlib.Numerals.{add-one}
 use native.Mathlib.Omega.{arith}
-use borrow.Author.Tests.{ltb-true, ltb-false, leb-true, leb-false, lt-ltb, le-ltb}
+use borrow.Author.Tests.{ltb-true, ltb-false, leb-true, leb-false}
 use lib.Dec.{leb, ltb}
 use lib.ListN.{length, drop, take, get_or, set, length-append, length-set, length-reverse, drop_of_length-le}
 use lib.Seq.{sets, sets-eq, length-sets, take-suc-set, take_at, drop_at, drop-cons, drop-nil, length-take-le, get_or-set_same, get_or-set_other, drop-set-lt, drop-drop}
+use Rattle.std.specs.Option.{option_or}
 use Rattle.schema_laws.specs.Lists.{in-nothing as none_in}
 use Rattle.schema_spec.specs.Declarations.{Use, Declaration}
 use Rattle.schema_spec.specs.Machine.{between, schema_machine, at_end, from, parse}
@@ -21,16 +23,13 @@ use Rattle.schema.specs.declaration_limits.Limits.{over_limit}
 use Rattle.schema.specs.declarations.DeclarationLaws.{between-skipped}
 use Rattle.schema.specs.declarations.Declarations.{DeclarationRead, Declared}
 use Rattle.schema.specs.declared.declarations.DeclarationEnd.{DeclarationEnd}
-use Rattle.schema.specs.declared.declarations.DeclarationOutcome.{DeclarationOutcome}
-use Rattle.schema.specs.declared.declarations.DeclarationOutcome.TheVariants.{Past as DeclPast, Fail as DeclFail}
 use Rattle.schema.specs.particles.ReadingLaws.{between-from, between-to, between_join}
 use Rattle.schema.specs.particles.Readings.{use_at, Between}
 use Rattle.schema.specs.places.PlaceLaws.{places-back, between-least, head-least}
-use Rattle.schema.specs.places.Whole.{WithinLimits, Limits, within, passed, UpTo, AllSpelt}
+use Rattle.schema.specs.places.Whole.{WithinLimits, Limits, UpTo, AllSpelt}
 use Rattle.text.specs.scanning.Outcomes.{Skipped}
 use Rattle.text_laws.specs.Lists.{memberless}
 use Rattle.text_laws.specs.Scans.{at-end}
-use Rattle.text_laws.specs.Tests.{cond_yes as yes, cond_no as no}
 use Rattle.text_spec.specs.Limits.{max_declarations, max_model_names}
 use Rattle.text_spec.specs.Lists.{gather}
 use Rattle.text_spec.specs.Machines.{spells, departs}
@@ -156,26 +155,26 @@ module _ {s : List ℕ} (ds : List Declaration) {d n i : ℕ} (names : List ℕ)
   extra-low h = (between-least i p.at (extra declared-now) extra-rise h).0
 
   -- once a limit is passed, what follows passes none earlier
-  still-passed : {over : ℕ} → over < length s → over ≤ i → In over (limit_places ds) → ((x : ℕ) → In x (limit_places ds) → over ≤ x)
-      → (d' n' : ℕ) (names' uses'' : List ℕ) → Limits s (ds ++ (declared-now ∷ [])) d' n' over j names' uses''
-  still-passed {over} a b c e d' n' names' uses'' =
+  still-passed : {over : ℕ} → Limits s ds d n (Some over) i names uses → (d' n' : ℕ) (names' uses'' : List ℕ) → Limits s (ds ++ (declared-now ∷ [])) d' n' (Some over) j names' uses''
+  still-passed {over} L d' n' names' uses'' =
       let q = R.low in
       let r = R.named in
-      passed a (omega arith) (limit-left ds declared-now c) (λ x h. go x (limit-cases ds declared-now h))
+      let b = L.1 in
+      (L.0, omega arith, limit-left ds declared-now L.2, λ x h. go x (limit-cases ds declared-now h))
     where
       go : (x : ℕ) → In x (limit_places ds) ⊎ (((max_declarations ≤ length ds) × (x ≡ i)) ⊎ In x (extra declared-now)) → over ≤ x
-      go x (inl h) = e x h
-      go x (inr (inl q)) = let z = q.1 in omega arith
-      go x (inr (inr h)) = let z = extra-low h in omega arith
+      go x (inl h) = L.3 x h
+      go x (inr (inl q)) = let z = q.1 in let b = L.1 in omega arith
+      go x (inr (inr h)) = let z = extra-low h in let b = L.1 in omega arith
 
   module _ (kept : WithinLimits s ds d n i names uses) where
     -- the 33rd declaration
-    declaration-passes : max_declarations ≤ d → (d' n' : ℕ) (names' uses'' : List ℕ) → Limits s (ds ++ (declared-now ∷ [])) d' n' i j names' uses''
+    declaration-passes : max_declarations ≤ d → (d' n' : ℕ) (names' uses'' : List ℕ) → Limits s (ds ++ (declared-now ∷ [])) d' n' (Some i) j names' uses''
     declaration-passes h d' n' names' uses'' =
         let q = R.low in
         let r = R.named in
         let t = kept.some in
-        passed l (omega arith) (limit-place ds declared-now (omega arith)) (λ x m. go x (limit-cases ds declared-now m))
+        (l, omega arith, limit-place ds declared-now (omega arith), λ x m. go x (limit-cases ds declared-now m))
       where
         go : (x : ℕ) → In x (limit_places ds) ⊎ (((max_declarations ≤ length ds) × (x ≡ i)) ⊎ In x (extra declared-now)) → i ≤ x
         go x (inl h) = absurd (none_in kept.free h)
@@ -184,8 +183,8 @@ module _ {s : List ℕ} (ds : List Declaration) {d n i : ℕ} (names : List ℕ)
 
     module _ (small : d < max_declarations) where
       -- the 65th name
-      name-passes : max_model_names < p.n - n → (d' n' : ℕ) (names' uses'' : List ℕ) → Limits s (ds ++ (declared-now ∷ [])) d' n' (get_or uses' (n + max_model_names) 0) j names' uses''
-      name-passes h d' n' names' uses'' = subst (λ (k : ℕ). Limits s (ds ++ (declared-now ∷ [])) d' n' k j names' uses'') (sym at-cell) holds
+      name-passes : max_model_names < p.n - n → (d' n' : ℕ) (names' uses'' : List ℕ) → Limits s (ds ++ (declared-now ∷ [])) d' n' (Some (get_or uses' (n + max_model_names) 0)) j names' uses''
+      name-passes h d' n' names' uses'' = subst (λ (k : Option ℕ). Limits s (ds ++ (declared-now ∷ [])) d' n' k j names' uses'') (sym (ap Some at-cell)) holds
         where
           ps : List ℕ
           ps = R.noted.places
@@ -213,11 +212,11 @@ module _ {s : List ℕ} (ds : List Declaration) {d n i : ℕ} (names : List ℕ)
           go y (inr (inl q)) = let z = q.0 in absurd (omega arith)
           go y (inr (inr h)) = head-least i p.at x (drop (suc max_model_names) ps) rise (subst (λ (l : List ℕ). In y l) parts h)
 
-          holds : Limits s (ds ++ (declared-now ∷ [])) d' n' x j names' uses''
+          holds : Limits s (ds ++ (declared-now ∷ [])) d' n' (Some x) j names' uses''
           holds =
               let b = between-least i p.at (extra declared-now) extra-rise first in
               let c = R.high in
-              passed (omega (arith, b.1)) (omega (arith, b.1)) (limit-extra ds declared-now first) (λ y m. go y (limit-cases ds declared-now m))
+              (omega (arith, b.1), omega (arith, b.1), limit-extra ds declared-now first, λ y m. go y (limit-cases ds declared-now m))
 
       -- neither
       still-within : p.n - n ≤ max_model_names → {names' : List ℕ} → names' ≡ set names d p.name → WithinLimits s (ds ++ (declared-now ∷ [])) (d + 1) p.n j names' uses'
@@ -253,26 +252,19 @@ module _ {s : List ℕ} (ds : List Declaration) {d n i : ℕ} (names : List ℕ)
           uses-now : take p.n uses' ≡ take n uses ++ ps
           uses-now = let z = kept.small in ap₂ take R.noted.counted R.noted.wrote ∙ take-sets uses ps n (omega arith)
 
-  pub limits-next : {over over' : ℕ} {names' : List ℕ} → over' ≡ over_limit (length s) over d i n p.n uses' → names' ≡ set names d p.name
-      → Limits s ds d n over i names uses → Limits s (ds ++ (declared-now ∷ [])) (d + 1) p.n over' j names' uses'
-  limits-next {over} {over'} {names'} v w (passed a b c e) =
-      subst (λ (k : ℕ). Limits s (ds ++ (declared-now ∷ [])) (d + 1) p.n k j names' uses') (sym (v ∙ yes over _ (lt-ltb over (length s) a)))
-      (still-passed a b c e (d + 1) p.n names' uses')
-  limits-next {over} {over'} {names'} v w (within e kept) = go (leb max_declarations d) refl (ltb max_model_names (p.n - n)) refl
+  pub limits-next : (over : Option ℕ) {names' : List ℕ} → names' ≡ set names d p.name
+      → Limits s ds d n over i names uses → Limits s (ds ++ (declared-now ∷ [])) (d + 1) p.n (option_or over (over_limit d i n p.n uses')) j names' uses'
+  limits-next (Some over) {names'} w L = still-passed L (d + 1) p.n names' uses'
+  limits-next None {names'} w kept = go (leb max_declarations d) refl (ltb max_model_names (p.n - n)) refl
     where
-      now : over' ≡ cond (leb max_declarations d) i (cond (ltb max_model_names (p.n - n)) (get_or uses' (n + max_model_names) 0) (length s))
-      now = v ∙ no over _ (le-ltb over (length s) (omega arith))
-
-      shift : {k : ℕ} → over' ≡ k → Limits s (ds ++ (declared-now ∷ [])) (d + 1) p.n k j names' uses' → Limits s (ds ++ (declared-now ∷ [])) (d + 1) p.n over' j names' uses'
-      shift g L = subst (λ (k : ℕ). Limits s (ds ++ (declared-now ∷ [])) (d + 1) p.n k j names' uses') (sym g) L
-
-      go : (a : Bool) → leb max_declarations d ≡ a → (b : Bool) → ltb max_model_names (p.n - n) ≡ b → Limits s (ds ++ (declared-now ∷ [])) (d + 1) p.n over' j names' uses'
-      go true f b g = shift (now ∙ yes i _ f) (declaration-passes kept (leb-true max_declarations d f) (d + 1) p.n names' uses')
-      go false f true g = shift (now ∙ no i _ f ∙ yes (get_or uses' (n + max_model_names) 0) _ g) (name-passes kept (leb-false max_declarations d f) (ltb-true max_model_names (p.n - n) g) (d + 1) p.n names' uses')
-      go false f false g = shift (now ∙ no i _ f ∙ no (get_or uses' (n + max_model_names) 0) _ g) (within refl (still-within kept (leb-false max_declarations d f) (ltb-false max_model_names (p.n - n) g) w))
+      go : (a : Bool) → leb max_declarations d ≡ a → (b : Bool) → ltb max_model_names (p.n - n) ≡ b
+          → Limits s (ds ++ (declared-now ∷ [])) (d + 1) p.n (cond a (Some i) (cond b (Some (get_or uses' (n + max_model_names) 0)) None)) j names' uses'
+      go true f b g = declaration-passes kept (leb-true max_declarations d f) (d + 1) p.n names' uses'
+      go false f true g = name-passes kept (leb-false max_declarations d f) (ltb-true max_model_names (p.n - n) g) (d + 1) p.n names' uses'
+      go false f false g = still-within kept (leb-false max_declarations d f) (ltb-false max_model_names (p.n - n) g) w
 
 -- ---- the loop
-pub all_start : {s names uses : List ℕ} {i : ℕ} → Skipped s 0 i → length names ≡ max_declarations → length uses ≡ max_declarations * max_model_names + 1 → UpTo s i 0 0 (length s) names names uses
+pub all_start : {s names uses : List ℕ} {i : ℕ} → Skipped s 0 i → length names ≡ max_declarations → length uses ≡ max_declarations * max_model_names + 1 → UpTo s i 0 0 None names names uses
 all_start K a b =
     record {
       done = [];
@@ -285,10 +277,10 @@ all_start K a b =
       room = a;
       room-uses = b;
       rest = refl;
-      limits = within refl (record { free = refl; some = omega arith; small = omega arith; declared-at = refl; used-at = refl; declared-rise = omega arith; used-rise = omega arith });
+      limits = record { free = refl; some = omega arith; small = omega arith; declared-at = refl; used-at = refl; declared-rise = omega arith; used-rise = omega arith };
     }
 
-module _ {s : List ℕ} {i d n over : ℕ} {start names uses : List ℕ} (U : UpTo s i d n over start names uses) where
+module _ {s : List ℕ} {i d n : ℕ} {over : Option ℕ} {start names uses : List ℕ} (U : UpTo s i d n over start names uses) where
   parsed : parse s ≡ from (between U.done) s i
   unfolding parse
   parsed = U.same
@@ -318,18 +310,18 @@ module _ {s : List ℕ} {i d n over : ℕ} {start names uses : List ℕ} (U : Up
       go [] h = absurd (h refl)
       go (x ∷ ds) h = refl
 
-  module _ (l : i < length s) {uses' before after : List ℕ} {r : DeclarationOutcome} (D : Declared s i n uses uses' before after r) where
-    pub all-fail : {j : ℕ} → r ≡ DeclFail j → parse s ≡ departs j
+  module _ (l : i < length s) {uses' before after : List ℕ} {r : Result DeclarationEnd ℕ} (D : Declared s i n uses uses' before after r) where
+    pub all-fail : {j : ℕ} → r ≡ Err j → parse s ≡ departs j
     all-fail u = parsed ∙ (subst (Declared s i n uses uses' before after) u D).says U.done
 
-    module _ {p : DeclarationEnd} (u : r ≡ DeclPast p) where
+    module _ {p : DeclarationEnd} (u : r ≡ Ok p) where
       read : DeclarationRead s i n uses uses' before after p
       read = (subst (Declared s i n uses uses' before after) u D).says
 
       pub all_known : (n ≤ p.n) × (p.at ≤ length s)
       all_known = (let z = read.noted.counted in omega arith, read.high)
 
-      pub all-next : {over' j : ℕ} {names' : List ℕ} → names' ≡ set names d p.name → over' ≡ over_limit (length s) over d i n p.n uses' → Skipped s p.at j
+      pub all-next : {over' : Option ℕ} {j : ℕ} {names' : List ℕ} → names' ≡ set names d p.name → over' ≡ option_or over (over_limit d i n p.n uses') → Skipped s p.at j
           → (i < j) × UpTo s j (d + 1) p.n over' start names' uses'
       all-next {over'} {j} {names'} w v K =
           let a = K.low in
@@ -350,8 +342,9 @@ module _ {s : List ℕ} {i d n over : ℕ} {start names uses : List ℕ} (U : Up
               room-uses = ap length read.noted.wrote ∙ length-sets uses n read.noted.places ∙ U.room-uses;
               rest = rest-next;
               limits =
-                  subst (λ (ds : List Declaration). Limits s ds (d + 1) p.n over' j names' uses') (sym (reverse-cons new U.done))
-                  (limits-next (reverse U.done) names (length-reverse U.done ∙ U.count) U.room U.room-uses l read a v w U.limits);
+                  subst (λ (k : Option ℕ). Limits s (reverse (new ∷ U.done)) (d + 1) p.n k j names' uses') (sym v)
+                  (subst (λ (ds : List Declaration). Limits s ds (d + 1) p.n (option_or over (over_limit d i n p.n uses')) j names' uses') (sym (reverse-cons new U.done))
+                  (limits-next (reverse U.done) names (length-reverse U.done ∙ U.count) U.room U.room-uses l read a over w U.limits));
             },
           )
         where

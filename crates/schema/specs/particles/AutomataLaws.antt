@@ -1,5 +1,5 @@
 -- Laws of the automaton that is made as a model is read: a name, an indicator, one more particle of a group.
-use Rattle.std.specs.Prelude.{Bool, true, false, List, ◌++◌, ◌≡◌, refl, ℕ, ◌+◌, ◌≤◌, ◌<◌, length}
+use Rattle.std.specs.Prelude.{Bool, true, false, List, ◌++◌, ◌≡◌, refl, ℕ, ◌+◌, ◌≤◌, ◌<◌, length, Option, Some, None}
 use Rattle.std.proofs.Common.{sym, ap₂, subst, ◌∙◌, add-zero, arith, length-append}
 use Rattle.models.specs.Building.{EndsOf, LinksAdded}
 use Rattle.models.specs.Placing.{Clear, Placed, placed-name, placed-choice, placed-sequence, placed-once, placed-repeated}
@@ -8,6 +8,8 @@ use Rattle.models.specs.declared.Ends.{Ends}
 use Rattle.schema_spec.specs.Declarations.{Use, once, optional, any, one_or_more}
 use Rattle.schema_spec.specs.Machine.{Frame, join}
 use Rattle.schema_spec.specs.Models.{Particle, named, sequence, choice, repeated, uses, rename_in}
+use Rattle.schema.specs.declared.particles.Separator.{Separator}
+use Rattle.schema.specs.declared.particles.Separator.TheVariants.{Bar, Comma}
 use Rattle.schema.specs.particles.Automata.{Built, Repeated, PartedBy, parted-none, parted-bar, parted-comma, frame_uses, FrameBuilt, built-fresh, built-holding, Joined}
 
 size-renamed : (f : Use → ℕ) (p : Particle Use) → size (rename_in f p) ≡ length (uses p)
@@ -107,30 +109,28 @@ module _ (e : Ends) (links : List ℕ) where
 
 -- ---- one more particle of a group
 module _ (a b : Ends) (links : List ℕ) where
-  pub joined-first : {sep : ℕ} → sep ≡ 0 → Joined sep a b links links b
+  pub joined-first : {sep : Option Separator} → sep ≡ None → Joined sep a b links links b
   joined-first {sep} z = record { long = refl; built = λ k first middle f p H F B. go k first middle f p (subst (PartedBy f) z H) F B }
     where
       alone : (k : ℕ) (first middle : List ℕ) (p : Particle Use) → middle ≡ first → Built (k + 0) middle links p b → Built k first links p b
       alone k first middle p e B = subst (λ (m : ℕ). Built m first links p b) (add-zero k) (subst (λ (l : List ℕ). Built (k + 0) l links p b) e B)
 
-      go : (k : ℕ) (first middle : List ℕ) (f : Frame) (p : Particle Use) → PartedBy f 0 → FrameBuilt k first middle a f → Built (k + length (frame_uses f)) middle links p b
+      go : (k : ℕ) (first middle : List ℕ) (f : Frame) (p : Particle Use) → PartedBy f None → FrameBuilt k first middle a f → Built (k + length (frame_uses f)) middle links p b
           → Built k first links (join f p) b
       go k first middle f p parted-none (built-fresh e) B = alone k first middle p e B
 
-  pub joined-comma : {sep : ℕ} → sep ≡ 0x2C → (after : List ℕ) (r : Ends) → LinksAdded links a.last b.first after
+  pub joined-comma : {sep : Option Separator} → sep ≡ Some Comma → (after : List ℕ) (r : Ends) → LinksAdded links a.last b.first after
       → ((k : ℕ) (p q : Particle ℕ) → EndsOf k p a → EndsOf (k + size p) q b → EndsOf k (sequence p q) r) → Joined sep a b links after r
   joined-comma {sep} z after r t h = record { long = t.long; built = λ k first middle f p H F B. go k first middle f p (subst (PartedBy f) z H) F B }
     where
-      go : (k : ℕ) (first middle : List ℕ) (f : Frame) (p : Particle Use) → PartedBy f 0x2C → FrameBuilt k first middle a f → Built (k + length (frame_uses f)) middle links p b
+      go : (k : ℕ) (first middle : List ℕ) (f : Frame) (p : Particle Use) → PartedBy f (Some Comma) → FrameBuilt k first middle a f → Built (k + length (frame_uses f)) middle links p b
           → Built k first after (join f p) r
       go k first middle f p parted-comma (built-holding x) B = built-sequence x B r after h t
 
-  pub joined-bar : {sep : ℕ} → (sep ≡ 0 → ⊥) → (sep ≡ 0x2C → ⊥) → (r : Ends)
+  pub joined-bar : {sep : Option Separator} → sep ≡ Some Bar → (r : Ends)
       → ((k : ℕ) (p q : Particle ℕ) → EndsOf k p a → EndsOf (k + size p) q b → EndsOf k (choice p q) r) → Joined sep a b links links r
-  joined-bar {sep} y z r h = record { long = refl; built = λ k first middle f p H F B. go k first middle f p H y z F B }
+  joined-bar {sep} z r h = record { long = refl; built = λ k first middle f p H F B. go k first middle f p (subst (PartedBy f) z H) F B }
     where
-      go : {sep : ℕ} (k : ℕ) (first middle : List ℕ) (f : Frame) (p : Particle Use) → PartedBy f sep → (sep ≡ 0 → ⊥) → (sep ≡ 0x2C → ⊥) → FrameBuilt k first middle a f
+      go : (k : ℕ) (first middle : List ℕ) (f : Frame) (p : Particle Use) → PartedBy f (Some Bar) → FrameBuilt k first middle a f
           → Built (k + length (frame_uses f)) middle links p b → Built k first links (join f p) r
-      go k first middle f p parted-none y z F B = absurd (y refl)
-      go k first middle f p parted-comma y z F B = absurd (z refl)
-      go k first middle f p parted-bar y z (built-holding x) B = built-choice x B r h
+      go k first middle f p parted-bar (built-holding x) B = built-choice x B r h

@@ -1,15 +1,15 @@
 -- Laws of what was read: places in rising order, names noted in cells, a reading that starts earlier or ends later.
-use Rattle.std.specs.Prelude.{List, [], ◌∷◌, ◌++◌, ◌≡◌, refl, ℕ, suc, ◌+◌, ◌≤◌, length}
+use Rattle.std.specs.Prelude.{List, [], ◌∷◌, ◌++◌, ◌≡◌, refl, ℕ, suc, ◌+◌, ◌≤◌, length, Result}
 use Rattle.std.proofs.lemmas.List.{map-append, length-map}
 use Rattle.std.proofs.Common.{sym, ap, ap₂, subst, ◌∙◌, add-zero, arith, length-append}
 use Rattle.std.proofs.lemmas.List.Edits.{sets}
 use Rattle.schema_spec.specs.Declarations.{Use, Indicator, once, optional, any, one_or_more, indicated}
 use Rattle.schema_spec.specs.Machine.{State, past, from}
 use Rattle.schema_spec.specs.Models.{Particle, uses}
+use Rattle.schema.specs.declared.parsing.Parser.{Parser}
 use Rattle.schema.specs.declared.particles.Part.{Part}
-use Rattle.schema.specs.declared.particles.PartOutcome.{PartOutcome}
-use Rattle.schema.specs.particles.Automata.{Built}
-use Rattle.schema.specs.particles.Readings.{use_at, Between, Noted, Reading, PartAs, ReadsPart, Around, Ended, indicator_at, PartIndicated}
+use Rattle.schema.specs.particles.Automata.{Built, Repeated}
+use Rattle.schema.specs.particles.Readings.{use_at, Between, Noted, Reading, Kept, PartAs, ReadsPart, Around, Ended, indicator_at, Indicated, PartIndicated}
 use Rattle.text_laws.specs.Cells.{sets-append}
 
 -- ---- places in rising order
@@ -75,10 +75,17 @@ module _ {X T U : Type 0} {before : X → State} {after : T → X → State} {na
       let a = R.few in
       record { high = h; few = omega arith; tree = u; noted = noted-as (noted-wider R.noted at end' (omega arith) l) (sym e) (sym f); made = m; same = λ x. R.same x ∙ to x }
 
+-- ---- a parser that goes on
+pub kept-same : {p : Parser} → Kept p p
+kept-same = record { text = refl; uses = refl; predecessors = refl }
+
+pub kept-then : {old mid new : Parser} → Kept old mid → Kept mid new → Kept old new
+kept-then a b = record { text = b.text ∙ a.text; uses = b.uses ∙ a.uses; predecessors = b.predecessors ∙ a.predecessors }
+
 -- ---- what an answer says
-module _ {X : Type 0} {before : X → State} {after : Particle Use → X → State} {s : List ℕ} {at n start : ℕ} {o o' t t' : List ℕ} {r : PartOutcome} where
-  pub part-read : ReadsPart before after s at n start o o' t t' r → {a : PartOutcome} → r ≡ a → PartAs before after s at n start o o' t t' a
-  part-read R u = (subst (ReadsPart before after s at n start o o' t t') u R).says
+module _ {X : Type 0} {before : X → State} {after : Particle Use → X → State} {at : ℕ} {old new : Parser} {r : Result Part ℕ} where
+  pub part-read : ReadsPart before after at old new r → {a : Result Part ℕ} → r ≡ a → PartAs before after at old new a
+  part-read R u = (subst (ReadsPart before after at old new) u R).says
 
 -- ---- a particle and its indicator
 indicated-uses : (o : Indicator) (p : Particle Use) → uses (indicated o p) ≡ uses p
@@ -87,11 +94,14 @@ indicated-uses optional p = refl
 indicated-uses any p = refl
 indicated-uses one_or_more p = refl
 
-module _ {X : Type 0} {before : X → State} {after : Particle Use → X → State} {s : List ℕ} {at n k : ℕ} {o o' t t' : List ℕ} {p : Part}
-    (R : Reading before after uses (λ a. Built k t t' a p.ends) s at n o o' p.at p.n) (around : X → Around) where
-  pub indicated-reading : {y : Part} {t'' : List ℕ} → PartIndicated s p t' t'' y → ((x : X) → Ended s p.at (after R.tree x) R.tree (around x))
-      → Reading before (λ a x. past a (around x).frames (around x).head) uses (λ a. Built k t t'' a y.ends) s at n o o' y.at y.n
-  indicated-reading {y} {t''} Q ended =
+module _ {X : Type 0} {before : X → State} {after : Particle Use → X → State} {s : List ℕ} {at n k : ℕ} {o t : List ℕ} {p : Part} (mid : Parser)
+    (R : Reading before after uses (λ a. Built k t mid.predecessors.now a p.ends) s at n o mid.uses.now p.at mid.count) (around : X → Around) where
+  pub indicated-reading : {y : Part} {new : Parser} → mid.text.now ≡ s → PartIndicated p mid new y → ((x : X) → Ended s p.at (after R.tree x) R.tree (around x))
+      → Reading before (λ a x. past a (around x).frames (around x).head) uses (λ a. Built k t new.predecessors.now a y.ends) s at n o new.uses.now y.at new.count
+  indicated-reading {y} {new} e Q ended =
       let by = indicator_at s p.at in
-      reading-to R (λ a x. past a (around x).frames (around x).head) uses (λ a. Built k t t'' a y.ends) y.at y.n Q.by.low Q.by.high Q.count
-      (indicated by R.tree) (indicated-uses by R.tree) (Q.repeated.built k t R.tree R.made) (λ x. Q.by.same (after R.tree x) R.tree (around x) (ended x))
+      let I = subst (λ (l : List ℕ). Indicated l p.at y.at) e Q.by in
+      let A = subst (λ (l : List ℕ). Repeated (indicator_at l p.at) p.ends mid.predecessors.now new.predecessors.now y.ends) e Q.repeated in
+      subst (λ (l : List ℕ). Reading before (λ a x. past a (around x).frames (around x).head) uses (λ a. Built k t new.predecessors.now a y.ends) s at n o l y.at new.count) (sym Q.only.uses)
+      (reading-to R (λ a x. past a (around x).frames (around x).head) uses (λ a. Built k t new.predecessors.now a y.ends) y.at new.count I.low I.high Q.only.count
+      (indicated by R.tree) (indicated-uses by R.tree) (A.built k t R.tree R.made) (λ x. I.same (after R.tree x) R.tree (around x) (ended x)))

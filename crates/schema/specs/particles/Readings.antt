@@ -1,15 +1,17 @@
 -- What reading a part of a content model answers, in terms of the definition's machine: judging on from where the part starts is judging
 -- on from where it ends.
-use Rattle.std.specs.Prelude.{Bool, cond, ◌||◌, List, [], ◌∷◌, map, ◌≡◌, ℕ, suc, ◌+◌, ◌-◌, ◌≤◌, ◌<◌, eqb, length}
+use Rattle.std.specs.Prelude.{Bool, true, false, cond, ◌||◌, List, [], ◌∷◌, map, ◌≡◌, ℕ, suc, ◌+◌, ◌-◌, ◌≤◌, ◌<◌, eqb, length, Option, Some, None, Result, Ok, Err}
 use Rattle.std.proofs.lemmas.List.Edits.{sets}
+use Rattle.models.specs.declared.Ends.{Ends}
 use Rattle.schema_spec.specs.Declarations.{Use, Indicator, once, optional, any, one_or_more, indicated, Separator, by_bar, by_comma}
 use Rattle.schema_spec.specs.Machine.{Frame, fresh, holding, join, Head, State, expecting, in_use, closed, past, from}
 use Rattle.schema_spec.specs.Models.{Particle, named, uses}
+use Rattle.schema.specs.declared.parsing.Parser.{Parser}
 use Rattle.schema.specs.declared.particles.Follow.{Follow}
-use Rattle.schema.specs.declared.particles.Follow.TheVariants.{Close, More, Fail as FollowFail}
+use Rattle.schema.specs.declared.particles.Follow.TheVariants.{Close, More}
 use Rattle.schema.specs.declared.particles.Part.{Part}
-use Rattle.schema.specs.declared.particles.PartOutcome.{PartOutcome}
-use Rattle.schema.specs.declared.particles.PartOutcome.TheVariants.{Past, Fail}
+use Rattle.schema.specs.declared.particles.Separator.{Separator as Parted}
+use Rattle.schema.specs.declared.particles.Separator.TheVariants.{Bar, Comma}
 use Rattle.schema.specs.particles.Automata.{Built, Repeated, PartedBy}
 use Rattle.text_spec.specs.Bytes.{continues_name}
 use Rattle.text_spec.specs.Machines.{departs}
@@ -47,14 +49,22 @@ pub record Reading {X T : Type 0} (before : X → State) (after : T → X → St
 abbrev pub Fails : {X : Type 0} → (X → State) → List ℕ → ℕ → ℕ → Type 0
 Fails {X} before s at j = (x : X) → from (before x) s at ≡ departs j
 
--- a part of a model, whose positions are counted from `start` on
-abbrev pub PartAs : {X : Type 0} → (X → State) → (Particle Use → X → State) → List ℕ → ℕ → ℕ → ℕ → List ℕ → List ℕ → List ℕ → List ℕ → PartOutcome → Type 0
-PartAs before after s at n start cells cells' links links' (Past p) =
-    Reading before after uses (λ t. Built (n - start) links links' t p.ends) s at n cells cells' p.at p.n
-PartAs before after s at n start cells cells' links links' (Fail j) = Fails before s at j
+-- a parser goes on over the same text and the same lent cells
+pub record Kept (old new : Parser) : Type 0 where
+  pub text : new.text.now ≡ old.text.now
+  pub uses : new.uses.ghost_name ≡ old.uses.ghost_name
+  pub predecessors : new.predecessors.ghost_name ≡ old.predecessors.ghost_name
 
-pub record ReadsPart {X : Type 0} (before : X → State) (after : Particle Use → X → State) (s : List ℕ) (at n start : ℕ) (cells cells' links links' : List ℕ) (r : PartOutcome) : Type 0 where
-  pub says : PartAs before after s at n start cells cells' links links' r
+-- a part of a model, whose positions are counted from the model's first name on
+abbrev pub PartAs : {X : Type 0} → (X → State) → (Particle Use → X → State) → ℕ → Parser → Parser → Result Part ℕ → Type 0
+PartAs before after at old new (Ok p) =
+    Reading before after uses (λ t. Built (old.count - old.start) old.predecessors.now new.predecessors.now t p.ends) old.text.now at old.count old.uses.now new.uses.now p.at new.count
+PartAs before after at old new (Err j) = Fails before old.text.now at j
+
+pub record ReadsPart {X : Type 0} (before : X → State) (after : Particle Use → X → State) (at : ℕ) (old new : Parser) (r : Result Part ℕ) : Type 0 where
+  pub kept : Kept old new
+  pub start : new.start ≡ old.start
+  pub says : PartAs before after at old new r
 
 -- ---- groups, particles and names
 -- the open groups around a part, the innermost first, and the head of the declaration
@@ -91,16 +101,16 @@ abbrev pub group_closed : Particle Use → Around → State
 group_closed t x = closed t x.frames x.head
 
 -- a particle, from where it is due
-abbrev pub ReadsParticle : List ℕ → ℕ → ℕ → ℕ → ℕ → List ℕ → List ℕ → List ℕ → List ℕ → PartOutcome → Type 0
-ReadsParticle s at depth = ReadsPart {X = InsideAt depth} (λ x. particle_due x.0) (λ t x. particle_past t x.0) s at
+abbrev pub ReadsParticle : ℕ → ℕ → Parser → Parser → Result Part ℕ → Type 0
+ReadsParticle at depth = ReadsPart {X = InsideAt depth} (λ x. particle_due x.0) (λ t x. particle_past t x.0) at
 
 -- one that is a name at i
-abbrev pub ReadsName : List ℕ → ℕ → ℕ → ℕ → List ℕ → List ℕ → List ℕ → List ℕ → PartOutcome → Type 0
-ReadsName s i = ReadsPart particle_due particle_past s i
+abbrev pub ReadsName : ℕ → Parser → Parser → Result Part ℕ → Type 0
+ReadsName i = ReadsPart particle_due particle_past i
 
 -- a group, from after its `(`
-abbrev pub ReadsGroup : List ℕ → ℕ → ℕ → ℕ → ℕ → List ℕ → List ℕ → List ℕ → List ℕ → PartOutcome → Type 0
-ReadsGroup s at depth = ReadsPart {X = AroundAt depth} (λ x. group_due x.0) (λ t x. group_closed t x.0) s at
+abbrev pub ReadsGroup : ℕ → ℕ → Parser → Parser → Result Part ℕ → Type 0
+ReadsGroup at depth = ReadsPart {X = AroundAt depth} (λ x. group_due x.0) (λ t x. group_closed t x.0) at
 
 -- ---- indicators
 -- q stands just after the particle p, a name or a group
@@ -125,33 +135,57 @@ pub record Indicated (s : List ℕ) (at r : ℕ) : Type 0 where
   pub same : (q : State) (p : Particle Use) (x : Around) → Ended s at q p x
       → from q s at ≡ from (past (indicated (indicator_at s at) p) x.frames x.head) s r
 
+-- what an indicator makes of the ends of the particle before it, if one stands at a place
+abbrev pub RepeatedAs : List ℕ → ℕ → Ends → List ℕ → List ℕ → Option Ends → Type 0
+RepeatedAs s at ends links links' (Some r) = (at < length s) × (is_indicator (byte_at s at) ≡ true) × Repeated (indicator_at s at) ends links links' r
+RepeatedAs s at ends links links' None = (links' ≡ links) × (is_indicator (byte_at s at) ≡ false)
+
+-- nothing but the links of the automaton is written
+pub record OnlyLinks (old new : Parser) : Type 0 where
+  pub kept : Kept old new
+  pub uses : new.uses.now ≡ old.uses.now
+  pub count : new.count ≡ old.count
+  pub start : new.start ≡ old.start
+
+pub record MayRepeat (at : ℕ) (ends : Ends) (old new : Parser) (r : Option Ends) : Type 0 where
+  pub only : OnlyLinks old new
+  pub says : RepeatedAs old.text.now at ends old.predecessors.now new.predecessors.now r
+
 -- a particle and then the same with its indicator
-pub record PartIndicated (s : List ℕ) (p : Part) (links links' : List ℕ) (r : Part) : Type 0 where
-  pub by : Indicated s p.at r.at
-  pub count : r.n ≡ p.n
-  pub repeated : Repeated (indicator_at s p.at) p.ends links links' r.ends
+pub record PartIndicated (p : Part) (old new : Parser) (r : Part) : Type 0 where
+  pub only : OnlyLinks old new
+  pub by : Indicated old.text.now p.at r.at
+  pub repeated : Repeated (indicator_at old.text.now p.at) p.ends old.predecessors.now new.predecessors.now r.ends
 
 -- ---- separators
--- the byte that parts a group
-abbrev pub separator_of : ℕ → Separator
-separator_of b = cond (eqb b 0x7C) by_bar by_comma
+-- what parts a group
+abbrev pub separator_of : Parted → Separator
+separator_of Bar = by_bar
+separator_of Comma = by_comma
 
--- a byte may part a group that is parted so
-abbrev pub may_part : ℕ → ℕ → Bool
-may_part sep b = cond (eqb sep 0) (eqb b 0x7C || eqb b 0x2C) (eqb b sep)
+-- what may part a group that is parted so
+abbrev pub same : Parted → Parted → Bool
+same Bar Bar = true
+same Bar Comma = false
+same Comma Bar = false
+same Comma Comma = true
+
+abbrev pub may_part : Option Parted → Parted → Bool
+may_part None b = true
+may_part (Some a) b = same a b
 
 -- the group in which one more particle was read and then a separator
-abbrev pub parted : ℕ → Particle Use → Inside → Inside
+abbrev pub parted : Parted → Particle Use → Inside → Inside
 parted b p x = record { frame = holding (separator_of b) (join x.frame p); around = x.around }
 
 -- what follows a particle: the end of its group, or a separator
-abbrev pub FollowedAs : List ℕ → ℕ → ℕ → Follow → Type 0
-FollowedAs s at sep (Close j) =
+abbrev pub FollowedAs : List ℕ → ℕ → Option Parted → Result Follow ℕ → Type 0
+FollowedAs s at sep (Ok (Close j)) =
     (at < j) × (j ≤ length s) × ((p : Particle Use) (x : Inside) → from (particle_past p x) s at ≡ from (group_closed (join x.frame p) x.around) s j)
-FollowedAs s at sep (More b j) =
-    (at < j) × (j ≤ length s) × ((p : Particle Use) (x : Inside) → PartedBy x.frame sep → PartedBy (parted b p x).frame b)
+FollowedAs s at sep (Ok (More b j)) =
+    (at < j) × (j ≤ length s) × ((p : Particle Use) (x : Inside) → PartedBy x.frame sep → PartedBy (parted b p x).frame (Some b))
     × ((p : Particle Use) (x : Inside) → PartedBy x.frame sep → from (particle_past p x) s at ≡ from (particle_due (parted b p x)) s j)
-FollowedAs s at sep (FollowFail j) = (p : Particle Use) (x : Inside) → PartedBy x.frame sep → from (particle_past p x) s at ≡ departs j
+FollowedAs s at sep (Err j) = (p : Particle Use) (x : Inside) → PartedBy x.frame sep → from (particle_past p x) s at ≡ departs j
 
-pub record Followed (s : List ℕ) (at sep : ℕ) (r : Follow) : Type 0 where
+pub record Followed (s : List ℕ) (at : ℕ) (sep : Option Parted) (r : Result Follow ℕ) : Type 0 where
   pub says : FollowedAs s at sep r

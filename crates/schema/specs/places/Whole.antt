@@ -1,12 +1,10 @@
 -- What reading all declarations of a text answers: what it spells, the places of its names in lent cells, and the first place that passes
 -- a limit.
 use mathlib.Core.List.{List, [], map, reverse, Memᴰ as In}
-use Rattle.std.specs.Prelude.{◌≡◌, ℕ, ◌+◌, ◌*◌, ◌≤◌, ◌<◌, length, take, drop}
+use Rattle.std.specs.Prelude.{◌≡◌, ℕ, ◌+◌, ◌*◌, ◌≤◌, ◌<◌, length, take, drop, Option, Some, None, Result, Ok, Err}
 use Rattle.schema_spec.specs.Declarations.{Declaration}
 use Rattle.schema_spec.specs.Machine.{between, from, parse}
 use Rattle.schema_spec.specs.Reading.{limit_places, uses_of}
-use Rattle.schema.specs.declared.places.All.{All}
-use Rattle.schema.specs.declared.places.All.TheVariants.{Past, Fail}
 use Rattle.schema.specs.declared.places.Counts.{Counts}
 use Rattle.schema.specs.particles.Readings.{use_at, Between}
 use Rattle.text.specs.scanning.Outcomes.{NoBlank}
@@ -24,12 +22,13 @@ pub record WithinLimits (s : List ℕ) (ds : List Declaration) (d n i : ℕ) (na
   pub declared-rise : Between 0 i (take d names)
   pub used-rise : Between 0 i (take n uses)
 
-pub data Limits (s : List ℕ) (ds : List Declaration) (d n over i : ℕ) (names uses : List ℕ) : Type 0 where
-  within : over ≡ length s → WithinLimits s ds d n i names uses → Limits s ds d n over i names uses
-  passed : over < length s → over ≤ i → In over (limit_places ds) → ((x : ℕ) → In x (limit_places ds) → over ≤ x) → Limits s ds d n over i names uses
+-- within the limits, or the first place that passes one
+abbrev pub Limits : List ℕ → List Declaration → ℕ → ℕ → Option ℕ → ℕ → List ℕ → List ℕ → Type 0
+Limits s ds d n None i names uses = WithinLimits s ds d n i names uses
+Limits s ds d n (Some over) i names uses = (over < length s) × (over ≤ i) × In over (limit_places ds) × ((x : ℕ) → In x (limit_places ds) → over ≤ x)
 
 -- what was read up to i, where the cells for names held `start`
-pub record UpTo (s : List ℕ) (i d n over : ℕ) (start names uses : List ℕ) : Type 0 where
+pub record UpTo (s : List ℕ) (i d n : ℕ) (over : Option ℕ) (start names uses : List ℕ) : Type 0 where
   -- the last first
   pub done : List Declaration
   pub same : from (between []) s 0 ≡ from (between done) s i
@@ -53,9 +52,9 @@ pub record AllSpelt (s : List ℕ) (c : Counts) (start names uses : List ℕ) : 
   pub rest : drop c.d names ≡ drop c.d start
   pub limits : Limits s declarations c.d c.n c.over (length s) names uses
 
-abbrev pub AllAs : List ℕ → List ℕ → List ℕ → List ℕ → All → Type 0
-AllAs s start names uses (Past c) = AllSpelt s c start names uses
-AllAs s start names uses (Fail j) = parse s ≡ departs j
+abbrev pub AllAs : List ℕ → List ℕ → List ℕ → List ℕ → Result Counts ℕ → Type 0
+AllAs s start names uses (Ok c) = AllSpelt s c start names uses
+AllAs s start names uses (Err j) = parse s ≡ departs j
 
-pub record AllRead (s start names uses : List ℕ) (r : All) : Type 0 where
+pub record AllRead (s start names uses : List ℕ) (r : Result Counts ℕ) : Type 0 where
   pub says : AllAs s start names uses r

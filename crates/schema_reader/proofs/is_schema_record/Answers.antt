@@ -1,31 +1,18 @@
 -- `is_schema_record` meets its contract: the length, then the re-reading.
-use mathlib.Core.Path.{◌≡◌, sym}
-use native.Mathlib.Omega.{arith}
-use borrow.Author.Rules.{rules}
-use lib.ListN.{length}
-use lib.Seq.{length-take-le}
+use Rattle.std.proofs.Common.{sym, ◌∙◌, ne_eqb}
 use Rattle.schema_reader.proofs.Rereading.{record-long, record-refused, record-size, record-cells}
-use Rattle.text_spec.specs.Limits.{max_schema_bytes}
+use Rattle.text.specs.name_bytes.Naming.{slices-same}
 use Rattle.schema_reader.proofs.is_schema_record.Goals as goal
 
-pub returns-then-len-gt-MAX_BYTES : goal.returns-then-len-gt-MAX_BYTES
-returns-then-len-gt-MAX_BYTES c = sym (record-long c.args.schema.bytes c.args.schema.len c.if-len-gt-MAX_BYTES.true)
+pub returns-then-schema-gt-MAX_BYTES : goal.returns-then-schema-gt-MAX_BYTES
+returns-then-schema-gt-MAX_BYTES c = sym (record-long c.args.schema.bytes c.args.schema.len c.if-schema-gt-MAX_BYTES.true)
 
-pub slice_bounds-bytes-end : goal.slice_bounds-bytes-end
-slice_bounds-bytes-end c = let h : length c.args.schema.bytes ≡ max_schema_bytes = search rules in omega arith
+pub returns-then-read-schema : goal.returns-then-read-schema
+returns-then-read-schema c =
+    record-cells c.args.schema.bytes c.args.schema.len c.read_schema-read.ensures c.in-Ok.is c.if-schema-gt-MAX_BYTES.false c.if-read-schema.true (c.eq.ensures ∙ slices-same c.read_schema-read.result.schema.bytes c.args.schema.bytes)
 
-pub slice_bounds-read_schema-end : goal.slice_bounds-read_schema-end
-slice_bounds-read_schema-end c =
-    let h : length c.args.schema.bytes ≡ max_schema_bytes = search rules in sym (length-take-le c.args.schema.len c.args.schema.bytes (omega arith))
+pub returns-else-read-schema : goal.returns-else-read-schema
+returns-else-read-schema c = ne_eqb _ _ c.if-read-schema.false ∙ sym (record-size c.args.schema.bytes c.args.schema.len c.read_schema-read.ensures c.in-Ok.is c.if-read-schema.false)
 
-pub returns-then-again-len : goal.returns-then-again-len
-returns-then-again-len c =
-    sym (record-size c.args.schema.bytes c.args.schema.len c.read_schema-read.ensures c.in-Accepted.is c.if-again-len.true)
-
-pub returns-in-Refused : goal.returns-in-Refused
-returns-in-Refused c =
-    sym (record-refused c.args.schema.bytes c.args.schema.len c.read_schema-read.ensures c.in-Refused.is)
-
-pub returns-else-again-len : goal.returns-else-again-len
-returns-else-again-len c =
-    record-cells c.args.schema.bytes c.args.schema.len c.read_schema-read.ensures c.in-Accepted.is c.if-len-gt-MAX_BYTES.false c.if-again-len.false c.same_cells.ensures
+pub returns-in-Err : goal.returns-in-Err
+returns-in-Err c = sym (record-refused c.args.schema.bytes c.args.schema.len c.read_schema-read.ensures c.in-Err.is)

@@ -1,7 +1,9 @@
 -- Laws of writing the normal form a byte at a time.
-use mathlib.Core.Bool.{Bool, true, false, cond}
+use mathlib.Core.Bool.{Bool, true, false}
 use mathlib.Core.List.{List, [], ◌∷◌, ◌++◌, append-nil, append_assoc}
 use mathlib.Core.Path.{◌≡◌, refl, sym, ap, ◌∙◌}
+use Rattle.std.specs.List.{cons_option}
+use Rattle.std.specs.Prelude.{Option, Some, None}
 use Prim.Native.Nat.{ℕ, zero, suc, ◌+◌, ◌-◌, ◌≤◌, ◌<◌}
 use native.Mathlib.Numerals.{add-one}
 use native.Mathlib.Omega.{arith}
@@ -9,7 +11,7 @@ use borrow.Author.Tests.{eq-eqb, ne_eqb}
 use lib.ListN.{length, drop, get_or, set, length-append, length-set, drop_of_length-le}
 use lib.Seq.{drop-cons, set_at}
 use Rattle.schema_reader.specs.declared.normal_form.NormalStep.{NormalStep}
-use Rattle.schema_reader.specs.normal_form.Normal.{Steps, Stored, Normalized}
+use Rattle.schema_reader.specs.normal_form.Normal.{Steps, StoredAs, Stored, Normalized}
 use Rattle.schema_spec.specs.Records.{normal_from, normal}
 use Rattle.text_laws.specs.Tests.{never, cond_yes, cond_no}
 use Rattle.text_spec.specs.Bytes.{is_blank}
@@ -71,41 +73,35 @@ module _ {s o o' : List ℕ} {i n due : ℕ} {run : Bool} (W : WrittenTo s o o' 
       record { size = sym W.many ∙ ap length e; short = let a = W.few in let b = W.high in omega arith; wrote = W.wrote ∙ ap (λ (l : List ℕ). l ++ drop n o) e }
 
   module _ (l : i < length s) (room : length s ≤ length o) {r : NormalStep} (N : Steps due run (get_or s i 0) r) where
-    byte_more : normal_from due run (drop i s) ≡ cond r.keep (r.byte ∷ normal_from r.due r.run (drop (i + 1) s)) (normal_from r.due r.run (drop (i + 1) s))
+    byte_more : normal_from due run (drop i s) ≡ cons_option r.byte (normal_from r.due r.run (drop (i + 1) s))
     byte_more = ap (normal_from due run) (drop-cons s i 0 l) ∙ N.says (drop (suc i) s) ∙ rw (add-one i)
 
-    pub written_next : {o'' : List ℕ} {m : ℕ} → Stored o' o'' n r.keep r.byte m → WrittenTo s o o'' (i + 1) m r.due r.run
-    written_next {o''} {m} S = go r.keep refl
+    pub written_next : {o'' : List ℕ} {m : ℕ} → Stored o' o'' n r.byte m → WrittenTo s o o'' (i + 1) m r.due r.run
+    written_next {o''} {m} S = go r.byte S.says byte_more
       where
-        go : (t : Bool) → r.keep ≡ t → WrittenTo s o o'' (i + 1) m r.due r.run
-        go true k =
+        go : (byte : Option ℕ) → StoredAs o' o'' n byte m → normal_from due run (drop i s) ≡ cons_option byte (normal_from r.due r.run (drop (i + 1) s)) → WrittenTo s o o'' (i + 1) m r.due r.run
+        go (Some b) (c, x) more =
             let a = W.few in
-            let c : m ≡ n + 1 = S.count ∙ cond_yes (n + 1) n k in
             let q = W.many in
-            let v = length-append W.done (r.byte ∷ []) in
+            let v = length-append W.done (b ∷ []) in
             let f : n < length o = omega arith in
-            let x : o'' ≡ set o' n r.byte = S.wrote ∙ cond_yes (set o' n r.byte) o' k in
             record {
-              done = W.done ++ (r.byte ∷ []);
-              rest =
-                  append_assoc W.done (r.byte ∷ []) (normal_from r.due r.run (drop (i + 1) s))
-                  ∙ ap (λ (z : List ℕ). W.done ++ z) (sym (byte_more ∙ cond_yes (r.byte ∷ normal_from r.due r.run (drop (i + 1) s)) _ k)) ∙ W.rest;
+              done = W.done ++ (b ∷ []);
+              rest = append_assoc W.done (b ∷ []) (normal_from r.due r.run (drop (i + 1) s)) ∙ ap (λ (z : List ℕ). W.done ++ z) (sym more) ∙ W.rest;
               wrote =
-                  x ∙ ap (λ (z : List ℕ). set z n r.byte) (W.wrote ∙ ap (λ (z : List ℕ). W.done ++ z) (drop-cons o n 0 f))
-                  ∙ set_at W.done (get_or o n 0) (drop (suc n) o) r.byte n q ∙ sym (append_assoc W.done (r.byte ∷ []) (drop (suc n) o))
-                  ∙ ap (λ (j : ℕ). (W.done ++ (r.byte ∷ [])) ++ drop j o) (sym (c ∙ add-one n));
+                  x ∙ ap (λ (z : List ℕ). set z n b) (W.wrote ∙ ap (λ (z : List ℕ). W.done ++ z) (drop-cons o n 0 f))
+                  ∙ set_at W.done (get_or o n 0) (drop (suc n) o) b n q ∙ sym (append_assoc W.done (b ∷ []) (drop (suc n) o))
+                  ∙ ap (λ (j : ℕ). (W.done ++ (b ∷ [])) ++ drop j o) (sym (c ∙ add-one n));
               many = omega arith;
               few = omega arith;
               high = omega arith;
-              same = ap length x ∙ length-set o' n r.byte ∙ W.same;
+              same = ap length x ∙ length-set o' n b ∙ W.same;
             }
-        go false k =
+        go None (c, x) more =
             let a = W.few in
-            let c : m ≡ n = S.count ∙ cond_no (n + 1) n k in
-            let x : o'' ≡ o' = S.wrote ∙ cond_no (set o' n r.byte) o' k in
             record {
               done = W.done;
-              rest = ap (λ (z : List ℕ). W.done ++ z) (sym (byte_more ∙ cond_no (r.byte ∷ normal_from r.due r.run (drop (i + 1) s)) _ k)) ∙ W.rest;
+              rest = ap (λ (z : List ℕ). W.done ++ z) (sym more) ∙ W.rest;
               wrote = x ∙ W.wrote ∙ ap (λ (j : ℕ). W.done ++ drop j o) (sym c);
               many = W.many ∙ sym c;
               few = omega arith;

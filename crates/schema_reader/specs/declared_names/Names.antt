@@ -1,12 +1,9 @@
 -- Names by their places: which are the same, declared twice, or used and not declared.
-use Rattle.std.specs.Prelude.{Bool, cond, not, List, [], ◌∷◌, map, ◌≡◌, ℕ, zero, suc, length, get_or}
+use Rattle.std.specs.Prelude.{Bool, cond, not, List, [], ◌∷◌, map, ◌≡◌, ℕ, zero, suc, length, get_or, Result, Ok, Err}
+use Rattle.std.proofs.Math.Option.{some}
 use Rattle.schema_spec.specs.Schemas.{index_from}
 use Rattle.text_spec.specs.Lists.{any_of, filter_by, first, value_or, same_bytes}
 use Rattle.text_spec.specs.Scans.{name_at}
-
--- the first of some places, or the text's length
-abbrev pub first_place : List ℕ → List ℕ → ℕ
-first_place s ps = value_or (length s) (first ps)
 
 -- the names at the first k of some places, the last first
 abbrev pub names_before : List ℕ → List ℕ → ℕ → List (List ℕ)
@@ -30,9 +27,12 @@ missing_at s ns ps = filter_by (λ p. not (is_among s ns p)) ps
 abbrev pub element_at : List ℕ → List ℕ → ℕ → ℕ
 element_at s names p = value_or (length names) (index_from 0 (name_at s p) (map (name_at s) names))
 
--- Used names resolved: the first place whose name is not declared, or the text's length; if there is none, each place has become the element
--- with the name that stands there.
-pub record Resolved (s names uses uses' : List ℕ) (r : ℕ) : Type 0 where
-  pub missing : r ≡ first_place s (missing_at s (names_before s names (length names)) uses)
+-- Used names resolved: each place has become the element with the name that stands there, or else the first place whose name is not declared.
+abbrev pub ResolvedAs : List ℕ → List ℕ → List ℕ → List ℕ → Result (Unit {0}) ℕ → Type 0
+ResolvedAs s names uses uses' (Ok done) =
+    (missing_at s (names_before s names (length names)) uses ≡ []) × (uses' ≡ map (element_at s names) uses)
+ResolvedAs s names uses uses' (Err p) = some p ≡ first (missing_at s (names_before s names (length names)) uses)
+
+pub record Resolved (s names uses uses' : List ℕ) (r : Result (Unit {0}) ℕ) : Type 0 where
   pub long : length uses' ≡ length uses
-  pub elements : missing_at s (names_before s names (length names)) uses ≡ [] → uses' ≡ map (element_at s names) uses
+  pub says : ResolvedAs s names uses uses' r

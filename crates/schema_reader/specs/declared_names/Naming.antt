@@ -1,17 +1,19 @@
 -- Laws of names by their places: sought among others, declared twice, not declared.
-use Rattle.std.specs.Prelude.{Bool, true, false, cond, not, ◌||◌, List, [], ◌∷◌, ◌++◌, map, ◌≡◌, refl, ℕ, zero, suc, ◌+◌, ◌≤◌, ◌<◌, length, drop, take, get_or}
+use Rattle.std.specs.Prelude.{Bool, true, false, cond, not, ◌||◌, List, [], ◌∷◌, ◌++◌, map, ◌≡◌, refl, ℕ, zero, suc, ◌+◌, ◌≤◌, ◌<◌, length, drop, take, get_or, Option, Some, None, is_some}
 use Rattle.std.proofs.lemmas.List.{map-append}
-use Rattle.std.proofs.Common.{sym, ap, ◌∙◌, add-one, arith, drop_of_length-le, drop-cons, take-suc, length-take-le}
+use Rattle.std.proofs.Common.{sym, ap, ◌∙◌, add-one, arith, drop_of_length-le, drop-cons, take-suc}
+use Rattle.std.proofs.Math.Option.{none, some}
 use Rattle.std.proofs.Math.Seq.{take-length}
 use Rattle.schema.specs.declarations.DeclarationLaws.{declared-names}
 use Rattle.schema.specs.particles.Readings.{use_at}
-use Rattle.schema_reader.specs.declared_names.Names.{first_place, names_before, is_among, twice_at, missing_at}
+use Rattle.schema_reader.specs.declared_names.Names.{names_before, is_among, twice_at, missing_at}
 use Rattle.schema_spec.specs.Declarations.{Use, Declaration}
 use Rattle.schema_spec.specs.Reading.{uses_of, twice_places, undeclared_places}
 use Rattle.schema_spec.specs.Schemas.{index_from, declared_names}
-use Rattle.text.specs.lookup.NameLaws.{found-one, found_none}
+use Rattle.text.specs.lookup.Lookup.{found}
+use Rattle.text.specs.lookup.NameLaws.{found-among, none-among}
 use Rattle.text_laws.specs.Tests.{never, cond_yes as yes, cond_no as no}
-use Rattle.text_spec.specs.Lists.{any_of, filter_by, gather, value_or, same_bytes}
+use Rattle.text_spec.specs.Lists.{any_of, filter_by, gather, first, same_bytes}
 use Rattle.text_spec.specs.Scans.{name_at}
 
 -- ---- a name among others
@@ -32,33 +34,34 @@ any-before f s ps (suc k) h =
     ∙ any_append f (map (name_at s) (take k ps)) (name_at s (get_or ps k 0)) ∙ ap (λ (t : Bool). f (name_at s (get_or ps k 0)) || t) (any-before f s ps k (omega arith))
 
 -- what a search of the first k names says
-module _ (s ps qs : List ℕ) (k p : ℕ) (h : k ≤ length ps) (q : qs ≡ take k ps) {r : ℕ} (e : r ≡ value_or (length qs) (index_from 0 (name_at s p) (map (name_at s) qs))) where
-  size : length qs ≡ k
-  size = ap length q ∙ length-take-le k ps h
-
+module _ (s ps qs : List ℕ) (k p : ℕ) (h : k ≤ length ps) (q : qs ≡ take k ps) where
   among : any_of (same_bytes (name_at s p)) (map (name_at s) qs) ≡ is_among s (names_before s ps k) p
   among = ap (λ (l : List ℕ). any_of (same_bytes (name_at s p)) (map (name_at s) l)) q ∙ any-before (same_bytes (name_at s p)) s ps k h
 
-  pub among-found : r < k → is_among s (names_before s ps k) p ≡ true
-  among-found l = sym among ∙ (found-one s qs (name_at s p) e (omega (arith, size))).1
+  pub among-found : {r : ℕ} → some r ≡ index_from 0 (name_at s p) (map (name_at s) qs) → is_among s (names_before s ps k) p ≡ true
+  among-found e = sym among ∙ found-among 0 (name_at s p) (map (name_at s) qs) e
 
-  pub among_none : k ≤ r → is_among s (names_before s ps k) p ≡ false
-  among_none l = sym among ∙ (found_none s qs (name_at s p) e (omega (arith, size))).1
+  pub among_none : none ≡ index_from 0 (name_at s p) (map (name_at s) qs) → is_among s (names_before s ps k) p ≡ false
+  among_none e = sym among ∙ none-among 0 (name_at s p) (map (name_at s) qs) e
+
+  pub among-by : (o : Option ℕ) → found o ≡ index_from 0 (name_at s p) (map (name_at s) qs) → is_some o ≡ is_among s (names_before s ps k) p
+  among-by None e = sym (among_none e)
+  among-by (Some r) e = sym (among-found e)
 
 -- ---- the first name declared before, the first not declared
 module _ (s ps : List ℕ) (i : ℕ) where
   twice-cons : i < length ps → twice_at s (names_before s ps i) (drop i ps) ≡ cond (is_among s (names_before s ps i) (get_or ps i 0)) (get_or ps i 0 ∷ twice_at s (names_before s ps (suc i)) (drop (suc i) ps)) (twice_at s (names_before s ps (suc i)) (drop (suc i) ps))
   twice-cons h = ap (twice_at s (names_before s ps i)) (drop-cons ps i 0 h)
 
-  pub twice-here : i < length ps → is_among s (names_before s ps i) (get_or ps i 0) ≡ true → first_place s (twice_at s (names_before s ps i) (drop i ps)) ≡ get_or ps i 0
-  twice-here h e = ap (first_place s) (twice-cons h ∙ yes (get_or ps i 0 ∷ twice_at s (names_before s ps (suc i)) (drop (suc i) ps)) _ e)
+  pub twice-here : i < length ps → is_among s (names_before s ps i) (get_or ps i 0) ≡ true → first (twice_at s (names_before s ps i) (drop i ps)) ≡ some (get_or ps i 0)
+  twice-here h e = ap first (twice-cons h ∙ yes (get_or ps i 0 ∷ twice_at s (names_before s ps (suc i)) (drop (suc i) ps)) _ e)
 
   pub twice-later : i < length ps → is_among s (names_before s ps i) (get_or ps i 0) ≡ false
-      → first_place s (twice_at s (names_before s ps i) (drop i ps)) ≡ first_place s (twice_at s (names_before s ps (i + 1)) (drop (i + 1) ps))
-  twice-later h e = ap (first_place s) (twice-cons h ∙ no (get_or ps i 0 ∷ twice_at s (names_before s ps (suc i)) (drop (suc i) ps)) _ e) ∙ rw (add-one i)
+      → first (twice_at s (names_before s ps i) (drop i ps)) ≡ first (twice_at s (names_before s ps (i + 1)) (drop (i + 1) ps))
+  twice-later h e = ap first (twice-cons h ∙ no (get_or ps i 0 ∷ twice_at s (names_before s ps (suc i)) (drop (suc i) ps)) _ e) ∙ rw (add-one i)
 
-  pub twice-never : length ps ≤ i → first_place s (twice_at s (names_before s ps i) (drop i ps)) ≡ length s
-  twice-never h = ap (λ (l : List ℕ). first_place s (twice_at s (names_before s ps i) l)) (drop_of_length-le ps h)
+  pub twice-never : length ps ≤ i → first (twice_at s (names_before s ps i) (drop i ps)) ≡ none
+  twice-never h = ap (λ (l : List ℕ). first (twice_at s (names_before s ps i) l)) (drop_of_length-le ps h)
 
 module _ (s : List ℕ) (ns : List (List ℕ)) (ps : List ℕ) (i : ℕ) where
   missing-cons : i < length ps → missing_at s ns (drop i ps) ≡ cond (not (is_among s ns (get_or ps i 0))) (get_or ps i 0 ∷ missing_at s ns (drop (suc i) ps)) (missing_at s ns (drop (suc i) ps))

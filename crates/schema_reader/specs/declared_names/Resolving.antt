@@ -1,24 +1,23 @@
 -- Laws of names resolved to elements: one after the other, and as the schema has them.
-use Rattle.std.specs.Prelude.{Bool, true, false, cond, ◌||◌, ◌≡◌, refl, ℕ, zero, suc, ◌+◌, ◌≤◌, ◌<◌, T, length, drop, get_or, set}
+use Rattle.std.specs.Prelude.{Bool, true, false, cond, ◌||◌, ◌≡◌, refl, ℕ, zero, suc, ◌+◌, ◌≤◌, ◌<◌, T, length, drop, get_or, set, Ok, Err}
 use mathlib.Core.List.Memᴰ.{head as here}
 use mathlib.Core.List.Memᴰ.{tail as there}
 use mathlib.Core.List.{List, [], ◌∷◌, ◌++◌, map, map-append, Memᴰ as In}
-use Rattle.std.proofs.Math.Option.{some}
+use Rattle.std.proofs.Math.Option.{none, some}
 use Rattle.std.proofs.Common.{sym, ap, ap₂, ◌∙◌, arith, length-set, ext_get_or}
 use Rattle.std.proofs.lemmas.List.{length-map}
 use Rattle.std.proofs.Math.Seq.{take-length}
 use Rattle.schema.specs.Judging.{used_in}
 use Rattle.schema.specs.particles.Readings.{use_at}
 use Rattle.schema_laws.specs.Accepted.{index_in, uses_in-rename, declared-use}
-use Rattle.schema_reader.specs.declared_names.Names.{first_place, names_before, missing_at, element_at, Resolved}
+use Rattle.schema_reader.specs.declared_names.Names.{names_before, missing_at, element_at, Resolved}
 use Rattle.schema_reader.specs.declared_names.Naming.{among-found, among_none, missing-here, missing-later, missing-never}
 use Rattle.schema_spec.specs.Declarations.{Use, Declaration}
 use Rattle.schema_spec.specs.Reading.{uses_of, undeclared_places}
 use Rattle.schema_spec.specs.Schemas.{index_from, declared_names, resolved, schema_of}
 use Rattle.text_laws.specs.Lists.{gather-in}
 use Rattle.text_laws.specs.Loops.{Passed, passed_first, passed-next}
-use Rattle.text_laws.specs.Tests.{never}
-use Rattle.text_spec.specs.Lists.{any_of, gather, value_or, same_bytes}
+use Rattle.text_spec.specs.Lists.{any_of, gather, first, value_or, same_bytes}
 use Rattle.text_spec.specs.Scans.{name_at}
 
 -- ---- one by one
@@ -45,7 +44,7 @@ module _ (s names uses : List ℕ) where
   pub resolved-first : ResolvedBefore 0 uses
   resolved-first = record { few = omega arith; long = refl; missing = refl; passed = passed_first ElementOf 0 uses }
 
-  module _ (i : ℕ) (now : List ℕ) (inside : i < length now) (R : ResolvedBefore i now) {e : ℕ} (found : e ≡ element_at s names (get_or now i 0)) where
+  module _ (i : ℕ) (now : List ℕ) (inside : i < length now) (R : ResolvedBefore i now) where
     within : i < length uses
     within =
         let l = R.long in
@@ -54,41 +53,33 @@ module _ (s names uses : List ℕ) where
     same : get_or now i 0 ≡ get_or uses i 0
     same = R.passed.kept i (omega arith)
 
-    sought : e ≡ element_at s names (get_or uses i 0)
-    sought = found ∙ ap (element_at s names) same
+    pub resolved-stops : none ≡ index_from 0 (name_at s (get_or now i 0)) (map (name_at s) names) → Resolved s names uses now (Err (get_or now i 0))
+    resolved-stops found =
+        let absent = among_none s names names (length names) (get_or uses i 0) (omega arith) (sym (take-length names)) (found ∙ ap (λ (p : ℕ). index_from 0 (name_at s p) (map (name_at s) names)) same) in
+        record { long = R.long; says = ap some same ∙ sym (ap first (R.missing ∙ missing-here s declared uses i within absent)) }
 
-    pub resolved-stops : length names ≤ e → Resolved s names uses now (get_or now i 0)
-    resolved-stops h =
-        let absent = among_none s names names (length names) (get_or uses i 0) (omega arith) (sym (take-length names)) sought h in
-        let stops = R.missing ∙ missing-here s declared uses i within absent in
-        record {
-          missing = same ∙ sym (ap (first_place s) stops);
-          long = R.long;
-          elements = λ none. let z : [] ≡ get_or uses i 0 ∷ missing_at s declared (drop (suc i) uses) = sym none ∙ stops in never (cc);
-        }
-
-    pub resolved-next : e < length names → ResolvedBefore (i + 1) (set now i e)
-    resolved-next h =
-        let present = among-found s names names (length names) (get_or uses i 0) (omega arith) (sym (take-length names)) sought h in
+    pub resolved-next : {e : ℕ} → some e ≡ index_from 0 (name_at s (get_or now i 0)) (map (name_at s) names) → ResolvedBefore (i + 1) (set now i e)
+    resolved-next {e} found =
+        let sought = found ∙ ap (λ (p : ℕ). index_from 0 (name_at s p) (map (name_at s) names)) same in
+        let present = among-found s names names (length names) (get_or uses i 0) (omega arith) (sym (take-length names)) sought in
         let w = within in
         record {
           few = omega arith;
           long = length-set now i e ∙ R.long;
           missing = R.missing ∙ missing-later s declared uses i within present;
-          passed = passed-next ElementOf 0 uses i now e inside R.passed sought;
+          passed = passed-next ElementOf 0 uses i now e inside R.passed (ap (value_or (length names)) sought);
         }
 
-  pub resolved-all : (i : ℕ) (now : List ℕ) → length now ≤ i → ResolvedBefore i now → Resolved s names uses now (length s)
+  pub resolved-all : (i : ℕ) (now : List ℕ) → length now ≤ i → ResolvedBefore i now → Resolved s names uses now (Ok tt)
   resolved-all i now past R =
       let l = R.long in
-      let none = R.missing ∙ missing-never s declared uses i (omega arith) in
       record {
-        missing = sym (ap (first_place s) none);
         long = l;
-        elements =
-            λ z.
-            ext_get_or 0 now (map (element_at s names) uses) (l ∙ sym (length-map uses (element_at s names)))
-            (λ j h. R.passed.done j (omega arith) ∙ sym (get_d-map-within (element_at s names) uses j 0 0 (omega arith)));
+        says = (
+          R.missing ∙ missing-never s declared uses i (omega arith),
+          ext_get_or 0 now (map (element_at s names) uses) (l ∙ sym (length-map uses (element_at s names)))
+              (λ j h. R.passed.done j (omega arith) ∙ sym (get_d-map-within (element_at s names) uses j 0 0 (omega arith))),
+        );
       }
 
 -- ---- as the schema has them

@@ -5,16 +5,16 @@ use mathlib.Core.List.Memᴰ.{head as here}
 use mathlib.Core.List.Memᴰ.{tail as there}
 use mathlib.Core.List.{List, [], ◌∷◌, ◌++◌, Memᴰ as In}
 use Rattle.std.proofs.Common.{inl, inr, sym, ap₂, subst, ◌∙◌, arith, ltb-true, ltb-false, le-ltb, eq-eqb, ne_eqb}
-use Rattle.std.proofs.Math.Option.{some}
+use Rattle.std.proofs.Math.Option.{none, some}
 use Rattle.std.proofs.Math.Path.{refl, ap}
-use Rattle.schema.specs.particles.ReadingLaws.{between-low, between-from}
+use Rattle.schema.specs.particles.ReadingLaws.{between-from}
 use Rattle.schema.specs.particles.Readings.{Between}
 use Rattle.schema.specs.places.PlaceLaws.{head-least}
 use Rattle.schema_laws.specs.Lists.{in-nothing}
-use Rattle.schema_reader.specs.declared_names.Names.{first_place, is_among, twice_at}
+use Rattle.schema_reader.specs.declared_names.Names.{is_among, twice_at}
 use Rattle.text_laws.specs.Lists.{map-in}
-use Rattle.text_laws.specs.Tests.{cond_yes as yes, cond_no as no}
-use Rattle.text_spec.specs.Lists.{filter_by, places_from}
+use Rattle.text_laws.specs.Tests.{never, cond_yes as yes, cond_no as no}
+use Rattle.text_spec.specs.Lists.{filter_by, first, places_from}
 use Rattle.text_spec.specs.Refusals.{Reason, number_of, Refusal, at, all_at, before, first_from, first_of}
 use Rattle.text_spec.specs.Scans.{name_at}
 
@@ -76,20 +76,15 @@ module _ (r : Reason) (rest : List Refusal) (later : Later r rest) where
   least_first (k ∷ ks) m i l = ap some (least-from k ks m i l)
 
 -- ---- the first of places in rising order is the least
-module _ (s ks : List ℕ) {k : ℕ} (b : Between 0 (length s) ks) (e : k ≡ first_place s ks) where
-  pub place_found : k < length s → In k ks × ((x : ℕ) → In x ks → k ≤ x)
-  place_found h = go ks b e
-    where
-      go : (l : List ℕ) → Between 0 (length s) l → k ≡ first_place s l → In k l × ((x : ℕ) → In x l → k ≤ x)
-      go [] b e = absurd (omega arith)
-      go (p ∷ ps) b e = (here e, λ x i. let z = head-least 0 (length s) p ps b i in omega arith)
+pub place_found : (low high : ℕ) (ks : List ℕ) → Between low high ks → {k : ℕ} → some k ≡ first ks → In k ks × ((x : ℕ) → In x ks → k ≤ x)
+place_found low high [] b e = never (cc)
+place_found low high (p ∷ ps) b {k} e =
+    let q : k ≡ p = cc in
+    (here q, λ x i. let z = head-least low high p ps b i in omega arith)
 
-  pub place_none : length s ≤ k → ks ≡ []
-  place_none h = go ks b e
-    where
-      go : (l : List ℕ) → Between 0 (length s) l → k ≡ first_place s l → l ≡ []
-      go [] b e = refl
-      go (p ∷ ps) b e = absurd (let z = between-low (suc p) (length s) ps b.1 in omega arith)
+pub place_none : (ks : List ℕ) → none ≡ first ks → ks ≡ []
+place_none [] e = refl
+place_none (p ∷ ps) e = never (cc)
 
 pub places-rise : {A : Type 0} (f : A → Bool) (k : ℕ) (xs : List A) → Between k (k + length xs) (places_from k f xs)
 places-rise f k [] = omega arith

@@ -1,27 +1,21 @@
 -- Laws of the judgement: each refusal in its order, and acceptance.
-use Rattle.std.specs.Prelude.{Bool, true, false, ◌||◌, ◌≡◌, refl, ℕ, ◌+◌, ◌-◌, ◌≤◌, ◌<◌, ltb, length, take, drop, replicate}
+use Rattle.std.specs.Prelude.{Bool, true, false, ◌||◌, ◌≡◌, refl, ℕ, ◌+◌, ◌-◌, ◌≤◌, ◌<◌, ltb, length, take, drop, replicate, Option as Maybe, Some, None, Result, Ok, Err}
 use mathlib.Core.List.Memᴰ.{head as here}
 use mathlib.Core.List.Memᴰ.{tail as there}
 use mathlib.Core.List.{List, [], ◌∷◌, ◌++◌, map, map-map, append-nil, Memᴰ as In}
-use Rattle.std.proofs.Math.Option.{Option, some}
+use Rattle.std.proofs.Math.Option.{Option, none, some}
 use Rattle.std.proofs.Math.Path.{sym, ap, ap₂}
 use Rattle.std.proofs.Common.{subst, ◌∙◌, arith, lt-ltb, le-ltb, take-append-drop, take_at, length-take-le}
 use Rattle.std.proofs.lemmas.List.{length-map}
 use Rattle.std.proofs.Math.Seq.{take-length}
-use Rattle.schema.specs.Judging.{reason_of, sized, JudgedAs, JudgedInto, declared_at, used_in}
+use Rattle.schema.specs.Judging.{sized, JudgedAs, JudgedInto, declared_at, used_in}
 use Rattle.schema.specs.declarations.DeclarationLaws.{declared-names}
-use Rattle.schema.specs.declared.Judgement.{Judgement}
-use Rattle.schema.specs.declared.Judgement.TheVariants.{Accepted, Refused}
-use Rattle.schema.specs.declared.Kind.{Kind}
-use Rattle.schema.specs.declared.Kind.TheVariants.{BadLength, BadByte, BadGrammar, OverLimit, DeclaredTwice, Undeclared}
-use Rattle.schema.specs.declared.places.All.{All}
-use Rattle.schema.specs.declared.places.All.TheVariants.{Past as AllPast, Fail as AllFail}
 use Rattle.schema.specs.declared.places.Counts.{Counts}
 use Rattle.schema.specs.particles.Readings.{use_at, Between}
 use Rattle.schema.specs.places.PlaceLaws.{places-back}
-use Rattle.schema.specs.places.Whole.{WithinLimits, Limits, within, passed, AllSpelt, AllRead}
+use Rattle.schema.specs.places.Whole.{WithinLimits, Limits, AllSpelt, AllRead}
 use Rattle.schema_laws.specs.Accepted.{names-of-elements}
-use Rattle.schema_reader.specs.declared_names.Names.{first_place, names_before, twice_at, missing_at, Resolved}
+use Rattle.schema_reader.specs.declared_names.Names.{names_before, twice_at, missing_at, Resolved}
 use Rattle.schema_reader.specs.declared_names.Naming.{twice-places, undeclared-places}
 use Rattle.schema_reader.specs.declared_names.Resolving.{used-elements}
 use Rattle.schema_reader.specs.judging_laws.Order.{Later, later-none, later-all, later-append, least_first, place_found, place_none, places-rise, filter-rise, twice-rise}
@@ -30,13 +24,16 @@ use Rattle.schema_spec.specs.Declarations.{Use, Declaration}
 use Rattle.schema_spec.specs.Machine.{parse}
 use Rattle.schema_spec.specs.Reading.{limit_places, twice_places, undeclared_places, uses_of, parsed_refusals, parsed_schema, schema_refusals, read_schema}
 use Rattle.schema_spec.specs.Schemas.{Schema, schema_of, resolved, declared_names}
-use Rattle.text.specs.Places.{foreign_place}
+use Rattle.text.specs.declared.refusals.Reason.{Reason as Why}
+use Rattle.text.specs.declared.refusals.Reason.TheVariants.{BadLength, BadByte, BadSchema, OverSchemaLimit, DeclaredTwice, UndeclaredInModel}
+use Rattle.text.specs.declared.refusals.Refusal.{Refusal as Told}
+use Rattle.text.specs.refusals.Refusals.{reason_in, refusal}
 use Rattle.text_laws.specs.Cells.{drop-replicate, padded-content}
 use Rattle.text_laws.specs.Tests.{never}
 use Rattle.text_spec.specs.Bytes.{is_foreign}
 use Rattle.text_spec.specs.Cells.{padded}
 use Rattle.text_spec.specs.Limits.{max_declarations, max_schema_bytes}
-use Rattle.text_spec.specs.Lists.{is_empty, places_from, gather}
+use Rattle.text_spec.specs.Lists.{is_empty, first, places_from, gather}
 use Rattle.text_spec.specs.Machines.{Parsed, spells, departs}
 use Rattle.text_spec.specs.Refusals.{Reason, bad_length, bad_byte, bad_schema, over_schema_limit, declared_twice, undeclared_in_model, number_of, Refusal, at, all_at, given, first_of, accepted, refused, by_first, judged}
 use Rattle.text_spec.specs.Scans.{name_at}
@@ -51,19 +48,19 @@ first-outcome : (text : List ℕ) (f : Refusal) → FirstIs text f → read_sche
 unfolding read_schema
 first-outcome text f e = ap (λ (o : Option Refusal). by_first o (parsed_schema (parse text))) e
 
-read-refused : (text : List ℕ) (k : Kind) (p : ℕ) → FirstIs text (at (reason_of k) p) → JudgedAs text (Refused k p)
-read-refused text k p e = record { outcome = ap sized (sym (first-outcome text (at (reason_of k) p) e)) }
+read-refused : (text : List ℕ) (k : Why) (p : ℕ) → FirstIs text (at (reason_in k) p) → JudgedAs text (Err (refusal k p))
+read-refused text k p e = record { outcome = ap sized (sym (first-outcome text (at (reason_in k) p) e)) }
 
-not-accepted : (text : List ℕ) {k : Kind} {p : ℕ} → JudgedAs text (Refused k p) → (s : Schema) → read_schema text ≡ accepted s → ⊥
-not-accepted text {k} {p} J s e =
-    let z : refused (at (reason_of k) p) ≡ accepted (length s) = J.outcome ∙ ap sized e in
+not-accepted : (text : List ℕ) {f : Told} → JudgedAs text (Err f) → (s : Schema) → read_schema text ≡ accepted s → ⊥
+not-accepted text {f} J s e =
+    let z : refused (at (reason_in f.reason) f.place) ≡ accepted (length s) = J.outcome ∙ ap sized e in
     never (cc)
 
-module _ {text names uses : List ℕ} {k : Kind} {p : ℕ} (J : JudgedAs text (Refused k p)) where
-  pub refused-into : JudgedInto text names uses (Refused k p)
+module _ {text names uses : List ℕ} {f : Told} (J : JudgedAs text (Err f)) where
+  pub refused-into : JudgedInto text names uses (Err f)
   refused-into = record { outcome = J.outcome; located = λ s e. absurd (not-accepted text J s e) }
 
-  pub refused-names : {uses' : List ℕ} → length uses' ≡ length uses → JudgedNames text names uses uses' (Refused k p)
+  pub refused-names : {uses' : List ℕ} → length uses' ≡ length uses → JudgedNames text names uses uses' (Err f)
   refused-names l =
       record { outcome = J.outcome; long = l; named = λ s e. absurd (not-accepted text J s e); elements = λ s e. absurd (not-accepted text J s e) }
 
@@ -98,14 +95,14 @@ module _ (text : List ℕ) where
       (later-append bad_length (byte_refusals text) (parsed_refusals (parse text)) (later-all bad_length bad_byte (places_from 0 is_foreign text) (omega arith)) (parsed-later bad_length (omega arith) (parse text)))
       (0 ∷ []) 0 (here refl) (λ x i. omega arith)
 
-  pub read-empty : length text ≡ 0 → JudgedAs text (Refused BadLength 0)
+  pub read-empty : length text ≡ 0 → JudgedAs text (Err (refusal BadLength 0))
   read-empty e = read-refused text BadLength 0 (length-first (go text e))
     where
       go : (t : List ℕ) → length t ≡ 0 → (is_empty t || ltb max_schema_bytes (length t)) ≡ true
       go [] e = refl
       go (b ∷ t) e = absurd (omega arith)
 
-  pub read-long : max_schema_bytes < length text → JudgedAs text (Refused BadLength 0)
+  pub read-long : max_schema_bytes < length text → JudgedAs text (Err (refusal BadLength 0))
   read-long h = read-refused text BadLength 0 (length-first (go (is_empty text)))
     where
       go : (t : Bool) → (t || ltb max_schema_bytes (length text)) ≡ true
@@ -123,15 +120,11 @@ module _ (text : List ℕ) (n : length text ≡ 0 → ⊥) (h : length text ≤ 
   rising : Between 0 (length text) (places_from 0 is_foreign text)
   rising = subst (λ (k : ℕ). Between 0 k (places_from 0 is_foreign text)) (let e : 0 + length text ≡ length text = omega arith in e) (places-rise is_foreign 0 text)
 
-  module _ {k : ℕ} (e : k ≡ foreign_place text) where
-    pub read-foreign : k < length text → JudgedAs text (Refused BadByte k)
-    read-foreign l = read-refused text BadByte k (go (place_found text (places_from 0 is_foreign text) rising e l))
-      where
-        go : In k (places_from 0 is_foreign text) × ((x : ℕ) → In x (places_from 0 is_foreign text) → k ≤ x) → FirstIs text (at bad_byte k)
-        go z = byte-first text length-passes k z.0 z.1
+  pub read-foreign : {k : ℕ} → some k ≡ first (places_from 0 is_foreign text) → JudgedAs text (Err (refusal BadByte k))
+  read-foreign {k} e = let z = place_found 0 (length text) (places_from 0 is_foreign text) rising e in read-refused text BadByte k (byte-first text length-passes k z.0 z.1)
 
-    pub readable : length text ≤ k → Readable text
-    readable l = record { right-length = length-passes; right-bytes = ap (all_at bad_byte) (place_none text (places_from 0 is_foreign text) rising e l); short = h }
+  pub readable : none ≡ first (places_from 0 is_foreign text) → Readable text
+  readable e = record { right-length = length-passes; right-bytes = ap (all_at bad_byte) (place_none (places_from 0 is_foreign text) e); short = h }
 
 -- ---- 4 to 7
 module _ (text : List ℕ) (R : Readable text) where
@@ -139,16 +132,16 @@ module _ (text : List ℕ) (R : Readable text) where
   unfolding schema_refusals
   refusals-from e = ap₂ (λ (x y : List Refusal). x ++ (y ++ parsed_refusals (parse text))) R.right-length R.right-bytes ∙ ap parsed_refusals e
 
-  pub read-departs : {j : ℕ} → parse text ≡ departs j → JudgedAs text (Refused BadGrammar j)
-  read-departs {j} e = read-refused text BadGrammar j (ap first_of (refusals-from e) ∙ least_first bad_schema [] (later-none bad_schema) (j ∷ []) j (here refl) (λ x i. only i))
+  pub read-departs : {j : ℕ} → parse text ≡ departs j → JudgedAs text (Err (refusal BadSchema j))
+  read-departs {j} e = read-refused text BadSchema j (ap first_of (refusals-from e) ∙ least_first bad_schema [] (later-none bad_schema) (j ∷ []) j (here refl) (λ x i. only i))
     where
       only : {x : ℕ} → In x (j ∷ []) → j ≤ x
       only (here q) = omega arith
       only (there i) = elim i [ ]
 
-  pub read-over : {ds : List Declaration} (k : ℕ) → parse text ≡ spells ds → In k (limit_places ds) → ((x : ℕ) → In x (limit_places ds) → k ≤ x) → JudgedAs text (Refused OverLimit k)
+  pub read-over : {ds : List Declaration} (k : ℕ) → parse text ≡ spells ds → In k (limit_places ds) → ((x : ℕ) → In x (limit_places ds) → k ≤ x) → JudgedAs text (Err (refusal OverSchemaLimit k))
   read-over {ds} k e i l =
-      read-refused text OverLimit k
+      read-refused text OverSchemaLimit k
       (ap first_of (refusals-from e)
       ∙ least_first over_schema_limit (all_at declared_twice (twice_places [] ds) ++ all_at undeclared_in_model (undeclared_places ds))
       (later-append over_schema_limit (all_at declared_twice (twice_places [] ds)) (all_at undeclared_in_model (undeclared_places ds)) (later-all over_schema_limit declared_twice (twice_places [] ds) (omega arith))
@@ -174,93 +167,76 @@ module _ {text names uses : List ℕ} (S : Spelling text names uses) where
       ∙ ap (λ (l : List ℕ). all_at over_schema_limit l ++ (all_at declared_twice (twice_places [] S.declarations) ++ all_at undeclared_in_model (undeclared_places S.declarations))) S.kept.free
       ∙ ap₂ (λ (x y : List ℕ). all_at declared_twice x ++ all_at undeclared_in_model y) (twice-places text [] S.declarations names declared-by) (undeclared-places text S.declarations names uses declared-by used-by)
 
-  module _ {again : ℕ} (t : again ≡ first_place text (twice_at text [] names)) where
-    pub read_twice : again < length text → JudgedAs text (Refused DeclaredTwice again)
-    read_twice l =
-        let z = place_found text (twice_at text [] names) (twice-rise text [] 0 (length text) names names-rise) t l in
-        read-refused text DeclaredTwice again
-        (ap first_of all-refusals
-        ∙ least_first declared_twice (all_at undeclared_in_model (missing_at text (names_before text names (length names)) uses))
-        (later-all declared_twice undeclared_in_model (missing_at text (names_before text names (length names)) uses) (omega arith)) (twice_at text [] names) again z.0 z.1)
+  pub read_twice : {again : ℕ} → some again ≡ first (twice_at text [] names) → JudgedAs text (Err (refusal DeclaredTwice again))
+  read_twice {again} t =
+      let z = place_found 0 (length text) (twice_at text [] names) (twice-rise text [] 0 (length text) names names-rise) t in
+      read-refused text DeclaredTwice again
+      (ap first_of all-refusals
+      ∙ least_first declared_twice (all_at undeclared_in_model (missing_at text (names_before text names (length names)) uses))
+      (later-all declared_twice undeclared_in_model (missing_at text (names_before text names (length names)) uses) (omega arith)) (twice_at text [] names) again z.0 z.1)
 
-    module _ (l : length text ≤ again) {lost : ℕ} (u : lost ≡ first_place text (missing_at text (names_before text names (length names)) uses)) where
-      lost-refusals : schema_refusals text ≡ all_at undeclared_in_model (missing_at text (names_before text names (length names)) uses)
-      lost-refusals =
-          all-refusals
-          ∙ ap (λ (x : List ℕ). all_at declared_twice x ++ all_at undeclared_in_model (missing_at text (names_before text names (length names)) uses))
-          (place_none text (twice_at text [] names) (twice-rise text [] 0 (length text) names names-rise) t l)
+  module _ (t : none ≡ first (twice_at text [] names)) where
+    lost-refusals : schema_refusals text ≡ all_at undeclared_in_model (missing_at text (names_before text names (length names)) uses)
+    lost-refusals =
+        all-refusals
+        ∙ ap (λ (x : List ℕ). all_at declared_twice x ++ all_at undeclared_in_model (missing_at text (names_before text names (length names)) uses)) (place_none (twice_at text [] names) t)
 
-      lost-rise : Between 0 (length text) (missing_at text (names_before text names (length names)) uses)
-      lost-rise = filter-rise _ 0 (length text) uses uses-rise
+    pub read-undeclared : {lost : ℕ} → some lost ≡ first (missing_at text (names_before text names (length names)) uses) → JudgedAs text (Err (refusal UndeclaredInModel lost))
+    read-undeclared {lost} u =
+        let z = place_found 0 (length text) (missing_at text (names_before text names (length names)) uses) (filter-rise _ 0 (length text) uses uses-rise) u in
+        read-refused text UndeclaredInModel lost
+        (ap first_of (lost-refusals ∙ sym (append-nil (all_at undeclared_in_model (missing_at text (names_before text names (length names)) uses))))
+        ∙ least_first undeclared_in_model [] (later-none undeclared_in_model) (missing_at text (names_before text names (length names)) uses) lost z.0 z.1)
 
-      pub read-undeclared : lost < length text → JudgedAs text (Refused Undeclared lost)
-      read-undeclared h =
-          let z = place_found text (missing_at text (names_before text names (length names)) uses) lost-rise u h in
-          read-refused text Undeclared lost
-          (ap first_of (lost-refusals ∙ sym (append-nil (all_at undeclared_in_model (missing_at text (names_before text names (length names)) uses))))
-          ∙ least_first undeclared_in_model [] (later-none undeclared_in_model) (missing_at text (names_before text names (length names)) uses) lost z.0 z.1)
+    names-here : map (name_at text) names ≡ declared_names S.declarations
+    names-here = sym (declared-names text S.declarations names declared-by)
 
-      free : length text ≤ lost → schema_refusals text ≡ []
-      free h = lost-refusals ∙ ap (all_at undeclared_in_model) (place_none text (missing_at text (names_before text names (length names)) uses) lost-rise u h)
+    named_here : map (name_at text) names ≡ map (λ e. e.name) (schema_of S.declarations)
+    unfolding schema_of
+    named_here = names-here ∙ sym (names-of-elements (declared_names S.declarations) S.declarations)
 
-      accepts : length text ≤ lost → read_schema text ≡ accepted (schema_of S.declarations)
-      accepts h = accepted-outcome text S.spelt (free h)
+    pub read-accepted : {uses' : List ℕ} {u : Unit {0}} → Resolved text names uses uses' (Ok u) → JudgedNames text names uses uses' (Ok (length names))
+    read-accepted {uses'} R =
+        record {
+          outcome =
+              ap accepted (sym (elements S.declarations ∙ sym (length-map S.declarations (λ e. e.name)) ∙ ap length declared-by ∙ length-map names (use_at text)))
+              ∙ ap sized (sym accepts);
+          long = R.long;
+          named = λ s e. subst (λ (x : Schema). map (name_at text) names ≡ map (λ e. e.name) x) (given-schema s e) named_here;
+          elements = λ s e. subst (λ (x : Schema). uses' ≡ used_in x) (given-schema s e) used-here;
+        }
+      where
+        accepts : read_schema text ≡ accepted (schema_of S.declarations)
+        accepts = accepted-outcome text S.spelt (lost-refusals ∙ ap (all_at undeclared_in_model) R.says.0)
 
-      names-here : map (name_at text) names ≡ declared_names S.declarations
-      names-here = sym (declared-names text S.declarations names declared-by)
+        given-schema : (s : Schema) → read_schema text ≡ accepted s → schema_of S.declarations ≡ s
+        given-schema s e =
+            let z : accepted (schema_of S.declarations) ≡ accepted s = sym accepts ∙ e in
+            cc
 
-      named_here : map (name_at text) names ≡ map (λ e. e.name) (schema_of S.declarations)
-      unfolding schema_of
-      named_here = names-here ∙ sym (names-of-elements (declared_names S.declarations) S.declarations)
-
-      pub read-accepted : {uses' : List ℕ} → Resolved text names uses uses' lost → length text ≤ lost → JudgedNames text names uses uses' (Accepted (length names))
-      read-accepted {uses'} R h =
-          record {
-            outcome =
-                ap accepted (sym (elements S.declarations ∙ sym (length-map S.declarations (λ e. e.name)) ∙ ap length declared-by ∙ length-map names (use_at text)))
-                ∙ ap sized (sym (accepts h));
-            long = R.long;
-            named = λ s e. subst (λ (x : Schema). map (name_at text) names ≡ map (λ e. e.name) x) (given-schema s e) named_here;
-            elements = λ s e. subst (λ (x : Schema). uses' ≡ used_in x) (given-schema s e) used-here;
-          }
-        where
-          given-schema : (s : Schema) → read_schema text ≡ accepted s → schema_of S.declarations ≡ s
-          given-schema s e =
-              let z : accepted (schema_of S.declarations) ≡ accepted s = sym (accepts h) ∙ e in
-              cc
-
-          none-missing : missing_at text (names_before text names (length names)) uses ≡ []
-          none-missing = place_none text (missing_at text (names_before text names (length names)) uses) lost-rise u h
-
-          used-here : uses' ≡ used_in (schema_of S.declarations)
-          used-here =
-              R.elements none-missing
-              ∙ used-elements text names uses S.declarations names-here used-by
-              (undeclared-places text S.declarations names uses declared-by used-by ∙ none-missing)
+        used-here : uses' ≡ used_in (schema_of S.declarations)
+        used-here =
+            R.says.1
+            ∙ used-elements text names uses S.declarations names-here used-by
+            (undeclared-places text S.declarations names uses declared-by used-by ∙ R.says.0)
 
 -- ---- from the lent places
-module _ {s start names uses : List ℕ} {r : All} (A : AllRead s start names uses r) where
-  pub judge-departs : {j : ℕ} → Readable s → r ≡ AllFail j → JudgedAs s (Refused BadGrammar j)
+module _ {s start names uses : List ℕ} {r : Result Counts ℕ} (A : AllRead s start names uses r) where
+  pub judge-departs : {j : ℕ} → Readable s → r ≡ Err j → JudgedAs s (Err (refusal BadSchema j))
   judge-departs R u = read-departs s R (subst (AllRead s start names uses) u A).says
 
-  module _ {c : Counts} (u : r ≡ AllPast c) where
+  module _ {c : Counts} (u : r ≡ Ok c) where
     spelt : AllSpelt s c start names uses
     spelt = (subst (AllRead s start names uses) u A).says
 
-    pub judge-over : Readable s → c.over < length s → JudgedAs s (Refused OverLimit c.over)
-    judge-over R h = go spelt.limits
-      where
-        go : Limits s spelt.declarations c.d c.n c.over (length s) names uses → JudgedAs s (Refused OverLimit c.over)
-        go (within e k) = absurd (omega arith)
-        go (passed b d i l) = read-over s R c.over spelt.spelt i l
+    pub judge-over : {over : ℕ} → Readable s → c.over ≡ Some over → JudgedAs s (Err (refusal OverSchemaLimit over))
+    judge-over {over} R e =
+        let L = subst (λ (o : Maybe ℕ). Limits s spelt.declarations c.d c.n o (length s) names uses) e spelt.limits in
+        read-over s R over spelt.spelt L.2 L.3
 
-    module _ (h : length s ≤ c.over) where
+    module _ (e : c.over ≡ None) where
       kept-all : WithinLimits s spelt.declarations c.d c.n (length s) names uses
-      kept-all = go spelt.limits
-        where
-          go : Limits s spelt.declarations c.d c.n c.over (length s) names uses → WithinLimits s spelt.declarations c.d c.n (length s) names uses
-          go (within e k) = k
-          go (passed b d i l) = absurd (omega arith)
+      kept-all = subst (λ (o : Maybe ℕ). Limits s spelt.declarations c.d c.n o (length s) names uses) e spelt.limits
 
       pub judge-room : (c.d ≤ length names) × (c.n ≤ length uses) × (c.d ≡ length (take c.d names)) × (c.n ≡ length (take c.n uses))
       judge-room =
@@ -296,7 +272,7 @@ module _ {s start names uses : List ℕ} {r : All} (A : AllRead s start names us
           sym (places-back s (take c.d names)) ∙ ap (map (λ u. u.place)) (sym kept-all.declared-at)
           ∙ map-map (λ (u : Use). u.place) (λ (d : Declaration). d.name) spelt.declarations
 
-      pub judge-into : start ≡ replicate max_declarations 0 → {uses' : List ℕ} {j : Judgement} → JudgedNames s (take c.d names) (take c.n uses) uses' j
+      pub judge-into : start ≡ replicate max_declarations 0 → {uses' : List ℕ} {j : Result ℕ Told} → JudgedNames s (take c.d names) (take c.n uses) uses' j
           → JudgedInto s names (uses' ++ drop c.n uses) j
       judge-into clear {uses'} J =
           record {

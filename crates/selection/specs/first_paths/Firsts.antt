@@ -1,19 +1,23 @@
 -- The first path that marks a row, by its place counted from 1.
-use Rattle.std.specs.Prelude.{Bool, ◌≡◌, refl, eqb, get_or, set, drop, replicate}
+use Rattle.std.specs.Prelude.{Bool, not, ◌≡◌, refl, eqb, get_or, set, drop, replicate}
+use Rattle.std.specs.Int.{from_bool}
+use Rattle.std.proofs.Math.Seq.{drop-length}
 use Rattle.std.proofs.Math.Bool.{true, false, cond}
 use mathlib.Core.List.{List, [], ◌∷◌, map}
 use Rattle.std.proofs.Math.Path.{sym, ap}
-use Rattle.std.proofs.Common.{◌∙◌, add-one, eq-eqb, ne_eqb, length-set, drop-cons}
+use Rattle.std.proofs.Common.{◌∙◌, add-one, ne_eqb, length-set, drop-cons}
 use Prim.Native.Nat.{ℕ, zero, suc, ◌+◌, ◌-◌, ◌≤◌, ◌<◌}
 use native.Mathlib.Omega.{arith}
 use Rattle.std.proofs.Math.ListN.{length, length-replicate}
 use Rattle.std.proofs.lemmas.List.{get_or-replicate}
-use Rattle.std.proofs.Math.Seq.{drop-length}
 use Rattle.axis_passes.specs.steps.Steps.{TableColumns}
 use Rattle.axis_passes.specs.steps.Tests.{names_in}
-use Rattle.axis_passes.specs.written_steps.Steps.{Scratch}
+use Rattle.axis_passes.specs.declared.rows.Rows.{Rows}
+use Rattle.axis_passes.specs.declared.scratch.Scratch.{Scratch}
+use Rattle.axis_passes.specs.rows.Rows.{parents_in, codes_in, HeldTexts}
+use Rattle.axis_passes.specs.scratch.Scratch.{Room, Kept, room-kept, kept-kept}
 use Rattle.cells.specs.row_sets.Columns.{is_marked}
-use Rattle.compiled_paths.specs.Columns.{bundle-next, bundle-none}
+use Rattle.compiled_paths.specs.Steps.{bundle-next, bundle-none}
 use Rattle.compiled_paths.specs.Paths.{paths_in, Shaped}
 use Rattle.compiled_paths.specs.declared.CompiledPaths.{CompiledPaths}
 use Rattle.path_spec.specs.Paths.{LocationPath}
@@ -77,31 +81,39 @@ module _ (m : List ℕ) (place : ℕ) (was : List ℕ) where
   noting-all r out w l = record { long = w.long; each = λ k b. w.passed.done k (omega arith) }
 
 -- ---- the loop over the paths
-pub record FirstsPass (c : CompiledPaths) (ps codes firsts m held steps next : List ℕ) : Type 0 where
+pub record FirstsPass (t : Rows) (c : CompiledPaths) (firsts m : List ℕ) (s : Scratch) : Type 0 where
   pub shaped : Shaped c
-  pub table : TableColumns ps codes
-  pub cells : length firsts ≡ length ps
-  pub room : length m ≡ length ps
-  pub scratch : Scratch ps held steps next
+  pub table : TableColumns (parents_in t) (codes_in t)
+  pub texts : HeldTexts t
+  pub cells : length firsts ≡ length (parents_in t)
+  pub room-marks : length m ≡ length (parents_in t)
+  pub room : Room (parents_in t) s
 
 -- the paths before i are noted; those from i on are left
-pub record FirstsSoFar (c : CompiledPaths) (ps codes : List ℕ) (i : ℕ) (firsts m held steps next : List ℕ) : Type 0 where
+pub record FirstsSoFar (t : Rows) (c : CompiledPaths) (i : ℕ) (firsts m : List ℕ) (s₀ s : Scratch) : Type 0 where
   pub within : i ≤ c.count
-  pub cells : length firsts ≡ length ps
-  pub room : length m ≡ length ps
-  pub scratch : Scratch ps held steps next
-  pub whole : (r : ℕ) → r < length ps
-      → first_marked 1 r (columns_for ps codes (paths_in c)) ≡ cond (eqb (get_or firsts r 0) 0) (first_marked (suc i) r (columns_for ps codes (paths_from c (c.count - i) i))) (get_or firsts r 0)
+  pub cells : length firsts ≡ length (parents_in t)
+  pub room-marks : length m ≡ length (parents_in t)
+  pub kept : Kept s₀ s
+  pub whole : (r : ℕ) → r < length (parents_in t)
+      → first_marked 1 r (columns_for (parents_in t) (codes_in t) (paths_in c))
+      ≡ cond (eqb (get_or firsts r 0) 0) (first_marked (suc i) r (columns_for (parents_in t) (codes_in t) (paths_from c (c.count - i) i))) (get_or firsts r 0)
 
-module _ (c : CompiledPaths) (ps codes : List ℕ) where
-  pub firsts-begun : (was m held steps next x : List ℕ) → FirstsPass c ps codes was m held steps next → x ≡ replicate (length was) 0 → FirstsSoFar c ps codes 0 x m held steps next
+module _ (t : Rows) (c : CompiledPaths) (was m₀ : List ℕ) (s₀ : Scratch) (h : FirstsPass t c was m₀ s₀) where
+  abbrev ps : List ℕ
+  ps = parents_in t
+
+  abbrev codes : List ℕ
+  codes = codes_in t
+
+  pub firsts-begun : (x : List ℕ) → x ≡ replicate (length was) 0 → Kept s₀ s₀ → FirstsSoFar t c 0 x m₀ s₀ s₀
   unfolding paths_in
-  firsts-begun was m held steps next x h e =
+  firsts-begun x e kept =
       record {
         within = omega arith;
         cells = ap length e ∙ length-replicate (length was) 0 ∙ h.cells;
-        room = h.room;
-        scratch = h.scratch;
+        room-marks = h.room-marks;
+        kept = kept;
         whole = λ r l. nothing r ∙ ap (λ (f : ℕ). cond (eqb f 0) (left r) f) (clear r l);
       }
     where
@@ -114,25 +126,24 @@ module _ (c : CompiledPaths) (ps codes : List ℕ) where
       nothing : (r : ℕ) → first_marked 1 r (columns_for ps codes (paths_from c c.count 0)) ≡ left r
       nothing r = let z : c.count ≡ c.count - 0 = omega arith in ap (λ (n : ℕ). first_marked 1 r (columns_for ps codes (paths_from c n 0))) z
 
-  module _ (i : ℕ) (firsts m held steps next : List ℕ) (w : FirstsSoFar c ps codes i firsts m held steps next) where
-    pub firsts-path : (was m₀ held₀ steps₀ next₀ : List ℕ) → FirstsPass c ps codes was m₀ held₀ steps₀ next₀ → i < c.count → PathPass c.conditions c.paths i ps codes m held steps next
-    firsts-path was m₀ held₀ steps₀ next₀ h l = record { ranges = path-ranges c i h.shaped l; table = h.table; room = w.room; scratch = w.scratch }
+  module _ (i : ℕ) (firsts m : List ℕ) (s : Scratch) (w : FirstsSoFar t c i firsts m s₀ s) where
+    pub firsts-path : i < c.count → PathPass t c i m s
+    firsts-path l = record { ranges = path-ranges c i h.shaped l; table = h.table; texts = h.texts; room-marks = w.room-marks; room = room-kept h.room w.kept }
 
-    pub firsts-next : (x out held' steps' next' : List ℕ) → i < c.count → x ≡ path_marks ps (names_in codes) (path_in c i) → Noted x (i + 1) firsts out
-        → length x ≡ length m → length held' ≡ length held → length steps' ≡ length steps → length next' ≡ length next
-        → FirstsSoFar c ps codes (i + 1) out x held' steps' next'
+    pub firsts-next : (x out : List ℕ) (y : Scratch) → i < c.count → x ≡ path_marks ps (names_in codes) (path_in c i) → Noted x (i + 1) firsts out
+        → length x ≡ length m → Kept s y → FirstsSoFar t c (i + 1) out x s₀ y
     unfolding first_marked
-    firsts-next x out held' steps' next' l e n lm lh ls lx =
+    firsts-next x out y l e n lm kept =
         record {
           within = omega arith;
           cells = n.long ∙ w.cells;
-          room = lm ∙ w.room;
-          scratch = record { room-held = lh ∙ w.scratch.room-held; room-steps = ls ∙ w.scratch.room-steps; room_next = lx ∙ w.scratch.room_next };
+          room-marks = lm ∙ w.room-marks;
+          kept = kept-kept w.kept kept;
           whole = λ r b.
               w.whole r b ∙ ap (λ (ps' : List (LocationPath ℕ)). cond (eqb (get_or firsts r 0) 0) (first_marked (suc i) r (columns_for ps codes ps')) (get_or firsts r 0)) split
               ∙ ap (λ (k : List ℕ). cond (eqb (get_or firsts r 0) 0) (cond (is_marked k r) (suc i) (left r)) (get_or firsts r 0)) (sym e)
               ∙ one_more (get_or x r 0) (get_or firsts r 0) (left r)
-              ∙ ap (λ (f : ℕ). cond (eqb f 0) (left r) f) (ap (first_of (get_or x r 0) (get_or firsts r 0)) (sym (add-one i)) ∙ sym (n.each r (omega (arith, lm, w.room))))
+              ∙ ap (λ (f : ℕ). cond (eqb f 0) (left r) f) (ap (first_of (get_or x r 0) (get_or firsts r 0)) (sym (add-one i)) ∙ sym (n.each r (omega (arith, lm, w.room-marks))))
               ∙ ap (λ (k : ℕ). cond (eqb (get_or out r 0) 0) (first_marked k r (columns_for ps codes (paths_from c (c.count - (i + 1)) (i + 1)))) (get_or out r 0)) (ap suc (sym (add-one i)));
         }
       where
@@ -142,7 +153,7 @@ module _ (c : CompiledPaths) (ps codes : List ℕ) where
         split : paths_from c (c.count - i) i ≡ path_in c i ∷ paths_from c (c.count - (i + 1)) (i + 1)
         split =
             let z : c.count - i - 1 ≡ c.count - (i + 1) = omega arith in
-            bundle-next c.axes c.tests c.conditions c.paths (c.count - i) i (λ q. omega arith)
+            bundle-next c.steps c.conditions c.paths (c.count - i) i (λ q. omega arith)
             ∙ ap (λ (k : ℕ). path_in c i ∷ paths_from c k (i + 1)) z
 
         one_more : (k f rest : ℕ) → cond (eqb f 0) (cond (eqb k 1) (suc i) rest) f ≡ cond (eqb (first_of k f (suc i)) 0) rest (first_of k f (suc i))
@@ -172,7 +183,7 @@ module _ (c : CompiledPaths) (ps codes : List ℕ) where
         }
       where
         none : paths_from c (c.count - i) i ≡ []
-        none = bundle-none c.axes c.tests c.conditions c.paths (c.count - i) i (omega arith)
+        none = bundle-none c.steps c.conditions c.paths (c.count - i) i (omega arith)
 
         same : (f : ℕ) → cond (eqb f 0) 0 f ≡ f
         same zero = refl
@@ -193,13 +204,13 @@ count_low first = by (eqb first 0)
 pub counted-low : (first k : ℕ) → k ≡ count_of first → k ≤ 1
 counted-low first k e = omega (arith, count_low first)
 
-pub count_none : (first : ℕ) → first ≡ 0 → 0 ≡ count_of first
+pub count-test : (first : ℕ) → from_bool (not (eqb first 0)) ≡ count_of first
 unfolding count_of
-count_none first e = sym (ap (λ (b : Bool). cond b 0 1) (eq-eqb first 0 e))
-
-pub count-one : (first : ℕ) → (first ≡ 0 → ⊥) → 1 ≡ count_of first
-unfolding count_of
-count-one first d = sym (ap (λ (b : Bool). cond b 0 1) (ne_eqb first 0 d))
+count-test first = by (eqb first 0)
+  where
+    by : (b : Bool) → from_bool (not b) ≡ cond b 0 1
+    by true = refl
+    by false = refl
 
 pub record Counting (firsts : List ℕ) (r n : ℕ) : Type 0 where
   pub within : r ≤ length firsts

@@ -5,12 +5,15 @@ use Rattle.std.proofs.Math.Path.{ap, subst}
 use native.Mathlib.Omega.{arith}
 use Rattle.std.proofs.Math.ListN.{length}
 use Rattle.axis_passes.specs.steps.Tests.{names_in}
-use Rattle.axis_passes.specs.written_steps.Steps.{Scratch}
+use Rattle.axis_passes.specs.declared.rows.Rows.{Rows}
+use Rattle.axis_passes.specs.declared.scratch.Scratch.{Scratch}
+use Rattle.axis_passes.specs.rows.Rows.{parents_in, codes_in, HeldTexts}
+use Rattle.axis_passes.specs.scratch.Scratch.{Room, Kept, room-kept, kept-kept}
 use Rattle.cells.specs.lent.Appended.{written, Appended, appended-appended, appended-cleared, appended_one}
 use Rattle.cells.specs.lent.Cells.{Cleared}
 use Rattle.cells.specs.lent.Ends.{Slice}
-use Rattle.compiled_paths.specs.Columns.{bundle_in}
-use Rattle.compiled_paths.specs.Paths.{Lent, Shaped}
+use Rattle.compiled_paths.specs.Steps.{bundle_in}
+use Rattle.compiled_paths.specs.Paths.{Shaped}
 use Rattle.compiled_paths.specs.declared.CompiledPaths.{CompiledPaths}
 use Rattle.path_spec.specs.Paths.{LocationPath}
 use Rattle.selection_laws.specs.marks.Selection.{select_columns}
@@ -21,13 +24,14 @@ use Rattle.text_spec.specs.Cells.{padded}
 use Rattle.text_spec.specs.Limits.{max_nodes}
 use Rattle.text_spec.specs.Lists.{gather}
 
-pub record AllPass (c : CompiledPaths) (first end : ℕ) (numbers codes ps m held steps next : List ℕ) : Type 0 where
+pub record AllPass (t : Rows) (c : CompiledPaths) (first end : ℕ) (m : List ℕ) (s : Scratch) : Type 0 where
   pub shaped : Shaped c
   pub order : first ≤ end
   pub inside : end ≤ c.count
-  pub columns : TestedColumns numbers codes ps
-  pub room : length m ≡ length ps
-  pub scratch : Scratch ps held steps next
+  pub columns : TestedColumns t.columns.numbers.now (codes_in t) (parents_in t)
+  pub texts : HeldTexts t
+  pub room-marks : length m ≡ length (parents_in t)
+  pub room : Room (parents_in t) s
 
 module _ (c : CompiledPaths) (numbers codes ps : List ℕ) where
   -- what n paths from i on select, joined, and how many numbers each selects
@@ -43,10 +47,10 @@ pub record JoinedAs (c : CompiledPaths) (first end : ℕ) (numbers codes ps item
   pub counts-are : counts ≡ padded (length counts₀) (counts_of c numbers codes ps (end - first) first)
   pub total : n ≡ length (items_of c numbers codes ps (end - first) first)
 
--- the same of lent slices
-abbrev pub JoinedIn : CompiledPaths → ℕ → ℕ → Lent → Lent → Lent → Slice → Slice → ℕ → Type 0
-JoinedIn c first end numbers codes parents items counts n =
-    JoinedAs c first end numbers.entry.now codes.entry.now parents.entry.now items.entry.now counts.entry.now n items.exit.now counts.exit.now
+-- the same of a table and of lent cells
+abbrev pub JoinedIn : Rows → CompiledPaths → ℕ → ℕ → Slice → Slice → ℕ → Type 0
+JoinedIn t c first end items counts n =
+    JoinedAs c first end t.columns.numbers.now (codes_in t) (parents_in t) items.entry.now counts.entry.now n items.exit.now counts.exit.now
 
 -- ---- one path more
 paths-more : (c : CompiledPaths) (n i : ℕ) → paths_from c (suc n) i ≡ paths_from c n i ++ (path_in c (i + n) ∷ [])
@@ -81,60 +85,67 @@ none-appended : (was : List ℕ) → Appended was 0 [] 0 was
 none-appended was = record { long = refl; count = omega arith; kept = λ k l. refl; cells = λ k l b. absurd (omega arith) }
 
 -- ---- the loop, with the paths before i behind it
-pub record PathsSoFar (c : CompiledPaths) (first end : ℕ) (numbers codes ps items₀ counts₀ : List ℕ) (i n : ℕ) (items counts m held steps next : List ℕ) : Type 0 where
+pub record PathsSoFar (t : Rows) (c : CompiledPaths) (first end : ℕ) (items₀ counts₀ m₀ : List ℕ) (s₀ : Scratch) (i n : ℕ) (items counts m : List ℕ) (s : Scratch) : Type 0 where
   pub low : first ≤ i
   pub high : i ≤ end
   pub fit : n ≤ (i - first) * max_nodes
-  pub joined : Appended items₀ 0 (items_of c numbers codes ps (i - first) first) n items
-  pub counted : Appended counts₀ 0 (counts_of c numbers codes ps (i - first) first) (i - first) counts
-  pub room : length m ≡ length ps
-  pub scratch : Scratch ps held steps next
+  pub joined : Appended items₀ 0 (items_of c t.columns.numbers.now (codes_in t) (parents_in t) (i - first) first) n items
+  pub counted : Appended counts₀ 0 (counts_of c t.columns.numbers.now (codes_in t) (parents_in t) (i - first) first) (i - first) counts
+  pub marks-size : length m ≡ length m₀
+  pub kept : Kept s₀ s
 
-module _ (c : CompiledPaths) (first end : ℕ) (numbers codes ps items₀ counts₀ : List ℕ) where
-  pub paths-begun : (m held steps next : List ℕ) → AllPass c first end numbers codes ps m held steps next
-      → PathsSoFar c first end numbers codes ps items₀ counts₀ first 0 items₀ counts₀ m held steps next
+module _ (t : Rows) (c : CompiledPaths) (first end : ℕ) (items₀ counts₀ m₀ : List ℕ) (s₀ : Scratch) (h : AllPass t c first end m₀ s₀) where
+  abbrev numbers : List ℕ
+  numbers = t.columns.numbers.now
+
+  abbrev codes : List ℕ
+  codes = codes_in t
+
+  abbrev ps : List ℕ
+  ps = parents_in t
+
+  pub paths-begun : Kept s₀ s₀ → PathsSoFar t c first end items₀ counts₀ m₀ s₀ first 0 items₀ counts₀ m₀ s₀
   unfolding items_of counts_of bundle_in
-  paths-begun m held steps next h =
+  paths-begun kept =
       record {
         low = omega arith;
         high = h.order;
         fit = omega arith;
         joined = subst (λ (k : ℕ). Appended items₀ 0 (items_of c numbers codes ps k first) 0 items₀) none (none-appended items₀);
         counted = subst (λ (k : ℕ). Appended counts₀ 0 (counts_of c numbers codes ps k first) k counts₀) none (none-appended counts₀);
-        room = h.room;
-        scratch = h.scratch;
+        marks-size = refl;
+        kept = kept;
       }
     where
       none : 0 ≡ first - first
       none = omega arith
 
-  module _ (i n : ℕ) (items counts m held steps next : List ℕ) (w : PathsSoFar c first end numbers codes ps items₀ counts₀ i n items counts m held steps next) where
-    pub paths-one : (m₀ held₀ steps₀ next₀ : List ℕ) → AllPass c first end numbers codes ps m₀ held₀ steps₀ next₀ → i < end
-        → OnePass c.conditions c.paths i numbers codes ps n m held steps next
-    paths-one m₀ held₀ steps₀ next₀ h l =
+  module _ (i n : ℕ) (items counts m : List ℕ) (s : Scratch) (w : PathsSoFar t c first end items₀ counts₀ m₀ s₀ i n items counts m s) where
+    pub paths-one : i < end → OnePass t c i n m s
+    paths-one l =
         record {
           ranges = path-ranges c i h.shaped (omega (arith, h.inside));
           columns = h.columns;
+          texts = h.texts;
           low = omega (arith, w.fit, h.inside, h.shaped.few);
-          room = w.room;
-          scratch = w.scratch;
+          room-marks = w.marks-size ∙ h.room-marks;
+          room = room-kept h.room w.kept;
         }
 
     module _ (p : ℕ) (x : List ℕ) (a : Appended items n (select_columns ps (names_in codes) numbers (path_in c i)) p x) where
       pub one-count : p - n ≡ length (select_columns ps (names_in codes) numbers (path_in c i))
       one-count = omega (arith, a.count)
 
-      pub one-fits : TestedColumns numbers codes ps → p - n ≤ max_nodes
-      one-fits h = omega (arith, one-count, selected-few ps codes numbers (path_in c i), h.numbers-size, h.few)
+      pub one-fits : p - n ≤ max_nodes
+      one-fits = omega (arith, one-count, selected-few ps codes numbers (path_in c i), h.columns.numbers-size, h.columns.few)
 
-      pub paths-next : TestedColumns numbers codes ps → (y m' held' steps' next' : List ℕ) → i < end → y ≡ written counts (i - first) (p - n)
-          → length m' ≡ length m → length held' ≡ length held → length steps' ≡ length steps → length next' ≡ length next
-          → PathsSoFar c first end numbers codes ps items₀ counts₀ (i + 1) p x y m' held' steps' next'
-      paths-next h y m' held' steps' next' l e u v s t =
+      pub paths-next : (y m' : List ℕ) (s' : Scratch) → i < end → y ≡ written counts (i - first) (p - n) → length m' ≡ length m → Kept s s'
+          → PathsSoFar t c first end items₀ counts₀ m₀ s₀ (i + 1) p x y m' s'
+      paths-next y m' s' l e u kept =
           record {
             low = omega (arith, w.low);
             high = omega arith;
-            fit = omega (arith, w.low, w.fit, one-fits h, a.count);
+            fit = omega (arith, w.low, w.fit, one-fits, a.count);
             joined =
                 subst (λ (k : ℕ). Appended items₀ 0 (items_of c numbers codes ps k first) p x) (sym one_more)
                 (subst (λ (l : List ℕ). Appended items₀ 0 l p x) (sym (items_more c numbers codes ps (i - first) first))
@@ -143,12 +154,8 @@ module _ (c : CompiledPaths) (first end : ℕ) (numbers codes ps items₀ counts
                 subst (λ (k : ℕ). Appended counts₀ 0 (counts_of c numbers codes ps k first) k y) (sym one_more)
                 (subst (λ (l : List ℕ). Appended counts₀ 0 l (suc (i - first)) y) (sym (counts-more c numbers codes ps (i - first) first))
                 (appended-appended counts₀ counts y _ _ (i - first) (suc (i - first)) w.counted number));
-            room = u ∙ w.room;
-            scratch = record {
-              room-held = v ∙ w.scratch.room-held;
-              room-steps = s ∙ w.scratch.room-steps;
-              room_next = t ∙ w.scratch.room_next;
-            };
+            marks-size = u ∙ w.marks-size;
+            kept = kept-kept w.kept kept;
           }
         where
           one_more : i + 1 - first ≡ suc (i - first)

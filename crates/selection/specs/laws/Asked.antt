@@ -6,7 +6,7 @@ use Rattle.std.proofs.Common.{sym, ◌∙◌, arith}
 use Rattle.std.proofs.Math.Path.{ap}
 use Rattle.std.proofs.Math.ListN.{get_elem?}
 use Rattle.axis_passes.specs.steps.Tests.{names_in}
-use Rattle.compiled_paths.specs.Columns.{bundle_in}
+use Rattle.compiled_paths.specs.Steps.{bundle_in}
 use Rattle.compiled_paths.specs.Paths.{paths_in}
 use Rattle.compiled_paths.specs.declared.CompiledPaths.{CompiledPaths}
 use Rattle.library_spec.specs.Selections.{asked_paths, selections}

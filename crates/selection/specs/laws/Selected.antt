@@ -3,7 +3,7 @@ use Rattle.std.specs.Prelude.{Bool, cond, List, [], ◌∷◌, ◌≡◌, refl, 
 use mathlib.Core.List.Memᴰ.{head as here}
 use mathlib.Core.List.Memᴰ.{tail as there}
 use Rattle.std.proofs.Common.{sym, ap, ◌∙◌, arith, lt-ltb, le-ltb}
-use Rattle.axis_passes.specs.code_ranges.Tests.{name_with_code, names_in}
+use Rattle.axis_passes.specs.name_tests.Tests.{name_with_code, names_in}
 use Rattle.cells.specs.row_sets.Columns.{picked}
 use Rattle.path_spec.specs.Paths.{LocationPath}
 use Rattle.path_spec.specs.Selection.{select_rows}

@@ -1,12 +1,14 @@
 -- What the paths asked for select on a well-formed table, from its columns.
-use Rattle.std.specs.Prelude.{List, ◌≡◌, refl, ℕ, zero, suc, ◌-◌, ◌≤◌, T, length, take, replicate}
+use Rattle.std.specs.Prelude.{List, ◌≡◌, refl, ℕ, zero, suc, ◌-◌, ◌≤◌, T, length, take, replicate, Result}
 use Rattle.std.proofs.Common.{sym, ap, ◌∙◌, arith, length-take-le}
 use Rattle.std.proofs.lemmas.List.{length-map, length-replicate}
-use Rattle.axis_passes.specs.alternative_steps.Texts.{TextColumns}
-use Rattle.axis_passes.specs.written_steps.Steps.{Scratch}
+use Rattle.axis_passes.specs.declared.rows.Rows.{Rows}
+use Rattle.axis_passes.specs.declared.scratch.Scratch.{Scratch}
+use Rattle.axis_passes.specs.rows.Rows.{parents_in, codes_in, TextColumns, HeldTexts}
+use Rattle.axis_passes.specs.scratch.Scratch.{Room}
 use Rattle.cells.specs.lent.Ends.{Slice}
-use Rattle.compiled_paths.specs.Columns.{bundle_in}
-use Rattle.compiled_paths.specs.Paths.{Lent, Shaped, lent_paths, paths_in}
+use Rattle.compiled_paths.specs.Steps.{bundle_in}
+use Rattle.compiled_paths.specs.Paths.{Shaped, paths_in}
 use Rattle.compiled_paths.specs.declared.CompiledPaths.{CompiledPaths}
 use Rattle.library_spec.specs.Selections.{asked_paths, Selections, selections}
 use Rattle.path_spec.specs.Paths.{LocationPath}
@@ -15,6 +17,7 @@ use Rattle.schema_spec.specs.Types.{Types}
 use Rattle.selection.specs.answers.Answers.{in_cells, AnsweredSelections, Written, AnsweredCells}
 use Rattle.selection.specs.asked.Ranges.{past_asked, asked-order}
 use Rattle.selection.specs.declared.answers.Selected.{Selected}
+use Rattle.text.specs.declared.refusals.Refusal.{Refusal}
 use Rattle.selection.specs.joined_paths.Joined.{AllPass, items_of, counts_of, JoinedAs}
 use Rattle.selection.specs.laws.Asked.{asked-range, all_asked, items-selected, counts-of-selected}
 use Rattle.selection.specs.one_path.Paths.{paths_from}
@@ -25,7 +28,6 @@ use Rattle.table_spec.specs.Rows.{Row}
 use Rattle.table_spec.specs.Tables.{well_formed}
 use Rattle.text_laws.specs.Cells.{padded-length}
 use Rattle.text_spec.specs.Cells.{padded}
-use Rattle.text_spec.specs.Limits.{max_nodes}
 use Rattle.text_spec.specs.Refusals.{Outcome}
 
 -- ---- definitions
@@ -42,23 +44,24 @@ abbrev pub rows_selected : List ℕ → List Row → ℕ → List (LocationPath 
 rows_selected text rows place ps items counts = in_cells items counts (selections text rows (asked_paths place ps))
 
 -- the paths selected on every well-formed table in these columns
-abbrev pub SelectsOn : Lent → Lent → Lent → List (LocationPath ℕ) → ℕ → Selected → Slice → Slice → Type 0
-SelectsOn numbers codes parents paths place r items counts =
-    (s : Types) (text : List ℕ) (rows : List Row) → RowsIn s rows numbers.entry.now codes.entry.now parents.entry.now
+abbrev pub SelectsOn : Rows → List (LocationPath ℕ) → ℕ → Result Selected Refusal → Slice → Slice → Type 0
+SelectsOn t paths place r items counts =
+    (s : Types) (text : List ℕ) (rows : List Row) → RowsIn s rows t.columns.numbers.now (codes_in t) (parents_in t)
     → AnsweredCells (rows_selected text rows place paths) r items counts
 
-pub record AskedPass (c : CompiledPaths) (place : ℕ) (numbers codes ps m held steps next : List ℕ) : Type 0 where
+-- the columns of a table that passes refusal 1
+abbrev pub TestedRows : Rows → Type 0
+TestedRows t = TestedColumns t.columns.numbers.now (codes_in t) (parents_in t)
+
+pub record AskedPass (t : Rows) (c : CompiledPaths) (place : ℕ) (m : List ℕ) (s : Scratch) : Type 0 where
   pub shaped : Shaped c
   pub inside : place ≤ c.count
-  pub columns : TestedColumns numbers codes ps
-  pub room : length m ≡ length ps
-  pub scratch : Scratch ps held steps next
+  pub columns : TestedRows t
+  pub texts : HeldTexts t
+  pub room-marks : length m ≡ length (parents_in t)
+  pub room : Room (parents_in t) s
 
 -- ---- laws
--- the paths before `end`
-abbrev up_to : ℕ → CompiledPaths → CompiledPaths
-up_to end c = lent_paths c.axes c.tests c.conditions c.paths end
-
 paths-long : (c : CompiledPaths) (n i : ℕ) → length (paths_from c n i) ≡ n
 unfolding bundle_in
 paths-long c zero i = refl
@@ -71,12 +74,6 @@ paths-count c = paths-long c c.count 0
 -- scratch of a table's rows
 pub scratch-long : (n k x : ℕ) → n ≤ k → n ≡ length (take n (replicate k x))
 scratch-long n k x l = sym (length-take-le n (replicate k x) (omega (arith, length-replicate k x)))
-
-pub with-scratch : (c : CompiledPaths) (place : ℕ) (numbers codes ps : List ℕ) → Shaped c × (place ≤ c.count) × TestedColumns numbers codes ps
-    → AskedPass c place numbers codes ps (take (length ps) (replicate max_nodes 0)) (take (length ps) (replicate max_nodes 0)) (take (length ps) (replicate max_nodes 0)) (take (length ps) (replicate max_nodes 0))
-with-scratch c place numbers codes ps h =
-    let room = sym (scratch-long (length ps) max_nodes 0 h.2.few) in
-    record { shaped = h.0; inside = h.1; columns = h.2; room = room; scratch = record { room-held = room; room-steps = room; room_next = room } }
 
 -- the texts of the first rows of columns that have them
 pub taken-texts : (n : ℕ) (c : Columns) (lent : List ℕ) → n ≤ length c.parents → n ≤ length c.starts → n ≤ length c.lengths → n ≤ length c.decoded
@@ -103,33 +100,40 @@ asked-paths c (suc i) l =
 padded-again : (n : ℕ) (cells xs : List ℕ) → cells ≡ padded n xs → cells ≡ padded (length cells) xs
 padded-again n cells xs e = e ∙ ap (λ (k : ℕ). padded k xs) (sym (ap length e ∙ padded-length n xs))
 
-module _ (c : CompiledPaths) (place : ℕ) (numbers codes ps : List ℕ) where
-  pub asked-pass : (m held steps next : List ℕ) → AskedPass c place numbers codes ps m held steps next → (first end : ℕ) → first ≡ place - 1 → end ≡ past_asked place c.count
-      → AllPass (up_to end c) first end numbers codes ps m held steps next
-  asked-pass m held steps next h first end d e =
-      let o = asked-order place c.count first end h.inside d e in
-      let few : Shaped (up_to end c) = record { few = omega (arith, o.1, h.shaped.few); paths-in = h.shaped.paths-in; conditions-in = h.shaped.conditions-in } in
-      record { shaped = few; order = o.0; inside = omega arith; columns = h.columns; room = h.room; scratch = h.scratch }
+module _ (t : Rows) (c : CompiledPaths) (place : ℕ) (first end : ℕ) (b : (first ≡ place - 1) × (end ≡ past_asked place c.count)) where
+  pub asked-pass : (m : List ℕ) (s : Scratch) → AskedPass t c place m s → AllPass t c first end m s
+  asked-pass m s h =
+      let o = asked-order place c.count first end h.inside b.0 b.1 in
+      record { shaped = h.shaped; order = o.0; inside = o.1; columns = h.columns; texts = h.texts; room-marks = h.room-marks; room = h.room }
 
   -- what is written is what the definition selects
-  module _ (l : place ≤ c.count) (first end : ℕ) (d : first ≡ place - 1) (e : end ≡ past_asked place c.count) (s : Types) (text : List ℕ) (rows : List Row) (w : RowsIn s rows numbers codes ps) where
+  module _ (l : place ≤ c.count) (s : Types) (text : List ℕ) (rows : List Row) (w : RowsIn s rows t.columns.numbers.now (codes_in t) (parents_in t)) where
+    abbrev numbers : List ℕ
+    numbers = t.columns.numbers.now
+
+    abbrev codes : List ℕ
+    codes = codes_in t
+
+    abbrev ps : List ℕ
+    ps = parents_in t
+
     abbrev asked : List (LocationPath ℕ)
     asked = asked_paths place (paths_in c)
 
     range : paths_from c (end - first) first ≡ asked
-    range = rw (d, e) (asked-paths c place l)
+    range = rw (b.0, b.1) (asked-paths c place l)
 
-    same-items : items_of (up_to end c) numbers codes ps (end - first) first ≡ (selections text rows asked).items
+    same-items : items_of c numbers codes ps (end - first) first ≡ (selections text rows asked).items
     same-items =
-        let at = items-selected s text rows w.well-formed w.coded (up_to end c) (end - first) first asked range in
+        let at = items-selected s text rows w.well-formed w.coded c (end - first) first asked range in
         rw (w.numbered, w.named, w.parented) at
 
-    same-counts : counts_of (up_to end c) numbers codes ps (end - first) first ≡ (selections text rows asked).counts
+    same-counts : counts_of c numbers codes ps (end - first) first ≡ (selections text rows asked).counts
     same-counts =
-        let at = counts-of-selected s text rows w.well-formed w.coded (up_to end c) (end - first) first asked range in
+        let at = counts-of-selected s text rows w.well-formed w.coded c (end - first) first asked range in
         rw (w.numbered, w.named, w.parented) at
 
-    module _ (items₀ counts₀ : List ℕ) (n : ℕ) (items counts : List ℕ) (j : JoinedAs (up_to end c) first end numbers codes ps items₀ counts₀ n items counts) where
+    module _ (items₀ counts₀ : List ℕ) (n : ℕ) (items counts : List ℕ) (j : JoinedAs c first end numbers codes ps items₀ counts₀ n items counts) where
       asked-written : Written (selections text rows asked) n (end - first) items counts
       asked-written =
           record {
@@ -139,7 +143,7 @@ module _ (c : CompiledPaths) (place : ℕ) (numbers codes ps : List ℕ) where
             counts-are = padded-again (length counts₀) counts _ (j.counts-are ∙ ap (padded (length counts₀)) same-counts);
           }
 
-      pub asked-answered : (r : Selected) (x y : List ℕ)
+      pub asked-answered : (r : Result Selected Refusal) (x y : List ℕ)
           → ((a : Selections) → Written a n (end - first) items counts → AnsweredSelections (in_cells (length items) (length counts) a) (length items) (length counts) r x y)
           → AnsweredSelections (rows_selected text rows place (paths_in c) (length items₀) (length counts₀)) (length items₀) (length counts₀) r x y
       asked-answered r x y h =

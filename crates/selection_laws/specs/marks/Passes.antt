@@ -1,5 +1,5 @@
 -- What each pass over the columns of a table asks, and what it finds at a row.
-use Rattle.std.specs.Prelude.{Bool, ◌&&◌, ◌||◌, List, ◌≡◌, ℕ, suc, ◌+◌, ◌-◌, ◌<◌, ◌≤◌, eqb, leb, get_or, set, replicate}
+use Rattle.std.specs.Prelude.{Bool, ◌&&◌, ◌||◌, List, [], ◌∷◌, ◌≡◌, ℕ, suc, ◌+◌, ◌-◌, ◌<◌, ◌≤◌, eqb, leb, get_or, set, replicate}
 use Rattle.std.proofs.Math.Bool.{false, and-false}
 use Rattle.std.proofs.Math.Path.{refl, sym, ap}
 use Rattle.std.proofs.Common.{◌∙◌, add-one, arith, le-leb, length-set, ext_get_or, get_or-set_same}
@@ -14,6 +14,8 @@ use Rattle.selection_laws.specs.marks.Backward.{propagated, propagated-none, pro
 use Rattle.selection_laws.specs.marks.Forward.{image-self, child-root, child-later, descendant-root, descendant-later, descendant-or-self-root, descendant-or-self-later}
 use Rattle.selection_laws.specs.marks.Parents.{image, image_marks}
 use Rattle.table_laws.specs.Parents.{ParentsBefore}
+use Rattle.std.specs.List.{list_any}
+use Rattle.text_laws.specs.Searches.{any-zero}
 use Rattle.text_spec.specs.Lists.{any_below}
 
 -- a column of parents, one of marks and room for another, of a table that is not empty
@@ -124,6 +126,11 @@ module _ (m : List ℕ) where
   some-all r x b l e =
       let z : r ≡ length m = omega arith in
       ap (λ (y : ℕ). eqb y 1) e ∙ mark-test (any_below r (is_marked m)) ∙ ap (λ (n : ℕ). any_below n (is_marked m)) z
+
+pub some-listed : (m : List ℕ) → list_any (λ x. eqb x 1) m ≡ any_below (length m) (is_marked m)
+unfolding any_below
+some-listed [] = refl
+some-listed (x ∷ m) = ap (λ (b : Bool). eqb x 1 || b) (some-listed m) ∙ sym (any-zero (length m) (is_marked (x ∷ m)))
 
 -- a code against a range
 pub code-above : (low high code : ℕ) → high < code → 0 ≡ mark (leb low code && leb code high)
@@ -287,7 +294,7 @@ module _ (ps m out : List ℕ) (h : AxisPass ps m out) where
 
   -- a turn at row r
   module _ (r : ℕ) (some : 0 < r) (l : r < length ps) where
-    turned : (a : Upward) (x : ℕ) → x ≡ mark (propagating a ps (is_marked m) r)
+    pub turned : (a : Upward) (x : ℕ) → x ≡ mark (propagating a ps (is_marked m) r)
         → set (propagated_marks a ps m (suc r)) (get_or ps r 0) (bit_or (get_or (propagated_marks a ps m (suc r)) (get_or ps r 0) 0) x) ≡ propagated_marks a ps m r
     unfolding propagated_marks
     turned a x e = propagated-next ps h.before (initial a (is_marked m)) (propagating a ps (is_marked m)) r some l (marks (length ps) (propagated ps (initial a (is_marked m)) (propagating a ps (is_marked m)) (suc r))) x refl e
@@ -301,25 +308,32 @@ module _ (ps m out : List ℕ) (h : AxisPass ps m out) where
     mine : get_or m r 0 ≡ mark (is_marked m r)
     mine = mark-at m h.marked r (omega (arith, h.size))
 
-    pub parents-turn : set (propagated_marks to-parent ps m (suc r)) (get_or ps r 0) (bit_or (get_or (propagated_marks to-parent ps m (suc r)) (get_or ps r 0) 0) (get_or m r 0)) ≡ propagated_marks to-parent ps m r
+    -- the mark that the row adds to its parent's cell
+    pub parents-mark : get_or m r 0 ≡ mark (propagating to-parent ps (is_marked m) r)
     unfolding propagating
-    parents-turn = turned to-parent (get_or m r 0) mine
+    parents-mark = mine
+
+    pub ancestors-mark : bit_or (get_or m r 0) (get_or (propagated_marks to-ancestor ps m (suc r)) r 0) ≡ mark (propagating to-ancestor ps (is_marked m) r)
+    unfolding propagating initial
+    ancestors-mark =
+        ap (λ (x : ℕ). bit_or x (get_or (propagated_marks to-ancestor ps m (suc r)) r 0)) mine
+        ∙ ap (bit_or (mark (is_marked m r))) (own to-ancestor ∙ ap mark (sym (ancestor-step ps h.before (is_marked m) r)))
+        ∙ or-marks (is_marked m r) (image ancestor ps (is_marked m) r)
+
+    pub ancestors-or-self-mark : get_or (propagated_marks to-ancestor-or-self ps m (suc r)) r 0 ≡ mark (propagating to-ancestor-or-self ps (is_marked m) r)
+    unfolding propagating initial
+    ancestors-or-self-mark = own to-ancestor-or-self ∙ ap mark (sym (ancestor-or-self-step ps h.before (is_marked m) r l))
+
+    pub parents-turn : set (propagated_marks to-parent ps m (suc r)) (get_or ps r 0) (bit_or (get_or (propagated_marks to-parent ps m (suc r)) (get_or ps r 0) 0) (get_or m r 0)) ≡ propagated_marks to-parent ps m r
+    parents-turn = turned to-parent (get_or m r 0) parents-mark
 
     pub ancestors-turn : set (propagated_marks to-ancestor ps m (suc r)) (get_or ps r 0)
         (bit_or (get_or (propagated_marks to-ancestor ps m (suc r)) (get_or ps r 0) 0) (bit_or (get_or m r 0) (get_or (propagated_marks to-ancestor ps m (suc r)) r 0))) ≡ propagated_marks to-ancestor ps m r
-    unfolding propagating initial
-    ancestors-turn =
-        turned to-ancestor (bit_or (get_or m r 0) (get_or (propagated_marks to-ancestor ps m (suc r)) r 0))
-        (ap (λ (x : ℕ). bit_or x (get_or (propagated_marks to-ancestor ps m (suc r)) r 0)) mine
-        ∙ ap (bit_or (mark (is_marked m r))) (own to-ancestor ∙ ap mark (sym (ancestor-step ps h.before (is_marked m) r)))
-        ∙ or-marks (is_marked m r) (image ancestor ps (is_marked m) r))
+    ancestors-turn = turned to-ancestor (bit_or (get_or m r 0) (get_or (propagated_marks to-ancestor ps m (suc r)) r 0)) ancestors-mark
 
     pub ancestors-or-self-turn : set (propagated_marks to-ancestor-or-self ps m (suc r)) (get_or ps r 0)
         (bit_or (get_or (propagated_marks to-ancestor-or-self ps m (suc r)) (get_or ps r 0) 0) (get_or (propagated_marks to-ancestor-or-self ps m (suc r)) r 0)) ≡ propagated_marks to-ancestor-or-self ps m r
-    unfolding propagating initial
-    ancestors-or-self-turn =
-        turned to-ancestor-or-self (get_or (propagated_marks to-ancestor-or-self ps m (suc r)) r 0)
-        (own to-ancestor-or-self ∙ ap mark (sym (ancestor-or-self-step ps h.before (is_marked m) r l)))
+    ancestors-or-self-turn = turned to-ancestor-or-self (get_or (propagated_marks to-ancestor-or-self ps m (suc r)) r 0) ancestors-or-self-mark
 
 -- ---- a pass up with the rows from r on behind it
 pub record Backward (a : Upward) (ps m : List ℕ) (r : ℕ) (out : List ℕ) : Type 0 where

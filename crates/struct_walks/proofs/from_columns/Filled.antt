@@ -1,10 +1,8 @@
 -- Structs filled from columns: after each turn, and once all are.
-use mathlib.Core.Bool.{Bool, true, false, cond}
+use mathlib.Core.Bool.{Bool, true, false}
 use mathlib.Core.List.{List, [], ◌∷◌, map}
 use mathlib.Core.Path.{◌≡◌, refl, sym, ◌∙◌, ap, subst}
-use mathlib.Core.WellFounded.InvImage
-use mathlib.Core.WellFounded.{WellFounded}
-use Prim.Native.Nat.{ℕ, zero, suc, ◌+◌, ◌-◌, ◌<◌, ◌≤◌}
+use Prim.Native.Nat.{ℕ, zero, suc, ◌+◌, ◌<◌, ◌≤◌}
 use native.Mathlib.Nat.{add-zero}
 use native.Mathlib.Omega.{arith}
 use borrow.Author.Count.{below_more}
@@ -12,11 +10,9 @@ use borrow.Author.Tests.{ltb-true, ltb-false}
 use lib.Dec.{ltb}
 use lib.ListN.{length, get_or, set, length-set, get_or-eq_default}
 use lib.Seq.{get_or-set_same, get_or-set_other}
-use lib.WfN.{lt-wf_rel}
-use Rattle.row_structs.specs.Structs.{cells_in, columns_in, empty_row, empty_cells, cell_of}
+use Rattle.row_structs.specs.Structs.{cells_in, columns_in, empty_row, empty_cells, cell_count, cell_of}
 use Rattle.row_structs.specs.declared.Row.{Row}
 use Rattle.row_structs.specs.declared.RowColumns.{RowColumns}
-use Rattle.row_structs.specs.laws.Answers.{cell_count}
 use Rattle.table_spec.specs.Columns.{cells_at, cells_from}
 use Rattle.text_spec.specs.Limits.{max_nodes}
 
@@ -25,14 +21,6 @@ abbrev pub Long : RowColumns → Type 0
 Long c =
     (length c.numbers ≡ cell_count)
     × ((length c.names ≡ cell_count) × ((length c.parents ≡ cell_count) × ((length c.starts ≡ cell_count) × ((length c.lengths ≡ cell_count) × (length c.decoded ≡ cell_count)))))
-
--- ---- the cell of a row
-cell-is : (P : ℕ → Type 0) (k : ℕ) → (k < max_nodes → P k) → (max_nodes ≤ k → P max_nodes) → P (cell_of k)
-cell-is P k below past = by (ltb k max_nodes) refl
-  where
-    by : (b : Bool) → ltb k max_nodes ≡ b → P (cond b k max_nodes)
-    by true e = below (ltb-true k max_nodes e)
-    by false e = past (ltb-false k max_nodes e)
 
 module _ (c : RowColumns) where
   abbrev pub row_at : ℕ → Row
@@ -57,15 +45,19 @@ module _ (c : RowColumns) where
       decoded = get_or-eq_default c.decoded 0 {n = k} (omega arith) i;
     }
 
-    none_from : (k : ℕ) → max_nodes ≤ k → cells_at (columns_in c) k ≡ empty_cells
-    none_from k l = by (ltb max_nodes k) refl
-      where
-        by : (b : Bool) → ltb max_nodes k ≡ b → cells_at (columns_in c) k ≡ empty_cells
-        by true e = none-past k (omega (arith, ltb-true max_nodes k e))
-        by false e = ap (cells_at (columns_in c)) (omega (arith, ltb-false max_nodes k e)) ∙ past
-
+    -- the last cell stands for all past it
     found : (k : ℕ) → cells_at (columns_in c) (cell_of k) ≡ cells_at (columns_in c) k
-    found k = cell-is (λ (j : ℕ). cells_at (columns_in c) j ≡ cells_at (columns_in c) k) k (λ l. refl) (λ l. past ∙ sym (none_from k l))
+    found k = by (ltb max_nodes k) refl
+      where
+        by : (b : Bool) → ltb max_nodes k ≡ b → cells_at (columns_in c) (cell_of k) ≡ cells_at (columns_in c) k
+        by true e =
+            let l = ltb-true max_nodes k e in
+            let last : cell_of k ≡ max_nodes = omega arith in
+            ap (cells_at (columns_in c)) last ∙ past ∙ sym (none-past k (omega arith))
+        by false e =
+            let l = ltb-false max_nodes k e in
+            let here : cell_of k ≡ k = omega arith in
+            ap (cells_at (columns_in c)) here
 
     all_from : (i : ℕ) (zs : List Row) → ((k : ℕ) → k < length zs → cells_in (get_or zs k empty_row) ≡ cells_at (columns_in c) (i + k)) → map cells_in zs ≡ cells_from (columns_in c) i (length zs)
     all_from i [] h = refl
@@ -73,27 +65,3 @@ module _ (c : RowColumns) where
 
     pub filled-all : (n : ℕ) (zs : List Row) → Filled n n zs → map cells_in zs ≡ cells_from (columns_in c) 0 n
     filled-all n zs f = subst (λ (m : ℕ). map cells_in zs ≡ cells_from (columns_in c) 0 m) f.0 (all_from 0 zs (λ k l. ap cells_in (f.1 k (omega arith)) ∙ found k ∙ ap (cells_at (columns_in c)) (omega arith)))
-
--- ---- where the loop stands, and that it nears its end
-pub record Turn (c : RowColumns) (n : ℕ) : Type 0 where
-  pub i : ℕ
-  pub zs : List Row
-  pub within : i ≤ n
-  pub filled : Filled c n i zs
-
-module _ (c : RowColumns) where
-  abbrev pub first-turn : (zs : List Row) → Turn c (length zs)
-  first-turn zs = record { i = 0; zs = zs; within = omega arith; filled = (refl, λ k l. absurd (omega arith)) }
-
-  module _ (n : ℕ) where
-    abbrev pub next : (x : Turn c n) → x.i < n → Turn c n
-    next x l = record { i = x.i + 1; zs = set x.zs x.i (row_at c (cell_of x.i)); within = omega (arith, l); filled = filled_more c n x.i x.zs l x.filled }
-
-    abbrev pub Nearer : Turn c n → Turn c n → Type 0
-    Nearer y x = n - y.i < n - x.i
-
-    pub nearer : (x : Turn c n) (l : x.i < n) → Nearer (next x l) x
-    nearer x l = omega (arith, l)
-
-    pub nearer-wf : WellFounded Nearer
-    nearer-wf = InvImage.wf (λ (x : Turn c n). n - x.i) lt-wf_rel.wf

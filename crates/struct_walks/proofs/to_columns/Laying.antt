@@ -1,18 +1,14 @@
 -- Rows laid in columns, one after another.
-use mathlib.Core.Bool.{Bool, true, false, cond}
 use mathlib.Core.List.{List, map}
-use mathlib.Core.Path.{◌≡◌, refl, sym, ◌∙◌, subst}
-use Prim.Native.Nat.{ℕ, ◌+◌, ◌<◌}
+use mathlib.Core.Path.{◌≡◌, sym, ◌∙◌, subst}
+use Prim.Native.Nat.{ℕ, ◌+◌, ◌<◌, ◌≤◌, min}
 use native.Mathlib.Omega.{arith}
 use borrow.Author.Count.{below_more}
-use borrow.Author.Tests.{ltb-true, ltb-false}
-use lib.Dec.{ltb}
 use lib.ListN.{length, get_or, set, length-set, length-map, get_or-map}
 use lib.Seq.{get_or-set_same, get_or-set_other}
-use Rattle.row_structs.specs.Structs.{Laid, cell_of, cells_in, columns_in, empty_row}
+use Rattle.row_structs.specs.Structs.{Laid, cell_count, cells_in, columns_in, empty_row}
 use Rattle.row_structs.specs.declared.Row.{Row}
 use Rattle.row_structs.specs.declared.RowColumns.{RowColumns}
-use Rattle.row_structs.specs.laws.Answers.{cell_count, cell-low}
 use Rattle.table_spec.specs.Columns.{cells_at}
 use Rattle.text_spec.specs.Limits.{max_nodes}
 
@@ -51,17 +47,6 @@ with-row-sized c k r z =
       decoded = length-set c.decoded k r.decoded ∙ z.decoded;
     }
 
--- what the code finds as the row's cell
-cell-cases : (i : ℕ) → (P : ℕ → Type 0) → (i < max_nodes → P i) → (max_nodes < i + 1 → P max_nodes) → P (cell_of i)
-cell-cases i P below past = by-test (ltb i max_nodes) refl
-  where
-    by-test : (t : Bool) → ltb i max_nodes ≡ t → P (cond t i max_nodes)
-    by-test true e = below (ltb-true i max_nodes e)
-    by-test false e = past (let l = ltb-false i max_nodes e in omega arith)
-
-pub cell-small : (i : ℕ) → cell_of i < cell_count
-cell-small i = omega (arith, cell-low i)
-
 cell_same : (c : RowColumns) (k : ℕ) (r : Row) → Sized c → k < cell_count → cells_at (columns_in (with_row c k r)) k ≡ cells_in r
 cell_same c k r z l =
     λ i. record {
@@ -84,14 +69,12 @@ cell_other c k j r ne =
       decoded = get_or-set_other c.decoded k j r.decoded 0 ne i;
     }
 
-pub laid_more : (ys : List Row) (i : ℕ) (c : RowColumns) → Sized c → LaidTo ys i c → LaidTo ys (i + 1) (with_row c (cell_of i) (get_or ys i empty_row))
-laid_more ys i c z laid =
-    cell-cases i (λ k. LaidTo ys (i + 1) (with_row c k (get_or ys i empty_row)))
-    (λ l. below_more (Stands i) i (λ k h m. cell_other c i k (get_or ys i empty_row) (λ e. omega arith) ∙ laid k h m) (λ _. cell_same c i (get_or ys i empty_row) z (omega arith)))
-    (λ l. below_more (Stands max_nodes) i (λ k h m. cell_other c max_nodes k (get_or ys i empty_row) (λ e. omega arith) ∙ laid k h m) (λ m. absurd (omega arith)))
+pub laid_more : (ys : List Row) (i : ℕ) (c : RowColumns) → Sized c → LaidTo ys i c → i < max_nodes → LaidTo ys (i + 1) (with_row c i (get_or ys i empty_row))
+laid_more ys i c z laid l =
+    below_more Stands i (λ k h m. cell_other c i k (get_or ys i empty_row) (λ e. omega arith) ∙ laid k h m) (λ m. cell_same c i (get_or ys i empty_row) z (omega arith))
   where
-    Stands : ℕ → ℕ → Type 0
-    Stands j k = k < max_nodes → cells_at (columns_in (with_row c j (get_or ys i empty_row))) k ≡ cells_in (get_or ys k empty_row)
+    Stands : ℕ → Type 0
+    Stands k = k < max_nodes → cells_at (columns_in (with_row c i (get_or ys i empty_row))) k ≡ cells_in (get_or ys k empty_row)
 
-pub laid-all : (ys : List Row) (c : RowColumns) → LaidTo ys (length ys) c → Laid (map cells_in ys) (columns_in c)
-laid-all ys c laid k l m = laid k (subst (λ n. k < n) (length-map ys cells_in) l) m ∙ sym (get_or-map cells_in ys k empty_row)
+pub laid-all : (ys : List Row) (c : RowColumns) (n : ℕ) → min (length ys) max_nodes ≤ n → LaidTo ys n c → Laid (map cells_in ys) (columns_in c)
+laid-all ys c n far laid k l m = laid k (let h = subst (λ n. k < n) (length-map ys cells_in) l in omega arith) m ∙ sym (get_or-map cells_in ys k empty_row)

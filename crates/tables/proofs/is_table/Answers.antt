@@ -1,22 +1,19 @@
--- `is_table` meets its contract: columns that do not fit, or the pass over their rows.
-use mathlib.Core.Path.{sym, ◌∙◌}
-use borrow.Author.Tests.{not-true, not-false}
-use Rattle.library_spec.specs.Records.{LentTable}
-use Rattle.tables.specs.Handed.{lent_table, fit-lent, held-unfit, held-fit}
-use Rattle.tables.proofs.is_table.Goals.{Start}
+-- `is_table` meets its contract: the columns' lengths, and the pass over their rows.
+use Rattle.std.proofs.Common.{T, true, false, sym, subst, ◌∙◌, refl}
+use Rattle.tables.specs.Handed.{fit-lent, held-tests}
+use Rattle.tables.specs.rows.Lent.{lent-texts}
 use Rattle.tables.proofs.is_table.Goals as goal
 
-abbrev handed : Start → LentTable
-handed c =
-    let at = c.args in
-    lent_table at.numbers.now at.codes.now at.parents.now at.starts.now at.lengths.now at.decoded.now at.count
+pub returns-then-sizes_fit : goal.returns-then-sizes_fit
+returns-then-sizes_fit c =
+    record {
+      held = λ s h. held-tests c.args.words.now _ s h true _ (sym c.if-sizes_fit.true ∙ c.sizes_fit.ensures) c.rows_fit.ensures;
+      sized = λ _. lent-texts _ _ (fit-lent _ (sym c.sizes_fit.ensures ∙ c.if-sizes_fit.true));
+    }
 
-pub returns-then-not-sizes_fit : goal.returns-then-not-sizes_fit
-returns-then-not-sizes_fit c = λ s h. held-unfit c.args.words.now (handed (goal.at.returns-then-not-sizes_fit c).Start) s h (sym c.sizes_fit.ensures ∙ not-true _ c.if-not-sizes_fit.true-raw)
-
-pub rows_fit-requires : goal.rows_fit-requires
-rows_fit-requires c = fit-lent (handed (goal.at.rows_fit-requires c).Start) (sym c.sizes_fit.ensures ∙ not-false _ c.if-not-sizes_fit.false-raw)
-
-pub returns : goal.returns
-returns c =
-    λ s h. c.rows_fit.ensures ∙ held-fit c.args.words.now (handed (goal.at.returns c).Start) s h (sym c.sizes_fit.ensures ∙ not-false _ c.if-not-sizes_fit.false-raw)
+pub returns-else-sizes_fit : goal.returns-else-sizes_fit
+returns-else-sizes_fit c =
+    record {
+      held = λ s h. c.if-sizes_fit.false ∙ held-tests c.args.words.now _ s h false _ (sym c.if-sizes_fit.false ∙ c.sizes_fit.ensures) refl;
+      sized = λ t. absurd (subst T c.if-sizes_fit.false t);
+    }

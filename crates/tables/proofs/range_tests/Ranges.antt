@@ -1,11 +1,11 @@
 -- A range by whether a byte in it fails 3.
-use mathlib.Core.Bool.{Bool, false, not}
+use mathlib.Core.Bool.{Bool, true, false, not, ◌&&◌}
 use mathlib.Core.List.{List}
-use mathlib.Core.Path.{◌≡◌, ap, ◌∙◌}
-use Prim.Native.Nat.{ℕ, ◌+◌, ◌-◌, ◌<◌, ◌≤◌}
+use mathlib.Core.Path.{◌≡◌, refl, sym, ap, ◌∙◌}
+use Prim.Native.Nat.{ℕ, ◌+◌, ◌-◌, ◌≤◌}
 use native.Mathlib.Omega.{arith}
-use borrow.Author.Tests.{le-leb, lt-leb, eq-eqb, ne_eqb}
-use lib.Dec.{eqb}
+use borrow.Author.Tests.{eq-eqb, ne_eqb, leb-true, leb-false}
+use lib.Dec.{eqb, leb}
 use lib.ListN.{length, take, drop, length-take, length-drop}
 use Rattle.table_laws.specs.passes.Texts.{passes, range_passes}
 use Rattle.text.specs.foreign_bytes.Laws.{none-foreign}
@@ -14,21 +14,29 @@ use Rattle.text_spec.specs.Lists.{part, all_of, any_of}
 
 -- ---- a range
 module _ (lent : List ℕ) (start size : ℕ) where
-  pub range-past : length lent < start → false ≡ range_passes lent start size
+  abbrev tested : Bool
+  tested = leb size (length lent - start) && not (any_of is_foreign (take (start + size - start) (drop start lent)))
+
+  inside : start ≤ length lent → (eqb (length (part start size lent)) size && all_of passes (part start size lent)) ≡ tested
+  inside l = by (leb size (length lent - start)) refl
+    where
+      by : (b : Bool) → leb size (length lent - start) ≡ b → (eqb (length (part start size lent)) size && all_of passes (part start size lent)) ≡ (b && not (any_of is_foreign (take (start + size - start) (drop start lent))))
+      by true e =
+          let m = leb-true size (length lent - start) e in
+          let w : start + size - start ≡ size = omega arith in
+          let n : length (part start size lent) ≡ size = simp (length-take, length-drop) (omega arith) in
+          ap (λ (b : Bool). b && all_of passes (part start size lent)) (eq-eqb (length (part start size lent)) size n)
+          ∙ sym (none-foreign (take (start + size - start) (drop start lent)) ∙ ap (λ (k : ℕ). all_of passes (take k (drop start lent))) w)
+      by false e =
+          let m = leb-false size (length lent - start) e in
+          ap (λ (b : Bool). b && all_of passes (part start size lent))
+          (ne_eqb (length (part start size lent)) size (λ q. omega (arith, simp (length-take, length-drop) at q)))
+
+  -- the tests in their order
+  pub range-tested : range_passes lent start size ≡ (leb start (length lent) && tested)
   unfolding range_passes
-  range-past l = simp (lt-leb start (length lent) l)
-
-  module _ (inside : start ≤ length lent) where
-    pub range-short : length lent - start < size → false ≡ range_passes lent start size
-    unfolding range_passes
-    range-short l =
-        let short : eqb (length (part start size lent)) size ≡ false = ne_eqb (length (part start size lent)) size (λ e. omega (arith, simp (length-take, length-drop) at e)) in
-        simp (le-leb start (length lent) inside, short)
-
-    pub range-whole : size ≤ length lent - start → (r : Bool) → r ≡ any_of is_foreign (take (start + size - start) (drop start lent)) → not r ≡ range_passes lent start size
-    unfolding range_passes
-    range-whole l r found =
-        let w : start + size - start ≡ size = omega arith in
-        let n : length (part start size lent) ≡ size = simp (length-take, length-drop) (omega arith) in
-        ap not found ∙ none-foreign (take (start + size - start) (drop start lent))
-        ∙ ap (λ (k : ℕ). all_of passes (take k (drop start lent))) w ∙ simp (le-leb start (length lent) inside, eq-eqb (length (part start size lent)) size n)
+  range-tested = by (leb start (length lent)) refl
+    where
+      by : (b : Bool) → leb start (length lent) ≡ b → (b && (eqb (length (part start size lent)) size && all_of passes (part start size lent))) ≡ (b && tested)
+      by true e = inside (leb-true start (length lent) e)
+      by false e = refl

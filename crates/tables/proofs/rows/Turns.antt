@@ -36,17 +36,25 @@ pub record Climbing (c : Columns) (row parent from among element depth : ℕ) : 
   pub shallow : depth ≤ max_depth
   pub rest : climb (eqb parent) c.parents element depth ≡ climb (eqb parent) c.parents from among
 
--- the row that the climb is for stands in the columns, and so does the element that the climb has come to
-pub row-lent : (c : Columns) (count row parent from among element depth : ℕ) → Lent c count → 0 < row → row < count → Climbing c row parent from among element depth
-    → RowLent c.numbers c.names c.starts c.lengths c.decoded row element
-row-lent c count row parent from among element depth lent later more k =
+-- so have the first of the rows
+pub lent-to : (c : Columns) (count n : ℕ) → Lent c count → n ≤ count → Lent c n
+lent-to c count n lent l =
     record {
-      later = later;
       numbered = omega (arith, lent.numbered);
       named = omega (arith, lent.named);
+      parented = omega (arith, lent.parented);
       started = omega (arith, lent.started);
       sized = omega (arith, lent.sized);
       measured = omega (arith, lent.measured);
+    }
+
+-- the row that the climb is for stands in the columns, and so does the element that the climb has come to
+pub row-lent : (c : Columns) (count row parent from among element depth : ℕ) → Lent c count → 0 < row → row < count → Climbing c row parent from among element depth
+    → RowLent c row element
+row-lent c count row parent from among element depth lent later more k =
+    record {
+      later = later;
+      lent = lent-to c count (row + 1) lent (omega arith);
       parented = omega (arith, lent.named, k.low);
       is_element = k.is_element;
     }
@@ -129,7 +137,7 @@ module _ (words : List ℕ) (c : Columns) where
   after_row count row p d = later_pass words c (count - (row + 1)) (row + 1 - 1) (open_after (code_at c row) row p) (depth_under (code_at c row) d)
 
   abbrev fits_at : ℕ → ℕ → ℕ → Bool
-  fits_at row p d = row_fits c.numbers c.names c.starts c.lengths c.decoded words row p d
+  fits_at row p d = row_fits c words row p d
 
   abbrev turned : ℕ → ℕ → Climbed → Bool
   turned count row nowhere = false

@@ -1,11 +1,11 @@
 -- A range inside the text by its lengths: it is copied, or decoded.
-use mathlib.Core.Bool.{true, false, ◌&&◌}
+use mathlib.Core.Bool.{Bool, true, false, not, ◌&&◌, ◌||◌}
 use mathlib.Core.List.{List}
 use mathlib.Core.Option.{Option, none, some}
-use mathlib.Core.Path.{◌≡◌, refl, sym, ap, ◌∙◌}
-use Prim.Native.Nat.{ℕ, ◌+◌, ◌-◌, ◌≤◌}
+use mathlib.Core.Path.{◌≡◌, refl, ap, ◌∙◌}
+use Prim.Native.Nat.{ℕ, zero, suc, ◌+◌, ◌-◌, ◌≤◌}
 use native.Mathlib.Omega.{arith}
-use borrow.Author.Tests.{eq-eqb, ne_eqb}
+use borrow.Author.Tests.{ne_eqb}
 use lib.Dec.{eqb, leb, eqb→eq, leb→le}
 use lib.ListN.{length, take, drop, length-take, length-drop}
 use Rattle.table_laws.specs.passes.Texts.{passes, range_passes, range_decodes}
@@ -35,23 +35,17 @@ no_zero w = pick (decoded_size w) refl
         let t = sized-text w m e in
         ne_eqb m 0 (λ z. omega (arith, (text-bounds t.0).0, t.1))
 
--- how a range is decoded, by its lengths
-module _ (lent : List ℕ) (start size decoded : ℕ) where
-  pub decodes-equal : decoded ≡ size → true ≡ range_decodes lent start size decoded
-  unfolding range_decodes
-  decodes-equal e = rw (eq-eqb decoded size e) refl
+-- how a range is decoded: by its lengths, and by the size that is told, which is 0 where there is none
+sized : (decoded : ℕ) (o : Option ℕ) → (decoded ≡ 0 → is_size 0 o ≡ false) → is_size decoded o ≡ (not (eqb decoded 0) && eqb (value_or 0 o) decoded)
+sized zero none h = refl
+sized (suc d) none h = simp (ne_eqb (suc d) 0 (λ e. omega arith), ne_eqb 0 (suc d) (λ e. omega arith))
+sized zero (some m) h = h refl
+sized (suc d) (some m) h = simp (ne_eqb (suc d) 0 (λ e. omega arith))
 
-  module _ (unequal : decoded ≡ size → ⊥) where
-    pub decodes-zero : decoded ≡ 0 → false ≡ range_decodes lent start size decoded
-    unfolding range_decodes
-    decodes-zero e = rw (ne_eqb decoded size unequal, e, no_zero (part start size lent)) refl
-
-    pub decodes-size : (decoded ≡ 0 → ⊥) → eqb (value_or 0 (decoded_size (take (start + size - start) (drop start lent)))) decoded ≡ range_decodes lent start size decoded
-    unfolding range_decodes
-    decodes-size some_size =
-        let w : start + size - start ≡ size = omega arith in
-        ap (λ (k : ℕ). eqb (value_or 0 (decoded_size (take k (drop start lent)))) decoded) w ∙ pick (decoded_size (part start size lent)) ∙ rw (ne_eqb decoded size unequal) refl
-      where
-        pick : (o : Option ℕ) → eqb (value_or 0 o) decoded ≡ is_size decoded o
-        pick none = ne_eqb 0 decoded (λ e. some_size (sym e))
-        pick (some m) = refl
+pub range-decoded : (lent : List ℕ) (start size decoded : ℕ)
+    → range_decodes lent start size decoded ≡ (eqb decoded size || (not (eqb decoded 0) && eqb (value_or 0 (decoded_size (take (start + size - start) (drop start lent)))) decoded))
+unfolding range_decodes
+range-decoded lent start size decoded =
+    let w : size ≡ start + size - start = omega arith in
+    ap (λ (k : ℕ). eqb decoded size || is_size decoded (decoded_size (take k (drop start lent)))) w
+    ∙ ap (λ (b : Bool). eqb decoded size || b) (sized decoded (decoded_size (take (start + size - start) (drop start lent))) (λ e. no_zero (take (start + size - start) (drop start lent))))

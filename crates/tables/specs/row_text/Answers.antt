@@ -1,5 +1,6 @@
 -- The answer of the text of a row, and that it is the library's outcome.
-use Rattle.std.specs.Prelude.{Bool, cond, List, ◌≡◌, ℕ, ◌+◌, ◌-◌, ◌<◌, ◌≤◌, T, leb, length, get_or, drop}
+use Rattle.std.specs.Prelude as rust
+use Rattle.std.specs.Prelude.{Bool, cond, Result, Ok, Err, Some, None, List, [], ◌≡◌, ℕ, ◌+◌, ◌-◌, ◌<◌, ◌≤◌, T, leb, length, get_or, drop}
 use Rattle.std.proofs.Math.Bool.{true, false, not}
 use Rattle.std.proofs.Common.{⊎_elim, subst, ◌∙◌, le-leb}
 use Rattle.std.proofs.Math.Option.{Option, none, some}
@@ -20,31 +21,44 @@ use Rattle.table_laws.specs.passes.Codes.{code-text}
 use Rattle.table_laws.specs.passes.Lines.{Stands}
 use Rattle.table_laws.specs.passes.Passes.{is_text_code}
 use Rattle.table_laws.specs.passes.Tables.{StandFrom, rows-stand}
-use Rattle.table_spec.specs.Columns.{cells_from}
+use Rattle.table_spec.specs.Columns.{Columns, cells_at, cells_from}
 use Rattle.table_spec.specs.Rows.{Row, Cells, rows_of}
 use Rattle.table_spec.specs.Tables.{well_formed_with}
 use Rattle.tables.specs.Handed.{is_beside, sizes_fit, fit-lent}
-use Rattle.tables.specs.declared.row_text.RowText.{RowText}
-use Rattle.tables.specs.declared.row_text.RowText.TheVariants.{Refused, Element, Text}
+use Rattle.tables.specs.declared.row_text.TextPlace.{TextPlace}
 use Rattle.tables.specs.rows.Lent.{Lent}
 use Rattle.text_laws.specs.Searches.{below-or-past}
 use Rattle.text_laws.specs.Tests.{never, passed}
+use Rattle.text.specs.declared.refusals.Reason.TheVariants.{BadRecord}
+use Rattle.text.specs.declared.refusals.Refusal.{Refusal}
+use Rattle.text.specs.refusals.Refusals.{refusal, refusal_in}
 use Rattle.text_spec.specs.Calls.{handed}
 use Rattle.text_spec.specs.Lists.{is_none}
 use Rattle.text_spec.specs.Records.{TextRecord, text_in}
 use Rattle.text_spec.specs.Refusals.{Outcome, accepted, refused, at, bad_record}
 
 -- ---- definitions
+-- what a call answers: where the text of a row stands, or none for an element
+abbrev pub Answer : Type 0
+Answer = Result (rust.Option TextPlace) Refusal
+
 -- the answer as an outcome of the library
-abbrev pub outcome_of : RowText → Outcome Calls.RowText
-outcome_of Refused = refused (at bad_record 0)
-outcome_of Element = accepted no_text
-outcome_of (Text start size decoded) = accepted (text_at start size decoded)
+abbrev pub text_outcome : Answer → Outcome Calls.RowText
+text_outcome (Ok None) = accepted no_text
+text_outcome (Ok (Some p)) = accepted (text_at p.start p.size p.decoded)
+text_outcome (Err f) = refused (refusal_in f)
+
+-- refused by 1: a record, a table or a position that is none
+abbrev pub refused-by-1 : Answer
+refused-by-1 = Err (refusal BadRecord 0)
+
+-- the text of a row by its cells
+abbrev pub place_of : Cells → rust.Option TextPlace
+place_of x = cond (is_text_code x.name) (Some (record { start = x.start; size = x.size; decoded = x.decoded })) None
 
 -- the answer for a row of tested columns
-abbrev pub text_of : List ℕ → List ℕ → List ℕ → List ℕ → ℕ → ℕ → RowText
-text_of names starts lengths decoded count position =
-    cond (leb count position) Refused (cond (is_text_code (get_or names position 0)) (Text (get_or starts position 0) (get_or lengths position 0) (get_or decoded position 0)) Element)
+abbrev pub text_of : Columns → ℕ → ℕ → Answer
+text_of c count position = cond (leb count position) refused-by-1 (Ok (place_of (cells_at c position)))
 
 -- ---- laws
 abbrev after_table : Option (List Row) → ℕ → Outcome Calls.RowText
@@ -105,27 +119,27 @@ module _ (t : LentTable) (rows : List Row) (stand : StandFrom t.columns 0 t.coun
       pick none e = refl
       pick (some r) e = absurd (omega (arith, at_bound rows position r e, stand.size))
 
-  by_name : (r : Row) (n : Name) → r.name ≡ n → outcome_of (cond (is_text n) (Text r.start r.size r.decoded) Element) ≡ accepted (text_of_row n r)
+  abbrev placed : Row → Bool → rust.Option TextPlace
+  placed r b = cond b (Some (record { start = r.start; size = r.size; decoded = r.decoded })) None
+
+  by_name : (r : Row) (n : Name) → r.name ≡ n → text_outcome (Ok (placed r (is_text n))) ≡ accepted (text_of_row n r)
   by_name r (element e) q = refl
   by_name r (text e) q = refl
 
-  inside : position < t.count
-      → outcome_of (cond (is_text_code (get_or t.columns.names position 0)) (Text (get_or t.columns.starts position 0) (get_or t.columns.lengths position 0) (get_or t.columns.decoded position 0)) Element)
-      ≡ after_table (some rows) position
+  inside : position < t.count → text_outcome (Ok (place_of (cells_at t.columns position))) ≡ after_table (some rows) position
   inside l =
       let f = at_some rows position (omega (arith, stand.size)) in
       let r = f.0 in
       let zero : 0 + position ≡ position = omega arith in
       let here : Stands t.columns position r = subst (λ (x : ℕ). Stands t.columns x r) zero (stand.each position r f.1) in
-      let answer : Cells → Outcome Calls.RowText = λ x. outcome_of (cond (is_text_code x.name) (Text x.start x.size x.decoded) Element) in
-      ap answer here.cells ∙ ap (λ (b : Bool). outcome_of (cond b (Text r.start r.size r.decoded) Element)) (code-text (code_of r.name) r.name here.coded) ∙ by_name r r.name refl
+      ap (λ (x : Cells). text_outcome (Ok (place_of x))) here.cells ∙ ap (λ (b : Bool). text_outcome (Ok (placed r b))) (code-text (code_of r.name) r.name here.coded) ∙ by_name r r.name refl
       ∙ sym (ap (λ (o : Option Row). handed o (λ z. accepted (text_of_row z.name z))) f.1)
 
-  row-answer : outcome_of (text_of t.columns.names t.columns.starts t.columns.lengths t.columns.decoded t.count position) ≡ after_table (some rows) position
-  row-answer = ⊎_elim (λ l. ap outcome_of (at-inside l) ∙ inside l) (λ l. ap outcome_of (at-past l) ∙ past l) (below-or-past position t.count)
+  row-answer : text_outcome (text_of t.columns t.count position) ≡ after_table (some rows) position
+  row-answer = ⊎_elim (λ l. ap text_outcome (at-inside l) ∙ inside l) (λ l. ap text_outcome (at-past l) ∙ past l) (below-or-past position t.count)
     where
-      answers : Bool → RowText
-      answers b = cond b Refused (cond (is_text_code (get_or t.columns.names position 0)) (Text (get_or t.columns.starts position 0) (get_or t.columns.lengths position 0) (get_or t.columns.decoded position 0)) Element)
+      answers : Bool → Answer
+      answers b = cond b refused-by-1 (Ok (place_of (cells_at t.columns position)))
 
       at-inside : position < t.count → answers (leb t.count position) ≡ answers false
       at-inside l = ap answers (lt-leb t.count position l)
@@ -136,12 +150,12 @@ module _ (t : LentTable) (rows : List Row) (stand : StandFrom t.columns 0 t.coun
 -- The answer for a row of a table that is handed in.
 module _ (schema : TextRecord) (t : LentTable) (lent : List ℕ) (position : ℕ) (record-passes : passes_schema schema ≡ true) where
   pub row-found : is_beside (schema_in (text_in schema)) lent t ≡ true
-      → outcome_of (text_of t.columns.names t.columns.starts t.columns.lengths t.columns.decoded t.count position) ≡ row_text schema t lent position
+      → text_outcome (text_of t.columns t.count position) ≡ row_text schema t lent position
   unfolding is_beside
   row-found e = pick (table_beside (schema_in (text_in schema)) lent t) refl e ∙ sym (by-record schema t lent position record-passes)
     where
       pick : (o : Option (List Row)) → table_beside (schema_in (text_in schema)) lent t ≡ o → not (is_none o) ≡ true
-          → outcome_of (text_of t.columns.names t.columns.starts t.columns.lengths t.columns.decoded t.count position) ≡ after_table (table_beside (schema_in (text_in schema)) lent t) position
+          → text_outcome (text_of t.columns t.count position) ≡ after_table (table_beside (schema_in (text_in schema)) lent t) position
       pick none q f = never (cc)
       pick (some rows) q f =
           row-answer t rows (table-found (schema_in (text_in schema)) lent t rows q).stand position ∙ ap (λ (x : Option (List Row)). after_table x position) (sym q)
@@ -175,9 +189,9 @@ answer-inside schema t lent position a k d e = pick (passes_schema schema) (sym 
     pick true h = found_inside (schema_in (text_in schema)) t lent position a k d h
     pick false h = never (cc)
 
-pub text-inside : (schema : TextRecord) (t : LentTable) (lent : List ℕ) (position : ℕ) (r : RowText) → outcome_of r ≡ row_text schema t lent position
-    → (a k d : ℕ) → r ≡ Text a k d → a + k ≤ length lent
-text-inside schema t lent position r is a k d e = answer-inside schema t lent position a k d (ap outcome_of (sym e) ∙ is)
+pub text-inside : (schema : TextRecord) (t : LentTable) (lent : List ℕ) (position : ℕ) (r : Answer) → text_outcome r ≡ row_text schema t lent position
+    → (p : TextPlace) → r ≡ Ok (Some p) → p.start + p.size ≤ length lent
+text-inside schema t lent position r is p e = answer-inside schema t lent position p.start p.size p.decoded (ap text_outcome (sym e) ∙ is)
 
 -- a table that is handed in has a cell for each row in each column
 pub beside-lent : (z : Schema) (lent : List ℕ) (t : LentTable) → is_beside z lent t ≡ true → Lent t.columns t.count
@@ -190,17 +204,16 @@ beside-lent z lent t e = pick (sizes_fit t) refl e
     pick false q f = never (cc)
 
 -- the part of a text, by the answer
-module _ (lent : List ℕ) (r : RowText) (o : Outcome Calls.RowText) (is : outcome_of r ≡ o) where
-  pub part-refused : r ≡ Refused → take 0 lent ≡ part_after lent o
-  unfolding part_after
-  part-refused e = ap (λ (x : RowText). part_after lent (outcome_of x)) (sym e) ∙ ap (part_after lent) is
+pub part-element : (lent : List ℕ) (o : Outcome Calls.RowText) → text_outcome (Ok None) ≡ o → [] ≡ part_after lent o
+unfolding part_after
+part-element lent o is = ap (part_after lent) is
 
-  pub part-element : r ≡ Element → take 0 lent ≡ part_after lent o
-  unfolding part_after
-  part-element e = ap (λ (x : RowText). part_after lent (outcome_of x)) (sym e) ∙ ap (part_after lent) is
+pub part-refused : (lent : List ℕ) (f : Refusal) (o : Outcome Calls.RowText) → text_outcome (Err f) ≡ o → [] ≡ part_after lent o
+unfolding part_after
+part-refused lent f o is = ap (part_after lent) is
 
-  pub part-text : (start size decoded : ℕ) → r ≡ Text start size decoded → take (start + size - start) (drop start lent) ≡ part_after lent o
-  unfolding part_after
-  part-text start size decoded e =
-      let n : start + size - start ≡ size = omega arith in
-      ap (λ (x : ℕ). take x (drop start lent)) n ∙ ap (λ (x : RowText). part_after lent (outcome_of x)) (sym e) ∙ ap (part_after lent) is
+pub part-text : (lent : List ℕ) (p : TextPlace) (o : Outcome Calls.RowText) → text_outcome (Ok (Some p)) ≡ o → take (p.start + p.size - p.start) (drop p.start lent) ≡ part_after lent o
+unfolding part_after
+part-text lent p o is =
+    let n : p.start + p.size - p.start ≡ p.size = omega arith in
+    ap (λ (x : ℕ). take x (drop p.start lent)) n ∙ ap (part_after lent) is

@@ -1,7 +1,10 @@
 -- Lent columns that have a cell for each row, and one row of them.
-use Rattle.std.specs.Prelude.{Bool, List, ◌≡◌, ℕ, ◌-◌, ◌<◌, ◌≤◌, length, get_or}
-use Rattle.table_laws.specs.passes.Passes.{is_text_code, later_fits, code_at, parent_at}
-use Rattle.table_spec.specs.Columns.{Columns}
+use Rattle.std.specs.Prelude.{Bool, List, ◌≡◌, ℕ, ◌+◌, ◌-◌, ◌<◌, ◌≤◌, length, get_or}
+use Rattle.std.proofs.Common.{arith}
+use Rattle.cells.specs.declared.columns.RowCells.{RowCells}
+use Rattle.table_laws.specs.passes.Passes.{later_cells, code_at, parent_at}
+use Rattle.table_spec.specs.Columns.{Columns, cells_at}
+use Rattle.table_spec.specs.Rows.{Cells}
 use Rattle.text_spec.specs.Limits.{max_declarations}
 
 -- each column has a cell for each of so many rows
@@ -13,6 +16,26 @@ pub record Lent (c : Columns) (count : ℕ) : Type 0 where
   pub sized : count ≤ length c.lengths
   pub measured : count ≤ length c.decoded
 
+-- so has each column that tells of texts
+pub record TextsLent (c : Columns) (count : ℕ) : Type 0 where
+  pub named : count ≤ length c.names
+  pub started : count ≤ length c.starts
+  pub sized : count ≤ length c.lengths
+  pub measured : count ≤ length c.decoded
+
+pub lent-texts : (c : Columns) (count : ℕ) → Lent c count → TextsLent c count
+lent-texts c count l = record { named = l.named; started = l.started; sized = l.sized; measured = l.measured }
+
+-- and for the first rows
+pub lent-row : (c : Columns) (count row : ℕ) → TextsLent c count → row < count → TextsLent c (row + 1)
+lent-row c count row l h =
+    record {
+      named = omega (arith, l.named);
+      started = omega (arith, l.started);
+      sized = omega (arith, l.sized);
+      measured = omega (arith, l.measured);
+    }
+
 -- there is a row 0, an element without a parent
 pub record RootAt (c : Columns) (count : ℕ) : Type 0 where
   pub some : 0 < count
@@ -20,18 +43,16 @@ pub record RootAt (c : Columns) (count : ℕ) : Type 0 where
   pub parent : parent_at c 0 ≡ 0
 
 -- the columns have a later row, and its parent, which is an element
-pub record RowLent (numbers names starts lengths decoded : List ℕ) (row parent : ℕ) : Type 0 where
+pub record RowLent (c : Columns) (row parent : ℕ) : Type 0 where
   pub later : 0 < row
-  pub numbered : row < length numbers
-  pub named : row < length names
-  pub started : row < length starts
-  pub sized : row < length lengths
-  pub measured : row < length decoded
-  pub parented : parent < length names
-  pub is_element : get_or names parent 0 < max_declarations
+  pub lent : Lent c (row + 1)
+  pub parented : parent < length c.names
+  pub is_element : code_at c parent < max_declarations
+
+-- a row by its number and its other cells
+abbrev pub row_in : ℕ → RowCells → Cells
+row_in number x = record { number = number; name = x.name; parent = x.parent; start = x.start; size = x.size; decoded = x.decoded }
 
 -- the row fits under its parent, whose depth this is
-abbrev pub row_fits : List ℕ → List ℕ → List ℕ → List ℕ → List ℕ → List ℕ → ℕ → ℕ → ℕ → Bool
-row_fits numbers names starts lengths decoded words row parent depth =
-    later_fits (get_or numbers (row - 1) 0) (is_text_code (get_or names (row - 1) 0)) (get_or words (get_or names parent 0) 0) depth (get_or numbers row 0) (get_or names row 0)
-    (get_or starts row 0) (get_or lengths row 0) (get_or decoded row 0)
+abbrev pub row_fits : Columns → List ℕ → ℕ → ℕ → ℕ → Bool
+row_fits c words row parent depth = later_cells (cells_at c (row - 1)) (get_or words (code_at c parent) 0) depth (cells_at c row)

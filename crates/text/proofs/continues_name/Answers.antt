@@ -2,7 +2,6 @@
 use mathlib.Core.Bool.{true}
 use mathlib.Core.Path.{ap, ◌∙◌}
 use native.Mathlib.Omega.{arith}
-use borrow.Author.Rules.{rules}
 use Rattle.text_spec.specs.Bytes.{class_of, continues_name}
 use Rattle.text.specs.classes.Classes.{meant, joins_name, in_name}
 use Rattle.text.specs.classes.Runs.{by-class}

@@ -17,16 +17,7 @@ meant Foreign = foreign
 abbrev pub joins_name : ℕ → Bool
 joins_name b = eqb b 0x2D || (eqb b 0x2E || eqb b 0x5F)
 
--- the tests on a byte, by its class
-abbrev pub is_foreign_class : Bytes.Class → Bool
-is_foreign_class blank = false
-is_foreign_class letter = false
-is_foreign_class digit = false
-is_foreign_class markup = false
-is_foreign_class other = false
-is_foreign_class foreign = true
-
--- it may stand in a name, where digits may or not, and this byte may or not if it is another
+-- a byte of this class may stand in a name, where digits may or not, and this byte may or not if it is another
 abbrev pub in_name : Bytes.Class → Bool → Bool → Bool
 in_name blank digits others = false
 in_name letter digits others = true

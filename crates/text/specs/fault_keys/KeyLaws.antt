@@ -1,7 +1,7 @@
 -- The least key of a list is that of its first refusal, and a key tells its refusal.
-use Rattle.std.specs.Prelude.{Bool, true, false, cond, ◌&&◌, ◌||◌, List, [], ◌∷◌, ◌++◌, ◌≡◌, refl, ℕ, min, ◌+◌, ◌*◌, ◌/◌, ◌%◌, ◌≤◌, ◌<◌, eqb, ltb}
+use Rattle.std.specs.Prelude.{Bool, true, false, cond, ◌&&◌, ◌||◌, List, [], ◌∷◌, ◌++◌, ◌≡◌, refl, ℕ, min, ◌/◌, ◌%◌, ◌≤◌, ◌<◌, eqb, ltb}
 use Rattle.std.proofs.Math.Option.{Option, none, some}
-use Rattle.std.proofs.Common.{ap, ap₂, arith, ltb-true, ltb-false, eqb-true}
+use Rattle.std.proofs.Common.{ap₂, arith, ltb-true, ltb-false, eqb-true}
 use Rattle.std.proofs.lemmas.Bool.{eqb-false}
 use Rattle.text_laws.specs.Order.{number-injective}
 use Rattle.text_spec.specs.Refusals.{Reason, bad_record, bad_length, bad_byte, bad_schema, over_schema_limit, declared_twice, undeclared_in_model, bad_path, over_path_limit, undeclared_in_path, misspelt, bad_nesting, over_depth, undeclared_element, bad_content, over_node_limit, bad_extract, too_few_cells, number_of, Refusal, at, given, before, first_from, first_of}

@@ -1,5 +1,5 @@
 -- Names as four words.
-use Rattle.std.specs.Prelude.{Bool, cond, List, [], ◌∷◌, ◌≡◌, ℕ, suc, ◌+◌, ◌*◌, ◌%◌, ◌^◌, ◌≤◌, T, eqb, length, get_or}
+use Rattle.std.specs.Prelude.{cond, List, [], ◌∷◌, ◌≡◌, ℕ, suc, ◌+◌, ◌*◌, ◌%◌, ◌^◌, ◌≤◌, T, eqb, length}
 use Rattle.text_spec.specs.Bytes.{is_between}
 use Rattle.text_spec.specs.Lists.{all_of}
 use Rattle.text.specs.declared.name_words.Name.{Name}
@@ -33,7 +33,3 @@ pub record Spells (w : Name) (n : List ℕ) : Type 0 where
   pub spelt : w ≡ words_of n
   pub short : length n ≤ 32
   pub filled : T (all_of (is_between 1 255) n)
-
--- name e of a table, four words for each
-abbrev pub name_at : List ℕ → ℕ → Name
-name_at t e = words (get_or t (e * 4) 0) (get_or t (e * 4 + 1) 0) (get_or t (e * 4 + 2) 0) (get_or t (e * 4 + 3) 0)

@@ -1,38 +1,27 @@
-use native.Mathlib.Omega.{arith}
-use Rattle.axis_passes.specs.alternative_steps.Alternatives.{steps-begun, steps-column, steps-pass, steps_next, steps_all}
-use Rattle.axis_passes.specs.steps.Steps.{columns-same-length}
+use Rattle.std.proofs.Common.{refl, arith}
+use Rattle.axis_passes.specs.alternative_steps.Alternatives.{steps-begun, steps-pass, steps_next, steps_all, unite-pass}
+use Rattle.axis_passes.specs.scratch.Scratch.{kept-kept}
 use Rattle.axis_passes.proofs.alternative_steps.alternative.Goals as goal
-
-pub overflow_add-k : goal.overflow_add-k
-overflow_add-k c = omega (arith, c.requires.0.inside)
 
 pub loop-k-init : goal.loop-k-init
 loop-k-init c =
-    steps-begun _ _ _ _ _ _ _ c.args.steps.now _ _ c.requires.0 c.fill.ensures
-
-pub bounds-axes-k : goal.bounds-axes-k
-bounds-axes-k c = omega (arith, c.requires.0.inside, c.loop-k.invariant.high)
-
-pub bounds-tests-k : goal.bounds-tests-k
-bounds-tests-k c =
-    omega (arith, c.requires.0.inside, c.loop-k.invariant.high)
+    steps-begun _ _ _ _ _ c.requires _ (c.fill.ensures.after (λ y e. e)) refl
+    (record { held = refl; steps = refl; next = refl; held-size = refl; steps-size = c.fill.ensures.len; next-size = refl })
 
 pub step_back-requires : goal.step_back-requires
-step_back-requires c =
-    steps-pass _ _ _ _ _ _ _ _ _ c.loop-k.invariant c.requires.0.table
+step_back-requires c = steps-pass _ _ _ _ _ c.requires c.loop-k.k c.loop-k.scratch c.loop-k.invariant
 
 pub loop-k-preserved : goal.loop-k-preserved
 loop-k-preserved c =
-    let at = c.loop-k in
-    steps_next _ _ _ _ _ _ at.k at.steps at.next at.invariant _ _ _ (omega arith) c.axis_number-axis.ensures c.step_back.ensures
-    (omega arith)
+    steps_next _ _ _ _ _ c.requires c.loop-k.k c.loop-k.scratch c.loop-k.invariant _ (omega arith) c.step_back.ensures refl
+    (record { held = refl; steps = refl; next = refl; held-size = refl; steps-size = omega arith; next-size = omega arith })
 
 pub unite-requires : goal.unite-requires
-unite-requires c =
-    let at = c.loop-k in
-    columns-same-length (steps-column _ _ _ _ _ _ at.k at.steps at.next at.invariant) c.requires.0.column
+unite-requires c = unite-pass _ _ _ _ _ c.requires c.loop-k.k c.loop-k.scratch c.loop-k.invariant
 
-pub returns : goal.returns
-returns c =
-    let at = c.loop-k in
-    steps_all _ _ _ _ _ _ at.k at.steps at.next at.invariant _ _ (omega arith) c.unite.ensures
+pub returns-clause-held : goal.returns-clause-held
+returns-clause-held c = steps_all _ _ _ _ _ c.requires c.loop-k.k c.loop-k.scratch c.loop-k.invariant _ (omega arith) c.unite.ensures
+
+pub returns-clause-kept : goal.returns-clause-kept
+returns-clause-kept c =
+    kept-kept c.loop-k.invariant.kept (record { held = refl; steps = refl; next = refl; held-size = omega arith; steps-size = refl; next-size = refl })

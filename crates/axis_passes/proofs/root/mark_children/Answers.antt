@@ -1,3 +1,4 @@
+use Rattle.std.proofs.Common.{◌∙◌}
 use native.Mathlib.Omega.{arith}
 use Rattle.axis_passes.specs.root.Roots.{at-root-row, at-root-length, children-set}
 use Rattle.cells.specs.row_sets.Loops.{forward-none, forward-next, forward-all}
@@ -12,8 +13,7 @@ bounds-parents-r c = omega (arith, c.requires.room, c.loop-r.invariant.size)
 pub loop-r-preserved : goal.loop-r-preserved
 loop-r-preserved c =
     let at = c.loop-r in
-    forward-next _ _ at.r at.out _ at.invariant (omega arith)
-    (at-root-row c.args.parents.now at.r _ (omega (arith, c.requires.room, at.invariant.size)) c.root_is.ensures)
+    forward-next _ _ at.r at.out _ at.invariant (omega (arith, c.requires.room, at.invariant.size)) (c.from.ensures ∙ at-root-row c.args.parents.now at.r (omega arith))
 
 pub bounds-out-0 : goal.bounds-out-0
 bounds-out-0 c =

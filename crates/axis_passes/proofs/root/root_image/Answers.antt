@@ -1,64 +1,35 @@
-use mathlib.Core.Bool.{true, false}
-use mathlib.Core.Path.{refl}
-use native.Mathlib.Omega.{arith}
+use Rattle.std.proofs.Common.{refl, ⊎_elim}
+use Rattle.std.proofs.Math.Bool.{true, false}
 use Rattle.axis_passes.specs.root.Roots.{root-axis, filled-axis, later-axis, root_kept}
-use Rattle.compiled_paths.specs.Columns.{axis_of, written_of}
+use Rattle.compiled_paths.specs.Steps.{written_axis}
+use Rattle.path_spec.specs.Paths.{along, child, descendant, descendant_or_self}
 use Rattle.selection_laws.specs.marks.Roots.{root_image, root_written}
 use Rattle.axis_passes.proofs.root.root_image.Goals as goal
 
-pub mark_later-requires : goal.mark_later-requires
-mark_later-requires c =
-    omega (arith, c.requires.room, c.requires.filled)
+pub returns-in-SelfNode : goal.returns-in-SelfNode
+unfolding root_written root_image
+returns-in-SelfNode c = root_kept _ _ c.requires (written_axis c.args.axis) _ (⊎_elim (λ e. rw e refl) (λ e. rw e refl) c.in-SelfNode.is) c.mark_root.ensures
 
-pub mark_root-requires : goal.mark_root-requires
-mark_root-requires c =
-    omega (arith, c.requires.room, c.requires.filled)
+pub returns-in-Child : goal.returns-in-Child
+unfolding root_written
+returns-in-Child c = rw c.in-Child.is (root-axis _ _ c.requires (along child) _ c.mark_children.ensures)
 
-pub returns-in-1 : goal.returns-in-1
-unfolding written_of axis_of root_written
-returns-in-1 c =
-    root-axis _ _ c.requires _ 1 _ c.in-1.is c.mark_children.ensures
+pub returns-in-Descendant : goal.returns-in-Descendant
+unfolding root_written root_image
+returns-in-Descendant c = rw c.in-Descendant.is (root-axis _ _ c.requires (along descendant) _ (later-axis _ _ c.requires _ c.mark_later.ensures))
 
-pub returns-in-2 : goal.returns-in-2
-unfolding written_of axis_of root_written root_image
-returns-in-2 c =
-    root-axis _ _ c.requires _ 2 _ c.in-2.is (later-axis _ _ c.requires _ c.mark_later.ensures)
+pub returns-in-DescendantOrSelf : goal.returns-in-DescendantOrSelf
+unfolding root_written root_image
+returns-in-DescendantOrSelf c = rw c.in-DescendantOrSelf.is (filled-axis _ _ c.requires (along descendant_or_self) _ true _ refl refl (c.fill.ensures.after (λ y e. e)))
 
-pub returns-in-3 : goal.returns-in-3
-unfolding written_of axis_of root_written root_image
-returns-in-3 c =
-    filled-axis _ _ c.requires _ 3 _ true _ c.in-3.is refl refl c.fill.ensures
+pub returns-in-Parent : goal.returns-in-Parent
+unfolding root_written root_image
+returns-in-Parent c = filled-axis _ _ c.requires (written_axis c.args.axis) _ false _ refl (⊎_elim (λ e. rw e refl) (λ e. rw e refl) c.in-Parent.is) (c.fill-in-Parent.ensures.after (λ y e. e))
 
-pub returns-in-4 : goal.returns-in-4
-unfolding written_of axis_of root_written root_image
-returns-in-4 c =
-    filled-axis _ _ c.requires _ 4 _ false _ c.in-4.is refl refl c.fill-in-4.ensures
+pub returns-in-Following : goal.returns-in-Following
+unfolding root_written root_image
+returns-in-Following c = filled-axis _ _ c.requires (written_axis c.args.axis) _ false _ refl (⊎_elim (λ e. rw e refl) (λ e. rw e refl) c.in-Following.is) (c.fill-in-Following.ensures.after (λ y e. e))
 
-pub returns-in-5 : goal.returns-in-5
-unfolding written_of axis_of root_written root_image
-returns-in-5 c =
-    filled-axis _ _ c.requires _ 5 _ false _ c.in-5.is refl refl c.fill-in-5.ensures
-
-pub returns-in-7 : goal.returns-in-7
-unfolding written_of axis_of root_written root_image
-returns-in-7 c =
-    filled-axis _ _ c.requires _ 7 _ false _ c.in-7.is refl refl c.fill-in-7.ensures
-
-pub returns-in-8 : goal.returns-in-8
-unfolding written_of axis_of root_written root_image
-returns-in-8 c =
-    filled-axis _ _ c.requires _ 8 _ false _ c.in-8.is refl refl c.fill-in-8.ensures
-
-pub returns-in-9 : goal.returns-in-9
-unfolding written_of axis_of root_written root_image
-returns-in-9 c =
-    filled-axis _ _ c.requires _ 9 _ false _ c.in-9.is refl refl c.fill-in-9.ensures
-
-pub returns-in-10 : goal.returns-in-10
-unfolding written_of axis_of root_written root_image
-returns-in-10 c =
-    filled-axis _ _ c.requires _ 10 _ false _ c.in-10.is refl refl c.fill-in-10.ensures
-
-pub returns-in_default : goal.returns-in_default
-returns-in_default c =
-    root_kept _ _ c.requires _ _ (λ e. omega arith) (λ e. omega arith) (λ e. omega arith) (λ e. omega arith) (λ e. omega arith) (λ e. omega arith) (λ e. omega arith) (λ e. omega arith) (λ e. omega arith) c.mark_root.ensures
+pub returns-in-Preceding : goal.returns-in-Preceding
+unfolding root_written root_image
+returns-in-Preceding c = filled-axis _ _ c.requires (written_axis c.args.axis) _ false _ refl (⊎_elim (λ e. rw e refl) (λ e. rw e refl) c.in-Preceding.is) (c.fill-in-Preceding.ensures.after (λ y e. e))

@@ -6,8 +6,8 @@ root_image-requires c = first-root _ _ _ _ c.requires
 
 pub filter_test-requires : goal.filter_test-requires
 filter_test-requires c =
-    first-test _ _ _ _ c.requires _ _ c.root_image.ensures
+    first-test _ _ _ _ c.requires c.args.step _ c.root_image.ensures
 
 pub returns : goal.returns
 returns c =
-    first-marked _ _ _ _ c.requires _ _ c.root_image.ensures _ _ c.filter_test.ensures
+    first-marked _ _ _ _ c.requires c.args.step _ c.root_image.ensures _ c.filter_test.ensures

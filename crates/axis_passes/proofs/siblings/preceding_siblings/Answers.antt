@@ -5,7 +5,7 @@ use Rattle.axis_passes.specs.siblings.Preceding.{preceding-begun, parent-inside,
 use Rattle.axis_passes.proofs.siblings.preceding_siblings.Goals as goal
 
 pub loop-r-init : goal.loop-r-init
-loop-r-init c = preceding-begun _ _ _ _ c.requires c.fill.ensures
+loop-r-init c = preceding-begun _ _ _ _ c.requires (c.fill.ensures.after (λ y e. e))
 
 pub overflow_cast-p : goal.overflow_cast-p
 overflow_cast-p c = omega (arith, c.type_inv.parents (c.loop-r.r - 1))

@@ -1,25 +1,22 @@
 use mathlib.Core.Path.{sym, ◌∙◌}
 use borrow.Author.Tests.{not-true}
-use Rattle.axis_passes.specs.steps.Steps.{pass-test, tested-marks, tested-axis, moved_back, none-back}
+use Rattle.axis_passes.specs.steps.Steps.{pass-test, tested-axis, moved_back, none-back}
 use Rattle.axis_passes.proofs.steps.step_back.Goals as goal
 
 pub filter_test-requires : goal.filter_test-requires
 filter_test-requires c = pass-test _ _ _ _ c.requires
 
-pub any_marked-requires : goal.any_marked-requires
-any_marked-requires c = tested-marks _ _ _ _ c.requires _ _ c.filter_test.ensures
-
 pub returns-then-not-any_marked : goal.returns-then-not-any_marked
 returns-then-not-any_marked c =
-    none-back _ _ _ _ c.requires _ _ c.filter_test.ensures _ _
+    none-back _ _ _ _ c.requires c.args.step _ c.filter_test.ensures _
     (sym c.any_marked.ensures ∙ not-true _ c.if-not-any_marked.true-raw)
-    c.fill.ensures
+    (c.fill.ensures.after (λ y e. e))
 
 pub axis_image-requires : goal.axis_image-requires
 axis_image-requires c =
-    tested-axis _ _ _ _ c.requires _ _ c.filter_test.ensures
+    tested-axis _ _ _ _ c.requires c.args.step _ c.filter_test.ensures
 
 pub returns : goal.returns
 returns c =
-    moved_back _ _ _ _ c.requires _ _ c.filter_test.ensures _ _ _ c.inverse_of-inverse.ensures
+    moved_back _ _ _ _ c.requires c.args.step _ c.filter_test.ensures _ _ c.inverse_of.ensures
     c.axis_image.ensures

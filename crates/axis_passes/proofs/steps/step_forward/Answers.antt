@@ -7,8 +7,8 @@ axis_image-requires c = pass-axis _ _ _ _ c.requires
 
 pub filter_test-requires : goal.filter_test-requires
 filter_test-requires c =
-    moved-test _ _ _ _ c.requires _ _ _ c.axis_image.ensures (omega arith)
+    moved-test _ _ _ _ c.requires c.args.step _ _ c.axis_image.ensures (omega arith)
 
 pub returns : goal.returns
 returns c =
-    moved _ _ _ _ c.requires _ _ _ _ c.axis_image.ensures c.filter_test.ensures
+    moved _ _ _ _ c.requires c.args.step _ _ c.axis_image.ensures c.filter_test.ensures

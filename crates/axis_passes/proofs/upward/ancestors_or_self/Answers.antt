@@ -1,22 +1,6 @@
-use native.Mathlib.Omega.{arith}
-use Rattle.axis_passes.specs.upward.Turns.{turn_inside}
-use Rattle.selection_laws.specs.marks.Passes.{to-ancestor-or-self, ancestors-or-self-begun, ancestors-or-self-next, backward-all}
+use Rattle.std.proofs.Common.{◌∙◌, rules}
+use Rattle.selection_laws.specs.marks.Passes.{to-ancestor-or-self, ancestors-or-self-start, ancestors-or-self-mark}
 use Rattle.axis_passes.proofs.upward.ancestors_or_self.Goals as goal
 
-pub loop-r-init : goal.loop-r-init
-loop-r-init c = ancestors-or-self-begun _ _ _ _ c.requires c.copy.ensures
-
-pub mark_parent-requires : goal.mark_parent-requires
-mark_parent-requires c =
-    let at = c.loop-r in
-    turn_inside to-ancestor-or-self _ _ at.r at.out at.invariant (omega arith)
-
-pub loop-r-preserved : goal.loop-r-preserved
-loop-r-preserved c =
-    let at = c.loop-r in
-    rw c.mark_parent.ensures (ancestors-or-self-next _ _ at.r at.out (omega arith) at.invariant)
-
 pub returns : goal.returns
-returns c =
-    let at = c.loop-r in
-    backward-all to-ancestor-or-self _ _ at.r at.out at.invariant (omega arith)
+returns c = c.pass_up.ensures to-ancestor-or-self (record { start = c.copy_from_slice.ensures.after ∙ ancestors-or-self-start _ _ _ c.requires; turn = λ r x some l d. search (rules, ancestors-or-self-mark _ _ _ c.requires r some l) })

@@ -1,22 +1,7 @@
-use native.Mathlib.Omega.{arith}
-use Rattle.axis_passes.specs.upward.Turns.{turn_inside}
-use Rattle.selection_laws.specs.marks.Passes.{to-parent, parents-begun, parents-next, backward-all}
+use Rattle.std.proofs.Common.{rules}
+use Rattle.axis_passes.specs.upward.Upward.{cleared}
+use Rattle.selection_laws.specs.marks.Passes.{to-parent, parents-start, parents-mark}
 use Rattle.axis_passes.proofs.upward.parents_of.Goals as goal
 
-pub loop-r-init : goal.loop-r-init
-loop-r-init c = parents-begun _ _ _ _ c.requires c.fill.ensures
-
-pub mark_parent-requires : goal.mark_parent-requires
-mark_parent-requires c =
-    let at = c.loop-r in
-    turn_inside to-parent _ _ at.r at.out at.invariant (omega arith)
-
-pub loop-r-preserved : goal.loop-r-preserved
-loop-r-preserved c =
-    let at = c.loop-r in
-    rw c.mark_parent.ensures (parents-next _ _ at.r at.out (omega arith) at.invariant)
-
 pub returns : goal.returns
-returns c =
-    let at = c.loop-r in
-    backward-all to-parent _ _ at.r at.out at.invariant (omega arith)
+returns c = c.pass_up.ensures to-parent (record { start = cleared to-parent c.requires (parents-start _ _ _ c.requires) (c.fill.ensures.after (λ y e. e)); turn = λ r x some l d. search (rules, parents-mark _ _ _ c.requires r some l) })

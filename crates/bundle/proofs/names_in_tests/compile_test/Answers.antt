@@ -1,23 +1,15 @@
--- `compile_test` meets its contract: the two tests that are called, then the name.
-use Rattle.bundle.proofs.names_in_tests.Columns.{test-node, test-text, test-lost, test-named}
+-- `compile_test` meets its contract: an element's index fits a byte.
+use mathlib.Core.List.{map}
+use Rattle.std.proofs.Common.{◌≡◌, ◌+◌, ◌<◌, length, sym, arith}
+use Rattle.std.proofs.lemmas.List.{length-map}
+use Rattle.bundle.specs.laws.Names.{index_below}
+use Rattle.text_spec.specs.Scans.{name_at}
 use Rattle.bundle.proofs.names_in_tests.compile_test.Goals as goal
 
-pub returns-then-test-eq-NODE : goal.returns-then-test-eq-NODE
-returns-then-test-eq-NODE c =
-    let args = c.args in
-    test-node args.schema.now args.names.now args.text.now args.test c.if-test-eq-NODE.true
-
-pub returns-then-test-eq-TEXT : goal.returns-then-test-eq-TEXT
-returns-then-test-eq-TEXT c =
-    let args = c.args in
-    test-text args.schema.now args.names.now args.text.now args.test c.if-test-eq-NODE.false c.if-test-eq-TEXT.true
-
-pub returns-then-names-e : goal.returns-then-names-e
-returns-then-names-e c =
-    let args = c.args in
-    test-lost args.schema.now args.names.now args.text.now args.test c.if-test-eq-NODE.false c.if-test-eq-TEXT.false c.find-e.ensures c.if-names-e.true
-
-pub returns : goal.returns
-returns c =
-    let args = c.args in
-    test-named args.schema.now args.names.now args.text.now args.test c.if-test-eq-NODE.false c.if-test-eq-TEXT.false c.find-e.ensures c.if-names-e.false
+pub overflow_cast-result : goal.overflow_cast-result
+overflow_cast-result c =
+    let names = map (name_at c.args.schema.now) c.args.names.now in
+    let z : c.in-Some.e < 0 + length names = index_below 0 (name_at c.args.text.now c.from-place.result) names c.in-Some.e (sym c.in-Some.ensures) in
+    let n : length names ≡ length c.args.names.now = length-map c.args.names.now (name_at c.args.schema.now) in
+    let h = c.requires in
+    omega arith

@@ -1,81 +1,44 @@
 -- `condition` meets its contract: alternative by alternative.
-use Rattle.std.proofs.Common.{arith}
-use borrow.Author.Rules.{rules}
-use Rattle.bundle_text.specs.alternatives.ConditionLaws.{upto-start, upto-size, upto-fails, upto-counts, upto-stop, upto-length, upto-stops, upto_next, upto-closes, upto-later}
+use Rattle.std.specs.Prelude.{◌||◌, ◌≡◌, Bool, true, false, Ok}
+use Rattle.std.proofs.Common.{refl, ap, ◌∙◌, lt-ltb, le-ltb, ◌+◌}
+use Rattle.std.proofs.lemmas.Result.{err_from_is_err_and}
+use Rattle.bundle_text.specs.alternatives.ConditionLaws.{upto-start, upto-fails, upto-stop, upto-stops, upto_next, upto-closes}
+use Rattle.text_spec.specs.Limits.{max_alternatives}
 use Rattle.bundle_text.proofs.conditions.condition.Goals as goal
 
-pub loop-j-init : goal.loop-j-init
-loop-j-init c = upto-start c.requires.0 c.requires.2 c.requires.3
+pub loop-end-init : goal.loop-end-init
+loop-end-init c = upto-start c.requires.within c.requires.few
 
-pub alternative-requires : goal.alternative-requires
-alternative-requires c = (c.loop-j.invariant.high, c.requires.1, c.loop-j.invariant.few)
-
-pub shape_of-cells-in-Fail : goal.shape_of-cells-in-Fail
-shape_of-cells-in-Fail c = let l = (upto-size c.loop-j.invariant).0 in search rules
-
-pub shape_of-ways-in-Fail : goal.shape_of-ways-in-Fail
-shape_of-ways-in-Fail c = let l = (upto-size c.loop-j.invariant).1 in search rules
-
-pub returns-in-Fail : goal.returns-in-Fail
-returns-in-Fail c = upto-fails c.loop-j.invariant c.alternative.ensures c.in-Fail.is
-
-pub overflow_sub-c : goal.overflow_sub-c
-overflow_sub-c c =
-    let l = (upto-counts c.loop-j.invariant c.alternative.ensures c.in-Past.is).0 in
-    search rules
-
-pub overflow_add-k : goal.overflow_add-k
-overflow_add-k c =
-    let f = c.loop-j.invariant.few-ways in
-    let h = c.loop-j.invariant.high in
-    let l = c.requires.1 in
-    search rules
+pub returns-in_err-end : goal.returns-in_err-end
+returns-in_err-end c =
+    let p = err_from_is_err_and c.from_residual.result c.from_residual.ensures.1 in
+    rw (p.1, p.2) (upto-fails c.loop-end.invariant c.alternative.ensures c.in_err-end.was)
 
 pub after_alternative-requires : goal.after_alternative-requires
-after_alternative-requires c = upto-stop c.loop-j.invariant c.alternative.ensures c.in-Past.is
+after_alternative-requires c = upto-stop c.loop-end.invariant c.alternative.ensures c.in_ok-end.was
 
-pub shape_of-cells-in-Fail-after_alternative : goal.shape_of-cells-in-Fail-after_alternative
-shape_of-cells-in-Fail-after_alternative c =
-    let l = (upto-length c.loop-j.invariant c.alternative.ensures c.in-Past.is c.either-long.ensures c.note.ensures).0 in
-    search rules
+pub returns-in_err-next : goal.returns-in_err-next
+returns-in_err-next c =
+    let p = err_from_is_err_and c.from_residual-in_err-next.result c.from_residual-in_err-next.ensures.1 in
+    rw (p.1, p.2) (upto-stops c.loop-end.invariant c.alternative.ensures c.in_ok-end.was refl c.after_alternative.ensures c.in_err-next.was)
 
-pub shape_of-ways-in-Fail-after_alternative : goal.shape_of-ways-in-Fail-after_alternative
-shape_of-ways-in-Fail-after_alternative c =
-    let l = (upto-length c.loop-j.invariant c.alternative.ensures c.in-Past.is c.either-long.ensures c.note.ensures).1 in
-    search rules
+pub loop-end-preserved : goal.loop-end-preserved
+loop-end-preserved c =
+    upto_next c.loop-end.invariant c.alternative.ensures c.in_ok-end.was refl c.after_alternative.ensures (c.in_ok-next.was ∙ ap Ok c.in-More.is)
 
-pub returns-in-Fail-after_alternative : goal.returns-in-Fail-after_alternative
-returns-in-Fail-after_alternative c =
-    upto-stops c.loop-j.invariant c.alternative.ensures c.in-Past.is c.either-long.ensures c.note.ensures
-    c.after_alternative.ensures c.in-Fail-after_alternative.is
+-- either of two tests
+first_holds : (a b : Bool) → a ≡ true → a ≡ (a || b)
+first_holds a b e = rw e
 
-pub loop-j-smaller : goal.loop-j-smaller
-loop-j-smaller c =
-    let l = upto-later c.loop-j.invariant c.alternative.ensures c.in-Past.is c.either-long.ensures c.note.ensures
-    c.after_alternative.ensures c.in-More.is in
-    let a = l.0 in
-    let b = l.1 in
-    omega arith
+first_fails : (a b : Bool) → a ≡ false → b ≡ (a || b)
+first_fails a b e = rw e
 
-pub loop-j-preserved : goal.loop-j-preserved
-loop-j-preserved c =
-    upto_next c.loop-j.invariant c.alternative.ensures c.in-Past.is c.either-long.ensures c.note.ensures
-    c.after_alternative.ensures c.in-More.is
+pub returns-then-count-gt-MAX_ALTERNATIVES : goal.returns-then-count-gt-MAX_ALTERNATIVES
+returns-then-count-gt-MAX_ALTERNATIVES c =
+    upto-closes c.loop-end.invariant c.alternative.ensures c.in_ok-end.was refl c.after_alternative.ensures (c.in_ok-next.was ∙ ap Ok c.in-Close.is)
+    (first_holds _ _ (lt-ltb max_alternatives (c.loop-end.count + 1) c.if-count-gt-MAX_ALTERNATIVES.true))
 
-pub overflow_sub-k : goal.overflow_sub-k
-overflow_sub-k c = let l = c.loop-j.invariant.counted-ways in search rules
-
-pub shape_of-cells-in-Close : goal.shape_of-cells-in-Close
-shape_of-cells-in-Close c =
-    let l = (upto-length c.loop-j.invariant c.alternative.ensures c.in-Past.is c.either-long.ensures c.note.ensures).0 in
-    search rules
-
-pub shape_of-ways-in-Close : goal.shape_of-ways-in-Close
-shape_of-ways-in-Close c =
-    let l = (upto-length c.loop-j.invariant c.alternative.ensures c.in-Past.is c.either-long.ensures c.note.ensures).1 in
-    search rules
-
-pub returns-in-Close : goal.returns-in-Close
-returns-in-Close c =
-    upto-closes c.loop-j.invariant c.alternative.ensures c.in-Past.is c.either-long.ensures c.note.ensures
-    c.after_alternative.ensures c.in-Close.is c.either-over.ensures
+pub returns-else-count-gt-MAX_ALTERNATIVES : goal.returns-else-count-gt-MAX_ALTERNATIVES
+returns-else-count-gt-MAX_ALTERNATIVES c =
+    upto-closes c.loop-end.invariant c.alternative.ensures c.in_ok-end.was refl c.after_alternative.ensures (c.in_ok-next.was ∙ ap Ok c.in-Close.is)
+    (first_fails _ _ (le-ltb max_alternatives (c.loop-end.count + 1) c.if-count-gt-MAX_ALTERNATIVES.false))

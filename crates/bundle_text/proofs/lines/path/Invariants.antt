@@ -3,10 +3,8 @@ use Rattle.std.proofs.Common.{◌-◌, length}
 use Rattle.bundle_text.specs.written_steps.Lines.{Upto}
 use Rattle.bundle_text.proofs.lines.path.Given as goal
 
-abbrev pub invariant-loop-j : goal.invariant-loop-j
-invariant-loop-j l =
-    Upto l.s l.at l.k l.n l.m l.initial.outers l.outers l.initial.conditions l.conditions l.initial.cells l.cells l.initial.ways l.ways
-    l.i l.steps l.count l.many l.over
+abbrev pub invariant-loop-step : goal.invariant-loop-step
+invariant-loop-step l = Upto l.s l.at l.initial.notes l.notes l.i l.over_limit
 
-abbrev pub decreases-loop-j : goal.decreases-loop-j
-decreases-loop-j l = length l.s - l.i
+abbrev pub decreases-loop-step : goal.decreases-loop-step
+decreases-loop-step l = length l.s - l.i

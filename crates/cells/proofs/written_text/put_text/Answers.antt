@@ -1,20 +1,6 @@
-use mathlib.Core.Path.{refl}
-use Prim.Native.Nat.{◌-◌}
-use native.Mathlib.Omega.{arith}
-use borrow.Author.Rules.{rules}
-use lib.ListN.{length}
-use Rattle.cells.specs.written_text.Written.{Copying, copying-next, copying-all}
+use Rattle.std.proofs.Common.{arith}
+use Rattle.cells.specs.written_text.Written.{copied-at}
 use Rattle.cells.proofs.written_text.put_text.Goals as goal
 
-pub loop-i-init : goal.loop-i-init
-loop-i-init c = record { within = omega arith; long = refl; copied = refl }
-
-pub loop-i-preserved : goal.loop-i-preserved
-loop-i-preserved c =
-    let at = c.loop-i in
-    copying-next _ _ _ at.i at.out at.invariant (omega arith)
-
 pub returns : goal.returns
-returns c =
-    let at = c.loop-i in
-    copying-all _ _ _ at.i at.out at.invariant (omega arith)
+returns c = copied-at _ _ _ _ _ c.copy_from_slice.ensures.after (omega arith) c.requires

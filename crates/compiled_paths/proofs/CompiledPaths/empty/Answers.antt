@@ -1,7 +1,7 @@
 -- `CompiledPaths::empty` meets its contract.
 use Rattle.std.proofs.Common.{◌≡◌, refl, ℕ, zero, suc, arith, get_or, replicate}
 use Rattle.compiled_paths.proofs.CompiledPaths.empty.Goals as goal
-use Rattle.compiled_paths.specs.Columns.{bundle-none}
+use Rattle.compiled_paths.specs.Steps.{bundle-none}
 use Rattle.compiled_paths.specs.Paths.{paths_in, AtMost}
 
 all-zero : (n k : ℕ) → ◌≡◌ {A = ℕ} (get_or (replicate n 0) k 0) 0
@@ -16,7 +16,7 @@ zeros n m k = omega (arith, all-zero n k)
 pub returns : goal.returns
 unfolding paths_in
 returns c = (
-  bundle-none _ _ _ _ 0 0 refl,
+  bundle-none _ _ _ 0 0 refl,
   record {
     few = omega arith;
     paths-in = zeros 9 _;

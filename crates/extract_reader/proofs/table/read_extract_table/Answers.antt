@@ -1,22 +1,22 @@
 -- `read_extract_table` meets its contract: the columns hold the rows, or are clear.
-use mathlib.Core.Path.{◌∙◌}
-use Rattle.extract_reader.specs.table.Tables.{cleared-first, table_kept, table-cleared}
+use mathlib.Core.Path.{sym, ◌∙◌}
+use Rattle.extract_reader.specs.table.Tables.{cleared-sizes, cleared-first, table_kept, table-cleared}
 use Rattle.extract_reader.proofs.table.read_extract_table.Goals as goal
 
-pub judge-verdict-requires : goal.judge-verdict-requires
-judge-verdict-requires c =
-    cleared-first _ _ c.requires c.clear.ensures
+pub judge-answer-requires-clause-clear : goal.judge-answer-requires-clause-clear
+judge-answer-requires-clause-clear c = (cleared-first _ _ c.requires c.clear.ensures.cells).1
 
-pub returns-then-verdict-eq0 : goal.returns-then-verdict-eq0
-returns-then-verdict-eq0 c =
-    table_kept _ _ _ _ _ _ c.clear.ensures c.judge-verdict.ensures c.if-verdict-eq0.true
+pub returns-then-is_err-clause-sizes : goal.returns-then-is_err-clause-sizes
+returns-then-is_err-clause-sizes c =
+    cleared-sizes _ _ c.clear-then-is_err.ensures.cells ∙ c.judge-answer.ensures.sizes ∙ cleared-sizes _ _ c.clear.ensures.cells
 
-pub returns : goal.returns
-returns c =
-    table-cleared _ _ _ _ _ _ c.clear.ensures c.judge-verdict.ensures c.if-verdict-eq0.false _ c.clear-2.ensures
-    (c.judge-verdict.auto.numbers ∙ c.clear.auto.numbers)
-    (c.judge-verdict.auto.names ∙ c.clear.auto.names)
-    (c.judge-verdict.auto.parents ∙ c.clear.auto.parents)
-    (c.judge-verdict.auto.starts ∙ c.clear.auto.starts)
-    (c.judge-verdict.auto.lengths ∙ c.clear.auto.lengths)
-    (c.judge-verdict.auto.decoded ∙ c.clear.auto.decoded)
+pub returns-then-is_err-clause-read : goal.returns-then-is_err-clause-read
+returns-then-is_err-clause-read c =
+    table-cleared _ _ _ _ _ _ c.clear.ensures.cells c.judge-answer.ensures.judged (sym c.is_err.ensures.value ∙ c.if-is_err.true) c.judge-answer.ensures.sizes _ c.clear-then-is_err.ensures.cells
+
+pub returns-else-is_err-clause-sizes : goal.returns-else-is_err-clause-sizes
+returns-else-is_err-clause-sizes c = c.judge-answer.ensures.sizes ∙ cleared-sizes _ _ c.clear.ensures.cells
+
+pub returns-else-is_err-clause-read : goal.returns-else-is_err-clause-read
+returns-else-is_err-clause-read c =
+    table_kept _ _ _ _ _ _ c.clear.ensures.cells c.judge-answer.ensures.judged (sym c.is_err.ensures.value ∙ c.if-is_err.false)

@@ -1,4 +1,5 @@
 -- `write_in_room` meets its contract: the bytes, or 18.
+use Rattle.std.proofs.Common.{Err, refl, ap}
 use Rattle.extract_writer.specs.answers.Answers.{too_few, enough}
 use Rattle.extract_writer.proofs.answers.write_in_room.Goals as goal
 
@@ -6,7 +7,7 @@ pub write_table-size-requires : goal.write_table-size-requires
 write_table-size-requires c = c.requires
 
 pub returns-then-room-size : goal.returns-then-room-size
-returns-then-room-size c = too_few _ _ _ _ c.write_table-size.ensures _ c.if-room-size.true c.refused.ensures
+returns-then-room-size c = too_few _ _ _ _ c.write_table-size.ensures _ c.if-room-size.true (ap Err c.of.ensures)
 
 pub returns : goal.returns
-returns c = enough _ _ _ _ c.write_table-size.ensures _ c.if-room-size.false c.answered.ensures
+returns c = enough _ _ _ _ c.write_table-size.ensures _ c.if-room-size.false refl

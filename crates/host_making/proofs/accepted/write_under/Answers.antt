@@ -1,58 +1,54 @@
 -- `write_under` meets its contract: the names needed, the bytes, the last test.
-use mathlib.Core.Path.{sym}
-use lib.Seq.{length-take-le}
+use Rattle.std.specs.Prelude.{◌≤◌, refl, length}
+use Rattle.std.proofs.Common.{sym, ap, subst, ◌∙◌}
+use Rattle.cells.specs.columns.Columns.{EqualColumns}
+use Rattle.cells.specs.lent.Columns.{first_cells}
+use Rattle.extract_writer.specs.rows.Rows.{ExtractColumns}
+use Rattle.extract_writer.specs.writing.Extract.{extract_in, BytesWritten}
+use Rattle.host_making.specs.accepted.Making.{answer-short, answer-enough}
+use Rattle.kept_rows.specs.Kept.{in_set, kept_marks, KeptColumns}
+use Rattle.table_spec.specs.Columns.{Columns}
 use Rattle.host_making.proofs.accepted.write_under.Goals as goal
 
-pub needed_under-set-requires : goal.needed_under-set-requires
-needed_under-set-requires c = let pre = c.requires in (pre.0, pre.1)
+pub needed_under-needed-requires : goal.needed_under-needed-requires
+needed_under-needed-requires c = let pre = c.requires in (pre.0, pre.1)
 
-pub slice_bounds-write_kept-end : goal.slice_bounds-write_kept-end
-slice_bounds-write_kept-end c = c.requires.2.rooms.numbers
+pub first-requires-clause-equal : goal.first-requires-clause-equal
+first-requires-clause-equal c = subst EqualColumns (sym c.as_columns.ensures) c.requires.2.equal
 
-pub slice_bounds-write_kept-end-2 : goal.slice_bounds-write_kept-end-2
-slice_bounds-write_kept-end-2 c = sym (length-take-le _ _ c.requires.2.rooms.numbers)
+pub first-requires-clause-room : goal.first-requires-clause-room
+first-requires-clause-room c = subst (λ (y : Columns). c.args.rows ≤ length y.numbers) (sym c.as_columns.ensures) c.requires.2.room
 
-pub slice_bounds-write_kept-end-3 : goal.slice_bounds-write_kept-end-3
-slice_bounds-write_kept-end-3 c = c.requires.2.rooms.names
+pub write_kept-bytes-requires-clause-columns : goal.write_kept-bytes-requires-clause-columns
+write_kept-bytes-requires-clause-columns c =
+    subst (λ (y : Columns). ExtractColumns c.args.journal.now y (length y.numbers)) (sym (c.first.ensures ∙ ap (first_cells c.args.rows) c.as_columns.ensures)) c.requires.2.texts
 
-pub slice_bounds-write_kept-end-4 : goal.slice_bounds-write_kept-end-4
-slice_bounds-write_kept-end-4 c = sym (length-take-le _ _ c.requires.2.rooms.names)
+pub write_kept-bytes-requires-clause-kept : goal.write_kept-bytes-requires-clause-kept
+write_kept-bytes-requires-clause-kept c =
+    subst (λ (y : Columns). KeptColumns y.names y.parents) (sym (c.first.ensures ∙ ap (first_cells c.args.rows) c.as_columns.ensures)) c.requires.2.kept
 
-pub slice_bounds-write_kept-end-5 : goal.slice_bounds-write_kept-end-5
-slice_bounds-write_kept-end-5 c = c.requires.2.rooms.parents
-
-pub slice_bounds-write_kept-end-6 : goal.slice_bounds-write_kept-end-6
-slice_bounds-write_kept-end-6 c = sym (length-take-le _ _ c.requires.2.rooms.parents)
-
-pub slice_bounds-write_kept-end-7 : goal.slice_bounds-write_kept-end-7
-slice_bounds-write_kept-end-7 c = c.requires.2.rooms.starts
-
-pub slice_bounds-write_kept-end-8 : goal.slice_bounds-write_kept-end-8
-slice_bounds-write_kept-end-8 c = sym (length-take-le _ _ c.requires.2.rooms.starts)
-
-pub slice_bounds-write_kept-end-9 : goal.slice_bounds-write_kept-end-9
-slice_bounds-write_kept-end-9 c = c.requires.2.rooms.lengths
-
-pub slice_bounds-write_kept-end-10 : goal.slice_bounds-write_kept-end-10
-slice_bounds-write_kept-end-10 c = sym (length-take-le _ _ c.requires.2.rooms.lengths)
-
-pub slice_bounds-write_kept-end-11 : goal.slice_bounds-write_kept-end-11
-slice_bounds-write_kept-end-11 c = c.requires.2.rooms.decoded
-
-pub slice_bounds-write_kept-end-12 : goal.slice_bounds-write_kept-end-12
-slice_bounds-write_kept-end-12 c = sym (length-take-le _ _ c.requires.2.rooms.decoded)
-
-pub write_kept-bytes-requires : goal.write_kept-bytes-requires
-write_kept-bytes-requires c =
-    let asked = c.requires.2 in
-    (asked.texts, asked.kept)
-
-pub returns : goal.returns
-returns c =
+pub returns-then-out-bytes-clause-written : goal.returns-then-out-bytes-clause-written
+returns-then-out-bytes-clause-written c =
+    let set = c.needed_under-needed.result in
     record {
-      set = c.needed_under-set.result;
-      need = c.needed_under-set.ensures;
+      set = set;
+      need = c.needed_under-needed.ensures;
       size = c.write_kept-bytes.result;
-      bytes = c.write_kept-bytes.ensures;
-      last = c.answer.ensures;
+      bytes =
+          subst (λ (y : Columns). BytesWritten c.args.out.now (extract_in c.args.journal.now y (kept_marks (in_set set) y.names y.parents)) c.write_kept-bytes.result c.write_kept-bytes.new.out)
+          (c.first.ensures ∙ ap (first_cells c.args.rows) c.as_columns.ensures) c.write_kept-bytes.ensures;
+      last = rw c.of.ensures (answer-short _ _ _ _ _ _ c.if-out-bytes.true refl c.clear.ensures.cells);
+    }
+
+pub returns-clause-written : goal.returns-clause-written
+returns-clause-written c =
+    let set = c.needed_under-needed.result in
+    record {
+      set = set;
+      need = c.needed_under-needed.ensures;
+      size = c.write_kept-bytes.result;
+      bytes =
+          subst (λ (y : Columns). BytesWritten c.args.out.now (extract_in c.args.journal.now y (kept_marks (in_set set) y.names y.parents)) c.write_kept-bytes.result c.write_kept-bytes.new.out)
+          (c.first.ensures ∙ ap (first_cells c.args.rows) c.as_columns.ensures) c.write_kept-bytes.ensures;
+      last = answer-enough _ _ _ _ _ c.if-out-bytes.false refl;
     }

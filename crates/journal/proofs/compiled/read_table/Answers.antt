@@ -1,65 +1,28 @@
--- `read_table` meets its contract: the columns hold the rows, or are clear.
-use mathlib.Core.Path.{◌∙◌}
-use Rattle.journal.specs.compiled.Tables.{cleared-equal, table_kept, table-cleared}
+use Rattle.std.proofs.Common.{rules, ◌≡◌, true, false, ◌∙◌}
+use Rattle.std.specs.Prelude.{is_err}
+use Rattle.cells.specs.columns.Lent.{lent_columns}
+use Rattle.journal.specs.compiled.Tables.{cleared-equal, cleared-sizes, cleared-kept, not-refused, was-refused, table_kept, table-cleared}
+use Rattle.journal_reader.specs.rows.Kept.{same-then}
 use Rattle.journal.proofs.compiled.read_table.Goals as goal
 
-pub clear-requires : goal.clear-requires
-clear-requires c = tt
+pub judge-read-requires : goal.judge-read-requires
+judge-read-requires c = (c.requires.0, cleared-equal _ _ c.requires.1 c.clear.ensures.cells, c.requires.2, c.requires.3)
 
-pub judge-verdict-requires : goal.judge-verdict-requires
-judge-verdict-requires c =
-    let pre = c.requires in
-    (pre.0, pre.1, pre.2, cleared-equal _ _ pre.3 c.clear.ensures)
+pub returns-then-is_err-clause-same : goal.returns-then-is_err-clause-same
+returns-then-is_err-clause-same c = same-then (same-then (cleared-kept c.clear.ensures) c.judge-read.ensures.same) (cleared-kept c.clear-then-is_err.ensures)
 
-pub shape_of-numbers-then-verdict-eq0 : goal.shape_of-numbers-then-verdict-eq0
-shape_of-numbers-then-verdict-eq0 c = c.judge-verdict.auto.numbers ∙ c.clear.auto.numbers
+pub returns-then-is_err-clause-read : goal.returns-then-is_err-clause-read
+returns-then-is_err-clause-read c =
+    let t : is_err c.judge-read.result ≡ true = search rules in
+    let w = was-refused c.judge-read.result t in
+    table-cleared _ _ c.clear.ensures.cells c.judge-read.ensures.judged w.0 w.1 c.clear-then-is_err.ensures.cells
+    (c.judge-read.ensures.same.sizes ∙ cleared-sizes (lent_columns c.args.columns.now) _ c.clear.ensures.cells)
 
-pub shape_of-names-then-verdict-eq0 : goal.shape_of-names-then-verdict-eq0
-shape_of-names-then-verdict-eq0 c = c.judge-verdict.auto.names ∙ c.clear.auto.names
+pub returns-else-is_err-clause-same : goal.returns-else-is_err-clause-same
+returns-else-is_err-clause-same c = same-then (cleared-kept c.clear.ensures) c.judge-read.ensures.same
 
-pub shape_of-parents-then-verdict-eq0 : goal.shape_of-parents-then-verdict-eq0
-shape_of-parents-then-verdict-eq0 c = c.judge-verdict.auto.parents ∙ c.clear.auto.parents
-
-pub shape_of-starts-then-verdict-eq0 : goal.shape_of-starts-then-verdict-eq0
-shape_of-starts-then-verdict-eq0 c = c.judge-verdict.auto.starts ∙ c.clear.auto.starts
-
-pub shape_of-lengths-then-verdict-eq0 : goal.shape_of-lengths-then-verdict-eq0
-shape_of-lengths-then-verdict-eq0 c = c.judge-verdict.auto.lengths ∙ c.clear.auto.lengths
-
-pub shape_of-decoded-then-verdict-eq0 : goal.shape_of-decoded-then-verdict-eq0
-shape_of-decoded-then-verdict-eq0 c = c.judge-verdict.auto.decoded ∙ c.clear.auto.decoded
-
-pub returns-then-verdict-eq0 : goal.returns-then-verdict-eq0
-returns-then-verdict-eq0 c =
-    table_kept _ _ c.clear.ensures c.judge-verdict.ensures c.if-verdict-eq0.true
-
-pub clear-requires-2 : goal.clear-requires-2
-clear-requires-2 c = tt
-
-pub shape_of-numbers : goal.shape_of-numbers
-shape_of-numbers c = c.clear-2.auto.numbers ∙ c.judge-verdict.auto.numbers ∙ c.clear.auto.numbers
-
-pub shape_of-names : goal.shape_of-names
-shape_of-names c = c.clear-2.auto.names ∙ c.judge-verdict.auto.names ∙ c.clear.auto.names
-
-pub shape_of-parents : goal.shape_of-parents
-shape_of-parents c = c.clear-2.auto.parents ∙ c.judge-verdict.auto.parents ∙ c.clear.auto.parents
-
-pub shape_of-starts : goal.shape_of-starts
-shape_of-starts c = c.clear-2.auto.starts ∙ c.judge-verdict.auto.starts ∙ c.clear.auto.starts
-
-pub shape_of-lengths : goal.shape_of-lengths
-shape_of-lengths c = c.clear-2.auto.lengths ∙ c.judge-verdict.auto.lengths ∙ c.clear.auto.lengths
-
-pub shape_of-decoded : goal.shape_of-decoded
-shape_of-decoded c = c.clear-2.auto.decoded ∙ c.judge-verdict.auto.decoded ∙ c.clear.auto.decoded
-
-pub returns : goal.returns
-returns c =
-    table-cleared _ _ c.clear.ensures c.judge-verdict.ensures c.if-verdict-eq0.false c.clear-2.ensures
-    (c.judge-verdict.auto.numbers ∙ c.clear.auto.numbers)
-    (c.judge-verdict.auto.names ∙ c.clear.auto.names)
-    (c.judge-verdict.auto.parents ∙ c.clear.auto.parents)
-    (c.judge-verdict.auto.starts ∙ c.clear.auto.starts)
-    (c.judge-verdict.auto.lengths ∙ c.clear.auto.lengths)
-    (c.judge-verdict.auto.decoded ∙ c.clear.auto.decoded)
+pub returns-else-is_err-clause-read : goal.returns-else-is_err-clause-read
+returns-else-is_err-clause-read c =
+    let t : is_err c.judge-read.result ≡ false = search rules in
+    let w = not-refused c.judge-read.result t in
+    table_kept _ _ c.clear.ensures.cells c.judge-read.ensures.judged w.0 w.1

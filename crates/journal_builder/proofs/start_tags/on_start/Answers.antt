@@ -1,8 +1,6 @@
-use mathlib.Core.Path.{refl, sym, ap, ◌∙◌}
-use native.Mathlib.Omega.{arith}
-use Rattle.journal_builder.specs.build_state.State.{no_row, step}
+use Rattle.std.proofs.Common.{refl, sym, ap, ◌∙◌, arith, None}
+use Rattle.journal_builder.specs.build_state.State.{step}
 use Rattle.journal_builder.specs.declared.build_state.Build.{Build}
-use Rattle.journal_builder.specs.declared.build_state.BuildStep.{BuildStep}
 use Rattle.journal_builder.specs.laws.Starts.{start-second, start-deep, start-begins}
 use Rattle.journal_builder.specs.laws.StateLaws.{breaks-leaves, leaves-as}
 use Rattle.journal_builder.specs.start_tags.Starts.{broken-start}
@@ -11,35 +9,28 @@ use Rattle.journal_builder.proofs.start_tags.on_start.Goals as goal
 
 pub returns-then-is_second_root : goal.returns-then-is_second_root
 returns-then-is_second_root c =
-    let g = c.args in
-    let same = c.without_row.ensures ∙ ap (λ (x : Build). step x no_row) c.broken.ensures in (
-      broken-start g.levels.now g.m 12 g.at no_row _ c.requires.0 (omega arith) (omega (arith, c.ranges)) same,
-      λ s b n k m f p u w.
-          breaks-leaves s b g.levels.now g.m u w bad_nesting g.at _ _ (omega arith) (omega (arith, c.ranges)) (ap (λ (x : BuildStep). x.build) same)
+    let g = c.args in rw c.without_row.ensures (
+      broken-start g.m 12 g.at None _ c.requires.0 (omega arith) (omega (arith, c.ranges)) (ap (λ (x : Build). step x None) c.broken.ensures),
+      λ s b n k f p u w.
+          breaks-leaves s b g.levels.now g.m u w bad_nesting g.at _ _ (omega arith) (omega (arith, c.ranges)) c.broken.ensures
           (start-second s b g.levels.now g.m w n g.at (sym c.is_second_root.ensures ∙ c.if-is_second_root.true)),
     )
 
 pub returns-then-m-ge-MAX_DEPTH : goal.returns-then-m-ge-MAX_DEPTH
 returns-then-m-ge-MAX_DEPTH c =
-    let g = c.args in
-    let same = c.without_row-then-m-ge-MAX_DEPTH.ensures ∙ ap (λ (x : Build). step x no_row) c.broken-then-m-ge-MAX_DEPTH.ensures in (
-      broken-start g.levels.now g.m 13 g.at no_row _ c.requires.0 (omega arith) (omega (arith, c.ranges)) same,
-      λ s b n k m f p u w.
-          breaks-leaves s b g.levels.now g.m u w over_depth g.at _ _ (omega arith) (omega (arith, c.ranges)) (ap (λ (x : BuildStep). x.build) same)
+    let g = c.args in rw c.without_row-then-m-ge-MAX_DEPTH.ensures (
+      broken-start g.m 13 g.at None _ c.requires.0 (omega arith) (omega (arith, c.ranges)) (ap (λ (x : Build). step x None) c.broken-then-m-ge-MAX_DEPTH.ensures),
+      λ s b n k f p u w.
+          breaks-leaves s b g.levels.now g.m u w over_depth g.at _ _ (omega arith) (omega (arith, c.ranges)) c.broken-then-m-ge-MAX_DEPTH.ensures
           (start-deep s b g.levels.now g.m w n g.at c.if-m-ge-MAX_DEPTH.true),
     )
-
-pub begin-requires : goal.begin-requires
-begin-requires c =
-    let q = c.requires in
-    (q.0, q.1, c.if-m-ge-MAX_DEPTH.false, q.2)
 
 pub returns : goal.returns
 returns c =
     let g = c.args in (
       record { step = c.begin.ensures.0; deep = λ h. c.begin.ensures.1 },
-      λ s b n k m f p u w.
+      λ s b n k f p u w.
           leaves-as refl
           (start-begins s b g.levels.now g.m w n g.at (sym c.is_second_root.ensures ∙ c.if-is_second_root.false) c.if-m-ge-MAX_DEPTH.false)
-          (c.begin.ensures.2 s b n k m f p u w),
+          (c.begin.ensures.2 s b n k f p u w),
     )

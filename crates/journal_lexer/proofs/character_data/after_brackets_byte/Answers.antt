@@ -2,16 +2,11 @@
 use Rattle.journal_lexer.specs.character_data.Laws.{brackets-more, brackets-closing, brackets-plain}
 use Rattle.journal_lexer.proofs.character_data.after_brackets_byte.Goals as goal
 
-pub returns-then-c-eq-BRACKET : goal.returns-then-c-eq-BRACKET
-returns-then-c-eq-BRACKET c = brackets-more c.requires c.if-c-eq-BRACKET.true c.goes.ensures
+pub returns-in-Bracket : goal.returns-in-Bracket
+returns-in-Bracket c = brackets-more c.requires c.in-Bracket.is c.goes.ensures
 
-pub returns-then-c-eq-GREATER : goal.returns-then-c-eq-GREATER
-returns-then-c-eq-GREATER c =
-    brackets-closing c.requires c.two_before.result c.two_before.ensures c.if-c-eq-GREATER.true c.goes-then-c-eq-GREATER.ensures
+pub returns-in-Greater : goal.returns-in-Greater
+returns-in-Greater c = brackets-closing c.requires c.saturating_sub.result c.saturating_sub.ensures c.in-Greater.is c.goes-in-Greater.ensures
 
-pub plain_byte-requires : goal.plain_byte-requires
-plain_byte-requires c = c.requires
-
-pub returns : goal.returns
-returns c =
-    brackets-plain c.requires c.if-c-eq-BRACKET.false c.if-c-eq-GREATER.false c.plain_byte.ensures
+pub returns-in_default : goal.returns-in_default
+returns-in_default c = brackets-plain c.requires c.in_default.not-Bracket c.in_default.not-Greater c.plain_byte.ensures

@@ -2,8 +2,5 @@
 use Rattle.journal_lexer.specs.character_data.Laws.{solid-plain}
 use Rattle.journal_lexer.proofs.character_data.solid_byte.Goals as goal
 
-pub plain_byte-requires : goal.plain_byte-requires
-plain_byte-requires c = c.requires
-
 pub returns : goal.returns
 returns c = solid-plain c.requires c.plain_byte.ensures

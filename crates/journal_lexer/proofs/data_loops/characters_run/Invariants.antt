@@ -4,8 +4,8 @@ use lib.ListN.{length}
 use Rattle.journal_lexer.specs.data_loops.Characters.{RunSoFar}
 use Rattle.journal_lexer.proofs.data_loops.characters_run.Given as goal
 
-abbrev pub invariant-loop-at : goal.invariant-loop-at
-invariant-loop-at l = RunSoFar l.t l.kinds l.l l.places l.at l.saved l.next
+abbrev pub invariant-loop-next : goal.invariant-loop-next
+invariant-loop-next l = RunSoFar l.t l.kinds l.l l.places l.at l.saved
 
-abbrev pub decreases-loop-at : goal.decreases-loop-at
-decreases-loop-at l = length l.t - l.at
+abbrev pub decreases-loop-next : goal.decreases-loop-next
+decreases-loop-next l = length l.t - l.at

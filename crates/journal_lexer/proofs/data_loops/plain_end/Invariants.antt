@@ -1,11 +1,6 @@
 -- `plain_end` meets its contract: each byte that is passed is plain.
-use Prim.Native.Nat.{◌-◌}
-use lib.ListN.{length}
 use Rattle.journal_lexer.specs.data_loops.Characters.{PlainBytes}
 use Rattle.journal_lexer.proofs.data_loops.plain_end.Given as goal
 
 abbrev pub invariant-loop-at : goal.invariant-loop-at
 invariant-loop-at l = PlainBytes l.t l.kinds l.from l.at
-
-abbrev pub decreases-loop-at : goal.decreases-loop-at
-decreases-loop-at l = length l.t - l.at

@@ -1,35 +1,23 @@
--- `whole_entity` meets its contract: an entity that stands whole is passed, and else nothing changes.
-use mathlib.Core.Path.{refl}
-use native.Mathlib.Omega.{arith}
+-- `whole_entity` meets its contract: an entity that stands whole is passed at once.
+use Rattle.std.proofs.Common.{arith, refl}
 use Rattle.journal_lexer.specs.data_loops.Entities.{whole-bounds, whole-advance}
-use Rattle.journal_lexer.specs.loop_laws.Laws.{advance-none}
+use Rattle.journal_lexer.specs.declared.entities.EntityRest.TheVariants.{All}
+use Rattle.journal_lexer.specs.declared.state.Event.TheVariants.{Quiet}
+use Rattle.journal_lexer.specs.declared.state.Mode.TheVariants.{InEntity}
+use Rattle.journal_lexer.proofs.Tests.{mode-no-other, event-no-other, rest-no-other}
 use Rattle.journal_lexer.proofs.data_loops.whole_entity.Goals as goal
-
-pub returns-then-l-ne-ENTITY : goal.returns-then-l-ne-ENTITY
-returns-then-l-ne-ENTITY c = advance-none c.requires (λ m. refl)
-
-pub returns-then-l-ne-QUIET : goal.returns-then-l-ne-QUIET
-returns-then-l-ne-QUIET c = advance-none c.requires (λ m. refl)
-
-pub returns-then-l-ne0 : goal.returns-then-l-ne0
-returns-then-l-ne0 c = advance-none c.requires (λ m. refl)
-
-pub entity_after-c-requires : goal.entity_after-c-requires
-entity_after-c-requires c = c.requires.inside
-
-pub returns-then-c-from : goal.returns-then-c-from
-returns-then-c-from c = advance-none c.requires (λ m. refl)
-
-pub overflow_sub-c : goal.overflow_sub-c
-overflow_sub-c c =
-    omega (arith, (whole-bounds c.requires c.if-l-ne-ENTITY.false c.if-l-ne-QUIET.false c.if-l-ne0.false c.entity_after-c.ensures c.if-c-from.false).0)
 
 pub entity_ends-requires : goal.entity_ends-requires
 entity_ends-requires c =
-    let pre = c.requires in
-    omega (arith, (whole-bounds pre c.if-l-ne-ENTITY.false c.if-l-ne-QUIET.false c.if-l-ne0.false c.entity_after-c.ensures c.if-c-from.false).1, pre.short)
+    let a = c.args.l in
+    let inside =
+    (whole-bounds c.requires (mode-no-other a.mode InEntity c.if-ne.ensures) (event-no-other a.event Quiet c.if-ne-2.ensures)
+    (rest-no-other a.rest All c.if-ne-3.ensures) c.in-Some.ensures).1
+    in
+    omega (arith, inside, c.requires.short)
 
 pub returns : goal.returns
 returns c =
-    whole-advance c.requires c.if-l-ne-ENTITY.false c.if-l-ne-QUIET.false c.if-l-ne0.false c.entity_after-c.ensures c.if-c-from.false c.past_entity.ensures
-    c.entity_ends.ensures
+    let a = c.args.l in
+    whole-advance c.requires (mode-no-other a.mode InEntity c.if-ne.ensures) (event-no-other a.event Quiet c.if-ne-2.ensures)
+    (rest-no-other a.rest All c.if-ne-3.ensures) c.in-Some.ensures refl c.entity_ends.ensures

@@ -1,18 +1,18 @@
 -- `data_byte` meets its contract: by the kind of the byte.
+use Rattle.journal_lexer.specs.declared.kinds.ByteKind.TheVariants.{Blank}
+use Rattle.journal_lexer.proofs.Tests.{kind-is, kind-not}
 use Rattle.journal_lexer.proofs.data_runs.Runs.{data-blank, data-entity, data-bracket, data-solid}
 use Rattle.journal_lexer.proofs.data_runs.data_byte.Goals as goal
 
-pub returns-then-c-eq-BLANK : goal.returns-then-c-eq-BLANK
-returns-then-c-eq-BLANK c = data-blank c.requires c.args.start c.if-c-eq-BLANK.true c.goes.ensures
+pub returns-then-eq : goal.returns-then-eq
+returns-then-eq c = data-blank c.requires c.args.start (kind-is c.args.c Blank c.if-eq.ensures) c.goes.ensures
 
-pub returns-then-c-eq-AMPERSAND : goal.returns-then-c-eq-AMPERSAND
-returns-then-c-eq-AMPERSAND c =
-    data-entity c.requires c.args.start c.if-c-eq-AMPERSAND.true c.entity_begins.ensures.0 c.entity_begins.ensures.1
+pub returns-in-Ampersand : goal.returns-in-Ampersand
+returns-in-Ampersand c = data-entity c.requires c.args.start c.in-Ampersand.is c.entity_begins.ensures.0 c.entity_begins.ensures.1
 
-pub returns-then-c-eq-BRACKET : goal.returns-then-c-eq-BRACKET
-returns-then-c-eq-BRACKET c =
-    data-bracket c.requires c.args.start c.if-c-eq-BRACKET.true c.goes-then-c-eq-BRACKET.ensures
+pub returns-in-Bracket : goal.returns-in-Bracket
+returns-in-Bracket c = data-bracket c.requires c.args.start c.in-Bracket.is c.goes-in-Bracket.ensures
 
-pub returns : goal.returns
-returns c =
-    data-solid c.requires c.args.start c.if-c-eq-BLANK.false c.if-c-eq-AMPERSAND.false c.if-c-eq-BRACKET.false c.goes-2.ensures c.note_foreign.ensures
+pub returns-in_default : goal.returns-in_default
+returns-in_default c =
+    data-solid c.requires c.args.start (kind-not c.args.c Blank c.if-eq.ensures) c.in_default.not-Ampersand c.in_default.not-Bracket c.goes-in_default.ensures c.note_foreign.ensures

@@ -2,8 +2,5 @@
 use Rattle.journal_lexer.specs.tags.Laws.{after-name-past}
 use Rattle.journal_lexer.proofs.tags.after_name_byte.Goals as goal
 
-pub past_name-requires : goal.past_name-requires
-past_name-requires c = c.requires
-
 pub returns : goal.returns
 returns c = after-name-past c.requires c.past_name.ensures

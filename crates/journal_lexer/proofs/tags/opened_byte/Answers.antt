@@ -2,11 +2,11 @@
 use Rattle.journal_lexer.specs.tags.Laws.{opened-slash, opened-letter, opened-stop}
 use Rattle.journal_lexer.proofs.tags.opened_byte.Goals as goal
 
-pub returns-then-c-eq-SLASH : goal.returns-then-c-eq-SLASH
-returns-then-c-eq-SLASH c = opened-slash c.requires c.if-c-eq-SLASH.true c.goes.ensures
+pub returns-in-Slash : goal.returns-in-Slash
+returns-in-Slash c = opened-slash c.requires c.in-Slash.is c.goes.ensures
 
-pub returns-then-c-eq-LETTER : goal.returns-then-c-eq-LETTER
-returns-then-c-eq-LETTER c = opened-letter c.requires c.if-c-eq-LETTER.true c.begun.ensures
+pub returns-in-Letter : goal.returns-in-Letter
+returns-in-Letter c = opened-letter c.requires c.in-Letter.is c.begun.ensures
 
-pub returns : goal.returns
-returns c = opened-stop c.requires c.if-c-eq-SLASH.false c.if-c-eq-LETTER.false c.stop.ensures.0 c.stop.ensures.1
+pub returns-in_default : goal.returns-in_default
+returns-in_default c = opened-stop c.requires c.in_default.not-Slash c.in_default.not-Letter c.stop.ensures.0 c.stop.ensures.1

@@ -1,4 +1,4 @@
-use mathlib.Core.Path.{sym}
+use Rattle.std.proofs.Common.{sym, ◌∙◌}
 use Rattle.listing_files.specs.table.Tables.{scratch-size, kept-asked}
 use Rattle.listing_files.proofs.table.kept_count.Goals as goal
 
@@ -9,4 +9,4 @@ pub number_kept-requires : goal.number_kept-requires
 number_kept-requires c = kept-asked _ _ c.requires
 
 pub returns : goal.returns
-returns c = c.number_kept.ensures.counted
+returns c = c.from.ensures ∙ c.number_kept.ensures.counted

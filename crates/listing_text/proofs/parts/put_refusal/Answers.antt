@@ -1,5 +1,5 @@
 use native.Mathlib.Omega.{arith}
-use Rattle.listing_text.specs.parts.Parts.{refusal-written}
+use Rattle.listing_text.specs.parts.Parts.{refused-written}
 use Rattle.listing_text.proofs.parts.put_refusal.Goals as goal
 
 pub put_number-second-requires : goal.put_number-second-requires
@@ -14,4 +14,4 @@ put_text-requires c =
 
 pub returns : goal.returns
 returns c =
-    refusal-written c.put_number-first.ensures c.put_number-second.ensures c.put_text.ensures
+    refused-written c.args.refused c.number.ensures c.put_number-first.ensures c.put_number-second.ensures c.put_text.ensures

@@ -1,7 +1,6 @@
 -- `names::NameSet::meets` meets its contract: the elements are looked at first, then the text names.
 use mathlib.Core.Bool.{Bool, ◌&&◌, ◌||◌}
 use mathlib.Core.Path.{sym, ap, ◌∙◌}
-use borrow.Author.Rules.{rules}
 use Rattle.names.specs.Sets.{member, overlap}
 use Rattle.names.specs.declared.NameSet.{NameSet}
 use Rattle.schema_spec.specs.Names.{text}

@@ -1,7 +1,6 @@
 -- `names::bits::has_bit` meets its contract: at 64 and past it, a word has no bit.
 use mathlib.Core.Path.{sym}
 use native.Mathlib.Omega.{arith}
-use borrow.Author.Rules.{rules}
 use Rattle.names.specs.bits.Bits.{bit_past}
 use Rattle.names.proofs.bits.has_bit.Goals as goal
 

@@ -1,7 +1,6 @@
 -- `names::codes::has` meets its contract.
 use mathlib.Core.Path.{sym, ap, ◌∙◌}
 use native.Mathlib.Omega.{arith}
-use borrow.Author.Rules.{rules}
 use Rattle.names.specs.Sets.{member}
 use Rattle.names.specs.codes.Laws.{element-of-code, text-of-code}
 use Rattle.names.proofs.codes.has.Goals as goal

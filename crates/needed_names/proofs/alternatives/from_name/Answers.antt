@@ -1,5 +1,5 @@
--- `needed_names::alternatives::from_name` meets its contract.
-use mathlib.Core.Path.{ap, ap₂, ◌∙◌}
+-- `from_name` meets its contract.
+use Rattle.std.proofs.Common.{ap, ◌∙◌}
 use Rattle.inference_spec.specs.Types.{env, cut_to}
 use Rattle.names.specs.Sets.{set_in}
 use Rattle.names.specs.codes.Codes.{name_of_code}
@@ -10,6 +10,5 @@ use Rattle.needed_names.proofs.alternatives.from_name.Goals as goal
 
 pub returns : goal.returns
 returns c = λ s k i.
-    let start = c.args in
-    let one = single-list s (name_of_code start.c) c.single-types.result i c.single-types.ensures in
-    ap₂ env one (c.cut_to-context.ensures s k ∙ ap (λ (t : Names). cut_to (types_of s) t (set_in s start.k)) one)
+    c.narrowed_to.ensures s k
+    ∙ ap (λ (t : Names). env t (cut_to (types_of s) t (set_in s c.args.k))) (single-list s (name_of_code c.args.c) c.single-types.result i c.single-types.ensures)

@@ -1,16 +1,18 @@
--- `needed_names::conditions::conditioned` meets its contract.
-use Rattle.compiled_paths.specs.Columns.{condition_in}
-use Rattle.inference.specs.type_steps.Laws.{narrow-parts}
-use Rattle.inference.specs.type_steps.Relations.{env_in}
+-- `conditioned` meets its contract.
+use Rattle.std.proofs.Common.{ap, ◌∙◌}
+use Rattle.compiled_paths.specs.Steps.{condition_in}
+use Rattle.inference_spec.specs.Types.{env, cut_to}
 use Rattle.names.specs.Sets.{set_in}
 use Rattle.needed_names.specs.conditions.Conditions.{keeps_in}
 use Rattle.needed_names.specs.conditions.Laws.{kept-filter}
+use Rattle.schema_spec.specs.Names.{Names}
+use Rattle.schema_spec.specs.Types.{types_of}
 use Rattle.needed_names.proofs.conditions.conditioned.Goals as goal
 
 pub returns : goal.returns
-returns c = λ s k named.
-    let start = c.args in
-    let q = condition_in start.axes.now start.tests.now start.n start.i in
+returns c = λ s k.
+    let e = c.args.e in
     let kept = c.kept-types in
-    narrow-parts s (keeps_in s start.e.context q) (env_in s start.e) (set_in s kept.result) (set_in s c.cut_to-context.result)
-    (kept-filter s k.small (keeps_in s start.e.context q) start.e.types kept.result (kept.ensures s k named)) (c.cut_to-context.ensures s k)
+    c.narrowed_to.ensures s k.relations
+    ∙ ap (λ (t : Names). env t (cut_to (types_of s) t (set_in s e.context)))
+    (kept-filter s k.relations.small (keeps_in s e.context (condition_in c.args.asked.now.paths.now.steps c.args.n c.args.i)) e.types kept.result (kept.ensures s k))

@@ -1,4 +1,4 @@
--- `needed_names::reachable_names::root` meets its contract.
+-- `root` meets its contract.
 use Rattle.needed_names.specs.reachable_names.Images.{root-list}
 use Rattle.needed_names.proofs.reachable_names.root.Goals as goal
 

@@ -1,26 +1,41 @@
 -- `declared_name` meets its contract.
-use mathlib.Core.Path.{sym, ◌∙◌}
+use Rattle.std.proofs.Common.{◌≡◌, ◌≤◌, ◌<◌, true, false, length, refl, rules}
+use Rattle.std.proofs.lemmas.Result.{err_from_is_err_and}
 use Rattle.schema.proofs.declarations.Declarations.{name-end, name-not, name-fails, name-reads}
 use Rattle.text.specs.scanning.OutcomeLaws.{named_end}
+use Rattle.text_spec.specs.Bytes.{starts_name}
+use Rattle.text_spec.specs.Scans.{byte_at}
 use Rattle.schema.proofs.declarations.declared_name.Goals as goal
 
-pub returns-then-s-i : goal.returns-then-s-i
-returns-then-s-i c = record { says = name-end c.args.s.now c.args.i c.if-s-i.true }
-
-pub returns-then-not-starts_name : goal.returns-then-not-starts_name
-returns-then-not-starts_name c =
-    record { says = name-not c.args.s.now c.args.i c.if-s-i.false (c.requires.1 c.if-s-i.false) (sym c.starts_name.ensures ∙ c.if-not-starts_name.true) }
-
 pub name_end-requires : goal.name_end-requires
-name_end-requires c = (c.if-s-i.false, sym c.starts_name.ensures ∙ c.if-not-starts_name.false)
+name_end-requires c =
+    let l : c.args.i < length c.args.s.now = search rules in
+    let e : starts_name (byte_at c.args.s.now c.args.i) ≡ true = search rules in
+    (l, e)
 
 pub space-requires : goal.space-requires
-space-requires c = (named_end c.name_end.ensures c.in-Past.is).1
+space-requires c = (named_end c.in_ok-name_end-in-Some.ensures refl).1
 
-pub returns-in-Past : goal.returns-in-Past
-returns-in-Past c =
-    name-reads c.args.s.now c.args.i c.if-s-i.false (c.requires.1 c.if-s-i.false) (sym c.starts_name.ensures ∙ c.if-not-starts_name.false) c.name_end.ensures c.in-Past.is c.space.ensures
+pub returns-in_err-name_end-in-Some : goal.returns-in_err-name_end-in-Some
+returns-in_err-name_end-in-Some c =
+    let l : c.args.i < length c.args.s.now = search rules in
+    let e : starts_name (byte_at c.args.s.now c.args.i) ≡ true = search rules in
+    let p = err_from_is_err_and c.from_residual.result c.from_residual.ensures.1 in
+    rw (p.1, p.2) (record { says = name-fails c.args.s.now c.args.i l (c.requires.1 l) e c.in_err-name_end-in-Some.ensures refl })
 
-pub returns-in-Fail : goal.returns-in-Fail
-returns-in-Fail c =
-    record { says = name-fails c.args.s.now c.args.i c.if-s-i.false (c.requires.1 c.if-s-i.false) (sym c.starts_name.ensures ∙ c.if-not-starts_name.false) c.name_end.ensures c.in-Fail.is }
+pub returns-in_ok-name_end-in-Some : goal.returns-in_ok-name_end-in-Some
+returns-in_ok-name_end-in-Some c =
+    let l : c.args.i < length c.args.s.now = search rules in
+    let e : starts_name (byte_at c.args.s.now c.args.i) ≡ true = search rules in
+    name-reads c.args.s.now c.args.i l (c.requires.1 l) e c.in_ok-name_end-in-Some.ensures refl c.space.ensures
+
+pub returns-in_default : goal.returns-in_default
+returns-in_default c =
+    let l : c.args.i < length c.args.s.now = search rules in
+    let e : starts_name (byte_at c.args.s.now c.args.i) ≡ false = search rules in
+    record { says = name-not c.args.s.now c.args.i l (c.requires.1 l) e }
+
+pub returns-in_default-2 : goal.returns-in_default-2
+returns-in_default-2 c =
+    let l : length c.args.s.now ≤ c.args.i = search rules in
+    record { says = name-end c.args.s.now c.args.i l }

@@ -1,12 +1,13 @@
 -- `join` meets its contract: nothing, `,` or `|` parts the group.
+use Rattle.std.proofs.Common.{rules}
 use Rattle.schema.specs.particles.AutomataLaws.{joined-first, joined-comma, joined-bar}
 use Rattle.schema.proofs.separators.join.Goals as goal
 
-pub returns-then-sep-eq-UNPARTED : goal.returns-then-sep-eq-UNPARTED
-returns-then-sep-eq-UNPARTED c = joined-first _ _ _ c.if-sep-eq-UNPARTED.true
+pub returns-in-None : goal.returns-in-None
+returns-in-None c = joined-first _ _ _ c.in-None.is
 
-pub returns-then-sep-eq44 : goal.returns-then-sep-eq44
-returns-then-sep-eq44 c = joined-comma _ _ _ c.if-sep-eq44.true _ _ c.link.ensures c.in_sequence.ensures
+pub returns-in-Some-Comma : goal.returns-in-Some-Comma
+returns-in-Some-Comma c = joined-comma _ _ _ (search rules) _ _ c.link.ensures c.in_sequence.ensures
 
-pub returns : goal.returns
-returns c = joined-bar _ _ _ c.if-sep-eq-UNPARTED.false c.if-sep-eq44.false _ c.in_choice.ensures
+pub returns-in-Some-Bar : goal.returns-in-Some-Bar
+returns-in-Some-Bar c = joined-bar _ _ _ (search rules) _ c.in_choice.ensures

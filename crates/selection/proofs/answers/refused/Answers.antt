@@ -1,12 +1,11 @@
--- `refused` meets its contract: both outputs are cleared.
-use mathlib.Core.Path.{refl}
-use Rattle.cells.specs.lent.Cells.{all-cleared}
+use Rattle.std.proofs.Common.{refl, ◌∙◌}
+use Rattle.selection.specs.answers.Answers.{cleared-cells}
 use Rattle.selection.proofs.answers.refused.Goals as goal
 
 pub returns : goal.returns
 returns c =
     record {
       answer = refl;
-      items-are = all-cleared _ _ c.clear_numbers.ensures;
-      counts-are = all-cleared _ _ c.clear_places.ensures;
+      items-are = c.fill.ensures.after (λ y e. e) ∙ cleared-cells _;
+      counts-are = c.fill-2.ensures.after (λ y e. e) ∙ cleared-cells _;
     }

@@ -11,16 +11,13 @@ offset_bounds-numbers-r c = omega (arith, c.requires.size)
 pub bounds-numbers-r : goal.bounds-numbers-r
 bounds-numbers-r c = omega (arith, c.requires.size)
 
-pub overflow_cast-n : goal.overflow_cast-n
-overflow_cast-n c = omega (arith, mark-small _ c.requires.marked c.loop-r.r (omega arith))
-
 pub overflow_add-n : goal.overflow_add-n
-overflow_add-n c = omega (arith, mark-small _ c.requires.marked c.loop-r.r (omega arith), c.loop-r.invariant.few, c.requires.few, c.requires.low)
+overflow_add-n c = omega (arith, c.from-n.ensures, mark-small _ c.requires.marked c.loop-r.r (omega arith), c.loop-r.invariant.few, c.requires.few, c.requires.low)
 
 pub loop-r-preserved : goal.loop-r-preserved
 loop-r-preserved c =
     let at = c.loop-r in
-    appending-next _ _ _ _ c.requires at.r at.n at.out at.invariant (omega arith) _ c.put.ensures
+    rw c.from-n.ensures (appending-next _ _ _ _ c.requires at.r at.n at.out at.invariant (omega arith) _ c.put.ensures)
 
 pub returns : goal.returns
 returns c =

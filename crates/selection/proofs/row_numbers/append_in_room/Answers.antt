@@ -20,18 +20,15 @@ pub bounds-out-n : goal.bounds-out-n
 bounds-out-n c =
     omega (arith, c.loop-r.invariant.few, c.loop-r.invariant.so_far.long, c.requires.room)
 
-pub overflow_cast-n : goal.overflow_cast-n
-overflow_cast-n c = omega (arith, mark-small _ c.requires.pass.marked c.loop-r.r (omega arith))
-
 pub overflow_add-n : goal.overflow_add-n
 overflow_add-n c =
-    omega (arith, mark-small _ c.requires.pass.marked c.loop-r.r (omega arith), c.loop-r.invariant.few, c.requires.pass.few, c.requires.pass.low)
+    omega (arith, c.from-n.ensures, mark-small _ c.requires.pass.marked c.loop-r.r (omega arith), c.loop-r.invariant.few, c.requires.pass.few, c.requires.pass.low)
 
 pub loop-r-preserved : goal.loop-r-preserved
 loop-r-preserved c =
     let at = c.loop-r in
-    appending-next _ _ _ _ c.requires.pass at.r at.n at.out at.invariant (omega arith) _
-    (written_in at.out at.n _ (omega (arith, at.invariant.few, at.invariant.so_far.long, c.requires.room)))
+    rw c.from-n.ensures (appending-next _ _ _ _ c.requires.pass at.r at.n at.out at.invariant (omega arith) _
+    (written_in at.out at.n _ (omega (arith, at.invariant.few, at.invariant.so_far.long, c.requires.room))))
 
 pub returns : goal.returns
 returns c =

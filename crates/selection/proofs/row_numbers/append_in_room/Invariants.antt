@@ -1,10 +1,5 @@
-use Prim.Native.Nat.{◌-◌}
-use lib.ListN.{length}
 use Rattle.selection.specs.row_numbers.Cells.{Appending}
 use Rattle.selection.proofs.row_numbers.append_in_room.Given as goal
 
 abbrev pub invariant-loop-r : goal.invariant-loop-r
 invariant-loop-r l = Appending l.marks l.numbers l.initial.out l.at l.r l.n l.out
-
-abbrev pub decreases-loop-r : goal.decreases-loop-r
-decreases-loop-r l = length l.marks - l.r

@@ -1,17 +1,14 @@
--- `select_into` meets its contract: the range of the paths asked for, what they select, the room.
 use Rattle.selection.specs.asked.Ranges.{asked-order}
 use Rattle.selection.specs.table.Tables.{asked-pass, asked-answered}
 use Rattle.selection.proofs.table.select_into.Goals as goal
 
+pub overflow_sub-m : goal.overflow_sub-m
+overflow_sub-m c = (asked-order _ _ _ _ c.requires.inside c.asked-paths_asked.ensures.0 c.asked-paths_asked.ensures.1).0
+
 pub select_paths-n-requires : goal.select_paths-n-requires
-select_paths-n-requires c =
-    (asked-pass _ _ _ _ _ _ _ _ _ c.requires.0 _ _ c.first_asked-first.ensures c.past_asked-end.ensures, c.requires.1)
+select_paths-n-requires c = asked-pass _ _ _ _ _ c.asked-paths_asked.ensures _ _ c.requires
 
-pub overflow_sub-end : goal.overflow_sub-end
-overflow_sub-end c =
-    (asked-order _ _ _ _ c.requires.0.inside c.first_asked-first.ensures c.past_asked-end.ensures).0
-
-pub returns : goal.returns
-returns c s text rows w =
-    asked-answered _ _ _ _ _ c.requires.0.inside _ _ c.first_asked-first.ensures c.past_asked-end.ensures s text rows w _ _ _ _ _
-    c.select_paths-n.ensures _ _ _ c.in_room.ensures
+pub returns-clause-selected : goal.returns-clause-selected
+returns-clause-selected c s text rows w =
+    asked-answered c.args.rows.now c.args.paths.now c.args.place _ _ c.asked-paths_asked.ensures c.requires.inside s text rows w _ _ _ _ _
+    c.select_paths-n.ensures.joined _ _ _ c.in_room.ensures

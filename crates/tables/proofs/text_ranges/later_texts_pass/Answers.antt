@@ -1,22 +1,17 @@
--- `later_texts_pass` meets its contract. The invariant: what is left of the rows decides.
-use mathlib.Core.Path.{sym, ◌∙◌}
-use borrow.Author.Tests.{not-true, not-false}
-use Rattle.tables.proofs.text_ranges.Ranges.{left-fails, left-next, left-done}
+-- `later_texts_pass` meets its contract: a test of each row that is left.
+use Rattle.std.proofs.Common.{◌-◌, ◌∙◌, refl, rules, tests}
+use Rattle.std.proofs.lemmas.Iterator.{YieldsList-from_range}
+use Rattle.std.proofs.lemmas.Iterator.Search.{all_from_yields_List}
+use Rattle.cells.specs.columns.Lent.{read_columns}
+use Rattle.table_spec.specs.Columns.{cells_at}
+use Rattle.tables.proofs.text_ranges.Ranges.{all-from}
+use Rattle.tables.specs.text_ranges.Left.{text_fits}
 use Rattle.tables.proofs.text_ranges.later_texts_pass.Goals as goal
 
-pub loop-i-init : goal.loop-i-init
-loop-i-init c = c.requires.4
-
-pub text_passes-requires : goal.text_passes-requires
-text_passes-requires c = c.all_kinds-kinds.ensures
-
-pub returns-then-not-text_passes : goal.returns-then-not-text_passes
-returns-then-not-text_passes c =
-    left-fails _ _ _ _ _ _ _ c.loop-i.invariant c.loop-i-test.true (sym c.text_passes.ensures ∙ not-true _ c.if-not-text_passes.true-raw)
-
-pub loop-i-preserved : goal.loop-i-preserved
-loop-i-preserved c =
-    left-next _ _ _ _ _ _ _ c.loop-i.invariant c.loop-i-test.true (sym c.text_passes.ensures ∙ not-false _ c.if-not-text_passes.false-raw)
-
 pub returns : goal.returns
-returns c = left-done _ _ _ _ _ _ _ c.loop-i.invariant c.loop-i-test.false
+returns c =
+    let lent = c.args.lent.now in
+    let table = read_columns c.args.table.now in
+    let left = c.args.count - c.args.first in
+    all_from_yields_List (λ i. text_fits lent (cells_at table i)) _ _ c.all.result c.all.ensures.ran (YieldsList-from_range c.args.first c.args.count left refl refl) (λ x b q k. search (rules, tests))
+    ∙ all-from lent table c.args.first left ∙ c.requires.1.rest

@@ -1,13 +1,13 @@
 -- `range_decodes` meets its contract: by the lengths, and by the size that the lexer tells.
-use Rattle.tables.proofs.text_ranges.Decoding.{decodes-equal, decodes-zero, decodes-size}
+use Rattle.std.proofs.Common.{rules}
+use Rattle.tables.proofs.text_ranges.Decoding.{range-decoded}
 use Rattle.tables.proofs.text_ranges.range_decodes.Goals as goal
 
 pub returns-then-decoded-size : goal.returns-then-decoded-size
-returns-then-decoded-size c = decodes-equal _ _ _ _ c.if-decoded-size.true
+returns-then-decoded-size c = rw range-decoded (search rules)
 
-pub returns-then-decoded-eq0 : goal.returns-then-decoded-eq0
-returns-then-decoded-eq0 c = decodes-zero _ _ _ _ c.if-decoded-size.false c.if-decoded-eq0.true
+pub returns-then-decoded-ne0 : goal.returns-then-decoded-ne0
+returns-then-decoded-ne0 c = rw range-decoded (search rules)
 
-pub returns : goal.returns
-returns c =
-    rw c.decoded_size_by.ensures (decodes-size _ _ _ _ c.if-decoded-size.false c.if-decoded-eq0.false)
+pub returns-else-decoded-ne0 : goal.returns-else-decoded-ne0
+returns-else-decoded-ne0 c = rw range-decoded (search rules)

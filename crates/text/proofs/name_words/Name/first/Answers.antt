@@ -1,8 +1,8 @@
 -- `Name::first` meets its contract.
-use borrow.Author.Rules.{rules}
+use Rattle.std.proofs.Common.{rules}
 use Rattle.text.specs.name_words.Words.{words_of, with_bytes}
 use Rattle.text.proofs.name_words.Name.first.Goals as goal
 
 pub returns : goal.returns
 unfolding words_of with_bytes
-returns c = rw c.wide.ensures
+returns c = search rules

@@ -1,2 +1,0 @@
-pub mod LentCells
-pub mod Filling

@@ -1,9 +1,0 @@
--- `names::NameSet::union` meets its contract, by a law of each bit.
-use mathlib.Core.Bool.{◌||◌}
-use lib.Bits.{bit_or}
-use Rattle.names.proofs.Words.{on-names}
-use Rattle.names.specs.bits.Bits.{bit-or}
-use Rattle.names.proofs.NameSet.union.Goals as goal
-
-pub returns : goal.returns
-returns c = on-names (λ a b. bit_or a b) (λ x y. x || y) bit-or c.args.self c.args.other

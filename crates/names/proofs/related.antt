@@ -1,2 +1,0 @@
-mod Counted
-mod Holders
