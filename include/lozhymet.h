@@ -39,7 +39,7 @@ extern "C" {
 #define LOZHYMET_MAX_ROWS 65535 /* of a journal or an extract */
 
 /* Bytes of stack to have free for a call: a bound to which tests/host/run holds what it measures on a journal of 65,521 nodes. Measured there:
-   making 245,832 bytes, selecting 431,256. */
+   making 283,928 bytes, selecting 478,440. */
 #define LOZHYMET_STACK_BYTES 524288
 
 /* ---- how many cells to lend, so that 18 cannot come
