@@ -12,22 +12,38 @@ pub const NO_FAULT: u64 = u64::MAX;
 // Every place in a text is below it.
 pub const PLACE_LIMIT: u64 = 4294967296;
 
+// The key of a number and a place.
+fn key_at(number: u64, place: u32) -> u64
+    requires { number ≤ 18 }
+    ensures { result ≡ key_at number place }
+{
+    number * PLACE_LIMIT + place as u64
+}
+
 // The key of a refusal.
 pub fn key(reason: Reason, place: u32) -> u64
     ensures { result ≡ key_at (number_of (reason_in reason)) place }
 {
-    reason.number() * PLACE_LIMIT + place as u64
+    key_at(reason.number(), place)
+}
+
+// One refusal more by its number, if the test holds. It may be 0, which is no reason's number.
+pub fn noted_number(fault: u64, test: bool, number: u64, place: u32) -> u64
+    requires { number ≤ 18 }
+    ensures { result ≡ noted_key test number place fault }
+{
+    if test {
+        key_at(number, place).min(fault)
+    } else {
+        fault
+    }
 }
 
 // One refusal more, if the test holds.
 pub fn noted(fault: u64, test: bool, reason: Reason, place: u32) -> u64
     ensures { result ≡ noted_key test (number_of (reason_in reason)) place fault }
 {
-    if test {
-        key(reason, place).min(fault)
-    } else {
-        fault
-    }
+    noted_number(fault, test, reason.number(), place)
 }
 
 // The reason of a number.
