@@ -1,5 +1,5 @@
 // What the elements of a schema hold and what lies below them, and how sets of names are related by it.
-ghost use Rattle.std.specs.Prelude.{◌↔◌, ◌≡◌, ℕ, ◌<◌, ◌≤◌, T, length, min};
+ghost use Rattle.std.specs.Prelude.{◌↔◌, ◌≡◌, ℕ, ◌<◌, ◌≤◌, T, length};
 ghost use Rattle.inference_spec.specs.Types.{all_above, all_below, held_by, holding};
 ghost use Rattle.names.specs.Sets.{NamesOf, member, set_in};
 ghost use Rattle.names.specs.closures.Relations.{relates, Reachable, through_element, related_from, related_to, NonePast};
@@ -40,13 +40,6 @@ impl Relations {
         }
     }
 
-    // How many elements there are, or as many as a schema may have.
-    fn elements(&self) -> usize
-        ensures { result ≡ min self.now.count max_declarations }
-    {
-        self.count.min(MAX_ELEMENTS)
-    }
-
     // The names of the schema of so many elements that hold these names.
     pub fn names(&self) -> NameSet
         requires { self.now.count ≤ max_declarations }
@@ -67,7 +60,7 @@ impl Relations {
         ensures of_schema { (s : Schema) → RelationsOf s self.now → set_in s result ≡ held_by (types_of s) (set_in s t) }
         ensures members { self.now.count ≤ max_declarations → (n : Name) → member result n ≡ related_from self.now.count self.now.«holds» t n }
     {
-        related_from(&self.holds, self.elements(), t)
+        related_from(&self.holds, self.count, t)
     }
 
     // Those that hold a name of a set.
@@ -75,7 +68,7 @@ impl Relations {
         ensures of_schema { (s : Schema) → RelationsOf s self.now → set_in s result ≡ holding (types_of s) (set_in s t) }
         ensures members { self.now.count ≤ max_declarations → (n : Name) → member result n ≡ related_to self.now.count self.now.«holds» t n }
     {
-        related_to(&self.holds, self.elements(), t)
+        related_to(&self.holds, self.count, t)
     }
 
     // All below a set.
@@ -83,7 +76,7 @@ impl Relations {
         ensures of_schema { (s : Schema) → RelationsOf s self.now → set_in s result ≡ all_below (types_of s) (set_in s t) }
         ensures members { self.now.count ≤ max_declarations → (n : Name) → member result n ≡ related_from self.now.count self.now.below t n }
     {
-        related_from(&self.below, self.elements(), t)
+        related_from(&self.below, self.count, t)
     }
 
     // All above a set.
@@ -91,7 +84,7 @@ impl Relations {
         ensures of_schema { (s : Schema) → RelationsOf s self.now → set_in s result ≡ all_above (types_of s) (set_in s t) }
         ensures members { self.now.count ≤ max_declarations → (n : Name) → member result n ≡ related_to self.now.count self.now.below t n }
     {
-        related_to(&self.below, self.elements(), t)
+        related_to(&self.below, self.count, t)
     }
 }
 
@@ -123,12 +116,11 @@ fn reached(holds: &[NameSet; MAX_ELEMENTS], count: usize) -> [NameSet; MAX_ELEME
 
 // All that the elements of a set are related to, of `count` elements.
 // By index: it is the element's number, which the set is asked for, and `enumerate` with `take` is no plainer.
-fn related_from(images: &[NameSet; MAX_ELEMENTS], count: usize, s: NameSet) -> NameSet
-    requires { count ≤ max_declarations }
-    ensures { (b : Name) → member result b ≡ related_from count images.now s b }
+pub fn related_from(images: &[NameSet; MAX_ELEMENTS], count: usize, s: NameSet) -> NameSet
+    ensures { count ≤ max_declarations → (b : Name) → member result b ≡ related_from count images.now s b }
 {
     let mut all = NameSet::empty();
-    for i in 0..count {
+    for i in 0..count.min(MAX_ELEMENTS) {
         if s.has_element(i) {
             all |= images[i];
         }
@@ -138,12 +130,11 @@ fn related_from(images: &[NameSet; MAX_ELEMENTS], count: usize, s: NameSet) -> N
 
 // All elements, of `count`, that are related to a name of a set.
 // A loop of its own: `related_from` adds the images of a set, this the elements whose image meets it.
-fn related_to(images: &[NameSet; MAX_ELEMENTS], count: usize, s: NameSet) -> NameSet
-    requires { count ≤ max_declarations }
-    ensures { (n : Name) → member result n ≡ related_to count images.now s n }
+pub fn related_to(images: &[NameSet; MAX_ELEMENTS], count: usize, s: NameSet) -> NameSet
+    ensures { count ≤ max_declarations → (n : Name) → member result n ≡ related_to count images.now s n }
 {
     let mut all = NameSet::empty();
-    for i in 0..count {
+    for i in 0..count.min(MAX_ELEMENTS) {
         if images[i].meets(s) {
             all = all.insert_element(i);
         }

@@ -5,8 +5,8 @@ use Rattle.std.proofs.lemmas.Bool.{false≢true, cases_lt}
 use Rattle.std.proofs.lemmas.Nat.Bits.{bit_at-lt, bit_at_above, bit_at_not}
 use Rattle.std.proofs.Math.Nat.{div-eq_of_lt, mul-div-mul_right}
 use Rattle.std.specs.Int.{bit_at, bit_not, w64}
-use Rattle.std.specs.Int.Bits.{bit_and, bit_or, and_lt, shifted_even}
-use Rattle.std.proofs.lemmas.Nat.{or_shr, or_mod, and_shr, and_mod, shl-shr}
+use Rattle.std.specs.Int.Bits.{bit_and, bit_or, bit_xor, and_lt, shifted_even}
+use Rattle.std.proofs.lemmas.Nat.{or_shr, or_mod, and_shr, and_mod, xor_shr, xor_mod, shl-shr}
 use Rattle.std.proofs.Math.Dec.{eqb-zero-suc, eqb-suc-zero, eqb-suc-suc}
 use Rattle.std.proofs.Math.Pow.{pow-lt, field, mod-mod-pow}
 use Rattle.schema_spec.specs.Names.{has_bit}
@@ -43,6 +43,19 @@ bit-or = by_bits bit_or (λ x y. x || y) or_shr or_mod refl refl refl refl
 
 pub bit-and : (a b i : ℕ) → has_bit (bit_and a b) i ≡ (has_bit a i && has_bit b i)
 bit-and = by_bits bit_and (λ x y. x && y) and_shr and_mod refl refl refl refl
+
+-- what is in one of two sets and not in both: with what both have, the first without the second
+pub bit-without : (a b i : ℕ) → has_bit (bit_xor a (bit_and a b)) i ≡ (has_bit a i && not (has_bit b i))
+bit-without a b i =
+    by_bits bit_xor differ xor_shr xor_mod refl refl refl refl a (bit_and a b) i ∙ ap (differ (has_bit a i)) (bit-and a b i) ∙ only (has_bit a i) (has_bit b i)
+  where
+    differ : Bool → Bool → Bool
+    differ true y = not y
+    differ false y = y
+
+    only : (x y : Bool) → differ x (x && y) ≡ (x && not y)
+    only true y = refl
+    only false y = refl
 
 -- what is in the first of two sets and not in the second: words of 64 bits have none from 64 on
 module _ (a b i : ℕ) (ha : a < 2 ^ 64) (hb : b < 2 ^ 64) where

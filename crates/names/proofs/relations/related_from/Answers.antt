@@ -1,5 +1,5 @@
 -- `related_from` meets its contract: the images that the loop has passed, and one more.
-use Rattle.std.proofs.Common.{rules, Bool, ◌&&◌, ◌||◌, sym, ap, ap₂, ◌∙◌, add-one}
+use Rattle.std.proofs.Common.{rules, Bool, ℕ, ◌&&◌, ◌||◌, sym, ap, ap₂, ◌∙◌, add-one, arith}
 use Rattle.std.proofs.Math.Bool.{or-false}
 use Rattle.names.specs.Sets.{member}
 use Rattle.names.specs.closures.Relations.{relates, related_from}
@@ -24,3 +24,6 @@ loop-i-preserved c b =
           ap (λ (x : NameSet). member x b) w.all-is ∙ at.invariant b ∙ sym (or-false _)
           ∙ ap (λ (t : Bool). related_from at.i c.args.images.now c.args.s b || (t && relates c.args.images.now at.i b)) (sym w.if-has_element.false ∙ c.has_element.ensures)
     ])
+
+pub returns : goal.returns
+returns c few b = c.loop-i.invariant b ∙ ap (λ (n : ℕ). related_from n c.args.images.now c.args.s b) (omega (arith, few))

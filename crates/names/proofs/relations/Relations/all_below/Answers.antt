@@ -1,7 +1,5 @@
 -- `Relations::all_below` meets its contract.
-use Rattle.std.proofs.Common.{arith, ap, ◌∙◌, ℕ}
-use Rattle.std.proofs.Math.Nat.{min-eq_left}
-use Rattle.names.specs.closures.Relations.{related_from}
+use Rattle.std.proofs.Common.{arith}
 use Rattle.names.specs.closures.Schemas.{below-relating, related_from-filter}
 use Rattle.schema_spec.specs.Types.{types_of, is_below}
 use Rattle.names.proofs.relations.Relations.all_below.Goals as goal
@@ -10,9 +8,4 @@ pub returns-clause-of_schema : goal.returns-clause-of_schema
 unfolding types_of
 returns-clause-of_schema c = λ s relations.
     let r = c.args.self.now in
-    related_from-filter s relations.small c.elements.result (omega (arith, c.elements.ensures, relations.counted, relations.small)) (is_below (types_of s)) (below-relating s relations.closed) r.below relations.below c.args.t _ c.related_from.ensures
-
-pub returns-clause-members : goal.returns-clause-members
-returns-clause-members c = λ few n.
-    let r = c.args.self.now in
-    c.related_from.ensures n ∙ ap (λ (k : ℕ). related_from k r.below c.args.t n) (c.elements.ensures ∙ min-eq_left few)
+    related_from-filter s relations.small r.count (omega (arith, relations.counted)) (is_below (types_of s)) (below-relating s relations.closed) r.below relations.below c.args.t _ (c.related_from.ensures (omega (arith, relations.counted, relations.small)))
