@@ -132,7 +132,7 @@ module _ (old : Parser) {at i : ℕ} (K : Skipped old.text.now at i) where
 
     module _ {mid : Parser} {r : Result Part ℕ} (e : byte_at s i ≡ 0x23 → ⊥) (G : ReadsGroup i 0 begun mid r) where
       pub model-kept : Kept old mid
-      model-kept = record { text = G.kept.text; uses = G.kept.uses; predecessors = G.kept.predecessors }
+      model-kept = record { text = G.kept.text; uses = G.kept.uses; predecessors = G.kept.predecessors; uses-size = G.kept.uses-size; predecessors-size = G.kept.predecessors-size }
 
       abbrev alone : Head → AroundAt 0
       alone h = (record { frames = []; head = h }, refl)

@@ -190,13 +190,23 @@ module _ {at depth i : ℕ} {sep : Option Separator} {old now : Parser} {ends : 
           abbrev joined : Parser
           joined = record mid { predecessors = record mid.predecessors { now = links } }
 
+          joined-kept : Kept old joined
+          joined-kept =
+              record {
+                text = group-kept.text;
+                uses = group-kept.uses;
+                predecessors = group-kept.predecessors;
+                uses-size = group-kept.uses-size;
+                predecessors-size = J.long ∙ group-kept.predecessors-size;
+              }
+
           pub group-closes : {j : ℕ} → w ≡ Ok (Close j) → ReadsGroup at depth old joined (Ok (record { at = j; ends = e }))
           group-closes {j} v =
               let C = followed v in
               let a = C.0 in
               let b = particle.few in
               record {
-                kept = record { text = group-kept.text; uses = group-kept.uses; predecessors = group-kept.predecessors };
+                kept = joined-kept;
                 start = group-same;
                 says =
                     record {
@@ -217,7 +227,7 @@ module _ {at depth i : ℕ} {sep : Option Separator} {old now : Parser} {ends : 
               let d = noted-low particle.noted in (
                 omega arith,
                 record {
-                  kept = record { text = group-kept.text; uses = group-kept.uses; predecessors = group-kept.predecessors };
+                  kept = joined-kept;
                   start = group-same;
                   read =
                       record {

@@ -1,7 +1,7 @@
 -- Laws of reading names and separators.
 use Rattle.std.specs.Prelude.{Bool, true, false, List, [], ◌∷◌, ◌≡◌, refl, ℕ, ◌+◌, ◌-◌, ◌≤◌, ◌<◌, eqb, length, set, Option, Some, Result, Ok, Err}
 use Rattle.std.proofs.Math.Bool.{cond}
-use Rattle.std.proofs.Common.{sym, ◌∙◌, subst, arith, ne_eqb}
+use Rattle.std.proofs.Common.{sym, ◌∙◌, subst, arith, ne_eqb, length-set}
 use Rattle.std.proofs.Math.Path.{ap}
 use Rattle.models.specs.Building.{EndsOf}
 use Rattle.models.specs.declared.Ends.{Ends}
@@ -53,6 +53,10 @@ pub record PlaceNoted (i : ℕ) (old new : Parser) : Type 0 where
   pub place : new.uses.now ≡ set old.uses.now old.count i
   pub count : new.count ≡ old.count + 1
   pub links : new.predecessors.now ≡ old.predecessors.now
+
+-- cells in which a place was noted are as many as before
+pub noted-size : (cells : List ℕ) (n i : ℕ) {cells' : List ℕ} → cells' ≡ set cells n i → length cells' ≡ length cells
+noted-size cells n i e = ap length e ∙ length-set cells n i
 
 module _ (old mid : Parser) {i : ℕ} {r : Result ℕ ℕ} (W : PlaceNoted i old mid) (N : Named old.text.now i r) (l : i < length old.text.now) (e : starts_name (byte_at old.text.now i) ≡ true) where
   pub name-reads : {j : ℕ} {ends : Ends} {y : Part} {new : Parser} → r ≡ Ok j → old.count ≤ i

@@ -77,10 +77,17 @@ module _ {X T U : Type 0} {before : X → State} {after : T → X → State} {na
 
 -- ---- a parser that goes on
 pub kept-same : {p : Parser} → Kept p p
-kept-same = record { text = refl; uses = refl; predecessors = refl }
+kept-same = record { text = refl; uses = refl; predecessors = refl; uses-size = refl; predecessors-size = refl }
 
 pub kept-then : {old mid new : Parser} → Kept old mid → Kept mid new → Kept old new
-kept-then a b = record { text = b.text ∙ a.text; uses = b.uses ∙ a.uses; predecessors = b.predecessors ∙ a.predecessors }
+kept-then a b =
+    record {
+      text = b.text ∙ a.text;
+      uses = b.uses ∙ a.uses;
+      predecessors = b.predecessors ∙ a.predecessors;
+      uses-size = b.uses-size ∙ a.uses-size;
+      predecessors-size = b.predecessors-size ∙ a.predecessors-size;
+    }
 
 -- ---- what an answer says
 module _ {X : Type 0} {before : X → State} {after : Particle Use → X → State} {at : ℕ} {old new : Parser} {r : Result Part ℕ} where

@@ -49,11 +49,13 @@ pub record Reading {X T : Type 0} (before : X → State) (after : T → X → St
 abbrev pub Fails : {X : Type 0} → (X → State) → List ℕ → ℕ → ℕ → Type 0
 Fails {X} before s at j = (x : X) → from (before x) s at ≡ departs j
 
--- a parser goes on over the same text and the same lent cells
+-- a parser goes on over the same text and the same lent cells, as many as before
 pub record Kept (old new : Parser) : Type 0 where
   pub text : new.text.now ≡ old.text.now
   pub uses : new.uses.ghost_name ≡ old.uses.ghost_name
   pub predecessors : new.predecessors.ghost_name ≡ old.predecessors.ghost_name
+  pub uses-size : length new.uses.now ≡ length old.uses.now
+  pub predecessors-size : length new.predecessors.now ≡ length old.predecessors.now
 
 -- a part of a model, whose positions are counted from the model's first name on
 abbrev pub PartAs : {X : Type 0} → (X → State) → (Particle Use → X → State) → ℕ → Parser → Parser → Result Part ℕ → Type 0

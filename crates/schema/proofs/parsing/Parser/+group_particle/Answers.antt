@@ -1,5 +1,5 @@
 -- `particle` and `group` meet their contracts.
-use Rattle.std.proofs.Common.{◌≡◌, ◌≤◌, ◌<◌, ◌+◌, true, false, length, refl, ap, arith, rules}
+use Rattle.std.proofs.Common.{◌∙◌, ◌≡◌, ◌≤◌, ◌<◌, ◌+◌, true, false, length, refl, ap, arith, rules}
 use Rattle.std.specs.Prelude.{Ok}
 use Rattle.std.proofs.lemmas.Result.{err_from_is_err_and}
 use Rattle.schema.proofs.groups.Groups.{particle-end, particle-name, particle-not, particle-deep, open-fails, open-high, open-reads, group-start, group-high, group-many, group-kept, group-same, group-fails, particle-high, group-stops, group-closes, group-next}
@@ -34,7 +34,7 @@ group-returns-in_err-at t c =
     let p = err_from_is_err_and c.from_residual-in_err-at.result c.from_residual-in_err-at.ensures.1 in
     let k = group-kept c.loop-p.invariant c.requires.3 c.in_ok-p.ensures in
     rw (p.1, p.2) (record {
-      kept = record { text = k.text; uses = k.uses; predecessors = k.predecessors };
+      kept = record { text = k.text; uses = k.uses; predecessors = k.predecessors; uses-size = k.uses-size; predecessors-size = c.join-ends.ensures.long ∙ k.predecessors-size };
       start = group-same c.loop-p.invariant c.requires.3 c.in_ok-p.ensures;
       says = group-stops c.loop-p.invariant c.requires.3 c.in_ok-p.ensures refl c.join-ends.ensures c.in_err-at.ensures refl;
     })
