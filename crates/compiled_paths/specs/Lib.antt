@@ -1,3 +1,4 @@
+pub mod Columns
 pub mod Paths
 pub mod Sizes
 pub mod Steps

@@ -52,7 +52,7 @@ node_test (Element e) = named e
 
 -- the step in a cell that nothing was written to, and past the last cell
 abbrev pub no_step : Step
-no_step = record { axis = SelfNode; test = Node; ends_alternative = false }
+no_step = record { axis = SelfNode; test = Element 0; ends_alternative = false }
 
 abbrev pub step_in : List Step → ℕ → Step
 step_in steps k = get_or steps k no_step

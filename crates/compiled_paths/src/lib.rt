@@ -1,8 +1,9 @@
 // The paths of a bundle in fixed memory, derived from its text and never judged.
 #![tactic(auto)]
 
-ghost use Rattle.std.specs.Prelude.{[], ◌≡◌, ◌+◌, ◌≤◌, ◌<◌, length};
-ghost use Rattle.compiled_paths.specs.Steps.{first_size, start_at, end_at};
+ghost use Rattle.std.specs.Prelude.{[], ◌≡◌, ◌+◌, ◌≤◌, ◌<◌, length, ltb, not};
+ghost use Rattle.compiled_paths.specs.Columns.{written_of, last_mark, axis_number, test_of};
+ghost use Rattle.compiled_paths.specs.Steps.{written_axis, node_test, first_size, start_at, end_at};
 ghost use Rattle.compiled_paths.specs.Paths.{paths_in, Shaped};
 ghost use Rattle.compiled_paths.specs.Sizes.{written_steps, all_steps};
 ghost use Rattle.text_spec.specs.Limits.{max_paths};
@@ -39,12 +40,51 @@ pub enum Axis {
     PrecedingSibling,
 }
 
-// What a step asks of a node: nothing, that it is a text, or that it is the element with this index in the schema.
+impl Axis {
+    // The axis with this number: they are numbered in the order above, and every other number is that of the node itself.
+    pub fn from_number(number: u8) -> Axis
+        ensures { written_axis result ≡ written_of number }
+    {
+        match number {
+            1 => Axis::Child,
+            2 => Axis::Descendant,
+            3 => Axis::DescendantOrSelf,
+            4 => Axis::Parent,
+            5 => Axis::Ancestor,
+            6 => Axis::AncestorOrSelf,
+            7 => Axis::Following,
+            8 => Axis::FollowingSibling,
+            9 => Axis::Preceding,
+            10 => Axis::PrecedingSibling,
+            _ => Axis::SelfNode,
+        }
+    }
+}
+
+// What a step asks of a node: that it is the element with this index in the schema, nothing, or that it is a text.
 #[derive(Clone, Copy, Debug, PartialEq, Eq)]
 pub enum NodeTest {
+    Element(u8),
     Node,
     Text,
-    Element(u8),
+}
+
+// The tests by their numbers: these two, and of an element its index.
+pub const ANY_NODE: u8 = 254;
+
+pub const ANY_TEXT: u8 = 255;
+
+impl NodeTest {
+    // The test with this number.
+    pub fn from_number(number: u8) -> NodeTest
+        ensures { node_test result ≡ test_of number }
+    {
+        match number {
+            ANY_NODE => NodeTest::Node,
+            ANY_TEXT => NodeTest::Text,
+            _ => NodeTest::Element(number),
+        }
+    }
 }
 
 #[derive(Clone, Copy, Debug, PartialEq, Eq)]
@@ -55,10 +95,30 @@ pub struct Step {
     pub ends_alternative: bool,
 }
 
+// Added to the number of the axis at the last step of an alternative.
+pub const LAST: u8 = 16;
+
+impl Step {
+    // The step in a cell of axes and one of tests: numbers, that of the axis with 16 more where an alternative ends.
+    pub fn from_cells(axis: u8, test: u8) -> Step
+        ensures axis { written_axis result.axis ≡ written_of (axis_number axis) }
+        ensures test { node_test result.test ≡ test_of test }
+        ensures mark { not result.ends_alternative ≡ ltb axis last_mark }
+    {
+        let ends_alternative = LAST <= axis;
+        let number = if ends_alternative { axis - LAST } else { axis };
+        Step {
+            axis: Axis::from_number(number),
+            test: NodeTest::from_number(test),
+            ends_alternative,
+        }
+    }
+}
+
 // In a cell that no step is written to.
 pub const NO_STEP: Step = Step {
     axis: Axis::SelfNode,
-    test: NodeTest::Node,
+    test: NodeTest::Element(0),
     ends_alternative: false,
 };
 
@@ -76,12 +136,22 @@ pub struct CompiledPaths {
 }
 
 // The range of the cell `i`: it ends where the next one starts.
-fn range_at(starts: &[u16], i: usize) -> Range<usize>
+pub fn range_at(starts: &[u16], i: usize) -> Range<usize>
     requires { i + 1 < length starts.now }
     ensures { (result.start ≡ start_at starts.now i) × (result.end ≡ end_at starts.now i) }
 {
     let first = usize::from(starts[i]);
     first..first.max(usize::from(starts[i + 1]))
+}
+
+// The same in a column of bytes.
+pub fn byte_range_at(starts: &[u8], i: usize) -> Range<usize>
+    requires { i + 1 < length starts.now }
+    ensures { (result.start ≡ start_at starts.now i) × (result.end ≡ end_at starts.now i) }
+{
+    let start = usize::from(starts[i]);
+    let past = usize::from(starts[i + 1]);
+    start..past.max(start)
 }
 
 impl CompiledPaths {
