@@ -9,6 +9,16 @@ use cells::written_text::put_text;
 use names::MAX_ELEMENTS;
 use text::name_bytes;
 
+// How many bytes each of the names at the places `names` of a text has.
+pub fn name_sizes(text: &[u8], names: &[usize], sizes: &mut [usize])
+    requires { length names.now ≡ length sizes.old }
+    ensures { sizes.new ≡ map (λ p. length (name_at text.now p)) names.now }
+{
+    for e in 0..names.len() {
+        sizes[e] = name_bytes::name_at(text, names[e]).len();
+    }
+}
+
 // The names of a schema's elements: they stand in its text, from `starts` on, `sizes` bytes each. Two slices and none of pairs, since the places
 // are the compiled schema's own.
 #[derive(Drop)]
@@ -26,9 +36,7 @@ impl<'a> ElementNames<'a> {
         ensures starts { result.starts.now ≡ starts.now }
         ensures sizes { result.sizes.now ≡ map (λ p. length (name_at text.now p)) starts.now }
     {
-        for e in 0..starts.len() {
-            sizes[e] = name_bytes::name_at(text, starts[e]).len();
-        }
+        name_sizes(text, starts, sizes);
         ElementNames {
             text,
             starts,
