@@ -6,7 +6,7 @@ use Rattle.journal_builder.specs.declared.build_state.Build.{Build}
 use Rattle.journal_builder.specs.declared.build_state.BuildStep.{BuildStep}
 use Rattle.journal_builder.specs.declared.journal_schema.JournalSchema.{JournalSchema}
 use Rattle.journal_builder.specs.declared.open_levels.Level.{Level}
-use Rattle.journal_builder.specs.journal_schema.Schemas.{ContentsOf, SchemaOf}
+use Rattle.journal_builder.specs.journal_schema.Schemas.{ModelEnds, SchemaOf}
 use Rattle.journal_builder.specs.laws.Ends.{end_none, end-keeps-rows}
 use Rattle.journal_builder.specs.laws.Starts.{is_innermost}
 use Rattle.journal_builder.specs.laws.StateLaws.{leaves_kept, leaves-as, rows_as}
@@ -94,7 +94,7 @@ ends-leaves {s} {levels} {m} {r} {b} {e} n k u f v =
 -- the element that an empty tag has begun is closed at once
 abbrev pub ClosesBegun : JournalSchema → List Level → BuildStep → BuildStep → Type 0
 ClosesBegun t levels begun r =
-    (s : Schema) (m : Build) (b c : Building) (n : List ℕ) (k : ℕ) → ContentsOf s t → (is_none c.broken ≡ true → is_innermost c.opens n ≡ true)
+    (s : Schema) (m : Build) (b c : Building) (n : List ℕ) (k : ℕ) → ModelEnds s t → (is_none c.broken ≡ true → is_innermost c.opens n ≡ true)
     → Leaves s levels m b begun c → Leaves s levels m b r (closed_after n k c)
 
 -- a start tag where nesting is not broken, and any tag

@@ -64,14 +64,23 @@ impl Build {
         self.depth == 0 && self.count != 0
     }
 
+    // A refusal by its number. It may be 0, which is no reason's number.
+    pub fn broken_number(self, number: u64, at: u32) -> Build
+        requires { number ≤ 18 }
+        ensures { result ≡ broken_by number at self }
+    {
+        let key = number * PLACE_LIMIT + at as u64;
+        Build {
+            fault: key.min(self.fault),
+            ..self
+        }
+    }
+
     // 12 or 13: from then on nothing more is judged.
     pub fn broken(self, reason: Reason, at: u32) -> Build
         ensures { result ≡ broken_by (number_of (reason_in reason)) at self }
     {
-        Build {
-            fault: noted(self.fault, true, reason, at),
-            ..self
-        }
+        self.broken_number(reason.number(), at)
     }
 
     // The element e, or an undeclared one, begins.

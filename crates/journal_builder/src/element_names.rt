@@ -1,5 +1,6 @@
 // The element of a name: the elements' names as words, with a hint for each hash of a name.
 ghost use Rattle.std.specs.Prelude.{List, ◌≡◌, ℕ, ◌≤◌, ◌<◌, length, get_or};
+ghost use Rattle.journal_builder.specs.element_names.Numbers.{element_in};
 ghost use Rattle.journal_builder.specs.element_names.Reading.{name_of};
 ghost use Rattle.text.specs.name_words.Words.{words_of, Spells};
 ghost use Rattle.text_spec.specs.Limits.{max_declarations, max_schema_bytes};
@@ -10,7 +11,7 @@ use text::name_bytes;
 use text::name_words::Name;
 
 // How many hashes there are.
-const HASHES: usize = 256;
+pub const HASHES: usize = 256;
 
 // The names of `count` elements, in the order of their declarations. An array with a count, that of the schema: no heap, fixed memory.
 #[derive(Drop)]
@@ -21,8 +22,19 @@ pub struct ElementNames {
     pub hints: [u8; HASHES],
 }
 
+// The element of a number, of which those past all elements are none.
+pub fn element_of(number: usize) -> Option<u8>
+    ensures { result ≡ element_in number }
+{
+    if number < MAX_ELEMENTS {
+        Some(number as u8)
+    } else {
+        None
+    }
+}
+
 // Where to look first for a name.
-fn hash(name: Name) -> usize
+pub fn hash(name: Name) -> usize
     ensures { result < 256 }
 {
     let x = name.a ^ name.b ^ name.c ^ name.d;
@@ -55,7 +67,8 @@ fn all_names(text: &[u8], places: &[usize; MAX_ELEMENTS], count: usize) -> [Name
     names
 }
 
-fn all_hints(names: &[Name; MAX_ELEMENTS], count: usize) -> [u8; HASHES]
+// For each hash of a name an element that may have it. Nothing is promised of it: a hint is verified.
+pub fn all_hints(names: &[Name; MAX_ELEMENTS], count: usize) -> [u8; HASHES]
     requires { count ≤ max_declarations }
 {
     let mut hints = [0u8; HASHES];

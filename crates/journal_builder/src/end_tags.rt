@@ -1,10 +1,11 @@
 // End tags and runs of character data: the end of the innermost open element, its text; refusals 12, 15 and 16 there.
-ghost use Rattle.std.specs.Prelude.{List, ◌≡◌, ℕ, ◌≤◌, ◌<◌, ◌-◌};
+ghost use Rattle.std.specs.Prelude.{List, ◌≡◌, ℕ, ◌≤◌, ◌<◌};
 ghost use Rattle.journal_builder.specs.build_state.State.{Built, SafeStep, PlacedIn, outside_by, LeavesUnbroken};
 ghost use Rattle.journal_builder.specs.laws.Starts.{is_innermost};
 ghost use Rattle.journal_builder.specs.laws.Tags.{Closes, Ends};
-ghost use Rattle.journal_lexer.specs.state.Places.{run_of};
+ghost use Rattle.journal_lexer.specs.state.Places.{place_in};
 ghost use Rattle.journal_spec.specs.Builder.{Building, on_run};
+ghost use Rattle.token_spec.specs.Lexer.{run};
 ghost use Rattle.schema_spec.specs.Schemas.{Schema};
 ghost use Rattle.text.specs.fault_keys.Keys.{place_limit};
 ghost use Rattle.text.specs.name_words.Words.{Spells};
@@ -15,7 +16,6 @@ use crate::fillings::Filling;
 use crate::journal_schema::JournalSchema;
 use crate::open_levels::{LEVELS, Level};
 use crate::rows;
-use journal_lexer::state::Places;
 use text::name_words::Name;
 use text::refusals::Reason;
 
@@ -66,23 +66,29 @@ fn outside(m: Build, solid: Option<u32>) -> Build
     }
 }
 
-// A run of character data.
-pub fn on_run(levels: &mut [Level; LEVELS], m: Build, places: &Places) -> BuildStep
+// A run of character data: where it starts, its first byte that is not a blank, how many bytes it has and how many of them its entities save.
+pub fn on_run(
+    levels: &mut [Level; LEVELS],
+    m: Build,
+    start: u32,
+    solid: Option<u32>,
+    size: u32,
+    saved: u32,
+) -> BuildStep
     requires { (m.depth ≤ max_depth) × (m.count < place_limit) }
-    ensures { SafeStep m result × LeavesUnbroken (λ s b. on_run (run_of places.now) (places.now.at - places.now.start) b) levels.old m levels.new result }
+    ensures { SafeStep m result × LeavesUnbroken (λ s b. on_run (run start (place_in solid) saved) size b) levels.old m levels.new result }
 {
     let d = m.depth;
     if d == 0 {
-        return outside(m, places.solid_at).without_row();
+        return outside(m, solid).without_row();
     }
     let level = levels[d];
-    levels[d].filling = level.filling.with_run(places.solid_at.is_none());
+    levels[d].filling = level.filling.with_run(solid.is_none());
     match level.filling {
         Filling::ByText(e) => {
-            let size = places.at.saturating_sub(places.start);
-            let row = rows::text_row(usize::from(e), level.row, places.start, size, places.saved);
+            let row = rows::text_row(usize::from(e), level.row, start, size, saved);
             BuildStep {
-                build: m.with_text(places.start, size),
+                build: m.with_text(start, size),
                 row: Some(row),
             }
         }

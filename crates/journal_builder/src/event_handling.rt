@@ -16,7 +16,10 @@ pub fn on_data_event(levels: &mut [Level; LEVELS], places: &Places, l: Lex, m: B
     ensures { (t : JournalSchema) → EventLeaves t levels.old places.now l m levels.new result }
 {
     match l.event {
-        Event::Runs => crate::on_run(levels, m, places),
+        Event::Runs => {
+            let size = places.at.saturating_sub(places.start);
+            crate::on_run(levels, m, places.start, places.solid_at, size, places.saved)
+        }
         _ => m.without_row(),
     }
 }

@@ -2,7 +2,7 @@
 ghost use Rattle.std.specs.Prelude.{◌≡◌};
 ghost use Rattle.journal_builder.specs.fillings.Fillings.{Declared, FillingOf};
 ghost use Rattle.journal_builder.specs.journal_schema.Entries.{Sized};
-ghost use Rattle.journal_builder.specs.journal_schema.Schemas.{ContentsOf};
+ghost use Rattle.journal_builder.specs.journal_schema.Schemas.{KindsOf, ModelEnds, ModelsOf};
 ghost use Rattle.journal_spec.specs.Builder.{Filling as Contained, filling_for, with_child, with_run, fits_at_end};
 ghost use Rattle.schema_spec.specs.Schemas.{Schema};
 ghost use Rattle.text.specs.lookup.Lookup.{found};
@@ -28,7 +28,7 @@ pub enum Filling {
 impl Filling {
     // Nothing yet, in the element e, or in an undeclared one.
     pub fn of(schema: &JournalSchema, e: Option<u8>) -> Filling
-        ensures { (s : Schema) → ContentsOf s schema.now → Declared s e → FillingOf s result (filling_for s (found e)) }
+        ensures { (s : Schema) → KindsOf s schema.now → Declared s e → FillingOf s result (filling_for s (found e)) }
     {
         match e {
             None => Filling::Unjudged,
@@ -43,7 +43,7 @@ impl Filling {
     // One child more: the element e, or one that is undeclared.
     pub fn with_child(self, schema: &JournalSchema, e: Option<u8>) -> Filling
         requires { Sized schema.now.compiled.now }
-        ensures { (s : Schema) (x : Contained) → ContentsOf s schema.now → FillingOf s self x → FillingOf s result (with_child (found e) x) }
+        ensures { (s : Schema) (x : Contained) → ModelsOf s schema.now → FillingOf s self x → FillingOf s result (with_child (found e) x) }
     {
         match self {
             Filling::Unjudged => Filling::Unjudged,
@@ -68,7 +68,7 @@ impl Filling {
 
     // Whether the content may end here.
     pub fn fits_at_end(self, schema: &JournalSchema) -> bool
-        ensures { (s : Schema) (x : Contained) → ContentsOf s schema.now → FillingOf s self x → result ≡ fits_at_end x }
+        ensures { (s : Schema) (x : Contained) → ModelEnds s schema.now → FillingOf s self x → result ≡ fits_at_end x }
     {
         match self {
             Filling::Misfit => false,

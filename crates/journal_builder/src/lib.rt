@@ -11,20 +11,20 @@ pub mod open_levels;
 pub mod rows;
 pub mod start_tags;
 
-ghost use Rattle.std.specs.Prelude.{◌≡◌, ◌≤◌, ◌<◌, ◌-◌};
+ghost use Rattle.std.specs.Prelude.{◌≡◌, ◌≤◌, ◌<◌};
 ghost use Rattle.journal_builder.specs.Events.{start_event, tag_event, ClosesBegun, StartBy, TagBy};
 ghost use Rattle.journal_builder.specs.build_state.State.{judged_from, SafeStep, LeavesBy};
 ghost use Rattle.journal_builder.specs.journal_schema.Entries.{Sized};
-ghost use Rattle.journal_lexer.specs.state.Places.{run_of};
+ghost use Rattle.journal_lexer.specs.state.Places.{place_in};
 ghost use Rattle.journal_spec.specs.Builder.{on_event};
-ghost use Rattle.token_spec.specs.Lexer.{runs};
+ghost use Rattle.token_spec.specs.Lexer.{run, runs};
 ghost use Rattle.text.specs.fault_keys.Keys.{place_limit};
 ghost use Rattle.text_spec.specs.Limits.{max_declarations, max_depth};
 
 use crate::build_state::{Build, BuildStep};
 use crate::journal_schema::JournalSchema;
 use crate::open_levels::{LEVELS, Level};
-use journal_lexer::state::{Event, Places};
+use journal_lexer::state::Event;
 use text::name_words::Name;
 
 // The end of an empty tag's element, if nesting is not broken.
@@ -82,13 +82,20 @@ pub fn on_tag(
     }
 }
 
-// A run of character data.
-pub fn on_run(levels: &mut [Level; LEVELS], m: Build, places: &Places) -> BuildStep
+// A run of character data: where it starts, its first byte that is not a blank, how many bytes it has and how many of them its entities save.
+pub fn on_run(
+    levels: &mut [Level; LEVELS],
+    m: Build,
+    start: u32,
+    solid: Option<u32>,
+    size: u32,
+    saved: u32,
+) -> BuildStep
     requires { (m.depth ≤ max_depth) × (m.count < place_limit) }
-    ensures { SafeStep m result × LeavesBy (λ s b. on_event s (runs (run_of places.now) (places.now.at - places.now.start)) b) levels.old m levels.new result }
+    ensures { SafeStep m result × LeavesBy (λ s b. on_event s (runs (run start (place_in solid) saved) size) b) levels.old m levels.new result }
 {
     if m.is_judged() {
-        return end_tags::on_run(levels, m, places);
+        return end_tags::on_run(levels, m, start, solid, size, saved);
     }
     m.without_row()
 }

@@ -10,7 +10,7 @@ use crate::entities::EntityRest;
 use crate::kinds::ByteKind;
 use crate::mode_loops::{mode_run, mode_step};
 use crate::state::{Event, Lex, Mode, Places};
-use crate::whole_entities::entity_after;
+use crate::whole_entities::entity_at;
 
 // Passes an entity whose `&` alone is read, if it stands whole there.
 fn whole_entity(t: &[u8], kinds: &[ByteKind; 256], places: &mut Places, l: Lex) -> Lex
@@ -20,7 +20,7 @@ fn whole_entity(t: &[u8], kinds: &[ByteKind; 256], places: &mut Places, l: Lex) 
     if l.mode != Mode::InEntity || l.event != Event::Quiet || l.rest != EntityRest::All {
         return l;
     }
-    let Some(c) = entity_after(t, l.place) else {
+    let Some(c) = entity_at(t, l.place) else {
         return l;
     };
     entity_ends(places, c.next - 1);
@@ -69,7 +69,7 @@ fn entity_end(t: &[u8], at: usize) -> Option<usize>
     if t.len() <= at || t[at] != b'&' {
         return None;
     }
-    let c = entity_after(t, at + 1)?;
+    let c = entity_at(t, at + 1)?;
     Some(c.next)
 }
 

@@ -1,6 +1,7 @@
 // The kinds of bytes that a journal's lexer tells apart, and the table of all of them.
 ghost use Rattle.std.specs.Prelude.{◌≡◌};
 ghost use Rattle.journal_lexer.specs.kinds.Kinds.{continues_name_kind, is_plain_kind, kind_of, delimiter_kind, KindTable};
+ghost use Rattle.journal_lexer.specs.kinds.Numbers.{kind_in};
 
 #[derive(Clone, Copy, PartialEq, Eq)]
 pub enum ByteKind {
@@ -17,6 +18,25 @@ pub enum ByteKind {
 }
 
 impl ByteKind {
+    // The kind of a number. Past the last a kind reads as any other byte, as `Numbers` says of each.
+    #[tactic(auto, unfolding(crate::specs::kinds::Numbers::kind_in))]
+    pub fn from_number(number: u8) -> ByteKind
+        ensures { result ≡ kind_in number }
+    {
+        match number {
+            0 => ByteKind::Letter,
+            1 => ByteKind::Digit,
+            2 => ByteKind::Blank,
+            4 => ByteKind::Slash,
+            5 => ByteKind::Greater,
+            6 => ByteKind::Less,
+            7 => ByteKind::Ampersand,
+            8 => ByteKind::Bracket,
+            9 => ByteKind::Foreign,
+            _ => ByteKind::Other,
+        }
+    }
+
     // Whether a name goes on with such a byte.
     pub fn continues_name(self) -> bool
         ensures { result ≡ continues_name_kind self }

@@ -1,7 +1,8 @@
 // The state of a journal's lexer between bytes.
 ghost use Rattle.std.specs.Prelude.{◌≡◌, ◌<◌};
 ghost use Rattle.journal_lexer.specs.state.Modes.{is_data_mode};
-ghost use Rattle.journal_lexer.specs.state.Places.{no_place, no_places, with_foreign};
+ghost use Rattle.journal_lexer.specs.state.Numbers.{mode_of, event_of};
+ghost use Rattle.journal_lexer.specs.state.Places.{no_place, no_places, place_in, place_or, with_foreign};
 ghost use Rattle.journal_lexer.specs.state.Relation.{stepped, named, entered, with_event, initially};
 
 use crate::entities::EntityRest;
@@ -32,6 +33,28 @@ pub enum Mode {
 }
 
 impl Mode {
+    // The mode of a number. Past the last each reads as the last: `steps-last`.
+    pub fn from_number(number: u8) -> Mode
+        ensures { result ≡ mode_of number }
+    {
+        match number {
+            0 => Mode::Between,
+            1 => Mode::Blanks,
+            2 => Mode::Solid,
+            3 => Mode::AfterBracket,
+            4 => Mode::AfterBrackets,
+            5 => Mode::InEntity,
+            6 => Mode::Opened,
+            7 => Mode::InName,
+            8 => Mode::AfterName,
+            9 => Mode::AfterSlash,
+            10 => Mode::Ending,
+            11 => Mode::InEndName,
+            12 => Mode::AfterEndName,
+            _ => Mode::Stopped,
+        }
+    }
+
     // Whether the mode is one of character data, outside an entity.
     pub fn is_data(self) -> bool
         ensures { result ≡ is_data_mode self }
@@ -51,6 +74,32 @@ pub enum Event {
     Empties,
     Ends,
     Runs,
+}
+
+impl Event {
+    // The event of a number. Past the last each reads as a start tag.
+    pub fn from_number(number: u8) -> Event
+        ensures { result ≡ event_of number }
+    {
+        match number {
+            0 => Event::Quiet,
+            2 => Event::Empties,
+            3 => Event::Ends,
+            4 => Event::Runs,
+            _ => Event::Starts,
+        }
+    }
+}
+
+// The place of a number, of which the greatest is none.
+pub fn place_of(number: u32) -> Option<u32>
+    ensures { place_in result ≡ place_or number }
+{
+    if number == u32::MAX {
+        None
+    } else {
+        Some(number)
+    }
 }
 
 // Lent places, which change once a token and not with every byte.

@@ -1,6 +1,6 @@
 // An entity recognised at once, by the bytes after its `&`, and the character that it stands for.
 ghost use Rattle.std.specs.Prelude.{◌≡◌, ◌≤◌, length};
-ghost use Rattle.journal_lexer.specs.whole_entities.Entities.{begins_at, NoLonger, EntityAfter};
+ghost use Rattle.journal_lexer.specs.whole_entities.Entities.{begins_at, NoLonger, EntityAt, EntityAfter};
 
 // A character, and the place past the bytes that spell it.
 #[derive(Clone, Copy)]
@@ -20,7 +20,7 @@ fn begins_at(text: &[u8], i: usize, word: &[u8]) -> bool
 // What an `&` before place `i` stands for by `lt;` or `gt;`, if by one of them.
 fn bracket_after(text: &[u8], i: usize) -> Option<Character>
     requires { i ≤ length text.now }
-    ensures { NoLonger text.now i → EntityAfter text.now i result }
+    ensures { NoLonger text.now i → EntityAt text.now i result }
 {
     if begins_at(text, i, b"lt;") {
         let next = i + 3;
@@ -33,11 +33,11 @@ fn bracket_after(text: &[u8], i: usize) -> Option<Character>
     None
 }
 
-// What an `&` before place `i` stands for by the bytes of an entity, if one stands there: else it stands for itself.
+// What an `&` before place `i` stands for by the bytes of an entity, if one stands there.
 // Branches: a loop over a table of the five is no plainer, since its invariant would name those that don't begin there.
-pub fn entity_after(text: &[u8], i: usize) -> Option<Character>
+pub fn entity_at(text: &[u8], i: usize) -> Option<Character>
     requires { i ≤ length text.now }
-    ensures { EntityAfter text.now i result }
+    ensures { EntityAt text.now i result }
 {
     if begins_at(text, i, b"amp;") {
         let next = i + 4;
@@ -52,4 +52,18 @@ pub fn entity_after(text: &[u8], i: usize) -> Option<Character>
         return Some(Character { byte: b'"', next });
     }
     bracket_after(text, i)
+}
+
+// What an `&` before place `i` stands for: by the bytes of an entity, or itself.
+pub fn entity_after(text: &[u8], i: usize) -> Character
+    requires { i ≤ length text.now }
+    ensures { EntityAfter text.now i result.byte result.next }
+{
+    match entity_at(text, i) {
+        Some(character) => character,
+        None => Character {
+            byte: b'&',
+            next: i,
+        },
+    }
 }

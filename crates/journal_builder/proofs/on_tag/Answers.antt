@@ -1,5 +1,6 @@
 use Rattle.std.proofs.Common.{rules, refl, ap, ◌∙◌, ◌≡◌}
 use Rattle.journal_builder.specs.Events.{tag_event, is_empties, start-tag, judged-unbroken, event-judged, event-broken, kept-safe, ends-safe, ends-leaves}
+use Rattle.journal_builder.specs.journal_schema.Schemas.{models-end}
 use Rattle.journal_builder.specs.laws.StateLaws.{leaves-as}
 use Rattle.journal_lexer.specs.declared.state.Event.{Event as CodeEvent}
 use Rattle.journal_spec.specs.Builder.{on_unbroken}
@@ -16,7 +17,7 @@ returns-in-Ends c =
       ends-safe c.requires.0 x.0 x.1,
       λ s b n k p w.
           let u = judged-unbroken w c.is_judged.ensures c.if-not-is_judged.false in
-          ends-leaves n g.at u (ap (λ (e : CodeEvent). tag_event e n g.at) c.in-Ends.is) (x.2 s b n k.contents p u w),
+          ends-leaves n g.at u (ap (λ (e : CodeEvent). tag_event e n g.at) c.in-Ends.is) (x.2 s b n (models-end k.contents.models) p u w),
     )
 
 pub returns-in_default : goal.returns-in_default

@@ -1,6 +1,6 @@
 -- What an event leaves, whatever it is: the builder's state and levels are those of the definition's `on_event`.
 use Rattle.std.specs.Prelude.{List, ◌≡◌, refl, ℕ, ◌-◌, ◌≤◌, length, None}
-use Rattle.std.proofs.Common.{ap, subst, ◌∙◌}
+use Rattle.std.proofs.Common.{sym, ap, subst, ◌∙◌}
 use Rattle.journal_builder.specs.Events.{tag_event, kept-safe}
 use Rattle.journal_builder.specs.build_state.State.{Built, Leaves, SafeStep, step}
 use Rattle.journal_builder.specs.declared.build_state.Build.{Build}
@@ -49,14 +49,14 @@ module _ {t : JournalSchema} {levels : List Level} {places : Places} {l : Lex} {
             leaves-as refl (ap (λ (y : Event). on_event s y b) (event-tells l.event Quiet l.name places e z d) ∙ quiet-builds s b) (leaves_kept {x = step m None} refl refl v);
       }
 
-  pub event-run : {after : List Level} {x : BuildStep} → l.event ≡ Runs → SafeStep m x
-      → ((s : Schema) (b : Building) → length s ≤ max_declarations → Built s levels m b → Leaves s after m b x (on_event s (runs (run_of places) (places.at - places.start)) b))
+  pub event-run : {after : List Level} {x : BuildStep} (size : ℕ) → l.event ≡ Runs → size ≡ places.at - places.start → SafeStep m x
+      → ((s : Schema) (b : Building) → length s ≤ max_declarations → Built s levels m b → Leaves s after m b x (on_event s (runs (run_of places) size) b))
       → EventLeaves t levels places l m after x
-  event-run {after} {x} z w f =
+  event-run {after} {x} size z q w f =
       record {
         safe = w;
         leaves = λ s b e c d v.
-            leaves-as refl (ap (λ (y : Event). on_event s y b) (event-tells l.event Runs l.name places e z d)) (f s b c.contents.few v);
+            leaves-as refl (ap (λ (y : Event). on_event s y b) (event-tells l.event Runs l.name places e z d ∙ ap (runs (run_of places)) (sym q))) (f s b c.contents.kinds.few v);
       }
 
   pub event-tag : {after : List Level} {x : BuildStep} → (l.event ≡ Quiet → ⊥) → (l.event ≡ Runs → ⊥) → SafeStep m x

@@ -2,13 +2,12 @@
 use Rattle.std.specs.Prelude.{◌≡◌, refl, ℕ, ◌<◌, length, Option as CodeOption, Some}
 use Rattle.std.proofs.Math.Option.{some}
 use Rattle.std.proofs.Common.{sym, ap, subst, ◌∙◌}
-use Rattle.compiled_schema.specs.entry_parts.Entries.{ContentOf, ends_in}
-use Rattle.compiled_schema.specs.entry_parts.EntryLaws.{entry-automaton}
+use Rattle.compiled_schema.specs.entry_parts.Entries.{ends_in}
 use Rattle.journal_builder.specs.declared.fillings.Filling.{Filling}
 use Rattle.journal_builder.specs.declared.fillings.Filling.TheVariants.{Unfilled, ByText, ByChildren}
 use Rattle.journal_builder.specs.declared.journal_schema.JournalSchema.{JournalSchema}
 use Rattle.journal_builder.specs.fillings.Fillings.{Modelled, Declared, FillingOf}
-use Rattle.journal_builder.specs.journal_schema.Schemas.{ContentsOf, entry_of, IsAutomaton}
+use Rattle.journal_builder.specs.journal_schema.Schemas.{entry_of, IsAutomaton, KindOf, KindsOf, ModelEnds, ModelsOf}
 use Rattle.journal_spec.specs.Builder.{Filling as Contained, filled_by_children, filling_of, filling_for, with_child, fits_at_end}
 use Rattle.models.specs.Automaton.{AutomatonOf}
 use Rattle.models.specs.declared.Content.{Content}
@@ -28,30 +27,31 @@ fresh e Empty = Unfilled
 fresh e Pcdata = ByText e
 fresh e (Children ends) = ByChildren e Start
 
-module _ (s : Schema) (t : JournalSchema) (k : ContentsOf s t) where
+module _ (s : Schema) (t : JournalSchema) where
   -- a new element's content
-  fresh-content : (e : ℕ) (c : Content) → e < length s → ContentOf (content_at s e) c → FillingOf s (fresh e c) (filling_of e (content_at s e))
+  fresh-content : (e : ℕ) (c : Content) → e < length s → KindOf (content_at s e) c → FillingOf s (fresh e c) (filling_of e (content_at s e))
   fresh-content e Empty l h = rw h refl
   fresh-content e Pcdata l h = (l, rw h refl)
   fresh-content e (Children ends) l h = record { declared = l; model = h.0; content = h.1; progress = rw h.1 refl }
 
-  pub new-filling : (e : ℕ) (o : CodeOption ℕ) (c : Content) → o ≡ Some e → Declared s o → c ≡ (entry_of t e).content → FillingOf s (fresh e c) (filling_for s (found o))
-  new-filling e o c q d h =
+  pub new-filling : KindsOf s t → (e : ℕ) (o : CodeOption ℕ) (c : Content) → o ≡ Some e → Declared s o → c ≡ (entry_of t e).content → FillingOf s (fresh e c) (filling_for s (found o))
+  new-filling k e o c q d h =
       let l = d e (ap found q) in
       subst (λ (y : CodeOption ℕ). FillingOf s (fresh e c) (filling_for s (found y))) (sym q)
-      (fresh-content e c l (subst (ContentOf (content_at s e)) (sym h) (k.entries e l).content))
+      (fresh-content e c l (subst (KindOf (content_at s e)) (sym h) (k.kind e l)))
 
   module _ (e : ℕ) (state : State) (x : Contained) (h : Modelled s e state x) where
     -- its end
-    pub end-decides : (ends : Ends) → ends ≡ ends_in (entry_of t e).content → may_end ends state ≡ fits_at_end x
-    end-decides ends q =
+    pub end-decides : ModelEnds s t → (ends : Ends) → ends ≡ ends_in (entry_of t e).content → may_end ends state ≡ fits_at_end x
+    end-decides k ends q =
+        let a = k.ends e h.declared h.model h.content in
         ap (λ (y : Ends). may_end y state) q
-        ∙ may_end-complete h.model _ _ _ (entry-automaton (k.entries e h.declared) h.model h.content) state
+        ∙ may_end-complete h.model _ a.0 a.1 a.2 state
         ∙ sym (ap fits_at_end h.progress)
 
-    module _ (r : Automaton) (own : IsAutomaton (entry_of t e) r) where
+    module _ (k : ModelsOf s t) (r : Automaton) (own : IsAutomaton (entry_of t e) r) where
       automaton : AutomatonOf h.model r.ends r.elements.now r.predecessors.now
-      automaton = rw (own.ends, own.elements, own.predecessors) (entry-automaton (k.entries e h.declared) h.model h.content)
+      automaton = rw (own.ends, own.elements, own.predecessors) (k.automata e h.declared h.model h.content)
 
       -- a child in an element with a model
       pub child-advances : (child : ℕ) (next : State) → Stepped r.ends r.elements.now r.predecessors.now state child next → Modelled s e next (with_child (some child) x)

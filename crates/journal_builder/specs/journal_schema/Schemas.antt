@@ -5,14 +5,18 @@ use Rattle.compiled_schema.specs.Compiled.{CompiledOf}
 use Rattle.compiled_schema.specs.declared.CompiledSchema.{CompiledSchema}
 use Rattle.compiled_schema.specs.declared.entry_parts.ElementEntry.{ElementEntry}
 use Rattle.compiled_schema.specs.entries.Entries.{entry_at}
-use Rattle.compiled_schema.specs.entry_parts.Entries.{ends_in, EntryOf}
-use Rattle.compiled_schema.specs.entry_parts.EntryLaws.{entry-size}
+use Rattle.compiled_schema.specs.entry_parts.Entries.{ContentOf, ends_in, EntryOf}
+use Rattle.compiled_schema.specs.entry_parts.EntryLaws.{entry-automaton, entry-size}
 use Rattle.journal_builder.specs.declared.journal_schema.JournalSchema.{JournalSchema}
 use Rattle.journal_builder.specs.element_names.Names.{NameRead, NamesOf}
 use Rattle.journal_builder.specs.element_names.SchemaNames.{names_of}
 use Rattle.journal_builder.specs.journal_schema.Entries.{Sized}
+use Rattle.models.specs.Automaton.{AutomatonOf}
+use Rattle.models.specs.declared.Content.{Content as ContentRead}
+use Rattle.models.specs.declared.Content.TheVariants.{Empty, Pcdata, Children}
 use Rattle.models.specs.declared.fitting.Automaton.{Automaton}
 use Rattle.schema_laws.specs.Accepted.{accepted-spelt, accepted-length, schema_in-by, schema_in-length}
+use Rattle.schema_spec.specs.Models.{Particle, Content, empty, pcdata, children}
 use Rattle.schema_spec.specs.Reading.{read_schema}
 use Rattle.schema_spec.specs.Records.{schema_in}
 use Rattle.schema_spec.specs.Schemas.{Schema, content_at}
@@ -30,10 +34,36 @@ pub record IsAutomaton (x : ElementEntry) (r : Automaton) : Type 0 where
   pub elements : r.elements.now ≡ take x.size x.elements
   pub predecessors : r.predecessors.now ≡ take x.size x.predecessors
 
+-- a content as the code has it is of the kind that is declared
+abbrev pub KindOf : Content ℕ → ContentRead → Type 0
+KindOf c Empty = c ≡ empty
+KindOf c Pcdata = c ≡ pcdata
+KindOf c (Children e) = (p : Particle ℕ) × (c ≡ children p)
+
+-- the kinds of content are those of a schema
+pub record KindsOf (s : Schema) (t : JournalSchema) : Type 0 where
+  pub few : length s ≤ max_declarations
+  pub kind : (a : ℕ) → a < length s → KindOf (content_at s a) (entry_of t a).content
+
+-- its models begin and end as position automata, of whatever cells
+pub record ModelEnds (s : Schema) (t : JournalSchema) : Type 0 where
+  pub few : length s ≤ max_declarations
+  pub ends : (a : ℕ) → a < length s → (p : Particle ℕ) → content_at s a ≡ children p
+      → (elements : List ℕ) × (predecessors : List ℕ) × AutomatonOf p (ends_in (entry_of t a).content) elements predecessors
+
+-- the models' position automata, each in the cells of its own positions: what stands past these is never seen
+pub record ModelsOf (s : Schema) (t : JournalSchema) : Type 0 where
+  pub few : length s ≤ max_declarations
+  pub automata : (a : ℕ) → a < length s → (p : Particle ℕ) → content_at s a ≡ children p
+      → AutomatonOf p (ends_in (entry_of t a).content) (take (entry_of t a).size (entry_of t a).elements) (take (entry_of t a).size (entry_of t a).predecessors)
+
+pub models-end : {s : Schema} {t : JournalSchema} → ModelsOf s t → ModelEnds s t
+models-end h = record { few = h.few; ends = λ a l p e. (_, _, h.automata a l p e) }
+
 -- what it knows of elements is that of a schema, whatever names it has
 pub record ContentsOf (s : Schema) (t : JournalSchema) : Type 0 where
-  pub few : length s ≤ max_declarations
-  pub entries : (a : ℕ) → a < length s → EntryOf (content_at s a) (entry_of t a)
+  pub kinds : KindsOf s t
+  pub models : ModelsOf s t
 
 -- it is of a schema
 pub record SchemaOf (s : Schema) (t : JournalSchema) : Type 0 where
@@ -69,6 +99,19 @@ module _ (text : List ℕ) (t : CompiledSchema) (made : CompiledOf text (schema_
         schema = of;
       }
     where
+      -- an element's entry
+      entry : length (schema_in text) ≤ max_declarations → (a : ℕ) → a < length (schema_in text) → EntryOf (content_at (schema_in text) a) (entry_of r a)
+      entry few a l =
+          let s = schema_in text in
+          let low : a < max_declarations = omega arith in
+          subst (λ (u : CompiledSchema). EntryOf (content_at s a) (entry_at u.entries (a % max_declarations))) (sym same)
+          (subst (λ (i : ℕ). EntryOf (content_at s a) (entry_at t.entries i)) (sym (mod-eq_of_lt low)) (made.entries.each a low))
+
+      kind-of : (c : Content ℕ) (x : ContentRead) → ContentOf c x → KindOf c x
+      kind-of c Empty h = h
+      kind-of c Pcdata h = h
+      kind-of c (Children e) h = (h.0, h.1)
+
       of : read_schema text ≡ accepted (schema_in text) → SchemaOf (schema_in text) r
       of read =
           let s = schema_in text in
@@ -76,11 +119,8 @@ module _ (text : List ℕ) (t : CompiledSchema) (made : CompiledOf text (schema_
           record {
             contents =
                 record {
-                  few = few;
-                  entries = λ a l.
-                      let low : a < max_declarations = omega arith in
-                      subst (λ (u : CompiledSchema). EntryOf (content_at s a) (entry_at u.entries (a % max_declarations))) (sym same)
-                      (subst (λ (i : ℕ). EntryOf (content_at s a) (entry_at t.entries i)) (sym (mod-eq_of_lt low)) (made.entries.each a low));
+                  kinds = record { few = few; kind = λ a l. kind-of (content_at s a) (entry_of r a).content (entry few a l).content };
+                  models = record { few = few; automata = λ a l p e. entry-automaton (entry few a l) p e };
                 };
             names = names_of text s read t made r.names named;
           }

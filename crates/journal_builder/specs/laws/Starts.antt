@@ -26,19 +26,16 @@ use Rattle.text_spec.specs.Limits.{max_depth, max_nodes}
 use Rattle.text_spec.specs.Lists.{is_empty, is_none, value_or, same_bytes}
 use Rattle.text_spec.specs.Refusals.{at, given, bad_nesting, over_depth, undeclared_element, bad_content, over_node_limit}
 
--- ---- the tests, by what a name is found to be
-undeclared-test : (o : Option ℕ) (e : CodeOption ℕ) → found e ≡ o → is_none o ≡ is_none (found e)
-undeclared-test o e f = ap is_none (sym f)
-
+-- ---- the test of the root, by what a name is found to be
 wrong-root-test : (o : Option ℕ) (os : List Open) (d : ℕ) (e : CodeOption ℕ) → d ≡ length os → found e ≡ o → wrong_root os o ≡ is_wrong_root d e
 wrong-root-test o [] d (Some a) q f = rw (q, ← f) refl
 wrong-root-test o [] d None q f = rw (q, ← f) refl
 wrong-root-test o (x ∷ os) d e q f = let n : (d ≡ 0 → ⊥) = λ z. omega arith in rw (ne_eqb d 0 n) refl
 
 -- the code of an element that is declared
-declared-code : (o : Option ℕ) → is_none o ≡ false → value_or 32 o ≡ value_or 0 o
-declared-code none e = absurd (true≢false e)
-declared-code (some a) e = refl
+code-of-some : (o : Option ℕ) → is_none o ≡ false → value_or 32 o ≡ value_or 0 o
+code-of-some none e = absurd (true≢false e)
+code-of-some (some a) e = refl
 
 -- ---- the row of the innermost open element
 pub no-parent : (os : List Open) (d : ℕ) → d ≡ length os → d ≡ 0 → 0 ≡ parent_row os
@@ -85,7 +82,7 @@ module _ (s : Schema) (b : Building) (n : List ℕ) (k : ℕ) (e : CodeOption �
         listed = ap suc w.listed;
         rooted = let z : (suc b.count ≡ 0 → ⊥) = λ x. omega arith in rw (ne_eqb (suc b.count) 0 z) refl;
         fault =
-            ap₂ (λ (x y : Bool). noted_key x 14 k (noted_key y 15 k over)) (sym (undeclared-test (element_named s n) e of-name)) (sym (wrong-root-test (element_named s n) b.opens m.depth e w.depth of-name))
+            ap₂ (λ (x y : Bool). noted_key x 14 k (noted_key y 15 k over)) (ap is_none of-name) (sym (wrong-root-test (element_named s n) b.opens m.depth e w.depth of-name))
             ∙ ap₂ (λ (x y : ℕ). noted_key (is_none (element_named s n)) 14 k (noted_key (wrong_root b.opens (element_named s n)) 15 k (noted_key (leb max_nodes x) 16 k y))) w.count (faults-now s b levels m whole w)
             ∙ sym
             (least-given (is_none (element_named s n)) undeclared_element k (given (wrong_root b.opens (element_named s n)) (at bad_content k) ++ (given (leb max_nodes b.count) (at over_node_limit k) ++ b.faults))
@@ -112,7 +109,7 @@ module _ (s : Schema) (b : Building) (n : List ℕ) (k : ℕ) (e : CodeOption �
       let q : parent < 65536 = subst (λ (y : ℕ). y < 65536) (sym p) (parent-below b.count b.opens (w.few x.2) w.below) in
       let i : m.count < 65536 = omega arith in
       same (m.count % 65536) b.count (value_or 32 (found e)) (code_of (element (value_or 0 (element_named s n)))) (parent % 65536) (parent_row b.opens)
-      (mod-eq_of_lt i ∙ w.count) (declared-code (found e) x.0 ∙ ap (value_or 0) of-name) (mod-eq_of_lt q ∙ p)
+      (mod-eq_of_lt i ∙ w.count) (code-of-some (found e) x.0 ∙ ap (value_or 0) of-name) (mod-eq_of_lt q ∙ p)
     where
       same : (a a' c c' d d' : ℕ) → a ≡ a' → c ≡ c' → d ≡ d'
           → ◌≡◌ {A = Cells} (record { number = a; name = c; parent = d; start = 0; size = 0; decoded = 0 }) (record { number = a'; name = c'; parent = d'; start = 0; size = 0; decoded = 0 })

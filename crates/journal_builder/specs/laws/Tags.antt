@@ -6,7 +6,7 @@ use Rattle.journal_builder.specs.declared.build_state.BuildStep.{BuildStep}
 use Rattle.journal_builder.specs.declared.journal_schema.JournalSchema.{JournalSchema}
 use Rattle.journal_builder.specs.declared.open_levels.Level.{Level}
 use Rattle.journal_builder.specs.fillings.Fillings.{Declared}
-use Rattle.journal_builder.specs.journal_schema.Schemas.{ContentsOf}
+use Rattle.journal_builder.specs.journal_schema.Schemas.{KindsOf, ModelEnds, ModelsOf, ContentsOf}
 use Rattle.journal_builder.specs.laws.Starts.{is_innermost}
 use Rattle.journal_builder.specs.open_levels.Levels.{Opened}
 use Rattle.journal_spec.specs.Builder.{Open, Building, on_end, filling_for, refill, with_child}
@@ -19,23 +19,23 @@ use Rattle.text_spec.specs.Lists.{is_none}
 -- the innermost element is closed, by its own end tag
 abbrev pub Closes : JournalSchema → List Level → Build → Build → Type 0
 Closes t levels m r =
-    (s : Schema) (b : Building) (n : List ℕ) (k : ℕ) → ContentsOf s t → is_innermost b.opens n ≡ true → is_none b.broken ≡ true → Built s levels m b
+    (s : Schema) (b : Building) (n : List ℕ) (k : ℕ) → ModelEnds s t → is_innermost b.opens n ≡ true → is_none b.broken ≡ true → Built s levels m b
     → Built s levels r (on_end n k b)
 
 -- an end tag of any name
 abbrev pub Ends : JournalSchema → List Level → Name → ℕ → Build → Build → Type 0
 Ends t levels name at m r =
-    (s : Schema) (b : Building) (n : List ℕ) → ContentsOf s t → Spells name n → is_none b.broken ≡ true → Built s levels m b → Built s levels r (on_end n at b)
+    (s : Schema) (b : Building) (n : List ℕ) → ModelEnds s t → Spells name n → is_none b.broken ≡ true → Built s levels m b → Built s levels r (on_end n at b)
 
 -- one child more in the innermost element
 abbrev pub FitsChild : JournalSchema → List Level → ℕ → Option ℕ → List Level → Type 0
 FitsChild t levels d e after =
-    (s : Schema) (os : List Open) → d ≡ length os → ContentsOf s t → Opened s levels os → Opened s after (refill (with_child (found e)) os)
+    (s : Schema) (os : List Open) → d ≡ length os → ModelsOf s t → Opened s levels os → Opened s after (refill (with_child (found e)) os)
 
 -- an element is opened on its level
 abbrev pub Opens : JournalSchema → List Level → ℕ → Option ℕ → ℕ → ℕ → Name → List Level → Type 0
 Opens t levels d e row at name after =
-    (s : Schema) (os : List Open) (n : List ℕ) → d ≡ length os → ContentsOf s t → Declared s e → Spells name n → Opened s levels os
+    (s : Schema) (os : List Open) (n : List ℕ) → d ≡ length os → KindsOf s t → Declared s e → Spells name n → Opened s levels os
     → Opened s after (record { name = n; place = at; row = row; filling = filling_for s (found e) } ∷ os)
 
 -- a start tag, whose building the definition gives

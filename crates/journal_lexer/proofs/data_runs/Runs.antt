@@ -35,7 +35,7 @@ module _ {l : Lex} {p : Places} {b : ℕ} {c : ByteKind} (h : Handed l p b c) (s
           mode = (refl, refl);
           event = refl;
           silent = inl refl;
-          foreign = foreign-same h (λ z. (cc));
+          foreign = foreign-same h p (λ z. (cc)) refl;
           lent = lent-next (lent-same _ refl h.lent);
         })
 
@@ -49,7 +49,7 @@ module _ {l : Lex} {p : Places} {b : ℕ} {c : ByteKind} (h : Handed l p b c) (s
           mode = (refl, (l.place, refl), (λ z. (cc)), h.lent.few);
           event = refl;
           silent = inl refl;
-          foreign = foreign-same h (λ z. (cc));
+          foreign = foreign-same h p (λ z. (cc)) refl;
           lent = lent-next (lent-same _ refl h.lent);
         })
 
@@ -61,7 +61,7 @@ module _ {l : Lex} {p : Places} {b : ℕ} {c : ByteKind} (h : Handed l p b c) (s
           mode = (refl, (l.place, refl));
           event = refl;
           silent = inl refl;
-          foreign = foreign-same h (λ z. (cc));
+          foreign = foreign-same h p (λ z. (cc)) refl;
           lent = lent-next (lent-same _ refl h.lent);
         })
 
@@ -75,6 +75,6 @@ module _ {l : Lex} {p : Places} {b : ℕ} {c : ByteKind} (h : Handed l p b c) (s
           mode = (refl, (l.place, refl));
           event = refl;
           silent = inl refl;
-          foreign = foreign-noted h;
+          foreign = foreign-noted h p refl;
           lent = lent-next (lent-same _ refl h.lent);
         }))

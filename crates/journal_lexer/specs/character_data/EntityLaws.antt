@@ -91,7 +91,7 @@ module _ {l : Lex} {p : Places} {b : ℕ} {c : ByteKind} (h : Handed l p b c) {r
         mode = (ap (λ (w : Run). in_data w 0) (sym (saved-run o l.place past)), has);
         event = refl;
         silent = inl refl;
-        foreign = foreign-noted h;
+        foreign = foreign-noted h p refl;
         lent = lent-next (lent-saved past (lent-same o refl h.lent));
       }))
 
@@ -109,6 +109,6 @@ module _ {l : Lex} {p : Places} {b : ℕ} {c : ByteKind} (h : Handed l p b c) {r
         mode = (refl, has, n, past);
         event = refl;
         silent = inl refl;
-        foreign = foreign-noted h;
+        foreign = foreign-noted h p refl;
         lent = lent-next (lent-same _ refl h.lent);
       })))

@@ -77,7 +77,7 @@ module _ {l : Lex} {p : Places} {b : ℕ} {c : ByteKind} (h : Handed l p b c) {r
         mode = refl;
         event = refl;
         silent = inl refl;
-        foreign = foreign-same h (λ z. (cc));
+        foreign = foreign-same h p (λ z. (cc)) refl;
         lent = lent-next (lent-same _ refl h.lent);
       })))
 
@@ -90,7 +90,7 @@ module _ {l : Lex} {p : Places} {b : ℕ} {c : ByteKind} (h : Handed l p b c) {r
         mode = refl;
         event = refl;
         silent = inr (inr refl);
-        foreign = foreign-same h (λ z. (cc));
+        foreign = foreign-same h p (λ z. (cc)) refl;
         lent = lent-next (lent-same _ refl h.lent);
       })
 
@@ -148,7 +148,7 @@ module _ {l : Lex} {p : Places} {b : ℕ} {c : ByteKind} (h : Handed l p b c) {r
               mode = (refl, has, (λ z. (cc)), h.lent.few);
               event = refl;
               silent = inl refl;
-              foreign = foreign-same h (λ z. (cc));
+              foreign = foreign-same h p (λ z. (cc)) refl;
               lent = lent-next (lent-same _ refl h.lent);
             }));
       }
@@ -213,7 +213,7 @@ module _ {l : Lex} {p : Places} {b : ℕ} {c : ByteKind} (h : Handed l p b c) {r
         mode = ap stopped (sym d);
         event = refl;
         silent = inl refl;
-        foreign = foreign-same h (λ z. (cc));
+        foreign = foreign-same h p (λ z. (cc)) refl;
         lent = lent-next (lent-same _ refl h.lent);
       }))))
 

@@ -19,7 +19,7 @@ use Rattle.journal_lexer.specs.run_laws.Passes.{Passes}
 use Rattle.journal_lexer.specs.state.Laws.{steps-in}
 use Rattle.journal_lexer.specs.state.Places.{run_of, HasSolid, solid-stays}
 use Rattle.journal_lexer.specs.state.Relation.{Means, MeansMode, Tells, stepped}
-use Rattle.journal_lexer.specs.whole_entities.Entities.{begins_at, EntityAfter, whole, itself, whole_split, whole-inside}
+use Rattle.journal_lexer.specs.whole_entities.Entities.{begins_at, EntityAt, begun, none-begun, whole_split, whole-inside}
 use Rattle.token_laws.specs.Characters.{for-entity}
 use Rattle.token_laws.specs.Passes.{entity-passes}
 use Rattle.token_spec.specs.Characters.{EntityFor}
@@ -204,9 +204,9 @@ plain-after (PlainBytes.none e) = omega arith
 plain-after (more at b inside small plain e) = omega (arith, plain-after b)
 
 -- ---- where an entity ends
-pub entity-end : {text : List ℕ} {at : ℕ} {c : Character} → at < length text → get_or text at 0 ≡ 0x26 → EntityAfter text (at + 1) (Some c)
+pub entity-end : {text : List ℕ} {at : ℕ} {c : Character} → at < length text → get_or text at 0 ≡ 0x26 → EntityAt text (at + 1) (Some c)
     → EntityEnd text at (Some c.next)
-entity-end {at = at} {c = c} inside b (whole u x f begins e) =
+entity-end {at = at} {c = c} inside b (begun u x f begins e) =
     let d : c ≡ record { byte = x; next = at + 1 + length u } = cc in
     entity u f inside b begins (ap (λ (y : Character). Some y.next) d)
-entity-end inside b (itself longer x y e) = absurd (cc)
+entity-end inside b (none-begun longer x y e) = absurd (cc)

@@ -20,7 +20,7 @@ use Rattle.journal_lexer.specs.loop_laws.Advance.{Stands, Ready, never, moved, A
 use Rattle.journal_lexer.specs.run_laws.Passes.{Passes}
 use Rattle.journal_lexer.specs.state.Places.{run_of, HasSolid, Lent, with_saved, saved-run, lent-saved}
 use Rattle.journal_lexer.specs.state.Relation.{Means, MeansMode, Tells}
-use Rattle.journal_lexer.specs.whole_entities.Entities.{begins_at, EntityAfter, whole, itself, entity-filled, whole_split, whole-inside}
+use Rattle.journal_lexer.specs.whole_entities.Entities.{begins_at, EntityAt, begun, none-begun, entity-filled, whole_split, whole-inside}
 use Rattle.text_spec.specs.Lists.{all_of}
 use Rattle.token_laws.specs.Passes.{events_over}
 use Rattle.token_spec.specs.Characters.{EntityFor, lt, gt, amp, apos, quot}
@@ -122,24 +122,24 @@ module _ {text : List ℕ} {kinds : List ByteKind} {l : Lex} {p : Places} (h : R
         })
 
   -- by what stands after the `&`
-  module _ {c : Character} (a : EntityAfter text l.place (Some c)) where
+  module _ {c : Character} (a : EntityAt text l.place (Some c)) where
     pub whole-bounds : (1 ≤ c.next) × (c.next ≤ length text)
     whole-bounds = by a
       where
-        by : EntityAfter text l.place (Some c) → (1 ≤ c.next) × (c.next ≤ length text)
-        by (whole u x f begins e) =
+        by : EntityAt text l.place (Some c) → (1 ≤ c.next) × (c.next ≤ length text)
+        by (begun u x f begins e) =
             let d : c ≡ record { byte = x; next = l.place + length u } = cc in
             let n : c.next ≡ l.place + length u = ap (λ (y : Character). y.next) d in
             (omega (arith, n, filled u f begins), omega (arith, n, inside u f begins))
-        by (itself longer x y e) = absurd (cc)
+        by (none-begun longer x y e) = absurd (cc)
 
     pub whole-advance : {r : Lex} {q : Places} → r ≡ past_entity c.next l → q ≡ with_saved p (c.next - 1) → Advance never text l p r q
     whole-advance {r} {q} d g = by a
       where
-        by : EntityAfter text l.place (Some c) → Advance never text l p r q
-        by (whole u x f begins e) =
+        by : EntityAt text l.place (Some c) → Advance never text l p r q
+        by (begun u x f begins e) =
             let i : c ≡ record { byte = x; next = l.place + length u } = cc in
             let n : c.next ≡ l.place + length u = ap (λ (y : Character). y.next) i in
             subst (λ (x : Places). Advance never text l p r x) (sym (g ∙ ap (λ (k : ℕ). with_saved p (k - 1)) n))
             (whole-passed u f begins (d ∙ ap (λ (k : ℕ). past_entity k l) n))
-        by (itself longer x y e) = absurd (cc)
+        by (none-begun longer x y e) = absurd (cc)

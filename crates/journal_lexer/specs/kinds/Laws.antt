@@ -42,31 +42,31 @@ by-kinds : (f : ℕ → Bool) (g : ByteKind → Bool) → T (each (λ b. equal_t
 by-kinds f g t b h = equal-tests (f b) (g (kind_of b)) (each_at (λ b. equal_tests (f b) (g (kind_of b))) 0 256 b t (omega arith) (omega arith))
 
 -- ---- tests on the kind
-abbrev is_letter_kind : ByteKind → Bool
+abbrev pub is_letter_kind : ByteKind → Bool
 is_letter_kind Letter = true
 is_letter_kind c = false
 
-abbrev is_blank_kind : ByteKind → Bool
+abbrev pub is_blank_kind : ByteKind → Bool
 is_blank_kind Blank = true
 is_blank_kind c = false
 
-abbrev is_slash : ByteKind → Bool
+abbrev pub is_slash : ByteKind → Bool
 is_slash Slash = true
 is_slash c = false
 
-abbrev is_greater : ByteKind → Bool
+abbrev pub is_greater : ByteKind → Bool
 is_greater Greater = true
 is_greater c = false
 
-abbrev is_less : ByteKind → Bool
+abbrev pub is_less : ByteKind → Bool
 is_less Less = true
 is_less c = false
 
-abbrev is_ampersand : ByteKind → Bool
+abbrev pub is_ampersand : ByteKind → Bool
 is_ampersand Ampersand = true
 is_ampersand c = false
 
-abbrev is_bracket : ByteKind → Bool
+abbrev pub is_bracket : ByteKind → Bool
 is_bracket Bracket = true
 is_bracket c = false
 
@@ -121,46 +121,46 @@ module _ (b : ℕ) (h : b < 256) where
 
 -- ---- the lexer's step by the kind
 module _ (k : ℕ) where
-  noted-cases : (c : ByteKind) (x : Option ℕ) → noted_by c x k ≡ cond (is_foreign_kind c) (first_noted x k) x
+  pub noted-cases : (c : ByteKind) (x : Option ℕ) → noted_by c x k ≡ cond (is_foreign_kind c) (first_noted x k) x
   noted-cases Foreign x = refl
   noted-cases c x = refl
 
-  abbrev data_cases : Run → ℕ → ByteKind → Mode
+  abbrev pub data_cases : Run → ℕ → ByteKind → Mode
   data_cases r n c =
       cond (is_blank_kind c) (in_data r 0)
       (cond (is_ampersand c) (in_entity (map (drop 1) entities) k (solid_by r k))
       (cond (is_bracket c) (in_data (solid_by r k) (suc n)) (cond (is_greater c && leb 2 n) (stopped (k - 2)) (in_data (solid_by r k) 0))))
 
-  between-cases : (c : ByteKind) → cond (is_less c) (goes (opened k)) (goes (data_cases (run k none 0) 0 c)) ≡ between_by k c
+  pub between-cases : (c : ByteKind) → cond (is_less c) (goes (opened k)) (goes (data_cases (run k none 0) 0 c)) ≡ between_by k c
   between-cases Less = refl
   between-cases c = refl
 
-  run-cases : (r : Run) (n : ℕ) (c : ByteKind) → cond (is_less c) (tells (opened k) (runs r (k - r.start))) (goes (data_cases r n c)) ≡ run_by r n k c
+  pub run-cases : (r : Run) (n : ℕ) (c : ByteKind) → cond (is_less c) (tells (opened k) (runs r (k - r.start))) (goes (data_cases r n c)) ≡ run_by r n k c
   run-cases r n Less = refl
   run-cases r n c = refl
 
 module _ (at : ℕ) where
-  opened-cases : (c : ByteKind) (b : ℕ)
+  pub opened-cases : (c : ByteKind) (b : ℕ)
       → cond (is_slash c) (goes (ending at)) (cond (is_letter_kind c) (goes (in_name at (b ∷ []))) (goes (stopped at))) ≡ opened_by at c b
   opened-cases Slash b = refl
   opened-cases c b = refl
 
-  tag-cases : (n : List ℕ) (c : ByteKind)
+  pub tag-cases : (n : List ℕ) (c : ByteKind)
       → cond (is_blank_kind c) (goes (after_name at n))
       (cond (is_greater c) (tells between (starts n at)) (cond (is_slash c) (goes (after_slash at n)) (goes (stopped at)))) ≡ tag_by at n c
   tag-cases n Blank = refl
   tag-cases n c = refl
 
-  end-tag-cases : (n : List ℕ) (c : ByteKind)
+  pub end-tag-cases : (n : List ℕ) (c : ByteKind)
       → cond (is_blank_kind c) (goes (after_end_name at n)) (cond (is_greater c) (tells between (ends n at)) (goes (stopped at))) ≡ end_tag_by at n c
   end-tag-cases n Blank = refl
   end-tag-cases n c = refl
 
-  slash-cases : (n : List ℕ) (c : ByteKind) → cond (is_greater c) (tells between (empties n at)) (goes (stopped at)) ≡ slash_by at n c
+  pub slash-cases : (n : List ℕ) (c : ByteKind) → cond (is_greater c) (tells between (empties n at)) (goes (stopped at)) ≡ slash_by at n c
   slash-cases n Greater = refl
   slash-cases n c = refl
 
-  ending-cases : (c : ByteKind) (b : ℕ) → cond (is_letter_kind c) (goes (in_end_name at (b ∷ []))) (goes (stopped at)) ≡ ending_by at c b
+  pub ending-cases : (c : ByteKind) (b : ℕ) → cond (is_letter_kind c) (goes (in_end_name at (b ∷ []))) (goes (stopped at)) ≡ ending_by at c b
   ending-cases Letter b = refl
   ending-cases c b = refl
 

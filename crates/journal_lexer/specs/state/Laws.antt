@@ -37,28 +37,28 @@ module _ {l : Lex} {p : Places} {b : ℕ} {c : ByteKind} (h : Handed l p b c) wh
   pub leads : {r : Lex} {q : Places} {m n : Mode} → m ≡ n → Meant l p b r q (lex_by n l.place c b) → Meant l p b r q (lex_by m l.place c b)
   leads {m = m} {n = n} e g = meant-of (ap (λ (z : Mode). lex_by z l.place c b) e) g
 
-  -- the first foreign byte, where the byte was noted
-  pub foreign-noted : (with_foreign c p l.place).foreign_at ≡ first_foreign p.foreign_at b l.place
-  foreign-noted = rw h.kind (noted-kind b h.byte p.foreign_at l.place)
+  -- the first foreign byte, where the places changed in other fields and the byte was noted
+  pub foreign-noted : (q : Places) → q.foreign_at ≡ p.foreign_at → (with_foreign c q l.place).foreign_at ≡ first_foreign p.foreign_at b l.place
+  foreign-noted q e = rw (e, h.kind) (noted-kind b h.byte p.foreign_at l.place)
 
   -- where the byte is not foreign
-  pub foreign-same : (c ≡ Foreign → ⊥) → p.foreign_at ≡ first_foreign p.foreign_at b l.place
-  foreign-same n = ap (λ (q : Places). q.foreign_at) (sym (not-foreign c p l.place n)) ∙ foreign-noted
+  pub foreign-same : (q : Places) → (c ≡ Foreign → ⊥) → q.foreign_at ≡ p.foreign_at → q.foreign_at ≡ first_foreign p.foreign_at b l.place
+  foreign-same q n e = e ∙ ap (λ (q : Places). q.foreign_at) (sym (not-foreign c p l.place n)) ∙ foreign-noted p refl
 
   -- one byte more in a mode, without an event, where the byte may be foreign
   pub goes-noted : (mode : CodeMode) (m : Mode) → MeansAs mode l (with_foreign c p l.place) m
       → Meant l p b (stepped mode Quiet l) (with_foreign c p l.place) (goes m)
   goes-noted mode m w =
-      record { place = refl; mode = w; event = refl; silent = inl refl; foreign = foreign-noted; lent = lent-next (lent-same _ refl h.lent) }
+      record { place = refl; mode = w; event = refl; silent = inl refl; foreign = foreign-noted p refl; lent = lent-next (lent-same _ refl h.lent) }
 
   -- where it is not foreign
   pub goes-plain : (mode : CodeMode) (m : Mode) → (c ≡ Foreign → ⊥) → MeansAs mode l p m → Meant l p b (stepped mode Quiet l) p (goes m)
-  goes-plain mode m n w = record { place = refl; mode = w; event = refl; silent = inl refl; foreign = foreign-same n; lent = lent-next h.lent }
+  goes-plain mode m n w = record { place = refl; mode = w; event = refl; silent = inl refl; foreign = foreign-same p n refl; lent = lent-next h.lent }
 
   -- the last byte of a token
   pub tells-plain : (mode : CodeMode) (event : CodeEvent) (x : Lexed) → (c ≡ Foreign → ⊥) → MeansAs mode l p x.mode
       → TellsEvent (stepped mode event l) p x.event → (mode ≡ Between) ⊎ (mode ≡ Opened) → Meant l p b (stepped mode event l) p x
-  tells-plain mode event x n w t s = record { place = refl; mode = w; event = t; silent = inr s; foreign = foreign-same n; lent = lent-next h.lent }
+  tells-plain mode event x n w t s = record { place = refl; mode = w; event = t; silent = inr s; foreign = foreign-same p n refl; lent = lent-next h.lent }
 
   -- where nothing can follow
   pub stops : {r : Lex} {q : Places} → r ≡ stepped Stopped Quiet l → q ≡ with_foreign c p l.place → Meant l p b r q (goes (stopped p.at))

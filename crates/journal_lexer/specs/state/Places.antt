@@ -1,5 +1,5 @@
 -- The lent places, and how they change.
-use Rattle.std.specs.Prelude.{Bool, true, false, cond, ◌≡◌, refl, ℕ, ◌+◌, ◌-◌, ◌≤◌, ◌<◌, leb}
+use Rattle.std.specs.Prelude.{Bool, true, false, cond, ◌≡◌, refl, ℕ, ◌+◌, ◌-◌, ◌≤◌, ◌<◌, eqb, leb}
 use Rattle.std.specs.Prelude.{Option, Some, None}
 use Rattle.std.proofs.Math.Option.{Option as SpecOption, none, some}
 use Rattle.std.proofs.Common.{arith, le-leb, leb-false}
@@ -15,6 +15,10 @@ no_place = 4294967295
 abbrev pub place_in : Option ℕ → SpecOption ℕ
 place_in None = none
 place_in (Some k) = some k
+
+-- a place by its number, of which that one is none
+abbrev pub place_or : ℕ → SpecOption ℕ
+place_or x = cond (eqb x no_place) none (some x)
 
 -- before the first byte
 abbrev pub no_places : Places

@@ -71,7 +71,7 @@ module _ {l : Lex} {p : Places} {b : ℕ} {c : ByteKind} (h : Handed l p b c) wh
         mode = means w k n g l.rest;
         event = refl;
         silent = inl refl;
-        foreign = foreign-same h (name-not-foreign c lt);
+        foreign = foreign-same h p (name-not-foreign c lt) refl;
         lent = lent-next h.lent;
       }
 

@@ -1,7 +1,7 @@
 -- An entity by the bytes after its `&`: what begins at a place of a text.
 use Rattle.std.specs.Prelude.{Bool, true, false, ◌&&◌, ◌≡◌, refl, ℕ, zero, suc, ◌+◌, ◌≤◌, ◌<◌, T, eqb, length, get_or, take, drop, nat_eq, Option, Some, None}
 use mathlib.Core.List.{List, [], ◌∷◌, ◌++◌}
-use Rattle.std.proofs.Common.{sym, ap₂, ◌∙◌, add-one, arith, eqb→eq, length-append, length-drop, drop_of_length-le, drop-cons, drop-drop}
+use Rattle.std.proofs.Common.{sym, subst, ap₂, ◌∙◌, add-one, arith, eqb→eq, length-append, length-drop, drop_of_length-le, drop-cons, drop-drop}
 use Rattle.std.proofs.Math.Path.{ap}
 use lib.Pointwise.{pointwise}
 use Rattle.journal_lexer.specs.declared.whole_entities.Character.{Character}
@@ -20,10 +20,25 @@ pub record NoLonger (t : List ℕ) (i : ℕ) : Type 0 where
   pub apos : begins_at t i (bytes "apos;") ≡ false
   pub quot : begins_at t i (bytes "quot;") ≡ false
 
--- an `&` before a place stands for a character by the bytes of an entity up to another place or, where none begins, for itself
-pub data EntityAfter (t : List ℕ) (i : ℕ) (r : Option Character) : Type 0 where
-  whole : (u : List ℕ) (c : ℕ) → EntityFor (0x26 ∷ u) c → begins_at t i u ≡ true → r ≡ Some (record { byte = c; next = i + length u }) → EntityAfter t i r
-  itself : NoLonger t i → begins_at t i (bytes "lt;") ≡ false → begins_at t i (bytes "gt;") ≡ false → r ≡ None → EntityAfter t i r
+-- an `&` before a place stands for a character, by the bytes of an entity up to another place or, where none begins, by itself
+pub data EntityAfter (t : List ℕ) (i c next : ℕ) : Type 0 where
+  whole : (u : List ℕ) → EntityFor (0x26 ∷ u) c → begins_at t i u ≡ true → next ≡ i + length u → EntityAfter t i c next
+  itself : NoLonger t i → begins_at t i (bytes "lt;") ≡ false → begins_at t i (bytes "gt;") ≡ false → c ≡ 0x26 → next ≡ i → EntityAfter t i c next
+
+-- the character of the entity whose bytes go on after an `&`, or none, where no entity begins there
+pub data EntityAt (t : List ℕ) (i : ℕ) (r : Option Character) : Type 0 where
+  begun : (u : List ℕ) (c : ℕ) → EntityFor (0x26 ∷ u) c → begins_at t i u ≡ true → r ≡ Some (record { byte = c; next = i + length u }) → EntityAt t i r
+  none-begun : NoLonger t i → begins_at t i (bytes "lt;") ≡ false → begins_at t i (bytes "gt;") ≡ false → r ≡ None → EntityAt t i r
+
+pub after-entity : {t : List ℕ} {i : ℕ} {c : Character} → EntityAt t i (Some c) → EntityAfter t i c.byte c.next
+after-entity {t} {i} {c} (begun u b f begins e) =
+    let d : c ≡ record { byte = b; next = i + length u } = cc in
+    subst (λ (x : Character). EntityAfter t i x.byte x.next) (sym d) (whole u f begins refl)
+after-entity (none-begun n a b e) = absurd (cc)
+
+pub after-itself : {t : List ℕ} {i : ℕ} → EntityAt t i None → EntityAfter t i 0x26 i
+after-itself (begun u b f begins e) = absurd (cc)
+after-itself (none-begun n a b e) = itself n a b refl refl
 
 -- ---- bytes at a place
 pub begins-past : (t : List ℕ) (i a : ℕ) → length t ≤ i → begins_at t i (a ∷ []) ≡ false

@@ -24,6 +24,6 @@ returns c =
           (begin-leaves s b n g.at g.e g.levels.now _ g.m c.parent_row.result f (omega (arith, c.ranges)) q.0 u w
           (c.parent_row.ensures s b.opens w.depth w.opened)
           (subst (λ (o : Option ℕ). Opened s c.open_element.new.levels (record { name = n; place = g.at; row = g.m.count; filling = filling_for s o } ∷ refill (with_child o) b.opens)) f
-          (c.open_element.ensures s (refill (with_child (found g.e)) b.opens) n (w.depth ∙ sym (length_refill (with_child (found g.e)) b.opens)) k (λ a h. (named-at s n a (sym f ∙ h)).0) p
-          (c.fit_child.ensures s b.opens w.depth k w.opened)))),
+          (c.open_element.ensures s (refill (with_child (found g.e)) b.opens) n (w.depth ∙ sym (length_refill (with_child (found g.e)) b.opens)) k.kinds (λ a h. (named-at s n a (sym f ∙ h)).0) p
+          (c.fit_child.ensures s b.opens w.depth k.models w.opened)))),
     )
