@@ -28,12 +28,12 @@ impl Reader<'_> {
         self.levels[depth] = Level {
             row: self.carried.rows as u16,
             number,
-            element,
+            element: u32::from(element),
         };
         self.carried = Carried {
             at: self.carried.at + 8,
             rows: self.carried.rows + 1,
-            number,
+            number: usize::from(number),
             text: false,
             depth: depth + 1,
         };
@@ -56,13 +56,13 @@ impl Reader<'_> {
         self.carried = Carried {
             at: start + size,
             rows: self.carried.rows + 1,
-            number,
+            number: usize::from(number),
             text: true,
             depth,
         };
         FieldRow {
             number,
-            name: level.element + MAX_ELEMENTS as u8,
+            name: level.element as u8 + MAX_ELEMENTS as u8,
             parent: level.row,
             start: start as u32,
             size: size as u16,

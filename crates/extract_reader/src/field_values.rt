@@ -35,7 +35,7 @@ impl Reader<'_> {
         let number = two_bytes(self.extract, from);
         let element = self.extract[from + 4];
         let depth = self.depth_under(usize::from(two_bytes(self.extract, from + 2)))?;
-        if !number_fits(usize::from(self.carried.number), usize::from(number)) {
+        if !number_fits(self.carried.number, usize::from(number)) {
             return None;
         }
         if !self.element_fits(depth, element) {
@@ -62,7 +62,7 @@ impl Reader<'_> {
         let from = self.carried.at + 3;
         let number = two_bytes(self.extract, from);
         let depth = self.depth_under(usize::from(two_bytes(self.extract, from + 2)))?;
-        if !number_fits(usize::from(self.carried.number), usize::from(number)) {
+        if !number_fits(self.carried.number, usize::from(number)) {
             return None;
         }
         if !self.text_fits(depth) {

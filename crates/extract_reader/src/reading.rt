@@ -11,7 +11,7 @@ use text::limits::MAX_DEPTH;
 pub struct Carried {
     pub at: usize,
     pub rows: usize,
-    pub number: u16,
+    pub number: usize,
     pub text: bool,
     pub depth: usize,
 }

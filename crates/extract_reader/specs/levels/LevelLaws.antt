@@ -1,13 +1,39 @@
--- Laws of the open elements: the nearest of them, one more, the climb.
-use Rattle.std.specs.Prelude.{cond, Bool, ◌≡◌, refl, ℕ, zero, suc, ◌+◌, ◌-◌, ◌<◌, ◌≤◌, length, set}
+-- Laws of the open elements: what a cell says, the nearest of them, one more, the climb.
+use Rattle.std.specs.Prelude.{cond, Bool, ◌≡◌, refl, ℕ, zero, suc, ◌+◌, ◌*◌, ◌-◌, ◌/◌, ◌%◌, ◌<◌, ◌≤◌, length, set}
 use mathlib.Core.List.{List, ◌∷◌}
-use Rattle.std.proofs.Common.{⊎_elim, sym, subst, ◌∙◌, eq-or-lt_of_le, add-one, arith, eq-eqb, ne_eqb, get_or-set_same, get_or-set_other}
+use Rattle.std.proofs.Common.{⊎_elim, sym, subst, ◌∙◌, eq-or-lt_of_le, mod-eq_of_lt, add-one, arith, eq-eqb, ne_eqb, get_or-set_same, get_or-set_other}
 use Rattle.std.proofs.Math.Path.{ap, ap₂}
+use Rattle.std.proofs.Math.Nat.{div-eq_of_lt, mul-add-div_right, mul-add-mod_self_right}
 use Rattle.extract_reader.specs.declared.levels.Level.{Level}
-use Rattle.extract_reader.specs.levels.Levels.{level, level_at, levels_in, last_row, last_element, Known, LevelOf}
+use Rattle.extract_reader.specs.levels.Levels.{level, level_word, row_in, number_in, element_in, level_in, level_at, levels_in, last_row, last_element, Known, LevelOf}
 use Rattle.extract_spec.specs.Reading.{Placed, open_from, top_row, top_element}
 use Rattle.projection_laws.specs.Opens.{placed}
 use Rattle.text_spec.specs.Limits.{max_declarations}
+
+-- ---- what a cell says
+low_part : (a b : ℕ) → b < 65536 → (a * 65536 + b) % 65536 ≡ b
+low_part a b l = mul-add-mod_self_right a 65536 b ∙ mod-eq_of_lt l
+
+high_part : (a b : ℕ) → b < 65536 → (a * 65536 + b) / 65536 ≡ a
+high_part a b l =
+    let z : a + b / 65536 ≡ a = omega (arith, div-eq_of_lt l) in
+    mul-add-div_right (omega arith) a b ∙ z
+
+module _ (row number e : ℕ) (r : row < 65536) (n : number < 65536) where
+  word_row : row_in (level_word row number e) ≡ row
+  unfolding row_in level_word
+  word_row = low_part (e * 65536 + number) row r
+
+  word_number : number_in (level_word row number e) ≡ number
+  unfolding number_in level_word
+  word_number = ap (λ (x : ℕ). x % 65536) (high_part (e * 65536 + number) row r) ∙ low_part e number n
+
+  pub word-element : element_in (level_word row number e) ≡ e
+  unfolding element_in level_word
+  word-element = ap (λ (x : ℕ). x / 65536) (high_part (e * 65536 + number) row r) ∙ high_part e number n
+
+  pub word-level : level_in (level_word row number e) ≡ level row number e
+  word-level = ap₂ (λ (a b : ℕ). level a b (element_in (level_word row number e))) word_row word_number ∙ ap (level row number) word-element
 
 -- ---- the nearest
 pub levels-length : (levels : List Level) (d : ℕ) → length (levels_in levels d) ≡ d

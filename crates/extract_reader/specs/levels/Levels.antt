@@ -1,5 +1,5 @@
--- The open elements of an extract, and the climb to the one with a number.
-use Rattle.std.specs.Prelude.{List, [], ◌∷◌, ◌≡◌, ℕ, zero, suc, ◌-◌, ◌<◌, ◌≤◌, Option, Some, None, get_or}
+-- The open elements of an extract, also in cells of 64 bits, and the climb to the one with a number.
+use Rattle.std.specs.Prelude.{List, [], ◌∷◌, ◌≡◌, ℕ, zero, suc, ◌+◌, ◌*◌, ◌-◌, ◌/◌, ◌%◌, ◌<◌, ◌≤◌, Option, Some, None, get_or}
 use Rattle.extract_reader.specs.declared.levels.Level.{Level}
 use Rattle.extract_spec.specs.Reading.{Placed, open_from}
 use Rattle.projection_laws.specs.Opens.{placed}
@@ -7,6 +7,22 @@ use Rattle.text_spec.specs.Limits.{max_declarations}
 
 abbrev pub level : ℕ → ℕ → ℕ → Level
 level row number e = record { row = row; number = number; element = e }
+
+-- ---- an open element in a cell: its row, its number, its element
+unfoldable pub level_word : ℕ → ℕ → ℕ → ℕ
+level_word row number e = (e * 65536 + number) * 65536 + row
+
+unfoldable pub row_in : ℕ → ℕ
+row_in l = l % 65536
+
+unfoldable pub number_in : ℕ → ℕ
+number_in l = l / 65536 % 65536
+
+unfoldable pub element_in : ℕ → ℕ
+element_in l = l / 65536 / 65536
+
+abbrev pub level_in : ℕ → Level
+level_in l = level (row_in l) (number_in l) (element_in l)
 
 abbrev pub level_at : List Level → ℕ → Level
 level_at levels i = get_or levels i (level 0 0 0)

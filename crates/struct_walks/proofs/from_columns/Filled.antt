@@ -2,7 +2,9 @@
 use mathlib.Core.Bool.{Bool, true, false}
 use mathlib.Core.List.{List, [], ◌∷◌, map}
 use mathlib.Core.Path.{◌≡◌, refl, sym, ◌∙◌, ap, subst}
-use Prim.Native.Nat.{ℕ, zero, suc, ◌+◌, ◌<◌, ◌≤◌}
+use mathlib.Core.WellFounded.InvImage
+use mathlib.Core.WellFounded.{WellFounded}
+use Prim.Native.Nat.{ℕ, zero, suc, ◌+◌, ◌-◌, ◌<◌, ◌≤◌}
 use native.Mathlib.Nat.{add-zero}
 use native.Mathlib.Omega.{arith}
 use borrow.Author.Count.{below_more}
@@ -10,6 +12,7 @@ use borrow.Author.Tests.{ltb-true, ltb-false}
 use lib.Dec.{ltb}
 use lib.ListN.{length, get_or, set, length-set, get_or-eq_default}
 use lib.Seq.{get_or-set_same, get_or-set_other}
+use lib.WfN.{lt-wf_rel}
 use Rattle.row_structs.specs.Structs.{cells_in, columns_in, empty_row, empty_cells, cell_count, cell_of}
 use Rattle.row_structs.specs.declared.Row.{Row}
 use Rattle.row_structs.specs.declared.RowColumns.{RowColumns}
@@ -65,3 +68,27 @@ module _ (c : RowColumns) where
 
     pub filled-all : (n : ℕ) (zs : List Row) → Filled n n zs → map cells_in zs ≡ cells_from (columns_in c) 0 n
     filled-all n zs f = subst (λ (m : ℕ). map cells_in zs ≡ cells_from (columns_in c) 0 m) f.0 (all_from 0 zs (λ k l. ap cells_in (f.1 k (omega arith)) ∙ found k ∙ ap (cells_at (columns_in c)) (omega arith)))
+
+-- ---- where the loop stands, and that it nears its end
+pub record Turn (c : RowColumns) (n : ℕ) : Type 0 where
+  pub i : ℕ
+  pub zs : List Row
+  pub within : i ≤ n
+  pub filled : Filled c n i zs
+
+module _ (c : RowColumns) where
+  abbrev pub first-turn : (zs : List Row) → Turn c (length zs)
+  first-turn zs = record { i = 0; zs = zs; within = omega arith; filled = (refl, λ k l. absurd (omega arith)) }
+
+  module _ (n : ℕ) where
+    abbrev pub next : (x : Turn c n) → x.i < n → Turn c n
+    next x l = record { i = x.i + 1; zs = set x.zs x.i (row_at c (cell_of x.i)); within = omega (arith, l); filled = filled_more c n x.i x.zs l x.filled }
+
+    abbrev pub Nearer : Turn c n → Turn c n → Type 0
+    Nearer y x = n - y.i < n - x.i
+
+    pub nearer : (x : Turn c n) (l : x.i < n) → Nearer (next x l) x
+    nearer x l = omega (arith, l)
+
+    pub nearer-wf : WellFounded Nearer
+    nearer-wf = InvImage.wf (λ (x : Turn c n). n - x.i) lt-wf_rel.wf

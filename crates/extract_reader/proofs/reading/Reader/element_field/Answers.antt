@@ -13,7 +13,7 @@ returns-in_err-depth c =
 
 pub returns-then-not-number_fits : goal.returns-then-not-number_fits
 returns-then-not-number_fits c =
-    element-numbered _ _ _ _ _ c.requires c.if-size-ne5.false _ _ _ _ c.two_bytes-number.ensures (c.from.ensures ∙ c.two_bytes.ensures) refl c.in_ok-depth.ensures.0 _ (rw (c.from-2.ensures, c.from-3.ensures) at c.number_fits.ensures) c.if-not-number_fits.true
+    element-numbered _ _ _ _ _ c.requires c.if-size-ne5.false _ _ _ _ c.two_bytes-number.ensures (c.from.ensures ∙ c.two_bytes.ensures) refl c.in_ok-depth.ensures.0 _ (rw c.from-2.ensures at c.number_fits.ensures) c.if-not-number_fits.true
 
 pub element_fits-requires : goal.element_fits-requires
 element_fits-requires c =
@@ -25,4 +25,4 @@ returns-then-not-element_fits c =
 
 pub returns : goal.returns
 returns c =
-    element-accepted _ _ _ _ _ c.requires c.if-size-ne5.false _ _ _ _ c.two_bytes-number.ensures (c.from.ensures ∙ c.two_bytes.ensures) refl c.in_ok-depth.ensures.0 _ _ (rw (c.from-2.ensures, c.from-3.ensures) at c.number_fits.ensures) c.if-not-number_fits.false c.element_fits.ensures c.if-not-element_fits.false
+    element-accepted _ _ _ _ _ c.requires c.if-size-ne5.false _ _ _ _ c.two_bytes-number.ensures (c.from.ensures ∙ c.two_bytes.ensures) refl c.in_ok-depth.ensures.0 _ _ (rw c.from-2.ensures at c.number_fits.ensures) c.if-not-number_fits.false c.element_fits.ensures c.if-not-element_fits.false

@@ -18,7 +18,7 @@ returns-in_err-depth c =
 
 pub returns-then-not-number_fits : goal.returns-then-not-number_fits
 returns-then-not-number_fits c =
-    text-numbered _ _ _ _ _ c.requires (c.args.size - 4) (omega arith) _ _ _ c.two_bytes-number.ensures (c.from.ensures ∙ c.two_bytes.ensures) c.in_ok-depth.ensures.0 _ (rw (c.from-2.ensures, c.from-3.ensures) at c.number_fits.ensures) c.if-not-number_fits.true
+    text-numbered _ _ _ _ _ c.requires (c.args.size - 4) (omega arith) _ _ _ c.two_bytes-number.ensures (c.from.ensures ∙ c.two_bytes.ensures) c.in_ok-depth.ensures.0 _ (rw c.from-2.ensures at c.number_fits.ensures) c.if-not-number_fits.true
 
 pub text_fits-requires : goal.text_fits-requires
 text_fits-requires c =
@@ -34,4 +34,4 @@ returns-then-any_foreign c =
 
 pub returns : goal.returns
 returns c =
-    text-accepted _ _ _ _ _ c.requires (c.args.size - 4) (omega arith) _ _ _ c.two_bytes-number.ensures (c.from.ensures ∙ c.two_bytes.ensures) _ c.any_foreign.ensures c.in_ok-depth.ensures.0 _ _ (rw (c.from-2.ensures, c.from-3.ensures) at c.number_fits.ensures) c.if-not-number_fits.false c.text_fits.ensures c.if-not-text_fits.false (omega arith) (omega arith) c.if-any_foreign.false
+    text-accepted _ _ _ _ _ c.requires (c.args.size - 4) (omega arith) _ _ _ c.two_bytes-number.ensures (c.from.ensures ∙ c.two_bytes.ensures) _ c.any_foreign.ensures c.in_ok-depth.ensures.0 _ _ (rw c.from-2.ensures at c.number_fits.ensures) c.if-not-number_fits.false c.text_fits.ensures c.if-not-text_fits.false (omega arith) (omega arith) c.if-any_foreign.false
