@@ -6,6 +6,7 @@ pub mod fitting;
 
 ghost use Rattle.std.specs.Prelude.{Bool, ◌≡◌, ℕ, ◌+◌, ◌<◌};
 ghost use Rattle.models.specs.Building.{EndsOf};
+ghost use Rattle.models.specs.Kinds.{content_in};
 ghost use Rattle.models.specs.Positions.{size};
 ghost use Rattle.schema_spec.specs.Models.{Particle, named, sequence, choice, repeated};
 ghost use Rattle.text_spec.specs.Limits.{max_model_names};
@@ -84,4 +85,17 @@ pub enum Content {
     Empty,
     Pcdata,
     Children(Ends),
+}
+
+impl Content {
+    // By the number of its kind: 1 is character data, 2 a children model with these ends, any other number nothing.
+    pub fn of_kind(kind: u8, ends: Ends) -> Content
+        ensures { result ≡ content_in kind ends }
+    {
+        match kind {
+            1 => Content::Pcdata,
+            2 => Content::Children(ends),
+            _ => Content::Empty,
+        }
+    }
 }

@@ -26,7 +26,7 @@ pub fn read_schema(text: &[u8]) -> SchemaRead
     ensures { ReadAs text.now result }
 {
     let judgement = text_judging::judge_schema(text);
-    let schema = record_cells::handed_back(text, judgement);
+    let schema = record_cells::record_of(text, judgement);
     SchemaRead { judgement, schema }
 }
 

@@ -15,6 +15,7 @@ use Rattle.schema.specs.declared.particles.Separator.{Separator}
 use Rattle.schema.specs.declared.particles.Separator.TheVariants.{Bar, Comma}
 use Rattle.schema.specs.particles.Automata.{Built, PartedBy, parted-none, parted-bar, parted-comma}
 use Rattle.schema.specs.particles.AutomataLaws.{built-name}
+use Rattle.schema.specs.particles.Parting.{byte_of}
 use Rattle.schema.specs.particles.ReadingLaws.{indicated-reading, kept-then}
 use Rattle.schema.specs.particles.Readings.{use_at, Reading, Fails, Kept, Around, Inside, outside, particle_due, particle_past, ReadsName, at_name, PartIndicated, may_part, parted, FollowedAs}
 use Rattle.text.specs.scanning.OutcomeLaws.{skipped-same, named_end, named_past, named-fail}
@@ -91,11 +92,6 @@ module _ (old mid : Parser) {i : ℕ} {r : Result ℕ ℕ} (W : PlaceNoted i old
           }
 
 -- ---- separators
--- the byte of a separator
-abbrev pub byte_of : Separator → ℕ
-byte_of Bar = 0x7C
-byte_of Comma = 0x2C
-
 -- what a separator makes of a frame does not depend on what is around it
 record Moves (x : Inside) (p : Particle Use) (k : ℕ) (b : Separator) : Type 0 where
   goes : step (particle_past p x) k (byte_of b) ≡ particle_due (parted b p x)

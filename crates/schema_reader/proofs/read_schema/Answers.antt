@@ -3,4 +3,4 @@ use Rattle.schema_reader.proofs.Records.{read_as}
 use Rattle.schema_reader.proofs.read_schema.Goals as goal
 
 pub returns : goal.returns
-returns c = read_as c.args.text.now _ _ c.judge_schema-judgement.ensures c.handed_back-schema.ensures
+returns c = read_as c.args.text.now _ _ c.judge_schema-judgement.ensures c.record_of-schema.ensures

@@ -13,6 +13,11 @@ pub record Recorded (text : List ℕ) (s : Schema) : Type 0 where
   pub size : length text ≤ max_schema_bytes → s.len ≡ length (normal text)
 
 -- the schema that was read, or the empty one
+abbrev pub handed_back : Result ℕ Refusal → Schema → Schema
+handed_back (Ok n) s = s
+handed_back (Err f) s = empty_schema
+
+-- the same of the schema of a text
 abbrev pub HandedBack : List ℕ → Result ℕ Refusal → Schema → Type 0
 HandedBack text (Ok n) s = Recorded text s
 HandedBack text (Err f) s = s ≡ empty_schema
