@@ -7,10 +7,11 @@ use Rattle.std.proofs.Common.{◌∙◌, arith}
 use Rattle.std.proofs.Math.ListN.{length-map}
 use Rattle.bundle_text.specs.declared.notes.Notes.{Notes}
 use Rattle.bundle_text.specs.declared.steps.StepRead.{StepRead}
-use Rattle.bundle_text.specs.notes.Notes.{no_notes}
+use Rattle.bundle_text.specs.notes.Notes.{no_notes, uncounted}
 use Rattle.bundle_text.specs.paths.Readings.{path_noted, first_over, BundleAs, ReadsBundle}
 use Rattle.bundle.specs.Judging.{JudgedAs, JudgedUnder, Readable, Spelling}
-use Rattle.bundle.specs.columns.Filling.{filled_paths, lost, filled, unless_lost, Room}
+use Rattle.bundle.specs.columns.Filling.{filled_paths, lost, filled, Room}
+use Rattle.bundle.specs.declared.columns.Filled.{Filled}
 use Rattle.bundle.specs.laws.Filled.{noted-lines, noted-outer, noted-inner, noted-room, noted-count, noted-shaped, noted-paths}
 use Rattle.bundle.specs.laws.Limits.{Few, all-few, over_first, over_none, limits-later}
 use Rattle.bundle.specs.laws.Names.{lost_place, lost-none, lost-first}
@@ -150,30 +151,17 @@ module _ {text : List ℕ} {N : Notes} (S : Spelling text N) where
             }
 
     -- by what filling them answers
-    pub judge-lost : {r : Result CompiledPaths ℕ} → r ≡ filled names text N → {k : ℕ} → r ≡ Err k → JudgedUnder names text (Err (refusal UndeclaredInPath k))
-    judge-lost {r} e {k} u = go (lost names text N) refl (sym e ∙ u)
-      where
-        go : (o : Option ℕ) → lost names text N ≡ o → unless_lost names text N o ≡ Err k → JudgedUnder names text (Err (refusal UndeclaredInPath k))
-        go None p q = absurd (ok_err q)
-          where
-            ok_err : {c : CompiledPaths} → ◌≡◌ {A = Result CompiledPaths ℕ} (Ok c) (Err k) → ⊥
-            ok_err q = cc
-        go (Some j) p q = let z : j ≡ k = cc in subst (λ (i : ℕ). JudgedUnder names text (Err (refusal UndeclaredInPath i))) z (lost-judged j p)
+    pub judge-lost : {r : Filled} → r ≡ filled names text N → {k : ℕ} → r.lost ≡ Some k → JudgedUnder names text (Err (refusal UndeclaredInPath k))
+    judge-lost e {k} u = lost-judged k (sym (ap (λ (x : Filled). x.lost) e) ∙ u)
 
-    pub judge-known : {r : Result CompiledPaths ℕ} → r ≡ filled names text N → {c : CompiledPaths} → r ≡ Ok c → JudgedUnder names text (Ok c)
-    judge-known {r} e {c} u = go (lost names text N) refl (sym e ∙ u)
-      where
-        go : (o : Option ℕ) → lost names text N ≡ o → unless_lost names text N o ≡ Ok c → JudgedUnder names text (Ok c)
-        go None p q = let z : filled_paths names text N ≡ c = cc in subst (λ (x : CompiledPaths). JudgedUnder names text (Ok x)) z (known-judged p)
-        go (Some j) p q = absurd (err_ok q)
-          where
-            err_ok : {x : CompiledPaths} → ◌≡◌ {A = Result CompiledPaths ℕ} (Err j) (Ok x) → ⊥
-            err_ok q = cc
+    pub judge-known : {r : Filled} → r ≡ filled names text N → r.lost ≡ None → JudgedUnder names text (Ok r.paths)
+    judge-known e u =
+        subst (λ (c : CompiledPaths). JudgedUnder names text (Ok c)) (sym (ap (λ (x : Filled). x.paths) e)) (known-judged (sym (ap (λ (x : Filled). x.lost) e) ∙ u))
 
 -- ---- from reading all paths
-module _ {text : List ℕ} {M N : Notes} {o : Result (Option ℕ) ℕ} (readable : Readable text) (fresh : M ≡ no_notes) (B : ReadsBundle text M N o) where
+module _ {text : List ℕ} {M N : Notes} {o : Result (Option ℕ) ℕ} (readable : Readable text) (fresh : M ≡ no_notes) (B : ReadsBundle text (uncounted M) N o) where
   bundle-as : {a : Result (Option ℕ) ℕ} → o ≡ a → BundleAs text no_notes N a
-  bundle-as u = (subst (ReadsBundle text no_notes N) u (subst (λ (K : Notes). ReadsBundle text K N o) fresh B)).says
+  bundle-as u = (subst (ReadsBundle text no_notes N) u (subst (λ (K : Notes). ReadsBundle text (uncounted K) N o) fresh B)).says
 
   pub judge-departs : (names : List (List ℕ)) {j : ℕ} → o ≡ Err j → JudgedUnder names text (Err (refusal BadPath j))
   judge-departs names {j} u = refused-under names text refl (λ s. departs-first readable s j (bundle-as u))

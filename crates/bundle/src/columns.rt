@@ -7,13 +7,15 @@ use crate::names_in_tests::{compile_steps, earlier};
 use bundle_text::notes::Notes;
 use compiled_paths::{CompiledPaths, NO_STEP, STEPS, WRITTEN_STEPS};
 
-// The compiled paths, or the least place of a name that no element has.
-pub fn fill(
-    schema: &[u8],
-    names: &[usize],
-    text: &[u8],
-    notes: &Notes,
-) -> Result<CompiledPaths, usize>
+// Compiled paths, and the least place of a name that no element has, if there is one.
+#[derive(Drop)]
+pub struct Filled {
+    pub paths: CompiledPaths,
+    pub lost: Option<usize>,
+}
+
+// Fills the steps outside brackets and in them, and where those of paths and of conditions start.
+pub fn fill(schema: &[u8], names: &[usize], text: &[u8], notes: &Notes) -> Filled
     requires { Room names.now notes.now }
     ensures { result ≡ filled (map (name_at schema.now) names.now) text.now notes.now }
 {
@@ -22,15 +24,15 @@ pub fn fill(
     let inner = &notes.inner[..notes.inner_count];
     let outer_lost = compile_steps(schema, names, text, outer, 0, &mut steps);
     let inner_lost = compile_steps(schema, names, text, inner, WRITTEN_STEPS, &mut steps);
-    if let Some(place) = earlier(outer_lost, inner_lost) {
-        return Err(place);
-    }
     let paths = notes.paths;
     let conditions = notes.conditions;
-    Ok(CompiledPaths {
-        count: notes.path_count,
-        paths,
-        conditions,
-        steps,
-    })
+    Filled {
+        paths: CompiledPaths {
+            count: notes.path_count,
+            paths,
+            conditions,
+            steps,
+        },
+        lost: earlier(outer_lost, inner_lost),
+    }
 }

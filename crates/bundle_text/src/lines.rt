@@ -18,6 +18,7 @@ pub fn path(s: &[u8], at: usize, notes: &mut Notes) -> Result<Past, usize>
     let mut over_limit = false;
     loop {
         let step = written_step(s, i, notes)?;
+        notes.count_outer();
         over_limit |= step.over_limit;
         match after_step(s, step.at)? {
             Follow::More(next) => {

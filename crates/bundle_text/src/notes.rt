@@ -1,6 +1,6 @@
 // What is noted of a bundle text while it is read, in fixed memory. What passes a limit is counted, and stored only as far as there is room.
 ghost use Rattle.std.specs.Prelude.{◌≡◌, ◌+◌, ◌^◌, ◌≤◌, ◌<◌};
-ghost use Rattle.bundle_text.specs.notes.Notes.{no_notes, with_inner, with_outer, with_path};
+ghost use Rattle.bundle_text.specs.notes.Notes.{no_notes, uncounted, with_inner, with_cell, with_count, with_path};
 ghost use Rattle.text_spec.specs.Limits.{max_bundle_bytes};
 
 use crate::steps::{StepRead, TestRead};
@@ -48,6 +48,15 @@ impl Notes {
         }
     }
 
+    // Counts from 0 again. The cells stay.
+    pub fn forget_counts(&mut self)
+        ensures { self.new ≡ uncounted self.old }
+    {
+        self.outer_count = 0;
+        self.inner_count = 0;
+        self.path_count = 0;
+    }
+
     // Notes a step in brackets.
     pub fn note_inner(&mut self, step: StepRead)
         requires { self.old.inner_count ≤ max_bundle_bytes }
@@ -57,12 +66,18 @@ impl Notes {
         self.inner_count += 1;
     }
 
-    // Notes a step outside brackets, after those in its own.
-    pub fn note_outer(&mut self, step: StepRead)
-        requires { (self.old.outer_count + 1 < 2 ^ 64) × (self.old.inner_count ≤ max_bundle_bytes) }
-        ensures { self.new ≡ with_outer self.old step }
+    // Notes a step outside brackets, which is not counted yet.
+    pub fn note_cell(&mut self, step: StepRead)
+        ensures { self.new ≡ with_cell self.old step }
     {
         note(&mut self.outer, self.outer_count, step);
+    }
+
+    // Counts the step in the next cell, after those in its brackets.
+    pub fn count_outer(&mut self)
+        requires { (self.old.outer_count + 1 < 2 ^ 64) × (self.old.inner_count ≤ max_bundle_bytes) }
+        ensures { self.new ≡ with_count self.old }
+    {
         self.outer_count += 1;
         let end = (WRITTEN_STEPS + self.inner_count) as u16;
         note(&mut self.conditions, self.outer_count, end);

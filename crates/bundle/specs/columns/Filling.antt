@@ -1,8 +1,9 @@
 -- Compiled paths from what was noted of a bundle text, under the names of a schema's elements.
-use Rattle.std.specs.Prelude.{List, map, ℕ, ◌≤◌, length, take, replicate, Option, Some, None, Result, Ok, Err}
+use Rattle.std.specs.Prelude.{List, map, ℕ, ◌≤◌, length, take, replicate, Option, None}
 use Rattle.std.proofs.lemmas.List.Edits.{sets}
 use Rattle.bundle_text.specs.declared.notes.Notes.{Notes}
 use Rattle.bundle_text.specs.declared.steps.StepRead.{StepRead}
+use Rattle.bundle.specs.declared.columns.Filled.{Filled}
 use Rattle.bundle.specs.names_in_tests.Steps.{earliest, earliest_of, step_cell, lost_cell}
 use Rattle.compiled_paths.specs.Sizes.{written_steps, inner_steps, all_steps}
 use Rattle.compiled_paths.specs.Steps.{no_step}
@@ -29,12 +30,8 @@ module _ (names : List (List ℕ)) (text : List ℕ) (N : Notes) where
   abbrev pub lost : Option ℕ
   lost = earliest (earliest_of None (map (lost_cell names text) (outer_read N))) (earliest_of None (map (lost_cell names text) (inner_read N)))
 
-  abbrev pub unless_lost : Option ℕ → Result CompiledPaths ℕ
-  unless_lost None = Ok filled_paths
-  unless_lost (Some p) = Err p
-
-  abbrev pub filled : Result CompiledPaths ℕ
-  filled = unless_lost lost
+  abbrev pub filled : Filled
+  filled = record { paths = filled_paths; lost = lost }
 
 -- what was noted has room among the steps
 pub record Room (names : List ℕ) (N : Notes) : Type 0 where

@@ -6,8 +6,8 @@ use Rattle.bundle_text.specs.alternative_ends.Readings.{plain_past}
 use Rattle.bundle_text.specs.alternatives.Readings.{in_alternative, ReadsAlternative}
 use Rattle.bundle_text.specs.declared.notes.Notes.{Notes}
 use Rattle.bundle_text.specs.declared.steps.StepRead.{StepRead}
-use Rattle.bundle_text.specs.notes.Laws.{Goes, goes-append, ended-next, inners-none, inners-more}
-use Rattle.bundle_text.specs.notes.Notes.{with_inner, with_inners, Ended}
+use Rattle.bundle_text.specs.notes.Laws.{goes-append, ended-next, inners-none, inners-more}
+use Rattle.bundle_text.specs.notes.Notes.{with_inner, with_inners, Ended, Goes}
 use Rattle.bundle_text.specs.steps.Readings.{Stands, last_read, ReadsPlain, PlainAs}
 use Rattle.path_spec.specs.Machine.{Inner, inside, begin_step, step, bundle_machine}
 use Rattle.text_laws.specs.Scans.{step-at}
@@ -38,7 +38,8 @@ module _ {s : List ℕ} {at : ℕ} {N N' : Notes} {i : ℕ} (U : UpTo s at N N' 
   plain-as u = (subst (ReadsPlain s i) u P).says
 
   pub up-to-fails : {j : ℕ} → r ≡ Err j → ReadsAlternative s at N N' (Err j)
-  up-to-fails u = record { says = λ x. U.same x ∙ plain-as u (inside (in_alternative s U.done x)) }
+  up-to-fails u =
+      record { says = (record { inner = reverse U.done; noted = U.noted }, λ x. U.same x ∙ plain-as u (inside (in_alternative s U.done x))) }
 
   module _ {c : StepRead} {j : ℕ} (u : r ≡ Ok (c, j)) where
     pub up-to-place : (i < j) × (j ≤ length s)

@@ -8,8 +8,8 @@ use Rattle.bundle_text.specs.alternatives.Conditions.{too_much}
 use Rattle.bundle_text.specs.declared.conditions.Past.{Past}
 use Rattle.bundle_text.specs.declared.notes.Notes.{Notes}
 use Rattle.bundle_text.specs.declared.steps.StepRead.{StepRead}
-use Rattle.bundle_text.specs.notes.Laws.{paths-append, steps-append, ended-append, lines-none, path-one}
-use Rattle.bundle_text.specs.notes.Notes.{with_path, EachEnded, Written, all_paths, with_steps, Line, all_steps, with_lines, Few}
+use Rattle.bundle_text.specs.notes.Laws.{paths-append, steps-append, ended-append, outer-goes, lines-none, path-one}
+use Rattle.bundle_text.specs.notes.Notes.{uncounted, with_path, EachEnded, Goes, Written, outer_cells, all_paths, with_steps, Line, all_steps, with_lines, Few}
 use Rattle.bundle_text.specs.paths.Readings.{path_noted, first_over, ReadsBundle}
 use Rattle.bundle_text.specs.steps.Readings.{plain_noted}
 use Rattle.bundle_text.specs.written_steps.Readings.{step_noted, condition_of, over_condition, LineRead, LineAs, ReadsLine}
@@ -54,15 +54,23 @@ pub record Upto (s : List ℕ) (N N' : Notes) (i : ℕ) (over : Option ℕ) : Ty
   pub done : List Line
   pub high : i ≤ length s
   pub some : 0 < i → 0 < length done
+  pub goes_on : Goes (outer_cells (all_steps done))
   pub ended : EachEnded (all_paths (all_steps done))
   pub noted : N' ≡ with_lines N done
   pub few : Few i N'
   pub limit : over ≡ first_over 0 (map (path_noted s) done)
   pub same : from bundle_machine (line_start []) s 0 ≡ from bundle_machine (line_start (reverse (map (path_noted s) done))) s i
 
+-- notes in which nothing is counted
+pub few-none : (N : Notes) {M : Notes} → M ≡ uncounted N → Few 0 M
+few-none N e = subst (Few 0) (sym e) (record { outer = omega arith; inner = omega arith; paths = omega arith })
+
+pub reads-anew : {s : List ℕ} (N : Notes) {M N' : Notes} {r : Result (Option ℕ) ℕ} → M ≡ uncounted N → ReadsBundle s M N' r → ReadsBundle s (uncounted N) N' r
+reads-anew {s} N {M} {N'} {r} e R = subst (λ (K : Notes). ReadsBundle s K N' r) e R
+
 pub upto-start : {s : List ℕ} {N : Notes} → Few 0 N → Upto s N N 0 None
 upto-start f =
-    record { done = []; high = omega arith; some = λ h. absurd (omega arith); ended = tt; noted = lines-none _; few = f; limit = refl; same = refl }
+    record { done = []; high = omega arith; some = λ h. absurd (omega arith); goes_on = tt; ended = tt; noted = lines-none _; few = f; limit = refl; same = refl }
 
 module _ {s : List ℕ} {N N' : Notes} {i : ℕ} {over : Option ℕ} (U : Upto s N N' i over) where
   pub upto-whole : length s ≤ i → 0 < length s → ReadsBundle s N N' (Ok over)
@@ -72,6 +80,7 @@ module _ {s : List ℕ} {N N' : Notes} {i : ℕ} {over : Option ℕ} (U : Upto s
         says = record {
           lines = U.done;
           spelt = U.same ∙ finished (reverse (map (path_noted s) U.done)) refl;
+          goes_on = U.goes_on;
           ended = U.ended;
           noted = U.noted;
           limit = U.limit;
@@ -93,7 +102,7 @@ module _ {s : List ℕ} {N N' : Notes} {i : ℕ} {over : Option ℕ} (U : Upto s
 
     pub upto-fails : {j : ℕ} → r ≡ Err j → ReadsBundle s N M (Err j)
     unfolding parse
-    upto-fails u = record { says = U.same ∙ line_as u (reverse (map (path_noted s) U.done)) }
+    upto-fails u = record { says = U.same ∙ (line_as u).1 (reverse (map (path_noted s) U.done)) }
 
     module _ {p : Past} (u : r ≡ Ok p) where
       abbrev R : LineRead s i N' M p
@@ -135,6 +144,11 @@ module _ {s : List ℕ} {N N' : Notes} {i : ℕ} {over : Option ℕ} (U : Upto s
           noted-now : M' ≡ with_lines N (U.done ++ (one ∷ []))
           noted-now = me ∙ ap with_path (R.noted ∙ ap (λ (K : Notes). with_steps K R.steps) U.noted) ∙ path-one N U.done one
 
+          goes-now : Goes (outer_cells (all_steps (U.done ++ (one ∷ []))))
+          goes-now =
+              subst (λ (ws : List Written). Goes (outer_cells ws)) (sym (steps-append U.done (one ∷ []) ∙ ap (λ (l : List Written). all_steps U.done ++ l) (append-nil R.steps)))
+              (outer-goes (all_steps U.done) R.steps U.goes_on R.goes_on)
+
           ended-now : EachEnded (all_paths (all_steps (U.done ++ (one ∷ []))))
           ended-now =
               subst EachEnded
@@ -156,6 +170,7 @@ module _ {s : List ℕ} {N N' : Notes} {i : ℕ} {over : Option ℕ} (U : Upto s
                 done = U.done ++ (one ∷ []);
                 high = R.high;
                 some = λ h. omega (arith, length-append U.done (one ∷ []));
+                goes_on = goes-now;
                 ended = ended-now;
                 noted = noted-now;
                 few = few-now;

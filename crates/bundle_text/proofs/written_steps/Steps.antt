@@ -6,8 +6,8 @@ use Rattle.bundle_text.specs.declared.alternative_ends.Follow.TheVariants.{Close
 use Rattle.bundle_text.specs.declared.conditions.Past.{Past}
 use Rattle.bundle_text.specs.declared.notes.Notes.{Notes}
 use Rattle.bundle_text.specs.declared.steps.StepRead.{StepRead}
-use Rattle.bundle_text.specs.notes.Laws.{inners-none, outer-one}
-use Rattle.bundle_text.specs.notes.Notes.{with_outer}
+use Rattle.bundle_text.specs.notes.Laws.{inners-none}
+use Rattle.bundle_text.specs.notes.Notes.{with_cell}
 use Rattle.bundle_text.specs.steps.Readings.{Stands, step_axis, step_test, PlainAs, ReadsPlain}
 use Rattle.bundle_text.specs.written_steps.Readings.{condition_of, stepped, BracketsRead, BracketsAs, ReadsBrackets, ReadsWritten, line_ended, FollowedAs}
 use Rattle.path_spec.specs.Machine.{Outer, outside, inside, State, dead, after_call, after_brackets, begin_step, with_step, step_done, step, bundle_machine}
@@ -74,7 +74,7 @@ module _ {s : List ℕ} {at : ℕ} {t : Bool} (S : Stands s at 0x5B t) where
         same = λ c z. open-bracket f c z ∙ C.same z (step_axis c) (step_test s c)
             ∙ ap (λ (d : Condition Use). from bundle_machine (after_brackets (with_step (step_axis c) (step_test s c) d z)) s r.at) (condition-of C.paths C.some);
       }
-  brackets-as N N' f (Err j) C = λ c z. open-bracket f c z ∙ C z (step_axis c) (step_test s c)
+  brackets-as N N' f (Err j) C = (C.0, λ c z. open-bracket f c z ∙ C.1 z (step_axis c) (step_test s c))
 
   pub brackets-some : {N N' : Notes} {r : Result Past ℕ} → t ≡ true → ReadsCondition s (at + 1) N N' r → ReadsBrackets s at N N' r
   brackets-some {N} {N'} {r} f C = record { says = brackets-as N N' f r C.says }
@@ -84,8 +84,8 @@ module _ {s : List ℕ} {at : ℕ} {p : Result (StepRead × ℕ) ℕ} (P : Reads
   plain-as : {a : Result (StepRead × ℕ) ℕ} → p ≡ a → PlainAs s at a
   plain-as u = (subst (ReadsPlain s at) u P).says
 
-  pub written-fails : {N N' : Notes} {j : ℕ} → p ≡ Err j → ReadsWritten s at N N' (Err j)
-  written-fails u = record { says = λ z. plain-as u (outside z) }
+  pub written-fails : {N : Notes} {j : ℕ} → p ≡ Err j → ReadsWritten s at N N (Err j)
+  written-fails u = record { says = (record { inner = []; noted = inners-none _ }, λ z. plain-as u (outside z)) }
 
   module _ {c : StepRead} {j : ℕ} (u : p ≡ Ok (c, j)) where
     pub written-place : (at < j) × (j ≤ length s)
@@ -95,8 +95,10 @@ module _ {s : List ℕ} {at : ℕ} {p : Result (StepRead × ℕ) ℕ} (P : Reads
       pub brackets-read : {a : Result Past ℕ} → q ≡ a → BracketsAs s j N M a
       brackets-read v = (subst (ReadsBrackets s j N M) v B).says
 
-      pub written-stops : {e : ℕ} → q ≡ Err e → {N' : Notes} → ReadsWritten s at N N' (Err e)
-      written-stops v = record { says = λ z. (plain-as u).3 (outside z) ∙ brackets-read v c z }
+      pub written-stops : {e : ℕ} → q ≡ Err e → ReadsWritten s at N M (Err e)
+      written-stops v =
+          let B = brackets-read v in
+          record { says = (B.0, λ z. (plain-as u).3 (outside z) ∙ B.1 c z) }
 
       module _ {r : Past} (v : q ≡ Ok r) where
         abbrev R : BracketsRead s j N M r
@@ -108,17 +110,22 @@ module _ {s : List ℕ} {at : ℕ} {p : Result (StepRead × ℕ) ℕ} (P : Reads
         pub written-high : r.at ≤ length s
         written-high = R.high
 
-        pub written-reads : {N' : Notes} → N' ≡ with_outer M c → ReadsWritten s at N N' (Ok r)
+        pub written-reads : {N' : Notes} → N' ≡ with_cell M c → ReadsWritten s at N N' (Ok r)
         written-reads e =
             let g = (plain-as u).0 in
             let h = R.low in
             record {
               says = record {
                 step = record { cell = c; paths = R.paths };
+                place = j;
+                before = g;
+                past-brackets = h;
+                brackets = R.same;
                 low = omega arith;
                 high = R.high;
+                goes_on = (plain-as u).2;
                 ended = R.ended;
-                noted = e ∙ ap (λ (K : Notes). with_outer K c) R.noted ∙ outer-one N (record { cell = c; paths = R.paths });
+                noted = e ∙ ap (λ (K : Notes). with_cell K c) R.noted;
                 few = subst (λ (K : Notes). K.inner_count ≤ r.at) (sym e) R.few;
                 limit = R.limit;
                 same = λ z. (plain-as u).3 (outside z) ∙ R.same c z;

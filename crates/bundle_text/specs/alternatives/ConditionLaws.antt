@@ -83,7 +83,17 @@ module _ {s : List ℕ} {at : ℕ} {N N' : Notes} {i count : ℕ} {long : Bool} 
   alternative-as u = (subst (ReadsAlternative s i N' M) u A).says
 
   pub upto-fails : {j : ℕ} → r ≡ Err j → ReadsCondition s at N M (Err j)
-  upto-fails u = record { says = λ z a t. U.same z a t ∙ alternative-as u (in_condition s U.done (opened z a t)) }
+  upto-fails u =
+      let A = alternative-as u in
+      record {
+        says = (
+          record {
+            inner = cells_of U.done ++ A.0.inner;
+            noted = A.0.noted ∙ ap (λ (K : Notes). with_inners K A.0.inner) U.noted ∙ inners-more N (cells_of U.done) A.0.inner;
+          },
+          λ z a t. U.same z a t ∙ A.1 (in_condition s U.done (opened z a t)),
+        );
+      }
 
   module _ {j : ℕ} (u : r ≡ Ok j) where
     abbrev R : AlternativeRead s i N' M j
@@ -136,7 +146,13 @@ module _ {s : List ℕ} {at : ℕ} {N N' : Notes} {i count : ℕ} {long : Bool} 
         followed-as v = (subst (Followed s j) v F).says
 
         pub upto-stops : {e : ℕ} → f ≡ Err e → ReadsCondition s at N M (Err e)
-        upto-stops v = record { says = λ z a t. same-now z a t ∙ followed-as v R.last (in_alternative s R.before (in_condition s U.done (opened z a t))) }
+        upto-stops v =
+            record {
+              says = (
+                record { inner = cells_of qs; noted = noted-now },
+                λ z a t. same-now z a t ∙ followed-as v R.last (in_alternative s R.before (in_condition s U.done (opened z a t))),
+              );
+            }
 
         pub upto-later : {e : ℕ} → f ≡ Ok (More e) → (i < e) × (e ≤ length s)
         upto-later v =

@@ -3,7 +3,7 @@ use Rattle.std.specs.Prelude.{Bool, ◌||◌, List, [], map, ◌≡◌, ℕ, ◌
 use Rattle.bundle_text.specs.declared.conditions.Past.{Past}
 use Rattle.bundle_text.specs.declared.notes.Notes.{Notes}
 use Rattle.bundle_text.specs.declared.steps.StepRead.{StepRead}
-use Rattle.bundle_text.specs.notes.Notes.{with_inners, cells_of, EachEnded}
+use Rattle.bundle_text.specs.notes.Notes.{with_inners, cells_of, EachEnded, OnlyInner}
 use Rattle.bundle_text.specs.steps.Readings.{plain_noted}
 use Rattle.path_spec.specs.Machine.{Outer, Inner, inside, after_brackets, begin_step, with_step, bundle_machine}
 use Rattle.path_spec.specs.Paths.{WrittenAxis, NodeTest, Condition, alternatives}
@@ -41,7 +41,7 @@ pub record ConditionRead (s : List ℕ) (at : ℕ) (N N' : Notes) (r : Past) : T
 abbrev pub ConditionAs : List ℕ → ℕ → Notes → Notes → Result Past ℕ → Type 0
 ConditionAs s at N N' (Ok r) = ConditionRead s at N N' r
 ConditionAs s at N N' (Err j) =
-    (o : Outer) (a : WrittenAxis) (t : NodeTest Use) → from bundle_machine (begin_step (inside (opened o a t))) s at ≡ departs j
+    OnlyInner N N' × ((o : Outer) (a : WrittenAxis) (t : NodeTest Use) → from bundle_machine (begin_step (inside (opened o a t))) s at ≡ departs j)
 
 pub record ReadsCondition (s : List ℕ) (at : ℕ) (N N' : Notes) (r : Result Past ℕ) : Type 0 where
   pub says : ConditionAs s at N N' r

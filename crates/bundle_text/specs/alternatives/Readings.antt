@@ -3,7 +3,7 @@ use Rattle.std.specs.Prelude.{List, [], ◌∷◌, map, reverse, ◌≡◌, ℕ,
 use Rattle.bundle_text.specs.alternative_ends.Readings.{NoSlash, plain_past}
 use Rattle.bundle_text.specs.declared.notes.Notes.{Notes}
 use Rattle.bundle_text.specs.declared.steps.StepRead.{StepRead}
-use Rattle.bundle_text.specs.notes.Notes.{with_inners, Ended}
+use Rattle.bundle_text.specs.notes.Notes.{with_inners, Ended, OnlyInner}
 use Rattle.bundle_text.specs.steps.Readings.{plain_noted}
 use Rattle.path_spec.specs.Machine.{Inner, inside, begin_step, bundle_machine}
 use Rattle.text_spec.specs.Machines.{departs, from}
@@ -27,7 +27,7 @@ pub record AlternativeRead (s : List ℕ) (at : ℕ) (N N' : Notes) (j : ℕ) : 
 
 abbrev pub AlternativeAs : List ℕ → ℕ → Notes → Notes → Result ℕ ℕ → Type 0
 AlternativeAs s at N N' (Ok j) = AlternativeRead s at N N' j
-AlternativeAs s at N N' (Err j) = (x : Inner) → from bundle_machine (begin_step (inside (in_alternative s [] x))) s at ≡ departs j
+AlternativeAs s at N N' (Err j) = OnlyInner N N' × ((x : Inner) → from bundle_machine (begin_step (inside (in_alternative s [] x))) s at ≡ departs j)
 
 pub record ReadsAlternative (s : List ℕ) (at : ℕ) (N N' : Notes) (r : Result ℕ ℕ) : Type 0 where
   pub says : AlternativeAs s at N N' r

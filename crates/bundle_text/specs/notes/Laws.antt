@@ -1,11 +1,11 @@
 -- Laws of what is noted: steps after steps, and paths after paths.
-use Rattle.std.specs.Prelude.{true, false, List, [], ◌∷◌, ◌++◌, ◌≡◌, refl, ℕ, suc, ◌+◌, length, set}
+use Rattle.std.specs.Prelude.{true, List, [], ◌∷◌, ◌++◌, ◌≡◌, refl, ℕ, suc, ◌+◌, length, set}
 use Rattle.std.proofs.Common.{append-nil, append_assoc, sym, ap, ap₂, ◌∙◌, add-zero, add-suc, suc-add, arith, length-append}
 use Rattle.std.proofs.lemmas.List.{map-append, length-map}
 use Rattle.std.proofs.lemmas.List.Edits.{sets}
 use Rattle.bundle_text.specs.declared.notes.Notes.{Notes}
 use Rattle.bundle_text.specs.declared.steps.StepRead.{StepRead}
-use Rattle.bundle_text.specs.notes.Notes.{with_outer, with_path, with_inners, cells_of, Ended, EachEnded, Written, outer_cells, all_paths, condition_ends, with_steps, Line, all_steps, path_ends, with_lines}
+use Rattle.bundle_text.specs.notes.Notes.{with_cell, with_count, with_path, with_inners, cells_of, Ended, EachEnded, Goes, Written, outer_cells, all_paths, condition_ends, with_steps, Line, all_steps, path_ends, with_lines}
 use Rattle.compiled_paths.specs.Sizes.{written_steps}
 use Rattle.text_spec.specs.Lists.{gather}
 
@@ -55,11 +55,6 @@ path-ends-append k (l ∷ ls) ms =
     ap (λ (z : List ℕ). (k + length l.steps) ∷ z) (path-ends-append (k + length l.steps) ls ms ∙ ap (λ (n : ℕ). path_ends (k + length l.steps) ls ++ path_ends n ms) e)
 
 -- ---- the marks of last steps
--- the alternative goes on after each of these
-abbrev pub Goes : List StepRead → Type 0
-Goes [] = Unit {0}
-Goes (p ∷ ps) = (p.ends_alternative ≡ false) × Goes ps
-
 pub goes-append : (ps qs : List StepRead) → Goes ps → Goes qs → Goes (ps ++ qs)
 goes-append [] qs a b = b
 goes-append (p ∷ ps) qs a b = (a.0, goes-append ps qs a.1 b)
@@ -68,6 +63,11 @@ pub ended-next : (ps : List StepRead) (p : StepRead) → Goes ps → p.ends_alte
 ended-next [] p g e = e
 ended-next (q ∷ []) p g e = (g.0, e)
 ended-next (q ∷ r ∷ ps) p g e = (g.0, ended-next (r ∷ ps) p g.1 e)
+
+-- steps outside brackets, none of which ends an alternative
+pub outer-goes : (ws vs : List Written) → Goes (outer_cells ws) → Goes (outer_cells vs) → Goes (outer_cells (ws ++ vs))
+outer-goes [] vs a b = b
+outer-goes (w ∷ ws) vs a b = (a.0, outer-goes ws vs a.1 b)
 
 pub ended-append : (ps qs : List (List StepRead)) → EachEnded ps → EachEnded qs → EachEnded (ps ++ qs)
 ended-append [] qs a b = b
@@ -93,7 +93,7 @@ pub inners-more : (N : Notes) (ps qs : List StepRead) → with_inners (with_inne
 inners-more N ps qs = same-notes refl refl refl (sym (sets-append N.inner N.inner_count ps qs)) (omega (arith, length-append ps qs)) refl refl
 
 -- a step with the alternatives in its brackets
-pub outer-one : (N : Notes) (w : Written) → with_outer (with_inners N (cells_of w.paths)) w.cell ≡ with_steps N (w ∷ [])
+pub outer-one : (N : Notes) (w : Written) → with_count (with_cell (with_inners N (cells_of w.paths)) w.cell) ≡ with_steps N (w ∷ [])
 outer-one N w =
     let e : cells_of w.paths ≡ cells_of (w.paths ++ []) = ap cells_of (sym (append-nil w.paths)) in
     same-notes refl refl refl (ap (sets N.inner N.inner_count) e) (ap (λ (l : List StepRead). N.inner_count + length l) e) refl refl

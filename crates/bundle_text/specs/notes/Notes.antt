@@ -25,6 +25,19 @@ no_notes =
       path_count = 0;
     }
 
+-- the same cells, of which none is counted
+abbrev pub uncounted : Notes → Notes
+uncounted N =
+    record {
+      outer = N.outer;
+      outer_count = 0;
+      conditions = N.conditions;
+      inner = N.inner;
+      inner_count = 0;
+      paths = N.paths;
+      path_count = 0;
+    }
+
 -- ---- one more
 abbrev pub with_inner : Notes → StepRead → Notes
 with_inner N p =
@@ -34,6 +47,31 @@ with_inner N p =
       conditions = N.conditions;
       inner = set N.inner N.inner_count p;
       inner_count = N.inner_count + 1;
+      paths = N.paths;
+      path_count = N.path_count;
+    }
+
+-- a step outside brackets in the next cell, and the same counted
+abbrev pub with_cell : Notes → StepRead → Notes
+with_cell N p =
+    record {
+      outer = set N.outer N.outer_count p;
+      outer_count = N.outer_count;
+      conditions = N.conditions;
+      inner = N.inner;
+      inner_count = N.inner_count;
+      paths = N.paths;
+      path_count = N.path_count;
+    }
+
+abbrev pub with_count : Notes → Notes
+with_count N =
+    record {
+      outer = N.outer;
+      outer_count = N.outer_count + 1;
+      conditions = set N.conditions (N.outer_count + 1) (written_steps + N.inner_count);
+      inner = N.inner;
+      inner_count = N.inner_count;
       paths = N.paths;
       path_count = N.path_count;
     }
@@ -116,6 +154,21 @@ with_steps N ws =
       paths = N.paths;
       path_count = N.path_count;
     }
+
+-- no alternative ends with one of these steps
+abbrev pub Goes : List StepRead → Type 0
+Goes [] = Unit {0}
+Goes (p ∷ ps) = (p.ends_alternative ≡ false) × Goes ps
+
+-- ---- where a text departs from a part: nothing more is noted than some steps in brackets, and in front of them some steps of a path
+pub record OnlyInner (N N' : Notes) : Type 0 where
+  pub inner : List StepRead
+  pub noted : N' ≡ with_inners N inner
+
+pub record OnlySteps (N N' : Notes) : Type 0 where
+  pub steps : List Written
+  pub inner : List StepRead
+  pub noted : N' ≡ with_inners (with_steps N steps) inner
 
 -- ---- several paths: each by its first byte, its bytes without the line feed, and its steps
 pub record Line : Type 0 where

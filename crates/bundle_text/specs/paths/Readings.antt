@@ -1,7 +1,7 @@
 -- What reading all paths of a text answers: what it spells, what is noted of it, and the first path that passes a limit.
 use Rattle.std.specs.Prelude.{cond, List, [], ◌∷◌, map, ◌≡◌, ℕ, suc, Option, Some, None, Result, Ok, Err}
 use Rattle.bundle_text.specs.declared.notes.Notes.{Notes}
-use Rattle.bundle_text.specs.notes.Notes.{EachEnded, all_paths, Line, all_steps, with_lines}
+use Rattle.bundle_text.specs.notes.Notes.{EachEnded, Goes, outer_cells, all_paths, Line, all_steps, with_lines}
 use Rattle.bundle_text.specs.written_steps.Readings.{step_noted}
 use Rattle.path_spec.specs.Grammar.{PathRead, path_read}
 use Rattle.path_spec.specs.Machine.{parse}
@@ -19,6 +19,7 @@ first_over i (p ∷ ps) = cond (passes_limit i p) (Some p.place) (first_over (su
 pub record BundleRead (s : List ℕ) (N N' : Notes) (over : Option ℕ) : Type 0 where
   pub lines : List Line
   pub spelt : parse s ≡ spells (map (path_noted s) lines)
+  pub goes_on : Goes (outer_cells (all_steps lines))
   pub ended : EachEnded (all_paths (all_steps lines))
   pub noted : N' ≡ with_lines N lines
   pub limit : over ≡ first_over 0 (map (path_noted s) lines)

@@ -8,8 +8,8 @@ use Rattle.bundle_text.specs.declared.alternative_ends.Follow.TheVariants.{Close
 use Rattle.bundle_text.specs.declared.conditions.Past.{Past}
 use Rattle.bundle_text.specs.declared.notes.Notes.{Notes}
 use Rattle.bundle_text.specs.declared.steps.StepRead.{StepRead}
-use Rattle.bundle_text.specs.notes.Laws.{paths-append, ended-append, steps-none, steps-more}
-use Rattle.bundle_text.specs.notes.Notes.{EachEnded, Written, all_paths, with_steps}
+use Rattle.bundle_text.specs.notes.Laws.{paths-append, ended-append, outer-goes, inners-none, outer-one, steps-none, steps-more}
+use Rattle.bundle_text.specs.notes.Notes.{with_count, with_inners, EachEnded, Goes, Written, outer_cells, all_paths, with_steps}
 use Rattle.bundle_text.specs.written_steps.Readings.{stepped, WrittenRead, WrittenAs, ReadsWritten, FollowedAs, Followed, step_noted, over_condition, ReadsLine}
 use Rattle.path_spec.specs.Grammar.{PathRead, path_read}
 use Rattle.path_spec.specs.Machine.{Outer, outside, line_start, after_brackets, begin_step, step, bundle_machine}
@@ -42,6 +42,7 @@ pub record Upto (s : List ℕ) (at : ℕ) (N N' : Notes) (i : ℕ) (over : Bool)
   pub done : List Written
   pub low : at ≤ i
   pub high : i ≤ length s
+  pub goes_on : Goes (outer_cells done)
   pub ended : EachEnded (all_paths done)
   pub noted : N' ≡ with_steps N done
   pub few-steps : N'.outer_count ≤ i
@@ -55,6 +56,7 @@ upto-start h g f =
       done = [];
       low = omega arith;
       high = omega arith;
+      goes_on = tt;
       ended = tt;
       noted = steps-none _;
       few-steps = g;
@@ -72,7 +74,14 @@ module _ {s : List ℕ} {at : ℕ} {N N' : Notes} {i : ℕ} {over : Bool} (U : U
   written_is u = (subst (ReadsWritten s i N' M) u W).says
 
   pub upto-fails : {j : ℕ} → q ≡ Err j → ReadsLine s at N M (Err j)
-  upto-fails u = record { says = λ ps. line-begins s at ps h ∙ U.same ps ∙ written_is u (read-steps s ps at U.done) }
+  upto-fails u =
+      let W = written_is u in
+      record {
+        says = (
+          record { steps = U.done; inner = W.0.inner; noted = W.0.noted ∙ ap (λ (K : Notes). with_inners K W.0.inner) U.noted },
+          λ ps. line-begins s at ps h ∙ U.same ps ∙ W.1 (read-steps s ps at U.done),
+        );
+      }
 
   module _ {r : Past} (u : q ≡ Ok r) where
     abbrev R : WrittenRead s i N' M r
@@ -92,23 +101,34 @@ module _ {s : List ℕ} {at : ℕ} {N N' : Notes} {i : ℕ} {over : Bool} (U : U
     same-now : (ps : List PathRead) → from bundle_machine (begin_step (outside (started ps at []))) s at ≡ from bundle_machine (after_brackets (read-steps s ps at ws)) s r.at
     same-now ps = U.same ps ∙ R.same (read-steps s ps at U.done) ∙ ap (λ (z : Outer). from bundle_machine (after_brackets z) s r.at) (reversed ps)
 
-    noted-now : M ≡ with_steps N ws
-    noted-now = R.noted ∙ ap (λ (K : Notes). with_steps K (R.step ∷ [])) U.noted ∙ steps-more N U.done (R.step ∷ [])
+    noted-one : with_count M ≡ with_steps N' (R.step ∷ [])
+    noted-one = ap with_count R.noted ∙ outer-one N' R.step
+
+    goes-now : Goes (outer_cells ws)
+    goes-now = outer-goes U.done (R.step ∷ []) U.goes_on (R.goes_on, tt)
 
     ended-now : EachEnded (all_paths ws)
     ended-now =
         subst EachEnded (sym (paths-append U.done (R.step ∷ []) ∙ ap (λ (l : List (List StepRead)). all_paths U.done ++ l) (append-nil R.step.paths)))
         (ended-append (all_paths U.done) R.step.paths U.ended R.ended)
 
-    few-now : (e : ℕ) → r.at < e → (M.outer_count ≤ e) × (M.inner_count ≤ e)
-    few-now e g =
-        let l = R.low in
-        let a = U.few-steps in
-        let b = R.few in
-        let k = ap (λ (K : Notes). K.outer_count) R.noted in
-        (omega arith, omega arith)
+    pub upto-counts : (M.outer_count ≡ N'.outer_count) × (N'.outer_count ≤ i) × (M.inner_count ≤ r.at)
+    upto-counts = (ap (λ (K : Notes). K.outer_count) R.noted, U.few-steps, R.few)
 
-    module _ {b : Bool} (be : b ≡ (over || r.over_limit)) where
+    module _ {M' : Notes} (me : M' ≡ with_count M) {b : Bool} (be : b ≡ (over || r.over_limit)) where
+      noted-now : M' ≡ with_steps N ws
+      noted-now = me ∙ noted-one ∙ ap (λ (K : Notes). with_steps K (R.step ∷ [])) U.noted ∙ steps-more N U.done (R.step ∷ [])
+
+      few-now : (e : ℕ) → r.at < e → (M'.outer_count ≤ e) × (M'.inner_count ≤ e)
+      few-now e g =
+          let l = R.low in
+          let a = U.few-steps in
+          let b = R.few in
+          let k = ap (λ (K : Notes). K.outer_count) R.noted in
+          let m = ap (λ (K : Notes). K.outer_count) me in
+          let n = ap (λ (K : Notes). K.inner_count) me in
+          (omega arith, omega arith)
+
       limit-now : b ≡ over_condition ws
       limit-now = be ∙ ap₂ (λ (x y : Bool). x || y) U.limit R.limit ∙ sym (over-more U.done R.step)
 
@@ -116,8 +136,14 @@ module _ {s : List ℕ} {at : ℕ} {N N' : Notes} {i : ℕ} {over : Bool} (U : U
         followed-as : {a : Result Follow ℕ} → f ≡ a → FollowedAs s r.at a
         followed-as v = (subst (Followed s r.at) v F).says
 
-        pub upto-stops : {e : ℕ} → f ≡ Err e → ReadsLine s at N M (Err e)
-        upto-stops v = record { says = λ ps. line-begins s at ps h ∙ same-now ps ∙ followed-as v (read-steps s ps at ws) }
+        pub upto-stops : {e : ℕ} → f ≡ Err e → ReadsLine s at N M' (Err e)
+        upto-stops v =
+            record {
+              says = (
+                record { steps = ws; inner = []; noted = noted-now ∙ inners-none (with_steps N ws) },
+                λ ps. line-begins s at ps h ∙ same-now ps ∙ followed-as v (read-steps s ps at ws),
+              );
+            }
 
         pub upto-later : {e : ℕ} → f ≡ Ok (More e) → (i < e) × (e ≤ length s)
         upto-later v =
@@ -125,7 +151,7 @@ module _ {s : List ℕ} {at : ℕ} {N N' : Notes} {i : ℕ} {over : Bool} (U : U
             let a = R.low in
             (omega arith, (followed-as v).1)
 
-        pub upto_next : {e : ℕ} → f ≡ Ok (More e) → Upto s at N M e b
+        pub upto_next : {e : ℕ} → f ≡ Ok (More e) → Upto s at N M' e b
         upto_next {e} v =
             let g = (followed-as v).0 in
             let a = R.low in
@@ -134,6 +160,7 @@ module _ {s : List ℕ} {at : ℕ} {N N' : Notes} {i : ℕ} {over : Bool} (U : U
               done = ws;
               low = omega arith;
               high = (followed-as v).1;
+              goes_on = goes-now;
               ended = ended-now;
               noted = noted-now;
               few-steps = (few-now e g).0;
@@ -142,7 +169,7 @@ module _ {s : List ℕ} {at : ℕ} {N N' : Notes} {i : ℕ} {over : Bool} (U : U
               same = λ ps. same-now ps ∙ (followed-as v).2 (read-steps s ps at ws);
             }
 
-        pub upto-closes : {e : ℕ} → f ≡ Ok (Close e) → ReadsLine s at N M (Ok (record { at = e; over_limit = b }))
+        pub upto-closes : {e : ℕ} → f ≡ Ok (Close e) → ReadsLine s at N M' (Ok (record { at = e; over_limit = b }))
         upto-closes {e} v =
             let g = (followed-as v).0 in
             let j = (followed-as v).2 in
@@ -154,6 +181,7 @@ module _ {s : List ℕ} {at : ℕ} {N N' : Notes} {i : ℕ} {over : Bool} (U : U
                 steps = ws;
                 low = omega arith;
                 high = (followed-as v).1;
+                goes_on = goes-now;
                 ended = ended-now;
                 noted = noted-now;
                 few-steps = (few-now e g).0;

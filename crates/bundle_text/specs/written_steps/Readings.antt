@@ -1,12 +1,12 @@
 -- What reading a step with its brackets, and a path, answers, in terms of the bundle machine, and what is noted of it.
-use Rattle.std.specs.Prelude.{Bool, List, [], ◌∷◌, map, reverse, ◌≡◌, ℕ, ◌+◌, ◌-◌, ◌≤◌, ◌<◌, length, Result, Ok, Err}
+use Rattle.std.specs.Prelude.{Bool, false, List, [], ◌∷◌, map, reverse, ◌≡◌, ℕ, ◌+◌, ◌-◌, ◌≤◌, ◌<◌, length, Result, Ok, Err}
 use Rattle.bundle_text.specs.alternatives.Conditions.{too_much, condition_noted}
 use Rattle.bundle_text.specs.declared.alternative_ends.Follow.{Follow}
 use Rattle.bundle_text.specs.declared.alternative_ends.Follow.TheVariants.{Close, More}
 use Rattle.bundle_text.specs.declared.conditions.Past.{Past}
 use Rattle.bundle_text.specs.declared.notes.Notes.{Notes}
 use Rattle.bundle_text.specs.declared.steps.StepRead.{StepRead}
-use Rattle.bundle_text.specs.notes.Notes.{with_inners, cells_of, EachEnded, Written, all_paths, with_steps}
+use Rattle.bundle_text.specs.notes.Notes.{with_cell, with_inners, cells_of, EachEnded, Written, outer_cells, all_paths, with_steps, Goes, OnlyInner, OnlySteps}
 use Rattle.bundle_text.specs.steps.Readings.{step_axis, step_test}
 use Rattle.path_spec.specs.Grammar.{PathRead, path_read}
 use Rattle.path_spec.specs.Machine.{Outer, outside, State, line_start, after_call, after_brackets, begin_step, with_step, bundle_machine}
@@ -37,24 +37,31 @@ pub record BracketsRead (s : List ℕ) (at : ℕ) (N N' : Notes) (r : Past) : Ty
 
 abbrev pub BracketsAs : List ℕ → ℕ → Notes → Notes → Result Past ℕ → Type 0
 BracketsAs s at N N' (Ok r) = BracketsRead s at N N' r
-BracketsAs s at N N' (Err j) = (c : StepRead) (o : Outer) → from bundle_machine (after_call (step_axis c) (step_test s c) (outside o)) s at ≡ departs j
+BracketsAs s at N N' (Err j) = OnlyInner N N' × ((c : StepRead) (o : Outer) → from bundle_machine (after_call (step_axis c) (step_test s c) (outside o)) s at ≡ departs j)
 
 pub record ReadsBrackets (s : List ℕ) (at : ℕ) (N N' : Notes) (r : Result Past ℕ) : Type 0 where
   pub says : BracketsAs s at N N' r
 
 pub record WrittenRead (s : List ℕ) (at : ℕ) (N N' : Notes) (r : Past) : Type 0 where
   pub step : Written
+  -- where its brackets stand, if it has any
+  pub place : ℕ
+  pub before : at < place
+  pub past-brackets : place ≤ r.at
+  pub brackets : (c : StepRead) (o : Outer)
+      → from bundle_machine (after_call (step_axis c) (step_test s c) (outside o)) s place ≡ from bundle_machine (after_brackets (stepped s c step.paths o)) s r.at
   pub low : at < r.at
   pub high : r.at ≤ length s
+  pub goes_on : step.cell.ends_alternative ≡ false
   pub ended : EachEnded step.paths
-  pub noted : N' ≡ with_steps N (step ∷ [])
+  pub noted : N' ≡ with_cell (with_inners N (cells_of step.paths)) step.cell
   pub few : N'.inner_count ≤ r.at
   pub limit : r.over_limit ≡ too_much step.paths
   pub same : (o : Outer) → from bundle_machine (begin_step (outside o)) s at ≡ from bundle_machine (after_brackets (stepped s step.cell step.paths o)) s r.at
 
 abbrev pub WrittenAs : List ℕ → ℕ → Notes → Notes → Result Past ℕ → Type 0
 WrittenAs s at N N' (Ok r) = WrittenRead s at N N' r
-WrittenAs s at N N' (Err j) = (o : Outer) → from bundle_machine (begin_step (outside o)) s at ≡ departs j
+WrittenAs s at N N' (Err j) = OnlyInner N N' × ((o : Outer) → from bundle_machine (begin_step (outside o)) s at ≡ departs j)
 
 pub record ReadsWritten (s : List ℕ) (at : ℕ) (N N' : Notes) (r : Result Past ℕ) : Type 0 where
   pub says : WrittenAs s at N N' r
@@ -82,6 +89,7 @@ pub record LineRead (s : List ℕ) (at : ℕ) (N N' : Notes) (r : Past) : Type 0
   pub steps : List Written
   pub low : at < r.at
   pub high : r.at ≤ length s
+  pub goes_on : Goes (outer_cells steps)
   pub ended : EachEnded (all_paths steps)
   pub noted : N' ≡ with_steps N steps
   pub few-steps : N'.outer_count ≤ r.at
@@ -91,7 +99,7 @@ pub record LineRead (s : List ℕ) (at : ℕ) (N N' : Notes) (r : Past) : Type 0
 
 abbrev pub LineAs : List ℕ → ℕ → Notes → Notes → Result Past ℕ → Type 0
 LineAs s at N N' (Ok r) = LineRead s at N N' r
-LineAs s at N N' (Err j) = (ps : List PathRead) → from bundle_machine (line_start ps) s at ≡ departs j
+LineAs s at N N' (Err j) = OnlySteps N N' × ((ps : List PathRead) → from bundle_machine (line_start ps) s at ≡ departs j)
 
 pub record ReadsLine (s : List ℕ) (at : ℕ) (N N' : Notes) (r : Result Past ℕ) : Type 0 where
   pub says : LineAs s at N N' r
