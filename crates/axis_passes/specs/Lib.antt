@@ -2,6 +2,7 @@ pub mod alternative_steps
 pub mod alternatives
 pub mod conditions
 pub mod downward
+pub mod inverse_axes
 pub mod name_tests
 pub mod root
 pub mod rows

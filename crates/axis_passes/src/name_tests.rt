@@ -1,9 +1,11 @@
 // The tests of nodes by their names.
-ghost use Rattle.std.specs.Prelude.{◌≡◌, ◌<◌, ◌+◌};
+ghost use Rattle.std.specs.Prelude.{◌≡◌, ℕ, ◌<◌, ◌+◌};
+ghost use Rattle.axis_passes.specs.name_tests.Ranges.{InRange};
 ghost use Rattle.axis_passes.specs.name_tests.Tests.{name_with_code, names_in, TestPass};
 ghost use Rattle.cells.specs.row_sets.Columns.{intersection};
 ghost use Rattle.compiled_paths.specs.Steps.{node_test};
 ghost use Rattle.path_spec.specs.Selection.{passes};
+ghost use Rattle.selection_laws.specs.marks.Passes.{range_marks};
 ghost use Rattle.selection_laws.specs.marks.Selection.{test_marks};
 ghost use Rattle.text_spec.specs.Limits.{max_declarations};
 
@@ -24,10 +26,11 @@ fn passes(test: NodeTest, code: u8) -> bool
     }
 }
 
-// The marked rows whose names pass the test.
+// The marked rows whose names pass the test: those whose codes are in the range of a test that has one.
 pub fn filter_test(codes: &[u8], test: NodeTest, from: &[u8], out: &mut [u8])
     requires { TestPass codes.now from.now out.old }
-    ensures { out.new ≡ intersection from.now (test_marks (node_test test) (names_in codes.now)) }
+    ensures marks { out.new ≡ intersection from.now (test_marks (node_test test) (names_in codes.now)) }
+    ensures range { (low high : ℕ) → InRange low high (node_test test) → out.new ≡ intersection from.now (range_marks low high codes.now) }
 {
     for (r, code) in codes.iter().enumerate() {
         out[r] = from[r] & u8::from(passes(test, *code));

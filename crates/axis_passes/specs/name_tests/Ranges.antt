@@ -1,9 +1,9 @@
 -- A node test as a range of codes of names.
 use Rattle.std.specs.Prelude.{Bool, true, false, cond, ◌&&◌, List, [], ◌∷◌, ◌≡◌, refl, ℕ, suc, ◌+◌, ◌-◌, ◌<◌, ◌≤◌, T, eqb, leb, ltb}
-use Rattle.std.proofs.Common.{ap, subst, ◌∙◌, arith, ltb-true, ltb-false, eqb→eq, leb→le, le→leb}
+use Rattle.std.proofs.Common.{sym, ap, subst, ◌∙◌, arith, ltb-true, ltb-false, eqb→eq, leb→le, le→leb}
 use Rattle.std.proofs.Math.Dec.{eqb_refl}
 use Rattle.axis_passes.specs.name_tests.Tests.{name_with_code, names_in}
-use Rattle.cells.specs.row_sets.Columns.{mark, marks}
+use Rattle.cells.specs.row_sets.Columns.{mark, marks, intersection}
 use Rattle.path_spec.specs.Paths.{NodeTest, named, any_node, any_text}
 use Rattle.path_spec.specs.Selection.{passes}
 use Rattle.schema_spec.specs.Names.{element, text}
@@ -64,3 +64,8 @@ range-test low high t [] h k = refl
 range-test low high t (c ∷ codes) h k =
     ap (λ (b : Bool). mark b ∷ range_marks low high codes) (h c (k 0))
     ∙ ap (λ (l : List ℕ). mark (passes t (name_with_code c)) ∷ l) (range-test low high t codes h (λ r. k (suc r)))
+
+-- so the marked rows that pass a test are those of its range
+pub range-marked : (low high : ℕ) (t : NodeTest ℕ) (codes m out : List ℕ) → Coded codes → out ≡ intersection m (test_marks t (names_in codes)) → InRange low high t
+    → out ≡ intersection m (range_marks low high codes)
+range-marked low high t codes m out k e h = e ∙ ap (intersection m) (sym (range-test low high t codes h k))

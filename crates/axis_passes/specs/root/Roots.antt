@@ -1,5 +1,5 @@
 -- The first step of a path: what the passes from the root ask, and what they leave.
-use Rattle.std.specs.Prelude.{Bool, not, ◌&&◌, ◌≡◌, ℕ, zero, suc, ◌<◌, length, get_or, set, replicate}
+use Rattle.std.specs.Prelude.{Bool, cond, not, ◌&&◌, ◌≡◌, ℕ, zero, suc, ◌<◌, length, get_or, set, replicate}
 use Rattle.std.specs.Int.{from_bool}
 use Rattle.std.proofs.Math.Bool.{true, false}
 use mathlib.Core.List.{List}
@@ -10,9 +10,10 @@ use Rattle.std.proofs.Math.Dec.{eqb}
 use Rattle.axis_passes.specs.name_tests.Tests.{names_in, TestPass, bool-mark}
 use Rattle.axis_passes.specs.steps.Steps.{forward_marks, TableColumns, written-column, column-test}
 use Rattle.cells.specs.row_sets.Columns.{RowSet, mark, marks, intersection, marks-length, marks-at, marks-by-rows}
+use Rattle.compiled_paths.specs.Columns.{axis_of, written_of}
 use Rattle.compiled_paths.specs.Steps.{written_axis, node_test}
 use Rattle.compiled_paths.specs.declared.Step.{Step}
-use Rattle.path_spec.specs.Paths.{WrittenAxis, child}
+use Rattle.path_spec.specs.Paths.{self, child, ancestor_or_self, WrittenAxis, along}
 use Rattle.selection_laws.specs.marks.Passes.{fill-marks}
 use Rattle.selection_laws.specs.marks.Roots.{root_image, root_written, root-written-marks}
 use Rattle.selection_laws.specs.marks.Selection.{written_marks, root_marks, test_marks}
@@ -84,10 +85,33 @@ module _ (ps was : List ℕ) (h : RootPass ps was) where
   pub later-axis : (out : List ℕ) → out ≡ marks (length was) (λ r. not (eqb r 0)) → out ≡ marks (length ps) (λ r. not (eqb r 0))
   later-axis out e = e ∙ ap (λ (n : ℕ). marks n (λ r. not (eqb r 0))) h.room
 
-  -- two axes lead from the root to itself alone
-  pub root_kept : (a : WrittenAxis) (out : List ℕ) → root_written a ps ≡ (λ r. eqb r 0) → out ≡ root_marks (length was) → out ≡ written_marks a ps (root_marks (length ps))
-  unfolding root_marks
-  root_kept a out i d = root-axis a out (d ∙ ap root_marks h.room ∙ ap (marks (length ps)) (sym i))
+  -- by their numbers the other axes lead from the root to itself alone
+  rest-axis : (c : ℕ) → (c ≡ 1 → ⊥) → (c ≡ 2 → ⊥) → (c ≡ 3 → ⊥) → (c ≡ 4 → ⊥) → (c ≡ 5 → ⊥) → (c ≡ 7 → ⊥) → (c ≡ 8 → ⊥) → (c ≡ 9 → ⊥) → (c ≡ 10 → ⊥)
+      → marks (length ps) (root_written (written_of c) ps) ≡ root_marks (length ps)
+  unfolding written_of axis_of root_written root_image root_marks
+  rest-axis c h1 h2 h3 h4 h5 h7 h8 h9 h10 =
+      rw (ne_eqb c 7 h7, ne_eqb c 8 h8, ne_eqb c 9 h9, ne_eqb c 10 h10, ne_eqb c 1 h1, ne_eqb c 2 h2, ne_eqb c 3 h3, ne_eqb c 4 h4, ne_eqb c 5 h5)
+      (pick (eqb c 6))
+    where
+      pick : (b : Bool) → marks (length ps) (root_written (along (cond b ancestor_or_self self)) ps) ≡ root_marks (length ps)
+      pick true = refl
+      pick false = refl
+
+  pub root_kept : (c : ℕ) (out : List ℕ) → (c ≡ 1 → ⊥) → (c ≡ 2 → ⊥) → (c ≡ 3 → ⊥) → (c ≡ 4 → ⊥) → (c ≡ 5 → ⊥) → (c ≡ 7 → ⊥) → (c ≡ 8 → ⊥) → (c ≡ 9 → ⊥) → (c ≡ 10 → ⊥)
+      → out ≡ root_marks (length was) → out ≡ written_marks (written_of c) ps (root_marks (length ps))
+  root_kept c out h1 h2 h3 h4 h5 h7 h8 h9 h10 d =
+      d ∙ ap root_marks h.room ∙ sym (rest-axis c h1 h2 h3 h4 h5 h7 h8 h9 h10) ∙ sym (root-written-marks ps h.before (written_of c))
+
+  -- two of them have a name: self, number 0, and ancestor-or-self, number 6
+  pub kept-self : (out : List ℕ) → out ≡ root_marks (length was) → out ≡ written_marks (along self) ps (root_marks (length ps))
+  unfolding written_of axis_of
+  kept-self out d =
+      root_kept 0 out (λ e. omega arith) (λ e. omega arith) (λ e. omega arith) (λ e. omega arith) (λ e. omega arith) (λ e. omega arith) (λ e. omega arith) (λ e. omega arith) (λ e. omega arith) d
+
+  pub kept-above : (out : List ℕ) → out ≡ root_marks (length was) → out ≡ written_marks (along ancestor_or_self) ps (root_marks (length ps))
+  unfolding written_of axis_of
+  kept-above out d =
+      root_kept 6 out (λ e. omega arith) (λ e. omega arith) (λ e. omega arith) (λ e. omega arith) (λ e. omega arith) (λ e. omega arith) (λ e. omega arith) (λ e. omega arith) (λ e. omega arith) d
 
 -- ---- the axis from the root, then the test
 module _ (ps codes m out : List ℕ) (h : FirstPass ps codes m out) where

@@ -3,16 +3,18 @@ use Rattle.std.proofs.Math.Bool.{false}
 use mathlib.Core.List.{List}
 use Rattle.std.specs.Prelude.{◌≡◌, ℕ, ◌<◌, length}
 use Rattle.std.proofs.Math.Path.{sym, ap}
-use Rattle.std.proofs.Common.{◌∙◌}
+use Rattle.std.proofs.Common.{◌∙◌, arith}
 use Rattle.std.proofs.Math.ListN.{replicate}
+use Rattle.axis_passes.specs.inverse_axes.Axes.{axis-other}
 use Rattle.axis_passes.specs.name_tests.Tests.{names_in, TestPass}
 use Rattle.cells.specs.row_sets.Columns.{RowSet, is_marked, marks, OnlyMarks, union, intersection, marks-length, only-marks, no-row-marked}
+use Rattle.compiled_paths.specs.Columns.{written_of}
 use Rattle.compiled_paths.specs.Steps.{written_axis, node_test}
 use Rattle.compiled_paths.specs.declared.Step.{Step}
 use Rattle.path_laws.specs.Inverses.{inverse_written}
-use Rattle.path_spec.specs.Paths.{Axis, descendant_or_self, ancestor_or_self, WrittenAxis, along, following, following_sibling, preceding, preceding_sibling}
+use Rattle.path_spec.specs.Paths.{Axis, self, descendant_or_self, ancestor_or_self, WrittenAxis, along, following, following_sibling, preceding, preceding_sibling}
 use Rattle.selection_laws.specs.marks.Parents.{image_marks}
-use Rattle.selection_laws.specs.marks.Passes.{AxisPass, SameLength, fill-marks}
+use Rattle.selection_laws.specs.marks.Passes.{AxisPass, SameLength, fill-marks, self-image}
 use Rattle.selection_laws.specs.marks.Roots.{written_none}
 use Rattle.selection_laws.specs.marks.Selection.{written_marks, inverse_marks, no_marks, test_marks}
 use Rattle.selection_laws.specs.marks.Siblings.{following_sibling_marks, preceding_sibling_marks}
@@ -90,6 +92,16 @@ backward-column ps codes p m = written-column (inverse_written (written_axis p.a
 
 pub columns-same-length : {ps m out : List ℕ} → MarkColumn ps m → MarkColumn ps out → SameLength m out
 columns-same-length c d = record { marked = c.marked; marks-out = d.marked; size = c.size ∙ sym d.size }
+
+-- ---- an axis by its number
+pub image-kept : (c : ℕ) (ps m was out : List ℕ) → AxisPass ps m was → written_of c ≡ along self → out ≡ m → out ≡ written_marks (written_of c) ps m
+image-kept c ps m was out h e d = rw e (d ∙ self-image ps m was h)
+
+-- the node itself, number 0
+pub image-self : (ps m was out : List ℕ) → AxisPass ps m was → out ≡ m → out ≡ written_marks (along self) ps m
+image-self ps m was out h d =
+    let other : written_of 0 ≡ along self = axis-other 0 (λ e. omega arith) (λ e. omega arith) (λ e. omega arith) (λ e. omega arith) (λ e. omega arith) (λ e. omega arith) (λ e. omega arith) (λ e. omega arith) (λ e. omega arith) (λ e. omega arith) in
+    image-kept 0 ps m was out h other d ∙ ap (λ (a : WrittenAxis). written_marks a ps m) other
 
 -- ---- a test
 pub column-test : {ps codes m out : List ℕ} → TableColumns ps codes → MarkColumn ps m → length out ≡ length ps → TestPass codes m out

@@ -1,14 +1,14 @@
 use Rattle.std.proofs.Common.{refl, ⊎_elim}
 use Rattle.std.proofs.Math.Bool.{true, false}
-use Rattle.axis_passes.specs.root.Roots.{root-axis, filled-axis, later-axis, root_kept}
+use Rattle.axis_passes.specs.root.Roots.{root-axis, filled-axis, later-axis, kept-self, kept-above}
 use Rattle.compiled_paths.specs.Steps.{written_axis}
 use Rattle.path_spec.specs.Paths.{along, child, descendant, descendant_or_self}
 use Rattle.selection_laws.specs.marks.Roots.{root_image, root_written}
 use Rattle.axis_passes.proofs.root.root_image.Goals as goal
 
 pub returns-in-SelfNode : goal.returns-in-SelfNode
-unfolding root_written root_image
-returns-in-SelfNode c = root_kept _ _ c.requires (written_axis c.args.axis) _ (⊎_elim (λ e. rw e refl) (λ e. rw e refl) c.in-SelfNode.is) c.mark_root.ensures
+returns-in-SelfNode c =
+    ⊎_elim (λ e. rw e (kept-self _ _ c.requires _ c.mark_root.ensures)) (λ e. rw e (kept-above _ _ c.requires _ c.mark_root.ensures)) c.in-SelfNode.is
 
 pub returns-in-Child : goal.returns-in-Child
 unfolding root_written

@@ -10,4 +10,4 @@ filter_test-requires c =
 
 pub returns : goal.returns
 returns c =
-    first-marked _ _ _ _ c.requires c.args.step _ c.root_image.ensures _ c.filter_test.ensures
+    first-marked _ _ _ _ c.requires c.args.step _ c.root_image.ensures _ c.filter_test.ensures.marks

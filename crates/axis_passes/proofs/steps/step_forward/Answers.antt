@@ -11,4 +11,4 @@ filter_test-requires c =
 
 pub returns : goal.returns
 returns c =
-    moved _ _ _ _ c.requires c.args.step _ _ c.axis_image.ensures c.filter_test.ensures
+    moved _ _ _ _ c.requires c.args.step _ _ c.axis_image.ensures c.filter_test.ensures.marks
