@@ -8,12 +8,13 @@ ghost use Rattle.selection.specs.answers.Answers.{AnsweredCells};
 use bundle::reader::Bundle;
 use row_structs::Row;
 use schema::Schema;
-use selection::answers::Selected;
+use selection::answers::{Selected, refused};
 use selection::records::select_nodes;
 use struct_walks::to_columns::columns_of;
-use text::refusals::Refusal;
+use tables::row_counts::are_too_many;
+use text::refusals::{Reason, Refusal};
 
-// Selects on the rows, which are laid in columns first.
+// Selects on the rows, which are laid in columns first. More than a table can have are refused at once.
 pub fn select_nodes_rows(
     schema: Schema,
     bundle: Bundle,
@@ -25,6 +26,9 @@ pub fn select_nodes_rows(
 ) -> Result<Selected, Refusal>
     ensures { AnsweredCells (nodes_selected_rows (record_with schema.bytes schema.len) (record_with bundle.bytes bundle.len) place (map cells_in rows.now) lent.now) result items counts }
 {
+    if are_too_many(rows.len()) {
+        return refused(Refusal::of(Reason::BadRecord), items, counts);
+    }
     let laid = columns_of(rows);
     select_nodes(
         schema,

@@ -1,15 +1,35 @@
--- `cut_table_rows` meets its contract: what cutting the rows that are laid in columns answers.
-use Rattle.std.proofs.Common.{map, length, subst, ◌∙◌}
+-- `cut_table_rows` meets its contract: more rows than a table can have are refused by 1; else what cutting the rows that are laid in columns answers.
+use Rattle.std.proofs.Common.{List, map, ℕ, length, ◌≡◌, true, sym, ap, subst, ◌∙◌, arith, ltb, ltb-true}
 use Rattle.std.proofs.lemmas.List.{length-map}
 use Rattle.compiled_schema.specs.records.Records.{record_with}
+use Rattle.cells.specs.verdicts.Verdicts.{verdict}
 use Rattle.cut_table.specs.laws.Answers.{AnsweredTable}
-use Rattle.library_spec.specs.Calls.{table_cut, table_cut_rows}
+use Rattle.library_spec.specs.Calls.{structs_after, table_cut, table_cut_rows}
 use Rattle.row_structs.specs.Structs.{AnsweredFor, cells_in, columns_in}
+use Rattle.row_structs.specs.declared.Row.{Row}
 use Rattle.row_structs.specs.laws.Answers.{part_sizes, front}
-use Rattle.struct_cutting.specs.entry.Cutting.{cut-for}
+use Rattle.struct_cutting.specs.entry.Cutting.{many-refused, cut-for}
 use Rattle.table_spec.specs.Columns.{Columns, columns}
+use Rattle.text_spec.specs.Limits.{max_nodes}
+use Rattle.text_spec.specs.Records.{TextRecord}
+use Rattle.text_spec.specs.Refusals.{refused, at, bad_record}
 use Rattle.struct_cutting.proofs.entry.cut_table_rows.Goals.{After-cut_into-answer}
 use Rattle.struct_cutting.proofs.entry.cut_table_rows.Goals as goal
+
+-- more than a table can have
+many : (schema : TextRecord) (word n : ℕ) (rows : List Row) → ltb max_nodes (length rows) ≡ true → table_cut_rows schema (map cells_in rows) word n ≡ refused (at bad_record 0)
+many schema word n rows e = many-refused schema word (map cells_in rows) n (omega (arith, ltb-true max_nodes (length rows) e, length-map rows cells_in))
+
+pub returns-then-are_too_many-clause-value : goal.returns-then-are_too_many-clause-value
+returns-then-are_too_many-clause-value c =
+    let at = c.args in
+    c.refused_rows.ensures.value ∙ sym (ap verdict (many (record_with at.schema.bytes at.schema.len) at.word (length at.out.now) at.rows.now (sym c.are_too_many.ensures ∙ c.if-are_too_many.true)))
+
+pub returns-then-are_too_many-clause-out_after : goal.returns-then-are_too_many-clause-out_after
+returns-then-are_too_many-clause-out_after c =
+    let at = c.args in
+    c.refused_rows.ensures.rows_after
+    ∙ sym (ap (structs_after (length at.out.now)) (many (record_with at.schema.bytes at.schema.len) at.word (length at.out.now) at.rows.now (sym c.are_too_many.ensures ∙ c.if-are_too_many.true)))
 
 -- what is cut in the first cells, of the columns that the rows are laid in
 cut : (c : After-cut_into-answer)
