@@ -1,6 +1,9 @@
 // For tests alone: what the functions for C of the other crates test_.. answer, and records of any bytes that tests hand in.
 #![tactic(auto)]
 
+ghost use Rattle.std.specs.Prelude.{◌≡◌};
+ghost use Rattle.test_records.specs.Outcomes.{answered_as, refused_as, cells_as, record_as};
+
 use bundle::reader::Bundle;
 use compiled_paths::{Axis, CompiledPaths, NodeTest, Step};
 use schema::Schema;
@@ -18,6 +21,8 @@ pub struct Outcome {
 }
 
 impl From<Refusal> for Outcome {
+    ghost from_gives = { λ f r. r ≡ refused_as f 0 };
+
     fn from(refusal: Refusal) -> Outcome {
         Outcome {
             number: refusal.reason.number(),
@@ -30,6 +35,8 @@ impl From<Refusal> for Outcome {
 
 // So many cells answered, or a refusal.
 impl From<Result<usize, Refusal>> for Outcome {
+    ghost from_gives = { λ answer r. r ≡ cells_as answer };
+
     fn from(answer: Result<usize, Refusal>) -> Outcome {
         match answer {
             Ok(size) => answered(size, 0),
@@ -38,7 +45,9 @@ impl From<Result<usize, Refusal>> for Outcome {
     }
 }
 
-pub fn answered(size: usize, other: u64) -> Outcome {
+pub fn answered(size: usize, other: u64) -> Outcome
+    ensures { result ≡ answered_as size other }
+{
     Outcome {
         number: 0,
         place: 0,
@@ -48,7 +57,9 @@ pub fn answered(size: usize, other: u64) -> Outcome {
 }
 
 // What reading a text into a record answers: the length of what is handed back, and how much it holds or the refusal.
-pub fn of_record(answer: Result<usize, Refusal>, len: usize) -> Outcome {
+pub fn of_record(answer: Result<usize, Refusal>, len: usize) -> Outcome
+    ensures { result ≡ record_as answer len }
+{
     match answer {
         Ok(count) => answered(len, count as u64),
         Err(refusal) => Outcome {
