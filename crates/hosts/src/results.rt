@@ -1,6 +1,6 @@
 // What goes out to a C host by value, of both host functions.
 ghost use Rattle.std.specs.Prelude.{◌≡◌};
-ghost use Rattle.hosts.specs.results.Exits.{result_for};
+ghost use Rattle.hosts.specs.results.Exits.{refused_by, result_for};
 
 use text::refusals::Refusal;
 
@@ -24,6 +24,19 @@ pub struct HostResult {
     pub counts: u64,
 }
 
+// A refusal by any number and place.
+pub fn refused(number: u64, place: u64) -> HostResult
+    ensures { result ≡ refused_by number place }
+{
+    HostResult {
+        number,
+        place,
+        rows: 0,
+        items: 0,
+        counts: 0,
+    }
+}
+
 impl From<Result<Answered, Refusal>> for HostResult {
     ghost from_gives = { λ answer r. r ≡ result_for answer };
 
@@ -36,13 +49,7 @@ impl From<Result<Answered, Refusal>> for HostResult {
                 items: answered.items as u64,
                 counts: answered.counts as u64,
             },
-            Err(refusal) => HostResult {
-                number: refusal.reason.number(),
-                place: refusal.place as u64,
-                rows: 0,
-                items: 0,
-                counts: 0,
-            },
+            Err(refusal) => refused(refusal.reason.number(), refusal.place as u64),
         }
     }
 }

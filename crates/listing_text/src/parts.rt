@@ -5,7 +5,7 @@ ghost use Rattle.std.specs.Prelude.{◌+◌, ◌≤◌, length};
 ghost use Rattle.cells.specs.written_text.Written.{WrittenAt};
 ghost use Rattle.chains.specs.tags.Chains.{chain_at};
 ghost use Rattle.library_spec.specs.Listing.{refused_line};
-ghost use Rattle.listing_text.specs.parts.Parts.{NumberAt, TagsPass};
+ghost use Rattle.listing_text.specs.parts.Parts.{refusal, NumberAt, TagsPass};
 ghost use Rattle.text.specs.refusals.Refusals.{refusal_in};
 
 use cells::columns::Columns;
@@ -22,14 +22,22 @@ pub fn put_number(out: &mut [u8], at: usize, word: &[u8], n: u64) -> usize
     put_decimal(out, next, n)
 }
 
+// The line of a refusal by any number and place.
+pub fn put_refusal_by(out: &mut [u8], number: u64, place: u64) -> usize
+    requires { 100 ≤ length out.old }
+    ensures { WrittenAt out.old 0 (refusal number place) result out.new }
+{
+    let first = put_number(out, 0, b"refused ", number);
+    let second = put_number(out, first, b" at ", place);
+    put_text(out, second, b"\n")
+}
+
 // The only line where a file is refused.
 pub fn put_refusal(out: &mut [u8], refused: Refusal) -> usize
     requires { 100 ≤ length out.old }
     ensures { WrittenAt out.old 0 (refused_line (refusal_in refused)) result out.new }
 {
-    let first = put_number(out, 0, b"refused ", refused.reason.number());
-    let second = put_number(out, first, b" at ", refused.place as u64);
-    put_text(out, second, b"\n")
+    put_refusal_by(out, refused.reason.number(), refused.place as u64)
 }
 
 // Writes the chain of tags of a row from `at` on.

@@ -3,7 +3,7 @@ use Rattle.std.specs.Prelude.{List, [], ◌≡◌, refl, ℕ, Err, Ok, length}
 use Rattle.std.specs.Prelude as rust
 use Rattle.std.proofs.Common.{sym, ap, subst, ◌∙◌}
 use Rattle.hosts.specs.declared.results.Answered.{Answered}
-use Rattle.hosts.specs.results.Exits.{lent_of, refused_by, result_in, result_for, answered_in, Exits}
+use Rattle.hosts.specs.results.Exits.{lent_of, refused_by, result_in, result_for, answered_in, Exits, same-exit, refused-exit}
 use Rattle.library_spec.specs.Calls.{columns_after}
 use Rattle.library_spec.specs.Hosts.{HostAnswer, Lent, result_of}
 use Rattle.table_spec.specs.Columns.{Columns, columns_of}
@@ -67,4 +67,4 @@ settled-kept {o = o} {l = l} {r = r} {items = items} {counts = counts} h p = sub
 -- a refusal, with every cell cleared
 pub refused-out : {o : Outcome HostAnswer} {l : Lent} {columns : Columns} {items counts : List ℕ} (f : program.Refusal) → o ≡ refused (refusal_in f)
     → columns ≡ columns_of l.columns [] → items ≡ padded l.items [] → counts ≡ padded l.counts [] → Exits o l (result_for (Err f)) columns items counts
-refused-out f e c i n = settled-out (settled-refused f e c i n)
+refused-out f e c i n = same-exit e (refused-exit (refusal_in f) (record { result = refl; columns-are = c; items-are = i; counts-are = n }))

@@ -4,6 +4,7 @@ use Rattle.std.proofs.Common.{⊎_elim, sym, ap, ◌∙◌, arith, lt-ltb, le-lt
 use Rattle.cells.specs.lent.Ends.{Slice}
 use Rattle.library_spec.specs.Selections.{Selections}
 use Rattle.selection.specs.declared.answers.Selected.{Selected}
+use Rattle.selection.specs.declared.answers.SelectedNumbers.{SelectedNumbers}
 use Rattle.text.specs.declared.refusals.Reason.TheVariants.{TooFewCells}
 use Rattle.text.specs.declared.refusals.Refusal.{Refusal}
 use Rattle.text.specs.refusals.Refusals.{refusal, refusal_in, answer_by, refusal_as-in}
@@ -34,6 +35,12 @@ AnsweredCells call r items counts =
 -- a refusal
 pub record RefusedBy (f : Refusal) (i n : ℕ) (r : Result Selected Refusal) (items counts : List ℕ) : Type 0 where
   pub answer : r ≡ Err f
+  pub items-are : items ≡ padded i []
+  pub counts-are : counts ≡ padded n []
+
+-- the same by its number and place, as numbers
+pub record RefusedNumbers (number place i n : ℕ) (r : SelectedNumbers) (items counts : List ℕ) : Type 0 where
+  pub answer : r ≡ record { number = number; place = place; items = 0; counts = 0 }
   pub items-are : items ≡ padded i []
   pub counts-are : counts ≡ padded n []
 

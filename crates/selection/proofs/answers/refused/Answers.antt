@@ -1,11 +1,10 @@
-use Rattle.std.proofs.Common.{refl, ◌∙◌}
-use Rattle.selection.specs.answers.Answers.{cleared-cells}
+use Rattle.std.proofs.Common.{refl}
 use Rattle.selection.proofs.answers.refused.Goals as goal
 
 pub returns : goal.returns
 returns c =
     record {
       answer = refl;
-      items-are = c.fill.ensures.after (λ y e. e) ∙ cleared-cells _;
-      counts-are = c.fill-2.ensures.after (λ y e. e) ∙ cleared-cells _;
+      items-are = c.refused_by.ensures.items-are;
+      counts-are = c.refused_by.ensures.counts-are;
     }
