@@ -23,16 +23,9 @@ impl Writer<'_> {
         requires room { self.old.at < length self.old.out.now }
         ensures { CharacterPut text.now i self.old result self.new }
     {
-        match entity_after(text, i + 1) {
-            Some(character) => {
-                self.put(character.byte);
-                character.next
-            }
-            None => {
-                self.put(b'&');
-                i + 1
-            }
-        }
+        let character = entity_after(text, i + 1);
+        self.put(character.byte);
+        character.next
     }
 
     // Writes the characters of a text.

@@ -1,7 +1,7 @@
 // The kinds of bytes that a journal's lexer tells apart, and the table of all of them.
 ghost use Rattle.std.specs.Prelude.{◌≡◌};
 ghost use Rattle.journal_lexer.specs.kinds.Kinds.{continues_name_kind, is_plain_kind, kind_of, delimiter_kind, KindTable};
-ghost use Rattle.journal_lexer.specs.kinds.Numbers.{kind_in};
+ghost use Rattle.journal_lexer.specs.kinds.Numbers.{kind_in, KindReads};
 
 #[derive(Clone, Copy, PartialEq, Eq)]
 pub enum ByteKind {
@@ -18,9 +18,8 @@ pub enum ByteKind {
 }
 
 impl ByteKind {
-    // The kind of a number. Past the last a kind reads as any other byte, as `Numbers` says of each.
     #[tactic(auto, unfolding(crate::specs::kinds::Numbers::kind_in))]
-    pub fn from_number(number: u8) -> ByteKind
+    fn numbered(number: u8) -> ByteKind
         ensures { result ≡ kind_in number }
     {
         match number {
@@ -35,6 +34,14 @@ impl ByteKind {
             9 => ByteKind::Foreign,
             _ => ByteKind::Other,
         }
+    }
+
+    // The kind of a number. Past the last a kind reads as any other byte, as `Numbers` says of each.
+    pub fn from_number(number: u8) -> ByteKind
+        ensures kind { result ≡ kind_in number }
+        ensures reads { KindReads number result }
+    {
+        ByteKind::numbered(number)
     }
 
     // Whether a name goes on with such a byte.

@@ -1,7 +1,7 @@
 // The state of a journal's lexer between bytes.
 ghost use Rattle.std.specs.Prelude.{◌≡◌, ◌<◌};
 ghost use Rattle.journal_lexer.specs.state.Modes.{is_data_mode};
-ghost use Rattle.journal_lexer.specs.state.Numbers.{mode_of, event_of};
+ghost use Rattle.journal_lexer.specs.state.Numbers.{mode_of, event_of, ModeMeans, EventTells};
 ghost use Rattle.journal_lexer.specs.state.Places.{no_place, no_places, place_in, place_or, with_foreign};
 ghost use Rattle.journal_lexer.specs.state.Relation.{stepped, named, entered, with_event, initially};
 
@@ -33,8 +33,7 @@ pub enum Mode {
 }
 
 impl Mode {
-    // The mode of a number. Past the last each reads as the last: `steps-last`.
-    pub fn from_number(number: u8) -> Mode
+    fn numbered(number: u8) -> Mode
         ensures { result ≡ mode_of number }
     {
         match number {
@@ -53,6 +52,14 @@ impl Mode {
             12 => Mode::AfterEndName,
             _ => Mode::Stopped,
         }
+    }
+
+    // The mode of a number. Past the last each reads as the last: `steps-last`.
+    pub fn from_number(number: u8) -> Mode
+        ensures number { result ≡ mode_of number }
+        ensures means { ModeMeans number result }
+    {
+        Mode::numbered(number)
     }
 
     // Whether the mode is one of character data, outside an entity.
@@ -77,8 +84,7 @@ pub enum Event {
 }
 
 impl Event {
-    // The event of a number. Past the last each reads as a start tag.
-    pub fn from_number(number: u8) -> Event
+    fn numbered(number: u8) -> Event
         ensures { result ≡ event_of number }
     {
         match number {
@@ -88,6 +94,14 @@ impl Event {
             4 => Event::Runs,
             _ => Event::Starts,
         }
+    }
+
+    // The event of a number. Past the last each reads as a start tag.
+    pub fn from_number(number: u8) -> Event
+        ensures number { result ≡ event_of number }
+        ensures means { EventTells number result }
+    {
+        Event::numbered(number)
     }
 }
 

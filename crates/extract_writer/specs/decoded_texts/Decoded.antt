@@ -8,10 +8,8 @@ use Rattle.std.proofs.Math.ListN.{length, take, drop, length-drop}
 use Rattle.extract_writer.specs.declared.writers.Writer.{Writer}
 use Rattle.extract_writer.specs.fields.Fields.{whole_characters}
 use Rattle.extract_writer.specs.writers.Writers.{Puts, puts-nothing, puts-then, puts-as, puts-length}
-use Rattle.journal_lexer.specs.declared.whole_entities.Character.{Character}
 use Rattle.journal_lexer.specs.whole_entities.Entities.{begins_at, EntityAfter, whole, itself, whole_split, whole-inside}
 use Rattle.table_spec.specs.Rows.{characters_by}
-use Rattle.text_laws.specs.Tests.{never}
 use Rattle.token_laws.specs.Characters.{decode-entity, decode-other, decode-filled}
 use Rattle.token_spec.specs.Characters.{decode}
 
@@ -40,35 +38,22 @@ module _ (t : List ℕ) (i : ℕ) (l : i < length t) (e : get_or t i 0 ≡ 0x26)
   amp : drop i t ≡ 0x26 ∷ drop (i + 1) t
   amp = drop-cons t i 0 l ∙ ap₂ (λ (x k : ℕ). x ∷ drop k t) e (sym (add-one i))
 
-  pub entity-put : (c : Character) → EntityAfter t (i + 1) (Some c) → Puts old (c.byte ∷ []) new → CharacterPut t i old c.next new
-  unfolding begins_at
-  entity-put c (whole u b f begins q) p =
-      let n : c.next ≡ i + 1 + length u = next-of c b (i + 1 + length u) q in
-      let s : c.byte ≡ b = byte-of c b (i + 1 + length u) q in
+  pub entity-put : {c next : ℕ} → EntityAfter t (i + 1) c next → Puts old (c ∷ []) new → CharacterPut t i old next new
+  unfolding begins_at decode
+  entity-put {c} {next} (whole u f begins q) p =
       record {
-        character = c.byte;
+        character = c;
         decoded =
             ap decode amp ∙ ap (λ (w : List ℕ). decode (0x26 ∷ w)) (whole_split t (i + 1) u begins) ∙ decode-entity (drop (i + 1 + length u) t) f
-            ∙ ap₂ (λ (x k : ℕ). x ∷ decode (drop k t)) (sym s) (sym n);
+            ∙ ap (λ (k : ℕ). c ∷ decode (drop k t)) (sym q);
         past = omega arith;
         inside = omega (arith, whole-inside t (i + 1) u begins f);
         written = p;
       }
-    where
-      next-of : (c : Character) (b n : ℕ) → Some c ≡ Some (record { byte = b; next = n }) → c.next ≡ n
-      next-of c b n q = cc
-
-      byte-of : (c : Character) (b n : ℕ) → Some c ≡ Some (record { byte = b; next = n }) → c.byte ≡ b
-      byte-of c b n q = cc
-  entity-put c (itself n a b q) p = never (cc)
-
-  pub itself-put : EntityAfter t (i + 1) None → Puts old (0x26 ∷ []) new → CharacterPut t i old (i + 1) new
-  unfolding begins_at decode
-  itself-put (whole u b f begins q) p = never (cc)
-  itself-put (itself n a b q) p =
+  entity-put {c} {next} (itself n a b d q) p =
       record {
-        character = 0x26;
-        decoded = ap decode amp ∙ rw (a, b, n.amp, n.apos, n.quot) refl;
+        character = c;
+        decoded = ap decode amp ∙ rw (a, b, n.amp, n.apos, n.quot) (ap₂ (λ (x k : ℕ). x ∷ decode (drop k t)) (sym d) (sym q));
         past = omega arith;
         inside = omega arith;
         written = p;

@@ -148,6 +148,11 @@ by-numbers f g a0 a1 a2 a3 a4 a5 a6 a7 a8 a9 more (suc (suc (suc (suc (suc (suc 
 by-numbers f g a0 a1 a2 a3 a4 a5 a6 a7 a8 a9 more (suc (suc (suc (suc (suc (suc (suc (suc (suc (suc n)))))))))) =
     more _ (omega arith) ∙ ap g (sym (kinds-past (suc (suc (suc (suc (suc (suc (suc (suc (suc (suc n)))))))))) (omega arith)))
 
+-- the step by a number is the step by a kind, and so is what is noted of a foreign byte
+pub record KindReads (c : ℕ) (kind : ByteKind) : Type 0 where
+  pub steps : (m : Mode) (k b : ℕ) → lex_by_number m k c b ≡ lex_by m k kind b
+  pub notes : (x : Option ℕ) (k : ℕ) → noted_by_number c x k ≡ noted_by kind x k
+
 module _ (c : ℕ) where
   blank-number : eqb c 2 ≡ is_blank_kind (kind_in c)
   blank-number = by-numbers (λ n. eqb n 2) is_blank_kind refl refl refl refl refl refl refl refl refl refl (λ n h. ne_eqb n 2 (λ e. omega arith)) c
@@ -193,3 +198,6 @@ module _ (c : ℕ) where
 
   pub noted-number : (x : Option ℕ) (k : ℕ) → noted_by_number c x k ≡ noted_by (kind_in c) x k
   noted-number x k = rw foreign-number (sym (noted-cases k (kind_in c) x))
+
+  pub kind-reads : KindReads c (kind_in c)
+  kind-reads = record { steps = lex-number; notes = noted-number }

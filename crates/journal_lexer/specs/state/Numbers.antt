@@ -76,7 +76,10 @@ abbrev pub event_of : ℕ → CodeEvent
 event_of n = cond (eqb n 0) Quiet (cond (eqb n 2) Empties (cond (eqb n 3) Ends (cond (eqb n 4) Runs Starts)))
 
 -- what a number stands for, so does its mode
-pub mode-means : (n : ℕ) (w : Name) (k : ℕ) (x : EntityRest) (p : Places) (m : Mode) → MeansState (state_of n) w k x p m → Means (mode_of n) w k x p m
+abbrev pub ModeMeans : ℕ → CodeMode → Type 0
+ModeMeans n mode = (w : Name) (k : ℕ) (x : EntityRest) (p : Places) (m : Mode) → MeansState (state_of n) w k x p m → Means mode w k x p m
+
+pub mode-means : (n : ℕ) → ModeMeans n (mode_of n)
 mode-means zero w k x p m h = h
 mode-means (suc zero) w k x p m h = h
 mode-means (suc (suc zero)) w k x p m h = h
@@ -93,7 +96,11 @@ mode-means (suc (suc (suc (suc (suc (suc (suc (suc (suc (suc (suc (suc zero)))))
 mode-means (suc (suc (suc (suc (suc (suc (suc (suc (suc (suc (suc (suc (suc zero))))))))))))) w k x p m h = h
 mode-means (suc (suc (suc (suc (suc (suc (suc (suc (suc (suc (suc (suc (suc (suc n)))))))))))))) w k x p m h = absurd h
 
-pub event-tells : (n : ℕ) (w : Name) (p : Places) (e : Event) → TellsReport (report_of n) w p e → Tells (event_of n) w p e
+-- what a number tells, so does its event
+abbrev pub EventTells : ℕ → CodeEvent → Type 0
+EventTells n event = (w : Name) (p : Places) (e : Event) → TellsReport (report_of n) w p e → Tells event w p e
+
+pub event-tells : (n : ℕ) → EventTells n (event_of n)
 event-tells zero w p e h = h
 event-tells (suc zero) w p e h = h
 event-tells (suc (suc zero)) w p e h = h
