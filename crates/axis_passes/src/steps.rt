@@ -12,7 +12,7 @@ use crate::name_tests::filter_test;
 use crate::siblings::{following, following_siblings, preceding, preceding_siblings};
 use crate::upward::{ancestors, ancestors_or_self, parents_of};
 use cells::columns::Columns;
-use cells::row_sets::UNMARKED;
+use cells::row_sets::{UNMARKED, copy};
 use compiled_paths::{Axis, Step};
 
 // The rows on an axis from the marked ones; `from` may be used up.
@@ -22,7 +22,7 @@ fn axis_image(axis: Axis, parents: &[u16], from: &mut [u8], out: &mut [u8])
     ensures { out.new ≡ written_marks (written_axis axis) parents.now from.old }
 {
     match axis {
-        Axis::SelfNode => out.copy_from_slice(&from[..]),
+        Axis::SelfNode => copy(&from[..], out),
         Axis::Child => children(parents, &from[..], out),
         Axis::Descendant => descendants(parents, &from[..], out),
         Axis::DescendantOrSelf => descendants_or_self(parents, &from[..], out),

@@ -5,7 +5,7 @@ ghost use Rattle.path_spec.specs.Paths.{parent, ancestor, ancestor_or_self};
 ghost use Rattle.selection_laws.specs.marks.Parents.{image_marks};
 ghost use Rattle.selection_laws.specs.marks.Passes.{AxisPass, Upward, up_axis};
 
-use cells::row_sets::UNMARKED;
+use cells::row_sets::{UNMARKED, copy};
 
 // Each row but row 0 adds to its parent's cell what `rule` gives for its own mark and its own cell, to which the rows below it have added.
 fn pass_up<F: Fn(u8, u8) -> u8>(parents: &[u16], from: &[u8], rule: F, out: &mut [u8])
@@ -39,6 +39,6 @@ pub fn ancestors_or_self(parents: &[u16], from: &[u8], out: &mut [u8])
     requires { AxisPass parents.now from.now out.old }
     ensures { out.new ≡ image_marks ancestor_or_self parents.now from.now }
 {
-    out.copy_from_slice(from);
+    copy(from, out);
     pass_up(parents, from, |_, added| added, out);
 }

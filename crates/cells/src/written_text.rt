@@ -3,14 +3,15 @@ ghost use Rattle.std.specs.Prelude.{◌+◌, ◌≤◌, length};
 ghost use Rattle.cells.specs.written_text.Written.{WrittenAt};
 ghost use Rattle.library_spec.specs.Listing.{decimal};
 
-// Writes a text from `at` on, and gives the cell past it.
+// Writes a text from `at` on, and gives the cell past it. A loop, as in `row_sets::copy`.
 pub fn put_text(out: &mut [u8], at: usize, text: &[u8]) -> usize
     requires { at + length text.now ≤ length out.old }
     ensures { WrittenAt out.old at text.now result out.new }
 {
-    let end = at + text.len();
-    out[at..end].copy_from_slice(text);
-    end
+    for (i, byte) in text.iter().enumerate() {
+        out[at + i] = *byte;
+    }
+    at + text.len()
 }
 
 // Writes a number in decimal, its higher digits first, and gives the cell past it.

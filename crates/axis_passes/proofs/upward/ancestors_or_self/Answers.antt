@@ -3,4 +3,4 @@ use Rattle.selection_laws.specs.marks.Passes.{to-ancestor-or-self, ancestors-or-
 use Rattle.axis_passes.proofs.upward.ancestors_or_self.Goals as goal
 
 pub returns : goal.returns
-returns c = c.pass_up.ensures to-ancestor-or-self (record { start = c.copy_from_slice.ensures.after ∙ ancestors-or-self-start _ _ _ c.requires; turn = λ r x some l d. search (rules, ancestors-or-self-mark _ _ _ c.requires r some l) })
+returns c = c.pass_up.ensures to-ancestor-or-self (record { start = c.copy.ensures ∙ ancestors-or-self-start _ _ _ c.requires; turn = λ r x some l d. search (rules, ancestors-or-self-mark _ _ _ c.requires r some l) })
