@@ -22,8 +22,8 @@ pub fn fill(schema: &[u8], names: &[usize], text: &[u8], notes: &Notes) -> Fille
     let mut steps = [NO_STEP; STEPS];
     let outer = &notes.outer[..notes.outer_count];
     let inner = &notes.inner[..notes.inner_count];
-    let outer_lost = compile_steps(schema, names, text, outer, 0, &mut steps);
-    let inner_lost = compile_steps(schema, names, text, inner, WRITTEN_STEPS, &mut steps);
+    let outer_lost = compile_steps(schema, names, text, outer, 0, &mut steps, None);
+    let inner_lost = compile_steps(schema, names, text, inner, WRITTEN_STEPS, &mut steps, None);
     let paths = notes.paths;
     let conditions = notes.conditions;
     Filled {

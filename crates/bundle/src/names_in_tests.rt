@@ -42,7 +42,7 @@ pub fn earlier(a: Option<usize>, b: Option<usize>) -> Option<usize>
     }
 }
 
-// Writes the steps from the cell `at` on. Gives the least place of a name that no element has.
+// Writes the steps from the cell `at` on. Gives the least place of a name that no element has, of these and what was lost before.
 pub fn compile_steps(
     schema: &[u8],
     names: &[usize],
@@ -50,11 +50,12 @@ pub fn compile_steps(
     read: &[StepRead],
     at: usize,
     steps: &mut [Step],
+    lost: Option<usize>,
 ) -> Option<usize>
     requires { (length names.now ≤ max_declarations) × (at + length read.now ≤ length steps.old) }
-    ensures { Compiled (map (name_at schema.now) names.now) text.now read.now at steps.old steps.new result }
+    ensures { Compiled (map (name_at schema.now) names.now) text.now read.now at steps.old steps.new lost result }
 {
-    let mut least = None;
+    let mut least = lost;
     for (i, step) in read.iter().enumerate() {
         let test = compile_test(schema, names, text, step.test);
         steps[at + i] = Step {

@@ -154,6 +154,19 @@ pub fn byte_range_at(starts: &[u8], i: usize) -> Range<usize>
     start..past.max(start)
 }
 
+// How many steps the first alternative has of those that take `n` steps from `k` on.
+pub fn first_size(steps: &[Step], k: usize, n: usize) -> usize
+    requires { k + n ≤ length steps.now }
+    ensures { result ≡ first_size steps.now n k }
+{
+    for i in 0..n {
+        if steps[k + i].ends_alternative {
+            return i + 1;
+        }
+    }
+    n
+}
+
 impl CompiledPaths {
     // No path.
     pub fn empty() -> CompiledPaths
@@ -183,16 +196,11 @@ impl CompiledPaths {
         range_at(&self.conditions, k)
     }
 
-    // How many steps the first alternative has of those that take `n` steps from `k` on.
+    // The same of the steps here.
     pub fn first_size(&self, k: usize, n: usize) -> usize
         requires { k + n ≤ all_steps }
         ensures { result ≡ first_size self.now.steps n k }
     {
-        for i in 0..n {
-            if self.steps[k + i].ends_alternative {
-                return i + 1;
-            }
-        }
-        n
+        first_size(&self.steps, k, n)
     }
 }

@@ -1,10 +1,6 @@
 -- `judge_names` meets its contract: 10, then acceptance.
 use mathlib.Core.List.{map}
-use Rattle.std.specs.Prelude.{Err}
-use Rattle.std.proofs.Common.{sym, ap, subst}
-use Rattle.bundle.specs.Judging.{JudgedUnder}
 use Rattle.bundle.specs.Outcomes.{judge-room, judge-lost, judge-known}
-use Rattle.text.specs.declared.refusals.Refusal.{Refusal}
 use Rattle.text_spec.specs.Scans.{name_at}
 use Rattle.bundle.proofs.judge_names.Goals as goal
 

@@ -1,6 +1,6 @@
 -- Laws of steps compiled one after the other.
 use mathlib.Core.List.{List, [], ◌∷◌, ◌++◌, map, map-append}
-use Rattle.std.specs.Prelude.{◌≡◌, refl, ℕ, ◌+◌, ◌<◌, length, take, set, get_or, Option, None, Result, Ok, Err}
+use Rattle.std.specs.Prelude.{◌≡◌, refl, ℕ, ◌+◌, ◌<◌, length, take, set, get_or, Option, Result, Ok, Err}
 use Rattle.std.specs.Result.{result_unwrap_or, result_err}
 use Rattle.std.proofs.Common.{sym, ap, subst, ◌∙◌, add-one, arith, take-suc, length-take-le}
 use Rattle.std.proofs.Math.Seq.{take-length}
@@ -37,16 +37,16 @@ module _ {A B : Type 0} (f : A → B) (cells : List A) (d : A) (i : ℕ) (h : i 
       ∙ ap (λ (n : ℕ). set (sets column at (map f (take i cells))) (at + n) (f (get_or cells i d))) l
       ∙ sym (sets-append column at (map f (take i cells)) (f (get_or cells i d) ∷ [])) ∙ ap (sets column at) (sym map-next)
 
-module _ (names : List (List ℕ)) (text : List ℕ) (cells : List StepRead) (at : ℕ) (steps : List Step) where
+module _ (names : List (List ℕ)) (text : List ℕ) (cells : List StepRead) (at : ℕ) (steps : List Step) (lost : Option ℕ) where
   abbrev pub CompiledTo : ℕ → List Step → Option ℕ → Type 0
-  CompiledTo i steps' least = Compiled names text (take i cells) at steps steps' least
+  CompiledTo i steps' least = Compiled names text (take i cells) at steps steps' lost least
 
-  pub compiled-first : CompiledTo 0 steps None
+  pub compiled-first : CompiledTo 0 steps lost
   compiled-first = record { wrote = refl; least = refl }
 
   module _ {steps' : List Step} {least : Option ℕ} {i : ℕ} (C : CompiledTo i steps' least) where
-    pub compiled-all : i ≡ length cells → Compiled names text cells at steps steps' least
-    compiled-all e = subst (λ (l : List StepRead). Compiled names text l at steps steps' least) (ap (λ (n : ℕ). take n cells) e ∙ take-length cells) C
+    pub compiled-all : i ≡ length cells → Compiled names text cells at steps steps' lost least
+    compiled-all e = subst (λ (l : List StepRead). Compiled names text l at steps steps' lost least) (ap (λ (n : ℕ). take n cells) e ∙ take-length cells) C
 
     pub compiled-next : i < length cells → {p : Step} → p ≡ step_cell names text (get_or cells i no_step) → {least' : Option ℕ} → least' ≡ earliest least (lost_cell names text (get_or cells i no_step))
         → CompiledTo (i + 1) (set steps' (at + i) p) least'
@@ -55,8 +55,8 @@ module _ (names : List (List ℕ)) (text : List ℕ) (cells : List StepRead) (at
           wrote = ap (set steps' (at + i)) e ∙ column-next (step_cell names text) cells no_step i h steps steps' at C.wrote;
           least =
               d ∙ ap (λ (a : Option ℕ). earliest a (lost_cell names text (get_or cells i no_step))) C.least
-              ∙ sym (earliest-more None (map (lost_cell names text) (take i cells)) (lost_cell names text (get_or cells i no_step)))
-              ∙ ap (earliest_of None) (sym (map-next (lost_cell names text) cells no_step i h));
+              ∙ sym (earliest-more lost (map (lost_cell names text) (take i cells)) (lost_cell names text (get_or cells i no_step)))
+              ∙ ap (earliest_of lost) (sym (map-next (lost_cell names text) cells no_step i h));
         }
 
     -- by what compiling the test answers

@@ -49,6 +49,6 @@ module _ (names : List (List ℕ)) (text : List ℕ) where
   abbrev pub lost_cell : StepRead → Option ℕ
   lost_cell c = lost_of (compiled_test names text c.test)
 
-  pub record Compiled (cells : List StepRead) (at : ℕ) (steps steps' : List Step) (r : Option ℕ) : Type 0 where
+  pub record Compiled (cells : List StepRead) (at : ℕ) (steps steps' : List Step) (lost r : Option ℕ) : Type 0 where
     pub wrote : steps' ≡ sets steps at (map step_cell cells)
-    pub least : r ≡ earliest_of None (map lost_cell cells)
+    pub least : r ≡ earliest_of lost (map lost_cell cells)

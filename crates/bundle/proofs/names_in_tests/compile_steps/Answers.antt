@@ -6,5 +6,5 @@ use Rattle.bundle.proofs.names_in_tests.compile_steps.Goals as goal
 
 pub loop-i-preserved : goal.loop-i-preserved
 loop-i-preserved c =
-    compiled-by (map (name_at c.args.schema.now) c.args.names.now) c.args.text.now c.args.read.now c.args.at c.args.steps.now c.loop-i.invariant c.loop-i-test.true
+    compiled-by (map (name_at c.args.schema.now) c.args.names.now) c.args.text.now c.args.read.now c.args.at c.args.steps.now c.args.lost c.loop-i.invariant c.loop-i-test.true
     c.compile_test-test.ensures c.unwrap_or.ensures c.err.ensures.value c.earlier-least.ensures

@@ -5,4 +5,4 @@ use Rattle.text_spec.specs.Scans.{name_at}
 use Rattle.bundle.proofs.names_in_tests.compile_steps.Given as goal
 
 abbrev pub invariant-loop-i : goal.invariant-loop-i
-invariant-loop-i l = CompiledTo (map (name_at l.schema) l.names) l.text l.read l.at l.initial.steps l.i l.steps l.least
+invariant-loop-i l = CompiledTo (map (name_at l.schema) l.names) l.text l.read l.at l.initial.steps l.fn.lost l.i l.steps l.least
