@@ -62,6 +62,17 @@ fn plain_end(t: &[u8], kinds: &[ByteKind; 256], from: usize) -> usize
     t.len()
 }
 
+// The same, with no call where an `&` stands there.
+fn plain_from(t: &[u8], kinds: &[ByteKind; 256], from: usize) -> usize
+    requires { from ≤ length t.now }
+    ensures { PlainBytes t.now kinds.now from result }
+{
+    if from < t.len() && t[from] == b'&' {
+        return from;
+    }
+    plain_end(t, kinds, from)
+}
+
 // The place past the entity that stands at `at`, if one does.
 fn entity_end(t: &[u8], at: usize) -> Option<usize>
     ensures { EntityEnd t.now at result }
@@ -86,7 +97,7 @@ pub fn characters_run(t: &[u8], kinds: &[ByteKind; 256], places: &mut Places, l:
     let mut at = plain_end(t, kinds, l.place);
     while let Some(next) = entity_end(t, at) {
         saved += next - at - 1;
-        at = plain_end(t, kinds, next);
+        at = plain_from(t, kinds, next);
     }
     places.saved = saved as u32;
     Lex { place: at, ..l }

@@ -1,15 +1,22 @@
--- `begins_at` meets its contract.
-use Rattle.std.proofs.Common.{List, ℕ, ◌-◌, length, take, drop, eqb, ◌≡◌, sym, ap, ◌∙◌, length-drop}
-use Rattle.std.proofs.Math.Seq.{take-length}
-use lib.Pointwise.{pointwise}
-use Rattle.journal_lexer.specs.whole_entities.Entities.{begins_at, starts-begins}
+-- `begins_at` meets its contract: so many bytes of the word stand there.
+use Rattle.std.proofs.Common.{arith}
+use Rattle.journal_lexer.specs.whole_entities.Entities.{begins-none, begins-more, begins-all, begins-short, begins-differs}
 use Rattle.journal_lexer.proofs.whole_entities.begins_at.Goals as goal
+use Rattle.journal_lexer.proofs.whole_entities.begins_at.Goals.{then-text-i-via-then-text-i, then-text-i-via-else-text-i+then-text-i-2}
+
+pub loop-k-init : goal.loop-k-init
+loop-k-init c = begins-none c.args.text.now c.args.i c.args.word.now
+
+pub loop-k-preserved : goal.loop-k-preserved
+loop-k-preserved c =
+    begins-more c.args.text.now c.args.i c.args.word.now c.loop-k.k c.loop-k-test.true (omega (arith, c.if-text-i.false)) c.if-text-i-2.false c.loop-k.invariant
+
+pub returns-then-text-i : goal.returns-then-text-i
+returns-then-text-i c =
+    elim c.then-text-i.branch [
+      | then-text-i-via-then-text-i w ↦ begins-short c.args.text.now c.args.i c.args.word.now c.loop-k.k c.loop-k-test.true w.if-text-i.true
+      | then-text-i-via-else-text-i+then-text-i-2 w ↦ begins-differs c.args.text.now c.args.i c.args.word.now c.loop-k.k c.loop-k-test.true w.if-text-i-2.true
+    ]
 
 pub returns : goal.returns
-unfolding begins_at
-returns c =
-    let t = c.args.text.now in
-    let i = c.args.i in
-    let w = c.args.word.now in
-    let rest : take (length t - i) (drop i t) ≡ drop i t = ap (λ (n : ℕ). take n (drop i t)) (sym (length-drop i t)) ∙ take-length (drop i t) in
-    c.starts_with.ensures.value ∙ ap (λ (x : List ℕ). pointwise eqb w (take (length w) x)) rest ∙ starts-begins w (drop i t)
+returns c = begins-all c.args.text.now c.args.i c.args.word.now c.loop-k.k (omega (arith, c.loop-k-test.false)) c.loop-k.invariant
