@@ -28,6 +28,17 @@ impl Writer<'_> {
         character.next
     }
 
+    // Writes bytes that stand for themselves, with no call where there are none.
+    fn put_plain(&mut self, bytes: &[u8])
+        requires { self.old.at + length bytes.now ≤ length self.old.out.now }
+        ensures { Puts self.old bytes.now self.new }
+    {
+        if bytes.is_empty() {
+            return;
+        }
+        self.put_all(bytes);
+    }
+
     // Writes the characters of a text.
     // A `while let`: each turn goes on over what is left of the text.
     fn put_decoded(&mut self, text: &[u8])
@@ -36,11 +47,11 @@ impl Writer<'_> {
     {
         let mut rest = text;
         while let Some(plain) = first_ampersand(rest) {
-            self.put_all(&rest[..plain]);
+            self.put_plain(&rest[..plain]);
             let next = self.put_character(rest, plain);
             rest = &rest[next..];
         }
-        self.put_all(rest);
+        self.put_plain(rest);
     }
 
     // Writes the characters of a text, of which there are so many.

@@ -46,6 +46,10 @@ pub puts-nothing : (w : Writer) → Puts w [] w
 unfolding stored
 puts-nothing w = record { same = refl; bytes = refl; after = omega arith }
 
+pub puts-empty : {w : Writer} (xs : List ℕ) → length xs ≡ 0 → Puts w xs w
+puts-empty {w} [] e = puts-nothing w
+puts-empty (x ∷ xs) e = absurd (omega arith)
+
 pub puts-then : {a b c : Writer} {xs ys : List ℕ} → Puts a xs b → Puts b ys c → Puts a (xs ++ ys) c
 puts-then {a} {b} {c} {xs} {ys} p q =
     record {
