@@ -1,6 +1,7 @@
 -- `put_plain` meets its contract: no bytes need no call.
 use Rattle.std.specs.Prelude.{◌≡◌, length}
-use Rattle.std.proofs.Common.{arith, common_steps}
+use Rattle.std.proofs.Common.{arith}
+use Rattle.std.proofs.lemmas.Grind.{common_steps}
 use Rattle.extract_writer.specs.writers.Writers.{puts-empty}
 use Rattle.extract_writer.proofs.writers.Writer.put_plain.Goals as goal
 
