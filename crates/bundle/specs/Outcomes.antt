@@ -10,7 +10,7 @@ use Rattle.bundle_text.specs.declared.steps.StepRead.{StepRead}
 use Rattle.bundle_text.specs.notes.Notes.{no_notes, uncounted}
 use Rattle.bundle_text.specs.paths.Readings.{path_noted, first_over, BundleAs, ReadsBundle}
 use Rattle.bundle.specs.Judging.{JudgedAs, JudgedUnder, Readable, Spelling}
-use Rattle.bundle.specs.columns.Filling.{filled_paths, lost, filled, Room}
+use Rattle.bundle.specs.columns.Filling.{any_step, paths_with, lost, filled_columns, unless_lost, filled, Room}
 use Rattle.bundle.specs.declared.columns.Filled.{Filled}
 use Rattle.bundle.specs.laws.Filled.{noted-lines, noted-outer, noted-inner, noted-room, noted-count, noted-shaped, noted-paths}
 use Rattle.bundle.specs.laws.Limits.{Few, all-few, over_first, over_none, limits-later}
@@ -18,7 +18,9 @@ use Rattle.bundle.specs.laws.Names.{lost_place, lost-none, lost-first}
 use Rattle.bundle.specs.laws.Order.{Later, later-none, later-all, later-append, Least, least-all, least-judged}
 use Rattle.bundle.specs.laws.Texts.{empty-refused, long-refused, length-right, foreign-refused, none-foreign}
 use Rattle.bundle.specs.names_in_tests.Steps.{earliest, earliest_of, lost_cell}
+use Rattle.compiled_paths.specs.Steps.{no_step}
 use Rattle.compiled_paths.specs.declared.CompiledPaths.{CompiledPaths}
+use Rattle.compiled_paths.specs.declared.Step.{Step}
 use Rattle.path_spec.specs.Grammar.{PathRead}
 use Rattle.path_spec.specs.Machine.{parse}
 use Rattle.path_spec.specs.Paths.{resolved_path}
@@ -133,30 +135,51 @@ module _ {text : List ℕ} {N : Notes} (S : Spelling text N) where
             ∙ ap (λ (fs : List Refusal). judged fs (parsed_paths s (spells read))) (sym (append-nil (all_at undeclared_in_path (undeclared_places s read))))
             ∙ least-judged (parsed_paths s (spells read)) undeclared_in_path k (all_at undeclared_in_path (undeclared_places s read)) [] (lost-first names text s e S.lines k (sym lost-is ∙ n)) (later-none undeclared_in_path)
 
-    known-judged : lost names text N ≡ None → JudgedUnder names text (Ok (filled_paths names text N))
-    known-judged n = record { under = λ s e. accepted-as s e }
+    known-judged : (unwritten : Step) → lost names text N ≡ None → JudgedUnder names text (Ok (paths_with names text N unwritten))
+    known-judged unwritten n = record { under = λ s e. accepted-as s e }
       where
-        accepted-as : (s : Schema) → names ≡ map (λ x. x.name) s → JudgedAs s text (Ok (filled_paths names text N))
+        accepted-as : (s : Schema) → names ≡ map (λ x. x.name) s → JudgedAs s text (Ok (paths_with names text N unwritten))
         accepted-as s e =
             let z : read_bundle s text ≡ accepted (map (λ p. resolved_path s p.path) read) =
             within-limits S.readable s read S.spelt S.within
             ∙ judged-free (all_at undeclared_in_path (undeclared_places s read)) (parsed_paths s (spells read)) (ap (all_at undeclared_in_path) (lost-none names text s e S.lines (sym lost-is ∙ n))) in
-            let y = noted-paths spelt-few S.ended S.noted names text s e in
+            let y = noted-paths spelt-few S.ended S.noted names text unwritten s e in
             record {
               outcome = ap accepted y ∙ sym z;
-              shaped = noted-shaped spelt-few S.ended S.noted names text;
+              shaped = noted-shaped spelt-few S.ended S.noted names text unwritten;
               counted =
                   noted-count spelt-few S.ended S.noted
                   ∙ sym (ap length y ∙ length-map read (λ (p : PathRead). resolved_path s p.path) ∙ length-map S.lines (path_noted text));
             }
 
     -- by what filling them answers
-    pub judge-lost : {r : Filled} → r ≡ filled names text N → {k : ℕ} → r.lost ≡ Some k → JudgedUnder names text (Err (refusal UndeclaredInPath k))
-    judge-lost e {k} u = lost-judged k (sym (ap (λ (x : Filled). x.lost) e) ∙ u)
+    pub columns-lost : {r : Filled} → r ≡ filled_columns names text N → {k : ℕ} → r.lost ≡ Some k → JudgedUnder names text (Err (refusal UndeclaredInPath k))
+    columns-lost e {k} u = lost-judged k (sym (ap (λ (x : Filled). x.lost) e) ∙ u)
 
-    pub judge-known : {r : Filled} → r ≡ filled names text N → r.lost ≡ None → JudgedUnder names text (Ok r.paths)
-    judge-known e u =
-        subst (λ (c : CompiledPaths). JudgedUnder names text (Ok c)) (sym (ap (λ (x : Filled). x.paths) e)) (known-judged (sym (ap (λ (x : Filled). x.lost) e) ∙ u))
+    pub columns-known : {r : Filled} → r ≡ filled_columns names text N → r.lost ≡ None → JudgedUnder names text (Ok r.paths)
+    columns-known e u =
+        subst (λ (c : CompiledPaths). JudgedUnder names text (Ok c)) (sym (ap (λ (x : Filled). x.paths) e)) (known-judged no_step (sym (ap (λ (x : Filled). x.lost) e) ∙ u))
+
+    -- and where they are one answer
+    pub judge-lost : {r : Result CompiledPaths ℕ} → r ≡ filled names text N → {k : ℕ} → r ≡ Err k → JudgedUnder names text (Err (refusal UndeclaredInPath k))
+    judge-lost {r} e {k} u = go (lost names text N) refl (sym e ∙ u)
+      where
+        go : (o : Option ℕ) → lost names text N ≡ o → unless_lost names text N o ≡ Err k → JudgedUnder names text (Err (refusal UndeclaredInPath k))
+        go None p q = absurd (ok_err q)
+          where
+            ok_err : {c : CompiledPaths} → ◌≡◌ {A = Result CompiledPaths ℕ} (Ok c) (Err k) → ⊥
+            ok_err q = cc
+        go (Some j) p q = let z : j ≡ k = cc in subst (λ (i : ℕ). JudgedUnder names text (Err (refusal UndeclaredInPath i))) z (lost-judged j p)
+
+    pub judge-known : {r : Result CompiledPaths ℕ} → r ≡ filled names text N → {c : CompiledPaths} → r ≡ Ok c → JudgedUnder names text (Ok c)
+    judge-known {r} e {c} u = go (lost names text N) refl (sym e ∙ u)
+      where
+        go : (o : Option ℕ) → lost names text N ≡ o → unless_lost names text N o ≡ Ok c → JudgedUnder names text (Ok c)
+        go None p q = let z : paths_with names text N any_step ≡ c = cc in subst (λ (x : CompiledPaths). JudgedUnder names text (Ok x)) z (known-judged any_step p)
+        go (Some j) p q = absurd (err_ok q)
+          where
+            err_ok : {x : CompiledPaths} → ◌≡◌ {A = Result CompiledPaths ℕ} (Err j) (Ok x) → ⊥
+            err_ok q = cc
 
 -- ---- from reading all paths
 module _ {text : List ℕ} {M N : Notes} {o : Result (Option ℕ) ℕ} (readable : Readable text) (fresh : M ≡ no_notes) (B : ReadsBundle text (uncounted M) N o) where

@@ -1,11 +1,11 @@
 // Compiled paths from what was noted of a bundle text.
 ghost use Rattle.std.specs.Prelude.{map, ◌≡◌};
-ghost use Rattle.bundle.specs.columns.Filling.{filled, Room};
+ghost use Rattle.bundle.specs.columns.Filling.{filled, filled_columns, Room};
 ghost use Rattle.text_spec.specs.Scans.{name_at};
 
 use crate::names_in_tests::{compile_steps, earlier};
 use bundle_text::notes::Notes;
-use compiled_paths::{CompiledPaths, NO_STEP, STEPS, WRITTEN_STEPS};
+use compiled_paths::{Axis, CompiledPaths, NO_STEP, NodeTest, STEPS, Step, WRITTEN_STEPS};
 
 // Compiled paths, and the least place of a name that no element has, if there is one.
 #[derive(Drop)]
@@ -15,9 +15,9 @@ pub struct Filled {
 }
 
 // Fills the steps outside brackets and in them, and where those of paths and of conditions start.
-pub fn fill(schema: &[u8], names: &[usize], text: &[u8], notes: &Notes) -> Filled
+pub fn fill_columns(schema: &[u8], names: &[usize], text: &[u8], notes: &Notes) -> Filled
     requires { Room names.now notes.now }
-    ensures { result ≡ filled (map (name_at schema.now) names.now) text.now notes.now }
+    ensures { result ≡ filled_columns (map (name_at schema.now) names.now) text.now notes.now }
 {
     let mut steps = [NO_STEP; STEPS];
     let outer = &notes.outer[..notes.outer_count];
@@ -35,4 +35,45 @@ pub fn fill(schema: &[u8], names: &[usize], text: &[u8], notes: &Notes) -> Fille
         },
         lost: earlier(outer_lost, inner_lost),
     }
+}
+
+// What `fill` leaves in a cell that no step is written to.
+const ANY_STEP: Step = Step {
+    axis: Axis::SelfNode,
+    test: NodeTest::Node,
+    ends_alternative: false,
+};
+
+// The same as `fill_columns`, in one answer: the compiled paths, or the least place of a name that no element has.
+pub fn fill(
+    schema: &[u8],
+    names: &[usize],
+    text: &[u8],
+    notes: &Notes,
+) -> Result<CompiledPaths, usize>
+    requires { Room names.now notes.now }
+    ensures { result ≡ filled (map (name_at schema.now) names.now) text.now notes.now }
+{
+    let mut cells = [ANY_STEP; STEPS];
+    let written = &notes.outer[..notes.outer_count];
+    let bracketed = &notes.inner[..notes.inner_count];
+    let first = compile_steps(schema, names, text, written, 0, &mut cells, None);
+    let second = compile_steps(
+        schema,
+        names,
+        text,
+        bracketed,
+        WRITTEN_STEPS,
+        &mut cells,
+        None,
+    );
+    if let Some(place) = earlier(first, second) {
+        return Err(place);
+    }
+    Ok(CompiledPaths {
+        count: notes.path_count,
+        paths: notes.paths,
+        conditions: notes.conditions,
+        steps: cells,
+    })
 }

@@ -31,7 +31,7 @@ pub fn judge_names(
     requires { (length names.now ≤ max_declarations) × Spelling text.now notes.now }
     ensures { JudgedUnder (map (name_at schema.now) names.now) text.now result }
 {
-    let filled = columns::fill(schema, names, text, notes);
+    let filled = columns::fill_columns(schema, names, text, notes);
     match filled.lost {
         Some(place) => Err(Refusal::at(Reason::UndeclaredInPath, place)),
         None => Ok(filled.paths),

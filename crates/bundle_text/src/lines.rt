@@ -6,7 +6,7 @@ ghost use Rattle.bundle_text.specs.written_steps.Readings.{ReadsLine};
 use crate::alternative_ends::Follow;
 use crate::conditions::Past;
 use crate::notes::Notes;
-use crate::written_steps::{after_step, written_step};
+use crate::written_steps::{after_step, uncounted_step};
 
 // Past the path that is due at `at` and its line feed. Its steps are noted.
 // A `loop`: each turn goes on where the step before ended.
@@ -17,7 +17,7 @@ pub fn path(s: &[u8], at: usize, notes: &mut Notes) -> Result<Past, usize>
     let mut i = at;
     let mut over_limit = false;
     loop {
-        let step = written_step(s, i, notes)?;
+        let step = uncounted_step(s, i, notes)?;
         notes.count_outer();
         over_limit |= step.over_limit;
         match after_step(s, step.at)? {

@@ -1,6 +1,6 @@
 // What is noted of a bundle text while it is read, in fixed memory. What passes a limit is counted, and stored only as far as there is room.
 ghost use Rattle.std.specs.Prelude.{◌≡◌, ◌+◌, ◌^◌, ◌≤◌, ◌<◌};
-ghost use Rattle.bundle_text.specs.notes.Notes.{no_notes, uncounted, with_inner, with_cell, with_count, with_path};
+ghost use Rattle.bundle_text.specs.notes.Notes.{no_notes, uncounted, with_inner, with_cell, with_count, with_outer, with_path};
 ghost use Rattle.text_spec.specs.Limits.{max_bundle_bytes};
 
 use crate::steps::{StepRead, TestRead};
@@ -81,6 +81,15 @@ impl Notes {
         self.outer_count += 1;
         let end = (WRITTEN_STEPS + self.inner_count) as u16;
         note(&mut self.conditions, self.outer_count, end);
+    }
+
+    // Notes a step outside brackets, after those in its own.
+    pub fn note_outer(&mut self, step: StepRead)
+        requires { (self.old.outer_count + 1 < 2 ^ 64) × (self.old.inner_count ≤ max_bundle_bytes) }
+        ensures { self.new ≡ with_outer self.old step }
+    {
+        self.note_cell(step);
+        self.count_outer();
     }
 
     // Notes a path, after its steps.

@@ -1,6 +1,7 @@
 // Steps of a path with their brackets, and what follows each.
+ghost use Rattle.std.specs.Prelude.{◌+◌, ◌^◌, ◌<◌};
 ghost use Rattle.bundle_text.specs.notes.Notes.{ReadsFrom};
-ghost use Rattle.bundle_text.specs.written_steps.Readings.{ReadsBrackets, ReadsWritten, Followed};
+ghost use Rattle.bundle_text.specs.written_steps.Readings.{ReadsBrackets, ReadsUncounted, ReadsWritten, Followed};
 
 use crate::alternative_ends::Follow;
 use crate::conditions::{Past, condition};
@@ -22,13 +23,23 @@ fn brackets(s: &[u8], at: usize, notes: &mut Notes) -> Result<Past, usize>
 }
 
 // Past the step that is due at `at`, which is noted, and not yet counted.
-pub fn written_step(s: &[u8], at: usize, notes: &mut Notes) -> Result<Past, usize>
+pub fn uncounted_step(s: &[u8], at: usize, notes: &mut Notes) -> Result<Past, usize>
     requires { ReadsFrom s.now at notes.old }
-    ensures { ReadsWritten s.now at notes.old notes.new result }
+    ensures { ReadsUncounted s.now at notes.old notes.new result }
 {
     let (step, j) = plain_step(s, at)?;
     let past = brackets(s, j, notes)?;
     notes.note_cell(step);
+    Ok(past)
+}
+
+// The same, and counted.
+pub fn written_step(s: &[u8], at: usize, notes: &mut Notes) -> Result<Past, usize>
+    requires { ReadsFrom s.now at notes.old × (notes.old.outer_count + 1 < 2 ^ 64) }
+    ensures { ReadsWritten s.now at notes.old notes.new result }
+{
+    let past = uncounted_step(s, at, notes)?;
+    notes.count_outer();
     Ok(past)
 }
 

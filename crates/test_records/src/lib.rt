@@ -141,3 +141,53 @@ pub fn bundle_of(cells: &[u8], len: usize) -> Bundle {
     copy(cells, &mut bytes);
     Bundle { bytes, len }
 }
+
+// Functions of bundle and bundle_text that no program calls.
+#[cfg(test)]
+mod tests {
+    use bundle::columns::fill;
+    use bundle_text::notes::Notes;
+    use bundle_text::steps::{StepRead, TestRead};
+    use bundle_text::written_steps::written_step;
+    use compiled_paths::{Axis, NodeTest};
+
+    // A step with one in its brackets: both are noted and counted, and then compiled.
+    #[test]
+    fn a_step_with_brackets(rt: HostRuntime) {
+        let text = b"self::a[child::b]";
+        let mut notes = Notes::new();
+        let past = written_step(text, 0, &mut notes);
+        assert_eq!(rt; past.is_ok(), true);
+        assert_eq!(rt; notes.outer_count, 1);
+        assert_eq!(rt; notes.inner_count, 1);
+        assert_eq!(rt; notes.conditions[1], 129);
+        let compiled = fill(b"a b", &[0, 2], text, &notes);
+        assert_eq!(rt; compiled.is_ok(), true);
+        if let Ok(paths) = compiled {
+            assert_eq!(rt; paths.steps[0].test, NodeTest::Element(0));
+            assert_eq!(rt; paths.steps[1].test, NodeTest::Node);
+            assert_eq!(rt; paths.steps[128].test, NodeTest::Element(1));
+            assert_eq!(rt; paths.steps[128].ends_alternative, true);
+        }
+        assert_eq!(rt;
+            fill(b"a", &[0], text, &notes).err(),
+            Some(15),
+            "b is no element"
+        );
+    }
+
+    #[test]
+    fn a_step_after_those_in_its_brackets(rt: HostRuntime) {
+        let step = StepRead {
+            axis: Axis::Child,
+            test: TestRead::Text,
+            ends_alternative: false,
+        };
+        let mut notes = Notes::new();
+        notes.note_inner(step);
+        notes.note_outer(step);
+        assert_eq!(rt; notes.outer[0], step);
+        assert_eq!(rt; notes.outer_count, 1);
+        assert_eq!(rt; notes.conditions[1], 129);
+    }
+}

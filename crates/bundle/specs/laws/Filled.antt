@@ -16,7 +16,7 @@ use Rattle.bundle_text.specs.notes.Laws.{cells-append, conditions-length, path-e
 use Rattle.bundle_text.specs.notes.Notes.{no_step as no_read, no_notes, cells_of, Ended, EachEnded, Written, outer_cells, all_paths, condition_ends, Line, all_steps, path_ends, with_lines}
 use Rattle.bundle_text.specs.paths.Readings.{path_noted}
 use Rattle.bundle_text.specs.steps.Readings.{test_noted, use_at}
-use Rattle.bundle.specs.columns.Filling.{outer_read, inner_read, filled_steps, filled_paths, Room}
+use Rattle.bundle.specs.columns.Filling.{outer_read, inner_read, steps_with, paths_with, Room}
 use Rattle.bundle.specs.laws.Columns.{Along, Holds, along-append, sets-before, holds-sets, holds-before, Stands, Alternative, Alternatives, alternatives-append, Stand, paths-stand}
 use Rattle.bundle.specs.laws.Limits.{Few}
 use Rattle.bundle.specs.names_in_tests.Steps.{element_or, test_or, compiled_test, step_cell}
@@ -171,8 +171,9 @@ module _ {ls : List Line} {N : Notes} (few : Few ls) (ended : EachEnded (all_pat
   pub noted-count : N.path_count ≡ length ls
   noted-count = noted.counted
 
-  module _ (names : List (List ℕ)) (text : List ℕ) where
-    pub noted-shaped : Shaped (filled_paths names text N)
+  -- whatever step stands in cells that none is written to
+  module _ (names : List (List ℕ)) (text : List ℕ) (unwritten : Step) where
+    pub noted-shaped : Shaped (paths_with names text N unwritten)
     noted-shaped =
         let a = noted-count in
         let b = few.paths in
@@ -190,10 +191,10 @@ module _ {ls : List Line} {N : Notes} (few : Few ls) (ended : EachEnded (all_pat
         }
 
     abbrev steps : List Step
-    steps = filled_steps names text N
+    steps = steps_with names text N unwritten
 
     abbrev first_steps : List Step
-    first_steps = sets (replicate step_count no_step) 0 (map (step_cell names text) (outer_read N))
+    first_steps = sets (replicate step_count unwritten) 0 (map (step_cell names text) (outer_read N))
 
     outer-holds : Holds no_step steps 0 (map (step_cell names text) (outer_read N))
     outer-holds =
@@ -202,7 +203,7 @@ module _ {ls : List Line} {N : Notes} (few : Few ls) (ended : EachEnded (all_pat
         let c = ap length noted.outer-are in
         let d = length-map (all_steps ls) (λ (w : Written). w.cell) in
         holds-before no_step first_steps written_steps (map (step_cell names text) (inner_read N)) 0 (map (step_cell names text) (outer_read N)) (omega arith)
-        (holds-sets no_step (replicate step_count no_step) 0 (map (step_cell names text) (outer_read N)) (omega (arith, length-replicate {A = Step} step_count no_step)))
+        (holds-sets no_step (replicate step_count unwritten) 0 (map (step_cell names text) (outer_read N)) (omega (arith, length-replicate {A = Step} step_count unwritten)))
 
     inner-holds : Holds no_step steps written_steps (map (step_cell names text) (inner_read N))
     inner-holds =
@@ -210,7 +211,7 @@ module _ {ls : List Line} {N : Notes} (few : Few ls) (ended : EachEnded (all_pat
         let b = length-map (inner_read N) (step_cell names text) in
         let c = ap length noted.inner-are in
         holds-sets no_step first_steps written_steps (map (step_cell names text) (inner_read N))
-        (omega (arith, length-sets (replicate step_count no_step) 0 (map (step_cell names text) (outer_read N)), length-replicate {A = Step} step_count no_step))
+        (omega (arith, length-sets (replicate step_count unwritten) 0 (map (step_cell names text) (outer_read N)), length-replicate {A = Step} step_count unwritten))
 
     module _ (s : Schema) (e : names ≡ map (λ x. x.name) s) where
       abbrev element : Use → ℕ
@@ -237,7 +238,7 @@ module _ {ls : List Line} {N : Notes} (few : Few ls) (ended : EachEnded (all_pat
           (ends-hold written_steps written_steps (condition_ends 0 (all_steps ls)) (omega (arith, conditions-length 0 (all_steps ls)))))
           outer-along inner-along
 
-      pub noted-paths : paths_in (filled_paths names text N) ≡ map (λ p. resolved_path s p.path) (map (path_noted text) ls)
+      pub noted-paths : paths_in (paths_with names text N unwritten) ≡ map (λ p. resolved_path s p.path) (map (path_noted text) ls)
       unfolding paths_in
       noted-paths =
           let c = few.paths in

@@ -6,15 +6,16 @@ use Rattle.bundle_text.specs.declared.alternative_ends.Follow.TheVariants.{Close
 use Rattle.bundle_text.specs.declared.conditions.Past.{Past}
 use Rattle.bundle_text.specs.declared.notes.Notes.{Notes}
 use Rattle.bundle_text.specs.declared.steps.StepRead.{StepRead}
-use Rattle.bundle_text.specs.notes.Laws.{inners-none}
-use Rattle.bundle_text.specs.notes.Notes.{with_cell}
+use Rattle.bundle_text.specs.notes.Laws.{inners-none, outer-one}
+use Rattle.bundle_text.specs.notes.Notes.{with_cell, with_count, with_outer}
 use Rattle.bundle_text.specs.steps.Readings.{Stands, step_axis, step_test, PlainAs, ReadsPlain}
-use Rattle.bundle_text.specs.written_steps.Readings.{condition_of, stepped, BracketsRead, BracketsAs, ReadsBrackets, ReadsWritten, line_ended, FollowedAs}
+use Rattle.bundle_text.specs.written_steps.Readings.{condition_of, stepped, BracketsRead, BracketsAs, ReadsBrackets, UncountedRead, UncountedAs, ReadsUncounted, ReadsWritten, line_ended, FollowedAs}
 use Rattle.path_spec.specs.Machine.{Outer, outside, inside, State, dead, after_call, after_brackets, begin_step, with_step, step_done, step, bundle_machine}
 use Rattle.path_spec.specs.Paths.{Condition}
 use Rattle.schema_spec.specs.Declarations.{Use}
 use Rattle.text_laws.specs.Scans.{step-at, dead-at, same_at, at-end}
 use Rattle.text_laws.specs.Tests.{cond_no}
+use Rattle.text_spec.specs.Limits.{max_bundle_bytes}
 use Rattle.text_spec.specs.Machines.{from}
 use Rattle.text_spec.specs.Scans.{byte_at}
 
@@ -79,13 +80,58 @@ module _ {s : List ℕ} {at : ℕ} {t : Bool} (S : Stands s at 0x5B t) where
   pub brackets-some : {N N' : Notes} {r : Result Past ℕ} → t ≡ true → ReadsCondition s (at + 1) N N' r → ReadsBrackets s at N N' r
   brackets-some {N} {N'} {r} f C = record { says = brackets-as N N' f r C.says }
 
+-- ---- a step that is noted, and then counted
+module _ {s : List ℕ} {at : ℕ} {N M : Notes} where
+  module _ {q : Result Past ℕ} (U : ReadsUncounted s at N M q) where
+    uncounted-as : {a : Result Past ℕ} → q ≡ a → UncountedAs s at N M a
+    uncounted-as u = (subst (ReadsUncounted s at N M) u U).says
+
+    pub counted-fails : {j : ℕ} → q ≡ Err j → ReadsWritten s at N M (Err j)
+    counted-fails u = record { says = uncounted-as u }
+
+    module _ {r : Past} (u : q ≡ Ok r) where
+      abbrev U-read : UncountedRead s at N M r
+      U-read = uncounted-as u
+
+      pub counted-room : length s ≤ max_bundle_bytes → M.inner_count ≤ max_bundle_bytes
+      counted-room h =
+          let a = U-read.few in
+          let b = U-read.high in
+          omega arith
+
+      pub counted-before : M.outer_count ≡ N.outer_count
+      counted-before = ap (λ (K : Notes). K.outer_count) U-read.noted
+
+      pub counted-reads : {N' : Notes} → N' ≡ with_count M → ReadsWritten s at N N' (Ok r)
+      counted-reads e =
+          record {
+            says = record {
+              step = U-read.step;
+              place = U-read.place;
+              before = U-read.before;
+              past-brackets = U-read.past-brackets;
+              brackets = U-read.brackets;
+              low = U-read.low;
+              high = U-read.high;
+              goes_on = U-read.goes_on;
+              ended = U-read.ended;
+              noted = e ∙ ap with_count U-read.noted ∙ outer-one N U-read.step;
+              few = subst (λ (K : Notes). K.inner_count ≤ r.at) (sym e) U-read.few;
+              limit = U-read.limit;
+              same = U-read.same;
+            };
+          }
+
 -- ---- a step
 module _ {s : List ℕ} {at : ℕ} {p : Result (StepRead × ℕ) ℕ} (P : ReadsPlain s at p) where
   plain-as : {a : Result (StepRead × ℕ) ℕ} → p ≡ a → PlainAs s at a
   plain-as u = (subst (ReadsPlain s at) u P).says
 
+  pub uncounted-fails : {N : Notes} {j : ℕ} → p ≡ Err j → ReadsUncounted s at N N (Err j)
+  uncounted-fails u = record { says = (record { inner = []; noted = inners-none _ }, λ z. plain-as u (outside z)) }
+
   pub written-fails : {N : Notes} {j : ℕ} → p ≡ Err j → ReadsWritten s at N N (Err j)
-  written-fails u = record { says = (record { inner = []; noted = inners-none _ }, λ z. plain-as u (outside z)) }
+  written-fails u = counted-fails (uncounted-fails u) refl
 
   module _ {c : StepRead} {j : ℕ} (u : p ≡ Ok (c, j)) where
     pub written-place : (at < j) × (j ≤ length s)
@@ -95,10 +141,13 @@ module _ {s : List ℕ} {at : ℕ} {p : Result (StepRead × ℕ) ℕ} (P : Reads
       pub brackets-read : {a : Result Past ℕ} → q ≡ a → BracketsAs s j N M a
       brackets-read v = (subst (ReadsBrackets s j N M) v B).says
 
-      pub written-stops : {e : ℕ} → q ≡ Err e → ReadsWritten s at N M (Err e)
-      written-stops v =
+      pub uncounted-stops : {e : ℕ} → q ≡ Err e → ReadsUncounted s at N M (Err e)
+      uncounted-stops v =
           let B = brackets-read v in
           record { says = (B.0, λ z. (plain-as u).3 (outside z) ∙ B.1 c z) }
+
+      pub written-stops : {e : ℕ} → q ≡ Err e → ReadsWritten s at N M (Err e)
+      written-stops v = counted-fails (uncounted-stops v) refl
 
       module _ {r : Past} (v : q ≡ Ok r) where
         abbrev R : BracketsRead s j N M r
@@ -110,8 +159,8 @@ module _ {s : List ℕ} {at : ℕ} {p : Result (StepRead × ℕ) ℕ} (P : Reads
         pub written-high : r.at ≤ length s
         written-high = R.high
 
-        pub written-reads : {N' : Notes} → N' ≡ with_cell M c → ReadsWritten s at N N' (Ok r)
-        written-reads e =
+        pub uncounted-reads : {N' : Notes} → N' ≡ with_cell M c → ReadsUncounted s at N N' (Ok r)
+        uncounted-reads e =
             let g = (plain-as u).0 in
             let h = R.low in
             record {
@@ -131,6 +180,9 @@ module _ {s : List ℕ} {at : ℕ} {p : Result (StepRead × ℕ) ℕ} (P : Reads
                 same = λ z. (plain-as u).3 (outside z) ∙ R.same c z;
               };
             }
+
+        pub written-reads : {N' : Notes} → N' ≡ with_outer M c → ReadsWritten s at N N' (Ok r)
+        written-reads e = counted-reads (uncounted-reads refl) refl e
 
 -- ---- what follows it
 module _ (s : List ℕ) (at : ℕ) where

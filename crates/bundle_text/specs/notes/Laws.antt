@@ -5,7 +5,7 @@ use Rattle.std.proofs.lemmas.List.{map-append, length-map}
 use Rattle.std.proofs.lemmas.List.Edits.{sets}
 use Rattle.bundle_text.specs.declared.notes.Notes.{Notes}
 use Rattle.bundle_text.specs.declared.steps.StepRead.{StepRead}
-use Rattle.bundle_text.specs.notes.Notes.{with_cell, with_count, with_path, with_inners, cells_of, Ended, EachEnded, Goes, Written, outer_cells, all_paths, condition_ends, with_steps, Line, all_steps, path_ends, with_lines}
+use Rattle.bundle_text.specs.notes.Notes.{uncounted, with_cell, with_count, with_path, with_inners, cells_of, Ended, EachEnded, Goes, Written, outer_cells, all_paths, condition_ends, with_steps, Line, all_steps, path_ends, with_lines, Few}
 use Rattle.compiled_paths.specs.Sizes.{written_steps}
 use Rattle.text_spec.specs.Lists.{gather}
 
@@ -88,6 +88,14 @@ steps-none N = same-notes refl (omega arith) refl refl (omega arith) refl refl
 
 pub lines-none : (N : Notes) → N ≡ with_lines N []
 lines-none N = same-notes refl (omega arith) refl refl (omega arith) refl (omega arith)
+
+-- notes of which nothing is counted
+pub uncounted-same : {N : Notes} → Few 0 N → uncounted N ≡ N
+uncounted-same f =
+    let a = f.outer in
+    let b = f.inner in
+    let c = f.paths in
+    same-notes refl (omega arith) refl refl (omega arith) refl (omega arith)
 
 pub inners-more : (N : Notes) (ps qs : List StepRead) → with_inners (with_inners N ps) qs ≡ with_inners N (ps ++ qs)
 inners-more N ps qs = same-notes refl refl refl (sym (sets-append N.inner N.inner_count ps qs)) (omega (arith, length-append ps qs)) refl refl

@@ -76,6 +76,7 @@ with_count N =
       path_count = N.path_count;
     }
 
+-- both at once
 abbrev pub with_outer : Notes → StepRead → Notes
 with_outer N p =
     record {

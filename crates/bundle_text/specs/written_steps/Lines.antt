@@ -9,8 +9,8 @@ use Rattle.bundle_text.specs.declared.conditions.Past.{Past}
 use Rattle.bundle_text.specs.declared.notes.Notes.{Notes}
 use Rattle.bundle_text.specs.declared.steps.StepRead.{StepRead}
 use Rattle.bundle_text.specs.notes.Laws.{paths-append, ended-append, outer-goes, inners-none, outer-one, steps-none, steps-more}
-use Rattle.bundle_text.specs.notes.Notes.{with_count, with_inners, EachEnded, Goes, Written, outer_cells, all_paths, with_steps}
-use Rattle.bundle_text.specs.written_steps.Readings.{stepped, WrittenRead, WrittenAs, ReadsWritten, FollowedAs, Followed, step_noted, over_condition, ReadsLine}
+use Rattle.bundle_text.specs.notes.Notes.{with_cell, with_count, with_inners, cells_of, EachEnded, Goes, Written, outer_cells, all_paths, with_steps}
+use Rattle.bundle_text.specs.written_steps.Readings.{stepped, UncountedRead, UncountedAs, ReadsUncounted, ReadsWritten, FollowedAs, Followed, step_noted, over_condition, ReadsLine}
 use Rattle.path_spec.specs.Grammar.{PathRead, path_read}
 use Rattle.path_spec.specs.Machine.{Outer, outside, line_start, after_brackets, begin_step, step, bundle_machine}
 use Rattle.path_spec.specs.Paths.{Condition, WrittenStep}
@@ -69,9 +69,40 @@ line-begins : (s : List ℕ) (at : ℕ) (ps : List PathRead) → at < length s �
 unfolding step
 line-begins s at ps h = same_at bundle_machine s at (line_start ps) (begin_step (outside (started ps at []))) h refl
 
-module _ {s : List ℕ} {at : ℕ} {N N' : Notes} {i : ℕ} {over : Bool} (U : Upto s at N N' i over) (h : at < length s) {M : Notes} {q : Result Past ℕ} (W : ReadsWritten s i N' M q) where
-  pub written_is : {a : Result Past ℕ} → q ≡ a → WrittenAs s i N' M a
-  written_is u = (subst (ReadsWritten s i N' M) u W).says
+-- a step that is counted was noted before
+module _ {s : List ℕ} {at : ℕ} {N N' : Notes} where
+  pub noted-before : {r : Past} → ReadsWritten s at N N' (Ok r) → (M : Notes) × ReadsUncounted s at N M (Ok r) × (N' ≡ with_count M)
+  noted-before {r} W =
+      let R = W.says in
+      let M : Notes = with_cell (with_inners N (cells_of R.step.paths)) R.step.cell in
+      let e : N' ≡ with_count M = R.noted ∙ sym (outer-one N R.step) in (
+        M,
+        record {
+          says = record {
+            step = R.step;
+            place = R.place;
+            before = R.before;
+            past-brackets = R.past-brackets;
+            brackets = R.brackets;
+            low = R.low;
+            high = R.high;
+            goes_on = R.goes_on;
+            ended = R.ended;
+            noted = refl;
+            few = subst (λ (K : Notes). K.inner_count ≤ r.at) e R.few;
+            limit = R.limit;
+            same = R.same;
+          };
+        },
+        e,
+      )
+
+  pub fails-before : {j : ℕ} → ReadsWritten s at N N' (Err j) → ReadsUncounted s at N N' (Err j)
+  fails-before W = record { says = W.says }
+
+module _ {s : List ℕ} {at : ℕ} {N N' : Notes} {i : ℕ} {over : Bool} (U : Upto s at N N' i over) (h : at < length s) {M : Notes} {q : Result Past ℕ} (W : ReadsUncounted s i N' M q) where
+  pub written_is : {a : Result Past ℕ} → q ≡ a → UncountedAs s i N' M a
+  written_is u = (subst (ReadsUncounted s i N' M) u W).says
 
   pub upto-fails : {j : ℕ} → q ≡ Err j → ReadsLine s at N M (Err j)
   upto-fails u =
@@ -84,7 +115,7 @@ module _ {s : List ℕ} {at : ℕ} {N N' : Notes} {i : ℕ} {over : Bool} (U : U
       }
 
   module _ {r : Past} (u : q ≡ Ok r) where
-    abbrev R : WrittenRead s i N' M r
+    abbrev R : UncountedRead s i N' M r
     R = written_is u
 
     abbrev ws : List Written
@@ -191,3 +222,22 @@ module _ {s : List ℕ} {at : ℕ} {N N' : Notes} {i : ℕ} {over : Bool} (U : U
                     ∙ ap₂ (λ (c : ℕ) (z : List (WrittenStep Use (Condition Use))). from bundle_machine (line_start (path_read at c z ∷ ps)) s e) t (reverse-reverse (map (step_noted s) ws));
               };
             }
+
+-- ---- the same of steps that are counted
+module _ {s : List ℕ} {at : ℕ} {N N' : Notes} {i : ℕ} {over : Bool} (U : Upto s at N N' i over) (h : at < length s) {M : Notes} {q : Result Past ℕ} (W : ReadsWritten s i N' M q) where
+  pub line-fails : {j : ℕ} → q ≡ Err j → ReadsLine s at N M (Err j)
+  line-fails u = upto-fails U h (fails-before (subst (ReadsWritten s i N' M) u W)) refl
+
+  module _ {r : Past} (u : q ≡ Ok r) where
+    abbrev as-noted : (K : Notes) × ReadsUncounted s i N' K (Ok r) × (M ≡ with_count K)
+    as-noted = noted-before (subst (ReadsWritten s i N' M) u W)
+
+    module _ {b : Bool} (be : b ≡ (over || r.over_limit)) {f : Result Follow ℕ} (F : Followed s r.at f) where
+      pub line-stops : {e : ℕ} → f ≡ Err e → ReadsLine s at N M (Err e)
+      line-stops v = upto-stops U h as-noted.1 refl as-noted.2 be F v
+
+      pub line-next : {e : ℕ} → f ≡ Ok (More e) → Upto s at N M e b
+      line-next v = upto_next U h as-noted.1 refl as-noted.2 be F v
+
+      pub line-closes : {e : ℕ} → f ≡ Ok (Close e) → ReadsLine s at N M (Ok (record { at = e; over_limit = b }))
+      line-closes v = upto-closes U h as-noted.1 refl as-noted.2 be F v

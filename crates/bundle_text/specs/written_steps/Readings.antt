@@ -42,7 +42,8 @@ BracketsAs s at N N' (Err j) = OnlyInner N N' × ((c : StepRead) (o : Outer) →
 pub record ReadsBrackets (s : List ℕ) (at : ℕ) (N N' : Notes) (r : Result Past ℕ) : Type 0 where
   pub says : BracketsAs s at N N' r
 
-pub record WrittenRead (s : List ℕ) (at : ℕ) (N N' : Notes) (r : Past) : Type 0 where
+-- a step and its brackets, by what it leaves of the notes
+pub record StepPassed (noting : Notes → Written → Notes) (s : List ℕ) (at : ℕ) (N N' : Notes) (r : Past) : Type 0 where
   pub step : Written
   -- where its brackets stand, if it has any
   pub place : ℕ
@@ -54,14 +55,32 @@ pub record WrittenRead (s : List ℕ) (at : ℕ) (N N' : Notes) (r : Past) : Typ
   pub high : r.at ≤ length s
   pub goes_on : step.cell.ends_alternative ≡ false
   pub ended : EachEnded step.paths
-  pub noted : N' ≡ with_cell (with_inners N (cells_of step.paths)) step.cell
+  pub noted : N' ≡ noting N step
   pub few : N'.inner_count ≤ r.at
   pub limit : r.over_limit ≡ too_much step.paths
   pub same : (o : Outer) → from bundle_machine (begin_step (outside o)) s at ≡ from bundle_machine (after_brackets (stepped s step.cell step.paths o)) s r.at
 
+abbrev pub StepFails : List ℕ → ℕ → Notes → Notes → ℕ → Type 0
+StepFails s at N N' j = OnlyInner N N' × ((o : Outer) → from bundle_machine (begin_step (outside o)) s at ≡ departs j)
+
+-- it is noted after the steps in its brackets, and not counted yet
+abbrev pub UncountedRead : List ℕ → ℕ → Notes → Notes → Past → Type 0
+UncountedRead = StepPassed (λ N w. with_cell (with_inners N (cells_of w.paths)) w.cell)
+
+abbrev pub UncountedAs : List ℕ → ℕ → Notes → Notes → Result Past ℕ → Type 0
+UncountedAs s at N N' (Ok r) = UncountedRead s at N N' r
+UncountedAs s at N N' (Err j) = StepFails s at N N' j
+
+pub record ReadsUncounted (s : List ℕ) (at : ℕ) (N N' : Notes) (r : Result Past ℕ) : Type 0 where
+  pub says : UncountedAs s at N N' r
+
+-- the same, and counted
+abbrev pub WrittenRead : List ℕ → ℕ → Notes → Notes → Past → Type 0
+WrittenRead = StepPassed (λ N w. with_steps N (w ∷ []))
+
 abbrev pub WrittenAs : List ℕ → ℕ → Notes → Notes → Result Past ℕ → Type 0
 WrittenAs s at N N' (Ok r) = WrittenRead s at N N' r
-WrittenAs s at N N' (Err j) = OnlyInner N N' × ((o : Outer) → from bundle_machine (begin_step (outside o)) s at ≡ departs j)
+WrittenAs s at N N' (Err j) = StepFails s at N N' j
 
 pub record ReadsWritten (s : List ℕ) (at : ℕ) (N N' : Notes) (r : Result Past ℕ) : Type 0 where
   pub says : WrittenAs s at N N' r

@@ -1,6 +1,6 @@
--- `written_step` meets its contract: a step without brackets, and then its brackets.
-use Rattle.bundle_text.proofs.written_steps.Steps.{written-reads}
+-- `written_step` meets its contract: the step, and then its count.
+use Rattle.bundle_text.proofs.written_steps.Steps.{counted-reads}
 use Rattle.bundle_text.proofs.written_steps.written_step.Goals as goal
 
 pub returns : goal.returns
-returns c = written-reads c.plain_step.ensures c.in_ok-step.was c.brackets.ensures c.in_ok-past.was c.note_cell.ensures
+returns c = counted-reads c.uncounted_step.ensures c.in_ok-past.was c.count_outer.ensures
