@@ -65,6 +65,23 @@ pub record ContentsOf (s : Schema) (t : JournalSchema) : Type 0 where
   pub kinds : KindsOf s t
   pub models : ModelsOf s t
 
+-- it knows the exact entry of each element of a schema
+pub record ExactEntries (s : Schema) (t : JournalSchema) : Type 0 where
+  pub few : length s ≤ max_declarations
+  pub entries : (a : ℕ) → a < length s → EntryOf (content_at s a) (entry_of t a)
+
+kind-of : (c : Content ℕ) (x : ContentRead) → ContentOf c x → KindOf c x
+kind-of c Empty h = h
+kind-of c Pcdata h = h
+kind-of c (Children e) h = (h.0, h.1)
+
+pub entries-contents : {s : Schema} {t : JournalSchema} → ExactEntries s t → ContentsOf s t
+entries-contents {s} {t} h =
+    record {
+      kinds = record { few = h.few; kind = λ a l. kind-of (content_at s a) (entry_of t a).content (h.entries a l).content };
+      models = record { few = h.few; automata = λ a l p e. entry-automaton (h.entries a l) p e };
+    }
+
 -- it is of a schema
 pub record SchemaOf (s : Schema) (t : JournalSchema) : Type 0 where
   pub contents : ContentsOf s t
@@ -75,6 +92,7 @@ pub record ReadFrom (text : List ℕ) (t : JournalSchema) : Type 0 where
   pub sized : Sized t.compiled.now
   pub few : t.names.count ≤ max_declarations
   pub schema : read_schema text ≡ accepted (schema_in text) → SchemaOf (schema_in text) t
+  pub entries : read_schema text ≡ accepted (schema_in text) → ExactEntries (schema_in text) t
 
 -- a text whose schema has an element is not too long
 schema-short : (text : List ℕ) → 0 < length (schema_in text) → length text ≤ max_schema_bytes
@@ -96,31 +114,18 @@ module _ (text : List ℕ) (t : CompiledSchema) (made : CompiledOf text (schema_
       record {
         sized = subst Sized (sym same) compiled-sized;
         few = subst (λ (n : ℕ). n ≤ max_declarations) (sym named.counted) compiled-few;
-        schema = of;
+        schema = λ read. record { contents = entries-contents (entries read); names = names_of text (schema_in text) read t made r.names named };
+        entries = entries;
       }
     where
-      -- an element's entry
-      entry : length (schema_in text) ≤ max_declarations → (a : ℕ) → a < length (schema_in text) → EntryOf (content_at (schema_in text) a) (entry_of r a)
-      entry few a l =
-          let s = schema_in text in
-          let low : a < max_declarations = omega arith in
-          subst (λ (u : CompiledSchema). EntryOf (content_at s a) (entry_at u.entries (a % max_declarations))) (sym same)
-          (subst (λ (i : ℕ). EntryOf (content_at s a) (entry_at t.entries i)) (sym (mod-eq_of_lt low)) (made.entries.each a low))
-
-      kind-of : (c : Content ℕ) (x : ContentRead) → ContentOf c x → KindOf c x
-      kind-of c Empty h = h
-      kind-of c Pcdata h = h
-      kind-of c (Children e) h = (h.0, h.1)
-
-      of : read_schema text ≡ accepted (schema_in text) → SchemaOf (schema_in text) r
-      of read =
+      entries : read_schema text ≡ accepted (schema_in text) → ExactEntries (schema_in text) r
+      entries read =
           let s = schema_in text in
           let few = accepted-length text s read in
           record {
-            contents =
-                record {
-                  kinds = record { few = few; kind = λ a l. kind-of (content_at s a) (entry_of r a).content (entry few a l).content };
-                  models = record { few = few; automata = λ a l p e. entry-automaton (entry few a l) p e };
-                };
-            names = names_of text s read t made r.names named;
+            few = few;
+            entries = λ a l.
+                let low : a < max_declarations = omega arith in
+                subst (λ (u : CompiledSchema). EntryOf (content_at s a) (entry_at u.entries (a % max_declarations))) (sym same)
+                (subst (λ (i : ℕ). EntryOf (content_at s a) (entry_at t.entries i)) (sym (mod-eq_of_lt low)) (made.entries.each a low));
           }
