@@ -85,6 +85,11 @@ module _ (ps was : List ℕ) (h : RootPass ps was) where
   pub later-axis : (out : List ℕ) → out ≡ marks (length was) (λ r. not (eqb r 0)) → out ≡ marks (length ps) (λ r. not (eqb r 0))
   later-axis out e = e ∙ ap (λ (n : ℕ). marks n (λ r. not (eqb r 0))) h.room
 
+  -- an axis that leads from the root to itself alone
+  pub root-alone : (a : WrittenAxis) (out : List ℕ) → root_written a ps ≡ (λ r. eqb r 0) → out ≡ root_marks (length was) → out ≡ written_marks a ps (root_marks (length ps))
+  unfolding root_marks
+  root-alone a out i d = root-axis a out (d ∙ ap root_marks h.room ∙ ap (marks (length ps)) (sym i))
+
   -- by their numbers the other axes lead from the root to itself alone
   rest-axis : (c : ℕ) → (c ≡ 1 → ⊥) → (c ≡ 2 → ⊥) → (c ≡ 3 → ⊥) → (c ≡ 4 → ⊥) → (c ≡ 5 → ⊥) → (c ≡ 7 → ⊥) → (c ≡ 8 → ⊥) → (c ≡ 9 → ⊥) → (c ≡ 10 → ⊥)
       → marks (length ps) (root_written (written_of c) ps) ≡ root_marks (length ps)
