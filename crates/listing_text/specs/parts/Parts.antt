@@ -51,10 +51,15 @@ refusal-written {w₀ = w₀} {w₃ = w₃} {d = d} {x = x} {y = y} p q s =
     (written_then p.written (written_then q.written s))
 
 -- the same of a refusal of the program
-pub refused-written : {was out : List ℕ} {n x : ℕ} (f : program.Refusal) → x ≡ number_of (reason_in f.reason) → WrittenAt was 0 (refusal x f.place) n out
+pub refused-line-written : {was out : List ℕ} {n x : ℕ} (f : program.Refusal) → x ≡ number_of (reason_in f.reason) → WrittenAt was 0 (refusal x f.place) n out
     → WrittenAt was 0 (refused_line (refusal_in f)) n out
-refused-written {was = was} {out = out} {n = n} {x = x} f e w =
+refused-line-written {was = was} {out = out} {n = n} {x = x} f e w =
     subst (λ (l : List ℕ). WrittenAt was 0 l n out) (ap (λ (k : ℕ). refusal k f.place) e ∙ sym (refusal-line (refusal_in f))) w
+
+-- and from its three parts
+pub refused-written : {w₀ w₁ w₂ w₃ : List ℕ} {a b d x : ℕ} (f : program.Refusal) → x ≡ number_of (reason_in f.reason) → NumberAt w₀ 0 (bytes "refused ") x a w₁ → NumberAt w₁ a (bytes " at ") f.place b w₂
+    → WrittenAt w₂ b line_feed d w₃ → WrittenAt w₀ 0 (refused_line (refusal_in f)) d w₃
+refused-written f e p q s = refused-line-written f e (refusal-written p q s)
 
 -- ---- a chain of tags
 -- the chain's room from a place on
