@@ -1,5 +1,6 @@
 // The row that a field of an extract makes, and the element that it opens.
 ghost use Rattle.extract_reader.specs.field_rows.Steps.{ElementPlace, TextPlace, ElementRead, TextRead, Ready, Steps};
+ghost use Rattle.extract_reader.specs.reading.Readers.{BitWidths};
 
 use crate::field_values::Field;
 use crate::levels::Level;
@@ -72,7 +73,8 @@ impl Reader<'_> {
     // The row of the next field; none at the count.
     pub fn next_row(&mut self) -> Result<Option<FieldRow>, Refusal>
         requires { Ready self.old.extract.now self.old.levels self.old.carried }
-        ensures { Steps self.old self.new result }
+        ensures step { Steps self.old self.new result }
+        ensures widths { BitWidths self.old → BitWidths self.new }
     {
         let Some(field) = self.read_field() else {
             return Err(Refusal::of(Reason::BadExtract));

@@ -1,5 +1,5 @@
 // An extract read field by field: where reading stands.
-ghost use Rattle.extract_reader.specs.reading.Readers.{AfterRoot};
+ghost use Rattle.extract_reader.specs.reading.Readers.{AfterRoot, BitWidths};
 
 use crate::levels::Level;
 use names::MAX_ELEMENTS;
@@ -28,7 +28,8 @@ pub struct Reader<'a> {
 impl<'a> Reader<'a> {
     // Past the root's field, which has eight bytes. The root's row is all zeros, and clear columns hold it already; so is its level.
     pub fn after_root(extract: &'a [u8], words: &'a [u64; MAX_ELEMENTS]) -> Reader<'a>
-        ensures { AfterRoot extract.now words.now result }
+        ensures start { AfterRoot extract.now words.now result }
+        ensures widths { BitWidths result }
     {
         let root = Level {
             row: 0,

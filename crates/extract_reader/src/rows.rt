@@ -3,6 +3,7 @@ ghost use Rattle.std.specs.Prelude.{[], ◌≡◌};
 ghost use Rattle.cells.specs.columns.Columns.{EqualColumns, with_row};
 ghost use Rattle.cells.specs.columns.Lent.{lent_columns, Same, Left};
 ghost use Rattle.extract_reader.specs.field_rows.Steps.{row_cells};
+ghost use Rattle.extract_reader.specs.reading.Readers.{BitWidths};
 ghost use Rattle.extract_reader.specs.rows.Reads.{Hold, ReadsNext, ReadOn};
 ghost use Rattle.extract_reader.specs.rows.Whole.{RowsRead};
 ghost use Rattle.table_spec.specs.Columns.{sizes_of};
@@ -35,6 +36,7 @@ pub fn read_row(reader: &mut Reader, columns: &mut ColumnsMut) -> Result<bool, R
     requires { ReadsNext reader.old columns.old }
     ensures same { Same columns.old columns.new }
     ensures read { ReadOn reader.old columns.old reader.new columns.new result }
+    ensures widths { BitWidths reader.old → BitWidths reader.new }
 {
     let n = reader.carried.rows;
     match reader.next_row()? {

@@ -1,5 +1,5 @@
 -- The row of a field, and the levels after it, are those of the step.
-use Rattle.std.specs.Prelude.{true, false, List, ◌∷◌, ◌≡◌, refl, ℕ, suc, ◌+◌, ◌-◌, ◌≤◌, Option, Some, None, Ok, Err, length}
+use Rattle.std.specs.Prelude.{true, false, List, ◌∷◌, ◌≡◌, refl, ℕ, suc, ◌+◌, ◌-◌, ◌<◌, ◌≤◌, Option, Some, None, Ok, Err, length}
 use Rattle.std.proofs.Common.{⊎_elim, sym, ap, ap₂, subst, ◌∙◌, add-one, arith, length-set}
 use Rattle.extract_reader.specs.declared.field_rows.FieldRow.{FieldRow}
 use Rattle.extract_reader.specs.declared.field_values.Field.{Field}
@@ -10,9 +10,9 @@ use Rattle.extract_reader.specs.declared.reading.Reader.{Reader}
 use Rattle.extract_reader.specs.field_rows.Steps.{row_cells, carried_on, ElementRead, TextRead, ElementPlace, TextPlace, Ready, StepAs, Steps, wrong-field, last-field, row_field}
 use Rattle.extract_reader.specs.field_values.Fields.{state_in}
 use Rattle.extract_reader.specs.fields.Fields.{FieldAs}
-use Rattle.extract_reader.specs.levels.LevelLaws.{top-row, top-element, levels-opened, known-opened}
-use Rattle.extract_reader.specs.levels.Levels.{level, levels_in, last_element, Known}
-use Rattle.extract_reader.specs.reading.Readers.{SameSource}
+use Rattle.extract_reader.specs.levels.LevelLaws.{top-row, top-element, levels-opened, known-opened, bytes-opened}
+use Rattle.extract_reader.specs.levels.Levels.{level, level_at, levels_in, last_element, Known}
+use Rattle.extract_reader.specs.reading.Readers.{SameSource, BitWidths}
 use Rattle.extract_spec.specs.Reading.{Placed, top_row, top_element}
 use Rattle.projection_laws.specs.Opens.{placed}
 use Rattle.projection_laws.specs.extract_passes.Steps.{state, onward, past_field}
@@ -43,10 +43,14 @@ module _ (old : Reader) (h : Ready old.extract.now old.levels old.carried) (r : 
   pub steps-wrong : r ≡ None → Steps old old (Err (refusal BadExtract 0))
   steps-wrong e = record { source = same-source; step = wrong-field (sym (subst (FieldAs bs words levels c) e a).step) refl refl }
 
-  pub steps-ended : r ≡ Some Count → Steps old old (Ok None)
-  steps-ended e =
+  -- with any levels
+  pub steps-last : (new : Reader) → SameSource old new → new.carried ≡ c → r ≡ Some Count → Steps old new (Ok None)
+  steps-last new same kept e =
       let f = subst (FieldAs bs words levels c) e a in
-      record { source = same-source; step = last-field (sym f.step) (omega (arith, ⊎_elim (λ w. never (cc)) (λ l. l) f.inside)) refl }
+      record { source = same; step = last-field (sym f.step) (omega (arith, ⊎_elim (λ w. never (cc)) (λ l. l) f.inside)) kept }
+
+  pub steps-ended : r ≡ Some Count → Steps old old (Ok None)
+  steps-ended e = steps-last old same-source refl e
 
   module _ (number e d : ℕ) (is : r ≡ Some (Element number e d)) where
     element-field : FieldAs bs words levels c (Some (Element number e d))
@@ -99,6 +103,15 @@ module _ (old : Reader) (h : Ready old.extract.now old.levels old.carried) (r : 
           cells : ℕ → ℕ → ℕ → ℕ → ℕ → Cells
           cells x n p s z = record { number = x; name = n; parent = p; start = s; size = z; decoded = z }
 
+      pub widths-element : BitWidths old → BitWidths new
+      widths-element w =
+          let b = element-field.bounds in
+          record {
+            number = omega (arith, b.0.small, ap (λ (n : Carried). n.number) made.carried);
+            elements = subst (λ (l : List Level). (i : ℕ) → (level_at l i).element < 256) (sym made.levels)
+                (bytes-opened levels d c.rows number e (omega (arith, b.1, h.long)) w.elements (omega (arith, b.2)));
+          }
+
   module _ (number d size : ℕ) (is : r ≡ Some (Text number d size)) where
     text-field : FieldAs bs words levels c (Some (Text number d size))
     text-field = subst (FieldAs bs words levels c) is a
@@ -142,3 +155,11 @@ module _ (old : Reader) (h : Ready old.extract.now old.levels old.carried) (r : 
       where
         cells : ℕ → ℕ → ℕ → ℕ → ℕ → Cells
         cells x n p s z = record { number = x; name = n; parent = p; start = s; size = z; decoded = z }
+
+    pub widths-text : (new : Reader) (x : FieldRow) → TextRead old number d size new x → BitWidths old → BitWidths new
+    widths-text new x made w =
+        let b = text-field.bounds in
+        record {
+          number = omega (arith, b.0.small, ap (λ (n : Carried). n.number) made.carried);
+          elements = subst (λ (l : List Level). (i : ℕ) → (level_at l i).element < 256) (sym made.levels) w.elements;
+        }

@@ -2,6 +2,7 @@
 use Rattle.std.specs.Prelude.{cond, Bool, ◌≡◌, refl, ℕ, zero, suc, ◌+◌, ◌*◌, ◌-◌, ◌/◌, ◌%◌, ◌<◌, ◌≤◌, length, set}
 use mathlib.Core.List.{List, ◌∷◌}
 use Rattle.std.proofs.Common.{⊎_elim, sym, subst, ◌∙◌, eq-or-lt_of_le, mod-eq_of_lt, add-one, arith, eq-eqb, ne_eqb, get_or-set_same, get_or-set_other}
+use Rattle.std.proofs.lemmas.Bool.{cases_eq}
 use Rattle.std.proofs.Math.Path.{ap, ap₂}
 use Rattle.std.proofs.Math.Nat.{div-eq_of_lt, mul-add-div_right, mul-add-mod_self_right}
 use Rattle.extract_reader.specs.declared.levels.Level.{Level}
@@ -74,6 +75,12 @@ module _ (levels : List Level) (d row number e : ℕ) (room : d < length levels)
     where
       at_most : i ≤ d
       at_most = omega arith
+
+  pub bytes-opened : ((i : ℕ) → (level_at levels i).element < 256) → e < 256 → (i : ℕ) → (level_at (set levels d (level row number e)) i).element < 256
+  bytes-opened bytes small i =
+      ⊎_elim
+      (λ f. omega (arith, small, ap (λ (v : Level). v.element) (ap (λ (k : ℕ). level_at (set levels d (level row number e)) k) f ∙ get_or-set_same levels d (level row number e) (level 0 0 0) room)))
+      (λ w. omega (arith, bytes i, ap (λ (v : Level). v.element) (get_or-set_other levels d i (level row number e) (level 0 0 0) w))) (cases_eq i d)
 
 -- ---- the climb
 module _ (levels : List Level) (number : ℕ) where

@@ -16,7 +16,7 @@ returns-then-not-root-clause-read c =
 
 pub loop-init : goal.loop-init
 loop-init c =
-    rows-begun _ _ _ c.requires.equal c.requires.clear (subst (λ b. FirstAs c.args.extract.now (Some b)) c.if-not-root.false c.in-Some.ensures) _ c.after_root-reader.ensures
+    rows-begun _ _ _ c.requires.equal c.requires.clear (subst (λ b. FirstAs c.args.extract.now (Some b)) c.if-not-root.false c.in-Some.ensures) _ c.after_root-reader.ensures.start
 
 pub returns-in_err-read_row-clause-read : goal.returns-in_err-read_row-clause-read
 returns-in_err-read_row-clause-read c =
