@@ -1,6 +1,6 @@
 // Compiled paths from what was noted of a bundle text.
 ghost use Rattle.std.specs.Prelude.{map, ◌≡◌};
-ghost use Rattle.bundle.specs.columns.Filling.{filled, filled_columns, Room};
+ghost use Rattle.bundle.specs.columns.Filling.{filled, filled_columns, filled_with, Room};
 ghost use Rattle.text_spec.specs.Scans.{name_at};
 
 use crate::names_in_tests::{compile_steps, earlier};
@@ -14,12 +14,19 @@ pub struct Filled {
     pub lost: Option<usize>,
 }
 
-// Fills the steps outside brackets and in them, and where those of paths and of conditions start.
-pub fn fill_columns(schema: &[u8], names: &[usize], text: &[u8], notes: &Notes) -> Filled
+// What `fill` leaves in a cell that no step is written to.
+const ANY_STEP: Step = Step {
+    axis: Axis::SelfNode,
+    test: NodeTest::Node,
+    ends_alternative: false,
+};
+
+// Fills the steps outside brackets and in them, and where those of paths and of conditions start. The other cells of steps hold `unwritten`.
+fn fill_with(schema: &[u8], names: &[usize], text: &[u8], notes: &Notes, unwritten: Step) -> Filled
     requires { Room names.now notes.now }
-    ensures { result ≡ filled_columns (map (name_at schema.now) names.now) text.now notes.now }
+    ensures { result ≡ filled_with (map (name_at schema.now) names.now) text.now notes.now unwritten }
 {
-    let mut steps = [NO_STEP; STEPS];
+    let mut steps = [unwritten; STEPS];
     let outer = &notes.outer[..notes.outer_count];
     let inner = &notes.inner[..notes.inner_count];
     let outer_lost = compile_steps(schema, names, text, outer, 0, &mut steps, None);
@@ -37,14 +44,15 @@ pub fn fill_columns(schema: &[u8], names: &[usize], text: &[u8], notes: &Notes) 
     }
 }
 
-// What `fill` leaves in a cell that no step is written to.
-const ANY_STEP: Step = Step {
-    axis: Axis::SelfNode,
-    test: NodeTest::Node,
-    ends_alternative: false,
-};
+// The same with `NO_STEP` in those cells.
+pub fn fill_columns(schema: &[u8], names: &[usize], text: &[u8], notes: &Notes) -> Filled
+    requires { Room names.now notes.now }
+    ensures { result ≡ filled_columns (map (name_at schema.now) names.now) text.now notes.now }
+{
+    fill_with(schema, names, text, notes, NO_STEP)
+}
 
-// The same as `fill_columns`, in one answer: the compiled paths, or the least place of a name that no element has.
+// The same with `ANY_STEP` in those cells, as one answer: the compiled paths, or the least place of a name that no element has.
 pub fn fill(
     schema: &[u8],
     names: &[usize],
@@ -54,26 +62,9 @@ pub fn fill(
     requires { Room names.now notes.now }
     ensures { result ≡ filled (map (name_at schema.now) names.now) text.now notes.now }
 {
-    let mut cells = [ANY_STEP; STEPS];
-    let written = &notes.outer[..notes.outer_count];
-    let bracketed = &notes.inner[..notes.inner_count];
-    let first = compile_steps(schema, names, text, written, 0, &mut cells, None);
-    let second = compile_steps(
-        schema,
-        names,
-        text,
-        bracketed,
-        WRITTEN_STEPS,
-        &mut cells,
-        None,
-    );
-    if let Some(place) = earlier(first, second) {
-        return Err(place);
+    let filled = fill_with(schema, names, text, notes, ANY_STEP);
+    match filled.lost {
+        Some(place) => Err(place),
+        None => Ok(filled.paths),
     }
-    Ok(CompiledPaths {
-        count: notes.path_count,
-        paths: notes.paths,
-        conditions: notes.conditions,
-        steps: cells,
-    })
 }

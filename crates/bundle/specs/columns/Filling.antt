@@ -42,8 +42,11 @@ module _ (names : List (List ℕ)) (text : List ℕ) (N : Notes) where
   abbrev pub lost : Option ℕ
   lost = earliest (earliest_of None (map (lost_cell names text) (outer_read N))) (earliest_of None (map (lost_cell names text) (inner_read N)))
 
+  abbrev pub filled_with : Step → Filled
+  filled_with unwritten = record { paths = paths_with unwritten; lost = lost }
+
   abbrev pub filled_columns : Filled
-  filled_columns = record { paths = filled_paths; lost = lost }
+  filled_columns = filled_with no_step
 
   -- the same as one answer, with `any_step` where none is written
   abbrev pub unless_lost : Option ℕ → Result CompiledPaths ℕ

@@ -9,6 +9,7 @@ use Rattle.bundle_text.specs.declared.steps.StepRead.{StepRead}
 use Rattle.bundle_text.specs.notes.Laws.{inners-none, outer-one}
 use Rattle.bundle_text.specs.notes.Notes.{with_cell, with_count, with_outer}
 use Rattle.bundle_text.specs.steps.Readings.{Stands, step_axis, step_test, PlainAs, ReadsPlain}
+use Rattle.bundle_text.specs.written_steps.Lines.{other-notes}
 use Rattle.bundle_text.specs.written_steps.Readings.{condition_of, stepped, BracketsRead, BracketsAs, ReadsBrackets, UncountedRead, UncountedAs, ReadsUncounted, ReadsWritten, line_ended, FollowedAs}
 use Rattle.path_spec.specs.Machine.{Outer, outside, inside, State, dead, after_call, after_brackets, begin_step, with_step, step_done, step, bundle_machine}
 use Rattle.path_spec.specs.Paths.{Condition}
@@ -99,27 +100,15 @@ module _ {s : List ℕ} {at : ℕ} {N M : Notes} where
           let b = U-read.high in
           omega arith
 
-      pub counted-before : M.outer_count ≡ N.outer_count
-      counted-before = ap (λ (K : Notes). K.outer_count) U-read.noted
+      pub outer-uncounted : M.outer_count ≡ N.outer_count
+      outer-uncounted = ap (λ (K : Notes). K.outer_count) U-read.noted
 
       pub counted-reads : {N' : Notes} → N' ≡ with_count M → ReadsWritten s at N N' (Ok r)
       counted-reads e =
           record {
-            says = record {
-              step = U-read.step;
-              place = U-read.place;
-              before = U-read.before;
-              past-brackets = U-read.past-brackets;
-              brackets = U-read.brackets;
-              low = U-read.low;
-              high = U-read.high;
-              goes_on = U-read.goes_on;
-              ended = U-read.ended;
-              noted = e ∙ ap with_count U-read.noted ∙ outer-one N U-read.step;
-              few = subst (λ (K : Notes). K.inner_count ≤ r.at) (sym e) U-read.few;
-              limit = U-read.limit;
-              same = U-read.same;
-            };
+            says =
+                other-notes U-read (e ∙ ap with_count U-read.noted ∙ outer-one N U-read.step)
+                (subst (λ (K : Notes). K.inner_count ≤ r.at) (sym e) U-read.few);
           }
 
 -- ---- a step

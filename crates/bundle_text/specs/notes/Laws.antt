@@ -5,7 +5,7 @@ use Rattle.std.proofs.lemmas.List.{map-append, length-map}
 use Rattle.std.proofs.lemmas.List.Edits.{sets}
 use Rattle.bundle_text.specs.declared.notes.Notes.{Notes}
 use Rattle.bundle_text.specs.declared.steps.StepRead.{StepRead}
-use Rattle.bundle_text.specs.notes.Notes.{uncounted, with_cell, with_count, with_path, with_inners, cells_of, Ended, EachEnded, Goes, Written, outer_cells, all_paths, condition_ends, with_steps, Line, all_steps, path_ends, with_lines, Few}
+use Rattle.bundle_text.specs.notes.Notes.{uncounted, with_count, with_path, with_inners, cells_of, Ended, EachEnded, Goes, Written, with_written, outer_cells, all_paths, condition_ends, with_steps, Line, all_steps, path_ends, with_lines, Few}
 use Rattle.compiled_paths.specs.Sizes.{written_steps}
 use Rattle.text_spec.specs.Lists.{gather}
 
@@ -101,7 +101,7 @@ pub inners-more : (N : Notes) (ps qs : List StepRead) → with_inners (with_inne
 inners-more N ps qs = same-notes refl refl refl (sym (sets-append N.inner N.inner_count ps qs)) (omega (arith, length-append ps qs)) refl refl
 
 -- a step with the alternatives in its brackets
-pub outer-one : (N : Notes) (w : Written) → with_count (with_cell (with_inners N (cells_of w.paths)) w.cell) ≡ with_steps N (w ∷ [])
+pub outer-one : (N : Notes) (w : Written) → with_count (with_written N w) ≡ with_steps N (w ∷ [])
 outer-one N w =
     let e : cells_of w.paths ≡ cells_of (w.paths ++ []) = ap cells_of (sym (append-nil w.paths)) in
     same-notes refl refl refl (ap (sets N.inner N.inner_count) e) (ap (λ (l : List StepRead). N.inner_count + length l) e) refl refl

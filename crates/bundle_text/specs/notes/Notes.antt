@@ -133,6 +133,10 @@ pub record Written : Type 0 where
   pub cell : StepRead
   pub paths : List (List StepRead)
 
+-- one of them that is not counted yet, after the steps in its brackets
+abbrev pub with_written : Notes → Written → Notes
+with_written N w = with_cell (with_inners N (cells_of w.paths)) w.cell
+
 abbrev pub outer_cells : List Written → List StepRead
 outer_cells ws = map (λ w. w.cell) ws
 

@@ -9,8 +9,8 @@ use Rattle.bundle_text.specs.declared.conditions.Past.{Past}
 use Rattle.bundle_text.specs.declared.notes.Notes.{Notes}
 use Rattle.bundle_text.specs.declared.steps.StepRead.{StepRead}
 use Rattle.bundle_text.specs.notes.Laws.{paths-append, ended-append, outer-goes, inners-none, outer-one, steps-none, steps-more}
-use Rattle.bundle_text.specs.notes.Notes.{with_cell, with_count, with_inners, cells_of, EachEnded, Goes, Written, outer_cells, all_paths, with_steps}
-use Rattle.bundle_text.specs.written_steps.Readings.{stepped, UncountedRead, UncountedAs, ReadsUncounted, ReadsWritten, FollowedAs, Followed, step_noted, over_condition, ReadsLine}
+use Rattle.bundle_text.specs.notes.Notes.{with_count, with_inners, with_written, EachEnded, Goes, Written, outer_cells, all_paths, with_steps}
+use Rattle.bundle_text.specs.written_steps.Readings.{stepped, StepPassed, UncountedRead, UncountedAs, ReadsUncounted, ReadsWritten, FollowedAs, Followed, step_noted, over_condition, ReadsLine}
 use Rattle.path_spec.specs.Grammar.{PathRead, path_read}
 use Rattle.path_spec.specs.Machine.{Outer, outside, line_start, after_brackets, begin_step, step, bundle_machine}
 use Rattle.path_spec.specs.Paths.{Condition, WrittenStep}
@@ -69,33 +69,34 @@ line-begins : (s : List ℕ) (at : ℕ) (ps : List PathRead) → at < length s �
 unfolding step
 line-begins s at ps h = same_at bundle_machine s at (line_start ps) (begin_step (outside (started ps at []))) h refl
 
+-- the same step, where it leaves other notes
+pub other-notes : {f g : Notes → Written → Notes} {s : List ℕ} {at : ℕ} {N N' M : Notes} {r : Past} (R : StepPassed f s at N N' r) → M ≡ g N R.step → M.inner_count ≤ r.at
+    → StepPassed g s at N M r
+other-notes R e few =
+    record {
+      step = R.step;
+      place = R.place;
+      before = R.before;
+      past-brackets = R.past-brackets;
+      brackets = R.brackets;
+      low = R.low;
+      high = R.high;
+      goes_on = R.goes_on;
+      ended = R.ended;
+      noted = e;
+      few = few;
+      limit = R.limit;
+      same = R.same;
+    }
+
 -- a step that is counted was noted before
 module _ {s : List ℕ} {at : ℕ} {N N' : Notes} where
   pub noted-before : {r : Past} → ReadsWritten s at N N' (Ok r) → (M : Notes) × ReadsUncounted s at N M (Ok r) × (N' ≡ with_count M)
   noted-before {r} W =
       let R = W.says in
-      let M : Notes = with_cell (with_inners N (cells_of R.step.paths)) R.step.cell in
-      let e : N' ≡ with_count M = R.noted ∙ sym (outer-one N R.step) in (
-        M,
-        record {
-          says = record {
-            step = R.step;
-            place = R.place;
-            before = R.before;
-            past-brackets = R.past-brackets;
-            brackets = R.brackets;
-            low = R.low;
-            high = R.high;
-            goes_on = R.goes_on;
-            ended = R.ended;
-            noted = refl;
-            few = subst (λ (K : Notes). K.inner_count ≤ r.at) e R.few;
-            limit = R.limit;
-            same = R.same;
-          };
-        },
-        e,
-      )
+      let M : Notes = with_written N R.step in
+      let e : N' ≡ with_count M = R.noted ∙ sym (outer-one N R.step) in
+      (M, record { says = other-notes R refl (subst (λ (K : Notes). K.inner_count ≤ r.at) e R.few) }, e)
 
   pub fails-before : {j : ℕ} → ReadsWritten s at N N' (Err j) → ReadsUncounted s at N N' (Err j)
   fails-before W = record { says = W.says }

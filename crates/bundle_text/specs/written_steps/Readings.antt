@@ -6,7 +6,7 @@ use Rattle.bundle_text.specs.declared.alternative_ends.Follow.TheVariants.{Close
 use Rattle.bundle_text.specs.declared.conditions.Past.{Past}
 use Rattle.bundle_text.specs.declared.notes.Notes.{Notes}
 use Rattle.bundle_text.specs.declared.steps.StepRead.{StepRead}
-use Rattle.bundle_text.specs.notes.Notes.{with_cell, with_inners, cells_of, EachEnded, Written, outer_cells, all_paths, with_steps, Goes, OnlyInner, OnlySteps}
+use Rattle.bundle_text.specs.notes.Notes.{with_inners, cells_of, with_written, EachEnded, Written, outer_cells, all_paths, with_steps, Goes, OnlyInner, OnlySteps}
 use Rattle.bundle_text.specs.steps.Readings.{step_axis, step_test}
 use Rattle.path_spec.specs.Grammar.{PathRead, path_read}
 use Rattle.path_spec.specs.Machine.{Outer, outside, State, line_start, after_call, after_brackets, begin_step, with_step, bundle_machine}
@@ -42,8 +42,8 @@ BracketsAs s at N N' (Err j) = OnlyInner N N' × ((c : StepRead) (o : Outer) →
 pub record ReadsBrackets (s : List ℕ) (at : ℕ) (N N' : Notes) (r : Result Past ℕ) : Type 0 where
   pub says : BracketsAs s at N N' r
 
--- a step and its brackets, by what it leaves of the notes
-pub record StepPassed (noting : Notes → Written → Notes) (s : List ℕ) (at : ℕ) (N N' : Notes) (r : Past) : Type 0 where
+-- a step and its brackets, by the notes that it leaves
+pub record StepPassed (leaves : Notes → Written → Notes) (s : List ℕ) (at : ℕ) (N N' : Notes) (r : Past) : Type 0 where
   pub step : Written
   -- where its brackets stand, if it has any
   pub place : ℕ
@@ -55,7 +55,7 @@ pub record StepPassed (noting : Notes → Written → Notes) (s : List ℕ) (at 
   pub high : r.at ≤ length s
   pub goes_on : step.cell.ends_alternative ≡ false
   pub ended : EachEnded step.paths
-  pub noted : N' ≡ noting N step
+  pub noted : N' ≡ leaves N step
   pub few : N'.inner_count ≤ r.at
   pub limit : r.over_limit ≡ too_much step.paths
   pub same : (o : Outer) → from bundle_machine (begin_step (outside o)) s at ≡ from bundle_machine (after_brackets (stepped s step.cell step.paths o)) s r.at
@@ -65,7 +65,7 @@ StepFails s at N N' j = OnlyInner N N' × ((o : Outer) → from bundle_machine (
 
 -- it is noted after the steps in its brackets, and not counted yet
 abbrev pub UncountedRead : List ℕ → ℕ → Notes → Notes → Past → Type 0
-UncountedRead = StepPassed (λ N w. with_cell (with_inners N (cells_of w.paths)) w.cell)
+UncountedRead = StepPassed with_written
 
 abbrev pub UncountedAs : List ℕ → ℕ → Notes → Notes → Result Past ℕ → Type 0
 UncountedAs s at N N' (Ok r) = UncountedRead s at N N' r

@@ -1,5 +1,5 @@
 -- The row of a field, and the levels after it, are those of the step.
-use Rattle.std.specs.Prelude.{true, false, List, ◌∷◌, ◌≡◌, refl, ℕ, suc, ◌+◌, ◌-◌, ◌<◌, ◌≤◌, Option, Some, None, Ok, Err, length}
+use Rattle.std.specs.Prelude.{true, false, List, ◌∷◌, ◌≡◌, refl, ℕ, suc, ◌+◌, ◌-◌, ◌≤◌, Option, Some, None, Ok, Err, length}
 use Rattle.std.proofs.Common.{⊎_elim, sym, ap, ap₂, subst, ◌∙◌, add-one, arith, length-set}
 use Rattle.extract_reader.specs.declared.field_rows.FieldRow.{FieldRow}
 use Rattle.extract_reader.specs.declared.field_values.Field.{Field}
@@ -11,7 +11,7 @@ use Rattle.extract_reader.specs.field_rows.Steps.{row_cells, carried_on, Element
 use Rattle.extract_reader.specs.field_values.Fields.{state_in}
 use Rattle.extract_reader.specs.fields.Fields.{FieldAs}
 use Rattle.extract_reader.specs.levels.LevelLaws.{top-row, top-element, levels-opened, known-opened, bytes-opened}
-use Rattle.extract_reader.specs.levels.Levels.{level, level_at, levels_in, last_element, Known}
+use Rattle.extract_reader.specs.levels.Levels.{level, levels_in, last_element, Known, InBytes}
 use Rattle.extract_reader.specs.reading.Readers.{SameSource, BitWidths}
 use Rattle.extract_spec.specs.Reading.{Placed, top_row, top_element}
 use Rattle.projection_laws.specs.Opens.{placed}
@@ -108,7 +108,7 @@ module _ (old : Reader) (h : Ready old.extract.now old.levels old.carried) (r : 
           let b = element-field.bounds in
           record {
             number = omega (arith, b.0.small, ap (λ (n : Carried). n.number) made.carried);
-            elements = subst (λ (l : List Level). (i : ℕ) → (level_at l i).element < 256) (sym made.levels)
+            elements = subst InBytes (sym made.levels)
                 (bytes-opened levels d c.rows number e (omega (arith, b.1, h.long)) w.elements (omega (arith, b.2)));
           }
 
@@ -161,5 +161,5 @@ module _ (old : Reader) (h : Ready old.extract.now old.levels old.carried) (r : 
         let b = text-field.bounds in
         record {
           number = omega (arith, b.0.small, ap (λ (n : Carried). n.number) made.carried);
-          elements = subst (λ (l : List Level). (i : ℕ) → (level_at l i).element < 256) (sym made.levels) w.elements;
+          elements = subst InBytes (sym made.levels) w.elements;
         }

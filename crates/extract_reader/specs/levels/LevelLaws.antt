@@ -6,7 +6,7 @@ use Rattle.std.proofs.lemmas.Bool.{cases_eq}
 use Rattle.std.proofs.Math.Path.{ap, ap₂}
 use Rattle.std.proofs.Math.Nat.{div-eq_of_lt, mul-add-div_right, mul-add-mod_self_right}
 use Rattle.extract_reader.specs.declared.levels.Level.{Level}
-use Rattle.extract_reader.specs.levels.Levels.{level, level_word, row_in, number_in, element_in, level_in, level_at, levels_in, last_row, last_element, Known, LevelOf}
+use Rattle.extract_reader.specs.levels.Levels.{level, level_word, row_in, number_in, element_in, level_in, level_at, levels_in, last_row, last_element, Known, InBytes, LevelOf}
 use Rattle.extract_spec.specs.Reading.{Placed, open_from, top_row, top_element}
 use Rattle.projection_laws.specs.Opens.{placed}
 use Rattle.text_spec.specs.Limits.{max_declarations}
@@ -76,7 +76,7 @@ module _ (levels : List Level) (d row number e : ℕ) (room : d < length levels)
       at_most : i ≤ d
       at_most = omega arith
 
-  pub bytes-opened : ((i : ℕ) → (level_at levels i).element < 256) → e < 256 → (i : ℕ) → (level_at (set levels d (level row number e)) i).element < 256
+  pub bytes-opened : InBytes levels → e < 256 → InBytes (set levels d (level row number e))
   bytes-opened bytes small i =
       ⊎_elim
       (λ f. omega (arith, small, ap (λ (v : Level). v.element) (ap (λ (k : ℕ). level_at (set levels d (level row number e)) k) f ∙ get_or-set_same levels d (level row number e) (level 0 0 0) room)))

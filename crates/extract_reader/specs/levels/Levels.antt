@@ -43,6 +43,10 @@ last_element levels d = (level_at levels (d - 1)).element
 abbrev pub Known : List Level → ℕ → Type 0
 Known levels d = (i : ℕ) → i < d → (level_at levels i).element < max_declarations
 
+-- the element of each fits a byte, of those past all open ones, too
+abbrev pub InBytes : List Level → Type 0
+InBytes levels = (i : ℕ) → (level_at levels i).element < 256
+
 -- the first d are those from the one with this number up
 pub record LevelOf (levels : List Level) (depth number d : ℕ) : Type 0 where
   pub within : d ≤ depth

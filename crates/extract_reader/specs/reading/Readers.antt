@@ -5,7 +5,7 @@ use Rattle.std.proofs.lemmas.List.{get_or-replicate, get_or_past, length-replica
 use Rattle.extract_reader.specs.declared.levels.Level.{Level}
 use Rattle.extract_reader.specs.declared.reading.Carried.{Carried}
 use Rattle.extract_reader.specs.declared.reading.Reader.{Reader}
-use Rattle.extract_reader.specs.levels.Levels.{level, level_at}
+use Rattle.extract_reader.specs.levels.Levels.{level, level_at, InBytes}
 use Rattle.text_laws.specs.Searches.{below-or-past}
 use Rattle.text_spec.specs.Limits.{max_depth}
 
@@ -17,7 +17,7 @@ pub record SameSource (old new : Reader) : Type 0 where
 -- the number carried has at most 16 bits, the element of each level 8
 pub record BitWidths (r : Reader) : Type 0 where
   pub number : r.carried.number < 65536
-  pub elements : (i : ℕ) → (level_at r.levels i).element < 256
+  pub elements : InBytes r.levels
 
 abbrev pub root_carried : Carried
 root_carried = record { at = 8; rows = 1; number = 0; text = false; depth = 1 }

@@ -14,6 +14,7 @@ pub returns-in-Some-clause-read : goal.returns-in-Some-clause-read
 returns-in-Some-clause-read c =
     read-one _ _ c.requires _ _ (subst (λ o. Steps c.args.reader.now c.next_row.new.self (Ok o)) c.in-Some.is c.in_ok-row.ensures.step) _ c.put_row.ensures
 
+-- whatever levels are left
 pub returns-in-None-clause-read : goal.returns-in-None-clause-read
 returns-in-None-clause-read c =
     let a = read-ended c.args.reader.now c.args.columns.now c.requires _ (subst (λ o. Steps c.args.reader.now c.next_row.new.self (Ok o)) c.in-None.is c.in_ok-row.ensures.step) in
